@@ -1,0 +1,13 @@
+pub mod Calls
+pub mod Clock
+pub mod Configuration
+pub mod Deliveries
+pub mod Drops
+pub mod Flows
+pub mod History
+pub mod Links
+pub mod Replies
+pub mod SharedLinks
+pub mod Starts
+pub mod Trace
+pub mod Wf2q
