@@ -4,10 +4,13 @@ pub mod Configuration
 pub mod Deliveries
 pub mod Drops
 pub mod Flows
+pub mod Given
 pub mod History
+pub mod Laws
 pub mod Links
 pub mod Replies
 pub mod SharedLinks
+pub mod Standing
 pub mod Starts
 pub mod Trace
 pub mod Wf2q

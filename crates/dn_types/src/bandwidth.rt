@@ -22,7 +22,11 @@ impl Bandwidth {
         ensures in_range { IsSome result ↔ (value ≤ 1000000000000) }
         ensures value { IfSome result (λ made. made ≡ value) }
     {
-        if value <= 1_000_000_000_000 { Some(Bandwidth(value)) } else { None }
+        if value <= 1_000_000_000_000 {
+            Some(Bandwidth(value))
+        } else {
+            None
+        }
     }
 
     /// The bandwidth in bit/s.

@@ -23,7 +23,11 @@ impl Buckets {
         ensures in_range { IsSome result ↔ ((16 ≤ value) × (value ≤ 65536)) }
         ensures value { IfSome result (λ made. made ≡ value) }
     {
-        if (16..=65_536).contains(&value) { Some(Buckets(value)) } else { None }
+        if (16..=65_536).contains(&value) {
+            Some(Buckets(value))
+        } else {
+            None
+        }
     }
 
     /// The size in buckets.

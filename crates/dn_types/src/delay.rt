@@ -22,7 +22,11 @@ impl Delay {
         ensures in_range { IsSome result ↔ (value ≤ 3600000) }
         ensures value { IfSome result (λ made. made ≡ value) }
     {
-        if value <= 3_600_000 { Some(Delay(value)) } else { None }
+        if value <= 3_600_000 {
+            Some(Delay(value))
+        } else {
+            None
+        }
     }
 
     /// The delay in milliseconds.

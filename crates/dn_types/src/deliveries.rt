@@ -19,6 +19,28 @@ impl Model for Deliveries {
     ghost view = { λ a. a.items.items };
 }
 
+// Two lists are equal where their items are, one by one.
+impl PartialEq for Deliveries {
+    ghost use Rattle.std.specs.Cmp.Lexicographic.{pointwise, lists_per};
+    ghost use Rattle.dn_types.specs.contracts.delivery.DeliveryPartialEq.TheImpl.{ghosts};
+    ghost use Rattle.dn_types.specs.contracts.delivery.DeliveryPartialEq.TheImpl.Laws.{laws-law};
+
+    ghost eq = { pointwise ghosts.eq };
+
+    ghost laws = { lists_per laws-law };
+
+    fn eq(&self, other: &Deliveries) -> bool {
+        self.items == other.items
+    }
+}
+
+impl Eq for Deliveries {
+    ghost use Rattle.std.specs.Cmp.Lexicographic.{lists_equiv};
+    ghost use Rattle.dn_types.specs.contracts.delivery.DeliveryEq.TheImpl.Laws.{laws-law};
+
+    ghost laws = { lists_equiv laws-law };
+}
+
 impl Deliveries {
     /// The list of the vector's items. It takes no memory.
     pub fn from_vec(items: Vec<Delivery>) -> Deliveries
@@ -45,7 +67,6 @@ impl Deliveries {
     pub fn try_clone(&self) -> Result<Deliveries, AllocError>
         ensures { IfOk result (λ copy. copy ≡ self.now) }
     {
-        let items = self.items.clone()?;
-        Ok(Deliveries { items })
+        Ok(Deliveries::from_vec(self.items.clone()?))
     }
 }

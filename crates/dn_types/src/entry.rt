@@ -5,7 +5,7 @@ use crate::reply::Reply;
 use std::alloc::AllocError;
 
 /// One call of a caller, with the reply that it got.
-#[derive(Debug, Drop)]
+#[derive(Debug, PartialEq, Eq, Drop)]
 pub struct Entry {
     pub caller: usize,
     pub call: Call,

@@ -22,7 +22,11 @@ impl KbyteCount {
         ensures in_range { IsSome result ↔ ((1 ≤ value) × (value ≤ 1024)) }
         ensures value { IfSome result (λ made. made ≡ value) }
     {
-        if (1..=1_024).contains(&value) { Some(KbyteCount(value)) } else { None }
+        if (1..=1_024).contains(&value) {
+            Some(KbyteCount(value))
+        } else {
+            None
+        }
     }
 
     /// The count of units of 1,024 bytes.

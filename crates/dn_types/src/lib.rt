@@ -13,6 +13,7 @@ mod five_tuple;
 mod flow_key;
 mod flow_status;
 mod kbyte_count;
+pub mod laws;
 mod len;
 mod limit;
 mod loss;
@@ -52,3 +53,6 @@ pub use slot_count::SlotCount;
 pub use statuses::Statuses;
 pub use target::Target;
 pub use weight::Weight;
+
+#[cfg(test)]
+mod tests;

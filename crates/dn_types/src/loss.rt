@@ -23,7 +23,11 @@ impl Loss {
         ensures in_range { IsSome result ↔ (value ≤ 2 ^ 31) }
         ensures value { IfSome result (λ made. made ≡ value) }
     {
-        if value <= 1 << 31 { Some(Loss(value)) } else { None }
+        if value <= 1 << 31 {
+            Some(Loss(value))
+        } else {
+            None
+        }
     }
 
     /// The loss rate in parts of 2^31.

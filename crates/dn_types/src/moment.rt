@@ -23,7 +23,11 @@ impl Moment {
         ensures in_range { IsSome result ↔ (value ≤ 2 ^ 62) }
         ensures value { IfSome result (λ made. made ≡ value) }
     {
-        if value <= 1 << 62 { Some(Moment(value)) } else { None }
+        if value <= 1 << 62 {
+            Some(Moment(value))
+        } else {
+            None
+        }
     }
 
     /// The moment in nanoseconds.

@@ -22,7 +22,11 @@ impl Number {
         ensures in_range { IsSome result ↔ ((1 ≤ value) × (value ≤ 65535)) }
         ensures value { IfSome result (λ made. made ≡ value) }
     {
-        if (1..=65_535).contains(&value) { Some(Number(value)) } else { None }
+        if (1..=65_535).contains(&value) {
+            Some(Number(value))
+        } else {
+            None
+        }
     }
 
     /// The number.

@@ -6,7 +6,7 @@ use std::alloc::AllocError;
 
 /// What a call is answered. `at` is the effective moment in nanoseconds, `flow` a flow number, and
 /// `packet` a packet number.
-#[derive(Debug, Drop)]
+#[derive(Debug, PartialEq, Eq, Drop)]
 pub enum Reply {
     /// A configuration was accepted.
     Configured,

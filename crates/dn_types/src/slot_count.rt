@@ -22,7 +22,11 @@ impl SlotCount {
         ensures in_range { IsSome result ↔ ((1 ≤ value) × (value ≤ 10000)) }
         ensures value { IfSome result (λ made. made ≡ value) }
     {
-        if (1..=10_000).contains(&value) { Some(SlotCount(value)) } else { None }
+        if (1..=10_000).contains(&value) {
+            Some(SlotCount(value))
+        } else {
+            None
+        }
     }
 
     /// The count of packets.

@@ -19,6 +19,28 @@ impl Model for Statuses {
     ghost view = { λ a. a.items.items };
 }
 
+// Two lists are equal where their items are, one by one.
+impl PartialEq for Statuses {
+    ghost use Rattle.std.specs.Cmp.Lexicographic.{pointwise, lists_per};
+    ghost use Rattle.dn_types.specs.contracts.flow_status.FlowStatusPartialEq.TheImpl.{ghosts};
+    ghost use Rattle.dn_types.specs.contracts.flow_status.FlowStatusPartialEq.TheImpl.Laws.{laws-law};
+
+    ghost eq = { pointwise ghosts.eq };
+
+    ghost laws = { lists_per laws-law };
+
+    fn eq(&self, other: &Statuses) -> bool {
+        self.items == other.items
+    }
+}
+
+impl Eq for Statuses {
+    ghost use Rattle.std.specs.Cmp.Lexicographic.{lists_equiv};
+    ghost use Rattle.dn_types.specs.contracts.flow_status.FlowStatusEq.TheImpl.Laws.{laws-law};
+
+    ghost laws = { lists_equiv laws-law };
+}
+
 impl Statuses {
     /// The list of the vector's items. It takes no memory.
     pub fn from_vec(items: Vec<FlowStatus>) -> Statuses
@@ -45,7 +67,6 @@ impl Statuses {
     pub fn try_clone(&self) -> Result<Statuses, AllocError>
         ensures { IfOk result (λ copy. copy ≡ self.now) }
     {
-        let items = self.items.clone()?;
-        Ok(Statuses { items })
+        Ok(Statuses::from_vec(self.items.clone()?))
     }
 }

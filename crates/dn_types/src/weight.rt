@@ -23,7 +23,11 @@ impl Weight {
         ensures in_range { IsSome result ↔ ((1 ≤ value) × (value ≤ 100)) }
         ensures value { IfSome result (λ made. made ≡ value) }
     {
-        if (1..=100).contains(&value) { Some(Weight(value)) } else { None }
+        if (1..=100).contains(&value) {
+            Some(Weight(value))
+        } else {
+            None
+        }
     }
 
     /// The weight.

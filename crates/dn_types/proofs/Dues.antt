@@ -1,0 +1,61 @@
+-- What a Collect gives and leaves, and how the due moments of a link go on.
+use Rattle.std.proofs.Common.{◌≡◌, ◌≤◌, ◌<◌, ℕ, max, Bool, true, false, cond, List, [], ◌∷◌, ◌++◌, ap, sym, arith, get_or}
+use Rattle.std.specs.Prelude.{nat_le, nat_lt}
+use Rattle.std.specs.List.{All}
+use Rattle.std.proofs.lemmas.Bool.Decides.{nat_tests}
+use Rattle.std.proofs.lemmas.List.Elements.{filter_passes}
+use Rattle.dn_types.specs.Calls.{trace_of}
+use Rattle.dn_types.specs.Clock.{effective_moment}
+use Rattle.dn_types.specs.Configuration.{settings}
+use Rattle.dn_types.specs.Deliveries.{delivery_of, given, undelivered}
+use Rattle.dn_types.specs.Given.{given_count}
+use Rattle.dn_types.specs.Links.{arrival_time, due_by, last_due}
+use Rattle.dn_types.specs.Starts.{settled}
+use Rattle.dn_types.specs.Trace.{Link, link_eq, Start, Event, opened, arrived, started, lost, refused, discarded, collected}
+use Rattle.dn_types.specs.declared.call.Call.{Call}
+use Rattle.dn_types.specs.declared.call.Call.TheVariants.{Collect}
+use Rattle.dn_types.specs.declared.rule.Rule.{Rule}
+use Rattle.dn_types.specs.declared.rule.Rule.TheVariants.{Ordered}
+use Rattle.dn_types.proofs.Giving.{gives-started}
+use Rattle.dn_types.proofs.Settled.{link_eq-refl}
+use Rattle.dn_types.proofs.Once.{starts-once}
+
+pub gives-once : (rule : Rule) (number : ℕ) (calls : List Call) → given_count rule number (trace_of calls) ≤ 1
+gives-once rule number calls = let all = gives-started rule number (trace_of calls) in let once = starts-once number calls in omega arith
+
+by-moment : (a b : ℕ) → nat_le a b ≡ true → a ≤ b
+by-moment a b h = grind (arith, nat_tests)
+
+by-later : (a b : ℕ) → nat_lt a b ≡ true → a < b
+by-later a b h = grind (arith, nat_tests)
+
+pub gives-what-is-due : (rule : Rule) (at : ℕ) (trace : List Event) → All (λ d. d.due ≤ at) (given rule at trace)
+gives-what-is-due rule at trace = λ k d h. by-moment (get_or (given rule at trace) k d).due at (filter_passes (λ d. nat_le d.due at) (undelivered rule trace) k d h)
+
+pub leaves-what-is-not-due : (rule : Rule) (moment : ℕ) (calls : List Call) → All (λ d. effective_moment (Collect moment ∷ calls) < d.due) (undelivered rule (trace_of (Collect moment ∷ calls)))
+leaves-what-is-not-due rule moment calls =
+    let at = effective_moment (Collect moment ∷ calls) in
+    let before = settled (settings calls) at (trace_of calls) in
+    λ k d h. by-later at (get_or (undelivered rule (collected at ∷ before)) k d).due (filter_passes (λ d. nat_lt at d.due) (undelivered rule before) k d h)
+
+-- ---- The due moments of a link
+
+one-more : (link : Link) (e : Event) (trace : List Event) → last_due Ordered link trace ≤ last_due Ordered link (e ∷ trace)
+one-more link (started s) trace = by (link_eq s.packet.link link)
+  where
+    by : (b : Bool) → last_due Ordered link trace ≤ cond b (max (last_due Ordered link trace) (arrival_time s)) (last_due Ordered link trace)
+    by true = omega arith
+    by false = omega arith
+one-more link (opened l) trace = omega arith
+one-more link (arrived p) trace = omega arith
+one-more link (lost l f) trace = omega arith
+one-more link (refused l f) trace = omega arith
+one-more link (discarded f) trace = omega arith
+one-more link (collected at) trace = omega arith
+
+pub due-is-last : (rule : Rule) (s : Start) (trace : List Event) → (delivery_of rule s (last_due rule s.packet.link trace)).due ≡ last_due rule s.packet.link (started s ∷ trace)
+due-is-last rule s trace = sym (ap (λ b. cond b (due_by rule (arrival_time s) (last_due rule s.packet.link trace)) (last_due rule s.packet.link trace)) (link_eq-refl s.packet.link))
+
+pub due-moments-never-fall : (link : Link) (later trace : List Event) → last_due Ordered link trace ≤ last_due Ordered link (later ++ trace)
+due-moments-never-fall link [] trace = omega arith
+due-moments-never-fall link (e ∷ later) trace = let rest = due-moments-never-fall link later trace in let more = one-more link e (later ++ trace) in omega arith

@@ -1,0 +1,24 @@
+mod Cases
+pub mod Bridge
+pub mod Dues
+pub mod ExampleWords
+mod ExamplesDeletes
+mod ExamplesLinks
+mod ExamplesWf2q
+pub mod Fifo
+pub mod Firsts
+pub mod Giving
+pub mod Histories
+pub mod Least
+pub mod Once
+pub mod Ordered
+pub mod PickLaws
+pub mod Picks
+pub mod Proper
+pub mod Settled
+pub mod Settling
+mod ShortListsFlows
+mod ShortListsWf2q
+pub mod Step
+pub mod TransmissionTime
+mod Witnesses

@@ -1,0 +1,25 @@
+-- The transmission time is the least that is long enough.
+use Rattle.std.proofs.Common.{◌≡◌, ◌≤◌, ◌<◌, ℕ, suc, ◌+◌, ◌*◌, ◌-◌, cond, false, ap, arith}
+use Rattle.std.specs.Prelude.{◌/◌, ◌^◌, nat_eq}
+use Rattle.std.proofs.Math.Nat.{lt-div-mul-add, div-lt_iff_lt-mul, suc-mul}
+use Rattle.std.proofs.lemmas.Bool.Decides.{nat_tests}
+use Rattle.dn_types.specs.Links.{transmission_time}
+
+module _ (bits b : ℕ) (h : 0 < b) where
+  enough : bits ≤ (bits + (b - 1)) / b * b
+  enough = let over = lt-div-mul-add {a = bits + (b - 1)} h in omega arith
+
+  least : (t : ℕ) → bits ≤ t * b → (bits + (b - 1)) / b ≤ t
+  least t fits =
+      let grown : suc t * b ≡ t * b + b = suc-mul t b in
+      let below : (bits + (b - 1)) / b < suc t = (div-lt_iff_lt-mul {y = suc t} h).1 (omega (arith, grown, fits, h)) in
+      omega arith
+
+pub transmission-is-least : (bandwidth len : ℕ) → 0 < bandwidth → (len * 8 * 10 ^ 9 ≤ transmission_time bandwidth len * bandwidth) × ((t : ℕ) → len * 8 * 10 ^ 9 ≤ t * bandwidth → transmission_time bandwidth len ≤ t)
+transmission-is-least bandwidth len h =
+    let bits : len * 8 * 10 ^ 9 ≡ len * 8000000000 = omega arith in
+    let limited : nat_eq bandwidth 0 ≡ false = grind (arith, nat_tests) in
+    let time : transmission_time bandwidth len ≡ (len * 8000000000 + (bandwidth - 1)) / bandwidth = ap {B = ℕ} (λ c. cond c 0 ((len * 8000000000 + (bandwidth - 1)) / bandwidth)) limited in
+    let product : transmission_time bandwidth len * bandwidth ≡ (len * 8000000000 + (bandwidth - 1)) / bandwidth * bandwidth = ap {B = ℕ} (λ t. t * bandwidth) time in
+    let long = enough (len * 8000000000) bandwidth h in
+    (omega (arith, bits, product, long), λ t fits. let short = least (len * 8000000000) bandwidth h t (omega (arith, bits, fits)) in omega (arith, time, short))

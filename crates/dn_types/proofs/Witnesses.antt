@@ -1,0 +1,157 @@
+-- Each law at the calls of a worked example, where it says something: its premises hold, and what it speaks of is there.
+use Rattle.std.specs.Prelude.{◌≡◌, ◌≤◌, ◌<◌, ◌+◌, ◌*◌, ◌^◌, ℕ, List, [], ◌∷◌, ◌++◌, length, map, reverse, take, Some, None, refl, drop}
+use Rattle.std.specs.List.{All, count_by}
+use Rattle.std.proofs.Common.{arith}
+use Rattle.dn_types.specs.Calls.{trace_of}
+use Rattle.dn_types.specs.Clock.{counted}
+use Rattle.dn_types.specs.Configuration.{settings}
+use Rattle.dn_types.specs.Deliveries.{given, undelivered}
+use Rattle.dn_types.specs.Given.{accepted_since, started_since, is_packet, start_count, given_count}
+use Rattle.dn_types.specs.History.{IsLawful, calls_of, own_entries}
+use Rattle.dn_types.specs.Laws.{IsFirstEligible}
+use Rattle.dn_types.specs.Links.{free, last_due}
+use Rattle.dn_types.specs.Replies.{replies, reply}
+use Rattle.dn_types.specs.SharedLinks.{link_heads, virtual_time, waiting}
+use Rattle.dn_types.specs.Standing.{standing}
+use Rattle.dn_types.specs.Starts.{next_start, settled}
+use Rattle.dn_types.specs.Trace.{Event, own, shared, backlog, Start}
+use Rattle.dn_types.specs.Wf2q.{Stamped, pick}
+use Rattle.dn_types.specs.declared.call.Call.{Call}
+use Rattle.dn_types.specs.declared.call.Call.TheVariants.{Advance, Collect}
+use Rattle.dn_types.specs.declared.entry.Entry.{Entry}
+use Rattle.dn_types.specs.declared.reply.Reply.{Reply}
+use Rattle.dn_types.specs.declared.reply.Reply.TheVariants.{Configured, Delivered, Queued}
+use Rattle.dn_types.specs.declared.rule.Rule.TheVariants.{Ordered}
+use Rattle.dn_types.proofs.Bridge.{replies-by-standing}
+use Rattle.dn_types.proofs.Dues.{due-moments-never-fall, gives-once, gives-what-is-due, leaves-what-is-not-due}
+use Rattle.dn_types.proofs.ExampleWords.{delivery, pipe, queue, to_pipe, to_queue}
+use Rattle.dn_types.proofs.Giving.{gives-started}
+use Rattle.dn_types.proofs.Histories.{counts-up-to-the-limit, lawful-replies, own-entries-grow}
+use Rattle.dn_types.proofs.Once.{starts-once}
+use Rattle.dn_types.proofs.Ordered.{sends-one-at-a-time, starts-in-order}
+use Rattle.dn_types.proofs.PickLaws.{pick-is-first}
+use Rattle.dn_types.proofs.Settled.{settled-ends}
+use Rattle.dn_types.proofs.TransmissionTime.{transmission-is-least}
+
+-- Two packets to queue 1 of weight 1 and three to queue 2 of weight 3, all at 0, newest first.
+abbrev calls : List Call
+calls = to_queue 2 0 ∷ to_queue 2 0 ∷ to_queue 2 0 ∷ to_queue 1 0 ∷ to_queue 1 0 ∷ queue 2 1 3 ∷ queue 1 1 1 ∷ pipe 1 8000000 0 ∷ []
+
+abbrev before : List Event
+before = trace_of (Advance 1000000 ∷ calls)
+
+abbrev at_two : List Event
+at_two = settled (settings calls) 2000000 before
+
+-- ---- Starts
+
+-- At 2 ms two packets wait and none of them starts.
+two_wait : waiting (shared 1) at_two ≡ 2
+two_wait = refl
+
+none_starts : next_start (settings calls) 2000000 (shared 1) at_two ≡ None
+none_starts = settled-ends (settings calls) 2000000 (shared 1) before
+
+-- The newest event is the start of a packet of queue 2 at 1 ms, at which the link is free of the packet before it.
+abbrev newest : Start
+newest = record { packet = record { packet = 2; link = shared 1; stamped = record { flow = 1; len = 1000; weight = 3; start_tag = 65536000; finish_tag = 87381333 } }; moment = 1000000; transmission = 1000000; delay = 0 }
+
+starts_when_free : free (shared 1) (drop 1 before) ≤ 1000000
+starts_when_free = sends-one-at-a-time (Advance 1000000 ∷ calls) [] (drop 1 before) newest refl
+
+-- Of the three packets of queue 2 one has started and two wait.
+one_started : length (started_since (shared 1) 1 before) ≡ 1
+one_started = refl
+
+in_order : accepted_since (shared 1) 1 before ≡ started_since (shared 1) 1 before ++ backlog (shared 1) 1 before
+in_order = starts-in-order (Advance 1000000 ∷ calls) (shared 1) 1
+
+it_started : start_count 2 before ≡ 1
+it_started = refl
+
+it_started_once : start_count 2 before ≤ 1
+it_started_once = starts-once 2 (Advance 1000000 ∷ calls)
+
+-- ---- The pick at 2 ms, by the tags of the queues' first packets
+
+abbrev picked : Stamped
+picked = record { flow = 0; len = 1000; weight = 1; start_tag = 65536000; finish_tag = 131072000 }
+
+it_is_picked : pick (virtual_time (shared 1) before) (link_heads (shared 1) before) ≡ Some picked
+it_is_picked = refl
+
+it_is_first : IsFirstEligible (virtual_time (shared 1) before) (link_heads (shared 1) before) picked
+it_is_first = pick-is-first (virtual_time (shared 1) before) (link_heads (shared 1) before) picked refl
+
+-- ---- Due moments
+
+-- 8,000 bits at 300 Kbit/s
+in_time : (1000 * 8 * 10 ^ 9 ≤ 26666667 * 300000) × ((t : ℕ) → 1000 * 8 * 10 ^ 9 ≤ t * 300000 → 26666667 ≤ t)
+in_time = transmission-is-least 300000 1000 (omega arith)
+
+-- A packet with a delay of 50 ms and one after it without.
+abbrev two_delays : List Call
+two_delays = pipe 1 8000000 0 ∷ to_pipe 1 0 ∷ pipe 1 8000000 50 ∷ []
+
+-- The second packet is due with the first, and by its own delay it would be due at 3 ms.
+due_with_the_first : last_due Ordered (own 1 0) (trace_of (to_pipe 1 2000000 ∷ two_delays)) ≡ 51000000
+due_with_the_first = refl
+
+never_falls : last_due Ordered (own 1 0) (trace_of two_delays) ≤ last_due Ordered (own 1 0) (trace_of (to_pipe 1 2000000 ∷ two_delays))
+never_falls = due-moments-never-fall (own 1 0) (take 3 (trace_of (to_pipe 1 2000000 ∷ two_delays))) (trace_of two_delays)
+
+-- ---- Collecting
+
+abbrev collected_at_two : List Call
+collected_at_two = Collect 2000000 ∷ calls
+
+-- Packet 2 is given, and packet 1, which starts at 2 ms, is still to be given.
+it_is_given : given_count Ordered 2 (trace_of collected_at_two) ≡ 1
+it_is_given = refl
+
+it_is_given_once : given_count Ordered 2 (trace_of (Collect 3000000 ∷ collected_at_two)) ≤ 1
+it_is_given_once = gives-once Ordered 2 (Collect 3000000 ∷ collected_at_two)
+
+it_is_left : count_by (is_packet 1) (undelivered Ordered (trace_of collected_at_two)) ≡ 1
+it_is_left = refl
+
+as_started : given_count Ordered 1 (trace_of collected_at_two) + count_by (is_packet 1) (undelivered Ordered (trace_of collected_at_two)) ≡ start_count 1 (trace_of collected_at_two)
+as_started = gives-started Ordered 1 (trace_of collected_at_two)
+
+given_when_due : All (λ d. d.due ≤ 2000000) (given Ordered 2000000 at_two)
+given_when_due = gives-what-is-due Ordered 2000000 at_two
+
+left_when_not_due : All (λ d. 2000000 < d.due) (undelivered Ordered (trace_of collected_at_two))
+left_when_not_due = leaves-what-is-not-due Ordered 2000000 calls
+
+-- ---- Histories
+
+abbrev entry : ℕ → Call → Reply → Entry
+entry caller call reply = record { caller = caller; call = call; reply = reply }
+
+abbrev history : List Entry
+history = entry 0 (pipe 1 8000000 0) Configured ∷ entry 1 (to_pipe 1 0) (Queued 0 0 0) ∷ entry 0 (Collect 1000000) (Delivered 1000000 (delivery 0 0 0 1000000 ∷ [])) ∷ []
+
+it_is_lawful : IsLawful Ordered history
+it_is_lawful = (refl, (refl, (refl, tt)))
+
+its_replies : replies Ordered (calls_of history) ≡ reverse (map (λ e. e.reply) history)
+its_replies = lawful-replies Ordered history it_is_lawful
+
+one_own_entry_more : own_entries 0 history ≡ own_entries 0 (entry 0 (pipe 1 8000000 0) Configured ∷ entry 1 (to_pipe 1 0) (Queued 0 0 0) ∷ []) ++ entry 0 (Collect 1000000) (Delivered 1000000 (delivery 0 0 0 1000000 ∷ [])) ∷ []
+one_own_entry_more = own-entries-grow 0 (entry 0 (pipe 1 8000000 0) Configured ∷ entry 1 (to_pipe 1 0) (Queued 0 0 0) ∷ []) (entry 0 (Collect 1000000) (Delivered 1000000 (delivery 0 0 0 1000000 ∷ [])))
+
+all_count : counted (Collect 2000000 ∷ calls) ≡ Collect 2000000 ∷ calls
+all_count = counts-up-to-the-limit (Collect 2000000) calls
+
+-- ---- The standing
+
+-- A lowered clock changes nothing: the same calls, made at other moments before the greatest.
+abbrev advanced : ℕ → List Call
+advanced moment = Advance moment ∷ Advance 5000000 ∷ pipe 1 8000000 0 ∷ []
+
+stands_the_same : standing Ordered (advanced 1000000) ≡ standing Ordered (advanced 2000000)
+stands_the_same = refl
+
+replies_the_same : reply Ordered (advanced 1000000) (to_pipe 1 0) ≡ reply Ordered (advanced 2000000) (to_pipe 1 0)
+replies_the_same = (replies-by-standing Ordered (advanced 1000000) (advanced 2000000) refl (to_pipe 1 0)).0

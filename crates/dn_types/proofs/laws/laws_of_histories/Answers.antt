@@ -1,0 +1,16 @@
+-- Each law is a lemma over the definitions.
+use Rattle.dn_types.proofs.Bridge.{replies-by-standing}
+use Rattle.dn_types.proofs.Histories.{lawful-replies, own-entries-grow, counts-up-to-the-limit}
+use Rattle.dn_types.proofs.laws.laws_of_histories.Goals as goal
+
+pub returns-clause-replies : goal.returns-clause-replies
+returns-clause-replies c = lawful-replies
+
+pub returns-clause-own : goal.returns-clause-own
+returns-clause-own c = own-entries-grow
+
+pub returns-clause-counts : goal.returns-clause-counts
+returns-clause-counts c = counts-up-to-the-limit
+
+pub returns-clause-standing : goal.returns-clause-standing
+returns-clause-standing c = replies-by-standing

@@ -1,0 +1,17 @@
+-- Each law is a lemma over the definitions.
+use Rattle.dn_types.proofs.Once.{starts-once}
+use Rattle.dn_types.proofs.Ordered.{sends-one-at-a-time, starts-in-order}
+use Rattle.dn_types.proofs.Settled.{settled-ends}
+use Rattle.dn_types.proofs.laws.laws_of_starts.Goals as goal
+
+pub returns-clause-settles : goal.returns-clause-settles
+returns-clause-settles c = settled-ends
+
+pub returns-clause-in_order : goal.returns-clause-in_order
+returns-clause-in_order c = starts-in-order
+
+pub returns-clause-once : goal.returns-clause-once
+returns-clause-once c = starts-once
+
+pub returns-clause-one_at_a_time : goal.returns-clause-one_at_a_time
+returns-clause-one_at_a_time c = sends-one-at-a-time

@@ -1,0 +1,10 @@
+-- Each law is a lemma over the definitions.
+use Rattle.dn_types.proofs.PickLaws.{pick-is-first}
+use Rattle.dn_types.proofs.Picks.{pick-some}
+use Rattle.dn_types.proofs.laws.laws_of_the_pick.Goals as goal
+
+pub returns-clause-there : goal.returns-clause-there
+returns-clause-there c = pick-some
+
+pub returns-clause-first : goal.returns-clause-first
+returns-clause-first c = pick-is-first

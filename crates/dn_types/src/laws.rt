@@ -1,0 +1,66 @@
+//! Laws of the definitions. A function here does nothing: its contract is the law, which the
+//! check proves.
+
+ghost use Rattle.dn_types.specs.Laws.{
+  CountsUpToTheLimit,
+  DueIsLast,
+  DueMomentsNeverFall,
+  GivesOnce,
+  GivesStarted,
+  GivesWhatIsDue,
+  LawfulReplies,
+  LeavesWhatIsNotDue,
+  OwnEntriesGrow,
+  PickIsFirst,
+  PickIsThere,
+  RepliesByStanding,
+  SendsOneAtATime,
+  SettlingEnds,
+  StartsInOrder,
+  StartsOnce,
+  TransmissionIsLeast,
+};
+
+/// A settling starts every packet that can start: after it no start is due on any link. A link
+/// sends one packet at a time. The packets of a flow start in the order of their arrival, and none
+/// starts twice.
+pub fn laws_of_starts()
+    ensures settles { SettlingEnds }
+    ensures one_at_a_time { SendsOneAtATime }
+    ensures in_order { StartsInOrder }
+    ensures once { StartsOnce }
+{}
+
+/// On a shared link WF2Q+ picks a packet wherever one waits: of the eligible heads the one with the
+/// least finish tag, and of those with equal tags that of the least flow number.
+pub fn laws_of_the_pick()
+    ensures there { PickIsThere }
+    ensures first { PickIsFirst }
+{}
+
+/// The transmission time is the least that carries the packet's bits, and under `Rule::Ordered` the
+/// due moments of a link never fall.
+pub fn laws_of_due_moments()
+    ensures transmission { TransmissionIsLeast }
+    ensures due_is_last { DueIsLast }
+    ensures never_fall { DueMomentsNeverFall }
+{}
+
+/// Each packet that starts is given by one Collect at most, and by the first whose effective moment
+/// reaches its due moment.
+pub fn laws_of_collecting()
+    ensures as_started { GivesStarted }
+    ensures once { GivesOnce }
+    ensures due { GivesWhatIsDue }
+    ensures none_left { LeavesWhatIsNotDue }
+{}
+
+/// The replies of a lawful history are those to its calls, of which the first 2^62 count, and each
+/// of its entries is one caller's own. A reply rests on where the calls before it left the
+/// emulator, and on nothing else of their past.
+pub fn laws_of_histories()
+    ensures replies { LawfulReplies }
+    ensures counts { CountsUpToTheLimit }
+    ensures own { OwnEntriesGrow }
+    ensures standing { RepliesByStanding }
+{}
