@@ -1,0 +1,5 @@
+pub mod Lines
+pub mod NextRecord
+pub mod ReadBack
+pub mod RecordSteps
+pub mod Witnesses

@@ -1,0 +1,5 @@
+pub mod Devices
+pub mod Reading
+pub mod Records
+pub mod Wrappers
+pub mod Writing

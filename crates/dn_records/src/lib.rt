@@ -1,0 +1,28 @@
+//! Reading and writing of whole texts, and of the CSV records in them.
+#![tactic(auto)]
+
+mod address;
+mod append;
+mod field;
+mod from_reader;
+mod from_writer;
+mod inlet;
+mod outlet;
+mod read_fault;
+mod record_reader;
+mod record_writer;
+#[cfg(test)]
+mod tests;
+mod whole;
+mod write_fault;
+
+pub use field::Field;
+pub use from_reader::FromReader;
+pub use from_writer::FromWriter;
+pub use inlet::Inlet;
+pub use outlet::Outlet;
+pub use read_fault::ReadFault;
+pub use record_reader::RecordReader;
+pub use record_writer::RecordWriter;
+pub use whole::{read_whole, write_whole};
+pub use write_fault::WriteFault;

@@ -1,0 +1,4 @@
+mod devices;
+mod example;
+mod fakes;
+mod records;
