@@ -1,0 +1,32 @@
+-- How many bytes the packets of a queue have.
+use Rattle.std.proofs.Common.{◌≡◌, ◌+◌, ◌*◌, ◌≤◌, List, [], ◌∷◌, ◌++◌, sum, length, refl, arith}
+use Rattle.std.proofs.lemmas.List.Sums.{sum_by-cons}
+use Rattle.dn_flows.specs.declared.waiting.Waiting.{Waiting}
+use Rattle.dn_flows.specs.Kept.{AreShort}
+use Rattle.dn_flows.specs.Table.{lengths}
+
+-- The bytes of a queue are the first packet's and the others'.
+pub lengths-cons : (w : Waiting) (ws : List Waiting) → sum (lengths (w ∷ ws)) ≡ w.len + sum (lengths ws)
+lengths-cons w ws = sum_by-cons (λ x. x) w.len (lengths ws)
+
+-- A packet at the end adds its length.
+pub lengths-push : (ws : List Waiting) (w : Waiting) → sum (lengths (ws ++ w ∷ [])) ≡ sum (lengths ws) + w.len
+lengths-push [] w = refl
+lengths-push (v ∷ ws) w =
+    let all = lengths-cons v (ws ++ w ∷ []) in
+    let first = lengths-cons v ws in
+    let others = lengths-push ws w in
+    omega arith
+
+pub AreShort-push : (ws : List Waiting) (w : Waiting) → AreShort ws → w.len ≤ 65535 → AreShort (ws ++ w ∷ [])
+AreShort-push [] w short one = (one, tt)
+AreShort-push (v ∷ ws) w short one = (short.0, AreShort-push ws w short.1 one)
+
+-- Packets that are short have few bytes.
+pub short_bytes : (ws : List Waiting) → AreShort ws → sum (lengths ws) ≤ 65535 * length ws
+short_bytes [] short = omega arith
+short_bytes (w ∷ ws) short =
+    let all = lengths-cons w ws in
+    let others = short_bytes ws short.1 in
+    let first : w.len ≤ 65535 = short.0 in
+    omega arith

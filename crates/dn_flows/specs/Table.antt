@@ -1,0 +1,85 @@
+-- The flow table as callers see it: the keys of the flows in order of first sight, and the state of each flow. A flow's
+-- number is its place in both lists.
+use Rattle.std.specs.Prelude.{ℕ, ◌+◌, ◌≡◌, Bool, true, false, cond, List, [], ◌∷◌, ◌++◌, map, sum, length, slice_index_or}
+use Rattle.std.specs.List.{list_any}
+use Rattle.dn_types.specs.Drops.{is_lost, is_full}
+use Rattle.dn_types.specs.Flows.{key_eq}
+use Rattle.dn_types.specs.declared.flow_key.FlowKey.{FlowKey}
+use Rattle.dn_types.specs.declared.flow_status.FlowStatus.{FlowStatus}
+use Rattle.dn_types.specs.declared.limit.Limit.{Limit}
+use Rattle.dn_flows.specs.declared.waiting.Waiting.{Waiting}
+use Rattle.dn_flows.specs.declared.verdict.Verdict.{Verdict}
+use Rattle.dn_flows.specs.declared.verdict.Verdict.TheVariants.{Take, Lost, Full}
+
+-- One flow: the packets that wait, in order, whether a place for one more is reserved, and the counts of its packets
+-- that were lost, refused by a full queue, started, and discarded by a delete.
+pub record FlowState : Type 0 where
+  pub backlog : List Waiting
+  pub reserved : Bool
+  pub lost : ℕ
+  pub full : ℕ
+  pub started : ℕ
+  pub discarded : ℕ
+
+pub record Table : Type 0 where
+  pub keys : List FlowKey
+  pub flows : List FlowState
+
+-- A flow without a packet and with no count.
+abbrev pub new_flow : FlowState
+new_flow = record { backlog = []; reserved = false; lost = 0; full = 0; started = 0; discarded = 0 }
+
+-- The flow with a number, which for a number that no flow has is a new flow.
+abbrev pub flow_at : List FlowState → ℕ → FlowState
+flow_at flows flow = slice_index_or flows flow new_flow
+
+-- Whether a flow has the key.
+abbrev pub is_known : FlowKey → List FlowKey → Bool
+is_known key keys = list_any (key_eq key) keys
+
+-- The flows of the table with one more at the end, unless the key is known.
+abbrev pub flows_with : FlowKey → Table → List FlowState
+flows_with key t = cond (is_known key t.keys) t.flows (t.flows ++ new_flow ∷ [])
+
+-- The flow holds no packet and has counted none.
+abbrev pub IsUnused : FlowState → Type 0
+IsUnused s = (s.backlog ≡ []) × (s.lost ≡ 0) × (s.full ≡ 0) × (s.started ≡ 0) × (s.discarded ≡ 0)
+
+-- The lengths of the packets that wait, in bytes.
+abbrev pub lengths : List Waiting → List ℕ
+lengths backlog = map (λ w. w.len) backlog
+
+-- A packet is lost by its word. One that isn't lost is refused where the queue is full, and else taken.
+abbrev pub verdict_of : ℕ → Limit → ℕ → List Waiting → Verdict
+verdict_of loss limit word backlog = cond (is_lost loss word) Lost (cond (is_full limit (lengths backlog)) Full Take)
+
+-- The flow with a place reserved.
+abbrev pub with_place : FlowState → FlowState
+with_place s = record { backlog = s.backlog; reserved = true; lost = s.lost; full = s.full; started = s.started; discarded = s.discarded }
+
+-- The flow after a packet joined its queue, in the place that was reserved.
+abbrev pub pushed : Waiting → FlowState → FlowState
+pushed w s = record { backlog = s.backlog ++ w ∷ []; reserved = false; lost = s.lost; full = s.full; started = s.started; discarded = s.discarded }
+
+-- The flow after the start of its first packet. Where none waits it is as it was.
+abbrev pub popped_from : List Waiting → FlowState → FlowState
+popped_from [] s = s
+popped_from (w ∷ ws) s = record { backlog = ws; reserved = s.reserved; lost = s.lost; full = s.full; started = s.started + 1; discarded = s.discarded }
+
+abbrev pub popped : FlowState → FlowState
+popped s = popped_from s.backlog s
+
+-- The flow after one more of its packets was lost, or refused by its full queue.
+abbrev pub one_lost : FlowState → FlowState
+one_lost s = record { backlog = s.backlog; reserved = s.reserved; lost = s.lost + 1; full = s.full; started = s.started; discarded = s.discarded }
+
+abbrev pub one_full : FlowState → FlowState
+one_full s = record { backlog = s.backlog; reserved = s.reserved; lost = s.lost; full = s.full + 1; started = s.started; discarded = s.discarded }
+
+-- The flow after a delete discarded all packets that waited.
+abbrev pub emptied : FlowState → FlowState
+emptied s = record { backlog = []; reserved = s.reserved; lost = s.lost; full = s.full; started = s.started; discarded = s.discarded + length s.backlog }
+
+-- What is told of the flow with a number and a key.
+abbrev pub status_of : ℕ → FlowKey → FlowState → FlowStatus
+status_of flow key s = record { flow = flow; key = key; queued = length s.backlog; bytes = sum (lengths s.backlog); lost = s.lost; full = s.full; started = s.started; discarded = s.discarded }

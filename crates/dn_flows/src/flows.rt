@@ -1,0 +1,186 @@
+ghost use Rattle.std.specs.Prelude.{◌≡◌, ◌+◌, ◌-◌, ◌<◌, ◌≤◌, ◌^◌, [], take, length, sum, slice_get, slice_set, true, Some, IfOk, OnOk, OnErr, IsOk};
+ghost use Rattle.dn_types.specs.Flows.{flow_number, with_key};
+ghost use Rattle.dn_flows.specs.Table.{flow_at, is_known, flows_with, IsUnused, lengths, verdict_of, with_place, pushed, popped, one_lost, one_full, emptied, status_of};
+
+use crate::drop_rule::DropRule;
+use crate::flow_queue::FlowQueue;
+use crate::table_key::TableKey;
+use crate::verdict::Verdict;
+use crate::waiting::Waiting;
+use dn_types::{FlowKey, FlowStatus, Packet};
+use indexmap::IndexSet;
+use std::alloc::{AllocError, Global};
+use std::marker::Model;
+
+/// The flows, numbered from 0 in order of first sight. Contracts see the keys and the states of the
+/// flows as two lists. Flows never expire.
+#[derive(Drop)]
+pub struct Flows {
+    keys: IndexSet<TableKey>,
+    queues: Vec<FlowQueue>,
+    alloc: Global,
+}
+
+impl Model for Flows {
+    ghost use Rattle.std.specs.Prelude.{◌≡◌, length};
+    ghost use Rattle.dn_flows.specs.Table.{Table};
+
+    ghost Value = { Table };
+
+    ghost view = { λ a. record { keys = a.keys.keys; flows = a.queues.items } };
+
+    ghost invariant = { λ a. length a.keys.keys ≡ length a.queues.items };
+}
+
+impl Flows {
+    /// The table without a flow. It takes no memory.
+    pub fn new(alloc: Global) -> Flows
+        ensures keys { result.keys ≡ [] }
+        ensures flows { result.flows ≡ [] }
+    {
+        Flows {
+            keys: IndexSet::new(alloc),
+            queues: Vec::new(alloc),
+            alloc,
+        }
+    }
+
+    /// The count of flows.
+    pub fn len(&self) -> usize
+        ensures flows { result ≡ length self.now.flows }
+        ensures keys { result ≡ length self.now.keys }
+    {
+        self.queues.len()
+    }
+
+    /// The number of the flow with the key, which is made where no flow has it. A key that is known
+    /// takes no memory.
+    pub fn find_or_make(&mut self, key: FlowKey) -> Result<usize, AllocError>
+        ensures number { IfOk result (λ flow. flow ≡ flow_number self.old.keys key) }
+        ensures within { IfOk result (λ flow. flow < length self.new.flows) }
+        ensures keys { OnOk result (self.new.keys ≡ with_key key self.old.keys) }
+        ensures flows { OnOk result (self.new.flows ≡ flows_with key self.old) }
+        ensures refused { OnErr result (self.new ≡ self.old) }
+        ensures succeeds { is_known key self.old.keys ≡ true → IsOk result }
+    {
+        let key = TableKey::new(key);
+        if let Some(flow) = self.keys.get_index_of(&key) {
+            return Ok(flow);
+        }
+        // The place of the queue comes first, so that nothing can fail once the key is in.
+        self.queues.reserve(1)?;
+        let Ok((flow, _)) = self.keys.insert_full(key) else {
+            return Err(AllocError);
+        };
+        self.queues.push_reserved(FlowQueue::new(self.alloc));
+        Ok(flow)
+    }
+
+    /// Takes out the flow that was made last, for a caller that made it and then found no memory.
+    pub fn forget_last(&mut self)
+        requires some { 0 < length self.old.flows }
+        requires unused { IsUnused (flow_at self.old.flows (length self.old.flows - 1)) }
+        ensures keys { self.new.keys ≡ take (length self.old.keys - 1) self.old.keys }
+        ensures flows { self.new.flows ≡ take (length self.old.flows - 1) self.old.flows }
+    {
+        let _ = self.keys.pop();
+        let _ = self.queues.pop();
+    }
+
+    /// The key of the flow.
+    pub fn key(&self, flow: usize) -> FlowKey
+        requires { flow < length self.now.flows }
+        ensures { slice_get self.now.keys flow ≡ Some result }
+    {
+        self.keys.get_index(flow).unwrap().get()
+    }
+
+    /// The state of the flow, as `Show` answers it.
+    pub fn status(&self, flow: usize) -> FlowStatus
+        requires { flow < length self.now.flows }
+        ensures value { result ≡ status_of flow result.key (flow_at self.now.flows flow) }
+        ensures key { slice_get self.now.keys flow ≡ Some result.key }
+        ensures bytes { result.bytes < 2 ^ 32 }
+    {
+        self.queues[flow].status(flow, self.key(flow))
+    }
+
+    /// What becomes of a packet of the flow. A packet that is taken fits: the bytes queued with it
+    /// are below 2^32.
+    pub fn verdict(&self, flow: usize, packet: &Packet, rule: &DropRule) -> Verdict
+        requires { flow < length self.now.flows }
+        ensures value { result ≡ verdict_of rule.now.loss rule.now.limit packet.now.word (flow_at self.now.flows flow).backlog }
+        ensures fits { result ≡ Verdict.Take → sum (lengths (flow_at self.now.flows flow).backlog) + packet.now.len < 2 ^ 32 }
+    {
+        self.queues[flow].verdict(packet, rule)
+    }
+
+    /// Reserves a place in the flow's queue, which stays reserved until the next push to that queue.
+    pub fn reserve_place(&mut self, flow: usize) -> Result<(), AllocError>
+        requires { flow < length self.old.flows }
+        ensures reserved { OnOk result (self.new.flows ≡ slice_set self.old.flows flow (with_place (flow_at self.old.flows flow))) }
+        ensures keys { self.new.keys ≡ self.old.keys }
+        ensures refused { OnErr result (self.new ≡ self.old) }
+        ensures succeeds { (flow_at self.old.flows flow).reserved ≡ true → IsOk result }
+    {
+        let queue = &mut self.queues[flow];
+        queue.reserve_place()
+    }
+
+    /// Puts a packet at the end of the flow's queue, in the place that was reserved.
+    pub fn push_reserved(&mut self, flow: usize, waiting: Waiting)
+        requires within { flow < length self.old.flows }
+        requires reserved { (flow_at self.old.flows flow).reserved ≡ true }
+        requires bytes { sum (lengths (flow_at self.old.flows flow).backlog) + waiting.len < 2 ^ 32 }
+        ensures flows { self.new.flows ≡ slice_set self.old.flows flow (pushed waiting (flow_at self.old.flows flow)) }
+        ensures keys { self.new.keys ≡ self.old.keys }
+    {
+        let queue = &mut self.queues[flow];
+        queue.push_reserved(waiting);
+    }
+
+    /// Takes the first packet out of the flow's queue and counts its start.
+    pub fn pop_front(&mut self, flow: usize) -> Option<Waiting>
+        requires within { flow < length self.old.flows }
+        requires count { (flow_at self.old.flows flow).started < 2 ^ 62 }
+        ensures front { result ≡ slice_get (flow_at self.old.flows flow).backlog 0 }
+        ensures flows { self.new.flows ≡ slice_set self.old.flows flow (popped (flow_at self.old.flows flow)) }
+        ensures keys { self.new.keys ≡ self.old.keys }
+    {
+        let queue = &mut self.queues[flow];
+        queue.pop_front()
+    }
+
+    /// Counts a packet of the flow that was lost by the loss rate.
+    pub fn note_lost(&mut self, flow: usize)
+        requires within { flow < length self.old.flows }
+        requires count { (flow_at self.old.flows flow).lost < 2 ^ 62 }
+        ensures flows { self.new.flows ≡ slice_set self.old.flows flow (one_lost (flow_at self.old.flows flow)) }
+        ensures keys { self.new.keys ≡ self.old.keys }
+    {
+        let queue = &mut self.queues[flow];
+        queue.note_lost();
+    }
+
+    /// Counts a packet of the flow that was refused by its full queue.
+    pub fn note_full(&mut self, flow: usize)
+        requires within { flow < length self.old.flows }
+        requires count { (flow_at self.old.flows flow).full < 2 ^ 62 }
+        ensures flows { self.new.flows ≡ slice_set self.old.flows flow (one_full (flow_at self.old.flows flow)) }
+        ensures keys { self.new.keys ≡ self.old.keys }
+    {
+        let queue = &mut self.queues[flow];
+        queue.note_full();
+    }
+
+    /// Empties the flow's queue, as a delete does, and counts its packets as discarded.
+    pub fn discard(&mut self, flow: usize)
+        requires within { flow < length self.old.flows }
+        requires count { (flow_at self.old.flows flow).discarded + length (flow_at self.old.flows flow).backlog ≤ 2 ^ 62 }
+        ensures flows { self.new.flows ≡ slice_set self.old.flows flow (emptied (flow_at self.old.flows flow)) }
+        ensures keys { self.new.keys ≡ self.old.keys }
+    {
+        let queue = &mut self.queues[flow];
+        queue.discard();
+    }
+}

@@ -1,0 +1,16 @@
+//! The flow table: flows by key and by number, each with its queue and the counts of its packets.
+#![tactic(auto)]
+
+mod drop_rule;
+mod flow_queue;
+mod flows;
+mod table_key;
+#[cfg(test)]
+mod tests;
+mod verdict;
+mod waiting;
+
+pub use drop_rule::DropRule;
+pub use flows::Flows;
+pub use verdict::Verdict;
+pub use waiting::Waiting;

@@ -1,0 +1,9 @@
+//! A heap that gives its least key first, and in which a push into reserved room can't fail.
+#![tactic(auto)]
+
+mod min_heap;
+mod remove;
+#[cfg(test)]
+mod tests;
+
+pub use min_heap::MinHeap;

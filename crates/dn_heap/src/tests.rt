@@ -1,0 +1,37 @@
+use crate::MinHeap;
+use std::test::Fail;
+
+#[test]
+fn parts_by_themselves(rt: HostRuntime) -> Result<(), Fail> {
+    let mut heap: MinHeap<u32> = MinHeap::new(rt.alloc());
+    heap.reserve(3)?;
+    heap.push_reserved(5);
+    heap.push_reserved(2);
+    heap.push_reserved(9);
+    assert_eq!(rt; heap.peek(), Some(&2));
+    assert_eq!(rt; (heap.len(), heap.room()), (3, 0));
+    assert_eq!(rt; heap.pop(), Some(2));
+    assert_eq!(rt; heap.pop(), Some(5));
+    assert_eq!(rt; heap.pop(), Some(9));
+    assert_eq!(rt; heap.pop(), None);
+    assert_eq!(rt; (heap.moves(), heap.room()), (3, 3));
+    Ok(())
+}
+
+#[test]
+fn takes_one_of_equal_keys(rt: HostRuntime) -> Result<(), Fail> {
+    let mut heap: MinHeap<u32> = MinHeap::new(rt.alloc());
+    heap.reserve(4)?;
+    heap.push_reserved(7);
+    heap.push_reserved(3);
+    heap.push_reserved(7);
+    heap.push_reserved(1);
+    assert!(rt; heap.take_out(&7));
+    assert!(rt; !heap.take_out(&8));
+    assert_eq!(rt; (heap.len(), heap.room(), heap.moves()), (3, 1, 4));
+    assert_eq!(rt; heap.pop(), Some(1));
+    assert_eq!(rt; heap.pop(), Some(3));
+    assert_eq!(rt; heap.pop(), Some(7));
+    assert!(rt; heap.is_empty());
+    Ok(())
+}

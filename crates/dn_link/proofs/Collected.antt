@@ -1,0 +1,129 @@
+-- What a Collect takes. The packets that `pop_due` gives one after the other, up to the first None, are `given` of
+-- the definition of the emulator, and what is left is what `undelivered` keeps. An invariant of the loop is that the
+-- packets taken so far, followed by those due in the line, are those due at first, that the packets not due stay the
+-- same, and that the line ascends: `due-first` and `not_due-first` keep it, and at None `due-none` and
+-- `not_due-none` finish it.
+use Rattle.std.proofs.Common.{◌≡◌, ℕ, ◌<◌, ◌≤◌, Bool, true, false, cond, nat_le, nat_lt, List, [], ◌∷◌, filter, All, Some, None, is_some, refl, sym, ap, ◌∙◌, arith, inl, inr}
+use Rattle.std.specs.Ordering.{is_lt}
+use Rattle.std.proofs.lemmas.List.Elements.{All-nil, All-cons}
+use Rattle.std.proofs.lemmas.Bool.{cases_lt}
+use Rattle.std.proofs.lemmas.Bool.Decides.{nat_tests}
+use Rattle.dn_types.specs.declared.delivery.Delivery.{Delivery}
+use Rattle.dn_types.specs.declared.rule.Rule.{Rule}
+use Rattle.dn_types.specs.Deliveries.{delivery_cmp, is_given_before, in_order, delivery_of, undelivered}
+use Rattle.dn_types.specs.Links.{last_due}
+use Rattle.dn_types.specs.Trace.{Event, opened, arrived, started, lost, refused, discarded, collected}
+use Rattle.dn_link.specs.Line.{all_in_order, due_first, after_due}
+use Rattle.dn_link.proofs.Placed.{NoneBefore, Ascends, ascends_placed, ascends_filtered}
+use Rattle.dn_link.proofs.InOrder.{strict, in_order_placed, first_due}
+
+-- The packets that are due at the moment, and those that aren't.
+abbrev pub due_at : ℕ → List Delivery → List Delivery
+due_at at ds = filter (λ d. nat_le d.due at) ds
+
+abbrev pub not_due_at : ℕ → List Delivery → List Delivery
+not_due_at at ds = filter (λ d. nat_lt at d.due) ds
+
+-- The packets are in the order in which they are given.
+abbrev pub IsInOrder : List Delivery → Type 0
+IsInOrder ds = Ascends is_given_before ds
+
+pub IsInOrder-in_order : (d : Delivery) (ds : List Delivery) → IsInOrder ds → IsInOrder (in_order d ds)
+IsInOrder-in_order d ds ordered = rw in_order_placed (ascends_placed is_given_before strict d ds ordered)
+
+-- The undelivered packets of every trace are in order.
+pub IsInOrder-undelivered : (rule : Rule) (trace : List Event) → IsInOrder (undelivered rule trace)
+IsInOrder-undelivered rule [] = tt
+IsInOrder-undelivered rule (started s ∷ trace) = IsInOrder-in_order (delivery_of rule s (last_due rule s.packet.link trace)) (undelivered rule trace) (IsInOrder-undelivered rule trace)
+IsInOrder-undelivered rule (collected at ∷ trace) = ascends_filtered is_given_before (λ d. nat_lt at d.due) (undelivered rule trace) (IsInOrder-undelivered rule trace)
+IsInOrder-undelivered rule (opened l ∷ trace) = IsInOrder-undelivered rule trace
+IsInOrder-undelivered rule (arrived p ∷ trace) = IsInOrder-undelivered rule trace
+IsInOrder-undelivered rule (lost l f ∷ trace) = IsInOrder-undelivered rule trace
+IsInOrder-undelivered rule (refused l f ∷ trace) = IsInOrder-undelivered rule trace
+IsInOrder-undelivered rule (discarded f ∷ trace) = IsInOrder-undelivered rule trace
+
+pub IsInOrder-after_due : (at : ℕ) (ds : List Delivery) → IsInOrder ds → IsInOrder (after_due at ds)
+IsInOrder-after_due at [] ordered = tt
+IsInOrder-after_due at (d ∷ ds) ordered = by (nat_le d.due at)
+  where
+    by : (b : Bool) → IsInOrder (cond b ds (d ∷ ds))
+    by true = ordered.1
+    by false = ordered
+
+-- A first that is due is the first of the list.
+first_is : (b : Bool) (d e : Delivery) → cond b (Some d) None ≡ Some e → (b ≡ true) × (d ≡ e)
+first_is true d e h = (refl, cc)
+first_is false d e h = absurd (let z : false ≡ true = ap is_some h in cc)
+
+-- Where the first is due, it is the first of those due.
+pub due-first : (at : ℕ) (ds : List Delivery) (e : Delivery) → due_first at ds ≡ Some e → due_at at ds ≡ e ∷ due_at at (after_due at ds)
+due-first at [] e h = absurd (let z : false ≡ true = ap is_some h in cc)
+due-first at (d ∷ ds) e h =
+    let is = first_is (nat_le d.due at) d e h in
+    rw (is.0, is.1) refl
+
+-- And the packets not due are those behind it.
+pub not_due-first : (at : ℕ) (ds : List Delivery) (e : Delivery) → due_first at ds ≡ Some e → not_due_at at (after_due at ds) ≡ not_due_at at ds
+not_due-first at [] e h = refl
+not_due-first at (d ∷ ds) e h =
+    let is = first_is (nat_le d.due at) d e h in
+    let test : nat_lt at d.due ≡ false = let due = is.0 in grind (arith, nat_tests) in
+    rw (is.0, test) refl
+
+-- What is given later isn't due sooner.
+due_order : (a b : Delivery) → is_given_before b a ≡ false → a.due ≤ b.due
+due_order a b h = elim (cases_lt b.due a.due) [
+  | inl sooner ↦ absurd (let z : is_lt (delivery_cmp b a) ≡ true = grind (arith, nat_tests) in cc)
+  | inr order ↦ order
+]
+
+-- Behind a packet that isn't due none is.
+none_due : (at : ℕ) (d : Delivery) (ds : List Delivery) → NoneBefore is_given_before d ds → at < d.due → due_at at ds ≡ []
+none_due at d [] behind later = refl
+none_due at d (e ∷ es) behind later =
+    let order = due_order d e behind.0 in
+    let test : nat_le e.due at ≡ false = grind (arith, nat_tests) in
+    rw test (none_due at d es behind.1 later)
+
+all_stay : (at : ℕ) (d : Delivery) (ds : List Delivery) → NoneBefore is_given_before d ds → at < d.due → not_due_at at ds ≡ ds
+all_stay at d [] behind later = refl
+all_stay at d (e ∷ es) behind later =
+    let order = due_order d e behind.0 in
+    let test : nat_lt at e.due ≡ true = grind (arith, nat_tests) in
+    rw test (ap (λ l. e ∷ l) (all_stay at d es behind.1 later))
+
+first_is_not : (b : Bool) (d : Delivery) → cond b (Some d) None ≡ None → b ≡ false
+first_is_not true d h = absurd (let z : true ≡ false = ap is_some h in cc)
+first_is_not false d h = refl
+
+-- Where the first of a list in order isn't due, none is.
+pub due-none : (at : ℕ) (ds : List Delivery) → IsInOrder ds → due_first at ds ≡ None → due_at at ds ≡ []
+due-none at [] ordered h = refl
+due-none at (d ∷ ds) ordered h =
+    let test = first_is_not (nat_le d.due at) d h in
+    rw test (none_due at d ds ordered.0 (grind (arith, nat_tests)))
+
+pub not_due-none : (at : ℕ) (ds : List Delivery) → IsInOrder ds → due_first at ds ≡ None → not_due_at at ds ≡ ds
+not_due-none at [] ordered h = refl
+not_due-none at (d ∷ ds) ordered h =
+    let test = first_is_not (nat_le d.due at) d h in
+    let later : nat_lt at d.due ≡ true = grind (arith, nat_tests) in
+    rw later (ap (λ l. d ∷ l) (all_stay at d ds ordered.0 (grind (arith, nat_tests))))
+
+-- And every packet is due later.
+all_later : (at : ℕ) (d : Delivery) (ds : List Delivery) → NoneBefore is_given_before d ds → at < d.due → All (λ e. at < e.due) ds
+all_later at d [] behind later = All-nil (λ (e : Delivery). at < e.due)
+all_later at d (e ∷ es) behind later =
+    let order = due_order d e behind.0 in
+    All-cons (λ (e : Delivery). at < e.due) e es (omega arith) (all_later at d es behind.1 later)
+
+pub later-none : (at : ℕ) (ds : List Delivery) → IsInOrder ds → is_some (due_first at ds) ≡ false → All (λ d. at < d.due) ds
+later-none at [] ordered h = All-nil (λ (e : Delivery). at < e.due)
+later-none at (d ∷ ds) ordered h =
+    let test : nat_le d.due at ≡ false = sym (first_due at d ds (d ∷ ds) refl) ∙ h in
+    let later : at < d.due = grind (arith, nat_tests) in
+    All-cons (λ (e : Delivery). at < e.due) d ds later (all_later at d ds ordered.0 later)
+
+pub IsInOrder-all_in_order : (ds : List Delivery) → IsInOrder (all_in_order ds)
+IsInOrder-all_in_order [] = tt
+IsInOrder-all_in_order (d ∷ ds) = IsInOrder-in_order d (all_in_order ds) (IsInOrder-all_in_order ds)
