@@ -1,0 +1,15 @@
+#!/bin/sh
+# Times the scheduler beside its twin, and refuses each of its growths in turn. The argument is the count of rounds, of
+# which the least counts.
+set -e
+cd "$(dirname "$0")/.."
+kit=$(dirname "$(rt doc | tail -1)")
+(cd crates/sched_bench && rt lib)
+ours=crates/sched_bench/out/libsched_bench.a
+work=$(mktemp -d)
+trap 'rm -rf "$work"' EXIT
+cc -O2 -o "$work/refused" bench/sched_refused.c "$ours" "$kit/c/liblibc_c.a" -Wl,--wrap=rattle_alloc,--wrap=rattle_realloc
+"$work/refused"
+rustc --edition 2021 -O -o "$work/sched" bench/sched.rs -L native=crates/sched_bench/out -l static=sched_bench \
+    -L native="$kit/c" -l static=libc_c
+"$work/sched" "${1:-10}"

@@ -1,0 +1,75 @@
+-- A busy period begins.
+use Rattle.std.proofs.Common.{◌≡◌, ℕ, zero, suc, ◌+◌, ◌≤◌, List, [], ◌∷◌, length, All, refl, sym, ◌∙◌, arith, nat_lt, false}
+use Rattle.std.specs.List.{sum_by}
+use Rattle.std.proofs.lemmas.List.{length-map}
+use Rattle.std.proofs.lemmas.List.Sums.{sum_by-cons}
+use Rattle.std.proofs.lemmas.List.Elements.{All-nil, All-cons, All-head, All-tail}
+use Rattle.std.proofs.lemmas.Bool.Decides.{nat_tests}
+use Rattle.dn_types.specs.Wf2q.{Stamped}
+use Rattle.dn_heap.specs.Heap.{Heap}
+use Rattle.dn_wf2q.specs.declared.flow_queue.FlowQueue.{FlowQueue}
+use Rattle.dn_wf2q.specs.declared.parts.Parts.{Parts}
+use Rattle.dn_wf2q.specs.Rank.{Rank}
+use Rattle.dn_wf2q.specs.Schedule.{Flow, flow_at, IsIdle, forgotten, without_tag}
+use Rattle.dn_wf2q.specs.Kept.{Kept, IsKept, IsFlowWithin, flows_of, seen, by_slot, presence, behind, head_weight, bound, none_absent}
+use Rattle.dn_wf2q.proofs.Counts.{idle_no_heads}
+
+-- A sum over backlogs does not depend on finish tags.
+sum_forgotten : (h : List Stamped → ℕ) (flows : List Flow) → sum_by (λ fl. h fl.backlog) (forgotten flows) ≡ sum_by (λ fl. h fl.backlog) flows
+sum_forgotten h [] = refl
+sum_forgotten h (fl ∷ fls) =
+    let a = sum_by-cons (λ x. h x.backlog) (without_tag fl) (forgotten fls) in
+    let b = sum_by-cons (λ x. h x.backlog) fl fls in
+    let c = sum_forgotten h fls in
+    omega (arith, a, b, c)
+
+backlog_forgotten : (flows : List Flow) (slot : ℕ) → (flow_at (forgotten flows) slot).backlog ≡ (flow_at flows slot).backlog
+backlog_forgotten [] slot = refl
+backlog_forgotten (fl ∷ fls) zero = refl
+backlog_forgotten (fl ∷ fls) (suc slot) = backlog_forgotten fls slot
+
+within_forgotten : (b : ℕ) (flows : List Flow) → All (IsFlowWithin b) flows → All (IsFlowWithin b) (forgotten flows)
+within_forgotten b [] h = All-nil (IsFlowWithin b)
+within_forgotten b (fl ∷ fls) h =
+    let one = All-head (IsFlowWithin b) fl fls h in
+    All-cons (IsFlowWithin b) (without_tag fl) (forgotten fls) (omega arith, one.1) (within_forgotten b fls (All-tail (IsFlowWithin b) fl fls h))
+
+forgotten_by : (b a : ℕ) (s : ℕ → ℕ) (qs : List FlowQueue) → All (λ q. q.arrived ≤ a) qs → by_slot (λ i. seen a (s i)) qs ≡ forgotten (by_slot (λ i. seen b (s i)) qs)
+forgotten_by b a s [] h = refl
+forgotten_by b a s (q ∷ qs) h =
+    let one = All-head (λ x. x.arrived ≤ a) q qs h in
+    let e : nat_lt a q.arrived ≡ false = grind (arith, nat_tests) in
+    rw (e, forgotten_by b a (λ i. s (suc i)) qs (All-tail (λ x. x.arrived ≤ a) q qs h)) refl
+
+-- No queue's last finish tag counts any more, since none has had an arrival since.
+pub flows_forgotten : (b a : ℕ) (qs : List FlowQueue) → All (λ q. q.arrived ≤ a) qs → by_slot (seen a) qs ≡ forgotten (by_slot (seen b) qs)
+flows_forgotten b a qs h = forgotten_by b a (λ i. i) qs h
+
+module _ {flows : List Flow} {eligible waiting : Heap Rank} {virtual_time weights arrivals picks : ℕ} (kept : Kept none_absent [] flows eligible waiting virtual_time weights arrivals picks) (idle : IsIdle flows) where
+  none : length eligible.keys + length waiting.keys ≡ 0
+  none = let c = kept.counted in let z = idle_no_heads flows idle in omega arith
+
+  begun_kept : Kept none_absent [] (forgotten flows) eligible waiting 0 weights arrivals picks
+  begun_kept =
+      let long = length-map flows without_tag in
+      record {
+        placed = λ slot. rw (backlog_forgotten flows slot) (kept.placed slot);
+        ready = λ i d l. absurd (omega (arith, none));
+        waits = λ i d l. absurd (omega (arith, none));
+        weighed = kept.weighed ∙ sym (sum_forgotten head_weight flows);
+        counted = kept.counted ∙ sym (sum_forgotten presence flows);
+        pushed = let c = kept.pushed in let s = sum_forgotten behind flows in omega arith;
+        picked = kept.picked;
+        bounded = within_forgotten (bound arrivals picks) flows kept.bounded;
+        timely = omega arith;
+        eligible_room = let c = kept.eligible_room in omega arith;
+        waiting_room = let c = kept.waiting_room in omega arith;
+      }
+
+pub begun : (p : Parts) → IsKept p → IsIdle (flows_of p) → IsKept (record p { virtual_time = 0; busy_from = p.arrivals })
+begun p kept idle = record {
+  kept = rw (flows_forgotten p.busy_from p.arrivals p.flows.items kept.arrived) (begun_kept kept.kept idle);
+  few = kept.few;
+  began = omega arith;
+  arrived = kept.arrived;
+}

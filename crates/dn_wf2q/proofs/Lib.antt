@@ -1,0 +1,14 @@
+pub mod BySlot
+pub mod Heads
+pub mod Ranks
+pub mod Counts
+pub mod Scan
+pub mod Steps
+pub mod Entered
+pub mod Promoted
+pub mod Sent
+pub mod Own
+pub mod Arrived
+pub mod Begun
+pub mod Discarded
+pub mod Reserved

@@ -1,0 +1,235 @@
+-- The head of a flow is sent.
+use Rattle.std.proofs.Common.{◌≡◌, ℕ, ◌+◌, ◌-◌, ◌*◌, ◌==◌, ◌<◌, ◌≤◌, cond, Some, List, [], ◌∷◌, length, map, take, All, IsPermutation, refl, sym, ap, ◌∙◌, subst, arith, inl, inr, slice_index_or, get_or, set, sum_by}
+use Rattle.std.proofs.lemmas.List.{get_or-set_same, get_or-set_other, length-set, get_or_read}
+use Rattle.std.proofs.lemmas.List.Elements.{All-set, All-head, All-tail, All-weaker}
+use Rattle.std.proofs.lemmas.List.Sorted.{All-permutation, length_permutation}
+use Rattle.std.proofs.lemmas.List.Sums.{sum_by-set, get_or-le-sum_by}
+use Rattle.std.proofs.lemmas.Bool.{cases_eq}
+use Rattle.std.proofs.Math.Nat.{div-le_self}
+use Rattle.std.specs.Vec.{with_item}
+use Rattle.dn_types.specs.Wf2q.{Stamped, scaled, weight_sum}
+use Rattle.dn_heap.specs.Heap.{Heap}
+use Rattle.dn_wf2q.specs.declared.flow_queue.TaggedPacket.{TaggedPacket}
+use Rattle.dn_wf2q.specs.declared.flow_queue.FlowQueue.{FlowQueue}
+use Rattle.dn_wf2q.specs.declared.parts.Parts.{Parts}
+use Rattle.dn_wf2q.specs.Rank.{Rank}
+use Rattle.dn_wf2q.specs.Schedule.{Flow, flow_at, no_packets, heads_of, after_pick, without_head}
+use Rattle.dn_wf2q.specs.Kept.{Kept, IsKept, IsKeptBut, IsKeptWithout, HeadIs, IsEligible, IsWaiting, IsWithin, IsFlowWithin, flows_of, seen, tagged, first_of, places, presence, behind, head_weight, standing, bound, none_absent, only_absent}
+use Rattle.dn_wf2q.specs.Steps.{Sends}
+use Rattle.dn_wf2q.proofs.BySlot.{length-by_slot, by_slot-set}
+use Rattle.dn_wf2q.proofs.Heads.{head_listed, head_weaker, flow_at_seen, some_packets, flow_within, within_more, flow_within_more, length-split, room_grows, first_facts, cond_zero}
+use Rattle.dn_wf2q.proofs.Counts.{length_of_first, weight_of_first, weights_are, waiting-set}
+use Rattle.dn_wf2q.proofs.Ranks.{standing_popped, none_standing, at_slot_same, at_slot_other, absent_same, absent_other}
+use Rattle.dn_wf2q.proofs.Steps.{all_in}
+
+-- Neither a packet's cost nor the growth by it is above this.
+pub scaled-le : (len w : ℕ) → len < 65536 → scaled len w ≤ 4294967296
+scaled-le len w l = let d = div-le_self (len * 65536) w in omega arith
+
+-- The key k leaves the eligible heap; at its slot `sent` leaves and `rest` is left.
+module _ {flows : List Flow} {eligible waiting : Heap Rank} {virtual_time weights arrivals picks : ℕ} (kept : Kept none_absent [] flows eligible waiting virtual_time weights arrivals picks) (k : Rank) (es : Heap Rank) (p : IsPermutation eligible.keys (k ∷ es.keys)) (sent : Stamped) (rest : List Stamped) (is : (flow_at flows k.slot).backlog ≡ sent ∷ rest) where
+  left_in_eligible : standing k.slot es.keys ≡ 0
+  left_in_eligible =
+      let a = standing_popped k.slot k eligible.keys es.keys p in
+      let b = at_slot_same k.slot k refl in
+      let c = rw is at (kept.placed k.slot) in
+      omega arith
+
+  left_in_waiting : standing k.slot waiting.keys ≡ 0
+  left_in_waiting =
+      let a = standing_popped k.slot k eligible.keys es.keys p in
+      let b = at_slot_same k.slot k refl in
+      let c = rw is at (kept.placed k.slot) in
+      omega arith
+
+  -- What a flow is set to does not matter to the keys of the others.
+  others_ready : (fl : Flow) (v : ℕ) → virtual_time ≤ v → All (IsEligible (set flows k.slot fl) v) es.keys
+  others_ready fl v l i d h =
+      let e = slice_index_or es.keys i d in
+      let n = none_standing k.slot es.keys left_in_eligible i d h in
+      let was = All-tail (IsEligible flows virtual_time) k es.keys (All-permutation (IsEligible flows virtual_time) eligible.keys (k ∷ es.keys) p kept.ready) i d h in
+      rw (get_or-set_other flows k.slot e.slot fl no_packets n)
+      (head_weaker (λ p. (e.tag ≡ p.finish_tag) × (p.start_tag ≤ virtual_time)) (λ p. (e.tag ≡ p.finish_tag) × (p.start_tag ≤ v)) (λ p x. let y = x.1 in (x.0, omega arith)) (flow_at flows e.slot).backlog was)
+
+  others_wait : (fl : Flow) → All (IsWaiting (set flows k.slot fl)) waiting.keys
+  others_wait fl i d h =
+      let e = slice_index_or waiting.keys i d in
+      let n = none_standing k.slot waiting.keys left_in_waiting i d h in
+      rw (get_or-set_other flows k.slot e.slot fl no_packets n) (kept.waits i d h)
+
+  pub sent_within : IsWithin (bound arrivals picks) sent × All (IsWithin (bound arrivals picks)) rest × ((flow_at flows k.slot).last_finish_tag ≤ bound arrivals picks)
+  sent_within =
+      let w = flow_within (bound arrivals picks) flows k.slot kept.bounded in
+      let all = rw is at w.1 in
+      (All-head (IsWithin (bound arrivals picks)) sent rest all, All-tail (IsWithin (bound arrivals picks)) sent rest all, w.0)
+
+  pub sent_listed : k.slot < length flows
+  sent_listed = head_listed (λ x. x ≡ sent) flows k.slot (rw is refl)
+
+  pub sent_weighs : (0 < sent.weight) × (sent.weight ≤ weights)
+  sent_weighs =
+      let g : head_weight (flow_at flows k.slot).backlog ≤ sum_by (λ fl. head_weight fl.backlog) flows = get_or-le-sum_by (λ fl. head_weight fl.backlog) flows k.slot no_packets sent_listed in
+      let h : sent.weight ≤ sum_by (λ fl. head_weight fl.backlog) flows = rw is at g in
+      let e = kept.weighed in
+      (sent_within.0.3, omega arith)
+
+  -- The next head, if there is one, is in no heap yet.
+  pub sent_kept : (v w last : ℕ) → es.moves ≡ eligible.moves → es.room ≡ eligible.room + 1 → virtual_time ≤ v → v ≤ bound arrivals (picks + 1) → w + sent.weight ≡ weights → last ≤ bound arrivals picks → Kept (λ slot. cond (k.slot == slot) (presence rest) 0) (take 1 rest) (set flows k.slot (record { backlog = rest; last_finish_tag = last })) es waiting v w arrivals (picks + 1)
+  sent_kept v w last me re tv vb wq lb =
+      let fl : Flow = record { backlog = rest; last_finish_tag = last } in
+      let le = length_permutation eligible.keys (k ∷ es.keys) p in
+      let long = length-set flows k.slot fl in
+      let weigh : sum_by (λ x. head_weight x.backlog) (set flows k.slot fl) + head_weight (flow_at flows k.slot).backlog ≡ sum_by (λ x. head_weight x.backlog) flows + head_weight rest = sum_by-set (λ x. head_weight x.backlog) flows k.slot fl no_packets sent_listed in
+      let heads : sum_by (λ x. presence x.backlog) (set flows k.slot fl) + presence (flow_at flows k.slot).backlog ≡ sum_by (λ x. presence x.backlog) flows + presence rest = sum_by-set (λ x. presence x.backlog) flows k.slot fl no_packets sent_listed in
+      let tails : sum_by (λ x. behind x.backlog) (set flows k.slot fl) + behind (flow_at flows k.slot).backlog ≡ sum_by (λ x. behind x.backlog) flows + behind rest = sum_by-set (λ x. behind x.backlog) flows k.slot fl no_packets sent_listed in
+      let weigh' = rw is at weigh in
+      let heads' = rw is at heads in
+      let tails' = rw is at tails in
+      let split = length-split rest in
+      let out = length_of_first rest in
+      let one = weight_of_first rest in
+      record {
+        placed = λ g. elim (cases_eq k.slot g) [
+          | inl e ↦
+              let z = absent_same k.slot g (presence rest) e in
+              let a = left_in_eligible in
+              let b = left_in_waiting in
+              rw z (subst (λ x. standing x es.keys + standing x waiting.keys + presence rest ≡ presence (flow_at (set flows k.slot fl) x).backlog) e
+              (rw (get_or-set_same flows k.slot fl no_packets sent_listed) (omega arith)))
+          | inr n ↦
+              let a = standing_popped g k eligible.keys es.keys p in
+              let z = at_slot_other g k n in
+              let y = absent_other k.slot g (presence rest) n in
+              let c = kept.placed g in
+              rw (get_or-set_other flows k.slot g fl no_packets (λ e. n (sym e))) (omega arith)
+        ];
+        ready = others_ready fl v tv;
+        waits = others_wait fl;
+        weighed = let c = kept.weighed in omega arith;
+        counted = let c = kept.counted in omega arith;
+        pushed = let c = kept.pushed in omega arith;
+        picked = let c = kept.picked in omega arith;
+        bounded = All-set (IsFlowWithin (bound arrivals (picks + 1))) flows k.slot fl
+            (omega arith, All-weaker (IsWithin (bound arrivals picks)) (IsWithin (bound arrivals (picks + 1))) (λ x h. within_more _ _ x (omega arith) h) rest sent_within.1)
+            (All-weaker (IsFlowWithin (bound arrivals picks)) (IsFlowWithin (bound arrivals (picks + 1))) (λ x h. flow_within_more _ _ x (omega arith) h) flows kept.bounded);
+        timely = vb;
+        eligible_room = let c = kept.eligible_room in omega arith;
+        waiting_room = let c = kept.waiting_room in omega arith;
+      }
+
+-- The parts, where the key k left the eligible heap.
+module _ (p : Parts) (kept : IsKept p) (k : Rank) (es : Heap Rank) (perm : IsPermutation p.eligible.keys (k ∷ es.keys)) where
+  ready : HeadIs (λ x. (k.tag ≡ x.finish_tag) × (x.start_tag ≤ p.virtual_time)) (flow_at (flows_of p) k.slot).backlog
+  ready = All-head (IsEligible (flows_of p) p.virtual_time) k es.keys (All-permutation (IsEligible (flows_of p) p.virtual_time) p.eligible.keys (k ∷ es.keys) perm kept.kept.ready)
+
+  pub listed : k.slot < length p.flows.items
+  listed =
+      let l = head_listed (λ x. (k.tag ≡ x.finish_tag) × (x.start_tag ≤ p.virtual_time)) (flows_of p) k.slot ready in
+      omega (arith, length-by_slot (seen p.busy_from) p.flows.items)
+
+  module _ (q : FlowQueue) (at : q ≡ get_or p.flows.items k.slot q) where
+    same_flow : flow_at (flows_of p) k.slot ≡ seen p.busy_from k.slot q
+    same_flow = flow_at_seen p.busy_from p.flows.items k.slot q listed ∙ ap (seen p.busy_from k.slot) (sym at)
+
+    pub has_head : 0 < length q.packets.items
+    has_head = some_packets (λ x. (k.tag ≡ x.finish_tag) × (x.start_tag ≤ p.virtual_time)) k.slot q.packets.items (rw same_flow at ready)
+
+    module _ (r : FlowQueue) (sent : TaggedPacket) (is : q.packets.items ≡ sent ∷ r.packets.items) (last : r.last_finish_tag ≡ q.last_finish_tag) (arrived : r.arrived ≡ q.arrived) (room : places r ≡ places q + 1) where
+      abbrev head : Stamped
+      head = tagged k.slot sent
+
+      abbrev rest : List Stamped
+      rest = map (tagged k.slot) r.packets.items
+
+      rest_is : (flow_at (flows_of p) k.slot).backlog ≡ head ∷ rest
+      rest_is = rw (same_flow, is) refl
+
+      pub head_is : HeadIs (λ x. x ≡ head) (flow_at (flows_of p) k.slot).backlog
+      head_is = rw rest_is refl
+
+      seen_is : seen p.busy_from k.slot r ≡ without_head (flow_at (flows_of p) k.slot)
+      seen_is = rw (same_flow, is, last, arrived) refl
+
+      flows_is : flows_of (record p { flows = with_item p.flows k.slot r }) ≡ after_pick (flows_of p) k.slot
+      flows_is = by_slot-set (seen p.busy_from) p.flows.items k.slot r ∙ ap (λ x. set (flows_of p) k.slot x) seen_is
+
+      pub weighs : (0 < sent.weight) × (sent.weight ≤ p.weights)
+      weighs = sent_weighs kept.kept k es perm head rest rest_is
+
+      within : IsWithin (bound p.arrivals p.picks) head × All (IsWithin (bound p.arrivals p.picks)) rest × ((flow_at (flows_of p) k.slot).last_finish_tag ≤ bound p.arrivals p.picks)
+      within = sent_within kept.kept k es perm head rest rest_is
+
+      pub sends : (new : Parts) → new.flows.items ≡ set p.flows.items k.slot r → new.busy_from ≡ p.busy_from → new.virtual_time ≡ p.virtual_time + scaled sent.len p.weights → new.arrivals ≡ p.arrivals → new.picks ≡ p.picks + 1 → Sends head p.virtual_time p new
+      sends new nf nb nt na np =
+          let fs : flows_of new ≡ after_pick (flows_of p) k.slot = rw (nf, nb) flows_is in
+          let w : p.weights ≡ weight_sum (heads_of (flows_of p)) = let c = kept.kept.weighed in let s = weights_are (flows_of p) in omega arith in
+          record {
+            head = rw rest_is refl;
+            flows = fs;
+            virtual_time = rw (← w) nt;
+            arrivals = na;
+            picks = np;
+            one_fewer =
+                let l = sent_listed kept.kept k es perm head rest rest_is in
+                let s = waiting-set (flows_of p) k.slot (without_head (flow_at (flows_of p) k.slot)) l in
+                let t : length (flow_at (flows_of p) k.slot).backlog ≡ length (without_head (flow_at (flows_of p) k.slot)).backlog + 1 = rw rest_is (omega arith) in
+                rw fs (omega (arith, s, t));
+            room = rw nf (room_grows p.flows.items k.slot r (λ d l. let e = get_or_read p.flows.items k.slot q listed at d in rw (← e) (omega arith)));
+          }
+
+      late : p.virtual_time + scaled sent.len p.weights ≤ bound p.arrivals (p.picks + 1)
+      late =
+          let g = scaled-le sent.len p.weights within.0.2 in
+          let t = kept.kept.timely in
+          omega arith
+
+      old_last : (seen p.busy_from k.slot r).last_finish_tag ≤ bound p.arrivals p.picks
+      old_last = subst (λ (x : Flow). x.last_finish_tag ≤ bound p.arrivals p.picks) (sym seen_is) within.2
+
+      still_arrived : All (λ x. x.arrived ≤ p.arrivals) (set p.flows.items k.slot r)
+      still_arrived = All-set (λ x. x.arrived ≤ p.arrivals) p.flows.items k.slot r (rw (arrived, at) (kept.arrived k.slot q listed)) kept.arrived
+
+      -- The parts then.
+      abbrev pub sent_parts : Parts
+      sent_parts = record {
+        flows = with_item p.flows k.slot r;
+        eligible = es;
+        waiting = p.waiting;
+        virtual_time = p.virtual_time + scaled sent.len p.weights;
+        weights = p.weights - sent.weight;
+        busy_from = p.busy_from;
+        arrivals = p.arrivals;
+        picks = p.picks + 1;
+      }
+
+      module _ (moves : es.moves ≡ p.eligible.moves) (places' : es.room ≡ p.eligible.room + 1) where
+        between : IsKeptBut (λ slot. cond (k.slot == slot) (presence rest) 0) (take 1 rest) sent_parts
+        between =
+            let w = weighs in
+            let w1 = w.1 in
+            record {
+              kept = rw (by_slot-set (seen p.busy_from) p.flows.items k.slot r)
+                  (sent_kept kept.kept k es perm head rest rest_is (p.virtual_time + scaled sent.len p.weights) (p.weights - sent.weight) (seen p.busy_from k.slot r).last_finish_tag moves places' (omega arith) late (omega arith) old_last);
+              few = kept.few;
+              began = kept.began;
+              arrived = still_arrived;
+            }
+
+        -- No packet is left at the slot.
+        pub last_kept : r.packets.items ≡ [] → IsKept sent_parts
+        last_kept nil =
+            let none : rest ≡ [] = rw nil refl in
+            record {
+              kept = all_in between.kept (λ slot. rw (none, cond_zero (k.slot == slot)) refl) (rw none refl);
+              few = kept.few;
+              began = kept.began;
+              arrived = still_arrived;
+            }
+
+        -- Some packet is, and is the new head.
+        pub more_kept : (next : TaggedPacket) → first_of r.packets.items ≡ Some next → IsKeptWithout k.slot next sent_parts
+        more_kept next e =
+            let f = first_facts k.slot r.packets.items next e in
+            let here = flow_at_seen p.busy_from (set p.flows.items k.slot r) k.slot r (let l = length-set p.flows.items k.slot r in omega (arith, listed)) ∙ ap (seen p.busy_from k.slot) (get_or-set_same p.flows.items k.slot r r listed) in
+            let b : IsKeptBut (only_absent k.slot) (tagged k.slot next ∷ []) sent_parts = rw (f.0, f.1) at between in
+            (b, rw here f.2)

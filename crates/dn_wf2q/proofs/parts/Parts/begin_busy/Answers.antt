@@ -1,0 +1,17 @@
+use Rattle.std.proofs.Common.{refl}
+use Rattle.dn_wf2q.proofs.Begun.{begun, flows_forgotten}
+use Rattle.dn_wf2q.proofs.parts.Parts.begin_busy.Goals as goal
+
+pub returns-clause-begun : goal.returns-clause-begun
+returns-clause-begun c = record {
+  flows = flows_forgotten _ _ c.args.self.now.flows.items c.requires.kept.arrived;
+  virtual_time = refl;
+  arrivals = refl;
+  picks = refl;
+  eligible = refl;
+  waiting = refl;
+  queues = refl;
+}
+
+pub returns-clause-kept : goal.returns-clause-kept
+returns-clause-kept c = begun c.args.self.now c.requires.kept c.requires.idle

@@ -1,0 +1,41 @@
+use Rattle.std.proofs.Common.{ap, arith}
+use Rattle.std.proofs.lemmas.Bool.Decides.{nat_tests}
+use Rattle.dn_wf2q.specs.Rank.{Rank}
+use Rattle.dn_wf2q.specs.Kept.{seen, tagged}
+use Rattle.dn_wf2q.proofs.BySlot.{length-by_slot}
+use Rattle.dn_wf2q.proofs.Steps.{weights-le}
+use Rattle.dn_wf2q.proofs.Entered.{enter_room, entered_waiting, entered_eligible}
+use Rattle.dn_wf2q.proofs.parts.Parts.enter.Goals as goal
+
+-- At most 100 for each flow, of which there are fewer than 2^63.
+pub overflow_add-self : goal.overflow_add-self
+overflow_add-self c =
+    let w = weights-le c.requires.kept.0.kept in
+    let l = length-by_slot (seen c.args.self.now.busy_from) c.args.self.now.flows.items in
+    let n = c.args.self.now.flows.ok.0 in
+    let k = c.args.self.now.flows.ok.1 in
+    let s = c.args.self.now.flows.small in
+    omega arith
+
+pub push_reserved-requires-clause-reserved : goal.push_reserved-requires-clause-reserved
+push_reserved-requires-clause-reserved c = (enter_room c.args.slot (tagged c.args.slot c.args.head) c.requires.kept.0.kept c.requires.kept.1 c.requires.kept.0.few).0
+
+pub push_reserved-requires-else-head-self-clause-reserved : goal.push_reserved-requires-else-head-self-clause-reserved
+push_reserved-requires-else-head-self-clause-reserved c = (enter_room c.args.slot (tagged c.args.slot c.args.head) c.requires.kept.0.kept c.requires.kept.1 c.requires.kept.0.few).1
+
+-- The head is eligible.
+pub returns-then-head-self-clause-kept : goal.returns-then-head-self-clause-kept
+returns-then-head-self-clause-kept c = record {
+  kept = entered_eligible c.args.slot (tagged c.args.slot c.args.head) c.requires.kept.0.kept c.requires.kept.1 c.new.result c.push_reserved.new.self (grind (arith, nat_tests)) (ap (λ (r : Rank). r.slot) c.new.ensures.value) (ap (λ (r : Rank). r.tag) c.new.ensures.value) c.push_reserved.ensures.keys c.push_reserved.ensures.moves c.push_reserved.ensures.room;
+  few = c.requires.kept.0.few;
+  began = c.requires.kept.0.began;
+  arrived = c.requires.kept.0.arrived;
+}
+
+pub returns-else-head-self-clause-kept : goal.returns-else-head-self-clause-kept
+returns-else-head-self-clause-kept c = record {
+  kept = entered_waiting c.args.slot (tagged c.args.slot c.args.head) c.requires.kept.0.kept c.requires.kept.1 c.new-else-head-self.result c.push_reserved-else-head-self.new.self (ap (λ (r : Rank). r.slot) c.new-else-head-self.ensures.value) (ap (λ (r : Rank). r.tag) c.new-else-head-self.ensures.value) c.push_reserved-else-head-self.ensures.keys c.push_reserved-else-head-self.ensures.moves c.push_reserved-else-head-self.ensures.room;
+  few = c.requires.kept.0.few;
+  began = c.requires.kept.0.began;
+  arrived = c.requires.kept.0.arrived;
+}

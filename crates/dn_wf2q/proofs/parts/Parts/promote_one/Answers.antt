@@ -1,0 +1,34 @@
+use Rattle.std.proofs.Common.{◌≡◌, ap, false, arith}
+use Rattle.std.proofs.lemmas.List.Sorted.{length_permutation}
+use Rattle.std.proofs.lemmas.List.Elements.{All-contains}
+use Rattle.std.specs.Ordering.{is_lt}
+use Rattle.dn_wf2q.specs.Rank.{Rank, rank_cmp}
+use Rattle.dn_wf2q.proofs.Ranks.{not_before}
+use Rattle.dn_wf2q.proofs.Promoted.{listed, has_room, has_head, moved}
+use Rattle.dn_wf2q.proofs.parts.Parts.promote_one.Goals as goal
+
+pub index-requires : goal.index-requires
+index-requires c =
+    let l = listed c.args.self.now c.requires.kept c.in-Some-pop.first c.slot-slot.result c.slot-slot.ensures.value c.pop.new.self c.in-Some-pop.ensures.keys in
+    omega (arith, c.args.self.now.flows.ok.0)
+
+pub front-finish_tag-requires : goal.front-finish_tag-requires
+front-finish_tag-requires c = record {
+  some = has_head c.args.self.now c.requires.kept c.in-Some-pop.first c.slot-slot.result c.slot-slot.ensures.value c.pop.new.self c.in-Some-pop.ensures.keys c.index.result.now c.index.ensures;
+}
+
+pub push_reserved-requires-clause-reserved : goal.push_reserved-requires-clause-reserved
+push_reserved-requires-clause-reserved c = has_room c.args.self.now c.requires.kept c.in-Some-pop.first c.slot-slot.result c.slot-slot.ensures.value c.pop.new.self c.in-Some-pop.ensures.keys
+
+-- The key that left is not above the one that was looked at.
+pub returns-in-Some-pop-clause-kept : goal.returns-in-Some-pop-clause-kept
+returns-in-Some-pop-clause-kept c =
+    let k = c.in-Some-pop.first in
+    let top = c.in-Some.top.now in
+    let low = (not_before k top (All-contains (λ y. is_lt (rank_cmp y k) ≡ false) c.args.self.now.waiting.keys top c.in-Some-pop.ensures.least c.in-Some.ensures.held)).0 in
+    let tag = c.tag.ensures.value in
+    let e = c.new.ensures.value in
+    moved c.args.self.now c.requires.kept k c.slot-slot.result c.slot-slot.ensures.value c.pop.new.self c.in-Some-pop.ensures.keys c.index.result.now c.index.ensures c.front-finish_tag.result c.new.result c.push_reserved.new.self c.front-finish_tag.ensures.head (omega arith) (ap (λ (x : Rank). x.slot) e) (ap (λ (x : Rank). x.tag) e) c.push_reserved.ensures.keys c.push_reserved.ensures.room c.push_reserved.ensures.moves c.in-Some-pop.ensures.room c.pop.ensures.keeps_moves
+
+pub returns-in-Some-pop-clause-fewer : goal.returns-in-Some-pop-clause-fewer
+returns-in-Some-pop-clause-fewer c = λ e. let l = length_permutation _ _ c.in-Some-pop.ensures.keys in omega (arith, l)

@@ -1,0 +1,4 @@
+pub mod Schedule
+pub mod Rank
+pub mod Kept
+pub mod Steps

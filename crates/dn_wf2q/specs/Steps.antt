@@ -1,0 +1,78 @@
+-- What each step of a call changes.
+use Rattle.std.specs.Prelude.{◌≡◌, ℕ, ◌+◌, ◌≤◌, List, [], ◌∷◌, ◌++◌, length, map, take}
+use Rattle.std.specs.List.{All}
+use Rattle.dn_types.specs.Wf2q.{Stamped, scaled, weight_sum}
+use Rattle.dn_wf2q.specs.declared.flow_queue.FlowQueue.{FlowQueue}
+use Rattle.dn_wf2q.specs.declared.parts.Parts.{Parts}
+use Rattle.dn_wf2q.specs.Schedule.{flow_at, room_at, heads_of, waiting_of, after_arrival, after_pick, after_discard, forgotten}
+use Rattle.dn_wf2q.specs.Kept.{flows_of, places}
+
+-- Only the heaps and the running sum of weights change.
+pub record OnlyHeaps (old new : Parts) : Type 0 where
+  pub flows : new.flows ≡ old.flows
+  pub virtual_time : new.virtual_time ≡ old.virtual_time
+  pub busy_from : new.busy_from ≡ old.busy_from
+  pub arrivals : new.arrivals ≡ old.arrivals
+  pub picks : new.picks ≡ old.picks
+
+-- No queue has less room than before.
+abbrev pub QueuesKeepRoom : Parts → Parts → Type 0
+QueuesKeepRoom old new = (slot : ℕ) → room_at (map places old.flows.items) slot ≤ room_at (map places new.flows.items) slot
+
+-- The packet h, the first at its slot, is sent at the raised virtual time v.
+pub record Sends (h : Stamped) (v : ℕ) (old new : Parts) : Type 0 where
+  pub head : take 1 (flow_at (flows_of old) h.flow).backlog ≡ h ∷ []
+  pub flows : flows_of new ≡ after_pick (flows_of old) h.flow
+  pub virtual_time : new.virtual_time ≡ v + scaled h.len (weight_sum (heads_of (flows_of old)))
+  pub arrivals : new.arrivals ≡ old.arrivals
+  pub picks : new.picks ≡ old.picks + 1
+  pub one_fewer : waiting_of (flows_of new) + 1 ≡ waiting_of (flows_of old)
+  pub room : QueuesKeepRoom old new
+
+-- A packet arrives at a slot.
+pub record Arrives (slot len weight : ℕ) (old new : Parts) : Type 0 where
+  pub flows : flows_of new ≡ after_arrival (flows_of old) slot old.virtual_time len weight
+  pub virtual_time : new.virtual_time ≡ old.virtual_time
+  pub arrivals : new.arrivals ≡ old.arrivals + 1
+  pub picks : new.picks ≡ old.picks
+  pub one_more : waiting_of (flows_of new) ≡ waiting_of (flows_of old) + 1
+  pub room : (other : ℕ) → (other ≡ slot → ⊥) → room_at (map places old.flows.items) other ≤ room_at (map places new.flows.items) other
+
+-- The packets of a slot leave.
+pub record Discards (slot : ℕ) (old new : Parts) : Type 0 where
+  pub flows : flows_of new ≡ after_discard (flows_of old) slot
+  pub fewer : waiting_of (flows_of new) + length (flow_at (flows_of old) slot).backlog ≡ waiting_of (flows_of old)
+  pub virtual_time : new.virtual_time ≡ old.virtual_time
+  pub arrivals : new.arrivals ≡ old.arrivals
+  pub picks : new.picks ≡ old.picks
+  pub moves : new.eligible.moves + new.waiting.moves ≡ old.eligible.moves + old.waiting.moves
+  pub room : QueuesKeepRoom old new
+
+-- A busy period begins.
+pub record Begins (old new : Parts) : Type 0 where
+  pub flows : flows_of new ≡ forgotten (flows_of old)
+  pub virtual_time : new.virtual_time ≡ 0
+  pub arrivals : new.arrivals ≡ old.arrivals
+  pub picks : new.picks ≡ old.picks
+  pub eligible : new.eligible ≡ old.eligible
+  pub waiting : new.waiting ≡ old.waiting
+  pub queues : new.flows ≡ old.flows
+
+-- A queue that has had no packet.
+abbrev pub IsBlank : FlowQueue → Type 0
+IsBlank q = (q.packets.items ≡ []) × (q.last_finish_tag ≡ 0) × (q.arrived ≡ 0)
+
+-- The second list is the first and then such queues.
+pub record IsExtended (xs ys : List FlowQueue) : Type 0 where
+  pub more : List FlowQueue
+  pub is : ys ≡ xs ++ more
+  pub blank : All IsBlank more
+
+-- Only room is made.
+pub record Reserves (old new : Parts) : Type 0 where
+  pub virtual_time : new.virtual_time ≡ old.virtual_time
+  pub arrivals : new.arrivals ≡ old.arrivals
+  pub picks : new.picks ≡ old.picks
+  pub eligible : new.eligible.moves ≡ old.eligible.moves
+  pub waiting : new.waiting.moves ≡ old.waiting.moves
+  pub room : QueuesKeepRoom old new

@@ -1,0 +1,49 @@
+ghost use Rattle.std.specs.Prelude.{◌≡◌, ◌<◌, ◌≤◌, ◌^◌, map};
+ghost use Rattle.dn_wf2q.specs.Schedule.{room_at};
+ghost use Rattle.dn_wf2q.specs.Kept.{IsKept, IsKeptWithout, places};
+ghost use Rattle.dn_wf2q.specs.Steps.{Arrives, OnlyHeaps};
+
+use crate::flow_queue::TaggedPacket;
+use crate::parts::Parts;
+use crate::rank::Rank;
+
+impl Parts {
+    /// A packet joins the queue at a slot.
+    pub(crate) fn arrive(&mut self, slot: usize, len: u16, weight: u8)
+        requires kept { IsKept self.old }
+        requires room { 0 < room_at (map places self.old.flows.items) slot }
+        requires few { self.old.arrivals < 2 ^ 62 }
+        requires some { 0 < weight }
+        requires in_range { weight ≤ 100 }
+        ensures arrived { Arrives slot len weight self.old self.new }
+        ensures kept { IsKept self.new }
+    {
+        self.arrivals += 1;
+        let q = &mut self.flows[slot];
+        let head = q.append(
+            self.busy_from,
+            self.virtual_time,
+            self.arrivals,
+            len,
+            weight,
+        );
+        if let Some(head) = head {
+            self.enter(slot, head);
+        }
+    }
+
+    /// The head of a flow enters the heap in which it belongs.
+    pub(crate) fn enter(&mut self, slot: usize, head: TaggedPacket)
+        requires kept { IsKeptWithout slot head self.old }
+        ensures same { OnlyHeaps self.old self.new }
+        ensures kept { IsKept self.new }
+    {
+        self.weights += head.weight as u128;
+        if head.start_tag <= self.virtual_time {
+            self.eligible
+                .push_reserved(Rank::new(head.finish_tag, slot));
+        } else {
+            self.waiting.push_reserved(Rank::new(head.start_tag, slot));
+        }
+    }
+}

@@ -1,0 +1,67 @@
+ghost use Rattle.std.specs.Prelude.{◌≡◌, ◌+◌, ◌<◌, ◌≤◌, [], length, map, IsOk, OnOk, OnErr};
+ghost use Rattle.std.specs.VecDeque.{deque_capacity};
+ghost use Rattle.std.specs.Vec.{vec_len, vec_capacity};
+ghost use Rattle.dn_wf2q.specs.Schedule.{padded, room_at};
+ghost use Rattle.dn_wf2q.specs.Kept.{IsKept, flows_of, places};
+ghost use Rattle.dn_wf2q.specs.Steps.{IsExtended, Reserves};
+
+use crate::flow_queue::{FlowQueue, TaggedPacket};
+use crate::parts::Parts;
+use std::alloc::{AllocError, Global};
+use std::collections::VecDeque;
+
+impl Parts {
+    /// Room for one more arrival at a slot, and a queue for it where there is none.
+    pub(crate) fn reserve_flow(&mut self, alloc: Global, slot: usize) -> Result<(), AllocError>
+        requires kept { IsKept self.old }
+        ensures succeeds { 0 < room_at (map places self.old.flows.items) slot → IsOk result }
+        ensures ok { OnOk result (flows_of self.new ≡ padded (flows_of self.old) (slot + 1)) }
+        ensures place { OnOk result (0 < room_at (map places self.new.flows.items) slot) }
+        ensures err { OnErr result (flows_of self.new ≡ flows_of self.old) }
+        ensures reserves { Reserves self.old self.new }
+        ensures kept { IsKept self.new }
+    {
+        if slot < self.flows.len() {
+            return self.flows[slot].reserve_place();
+        }
+        let more = slot - self.flows.len();
+        self.flows.reserve(more)?;
+        self.flows.reserve(more + 1)?;
+        let eligible = self.eligible.room();
+        self.eligible.reserve(eligible + more + 1)?;
+        let waiting = self.waiting.room();
+        self.waiting.reserve(waiting + more + 1)?;
+        let packets = VecDeque::with_capacity(alloc, 1)?;
+        add_queues(&mut self.flows, alloc, slot, packets);
+        Ok(())
+    }
+}
+
+/// Adds queues that have had no packet, the last of them at `slot` and with this room.
+fn add_queues(
+    flows: &mut Vec<FlowQueue>,
+    alloc: Global,
+    slot: usize,
+    packets: VecDeque<TaggedPacket>,
+)
+    requires above { vec_len flows.old ≤ slot }
+    requires room { slot < vec_capacity flows.old }
+    requires empty { packets.items ≡ [] }
+    requires place { 0 < deque_capacity packets }
+    ensures extended { IsExtended flows.old.items flows.new.items }
+    ensures len { length flows.new.items ≡ slot + 1 }
+    ensures place { 0 < room_at (map places flows.new.items) slot }
+{
+    'blanks: while flows.len() < slot {
+        flows.push_reserved(FlowQueue {
+            packets: VecDeque::new(alloc),
+            last_finish_tag: 0,
+            arrived: 0,
+        });
+    }
+    flows.push_reserved(FlowQueue {
+        packets,
+        last_finish_tag: 0,
+        arrived: 0,
+    });
+}
