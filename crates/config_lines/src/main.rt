@@ -1,0 +1,59 @@
+//! Compares `parse_line` and `print_command` with a table that an independent program made: two
+//! lines of input for each row, the answer and then the configuration line itself.
+#![tactic(auto)]
+
+use dn_config::{LineFault, parse_line, print_command};
+use std::alloc::{AllocError, Global};
+use std::io;
+use std::io::{BufRead, BufReader};
+
+/// The name by which the table calls a fault.
+fn fault_name(fault: LineFault) -> &'static str {
+    match fault {
+        LineFault::UnknownWord(_) => "UnknownWord",
+        LineFault::MissingValue(_) => "MissingValue",
+        LineFault::BadNumber(_) => "BadNumber",
+        LineFault::OutOfRange(_) => "OutOfRange",
+        LineFault::LeftOut(_) => "LeftOut",
+        LineFault::NeedsPipe(_) => "NeedsPipe",
+        LineFault::OutOfMemory => "OutOfMemory",
+    }
+}
+
+/// The answer of a line as the table writes it.
+fn answer(alloc: Global, line: &str) -> Result<String, AllocError> {
+    match parse_line(line) {
+        Ok(None) => String::from_str(alloc, "none"),
+        Ok(Some(command)) => {
+            let text = print_command(alloc, &command)?;
+            format!(in alloc; "ok {text}")
+        }
+        Err(fault) => {
+            let name = fault_name(fault);
+            let position = fault.position().unwrap_or(0);
+            format!(in alloc; "{name} {position}")
+        }
+    }
+}
+
+fn main(rt: HostRuntime) -> io::Result<()> {
+    let alloc = rt.alloc();
+    let mut wanted: Option<String> = None;
+    let mut lines = 0u64;
+    let mut differ = 0u64;
+    for line in BufReader::new(alloc, rt.reader())?.lines(alloc) {
+        let line = line?;
+        match wanted.take() {
+            None => wanted = Some(line),
+            Some(wanted) => {
+                lines = lines.wrapping_add(1);
+                let answer = answer(alloc, line.as_str())?;
+                if answer.as_str() != wanted.as_str() {
+                    differ = differ.wrapping_add(1);
+                    println!(rt; "{line}: {answer} in place of {wanted}")?;
+                }
+            }
+        }
+    }
+    println!(rt; "{lines} lines, {differ} answers differ")
+}

@@ -1,0 +1,13 @@
+pub mod Ranges
+pub mod Appends
+pub mod MaskSteps
+pub mod OptionSteps
+pub mod Config
+pub mod Back
+pub mod ValuesBack
+pub mod Plain
+pub mod OptionsBack
+pub mod MaskBack
+pub mod CommandsBack
+pub mod LineExamples
+pub mod TextExamples

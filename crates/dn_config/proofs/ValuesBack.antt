@@ -1,0 +1,235 @@
+-- The values that a canonical text writes, read back.
+use Rattle.std.proofs.Common.{◌≡◌, refl, sym, ◌∙◌, ap, ℕ, zero, suc, ◌+◌, ◌*◌, ◌/◌, ◌%◌, ◌^◌, ◌<◌, ◌≤◌, Bool, true, false, cond, List, [], ◌∷◌, ◌++◌, length, take, drop, arith, add-one, one-add, length-append, append-nil}
+use Rattle.std.specs.Prelude.{Some, None, Ok, ◌&&◌, nat_lt, slice_index, decimal, codes, ◌==◌}
+use Rattle.std.specs.List.{prefix_len, list_all}
+use Rattle.std.specs.Char.{digit_char, digit_value, is_ascii_digit}
+use Rattle.std.specs.Str.Parse.{digits_value, AllDigits}
+use Rattle.std.proofs.lemmas.Int.Digits.{digits_value_push}
+use Rattle.std.proofs.lemmas.Str.{digit_value-digit_char}
+use Rattle.std.proofs.lemmas.Bool.{eqb-true, eqb-false, lt-ltb, and_from, and_parts, ne_eqb}
+use Rattle.std.proofs.lemmas.Bool.Decides.{nat_tests}
+use Rattle.std.proofs.lemmas.Str.Parse.{digit_from_value}
+use Rattle.dn_text.specs.Numbers.{numeral_of, number_of, number_within, within, all_digits, digits, unit}
+use Rattle.dn_config.specs.Values.{placed, number_at, weight_at, buckets_at, delay_at, bandwidth_at, rate_of, limit_at, limited, loss_at, bits_of, bits_at, kept, behind_point, rate_parts_of}
+use Rattle.dn_types.specs.declared.limit.Limit.{Limit}
+use Rattle.dn_types.specs.declared.limit.Limit.TheVariants.{Slots, Kbytes}
+use Rattle.dn_config.specs.Commands.{IsLimit}
+use Rattle.dn_text.proofs.Capping.{ok_within}
+use Rattle.std.specs.Char.{is_ascii_alphabetic}
+use Rattle.std.proofs.lemmas.Fmt.{decimal_is_IsNumeral, first_decimal, decimal_digit}
+use Rattle.std.proofs.Math.Nat.{div-lt_iff_lt-mul, pow-suc, pow-zero, mod-lt}
+use Rattle.std.proofs.lemmas.Nat.{div-add-mod'}
+use Rattle.dn_config.specs.Text.{padded, rate_up, limit_text, loss_text}
+
+-- a loss number below 2^31 is printed as a rate that is kept as that number
+pub rate_law : (t : ℕ) → t < 2147483648 → (rate_up t < 1000000000000000000) × (rate_up t * 2147483648 / 1000000000000000000 ≡ t)
+rate_law t l = (omega arith, omega arith)
+
+pub length-padded : (radix k n : ℕ) → length (padded radix k n) ≡ k
+unfolding padded
+length-padded radix zero n = refl
+length-padded radix (suc k) n = length-append (padded radix k (n / radix)) _ ∙ ap (λ m. m + 1) (length-padded radix k (n / radix)) ∙ add-one k
+
+div_below : (radix k n : ℕ) → 0 < radix → n < radix ^ suc k → n / radix < radix ^ k
+div_below radix k n p l = (div-lt_iff_lt-mul p).1 (rw pow-suc at l)
+
+pub value-padded : (radix k n : ℕ) → 0 < radix → radix ≤ 36 → n < radix ^ k → digits_value radix (padded radix k n) ≡ n
+unfolding padded
+value-padded radix zero n p h l = let one : n < 1 = rw pow-zero at l in omega arith
+value-padded radix (suc k) n p h l =
+    let small : n % radix < radix = mod-lt n p in
+    let below : n % radix < 36 = omega arith in
+    digits_value_push radix (padded radix k (n / radix)) (digit_char (n % radix))
+    ∙ rw (value-padded radix k (n / radix) p h (div_below radix k n p l), digit_value-digit_char (n % radix) below) (div-add-mod' n radix)
+
+-- a number is printed as a number of that value
+test_digits : (ds : List ℕ) → AllDigits 10 ds → all_digits 10 ds ≡ true
+test_digits [] h = refl
+test_digits (d ∷ ds) h = and_from (nat_lt (digit_value d) 10) (all_digits 10 ds) (lt-ltb _ _ h.0) (test_digits ds h.1)
+
+numeral_back : (ds : List ℕ) (n : ℕ) → 0 < length ds → AllDigits 10 ds → digits_value 10 ds ≡ n → numeral_of 10 ds ≡ Some n
+unfolding numeral_of
+numeral_back ds n l h e = let some : nat_lt 0 (length ds) ≡ true = lt-ltb _ _ l in rw (some, test_digits ds h) (ap Some e)
+
+no_zero : (ds : List ℕ) (n : ℕ) → numeral_of 10 ds ≡ Some n → 48 < slice_index ds 0 → number_of ds ≡ Some n
+unfolding number_of
+no_zero ds n e l = let other : slice_index ds 0 == 48 ≡ false = ne_eqb _ _ (λ h. absurd (omega arith)) in rw other (and_false (nat_lt 1 (length ds)) e)
+  where
+    and_false : (b : Bool) → numeral_of 10 ds ≡ Some n → cond (b && false) None (numeral_of 10 ds) ≡ Some n
+    and_false true h = h
+    and_false false h = h
+
+pub number_back : (n : ℕ) → n < 2 ^ 64 → number_of (decimal n) ≡ Some n
+unfolding number_of numeral_of
+number_back zero l = rw (decimal_digit 0 (omega arith)) refl
+number_back (suc n) l =
+    let is = decimal_is_IsNumeral (suc n) l in
+    no_zero (decimal (suc n)) (suc n) (numeral_back (decimal (suc n)) (suc n) is.0.0 is.0.1 is.1) (first_decimal (suc n) (omega arith) l)
+
+-- digits before a unit that begins with no digit
+pub ascii_digits : (ds : List ℕ) → AllDigits 10 ds → list_all is_ascii_digit ds ≡ true
+ascii_digits [] h = refl
+ascii_digits (d ∷ ds) h =
+    let range = digit_from_value d h.0 in
+    let first : is_ascii_digit d ≡ true = in_range_test d range.0 range.1 in
+    and_from (is_ascii_digit d) (list_all is_ascii_digit ds) first (ascii_digits ds h.1)
+  where
+    in_range_test : (d : ℕ) → 48 ≤ d → d ≤ 57 → is_ascii_digit d ≡ true
+    in_range_test d a b = grind (arith, nat_tests)
+
+pub digits_front : (ds u : List ℕ) → list_all is_ascii_digit ds ≡ true → prefix_len is_ascii_digit u ≡ 0 → prefix_len is_ascii_digit (ds ++ u) ≡ length ds
+digits_front [] u h e = e
+digits_front (d ∷ ds) u h e =
+    let both = and_parts (is_ascii_digit d) (list_all is_ascii_digit ds) h in
+    rw (both.0, digits_front ds u both.1 e) (one-add (length ds))
+
+pub digits_of : (n : ℕ) (u : List ℕ) → n < 2 ^ 64 → prefix_len is_ascii_digit u ≡ 0 → (digits (decimal n ++ u) ≡ decimal n) × (unit (decimal n ++ u) ≡ u)
+digits_of n u l e =
+    let is = decimal_is_IsNumeral n l in
+    let len = digits_front (decimal n) u (ascii_digits (decimal n) is.0.1) e in
+    (rw len (take_front (decimal n) u), rw len (drop_front (decimal n) u))
+  where
+    take_front : (xs ys : List ℕ) → take (length xs) (xs ++ ys) ≡ xs
+    take_front [] ys = refl
+    take_front (x ∷ xs) ys = ap (λ l. x ∷ l) (take_front xs ys)
+
+    drop_front : (xs ys : List ℕ) → drop (length xs) (xs ++ ys) ≡ ys
+    drop_front [] ys = refl
+    drop_front (x ∷ xs) ys = drop_front xs ys
+
+placed_in : (at low high n : ℕ) → low ≤ n → n ≤ high → placed at (within low high (Some n)) ≡ Ok n
+placed_in at low high n a b = rw (ok_within low high n a b) refl
+
+ranged_back : (at low high n : ℕ) → low ≤ n → n ≤ high → n < 2 ^ 64 → placed at (number_within low high (decimal n)) ≡ Ok n
+ranged_back at low high n a b l = rw (number_back n l) (placed_in at low high n a b)
+
+-- the values of options read back
+pub number_value_back : (at n : ℕ) → 1 ≤ n → n ≤ 65535 → number_at at (decimal n) ≡ Ok n
+number_value_back at n a b = ranged_back at 1 65535 n a b (omega arith)
+
+pub weight_back : (at n : ℕ) → 1 ≤ n → n ≤ 100 → weight_at at (decimal n) ≡ Ok n
+weight_back at n a b = ranged_back at 1 100 n a b (omega arith)
+
+pub buckets_back : (at n : ℕ) → 16 ≤ n → n ≤ 65536 → buckets_at at (decimal n) ≡ Ok n
+buckets_back at n a b = ranged_back at 16 65536 n a b (omega arith)
+
+pub delay_back : (at n : ℕ) → n ≤ 3600000 → delay_at at (decimal n ++ []) ≡ Ok n
+unfolding delay_at
+delay_back at n b =
+    let parts = digits_of n [] (omega arith) refl in
+    rw (parts.0, parts.1) (ranged_back at 0 3600000 n (omega arith) b (omega arith))
+
+first_digit : (ds u : List ℕ) → 0 < length ds → list_all is_ascii_digit ds ≡ true → is_ascii_alphabetic (slice_index (ds ++ u) 0) ≡ false
+first_digit [] u l h = absurd (omega arith)
+first_digit (d ∷ ds) u l h = let both = and_parts (is_ascii_digit d) (list_all is_ascii_digit ds) h in no_letter d both.0
+  where
+    no_letter : (d : ℕ) → is_ascii_digit d ≡ true → is_ascii_alphabetic d ≡ false
+    no_letter d h = grind (arith, nat_tests)
+
+pub bandwidth_back : (at n : ℕ) → n ≤ 1000000000000 → bandwidth_at at (decimal n ++ codes "bit/s") ≡ Ok n
+unfolding bandwidth_at rate_of
+bandwidth_back at n b =
+    let small : n < 2 ^ 64 = omega arith in
+    let parts = digits_of n (codes "bit/s") small refl in
+    let is = decimal_is_IsNumeral n small in
+    rw (first_digit (decimal n) (codes "bit/s") is.0.0 (ascii_digits (decimal n) is.0.1), parts.0, parts.1, number_back n small)
+    (ap (λ m. placed at (within 0 1000000000000 (Some m))) (omega arith) ∙ placed_in at 0 1000000000000 n (omega arith) b)
+
+slots_back : (at n : ℕ) (w : List ℕ) → w ≡ decimal n ++ [] → 1 ≤ n → n ≤ 10000 → limit_at at w ≡ Ok (Slots n)
+unfolding limit_at
+slots_back at n w e a b =
+    let parts = digits_of n [] (omega arith) refl in
+    rw (e, parts.0, parts.1) (ap (limited Slots) (ranged_back at 1 10000 n a b (omega arith)))
+
+pub limit_back : (at : ℕ) (l : Limit) → IsLimit l → limit_at at (limit_text l) ≡ Ok l
+unfolding limit_at
+limit_back at (Slots n) h = slots_back at n (decimal n) (sym (append-nil (decimal n))) h.0 h.1
+limit_back at (Kbytes n) h =
+    let parts = digits_of n (codes "Kbytes") (omega arith) refl in
+    rw (parts.0, parts.1) (ap (limited Kbytes) (ranged_back at 1 1024 n h.0 h.1 (omega arith)))
+
+last_digit : (ds : List ℕ) (d : ℕ) → list_all is_ascii_digit ds ≡ true → is_ascii_digit d ≡ true → list_all is_ascii_digit (ds ++ d ∷ []) ≡ true
+last_digit [] d h e = rw e refl
+last_digit (x ∷ ds) d h e = let both = and_parts (is_ascii_digit x) (list_all is_ascii_digit ds) h in rw both.0 (last_digit ds d both.1 e)
+
+digit_is : (d : ℕ) → d < 10 → is_ascii_digit (digit_char d) ≡ true
+digit_is d l = grind (arith, nat_tests)
+
+padded_digits : (k n : ℕ) → list_all is_ascii_digit (padded 10 k n) ≡ true
+unfolding padded
+padded_digits zero n = refl
+padded_digits (suc k) n = last_digit (padded 10 k (n / 10)) (digit_char (n % 10)) (padded_digits k (n / 10)) (digit_is (n % 10) (omega arith))
+
+fraction_back : (fs : List ℕ) → list_all is_ascii_digit fs ≡ true → behind_point (46 ∷ fs) ≡ Some fs
+fraction_back fs h =
+    let len = digits_front fs [] h refl in
+    let whole : prefix_len is_ascii_digit fs ≡ length fs = rw append-nil at len in
+    rw (whole, drop_all fs, take_all fs) refl
+  where
+    drop_all : (xs : List ℕ) → drop (length xs) xs ≡ []
+    drop_all [] = refl
+    drop_all (x ∷ xs) = drop_all xs
+
+    take_all : (xs : List ℕ) → take (length xs) xs ≡ xs
+    take_all [] = refl
+    take_all (x ∷ xs) = ap (λ l. x ∷ l) (take_all xs)
+
+parts_back : (fs : List ℕ) → length fs ≡ 18 → rate_parts_of (48 ∷ []) (Some fs) ≡ Some (digits_value 10 fs)
+parts_back fs e = rw e (ap Some (omega arith))
+
+kept_is : (at m t : ℕ) → m < 1000000000000000000 → m * 2147483648 / 1000000000000000000 ≡ t → kept (placed at (within 0 1000000000000000000 (Some m))) ≡ Ok t
+kept_is at m t l e = ap kept (placed_in at 0 1000000000000000000 m (omega arith) (omega arith)) ∙ ap Ok e
+
+loss_is : (at t : ℕ) (fs : List ℕ) → list_all is_ascii_digit fs ≡ true → length fs ≡ 18 → digits_value 10 fs < 1000000000000000000 → digits_value 10 fs * 2147483648 / 1000000000000000000 ≡ t
+    → loss_at at (48 ∷ 46 ∷ fs) ≡ Ok t
+unfolding loss_at
+loss_is at t fs h l b e = rw (fraction_back fs h, parts_back fs l) (kept_is at (digits_value 10 fs) t b e)
+
+small_loss : (at t : ℕ) → t < 2147483648 → loss_at at (codes "0." ++ padded 10 18 (rate_up t)) ≡ Ok t
+small_loss at t l =
+    let law = rate_law t l in
+    let value = value-padded 10 18 (rate_up t) (omega arith) (omega arith) law.0 in
+    loss_is at t (padded 10 18 (rate_up t)) (padded_digits 18 (rate_up t)) (length-padded 10 18 (rate_up t)) (rw value law.0) (rw value law.1)
+
+one_loss : (at t : ℕ) → t ≡ 2147483648 → loss_at at (codes "1") ≡ Ok t
+unfolding loss_at within
+one_loss at t e = ap Ok (sym e)
+
+loss_cases : (at t : ℕ) (b : Bool) → t == 2147483648 ≡ b → t ≤ 2147483648 → loss_at at (cond b (codes "1") (codes "0." ++ padded 10 18 (rate_up t))) ≡ Ok t
+loss_cases at t true e l = one_loss at t (eqb-true t 2147483648 e)
+loss_cases at t false e l = let other = eqb-false t 2147483648 e in small_loss at t (omega (arith, other))
+
+-- a loss number reads back as itself
+pub loss_back : (at t : ℕ) → t ≤ 2147483648 → loss_at at (loss_text t) ≡ Ok t
+loss_back at t l = loss_cases at t (t == 2147483648) refl l
+
+last_in : (radix : ℕ) (ds : List ℕ) (d : ℕ) → all_digits radix ds ≡ true → digit_value d < radix → all_digits radix (ds ++ d ∷ []) ≡ true
+last_in radix [] d h e = let first : nat_lt (digit_value d) radix ≡ true = lt-ltb _ _ e in rw first refl
+last_in radix (x ∷ ds) d h e = let both = and_parts (nat_lt (digit_value x) radix) (all_digits radix ds) h in rw both.0 (last_in radix ds d both.1 e)
+
+padded_in : (radix k n : ℕ) → 0 < radix → radix ≤ 36 → all_digits radix (padded radix k n) ≡ true
+unfolding padded
+padded_in radix zero n p h = refl
+padded_in radix (suc k) n p h =
+    let small : n % radix < radix = mod-lt n p in
+    let below : n % radix < 36 = omega arith in
+    last_in radix (padded radix k (n / radix)) (digit_char (n % radix)) (padded_in radix k (n / radix) p h) (rw (digit_value-digit_char (n % radix) below) small)
+
+numeral_is : (radix n : ℕ) (ds : List ℕ) → 0 < length ds → all_digits radix ds ≡ true → digits_value radix ds ≡ n → numeral_of radix ds ≡ Some n
+unfolding numeral_of
+numeral_is radix n ds l h e = let some : nat_lt 0 (length ds) ≡ true = lt-ltb _ _ l in rw (some, h) (ap Some e)
+
+hex_bits : (ds : List ℕ) (n : ℕ) → numeral_of 16 ds ≡ Some n → bits_of (48 ∷ 120 ∷ ds) ≡ Some n
+unfolding bits_of
+hex_bits ds n e = e
+
+hex_at : (at high n : ℕ) (ds : List ℕ) → bits_of (48 ∷ 120 ∷ ds) ≡ Some n → n ≤ high → bits_at at high (48 ∷ 120 ∷ ds) ≡ Ok n
+unfolding bits_at
+hex_at at high n ds e l = rw e (placed_in at 0 high n (omega arith) l)
+
+-- a mask field reads back
+pub bits_back : (at high k n : ℕ) → n ≤ high → n < 16 ^ suc k → bits_at at high (codes "0x" ++ padded 16 (suc k) n) ≡ Ok n
+bits_back at high k n l b =
+    let long : 0 < length (padded 16 (suc k) n) = omega (arith, length-padded 16 (suc k) n) in
+    hex_at at high n (padded 16 (suc k) n)
+    (hex_bits (padded 16 (suc k) n) n (numeral_is 16 n (padded 16 (suc k) n) long (padded_in 16 (suc k) n (omega arith) (omega arith)) (value-padded 16 (suc k) n (omega arith) (omega arith) b))) l

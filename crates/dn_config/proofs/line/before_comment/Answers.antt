@@ -1,0 +1,10 @@
+use Rattle.std.proofs.Common.{arith}
+use Rattle.dn_config.specs.Words.{is_hash}
+use Rattle.dn_text.proofs.Prefixes.{no_position}
+use Rattle.std.proofs.lemmas.Grind.{common_steps}
+use Rattle.dn_config.proofs.line.before_comment.Goals as goal
+
+pub returns-clause-value : goal.returns-clause-value
+returns-clause-value c =
+    let e = no_position is_hash c.args.line.now _ c.loop-i-test.false c.loop-i.auto.i-end c.loop-i.invariant in
+    grind (arith, common_steps, e)

@@ -1,0 +1,6 @@
+use Rattle.std.proofs.Common.{◌≡◌, ℕ, ◌<◌, get_or, false}
+use Rattle.dn_config.specs.Words.{is_hash}
+use Rattle.dn_config.proofs.line.before_comment.Given as goal
+
+abbrev pub invariant-loop-i : goal.invariant-loop-i
+invariant-loop-i l = (k : ℕ) → k < l.i → is_hash (get_or l.line k 0) ≡ false

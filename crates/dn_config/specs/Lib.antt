@@ -1,0 +1,11 @@
+pub mod Words
+pub mod Keywords
+pub mod Positions
+pub mod Values
+pub mod Masks
+pub mod Settings
+pub mod Groups
+pub mod Line
+pub mod Reading
+pub mod Text
+pub mod Commands

@@ -1,0 +1,90 @@
+ghost use Rattle.std.specs.Prelude.{◌≡◌, bytes_eq};
+ghost use Rattle.dn_config.specs.Keywords.{option_of, field_of, is_left_out_word, is_query};
+
+use crate::field::Field;
+use crate::mask_word::MaskWord;
+use crate::option_word::OptionWord;
+use crate::parameter::Parameter;
+
+/// Is the word this keyword?
+pub fn is(word: &[u8], keyword: &str) -> bool
+    ensures { result ≡ bytes_eq word.now keyword.now }
+{
+    word == keyword.as_bytes()
+}
+
+/// The option that a word begins.
+#[tactic(auto, unfolding(crate::specs::Keywords::option_of))]
+pub fn option_named(word: &[u8]) -> Option<OptionWord>
+    ensures { result ≡ option_of word.now }
+{
+    if is(word, "bw") {
+        Some(OptionWord::Valued(Parameter::Bandwidth))
+    } else if is(word, "delay") {
+        Some(OptionWord::Valued(Parameter::Delay))
+    } else if is(word, "queue") {
+        Some(OptionWord::Valued(Parameter::Queue))
+    } else if is(word, "plr") {
+        Some(OptionWord::Valued(Parameter::Loss))
+    } else if is(word, "buckets") {
+        Some(OptionWord::Valued(Parameter::Buckets))
+    } else if is(word, "weight") {
+        Some(OptionWord::Valued(Parameter::Weight))
+    } else if is(word, "pipe") {
+        Some(OptionWord::Valued(Parameter::Pipe))
+    } else if is(word, "mask") {
+        Some(OptionWord::Mask)
+    } else {
+        None
+    }
+}
+
+/// The part of a mask that a word names.
+#[tactic(auto, unfolding(crate::specs::Keywords::field_of))]
+pub fn field_named(word: &[u8]) -> Option<MaskWord>
+    ensures { result ≡ field_of word.now }
+{
+    if is(word, "dst-ip") {
+        Some(MaskWord::Valued(Field::DstIp))
+    } else if is(word, "src-ip") {
+        Some(MaskWord::Valued(Field::SrcIp))
+    } else if is(word, "dst-port") {
+        Some(MaskWord::Valued(Field::DstPort))
+    } else if is(word, "src-port") {
+        Some(MaskWord::Valued(Field::SrcPort))
+    } else if is(word, "proto") {
+        Some(MaskWord::Valued(Field::Proto))
+    } else if is(word, "all") {
+        Some(MaskWord::All)
+    } else {
+        None
+    }
+}
+
+/// Is the word an option or a mask field of ipfw(8) that this project leaves out?
+#[tactic(auto, unfolding(crate::specs::Keywords::is_left_out_word))]
+pub fn is_left_out(word: &[u8]) -> bool
+    ensures { result ≡ is_left_out_word word.now }
+{
+    is(word, "red")
+        || is(word, "gred")
+        || is(word, "ecn")
+        || is(word, "codel")
+        || is(word, "pie")
+        || is(word, "fq_codel")
+        || is(word, "fq_pie")
+        || is(word, "sched")
+        || is(word, "burst")
+        || is(word, "profile")
+        || is(word, "noerror")
+        || is(word, "src-ip6")
+        || is(word, "dst-ip6")
+        || is(word, "flow-id")
+}
+
+/// Does the word ask for a listing, which this project leaves out?
+pub fn asks(word: &[u8]) -> bool
+    ensures { result ≡ is_query word.now }
+{
+    is(word, "show") || is(word, "list")
+}

@@ -1,0 +1,20 @@
+//! How numbers, addresses, words and lines are written, so that each is read in one place.
+#![tactic(auto)]
+
+mod address;
+mod digits;
+mod joined;
+mod lines;
+mod number_fault;
+mod numbers;
+#[cfg(test)]
+mod tests;
+mod words;
+
+pub use address::read_address;
+pub use digits::split_digits;
+pub use joined::split_joined;
+pub use lines::Lines;
+pub use number_fault::NumberFault;
+pub use numbers::{read_number, read_numeral};
+pub use words::Words;
