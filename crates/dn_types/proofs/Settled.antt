@@ -31,7 +31,7 @@ pub link_eq-refl : (x : Link) → link_eq x x ≡ true
 link_eq-refl (own a f) = both (nat_eq a a) (nat_eq f f) (eq-eqb a a refl) (eq-eqb f f refl)
 link_eq-refl (shared a) = eq-eqb a a refl
 
-true_or_false : (b : Bool) → (b ≡ true) ⊎ (b ≡ false)
+pub true_or_false : (b : Bool) → (b ≡ true) ⊎ (b ≡ false)
 true_or_false true = inl refl
 true_or_false false = inr refl
 
@@ -82,7 +82,7 @@ unknown-before link other known = by_test (list_any (link_eq other) known)
     by_test false e = or-left (list_any (link_eq link) known) (list_any (link_eq link) (other ∷ [])) (sym (list_any-append (link_eq link) known (other ∷ [])) ∙ e)
 
 -- A link of which no packet was seen has empty queues.
-backlog-unknown : (link : Link) (flow : ℕ) (trace : List Event) → list_any (link_eq link) (links trace) ≡ false → backlog link flow trace ≡ []
+pub backlog-unknown : (link : Link) (flow : ℕ) (trace : List Event) → list_any (link_eq link) (links trace) ≡ false → backlog link flow trace ≡ []
 backlog-unknown link flow [] e = refl
 backlog-unknown link flow (opened l ∷ trace) e = backlog-unknown link flow trace e
 backlog-unknown link flow (arrived p ∷ trace) e = by_test (list_any (link_eq p.link) (links trace)) refl e (λ absent. backlog-unknown link flow trace absent)
@@ -124,7 +124,7 @@ backlog-unknown link flow (discarded f ∷ trace) e = none (nat_eq f flow) (back
     none false q e = e
 backlog-unknown link flow (collected at ∷ trace) e = backlog-unknown link flow trace e
 
-none-unknown : (settings : Settings) (at : ℕ) (link : Link) (trace : List Event) → list_any (link_eq link) (links trace) ≡ false → next_start settings at link trace ≡ None
+pub none-unknown : (settings : Settings) (at : ℕ) (link : Link) (trace : List Event) → list_any (link_eq link) (links trace) ≡ false → next_start settings at link trace ≡ None
 none-unknown settings at link trace e = by_start (next_start settings at link trace) refl
   where
     by_start : (o : Option Start) → next_start settings at link trace ≡ o → o ≡ None

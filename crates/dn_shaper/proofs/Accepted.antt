@@ -1,0 +1,225 @@
+-- A packet was accepted: all parts agree, and the heap and the counts follow.
+use Rattle.std.proofs.Common.{◌≡◌, ◌∙◌, ◌≤◌, ◌<◌, ◌^◌, ℕ, suc, ◌+◌, Bool, true, false, cond, ◌&&◌, List, [], ◌∷◌, set, refl, ap, sym, subst, length, arith, IsPermutation}
+use Rattle.std.specs.Prelude.{Option, Some, None, nat_eq, nat_le, slice_get}
+use Rattle.std.proofs.lemmas.Bool.{eqb-true}
+use Rattle.std.proofs.lemmas.Bool.Decides.{nat_tests}
+use Rattle.std.proofs.lemmas.List.Sorted.{length_permutation}
+use Rattle.dn_heap.specs.Heap.{Heap}
+use Rattle.dn_types.specs.Calls.{accept, join}
+use Rattle.dn_types.specs.Configuration.{Settings}
+use Rattle.dn_types.specs.Flows.{Treatment}
+use Rattle.dn_types.specs.SharedLinks.{opening, next_packet}
+use Rattle.dn_types.specs.Starts.{next_start, start_at}
+use Rattle.dn_types.specs.Trace.{Link, Event, arrived, started, links, with_link, pipe_of}
+use Rattle.dn_types.specs.declared.limit.Limit.TheVariants.{Slots}
+use Rattle.dn_types.specs.declared.packet.Packet.{Packet}
+use Rattle.dn_shaper.specs.declared.due.Due.{Due}
+use Rattle.dn_shaper.specs.declared.parts.Home.{Home}
+use Rattle.dn_shaper.specs.declared.parts.Parts.{Parts}
+use Rattle.dn_shaper.specs.Agreement.{AgreesWith, Agrees, GivesRates, link_names}
+use Rattle.dn_shaper.specs.Arriving.{ArrivesAt, Accepts, CanAccept, KeepsFlows}
+use Rattle.dn_shaper.specs.Due.{Holds, is_backlogged, backlogged}
+use Rattle.dn_shaper.specs.Settling.{IsKept}
+use Rattle.dn_shaper.specs.Starting.{Within, IsReady, CanStart, StartsAt}
+use Rattle.dn_shaper.specs.Views.{LinkView, views_of, home, dues, due_of}
+use Rattle.dn_shaper.proofs.Arriving.{set-self, set-set, link-home, arrives-agree, next-alone, starts-at-once, arrives-dues, arrives-names, arrives-within}
+use Rattle.dn_shaper.proofs.Events.{length-set}
+use Rattle.dn_shaper.proofs.Places.{get-set, sum-set, get-map, map-set-same, get-below}
+use Rattle.dn_shaper.proofs.Starting.{starts-agree, starts-within, starts-dues}
+use Rattle.dn_shaper.proofs.Accepting.{within-more, holds_pushed, backlogged-one, due-listed, due-some, due-none, in-table}
+
+pub same-view : (h : Home) (flow len weight : ℕ) (idle : Bool) (old mid : Parts) (s : ArrivesAt h flow len weight idle old mid) (v : LinkView) → slice_get (views_of old) h.place ≡ Some v → s.view ≡ v
+same-view h flow len weight idle old mid s v there = let both : Some s.view ≡ Some v = sym s.there ∙ there in cc
+
+module _ (settings : Settings) (at : ℕ) (h : Home) (flow len weight : ℕ) (idle : Bool) (old mid : Parts) (due : Heap Due) (kept : IsKept old due) (within : flow < length old.flows.keys) (ready : IsReady flow old) (few : (n : ℕ) × (n < 2 ^ 62) × Within n old) (can : CanAccept settings at flow old)
+    (at_home : slice_get old.homes.items flow ≡ Some h) (s : ArrivesAt h flow len weight idle old mid) (idle_is : idle ≡ (nat_eq s.view.waits 0 && nat_le s.view.value.free at)) where
+  home-is : home old.flows.keys flow ≡ s.view.link
+  home-is = link-home settings at h flow len weight idle old mid s can.0 can.1 can.2 within at_home idle_is
+
+  abbrev some_packet : Packet
+  some_packet = record { tuple = record { src = 0; dst = 0; proto = 0; sport = 0; dport = 0 }; len = len; word = 0 }
+
+  abbrev some_treatment : Treatment
+  some_treatment = record { pipe = 0; weight = weight; mask = record { src = 0; dst = 0; proto = 0; sport = 0; dport = 0 }; loss = 0; limit = Slots 0 }
+
+  abbrev l : Link
+  l = s.view.link
+
+  pub made-there : (trace : List Event) → link_names (views_of old) ≡ with_link (home old.flows.keys flow) (links trace) → link_names (views_of old) ≡ with_link l (links trace)
+  made-there trace made = made ∙ ap (λ (x : Link). with_link x (links trace)) home-is
+
+  pub arrived-at : (packet : Packet) (how : Treatment) (more : List Link) (trace : List Event) → AgreesWith old more trace → packet.len ≡ len → how.weight ≡ weight → link_names (views_of old) ≡ with_link (home old.flows.keys flow) (links trace) →
+      AgreesWith mid [] (arrived (accept l packet flow how (opening l at trace)) ∷ opening l at trace)
+  arrived-at packet how more trace a len_is weight_is made = arrives-agree settings at h flow len weight idle old mid s more trace a within at_home idle_is packet how len_is weight_is (made-there trace made)
+
+  pub mid-agrees : Agrees mid
+  mid-agrees = ([], arrived (accept l some_packet flow some_treatment (opening l at can.1)) ∷ opening l at can.1, arrived-at some_packet some_treatment can.0 can.1 can.2 refl refl can.3)
+
+  pub mid-within : (n : ℕ) → Within n old → Within (n + 1) mid
+  mid-within n w = arrives-within h flow len weight idle old mid s n (in-table settings at flow old due kept within ready few can) ready.line w
+
+  pub mid-all : Within (2 ^ 62) mid
+  mid-all = within-more (few.0 + 1) (2 ^ 62) mid (let a = few.1 in omega arith) (mid-within few.0 few.2)
+
+  pub mid-there : slice_get (views_of mid) h.place ≡ Some s.view'
+  mid-there = ap (λ (vs : List LinkView). slice_get vs h.place) s.views_are ∙ get-set (views_of old) h.place s.view s.view' s.there
+
+  length-mid : length (views_of mid) ≡ length (views_of old)
+  length-mid = ap (λ (vs : List LinkView). length vs) s.views_are ∙ length-set (views_of old) h.place s.view'
+
+  pub mid-keeps : KeepsFlows old mid
+  mid-keeps = record { rule = s.rule; keys = s.keys; homes = s.homes; names = arrives-names h flow len weight idle old mid s }
+
+  due-then : slice_get (dues (views_of old)) h.place ≡ Some (due_of s.view)
+  due-then = get-map due_of (views_of old) h.place s.view s.there
+
+  left : (x y : Bool) → (x && y) ≡ true → (x ≡ true) × (y ≡ true)
+  left true y e = (refl, e)
+  left false y e = absurd cc
+
+  -- ---- The packet starts at once
+
+  module _ (yes' : idle ≡ true) where
+    was_idle : (s.view.waits ≡ 0) × (s.view.value.free ≤ at)
+    was_idle =
+        let e = left (nat_eq s.view.waits 0) (nat_le s.view.value.free at) (sym idle_is ∙ yes') in
+        let le = e.1 in
+        (eqb-true s.view.waits 0 e.0, low s.view.value.free le)
+      where
+        low : (m : ℕ) → nat_le m at ≡ true → m ≤ at
+        low m e = grind (arith, nat_tests)
+
+    pub can-start-mid : CanStart mid h.place at
+    can-start-mid = record {
+      view = s.view';
+      there = mid-there;
+      some = let w = s.joins.waits in omega arith;
+      soon = let e = ap {B = ℕ} (λ x. x.free) s.joins.value in let f = was_idle.1 in omega arith;
+    }
+
+    module _ (bandwidth delay : ℕ) (new : Parts) (t : StartsAt h.place at bandwidth delay mid new) (rates : GivesRates settings (pipe_of l) bandwidth delay) where
+      same_view : t.view ≡ s.view'
+      same_view = let both : Some t.view ≡ Some s.view' = sym t.there ∙ mid-there in cc
+
+      rates-mid : GivesRates settings (pipe_of t.view.link) bandwidth delay
+      rates-mid = subst (λ (x : Link). GivesRates settings (pipe_of x) bandwidth delay) (sym (ap (λ (v : LinkView). v.link) same_view ∙ s.joins.link)) rates
+
+      link-mid : t.view.link ≡ l
+      link-mid = ap (λ (v : LinkView). v.link) same_view ∙ s.joins.link
+
+      dues-same : dues (views_of new) ≡ dues (views_of old)
+      dues-same =
+          let w = t.starts.waits in
+          let v = ap {B = ℕ} (λ (x : LinkView). x.waits) same_view in
+          let j = s.joins.waits in
+          let z = was_idle.0 in
+          starts-dues h.place at bandwidth delay mid new t
+          ∙ ap (λ (d : List (Option ℕ)). set d h.place (due_of t.view')) (arrives-dues h flow len weight idle old mid s)
+          ∙ set-set (dues (views_of old)) h.place (due_of s.view') (due_of t.view')
+          ∙ ap (λ (o : Option ℕ). set (dues (views_of old)) h.place o) (due-none t.view' (omega arith) ∙ sym (due-none s.view (omega arith)))
+          ∙ set-self (dues (views_of old)) h.place (due_of s.view) due-then
+
+      pub idle-kept : IsKept new due
+      idle-kept = record {
+        agrees =
+            let m = mid-agrees in
+            let r = starts-agree h.place at bandwidth delay mid new t settings m.0 m.1 rates-mid m.2 in
+            (m.0, started (start_at settings t.view.link r.0 at) ∷ m.1, r.2);
+        within = starts-within h.place at bandwidth delay mid new t (2 ^ 62) mid-all;
+        held = subst (λ (d : List (Option ℕ)). Holds d due.keys) (sym dues-same) kept.held;
+        counted = kept.counted ∙ ap backlogged (sym dues-same);
+        places = let a = ap (λ (vs : List LinkView). length vs) t.views_are ∙ length-set (views_of mid) h.place t.view' in let b = length-mid in let c = kept.places in omega arith;
+      }
+
+      pub idle-within : (n : ℕ) → Within n old → Within (n + 1) new
+      idle-within n w = starts-within h.place at bandwidth delay mid new t (n + 1) (mid-within n w)
+
+      pub idle-keeps : KeepsFlows old new
+      idle-keeps = record {
+        rule = t.rule ∙ s.rule;
+        keys = t.keys ∙ s.keys;
+        homes = t.homes ∙ s.homes;
+        names = ap (λ (vs : List LinkView). link_names vs) t.views_are ∙ map-set-same (λ (x : LinkView). x.link) (views_of mid) h.place t.view t.view' t.there t.starts.link ∙ arrives-names h flow len weight idle old mid s;
+      }
+
+      idle-accepts-at : (more : List Link) (trace : List Event) (packet : Packet) (how : Treatment) → packet.len ≡ len → how.weight ≡ weight → link_names (views_of old) ≡ with_link (home old.flows.keys flow) (links trace) → next_start settings at l trace ≡ None → AgreesWith old more trace → AgreesWith new [] (join settings at (accept l packet flow how (opening l at trace)) (opening l at trace))
+      idle-accepts-at more trace packet how len_is weight_is made none a =
+          let r = starts-agree h.place at bandwidth delay mid new t settings [] (arrived (accept l packet flow how (opening l at trace)) ∷ opening l at trace) rates-mid (arrived-at packet how more trace a len_is weight_is made) in
+          let next = ap (λ (x : Link). next_packet x (arrived (accept l packet flow how (opening l at trace)) ∷ opening l at trace)) (sym link-mid) ∙ r.1 in
+          let packet_is = next-alone settings at h flow len weight idle old mid s more trace a within at_home idle_is packet how len_is weight_is (made-there trace made) yes' r.0 next in
+          let once = starts-at-once settings at h flow len weight idle old mid s more trace a within at_home idle_is none ∙ yes' in
+          subst (λ (e : List Event). AgreesWith new [] e)
+          ((λ i. started (start_at settings (link-mid i) (packet_is i) at) ∷ arrived (accept l packet flow how (opening l at trace)) ∷ opening l at trace)
+          ∙ sym (ap (λ b. cond b (started (start_at settings l (accept l packet flow how (opening l at trace)) at) ∷ arrived (accept l packet flow how (opening l at trace)) ∷ opening l at trace) (arrived (accept l packet flow how (opening l at trace)) ∷ opening l at trace)) once))
+          r.2
+
+      pub idle-accepts : Accepts settings at flow len weight old new
+      idle-accepts more trace packet how len_is weight_is made none a =
+          subst (λ (x : Link). AgreesWith new [] (join settings at (accept x packet flow how (opening x at trace)) (opening x at trace))) (sym home-is)
+          (idle-accepts-at more trace packet how len_is weight_is made (ap (λ (x : Link). next_start settings at x trace) (sym home-is) ∙ none) a)
+
+  -- ---- The packet waits
+
+  module _ (no' : idle ≡ false) where
+    waits-accepts-at : (more : List Link) (trace : List Event) (packet : Packet) (how : Treatment) → packet.len ≡ len → how.weight ≡ weight → link_names (views_of old) ≡ with_link (home old.flows.keys flow) (links trace) → next_start settings at l trace ≡ None → AgreesWith old more trace → AgreesWith mid [] (join settings at (accept l packet flow how (opening l at trace)) (opening l at trace))
+    waits-accepts-at more trace packet how len_is weight_is made none a =
+        let once = starts-at-once settings at h flow len weight idle old mid s more trace a within at_home idle_is none ∙ no' in
+        subst (λ (e : List Event). AgreesWith mid [] e)
+        (sym (ap (λ b. cond b (started (start_at settings l (accept l packet flow how (opening l at trace)) at) ∷ arrived (accept l packet flow how (opening l at trace)) ∷ opening l at trace) (arrived (accept l packet flow how (opening l at trace)) ∷ opening l at trace)) once))
+        (arrived-at packet how more trace a len_is weight_is made)
+
+    pub waits-accepts : Accepts settings at flow len weight old mid
+    waits-accepts more trace packet how len_is weight_is made none a =
+        subst (λ (x : Link). AgreesWith mid [] (join settings at (accept x packet flow how (opening x at trace)) (opening x at trace))) (sym home-is)
+        (waits-accepts-at more trace packet how len_is weight_is made (ap (λ (x : Link). next_start settings at x trace) (sym home-is) ∙ none) a)
+
+  -- It is the first that waits.
+  pub room-first : s.view.waits ≡ 0 → 0 < due.room
+  room-first zero_waits =
+      let one = backlogged-one (dues (views_of old)) h.place (due-then ∙ ap (λ (o : Option ℕ). Some o) (due-none s.view (omega arith))) in
+      let c = kept.counted in
+      let p = kept.places in
+      let m = length-dues (views_of old) in
+      omega arith
+    where
+      length-dues : (vs : List LinkView) → length (dues vs) ≡ length vs
+      length-dues [] = refl
+      length-dues (v ∷ vs) = ap suc (length-dues vs)
+
+  pub first-kept : s.view.waits ≡ 0 → (due' : Heap Due) → IsPermutation (record { moment = s.view.value.free; place = h.place } ∷ due.keys) due'.keys → due'.room + 1 ≡ due.room → IsKept mid due'
+  first-kept zero_waits due' perm room =
+      let none : due_of s.view ≡ None = due-none s.view (omega arith) in
+      let w = s.joins.waits in
+      let some : due_of s.view' ≡ Some s.view.value.free = due-some s.view' (omega arith) ∙ ap (λ x. Some x.free) s.joins.value in
+      let now : dues (views_of mid) ≡ set (dues (views_of old)) h.place (Some s.view.value.free) = arrives-dues h flow len weight idle old mid s ∙ ap (λ (o : Option ℕ). set (dues (views_of old)) h.place o) some in
+      record {
+        agrees = mid-agrees;
+        within = mid-all;
+        held = subst (λ (d : List (Option ℕ)). Holds d due'.keys) (sym now) (holds_pushed (dues (views_of old)) due.keys kept.held h.place s.view.value.free (get-below (dues (views_of old)) h.place (due_of s.view) due-then) (due-listed (dues (views_of old)) h.place None (due-then ∙ ap (λ (o : Option ℕ). Some o) none)) due'.keys perm);
+        counted =
+            let a = length_permutation (record { moment = s.view.value.free; place = h.place } ∷ due.keys) due'.keys perm in
+            let b = sum-set is_backlogged (dues (views_of old)) h.place (due_of s.view) (Some s.view.value.free) due-then in
+            let c = kept.counted in
+            let z = ap {B = ℕ} (λ (o : Option ℕ). is_backlogged o) none in
+            let n = ap {B = ℕ} (λ (d : List (Option ℕ)). backlogged d) now in
+            omega arith;
+        places =
+            let a = length_permutation (record { moment = s.view.value.free; place = h.place } ∷ due.keys) due'.keys perm in
+            let b = length-mid in
+            let c = kept.places in
+            omega arith;
+      }
+
+  -- Others wait before it.
+  pub other-kept : 0 < s.view.waits → IsKept mid due
+  other-kept some =
+      let w = s.joins.waits in
+      let same : due_of s.view' ≡ due_of s.view = due-some s.view' (omega arith) ∙ ap (λ x. Some x.free) s.joins.value ∙ sym (due-some s.view some) in
+      let now : dues (views_of mid) ≡ dues (views_of old) = arrives-dues h flow len weight idle old mid s ∙ ap (λ (o : Option ℕ). set (dues (views_of old)) h.place o) same ∙ set-self (dues (views_of old)) h.place (due_of s.view) due-then in
+      record {
+        agrees = mid-agrees;
+        within = mid-all;
+        held = subst (λ (d : List (Option ℕ)). Holds d due.keys) (sym now) kept.held;
+        counted = kept.counted ∙ ap backlogged (sym now);
+        places = let b = length-mid in let c = kept.places in omega arith;
+      }

@@ -1,0 +1,156 @@
+-- A packet is accepted: what that needs, and a heap with one key more.
+use Rattle.std.proofs.Common.{◌≡◌, ◌∙◌, ◌≤◌, ◌<◌, ◌⊎◌, ◌^◌, ℕ, zero, suc, ◌+◌, Bool, true, false, cond, ◌&&◌, List, [], ◌∷◌, map, set, refl, ap, sym, subst, length, arith, ⊎_elim, inl, inr, IsPermutation, slice_index_or, get_or-set_same, get_or-set_other}
+use Rattle.std.specs.Prelude.{Option, Some, None, is_some, nat_eq, nat_le, nat_lt, slice_get}
+use Rattle.std.proofs.lemmas.Bool.{cases_eq, eqb-true}
+use Rattle.std.proofs.lemmas.Bool.Decides.{nat_tests}
+use Rattle.std.proofs.lemmas.List.Elements.{All-cons}
+use Rattle.std.proofs.lemmas.List.Sorted.{All-permutation}
+use Rattle.std.proofs.lemmas.List.Sums.{sum_by-cons}
+use Rattle.dn_heap.specs.Heap.{Heap}
+use Rattle.dn_types.specs.Configuration.{Settings}
+use Rattle.dn_types.specs.SharedLinks.{waiting}
+use Rattle.dn_types.specs.Trace.{Link, own, shared, Accepted}
+use Rattle.dn_types.specs.Wf2q.{Stamped, total}
+use Rattle.dn_wf2q.specs.Schedule.{Flow, flow_at as slot_at, IsIdle}
+use Rattle.dn_shaper.specs.declared.due.Due.{Due}
+use Rattle.dn_shaper.specs.declared.parts.Home.{Home}
+use Rattle.dn_shaper.specs.declared.parts.Parts.{Parts}
+use Rattle.dn_shaper.specs.Agreement.{IsHomeOf, IsScheduleAt}
+use Rattle.dn_shaper.specs.Arriving.{CanJoin, CanAccept}
+use Rattle.dn_shaper.specs.Due.{due_at, standing, Holds, is_backlogged, backlogged}
+use Rattle.dn_shaper.specs.Settling.{IsKept}
+use Rattle.dn_shaper.specs.Starting.{Within, IsReady}
+use Rattle.dn_shaper.specs.Views.{LinkView, views_of, home, stamped_of, at_slot, due_of}
+use Rattle.dn_shaper.proofs.Dues.{same_place, other_place, pushed, none_standing}
+use Rattle.dn_shaper.proofs.Heads.{slot_or}
+use Rattle.dn_shaper.proofs.Places.{sum-le}
+use Rattle.dn_shaper.proofs.Waiting.{empty-all, total-same}
+
+pub within-more : (n m : ℕ) (p : Parts) → n ≤ m → Within n p → Within m p
+within-more n m p le w = record {
+  waiting_is = w.waiting_is;
+  room = w.room;
+  pushed = let a = w.pushed in omega arith;
+  sums = let a = w.sums in omega arith;
+  flows_are = λ g. let i = w.flows_are g in let a = i.0 in let b = i.1 in let c = i.2 in (omega arith, omega arith, omega arith);
+  arrivals = λ k v e. let a = w.arrivals k v e in omega arith;
+  accepted = let a = w.accepted in omega arith;
+}
+
+-- ---- A heap with one key more
+
+module _ (due : List (Option ℕ)) (keys : List Due) (h : Holds due keys) (place m : ℕ) (inside : place < length due) (none : due_at due place ≡ None) (new : List Due) (perm : IsPermutation (record { moment = m; place = place } ∷ keys) new) where
+  none_there : standing place keys ≡ 0
+  none_there = h.once place ∙ ap {B = ℕ} (λ (o : Option ℕ). cond (is_some o) 1 0) none
+
+  once_pushed : (p : ℕ) → standing p new ≡ cond (is_some (due_at (set due place (Some m)) p)) 1 0
+  once_pushed p = by (cases_eq p place)
+    where
+      by : (p ≡ place) ⊎ (p ≡ place → ⊥) → standing p new ≡ cond (is_some (due_at (set due place (Some m)) p)) 1 0
+      by (inl e) =
+          let At : ℕ → Type 0 = λ n. standing n new ≡ cond (is_some (due_at (set due place (Some m)) n)) 1 0 in
+          let one : standing place new ≡ 1 = let a = pushed place (record { moment = m; place = place }) keys new perm in let b = same_place place (record { moment = m; place = place }) refl in let z = none_there in omega (arith, a, b, z) in
+          subst At (sym e) (one ∙ sym (ap {B = ℕ} (λ (o : Option ℕ). cond (is_some o) 1 0) (get_or-set_same due place (Some m) None inside)))
+      by (inr ne) =
+          let a = pushed p (record { moment = m; place = place }) keys new perm in
+          let b = other_place p (record { moment = m; place = place }) (λ e. ne (sym e)) in
+          let z = h.once p in
+          let same = ap {B = ℕ} (λ (o : Option ℕ). cond (is_some o) 1 0) (get_or-set_other due place p (Some m) None ne) in
+          omega (arith, a, b, z, same)
+
+  pub holds_pushed : Holds (set due place (Some m)) new
+  holds_pushed = record {
+    once = once_pushed;
+    moments = All-permutation (λ x. due_at (set due place (Some m)) x.place ≡ Some x.moment) (record { moment = m; place = place } ∷ keys) new perm
+        (All-cons (λ x. due_at (set due place (Some m)) x.place ≡ Some x.moment) (record { moment = m; place = place }) keys (get_or-set_same due place (Some m) None inside)
+        (λ i d lt. get_or-set_other due place (slice_index_or keys i d).place (Some m) None (none_standing place keys none_there i d lt) ∙ h.moments i d lt));
+  }
+
+-- A list with one that has no backlog has fewer than all.
+backlogged-le : (due : List (Option ℕ)) → backlogged due ≤ length due
+backlogged-le [] = omega arith
+backlogged-le (o ∷ due) = let r = backlogged-le due in let c = sum_by-cons is_backlogged o due in let one = at_most o in omega arith
+  where
+    at_most : (o : Option ℕ) → is_backlogged o ≤ 1
+    at_most None = omega arith
+    at_most (Some m) = omega arith
+
+pub backlogged-one : (due : List (Option ℕ)) (i : ℕ) → slice_get due i ≡ Some None → backlogged due + 1 ≤ length due
+backlogged-one [] i e = absurd cc
+backlogged-one (o ∷ due) zero e = let same : o ≡ None = cc in let z = ap {B = ℕ} (λ (x : Option ℕ). is_backlogged x) same in let c = sum_by-cons is_backlogged o due in let r = backlogged-le due in omega arith
+backlogged-one (o ∷ due) (suc i) e = let r = backlogged-one due i e in let c = sum_by-cons is_backlogged o due in let one = at_most o in omega arith
+  where
+    at_most : (o : Option ℕ) → is_backlogged o ≤ 1
+    at_most None = omega arith
+    at_most (Some m) = omega arith
+
+pub due-listed : (d : List (Option ℕ)) (i : ℕ) (o : Option ℕ) → slice_get d i ≡ Some o → due_at d i ≡ o
+due-listed [] i o e = absurd cc
+due-listed (x ∷ d) zero o e = let same : x ≡ o = cc in same
+due-listed (x ∷ d) (suc i) o e = due-listed d i o e
+
+sure : (n : ℕ) → 0 < n → nat_lt 0 n ≡ true
+sure n h = grind (arith, nat_tests)
+
+never : (n : ℕ) → n ≤ 0 → nat_lt 0 n ≡ false
+never n h = grind (arith, nat_tests)
+
+pub due-some : (v : LinkView) → 0 < v.waits → due_of v ≡ Some v.value.free
+due-some v some = ap {B = Option ℕ} (λ b. cond b (Some v.value.free) None) (sure v.waits some)
+
+pub due-none : (v : LinkView) → v.waits ≤ 0 → due_of v ≡ None
+due-none v none = ap {B = Option ℕ} (λ b. cond b (Some v.value.free) None) (never v.waits none)
+
+-- ---- What accepting needs
+
+module _ (settings : Settings) (at flow : ℕ) (p : Parts) (due : Heap Due) (kept : IsKept p due) (within : flow < length p.flows.keys) (ready : IsReady flow p) (few : (n : ℕ) × (n < 2 ^ 62) × Within n p) (can : CanAccept settings at flow p) where
+  pub home-there : (h : Home) × (slice_get p.homes.items flow ≡ Some h) × IsHomeOf flow (home p.flows.keys flow) (views_of p) h
+  home-there = can.2.homes_are flow within
+
+  module _ (h : Home) (at_home : slice_get p.homes.items flow ≡ Some h) where
+    pub is-home : IsHomeOf flow (home p.flows.keys flow) (views_of p) h
+    is-home = let both : Some home-there.0 ≡ Some h = sym home-there.1 ∙ at_home in let same : home-there.0 ≡ h = cc in subst (λ (x : Home). IsHomeOf flow (home p.flows.keys flow) (views_of p) x) same home-there.2
+
+    module _ (v : LinkView) (there : slice_get (views_of p) h.place ≡ Some v) where
+      idle-schedule : (pipe : ℕ) → v.link ≡ shared pipe → v.waits ≡ 0 → IsIdle v.schedule.flows
+      idle-schedule pipe is zero_waits =
+          total-same (length v.schedule.flows) (λ slot. []) (λ slot. (slot_at v.schedule.flows slot).backlog) (λ slot. ⊎_elim (given slot) (beyond slot) (slot_or v.slots slot)) ∙ none (length v.schedule.flows)
+        where
+          c : IsScheduleAt v.link can.1 v.schedule v.slots
+          c = (can.2.views_are h.place v there).schedule_is pipe is
+
+          z : waiting v.link can.1 ≡ 0
+          z = sym (can.2.views_are h.place v there).waits_are ∙ zero_waits
+
+          given : (slot : ℕ) → (f : ℕ) × (slice_get v.slots slot ≡ Some f) → length (slot_at v.schedule.flows slot).backlog ≡ 0
+          given slot g = ap {B = ℕ} (λ (q : List Stamped). length q) ((c.slots_are slot g.0 g.1).backlog_is ∙ ap (λ (q : List Accepted). map (at_slot slot) (stamped_of q)) (empty-all v.link can.1 z g.0))
+
+          beyond : (slot : ℕ) → length v.slots ≤ slot → length (slot_at v.schedule.flows slot).backlog ≡ 0
+          beyond slot le = ap {B = ℕ} (λ (f : Flow). length f.backlog) (c.beyond slot le)
+
+          none : (n : ℕ) → total {X = Stamped} n (λ slot. []) ≡ 0
+          none zero = refl
+          none (suc n) = let r = none n in omega arith
+
+      pub can-join : (idle : Bool) → idle ≡ (nat_eq v.waits 0 && nat_le v.value.free at) → CanJoin h.slot idle v v.link
+      can-join idle idle_is = by v.link refl
+        where
+          left : (x y : Bool) → (x && y) ≡ true → x ≡ true
+          left true y e = refl
+          left false y e = absurd cc
+
+          by : (l : Link) → v.link ≡ l → CanJoin h.slot idle v l
+          by (own pipe f) is = tt
+          by (shared pipe) is = (ready.slot h v pipe at_home there is, (let a = few.2.arrivals h.place v there in let b = few.1 in omega arith), λ yes'. idle-schedule pipe is (eqb-true v.waits 0 (left (nat_eq v.waits 0) (nat_le v.value.free at) (sym idle_is ∙ yes'))))
+
+      pub few-wait : v.waits ≤ p.waiting
+      few-wait = let le = sum-le (λ (x : LinkView). x.waits) (views_of p) h.place v there in let is = few.2.waiting_is in omega arith
+
+  pub few-waiting : p.waiting < 2 ^ 62
+  few-waiting = let a = few.2.pushed in let b = few.1 in omega arith
+
+  pub few-accepted : p.accepted < 2 ^ 62
+  few-accepted = let a = few.2.accepted in let b = few.1 in omega arith
+
+  pub in-table : flow < length p.flows.flows
+  in-table = let m = can.2.as_many in omega arith

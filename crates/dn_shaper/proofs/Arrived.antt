@@ -1,0 +1,195 @@
+-- All parts agree with the arrival of a packet at its flow's queue.
+use Rattle.std.proofs.Common.{◌≡◌, ◌∙◌, ◌<◌, ◌⊎◌, ℕ, ◌+◌, Bool, true, false, cond, ◌&&◌, List, [], ◌∷◌, ◌++◌, map, set, refl, ap, sym, subst, length, arith, inl, inr}
+use Rattle.std.specs.Prelude.{Some, nat_eq, slice_get}
+use Rattle.std.proofs.lemmas.Bool.{cases_eq}
+use Rattle.dn_types.specs.Wf2q.{Stamped}
+use Rattle.dn_types.specs.Trace.{Link, shared, link_eq, Accepted, Event, arrived, is_of, backlog, links, with_link, is_start_of, is_loss_of, is_refusal_of, is_arrival}
+use Rattle.dn_types.specs.Links.{free, last_due}
+use Rattle.dn_types.specs.SharedLinks.{last_finish_tag, waiting}
+use Rattle.dn_types.specs.declared.delivery.Delivery.{Delivery}
+use Rattle.dn_types.specs.declared.flow_key.FlowKey.{FlowKey}
+use Rattle.dn_types.specs.declared.rule.Rule.{Rule}
+use Rattle.dn_flows.specs.Table.{FlowState, flow_at, pushed}
+use Rattle.dn_flows.specs.declared.waiting.Waiting.{Waiting}
+use Rattle.dn_flows.proofs.Views.{flow_after_set}
+use Rattle.dn_shaper.specs.declared.parts.Home.{Home}
+use Rattle.dn_shaper.specs.Views.{LinkView, home, waiting_of, stamped_of, at_slot}
+use Rattle.dn_shaper.specs.Agreement.{AreDistinct, IsAt, IsLinkAt, IsFlowAt, IsScheduleAt, IsSlotAt, link_names}
+use Rattle.dn_shaper.proofs.Events.{uncounted, counted-once, read-set, eq-yes, eq-no, append-none, length-set}
+use Rattle.dn_shaper.proofs.Places.{get-set, get-set-other, map-set-same, get-below}
+use Rattle.dn_types.proofs.Settled.{link_eq-refl}
+use Rattle.dn_shaper.proofs.Unseen.{not_with}
+use Rattle.dn_types.proofs.Settling.{and-no}
+use Rattle.dn_wf2q.specs.Schedule.{Flow, flow_at as slot_at, no_packets, joined_by}
+use Rattle.std.proofs.lemmas.List.{map-append}
+use Rattle.dn_shaper.specs.Slots.{Ascends, top}
+use Rattle.dn_shaper.proofs.Homes.{home-after, slots-apart, slots_home-after}
+use Rattle.dn_shaper.proofs.Next.{distinct_views}
+use Rattle.dn_shaper.proofs.Waiting.{waiting-arrived, waiting-other}
+
+module _ (rule : Rule) (accepted : ℕ) (keys : List FlowKey) (homes : List Home) (views : List LinkView) (flows : List FlowState) (pending : List Delivery) (more : List Link) (trace : List Event) (a : IsAt rule accepted keys homes views flows pending more trace) where
+  module _ (k : ℕ) (v : LinkView) (there : slice_get views k ≡ Some v) (flow : ℕ) (within : flow < length keys) (here : home keys flow ≡ v.link) (made : link_names views ≡ with_link v.link (links trace))
+      (p : Accepted) (on : p.link ≡ v.link) (flow_is : p.stamped.flow ≡ flow) (number_is : p.packet ≡ accepted)
+      (v' : LinkView) (same_link : v'.link ≡ v.link) (same_value : v'.value ≡ v.value) (one_more : v'.waits ≡ v.waits + 1) (same_slots : v'.slots ≡ v.slots)
+      (arrival : (pipe : ℕ) → v.link ≡ shared pipe → (slot : ℕ) × (slice_get v.slots slot ≡ Some flow) × (slot < length v.schedule.flows) × (v'.schedule.flows ≡ set v.schedule.flows slot (joined_by (slot_at v.schedule.flows slot) (at_slot slot p.stamped))) × (v'.schedule.virtual_time ≡ v.schedule.virtual_time)) where
+    both : (x y : Bool) → x ≡ true → y ≡ true → (x && y) ≡ true
+    both true y e f = f
+    both false y e f = absurd cc
+
+    is_here : is_of v.link flow p ≡ true
+    is_here = (λ i. link_eq (on i) v.link && nat_eq (flow_is i) flow) ∙ both (link_eq v.link v.link) (nat_eq flow flow) (link_eq-refl v.link) (eq-yes flow flow refl)
+
+    not_flow : (l : Link) (g : ℕ) → (flow ≡ g → ⊥) → is_of l g p ≡ false
+    not_flow l g ne = and-no (link_eq p.link l) (nat_eq p.stamped.flow g) (ap (λ x. nat_eq x g) flow_is ∙ eq-no flow g ne)
+
+    same_test : (g : ℕ) → is_of (home keys g) g p ≡ nat_eq flow g
+    same_test g = by (cases_eq flow g)
+      where
+        by : (flow ≡ g) ⊎ (flow ≡ g → ⊥) → is_of (home keys g) g p ≡ nat_eq flow g
+        by (inl e) = (λ i. is_of ((ap (home keys) (sym e) ∙ here) i) (sym e i) p) ∙ is_here ∙ sym (eq-yes flow g e)
+        by (inr ne) = not_flow (home keys g) g ne ∙ sym (eq-no flow g ne)
+
+    schedule_after : (pipe : ℕ) → v.link ≡ shared pipe → IsScheduleAt v.link (arrived p ∷ trace) v'.schedule v.slots
+    schedule_after pipe is =
+        let c = (a.views_are k v there).schedule_is pipe is in
+        let r = arrival pipe is in
+        record {
+          virtual_time_is = r.4 ∙ c.virtual_time_is;
+          slots_are = λ slot g e. slot_after c r.0 r.1 r.2 r.3 slot g e (cases_eq r.0 slot);
+          beyond = λ slot le.
+              let lt = get-below v.slots r.0 flow r.1 in
+              ap (λ (fs : List Flow). slot_at fs slot) r.3
+              ∙ read-set v.schedule.flows r.0 slot (joined_by (slot_at v.schedule.flows r.0) (at_slot r.0 p.stamped)) no_packets r.2
+              ∙ ap (λ b. cond b (joined_by (slot_at v.schedule.flows r.0) (at_slot r.0 p.stamped)) (slot_at v.schedule.flows slot)) (eq-no r.0 slot (λ e. absurd (omega arith)))
+              ∙ c.beyond slot le;
+        }
+      where
+        slot_after : IsScheduleAt v.link trace v.schedule v.slots → (i : ℕ) → slice_get v.slots i ≡ Some flow → i < length v.schedule.flows → v'.schedule.flows ≡ set v.schedule.flows i (joined_by (slot_at v.schedule.flows i) (at_slot i p.stamped)) → (slot g : ℕ) → slice_get v.slots slot ≡ Some g → (i ≡ slot) ⊎ (i ≡ slot → ⊥) → IsSlotAt v.link g slot (arrived p ∷ trace) (slot_at v'.schedule.flows slot)
+        slot_after c i at_i lt now slot g e (inl same) =
+            let now_at = ap (λ (fs : List Flow). slot_at fs i) now ∙ read-set v.schedule.flows i i (joined_by (slot_at v.schedule.flows i) (at_slot i p.stamped)) no_packets lt ∙ ap (λ b. cond b (joined_by (slot_at v.schedule.flows i) (at_slot i p.stamped)) (slot_at v.schedule.flows i)) (eq-yes i i refl) in
+            let found : Some flow ≡ Some g = sym at_i ∙ ap (slice_get v.slots) same ∙ e in
+            let g_is : flow ≡ g = cc in
+            let base : IsSlotAt v.link flow i (arrived p ∷ trace) (slot_at v'.schedule.flows i) = record {
+              backlog_is =
+                  ap (λ (f : Flow). f.backlog) now_at
+                  ∙ ap (λ (q : List Stamped). q ++ at_slot i p.stamped ∷ []) (c.slots_are i flow at_i).backlog_is
+                  ∙ sym (map-append (at_slot i) (stamped_of (backlog v.link flow trace)) (p.stamped ∷ []))
+                  ∙ ap (λ (q : List Stamped). map (at_slot i) q) (sym (map-append (λ (x : Accepted). x.stamped) (backlog v.link flow trace) (p ∷ [])))
+                  ∙ ap (λ b. map (at_slot i) (stamped_of (cond b (backlog v.link flow trace ++ p ∷ []) (backlog v.link flow trace)))) (sym is_here);
+              last_finish_is = ap (λ (f : Flow). f.last_finish_tag) now_at ∙ sym (ap (λ b. cond b p.stamped.finish_tag (last_finish_tag v.link flow trace)) is_here);
+            } in
+            subst (λ (x : ℕ × ℕ). IsSlotAt v.link x.0 x.1 (arrived p ∷ trace) (slot_at v'.schedule.flows x.1)) (λ j. (g_is j, same j)) base
+        slot_after c i at_i lt now slot g e (inr ne) =
+            let now_at = ap (λ (fs : List Flow). slot_at fs slot) now ∙ read-set v.schedule.flows i slot (joined_by (slot_at v.schedule.flows i) (at_slot i p.stamped)) no_packets lt ∙ ap (λ b. cond b (joined_by (slot_at v.schedule.flows i) (at_slot i p.stamped)) (slot_at v.schedule.flows slot)) (eq-no i slot ne) in
+            let apart = not_flow v.link g (slots-apart v.slots (a.views_are k v there).ascends i slot flow g at_i e ne) in
+            let s = c.slots_are slot g e in
+            record {
+              backlog_is = ap (λ (f : Flow). f.backlog) now_at ∙ s.backlog_is ∙ ap (λ b. map (at_slot slot) (stamped_of (cond b (backlog v.link g trace ++ p ∷ []) (backlog v.link g trace)))) (sym apart);
+              last_finish_is = ap (λ (f : Flow). f.last_finish_tag) now_at ∙ s.last_finish_is ∙ sym (ap (λ b. cond b p.stamped.finish_tag (last_finish_tag v.link g trace)) apart);
+            }
+
+    made_view : IsLinkAt rule (length keys) (arrived p ∷ trace) v'
+    made_view = let b = a.views_are k v there in record {
+      free_is = ap (λ x. x.free) same_value ∙ b.free_is ∙ ap (λ (l : Link). free l trace) (sym same_link);
+      last_due_is = ap (λ x. x.last_due) same_value ∙ b.last_due_is ∙ ap (λ (l : Link). last_due rule l trace) (sym same_link);
+      waits_are = one_more ∙ ap (λ n. n + 1) b.waits_are ∙ sym (waiting-arrived v.link p trace on) ∙ ap (λ (l : Link). waiting l (arrived p ∷ trace)) (sym same_link);
+      schedule_is = λ pipe e.
+          subst (λ (x : Link × List ℕ). IsScheduleAt x.0 (arrived p ∷ trace) v'.schedule x.1) (λ i. (sym same_link i, sym same_slots i)) (schedule_after pipe (sym same_link ∙ e));
+      ascends = subst (λ (fs : List ℕ). Ascends 0 fs) (sym same_slots) b.ascends;
+      below = let t = ap {B = ℕ} (top 0) same_slots in let le = b.below in omega arith;
+    }
+
+    other_view : (j : ℕ) (w : LinkView) → slice_get views j ≡ Some w → (j ≡ k → ⊥) → IsLinkAt rule (length keys) (arrived p ∷ trace) w
+    other_view j w e ne =
+        let apart : link_eq p.link w.link ≡ false = ap (λ (m : Link). link_eq m w.link) on ∙ distinct_views rule accepted keys homes views flows pending more trace a k v there j w e ne in
+        let b = a.views_are j w e in
+        record {
+          free_is = b.free_is;
+          last_due_is = b.last_due_is;
+          waits_are = b.waits_are ∙ sym (waiting-other w.link p trace apart);
+          schedule_is = λ pipe is. let c = b.schedule_is pipe is in record {
+            virtual_time_is = c.virtual_time_is;
+            slots_are = λ slot g eg. let s = c.slots_are slot g eg in record {
+              backlog_is = s.backlog_is ∙ sym (ap (λ t. map (at_slot slot) (stamped_of (cond (t && nat_eq p.stamped.flow g) (backlog w.link g trace ++ p ∷ []) (backlog w.link g trace)))) apart);
+              last_finish_is = s.last_finish_is ∙ sym (ap (λ t. cond (t && nat_eq p.stamped.flow g) p.stamped.finish_tag (last_finish_tag w.link g trace)) apart);
+            };
+            beyond = c.beyond;
+          };
+          ascends = b.ascends;
+          below = b.below;
+        }
+
+    views_after : (j : ℕ) (w : LinkView) → slice_get (set views k v') j ≡ Some w → IsLinkAt rule (length keys) (arrived p ∷ trace) w
+    views_after j w e = by (cases_eq j k)
+      where
+        by : (j ≡ k) ⊎ (j ≡ k → ⊥) → IsLinkAt rule (length keys) (arrived p ∷ trace) w
+        by (inl same) =
+            let e' : Some v' ≡ Some w = sym (get-set views k v v' there) ∙ ap (slice_get (set views k v')) (sym same) ∙ e in
+            let is : v' ≡ w = cc in
+            subst (λ (x : LinkView). IsLinkAt rule (length keys) (arrived p ∷ trace) x) is made_view
+        by (inr ne) = other_view j w (sym (get-set-other views k j v' ne) ∙ e) ne
+
+    names_same : link_names (set views k v') ≡ link_names views
+    names_same = map-set-same (λ (x : LinkView). x.link) views k v v' there same_link
+
+    flow_after : (g : ℕ) → IsFlowAt (home keys g) g (arrived p ∷ trace) (flow_at (set flows flow (pushed (waiting_of p) (flow_at flows flow))) g)
+    flow_after g = by (cases_eq flow g)
+      where
+        in_table : flow < length flows
+        in_table = let m = a.as_many in omega arith
+
+        now_at : flow_at (set flows flow (pushed (waiting_of p) (flow_at flows flow))) g ≡ cond (nat_eq flow g) (pushed (waiting_of p) (flow_at flows flow)) (flow_at flows g)
+        now_at = flow_after_set flows flow g (pushed (waiting_of p) (flow_at flows flow)) in_table
+
+        by : (flow ≡ g) ⊎ (flow ≡ g → ⊥) → IsFlowAt (home keys g) g (arrived p ∷ trace) (flow_at (set flows flow (pushed (waiting_of p) (flow_at flows flow))) g)
+        by (inl same) =
+            let is : flow_at (set flows flow (pushed (waiting_of p) (flow_at flows flow))) g ≡ pushed (waiting_of p) (flow_at flows g) = now_at ∙ ap (λ b. cond b (pushed (waiting_of p) (flow_at flows flow)) (flow_at flows g)) (eq-yes flow g same) ∙ ap (λ i. pushed (waiting_of p) (flow_at flows i)) same in
+            let b = a.flows_are g in
+            record {
+              backlog_is =
+                  ap (λ (x : FlowState). x.backlog) is
+                  ∙ ap (λ (q : List Waiting). q ++ waiting_of p ∷ []) b.backlog_is
+                  ∙ sym (map-append waiting_of (backlog (home keys g) g trace) (p ∷ []))
+                  ∙ ap (λ t. map waiting_of (cond t (backlog (home keys g) g trace ++ p ∷ []) (backlog (home keys g) g trace))) (sym (same_test g ∙ eq-yes flow g same));
+              lost_is = ap (λ (x : FlowState). x.lost) is ∙ b.lost_is ∙ sym (uncounted (is_loss_of g) (arrived p) trace refl);
+              full_is = ap (λ (x : FlowState). x.full) is ∙ b.full_is ∙ sym (uncounted (is_refusal_of g) (arrived p) trace refl);
+              started_is = ap (λ (x : FlowState). x.started) is ∙ b.started_is ∙ sym (uncounted (is_start_of g) (arrived p) trace refl);
+              discarded_is = ap (λ (x : FlowState). x.discarded) is ∙ b.discarded_is;
+            }
+        by (inr ne) =
+            let is : flow_at (set flows flow (pushed (waiting_of p) (flow_at flows flow))) g ≡ flow_at flows g = now_at ∙ ap (λ b. cond b (pushed (waiting_of p) (flow_at flows flow)) (flow_at flows g)) (eq-no flow g ne) in
+            let b = a.flows_are g in
+            record {
+              backlog_is =
+                  ap (λ (x : FlowState). x.backlog) is
+                  ∙ b.backlog_is
+                  ∙ ap (λ t. map waiting_of (cond t (backlog (home keys g) g trace ++ p ∷ []) (backlog (home keys g) g trace))) (sym (same_test g ∙ eq-no flow g ne));
+              lost_is = ap (λ (x : FlowState). x.lost) is ∙ b.lost_is ∙ sym (uncounted (is_loss_of g) (arrived p) trace refl);
+              full_is = ap (λ (x : FlowState). x.full) is ∙ b.full_is ∙ sym (uncounted (is_refusal_of g) (arrived p) trace refl);
+              started_is = ap (λ (x : FlowState). x.started) is ∙ b.started_is ∙ sym (uncounted (is_start_of g) (arrived p) trace refl);
+              discarded_is = ap (λ (x : FlowState). x.discarded) is ∙ b.discarded_is;
+            }
+
+    elsewhere_after : (g : ℕ) (l : Link) → link_eq (home keys g) l ≡ false → backlog l g (arrived p ∷ trace) ≡ []
+    elsewhere_after g l e = ap (λ t. cond t (backlog l g trace ++ p ∷ []) (backlog l g trace)) (apart (cases_eq flow g)) ∙ a.elsewhere g l e
+      where
+        apart : (flow ≡ g) ⊎ (flow ≡ g → ⊥) → is_of l g p ≡ false
+        apart (inl same) = ap (λ b. b && nat_eq p.stamped.flow g) (ap (λ (m : Link). link_eq m l) (on ∙ sym here ∙ ap (home keys) same) ∙ e)
+        apart (inr ne) = not_flow l g ne
+
+    pub arrived-agrees : IsAt rule (accepted + 1) keys homes (set views k v') (set flows flow (pushed (waiting_of p) (flow_at flows flow))) pending [] (arrived p ∷ trace)
+    arrived-agrees = record {
+      links_are = names_same ∙ made ∙ ap (λ (l : Link). with_link l (links trace)) (sym on) ∙ sym (append-none (with_link p.link (links trace)));
+      distinct = subst AreDistinct (sym names_same) a.distinct;
+      views_are = views_after;
+      untouched = λ l e. let u = a.untouched l (not_with l p.link (links trace) e).0 in record { free_is = u.free_is; last_due_is = u.last_due_is; virtual_time_is = u.virtual_time_is };
+      flows_are = flow_after;
+      as_many = length-set flows flow (pushed (waiting_of p) (flow_at flows flow)) ∙ a.as_many;
+      elsewhere = elsewhere_after;
+      bound = let b = a.bound in let f = flow_is in omega arith;
+      homes_are = λ g lt. let h = a.homes_are g lt in (h.0, h.1, home-after keys views k v there v' same_link same_slots g h.0 h.2);
+      as_many_homes = a.as_many_homes;
+      slots_home = slots_home-after keys views k v there v' same_link same_slots a.slots_home;
+      pending_is = a.pending_is;
+      accepted_is = ap (λ n. n + 1) a.accepted_is ∙ sym (counted-once is_arrival (arrived p) trace refl);
+    }

@@ -1,0 +1,270 @@
+-- All parts agree with a packet that is accepted.
+use Rattle.std.proofs.Common.{◌≡◌, ◌∙◌, ◌≤◌, ◌<◌, ◌⊎◌, ℕ, zero, suc, ◌+◌, Bool, true, false, cond, ◌&&◌, List, [], ◌∷◌, ◌++◌, map, set, refl, ap, sym, subst, length, arith, ⊎_elim, inl, inr}
+use Rattle.std.specs.Prelude.{Some, None, nat_eq, nat_le, slice_get, option_map}
+use Rattle.std.proofs.lemmas.Bool.{cases_eq, cases_lt}
+use Rattle.dn_types.specs.Calls.{accept}
+use Rattle.dn_types.specs.Configuration.{Settings}
+use Rattle.dn_types.specs.Flows.{Treatment}
+use Rattle.dn_types.specs.Links.{free}
+use Rattle.dn_types.specs.SharedLinks.{opening, waiting, next_packet}
+use Rattle.dn_types.specs.Starts.{next_start, start_at}
+use Rattle.dn_types.specs.Trace.{Link, own, shared, Accepted, Event, opened, arrived, backlog, links, with_link, is_of}
+use Rattle.dn_types.specs.Wf2q.{Stamped, scaled, start_tag_on_arrival}
+use Rattle.dn_types.specs.declared.delivery.Delivery.{Delivery}
+use Rattle.dn_types.specs.declared.flow_key.FlowKey.{FlowKey}
+use Rattle.dn_types.specs.declared.packet.Packet.{Packet}
+use Rattle.dn_types.specs.declared.rule.Rule.{Rule}
+use Rattle.dn_flows.specs.Table.{FlowState, flow_at, pushed}
+use Rattle.dn_flows.specs.declared.waiting.Waiting.{Waiting}
+use Rattle.dn_flows.proofs.Views.{flow_after_set}
+use Rattle.dn_wf2q.specs.Schedule.{Flow, Schedule, flow_at as slot_at, waiting_of as waiting_in, joined_by, stamped}
+use Rattle.dn_shaper.specs.declared.parts.Home.{Home}
+use Rattle.dn_shaper.specs.declared.parts.Parts.{Parts}
+use Rattle.dn_shaper.specs.Agreement.{AgreesWith, IsAt, IsHomeOf, link_names}
+use Rattle.dn_shaper.specs.Arriving.{begun_flows, begun_time, Arrives, ArrivesOn, ArrivesAt}
+use Rattle.dn_shaper.specs.Starting.{IsFlowWithin, Within}
+use Rattle.dn_shaper.specs.Views.{LinkView, views_of, home, waiting_of, stamped_of, at_slot, dues, due_of}
+use Rattle.dn_shaper.proofs.Arrived.{arrived-agrees}
+use Rattle.dn_shaper.proofs.Events.{eq-yes}
+use Rattle.dn_shaper.proofs.Next.{home-here, next_exists}
+use Rattle.dn_shaper.proofs.Opened.{opened-agrees}
+use Rattle.dn_shaper.proofs.Places.{get-set, get-set-other, map-set, map-set-same, sum-set, length-more}
+use Rattle.dn_types.proofs.Settling.{next_packet-first}
+use Rattle.dn_shaper.proofs.Waiting.{empty-all}
+use Rattle.std.proofs.lemmas.Bool.{eqb-true}
+use Rattle.dn_shaper.specs.Views.{waits_in_all}
+
+pub set-set : {X : Type 0} (xs : List X) (k : ℕ) (x y : X) → set (set xs k x) k y ≡ set xs k y
+set-set [] k x y = refl
+set-set (z ∷ xs) zero x y = refl
+set-set (z ∷ xs) (suc k) x y = λ i. z ∷ set-set xs k x y i
+
+pub set-self : {X : Type 0} (xs : List X) (k : ℕ) (x : X) → slice_get xs k ≡ Some x → set xs k x ≡ xs
+set-self [] k x e = absurd cc
+set-self (z ∷ xs) zero x e = let same : z ≡ x = cc in λ i. sym same i ∷ xs
+set-self (z ∷ xs) (suc k) x e = λ i. z ∷ set-self xs k x e i
+
+set-beyond : {X : Type 0} (xs : List X) (k : ℕ) (x : X) → length xs ≤ k → set xs k x ≡ xs
+set-beyond [] k x le = refl
+set-beyond (z ∷ xs) zero x le = absurd (omega arith)
+set-beyond (z ∷ xs) (suc k) x le = λ i. z ∷ set-beyond xs k x (omega arith) i
+
+length-mapped : (slot : ℕ) (ps : List Accepted) → length (map (at_slot slot) (stamped_of ps)) ≡ length ps
+length-mapped slot [] = refl
+length-mapped slot (p ∷ ps) = ap suc (length-mapped slot ps)
+
+-- The link's view where a busy period has begun, if one has.
+abbrev begun_view : Bool → LinkView → LinkView
+begun_view idle v = record { link = v.link; value = v.value; waits = v.waits; schedule = record { flows = begun_flows idle v.schedule; virtual_time = begun_time idle v.schedule; room = v.schedule.room; arrivals = v.schedule.arrivals; picks = v.schedule.picks; moves = v.schedule.moves }; slots = v.slots }
+
+module _ (settings : Settings) (at : ℕ) (h : Home) (flow len weight : ℕ) (idle : Bool) (old new : Parts) (s : ArrivesAt h flow len weight idle old new)
+    (more : List Link) (trace : List Event) (a : AgreesWith old more trace)
+    (within : flow < length old.flows.keys) (at_home : slice_get old.homes.items flow ≡ Some h)
+    (idle_is : idle ≡ (nat_eq s.view.waits 0 && nat_le s.view.value.free at)) where
+  the_home : IsHomeOf flow (home old.flows.keys flow) (views_of old) h
+  the_home =
+      let g = a.homes_are flow within in
+      let both : Some g.0 ≡ Some h = sym g.1 ∙ at_home in
+      let same : g.0 ≡ h = cc in
+      subst (λ (x : Home). IsHomeOf flow (home old.flows.keys flow) (views_of old) x) same g.2
+
+  same_view : the_home.view ≡ s.view
+  same_view = let both : Some the_home.view ≡ Some s.view = sym the_home.there ∙ s.there in cc
+
+  pub link-home : home old.flows.keys flow ≡ s.view.link
+  link-home = sym the_home.link_is ∙ ap (λ (v : LinkView). v.link) same_view
+
+  pub slot-home : (pipe : ℕ) → s.view.link ≡ shared pipe → slice_get s.view.slots h.slot ≡ Some flow
+  slot-home pipe is = (home-here old.rule old.accepted old.flows.keys old.homes.items (views_of old) old.flows.flows old.line.pending more trace a h.place s.view s.there flow h the_home link-home).1 pipe is
+
+  abbrev l : Link
+  l = s.view.link
+
+  opens_there : idle ≡ (nat_eq (waiting l trace) 0 && nat_le (free l trace) at)
+  opens_there = let b = a.views_are h.place s.view s.there in idle_is ∙ (λ i. nat_eq (b.waits_are i) 0 && nat_le (b.free_is i) at)
+
+  abbrev before : List Event
+  before = opening l at trace
+
+  before_is : before ≡ cond idle (opened l ∷ trace) trace
+  before_is = ap (λ b. cond b (opened l ∷ trace) trace) (sym opens_there)
+
+  opened_if : (b : Bool) → IsAt old.rule old.accepted old.flows.keys old.homes.items (set (views_of old) h.place (begun_view b s.view)) old.flows.flows old.line.pending more (cond b (opened l ∷ trace) trace)
+  opened_if true = opened-agrees old.rule old.accepted old.flows.keys old.homes.items (views_of old) old.flows.flows old.line.pending more trace a h.place s.view s.there (begun_view true s.view) refl refl refl refl (λ pipe is. (refl, refl))
+  opened_if false = subst (λ (vs : List LinkView). IsAt old.rule old.accepted old.flows.keys old.homes.items vs old.flows.flows old.line.pending more trace) (sym (set-self (views_of old) h.place s.view s.there)) a
+
+  opened_now : IsAt old.rule old.accepted old.flows.keys old.homes.items (set (views_of old) h.place (begun_view idle s.view)) old.flows.flows old.line.pending more before
+  opened_now = subst (λ (t : List Event). IsAt old.rule old.accepted old.flows.keys old.homes.items (set (views_of old) h.place (begun_view idle s.view)) old.flows.flows old.line.pending more t) (sym before_is) (opened_if idle)
+
+  links_before : (b : Bool) → links (cond b (opened l ∷ trace) trace) ≡ links trace
+  links_before true = refl
+  links_before false = refl
+
+  free_before : (b : Bool) → free l (cond b (opened l ∷ trace) trace) ≡ free l trace
+  free_before true = refl
+  free_before false = refl
+
+  waiting_before : (b : Bool) → waiting l (cond b (opened l ∷ trace) trace) ≡ waiting l trace
+  waiting_before true = refl
+  waiting_before false = refl
+
+  pub free-then : free l before ≡ free l trace
+  free-then = ap (free l) before_is ∙ free_before idle
+
+  pub waiting-then : waiting l before ≡ waiting l trace
+  waiting-then = ap (waiting l) before_is ∙ waiting_before idle
+
+  module _ (packet : Packet) (how : Treatment) (len_is : packet.len ≡ len) (weight_is : how.weight ≡ weight) (made : link_names (views_of old) ≡ with_link l (links trace)) where
+    abbrev pub the_packet : Accepted
+    the_packet = accept l packet flow how before
+
+    stamped_is : (pipe : ℕ) → l ≡ shared pipe → stamped h.slot (slot_at (begun_flows idle s.view.schedule) h.slot) (begun_time idle s.view.schedule) len weight ≡ at_slot h.slot the_packet.stamped
+    stamped_is pipe is =
+        let c = (opened_now.views_are h.place (begun_view idle s.view) (get-set (views_of old) h.place s.view (begun_view idle s.view) s.there)).schedule_is pipe is in
+        let x = c.slots_are h.slot flow (slot-home pipe is) in
+        let count : length (slot_at (begun_flows idle s.view.schedule) h.slot).backlog ≡ length (backlog l flow before) = ap (λ (q : List Stamped). length q) x.backlog_is ∙ length-mapped h.slot (backlog l flow before) in
+        λ i. record { flow = h.slot; len = sym len_is i; weight = sym weight_is i; start_tag = start_tag_on_arrival (nat_eq (count i) 0) (x.last_finish_is i) (c.virtual_time_is i); finish_tag = start_tag_on_arrival (nat_eq (count i) 0) (x.last_finish_is i) (c.virtual_time_is i) + scaled (sym len_is i) (sym weight_is i) }
+
+    arrival : (pipe : ℕ) → l ≡ shared pipe → (slot : ℕ) × (slice_get s.view.slots slot ≡ Some flow) × (slot < length (begun_flows idle s.view.schedule)) × (s.view'.schedule.flows ≡ set (begun_flows idle s.view.schedule) slot (joined_by (slot_at (begun_flows idle s.view.schedule) slot) (at_slot slot the_packet.stamped))) × (s.view'.schedule.virtual_time ≡ begun_time idle s.view.schedule)
+    arrival pipe is =
+        let r = subst (ArrivesOn h.slot len weight idle s.view s.view') is s.joins.arrives in
+        (h.slot, slot-home pipe is, in_range r, r.flows ∙ ap (λ (x : Stamped). set (begun_flows idle s.view.schedule) h.slot (joined_by (slot_at (begun_flows idle s.view.schedule) h.slot) x)) (stamped_is pipe is), r.virtual_time)
+      where
+        in_range : Arrives h.slot len weight idle s.view.schedule s.view'.schedule → h.slot < length (begun_flows idle s.view.schedule)
+        in_range r = ⊎_elim (λ lt. lt) (λ ge. absurd (let same = ap (λ (fs : List Flow). waiting_in fs) (r.flows ∙ set-beyond (begun_flows idle s.view.schedule) h.slot (joined_by (slot_at (begun_flows idle s.view.schedule) h.slot) (stamped h.slot (slot_at (begun_flows idle s.view.schedule) h.slot) (begun_time idle s.view.schedule) len weight)) ge) in let one = r.one_more in omega arith)) (cases_lt h.slot (length (begun_flows idle s.view.schedule)))
+
+    made_then : link_names (set (views_of old) h.place (begun_view idle s.view)) ≡ with_link l (links before)
+    made_then =
+        map-set-same (λ (x : LinkView). x.link) (views_of old) h.place s.view (begun_view idle s.view) s.there refl
+        ∙ made
+        ∙ ap (λ (ls : List Link). with_link l ls) (sym (ap links before_is ∙ links_before idle))
+
+    base : IsAt old.rule (old.accepted + 1) old.flows.keys old.homes.items (set (set (views_of old) h.place (begun_view idle s.view)) h.place s.view') (set old.flows.flows flow (pushed (waiting_of the_packet) (flow_at old.flows.flows flow))) old.line.pending [] (arrived the_packet ∷ before)
+    base =
+        arrived-agrees old.rule old.accepted old.flows.keys old.homes.items (set (views_of old) h.place (begun_view idle s.view)) old.flows.flows old.line.pending more before opened_now h.place (begun_view idle s.view) (get-set (views_of old) h.place s.view (begun_view idle s.view) s.there)
+        flow within link-home made_then the_packet refl refl (sym opened_now.accepted_is) s.view' s.joins.link s.joins.value s.joins.waits s.joins.slots arrival
+
+    -- All parts agree with the arrival.
+    pub arrives-agree : AgreesWith new [] (arrived the_packet ∷ before)
+    arrives-agree =
+        let w : waiting_of the_packet ≡ record { packet = old.accepted; len = len } = λ i. record { packet = sym opened_now.accepted_is i; len = len_is i } in
+        subst (λ (r : Rule). IsAt r new.accepted new.flows.keys new.homes.items (views_of new) new.flows.flows new.line.pending [] (arrived the_packet ∷ before)) (sym s.rule)
+        (subst (λ (x : ℕ × List FlowKey). IsAt old.rule x.0 x.1 new.homes.items (views_of new) new.flows.flows new.line.pending [] (arrived the_packet ∷ before)) (λ i. (sym s.accepted i, sym s.keys i))
+        (subst (λ (x : List Home × List LinkView). IsAt old.rule (old.accepted + 1) old.flows.keys x.0 x.1 new.flows.flows new.line.pending [] (arrived the_packet ∷ before)) (λ i. ((sym s.homes i).items, sym s.views_are i))
+        (subst (λ (x : List FlowState × List Delivery). IsAt old.rule (old.accepted + 1) old.flows.keys old.homes.items (set (views_of old) h.place s.view') x.0 x.1 [] (arrived the_packet ∷ before)) (λ i. ((ap (λ (x : Waiting). set old.flows.flows flow (pushed x (flow_at old.flows.flows flow))) w ∙ sym s.flows_are) i, (sym s.line i).pending))
+        (subst (λ (vs : List LinkView). IsAt old.rule (old.accepted + 1) old.flows.keys old.homes.items vs (set old.flows.flows flow (pushed (waiting_of the_packet) (flow_at old.flows.flows flow))) old.line.pending [] (arrived the_packet ∷ before)) (set-set (views_of old) h.place (begun_view idle s.view) s.view') base))))
+
+    -- Where the link was idle, the packet is the next one.
+    pub next-alone : idle ≡ true → (p : Accepted) → next_packet l (arrived the_packet ∷ before) ≡ Some p → p ≡ the_packet
+    next-alone yes' p next =
+        let first = next_packet-first l (arrived the_packet ∷ before) p next in
+        let z : waiting l before ≡ 0 = waiting-then ∙ zero_if (waiting l trace) (left (nat_eq (waiting l trace) 0) (nat_le (free l trace) at) (sym opens_there ∙ yes')) in
+        only (is_of l first.0 the_packet) (backlog l first.0 before) (empty-all l before z first.0) first.1
+      where
+        left : (x y : Bool) → (x && y) ≡ true → x ≡ true
+        left true y e = refl
+        left false y e = absurd cc
+
+        zero_if : (n : ℕ) → nat_eq n 0 ≡ true → n ≡ 0
+        zero_if n e = eqb-true n 0 e
+
+        only : (b : Bool) (q : List Accepted) → q ≡ [] → slice_get (cond b (q ++ the_packet ∷ []) q) 0 ≡ Some p → p ≡ the_packet
+        only true [] e f = let same : the_packet ≡ p = cc in sym same
+        only false [] e f = absurd cc
+        only b (x ∷ q) e f = absurd (let n = ap (λ (ys : List Accepted). length ys) e in omega arith)
+
+  -- Where packets wait and none is due, the link is free later.
+  pub not-free : 0 < s.view.waits → next_start settings at l trace ≡ None → nat_le (free l trace) at ≡ false
+  not-free some none = by (nat_le (free l trace) at) refl
+    where
+      p : (x : Accepted) × (next_packet l trace ≡ Some x)
+      p = next_exists old.rule old.accepted old.flows.keys old.homes.items (views_of old) old.flows.flows old.line.pending more trace a h.place s.view s.there some
+
+      by : (b : Bool) → nat_le (free l trace) at ≡ b → nat_le (free l trace) at ≡ false
+      by false e = e
+      by true e =
+          let there : next_start settings at l trace ≡ Some (start_at settings l p.0 (free l trace)) =
+          ap (λ b. cond b (option_map (λ (x : Accepted). start_at settings l x (free l trace)) (next_packet l trace)) None) e
+          ∙ ap (option_map (λ (x : Accepted). start_at settings l x (free l trace))) p.1 in
+          let t = sym none ∙ there in
+          absurd cc
+
+  -- So the packet starts at once exactly where the link was idle.
+  pub starts-at-once : next_start settings at l trace ≡ None → nat_le (free l before) at ≡ idle
+  starts-at-once none = ap (λ m. nat_le m at) free-then ∙ by (cases_lt 0 s.view.waits)
+    where
+      by : (0 < s.view.waits) ⊎ (s.view.waits ≤ 0) → nat_le (free l trace) at ≡ idle
+      by (inl some) =
+          let f = not-free some none in
+          f ∙ sym (opens_there ∙ ap (λ t. nat_eq (waiting l trace) 0 && t) f ∙ and_false (nat_eq (waiting l trace) 0))
+        where
+          and_false : (x : Bool) → (x && false) ≡ false
+          and_false true = refl
+          and_false false = refl
+      by (inr zero_waits) =
+          let z : nat_eq s.view.waits 0 ≡ true = eq-yes s.view.waits 0 (omega arith) in
+          let e = (a.views_are h.place s.view s.there).free_is in
+          sym (idle_is ∙ ap (λ t. t && nat_le s.view.value.free at) z ∙ ap (λ m. nat_le m at) e)
+
+-- ---- Counts
+
+module _ (h : Home) (flow len weight : ℕ) (idle : Bool) (old new : Parts) (s : ArrivesAt h flow len weight idle old new) where
+  pub arrives-waiting : waits_in_all (views_of new) ≡ waits_in_all (views_of old) + 1
+  arrives-waiting =
+      let e = ap (λ (vs : List LinkView). waits_in_all vs) s.views_are in
+      let w = sum-set (λ (v : LinkView). v.waits) (views_of old) h.place s.view s.view' s.there in
+      let one = s.joins.waits in
+      omega arith
+
+  pub arrives-dues : dues (views_of new) ≡ set (dues (views_of old)) h.place (due_of s.view')
+  arrives-dues = ap (λ (vs : List LinkView). dues vs) s.views_are ∙ map-set due_of (views_of old) h.place s.view'
+
+  pub arrives-names : link_names (views_of new) ≡ link_names (views_of old)
+  arrives-names = ap (λ (vs : List LinkView). link_names vs) s.views_are ∙ map-set-same (λ (x : LinkView). x.link) (views_of old) h.place s.view s.view' s.there s.joins.link
+
+  pub arrives-within : (n : ℕ) → flow < length old.flows.flows → old.waiting + 1 ≤ old.line.room → Within n old → Within (n + 1) new
+  arrives-within n lt room w = record {
+    waiting_is = let a = arrives-waiting in let b = s.waiting in let c = w.waiting_is in omega arith;
+    room = let b = s.waiting in let c = ap {B = ℕ} (λ x. x.room) s.line in omega arith;
+    pushed = let b = s.waiting in let c = ap {B = ℕ} (λ x. x.pushed) s.line in let d = w.pushed in omega arith;
+    sums = let b = s.waiting in let c = ap {B = ℕ} (λ x. length x.pending) s.line in let d = w.sums in omega arith;
+    flows_are = flows_within;
+    arrivals = arrivals_within;
+    accepted = let a = s.accepted in let b = w.accepted in omega arith;
+  }
+    where
+      wider : (x : FlowState) → IsFlowWithin n x → IsFlowWithin (n + 1) x
+      wider x i = let a = i.0 in let b = i.1 in let c = i.2 in (omega arith, omega arith, omega arith)
+
+      pushed_within : (x : FlowState) (p : Waiting) → IsFlowWithin n x → IsFlowWithin (n + 1) (pushed p x)
+      pushed_within x p i = let a = i.0 in let b = i.1 in let c = i.2 in let l = length-more x.backlog p in (omega arith, omega arith, omega arith)
+
+      now_at : (g : ℕ) → flow_at new.flows.flows g ≡ cond (nat_eq flow g) (pushed (record { packet = old.accepted; len = len }) (flow_at old.flows.flows flow)) (flow_at old.flows.flows g)
+      now_at g = ap (λ (fs : List FlowState). flow_at fs g) s.flows_are ∙ flow_after_set old.flows.flows flow g (pushed (record { packet = old.accepted; len = len }) (flow_at old.flows.flows flow)) lt
+
+      flows_within : (g : ℕ) → IsFlowWithin (n + 1) (flow_at new.flows.flows g)
+      flows_within g = subst (λ (x : FlowState). IsFlowWithin (n + 1) x) (sym (now_at g)) (by (nat_eq flow g))
+        where
+          by : (b : Bool) → IsFlowWithin (n + 1) (cond b (pushed (record { packet = old.accepted; len = len }) (flow_at old.flows.flows flow)) (flow_at old.flows.flows g))
+          by true = pushed_within (flow_at old.flows.flows flow) (record { packet = old.accepted; len = len }) (w.flows_are flow)
+          by false = wider (flow_at old.flows.flows g) (w.flows_are g)
+
+      arrivals_within : (j : ℕ) (v : LinkView) → slice_get (views_of new) j ≡ Some v → v.schedule.arrivals ≤ n + 1
+      arrivals_within j v e = by (cases_eq j h.place)
+        where
+          there_now : slice_get (set (views_of old) h.place s.view') j ≡ Some v
+          there_now = ap (λ (vs : List LinkView). slice_get vs j) (sym s.views_are) ∙ e
+
+          more_arrivals : (l : Link) → ArrivesOn h.slot len weight idle s.view s.view' l → s.view'.schedule.arrivals ≤ s.view.schedule.arrivals + 1
+          more_arrivals (own pipe f) r = let e = ap {B = ℕ} (λ (x : Schedule). x.arrivals) r in omega arith
+          more_arrivals (shared pipe) r = let e = r.arrivals in omega arith
+
+          by : (j ≡ h.place) ⊎ (j ≡ h.place → ⊥) → v.schedule.arrivals ≤ n + 1
+          by (inl same) =
+              let both : Some s.view' ≡ Some v = sym (get-set (views_of old) h.place s.view s.view' s.there) ∙ ap (slice_get (set (views_of old) h.place s.view')) (sym same) ∙ there_now in
+              let is : s.view' ≡ v = cc in
+              let e1 = ap {B = ℕ} (λ (x : LinkView). x.schedule.arrivals) is in
+              let m = more_arrivals s.view.link s.joins.arrives in
+              let le = w.arrivals h.place s.view s.there in
+              omega arith
+          by (inr ne) = let le = w.arrivals j v (sym (get-set-other (views_of old) h.place j s.view' ne) ∙ there_now) in omega arith

@@ -1,0 +1,79 @@
+-- A new shaper stands after no call.
+use Rattle.std.proofs.Common.{◌≡◌, ◌∙◌, ◌^◌, ℕ, List, [], map, refl, ap, sym, subst, length, arith}
+use Rattle.std.specs.Prelude.{Some, None, slice_get}
+use Rattle.std.proofs.lemmas.List.Elements.{All-nil}
+use Rattle.dn_types.specs.declared.delivery.Delivery.{Delivery}
+use Rattle.dn_types.specs.declared.flow_key.FlowKey.{FlowKey}
+use Rattle.dn_types.specs.declared.rule.Rule.{Rule}
+use Rattle.dn_types.specs.declared.target.Target.{Target}
+use Rattle.dn_flows.specs.Table.{FlowState, flow_at}
+use Rattle.dn_shaper.specs.declared.due.Due.{Due}
+use Rattle.dn_shaper.specs.declared.parts.Home.{Home}
+use Rattle.dn_shaper.specs.declared.state.State.{State}
+use Rattle.dn_shaper.specs.Agreement.{AgreesWith, IsAt}
+use Rattle.dn_shaper.specs.Due.{Holds, due_at, backlogged}
+use Rattle.dn_shaper.specs.Settings.{settings_of}
+use Rattle.dn_shaper.specs.Standing.{StandsAt, IsSound}
+use Rattle.dn_shaper.specs.Starting.{IsFlowWithin, Within}
+use Rattle.dn_shaper.specs.Views.{LinkView, view_of, views_of, dues, waits_in_all}
+
+nothing-agrees : (rule : Rule) → IsAt rule 0 [] [] [] [] [] [] []
+nothing-agrees rule = record {
+  links_are = refl;
+  distinct = λ i j l m e f ne. absurd cc;
+  views_are = λ k v e. absurd cc;
+  untouched = λ l e. record { free_is = refl; last_due_is = refl; virtual_time_is = refl };
+  flows_are = λ g. record { backlog_is = refl; lost_is = refl; full_is = refl; started_is = refl; discarded_is = refl };
+  as_many = refl;
+  elsewhere = λ g l e. refl;
+  bound = omega arith;
+  homes_are = λ g lt. absurd (omega arith);
+  as_many_homes = refl;
+  slots_home = λ k v e slot g at. absurd cc;
+  pending_is = refl;
+  accepted_is = refl;
+}
+
+module _ (s : State) (accepted : s.parts.accepted ≡ 0) (keys : s.parts.flows.keys ≡ []) (flows : s.parts.flows.flows ≡ []) (homes : s.parts.homes.items ≡ []) (links : s.parts.links.items ≡ []) (waiting : s.parts.waiting ≡ 0)
+    (pending : s.parts.line.pending ≡ []) (pushed : s.parts.line.pushed ≡ 0) (empty : s.due.keys ≡ []) (moves : s.due.moves ≡ 0) (none : (t : Target) → settings_of s.configured t ≡ None) (now : s.now ≡ 0) (calls : s.calls ≡ 0) where
+  views : views_of s.parts ≡ []
+  views = ap (map view_of) links
+
+  agrees : AgreesWith s.parts [] []
+  agrees =
+      subst (λ (x : ℕ × List FlowKey × List FlowState). IsAt s.parts.rule x.0 x.1 s.parts.homes.items (views_of s.parts) x.2 s.parts.line.pending [] []) (λ i. (sym accepted i, sym keys i, sym flows i))
+      (subst (λ (x : List Home × List LinkView × List Delivery). IsAt s.parts.rule 0 [] x.0 x.1 [] x.2 [] []) (λ i. (sym homes i, sym views i, sym pending i)) (nothing-agrees s.parts.rule))
+
+  pub begins : StandsAt s []
+  begins = record { calls_are = calls; now_is = now; settings_are = λ i t. none t i; keys_are = keys; agrees = agrees }
+
+  flow-none : (g : ℕ) (n : ℕ) → IsFlowWithin n (flow_at s.parts.flows.flows g)
+  flow-none g n = subst (λ (fs : List FlowState). IsFlowWithin n (flow_at fs g)) (sym flows) (omega arith, omega arith, omega arith)
+
+  within-none : (n : ℕ) → Within n s.parts
+  within-none n = record {
+    waiting_is = waiting ∙ sym (ap (λ (vs : List LinkView). waits_in_all vs) views);
+    room = omega arith;
+    pushed = omega arith;
+    sums = let e = ap (λ (ds : List Delivery). length ds) pending in omega arith;
+    flows_are = λ g. flow-none g n;
+    arrivals = λ k v e. absurd (let z : None ≡ Some v = sym (ap (λ (vs : List LinkView). slice_get vs k) views) ∙ e in cc);
+    accepted = omega arith;
+  }
+
+  held : Holds (dues (views_of s.parts)) s.due.keys
+  held = subst (λ (x : List LinkView × List Due). Holds (dues x.0) x.1) (λ i. (sym views i, sym empty i)) (record { once = λ place. refl; moments = All-nil (λ k. due_at [] k.place ≡ Some k.moment) })
+
+  pub begins-sound : IsSound s
+  begins-sound = record {
+    kept = record {
+      agrees = ([], [], agrees);
+      within = within-none (2 ^ 62);
+      held = held;
+      counted = ap (λ (ks : List Due). length ks) empty ∙ sym (ap (λ (vs : List LinkView). backlogged (dues vs)) views);
+      places = let e = ap (λ (vs : List LinkView). length vs) views in omega arith;
+    };
+    within = within-none s.calls;
+    moves = omega arith;
+    early = omega arith;
+  }

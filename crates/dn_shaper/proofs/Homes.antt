@@ -1,0 +1,51 @@
+-- Homes of flows and slots of links stay while one link changes.
+use Rattle.std.proofs.Common.{◌≡◌, ◌∙◌, ◌≤◌, ◌<◌, ◌⊎◌, ℕ, List, set, ap, sym, arith, ⊎_elim, inl, inr}
+use Rattle.std.specs.Prelude.{Some, slice_get}
+use Rattle.std.proofs.lemmas.Bool.{cases_eq, cases_lt}
+use Rattle.dn_types.specs.declared.flow_key.FlowKey.{FlowKey}
+use Rattle.dn_shaper.specs.declared.parts.Home.{Home}
+use Rattle.dn_shaper.specs.Slots.{Ascends}
+use Rattle.dn_shaper.specs.Views.{LinkView, home}
+use Rattle.dn_shaper.specs.Agreement.{IsHomeOf, AreSlotsAtHome}
+use Rattle.dn_shaper.proofs.Places.{get-set, get-set-other}
+use Rattle.dn_shaper.proofs.Slots.{flow-at, flows-rise}
+
+pub home-after : (keys : List FlowKey) (views : List LinkView) (k : ℕ) (v : LinkView) → slice_get views k ≡ Some v → (v' : LinkView) → v'.link ≡ v.link → v'.slots ≡ v.slots → (g : ℕ) (h : Home) → IsHomeOf g (home keys g) views h → IsHomeOf g (home keys g) (set views k v') h
+home-after keys views k v there v' same_link same_slots g h is = by (cases_eq h.place k)
+  where
+    by : (h.place ≡ k) ⊎ (h.place ≡ k → ⊥) → IsHomeOf g (home keys g) (set views k v') h
+    by (inl same) =
+        let both : Some v ≡ Some is.view = sym there ∙ ap (slice_get views) (sym same) ∙ is.there in
+        let one : v ≡ is.view = cc in
+        record {
+          view = v';
+          there = ap (slice_get (set views k v')) same ∙ get-set views k v v' there;
+          link_is = same_link ∙ ap (λ (x : LinkView). x.link) one ∙ is.link_is;
+          slot_is = λ pipe e. ap (λ (fs : List ℕ). slice_get fs h.slot) (same_slots ∙ ap (λ (x : LinkView). x.slots) one) ∙ is.slot_is pipe e;
+        }
+    by (inr ne) = record {
+      view = is.view;
+      there = get-set-other views k h.place v' ne ∙ is.there;
+      link_is = is.link_is;
+      slot_is = is.slot_is;
+    }
+
+-- Different slots have different flows.
+pub slots-apart : (slots : List ℕ) → Ascends 0 slots → (i j f g : ℕ) → slice_get slots i ≡ Some f → slice_get slots j ≡ Some g → (i ≡ j → ⊥) → f ≡ g → ⊥
+slots-apart slots up i j f g at_i at_j ne same =
+    let x = flow-at 0 slots i f at_i in
+    let y = flow-at 0 slots j g at_j in
+    ⊎_elim (λ below. let r = flows-rise 0 slots i j up below in absurd (omega arith)) (λ above. let r = flows-rise 0 slots j i up (strict above) in absurd (omega arith)) (cases_lt i j)
+  where
+    strict : j ≤ i → j < i
+    strict le = ⊎_elim (λ lt. lt) (λ ge. absurd (ne (omega arith))) (cases_lt j i)
+
+pub slots_home-after : (keys : List FlowKey) (views : List LinkView) (k : ℕ) (v : LinkView) → slice_get views k ≡ Some v → (v' : LinkView) → v'.link ≡ v.link → v'.slots ≡ v.slots → AreSlotsAtHome keys views → AreSlotsAtHome keys (set views k v')
+slots_home-after keys views k v there v' same_link same_slots h j w e slot g at = by (cases_eq j k)
+  where
+    by : (j ≡ k) ⊎ (j ≡ k → ⊥) → home keys g ≡ w.link
+    by (inl same) =
+        let both : Some v' ≡ Some w = sym (get-set views k v v' there) ∙ ap (slice_get (set views k v')) (sym same) ∙ e in
+        let is : v' ≡ w = cc in
+        h k v there slot g (ap (λ (fs : List ℕ). slice_get fs slot) (sym same_slots ∙ ap (λ (x : LinkView). x.slots) is) ∙ at) ∙ sym same_link ∙ ap (λ (x : LinkView). x.link) is
+    by (inr ne) = h j w (sym (get-set-other views k j v' ne) ∙ e) slot g at

@@ -1,0 +1,113 @@
+-- All parts agree with the beginning of a busy period of a link.
+use Rattle.std.proofs.Common.{◌≡◌, ◌∙◌, ◌⊎◌, ℕ, zero, suc, Bool, true, false, cond, List, [], ◌∷◌, set, refl, ap, sym, subst, length, arith, inl, inr}
+use Rattle.std.specs.Prelude.{Some, slice_get}
+use Rattle.std.proofs.lemmas.Bool.{cases_eq}
+use Rattle.dn_types.specs.Trace.{Link, shared, link_eq, Event, opened, is_start_of, is_loss_of, is_refusal_of, is_arrival}
+use Rattle.dn_types.specs.Links.{free, last_due}
+use Rattle.dn_types.specs.SharedLinks.{virtual_time, last_finish_tag, waiting}
+use Rattle.dn_types.specs.declared.delivery.Delivery.{Delivery}
+use Rattle.dn_types.specs.declared.flow_key.FlowKey.{FlowKey}
+use Rattle.dn_types.specs.declared.rule.Rule.{Rule}
+use Rattle.dn_flows.specs.Table.{FlowState}
+use Rattle.dn_shaper.specs.declared.parts.Home.{Home}
+use Rattle.dn_shaper.specs.Views.{LinkView}
+use Rattle.dn_shaper.specs.Agreement.{AreDistinct, IsAt, IsLinkAt, IsScheduleAt, link_names}
+use Rattle.dn_shaper.proofs.Events.{uncounted}
+use Rattle.dn_shaper.proofs.Places.{get-set, get-set-other, map-set-same}
+use Rattle.dn_types.proofs.Settled.{link_eq-refl}
+use Rattle.dn_wf2q.specs.Schedule.{Flow, flow_at as slot_at, forgotten, without_tag}
+use Rattle.dn_shaper.specs.Slots.{Ascends, top}
+use Rattle.dn_shaper.proofs.Homes.{home-after, slots_home-after}
+use Rattle.dn_shaper.proofs.Next.{distinct_views}
+
+forgotten-at : (fs : List Flow) (i : ℕ) → slot_at (forgotten fs) i ≡ without_tag (slot_at fs i)
+forgotten-at [] i = refl
+forgotten-at (f ∷ fs) zero = refl
+forgotten-at (f ∷ fs) (suc i) = forgotten-at fs i
+
+module _ (rule : Rule) (accepted : ℕ) (keys : List FlowKey) (homes : List Home) (views : List LinkView) (flows : List FlowState) (pending : List Delivery) (more : List Link) (trace : List Event) (a : IsAt rule accepted keys homes views flows pending more trace) where
+  module _ (k : ℕ) (v : LinkView) (there : slice_get views k ≡ Some v) (v' : LinkView) (same_link : v'.link ≡ v.link) (same_value : v'.value ≡ v.value) (same_waits : v'.waits ≡ v.waits) (same_slots : v'.slots ≡ v.slots)
+      (begun : (pipe : ℕ) → v.link ≡ shared pipe → (v'.schedule.flows ≡ forgotten v.schedule.flows) × (v'.schedule.virtual_time ≡ 0)) where
+    schedule_after : (pipe : ℕ) → v.link ≡ shared pipe → IsScheduleAt v.link (opened v.link ∷ trace) v'.schedule v.slots
+    schedule_after pipe is =
+        let c = (a.views_are k v there).schedule_is pipe is in
+        let b = begun pipe is in
+        record {
+          virtual_time_is = b.1 ∙ sym (ap (λ t. cond t 0 (virtual_time v.link trace)) (link_eq-refl v.link));
+          slots_are = λ slot g e. let s = c.slots_are slot g e in let now_at = ap (λ (fs : List Flow). slot_at fs slot) b.0 ∙ forgotten-at v.schedule.flows slot in record {
+            backlog_is = ap (λ (f : Flow). f.backlog) now_at ∙ s.backlog_is;
+            last_finish_is = ap (λ (f : Flow). f.last_finish_tag) now_at ∙ sym (ap (λ t. cond t 0 (last_finish_tag v.link g trace)) (link_eq-refl v.link));
+          };
+          beyond = λ slot le. ap (λ (fs : List Flow). slot_at fs slot) b.0 ∙ forgotten-at v.schedule.flows slot ∙ ap without_tag (c.beyond slot le);
+        }
+
+    made : IsLinkAt rule (length keys) (opened v.link ∷ trace) v'
+    made = let b = a.views_are k v there in record {
+      free_is = ap (λ x. x.free) same_value ∙ b.free_is ∙ ap (λ (l : Link). free l trace) (sym same_link);
+      last_due_is = ap (λ x. x.last_due) same_value ∙ b.last_due_is ∙ ap (λ (l : Link). last_due rule l trace) (sym same_link);
+      waits_are = same_waits ∙ b.waits_are ∙ ap (λ (l : Link). waiting l trace) (sym same_link);
+      schedule_is = λ pipe e.
+          subst (λ (x : Link × List ℕ). IsScheduleAt x.0 (opened v.link ∷ trace) v'.schedule x.1) (λ i. (sym same_link i, sym same_slots i)) (schedule_after pipe (sym same_link ∙ e));
+      ascends = subst (λ (fs : List ℕ). Ascends 0 fs) (sym same_slots) b.ascends;
+      below = let t = ap {B = ℕ} (top 0) same_slots in let le = b.below in omega arith;
+    }
+
+    other_view : (j : ℕ) (w : LinkView) → slice_get views j ≡ Some w → (j ≡ k → ⊥) → IsLinkAt rule (length keys) (opened v.link ∷ trace) w
+    other_view j w e ne =
+        let apart = distinct_views rule accepted keys homes views flows pending more trace a k v there j w e ne in
+        let b = a.views_are j w e in
+        record {
+          free_is = b.free_is;
+          last_due_is = b.last_due_is;
+          waits_are = b.waits_are;
+          schedule_is = λ pipe is. let c = b.schedule_is pipe is in record {
+            virtual_time_is = c.virtual_time_is ∙ sym (ap (λ t. cond t 0 (virtual_time w.link trace)) apart);
+            slots_are = λ slot g eg. let s = c.slots_are slot g eg in record {
+              backlog_is = s.backlog_is;
+              last_finish_is = s.last_finish_is ∙ sym (ap (λ t. cond t 0 (last_finish_tag w.link g trace)) apart);
+            };
+            beyond = c.beyond;
+          };
+          ascends = b.ascends;
+          below = b.below;
+        }
+
+    views_after : (j : ℕ) (w : LinkView) → slice_get (set views k v') j ≡ Some w → IsLinkAt rule (length keys) (opened v.link ∷ trace) w
+    views_after j w e = by (cases_eq j k)
+      where
+        by : (j ≡ k) ⊎ (j ≡ k → ⊥) → IsLinkAt rule (length keys) (opened v.link ∷ trace) w
+        by (inl same) =
+            let e' : Some v' ≡ Some w = sym (get-set views k v v' there) ∙ ap (slice_get (set views k v')) (sym same) ∙ e in
+            let is : v' ≡ w = cc in
+            subst (λ (x : LinkView). IsLinkAt rule (length keys) (opened v.link ∷ trace) x) is made
+        by (inr ne) = other_view j w (sym (get-set-other views k j v' ne) ∙ e) ne
+
+    names_same : link_names (set views k v') ≡ link_names views
+    names_same = map-set-same (λ (x : LinkView). x.link) views k v v' there same_link
+
+    pub opened-agrees : IsAt rule accepted keys homes (set views k v') flows pending more (opened v.link ∷ trace)
+    opened-agrees = record {
+      links_are = names_same ∙ a.links_are;
+      distinct = subst AreDistinct (sym names_same) a.distinct;
+      views_are = views_after;
+      untouched = λ l e. let u = a.untouched l e in record { free_is = u.free_is; last_due_is = u.last_due_is; virtual_time_is = zero_if (link_eq v.link l) u.virtual_time_is };
+      flows_are = λ g. let b = a.flows_are g in record {
+        backlog_is = b.backlog_is;
+        lost_is = b.lost_is ∙ sym (uncounted (is_loss_of g) (opened v.link) trace refl);
+        full_is = b.full_is ∙ sym (uncounted (is_refusal_of g) (opened v.link) trace refl);
+        started_is = b.started_is ∙ sym (uncounted (is_start_of g) (opened v.link) trace refl);
+        discarded_is = b.discarded_is;
+      };
+      as_many = a.as_many;
+      elsewhere = a.elsewhere;
+      bound = a.bound;
+      homes_are = λ g lt. let h = a.homes_are g lt in (h.0, h.1, home-after keys views k v there v' same_link same_slots g h.0 h.2);
+      as_many_homes = a.as_many_homes;
+      slots_home = slots_home-after keys views k v there v' same_link same_slots a.slots_home;
+      pending_is = a.pending_is;
+      accepted_is = a.accepted_is ∙ sym (uncounted is_arrival (opened v.link) trace refl);
+    }
+      where
+        zero_if : {n : ℕ} (b : Bool) → n ≡ 0 → cond b 0 n ≡ 0
+        zero_if true e = refl
+        zero_if false e = e

@@ -1,0 +1,56 @@
+-- Reserving room leaves all that a trace says.
+use Rattle.std.proofs.Common.{◌≡◌, ◌∙◌, ◌<◌, ◌⊎◌, ℕ, cond, List, set, refl, ap, sym, subst, length, arith, inl, inr}
+use Rattle.std.specs.Prelude.{Option, Some, None, Result, Ok, Err, OnOk, nat_eq, slice_get}
+use Rattle.std.proofs.lemmas.Bool.{cases_eq}
+use Rattle.dn_flows.specs.Table.{FlowState, flow_at, with_place}
+use Rattle.dn_flows.proofs.Views.{flow_after_set}
+use Rattle.dn_types.specs.Trace.{Link, shared}
+use Rattle.dn_wf2q.specs.Schedule.{room_at}
+use Rattle.dn_shaper.specs.Making.{KeepsLink, SameFlow, KeepsAt, HasRoom}
+use Rattle.dn_shaper.specs.Views.{LinkView}
+use Rattle.dn_shaper.proofs.Events.{eq-yes, eq-no}
+use Rattle.dn_shaper.proofs.Places.{get-set, get-set-other}
+
+pub same-flow : (s : FlowState) → SameFlow s s
+same-flow s = record { backlog = refl; lost = refl; full = refl; started = refl; discarded = refl }
+
+pub same-link : (v : LinkView) → KeepsLink v v
+same-link v = record { link = refl; value = refl; waits = refl; slots = refl; schedule = record { virtual_time = refl; flows = λ slot. refl; room = λ slot. omega arith; arrivals = refl } }
+
+pub same-at : (o : Option LinkView) → KeepsAt o o
+same-at None = tt
+same-at (Some v) = same-link v
+
+-- A place is reserved in one flow's queue.
+pub place-reserved : (flows : List FlowState) (flow g : ℕ) → flow < length flows → SameFlow (flow_at flows g) (flow_at (set flows flow (with_place (flow_at flows flow))) g)
+place-reserved flows flow g lt = by (cases_eq flow g)
+  where
+    now_at : flow_at (set flows flow (with_place (flow_at flows flow))) g ≡ cond (nat_eq flow g) (with_place (flow_at flows flow)) (flow_at flows g)
+    now_at = flow_after_set flows flow g (with_place (flow_at flows flow)) lt
+
+    by : (flow ≡ g) ⊎ (flow ≡ g → ⊥) → SameFlow (flow_at flows g) (flow_at (set flows flow (with_place (flow_at flows flow))) g)
+    by (inl same) =
+        let is : flow_at (set flows flow (with_place (flow_at flows flow))) g ≡ with_place (flow_at flows g) = now_at ∙ ap (λ b. cond b (with_place (flow_at flows flow)) (flow_at flows g)) (eq-yes flow g same) ∙ ap (λ i. with_place (flow_at flows i)) same in
+        subst (λ (s : FlowState). SameFlow (flow_at flows g) s) (sym is) (record { backlog = refl; lost = refl; full = refl; started = refl; discarded = refl })
+    by (inr ne) =
+        let is : flow_at (set flows flow (with_place (flow_at flows flow))) g ≡ flow_at flows g = now_at ∙ ap (λ b. cond b (with_place (flow_at flows flow)) (flow_at flows g)) (eq-no flow g ne) in
+        subst (λ (s : FlowState). SameFlow (flow_at flows g) s) (sym is) (same-flow (flow_at flows g))
+
+-- One link has more room.
+pub link-reserved : (views : List LinkView) (k : ℕ) (v w : LinkView) → slice_get views k ≡ Some v → KeepsLink v w → (place : ℕ) → KeepsAt (slice_get views place) (slice_get (set views k w) place)
+link-reserved views k v w there keeps place = by (cases_eq place k)
+  where
+    by : (place ≡ k) ⊎ (place ≡ k → ⊥) → KeepsAt (slice_get views place) (slice_get (set views k w) place)
+    by (inl same) = subst (λ (x : Option LinkView × Option LinkView). KeepsAt x.0 x.1) (λ i. (sym (ap (slice_get views) same ∙ there) i, sym (ap (slice_get (set views k w)) same ∙ get-set views k v w there) i)) keeps
+    by (inr ne) = subst (λ (o : Option LinkView). KeepsAt (slice_get views place) o) (sym (get-set-other views k place w ne)) (same-at (slice_get views place))
+
+pub on-ok : {X E : Type 0} {A B : Type 0} (r : Result X E) → (A → B) → OnOk r A → OnOk r B
+on-ok (Ok x) f a = f a
+on-ok (Err e) f a = tt
+
+-- The flow's slot has room on its link, and no other link is asked.
+pub slot-ready : (views : List LinkView) (k slot : ℕ) (v w : LinkView) → slice_get views k ≡ Some v → HasRoom slot w w.link → (x : LinkView) (pipe : ℕ) → slice_get (set views k w) k ≡ Some x → x.link ≡ shared pipe → 0 < room_at x.schedule.room slot
+slot-ready views k slot v w there room x pipe at is =
+    let both : Some w ≡ Some x = sym (get-set views k v w there) ∙ at in
+    let same : w ≡ x = cc in
+    subst (λ (l : Link). HasRoom slot x l) is (subst (λ (y : LinkView). HasRoom slot y y.link) same room)

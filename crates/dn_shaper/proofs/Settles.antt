@@ -1,0 +1,254 @@
+-- One step of the settling loop: the popped link's next packet is the first start of all links.
+use Rattle.std.proofs.Common.{◌≡◌, ◌∙◌, ◌≤◌, ◌<◌, ◌⊎◌, ◌^◌, ℕ, zero, suc, ◌+◌, Bool, true, false, cond, ◌||◌, List, [], ◌∷◌, ◌++◌, map, set, refl, ap, sym, subst, length, arith, inl, inr, All, IsPermutation}
+use Rattle.std.specs.Prelude.{Option, Some, None, nat_lt, slice_get, option_map}
+use Rattle.std.specs.List.{list_any}
+use Rattle.std.proofs.lemmas.Bool.{le-leb, cases_lt}
+use Rattle.std.proofs.lemmas.Bool.Decides.{nat_tests}
+use Rattle.std.proofs.lemmas.List.Sorted.{length_permutation}
+use Rattle.dn_heap.specs.Heap.{Heap, IsLeast}
+use Rattle.dn_types.specs.Configuration.{Settings}
+use Rattle.dn_types.specs.Links.{free}
+use Rattle.dn_types.specs.SharedLinks.{next_packet}
+use Rattle.dn_types.specs.Starts.{next_start, first_start, start_at, settle, waiting_all, settled}
+use Rattle.dn_types.specs.Trace.{Link, link_eq, pipe_of, Accepted, Event, started, Start, links}
+use Rattle.dn_types.specs.declared.delivery.Delivery.{Delivery}
+use Rattle.dn_shaper.specs.declared.due.Due.{Due}
+use Rattle.dn_shaper.specs.declared.parts.Carries.{Carries}
+use Rattle.dn_shaper.specs.declared.parts.Carries.TheVariants.{Own, Shared}
+use Rattle.dn_shaper.specs.declared.parts.Parts.{Parts}
+use Rattle.dn_shaper.specs.Views.{LinkView, views_of, dues, due_of, carried_link}
+use Rattle.dn_shaper.specs.Agreement.{GivesRates, AgreesWith, Agrees, AreDistinct, link_names}
+use Rattle.dn_shaper.specs.Due.{due_at, Holds, is_backlogged, backlogged}
+use Rattle.dn_shaper.specs.Starting.{CanStart, StartsAt}
+use Rattle.dn_shaper.specs.Settling.{IsKept, OnlyStarts, StartsFirst, HasNoStart, SettlesAll}
+use Rattle.dn_shaper.proofs.Dues.{due_cmp, popped_due, holds_none, holds_some}
+use Rattle.dn_shaper.proofs.FirstStart.{due_moment, first_popped, none_due, first_start-more, settle-none, settle-some}
+use Rattle.dn_shaper.proofs.Events.{length-set}
+use Rattle.dn_shaper.proofs.Next.{dues-agree}
+use Rattle.dn_shaper.proofs.Places.{map-set-same, get-map, sum-set}
+use Rattle.dn_types.proofs.Settled.{none-unknown, waiting_all-first}
+use Rattle.dn_shaper.proofs.Starting.{starts-agree, starts-within, starts-ready, starts-dues, length-in_order}
+
+pub pipe-carried : (pipe : ℕ) (c : Carries) → pipe_of (carried_link pipe c) ≡ pipe
+pipe-carried pipe (Own flow) = refl
+pipe-carried pipe (Shared s) = refl
+
+-- A due moment is that of a link with a backlog.
+due-view : (views : List LinkView) (i m : ℕ) → due_at (dues views) i ≡ Some m → (v : LinkView) × (slice_get views i ≡ Some v) × (0 < v.waits) × (v.value.free ≡ m)
+due-view [] i m e = absurd cc
+due-view (v ∷ views) zero m e = by (cases_lt 0 v.waits) e
+  where
+    never : (n : ℕ) → n ≤ 0 → nat_lt 0 n ≡ false
+    never n h = grind (arith, nat_tests)
+
+    sure : (n : ℕ) → 0 < n → nat_lt 0 n ≡ true
+    sure n h = grind (arith, nat_tests)
+
+    by : (0 < v.waits) ⊎ (v.waits ≤ 0) → due_of v ≡ Some m → (w : LinkView) × (slice_get (v ∷ views) 0 ≡ Some w) × (0 < w.waits) × (w.value.free ≡ m)
+    by (inl some) h = let is = sym (ap {B = Option ℕ} (λ b. cond b (Some v.value.free) None) (sure v.waits some)) ∙ h in (v, refl, some, cc)
+    by (inr none) h = let is = sym (ap {B = Option ℕ} (λ b. cond b (Some v.value.free) None) (never v.waits none)) ∙ h in absurd cc
+due-view (v ∷ views) (suc i) m e = due-view views i m e
+
+pub can-start : (p : Parts) (due : Heap Due) → IsKept p due → (k : Due) (rest : List Due) → IsPermutation due.keys (k ∷ rest) → CanStart p k.place k.moment
+can-start p due kept k rest perm =
+    let v = due-view (views_of p) k.place k.moment (popped_due (dues (views_of p)) due.keys rest k kept.held perm) in
+    record { view = v.0; there = v.1; some = v.2; soon = let e = v.3 in omega arith }
+
+-- ---- Links that no packet was seen on
+
+none-any : (l : Link) (ls : List Link) → ((j : ℕ) (m : Link) → slice_get ls j ≡ Some m → link_eq l m ≡ false) → list_any (link_eq l) ls ≡ false
+none-any l [] h = refl
+none-any l (m ∷ ls) h = both (link_eq l m) (list_any (link_eq l) ls) (h 0 m refl) (none-any l ls (λ j n e. h (suc j) n e))
+  where
+    both : (a b : Bool) → a ≡ false → b ≡ false → (a || b) ≡ false
+    both false b e f = f
+    both true b e f = absurd cc
+
+append-left : (ls more : List Link) (j : ℕ) (m : Link) → slice_get ls j ≡ Some m → (slice_get (ls ++ more) j ≡ Some m) × (j < length ls)
+append-left [] more j m e = absurd cc
+append-left (l ∷ ls) more zero m e = (e, omega arith)
+append-left (l ∷ ls) more (suc j) m e = let r = append-left ls more j m e in let lt = r.1 in (r.0, omega arith)
+
+append-right : (ls more : List Link) (i : ℕ) (l : Link) → slice_get more i ≡ Some l → (k : ℕ) × (slice_get (ls ++ more) k ≡ Some l) × (length ls ≤ k)
+append-right [] more i l e = (i, e, omega arith)
+append-right (m ∷ ls) more i l e = let r = append-right ls more i l e in let le = r.2 in (suc r.0, r.1, omega arith)
+
+pub unseen : (ls more : List Link) → AreDistinct (ls ++ more) → (i : ℕ) (l : Link) → slice_get more i ≡ Some l → list_any (link_eq l) ls ≡ false
+unseen ls more d i l e = none-any l ls (λ j m f.
+    let r = append-right ls more i l e in
+    let s = append-left ls more j m f in
+    let le = r.2 in
+    let lt = s.1 in
+    d r.0 j l m r.1 s.0 (λ same. absurd (omega arith)))
+
+module _ (settings : Settings) (at : ℕ) (p : Parts) (due : Heap Due) (kept : IsKept p due) (more : List Link) (trace : List Event) (a : AgreesWith p more trace) where
+  same_first : first_start settings at (link_names (views_of p)) trace ≡ first_start settings at (links trace) trace
+  same_first =
+      ap (λ (ls : List Link). first_start settings at ls trace) a.links_are
+      ∙ first_start-more settings at trace (links trace) more (λ i l e. none-unknown settings at l trace (unseen (links trace) more (subst AreDistinct a.links_are a.distinct) i l e))
+
+  due_are : dues (views_of p) ≡ map (due_moment trace) (link_names (views_of p))
+  due_are = dues-agree p.rule p.accepted p.flows.keys p.homes.items (views_of p) p.flows.flows p.line.pending more trace a
+
+  pub no-first : All (λ k. at < k.moment) due.keys → first_start settings at (links trace) trace ≡ None
+  no-first late = sym same_first ∙ none_due settings at trace (link_names (views_of p)) (dues (views_of p)) due_are due.keys kept.held late
+
+  pub first-is : (k : Due) (v : LinkView) (s : Start) → IsLeast due_cmp k due.keys → slice_get (views_of p) k.place ≡ Some v → next_start settings at v.link trace ≡ Some s → s.moment ≡ k.moment → first_start settings at (links trace) trace ≡ Some s
+  first-is k v s least there next moment_is =
+      sym same_first
+      ∙ first_popped settings at trace (link_names (views_of p)) (dues (views_of p)) due_are due.keys kept.held k v.link s least (get-map (λ (x : LinkView). x.link) (views_of p) k.place v there) next moment_is
+
+pub none-starts : (settings : Settings) (at : ℕ) (p : Parts) (due : Heap Due) → IsKept p due → All (λ k. at < k.moment) due.keys → HasNoStart settings at p
+none-starts settings at p due kept late more trace a = no-first settings at p due kept more trace a late
+
+module _ (settings : Settings) (at : ℕ) (old : Parts) (due : Heap Due) (kept : IsKept old due) (k : Due) (rest : List Due) (perm : IsPermutation due.keys (k ∷ rest)) (bandwidth delay : ℕ) (new : Parts) (s : StartsAt k.place k.moment bandwidth delay old new) (rates : GivesRates settings (pipe_of s.view.link) bandwidth delay) where
+  -- The link that starts is the popped one, which is free at the key's moment.
+  free-then : s.view.value.free ≡ k.moment
+  free-then =
+      let v = due-view (views_of old) k.place k.moment (popped_due (dues (views_of old)) due.keys rest k kept.held perm) in
+      let both : Some s.view ≡ Some v.0 = sym s.there ∙ v.1 in
+      let same : s.view ≡ v.0 = cc in
+      ap (λ (x : LinkView). x.value.free) same ∙ v.3
+
+  pub first-starts : IsLeast due_cmp k due.keys → k.moment ≤ at → StartsFirst settings at old new
+  first-starts least soon more trace a =
+      let r = starts-agree k.place k.moment bandwidth delay old new s settings more trace rates a in
+      let free_is : free s.view.link trace ≡ k.moment = sym (a.views_are k.place s.view s.there).free_is ∙ free-then in
+      let in_time : free s.view.link trace ≤ at = omega arith in
+      let next : next_start settings at s.view.link trace ≡ Some (start_at settings s.view.link r.0 k.moment) =
+      ap (λ b. cond b (option_map (λ (x : Accepted). start_at settings s.view.link x (free s.view.link trace)) (next_packet s.view.link trace)) None) (le-leb (free s.view.link trace) at in_time)
+      ∙ ap (option_map (λ (x : Accepted). start_at settings s.view.link x (free s.view.link trace))) r.1
+      ∙ ap (λ m. Some (start_at settings s.view.link r.0 m)) free_is in
+      (start_at settings s.view.link r.0 k.moment, first-is settings at old due kept more trace a k s.view (start_at settings s.view.link r.0 k.moment) least s.there next refl, r.2)
+
+  pub agrees-new : Agrees new
+  agrees-new = let a = kept.agrees in let r = starts-agree k.place k.moment bandwidth delay old new s settings a.0 a.1 rates a.2 in (a.0, started (start_at settings s.view.link r.0 k.moment) ∷ a.1, r.2)
+
+  same_length : length (views_of new) ≡ length (views_of old)
+  same_length = ap (λ (vs : List LinkView). length vs) s.views_are ∙ length-set (views_of old) k.place s.view'
+
+  -- The count of links with a backlog, by whether the link still has one.
+  one-due : (o : Option ℕ) → due_of s.view' ≡ o → backlogged (dues (views_of new)) + 1 ≡ backlogged (dues (views_of old)) + is_backlogged o
+  one-due o e =
+      let was : slice_get (dues (views_of old)) k.place ≡ Some (Some k.moment) = listed_due (dues (views_of old)) k.place (popped_due (dues (views_of old)) due.keys rest k kept.held perm) in
+      let sum = sum-set is_backlogged (dues (views_of old)) k.place (Some k.moment) o was in
+      let now = ap (λ (d : List (Option ℕ)). backlogged d) (starts-dues k.place k.moment bandwidth delay old new s ∙ ap (λ (x : Option ℕ). set (dues (views_of old)) k.place x) e) in
+      omega arith
+    where
+      listed_due : (d : List (Option ℕ)) (i : ℕ) → due_at d i ≡ Some k.moment → slice_get d i ≡ Some (Some k.moment)
+      listed_due [] i h = absurd cc
+      listed_due (x ∷ d) zero h = ap (λ y. Some y) h
+      listed_due (x ∷ d) (suc i) h = listed_due d i h
+
+  pub kept-some : 0 < s.view'.waits → (due' : Heap Due) → IsPermutation (record { moment = s.view'.value.free; place = k.place } ∷ rest) due'.keys → due'.room ≡ due.room → IsKept new due'
+  kept-some some due' pushed room = record {
+    agrees = agrees-new;
+    within = starts-within k.place k.moment bandwidth delay old new s (2 ^ 62) kept.within;
+    held = subst (λ (d : List (Option ℕ)). Holds d due'.keys) (sym (starts-dues k.place k.moment bandwidth delay old new s ∙ ap (λ (o : Option ℕ). set (dues (views_of old)) k.place o) due_some)) (holds_some (dues (views_of old)) due.keys rest k kept.held perm s.view'.value.free due'.keys pushed);
+    counted =
+        let a = length_permutation due.keys (k ∷ rest) perm in
+        let b = length_permutation (record { moment = s.view'.value.free; place = k.place } ∷ rest) due'.keys pushed in
+        let c = kept.counted in
+        let d = one-due (Some s.view'.value.free) due_some in
+        omega arith;
+    places =
+        let a = length_permutation due.keys (k ∷ rest) perm in
+        let b = length_permutation (record { moment = s.view'.value.free; place = k.place } ∷ rest) due'.keys pushed in
+        let c = kept.places in
+        let d = same_length in
+        omega arith;
+  }
+    where
+      sure : (n : ℕ) → 0 < n → nat_lt 0 n ≡ true
+      sure n h = grind (arith, nat_tests)
+
+      due_some : due_of s.view' ≡ Some s.view'.value.free
+      due_some = ap {B = Option ℕ} (λ b. cond b (Some s.view'.value.free) None) (sure s.view'.waits some)
+
+  pub kept-none : s.view'.waits ≤ 0 → (due' : Heap Due) → due'.keys ≡ rest → due'.room ≡ due.room + 1 → IsKept new due'
+  kept-none none due' keys room = record {
+    agrees = agrees-new;
+    within = starts-within k.place k.moment bandwidth delay old new s (2 ^ 62) kept.within;
+    held = subst (λ (x : List (Option ℕ) × List Due). Holds x.0 x.1) (λ i. (sym (starts-dues k.place k.moment bandwidth delay old new s ∙ ap (λ (o : Option ℕ). set (dues (views_of old)) k.place o) due_none) i, sym keys i)) (holds_none (dues (views_of old)) due.keys rest k kept.held perm);
+    counted =
+        let a = length_permutation due.keys (k ∷ rest) perm in
+        let b = ap (λ (ks : List Due). length ks) keys in
+        let c = kept.counted in
+        let d = one-due None due_none in
+        omega arith;
+    places =
+        let a = length_permutation due.keys (k ∷ rest) perm in
+        let b = ap (λ (ks : List Due). length ks) keys in
+        let c = kept.places in
+        let d = same_length in
+        omega arith;
+  }
+    where
+      never : (n : ℕ) → n ≤ 0 → nat_lt 0 n ≡ false
+      never n h = grind (arith, nat_tests)
+
+      due_none : due_of s.view' ≡ None
+      due_none = ap {B = Option ℕ} (λ b. cond b (Some s.view'.value.free) None) (never s.view'.waits none)
+
+  pub only-starts : (due' : Heap Due) → due'.moves + new.waiting ≤ due.moves + old.waiting → length due'.keys + due'.room ≡ length due.keys + due.room → OnlyStarts old due new due'
+  only-starts due' moves places = record {
+    rule = s.rule;
+    accepted = s.accepted;
+    keys = s.keys;
+    homes = s.homes;
+    names = ap (λ (vs : List LinkView). link_names vs) s.views_are ∙ map-set-same (λ (x : LinkView). x.link) (views_of old) k.place s.view s.view' s.there s.starts.link;
+    moves = moves;
+    places = places;
+    under_way =
+        let a = ap (λ (ds : List Delivery). length ds) s.starts.pending_is in
+        let b = length-in_order (record { due = s.view'.value.last_due; packet = s.starts.packet.packet; flow = s.starts.flow; start = k.moment }) old.line.pending in
+        let c = s.waiting in
+        omega arith;
+    within = λ n w. starts-within k.place k.moment bandwidth delay old new s n w;
+    ready = λ flow r. starts-ready k.place k.moment bandwidth delay old new s flow r;
+  }
+
+-- ---- The loop
+
+pub only-none : (p : Parts) (due : Heap Due) → OnlyStarts p due p due
+only-none p due = record { rule = refl; accepted = refl; keys = refl; homes = refl; names = refl; moves = omega arith; places = refl; under_way = refl; within = λ n w. w; ready = λ flow r. r }
+
+pub only-more : (p q r : Parts) (d e f : Heap Due) → OnlyStarts p d q e → OnlyStarts q e r f → OnlyStarts p d r f
+only-more p q r d e f x y = record {
+  rule = y.rule ∙ x.rule;
+  accepted = y.accepted ∙ x.accepted;
+  keys = y.keys ∙ x.keys;
+  homes = y.homes ∙ x.homes;
+  names = y.names ∙ x.names;
+  moves = let a = x.moves in let b = y.moves in omega arith;
+  places = y.places ∙ x.places;
+  under_way = y.under_way ∙ x.under_way;
+  within = λ n w. y.within n (x.within n w);
+  ready = λ flow w. y.ready flow (x.ready flow w);
+}
+
+-- Some of those starts were made, and the rest would settle the trace.
+abbrev pub Reaches : Settings → ℕ → Parts → Parts → Type 0
+Reaches settings at old new =
+    (more : List Link) (trace : List Event) → AgreesWith old more trace →
+    (most : ℕ) × (t : List Event) × AgreesWith new more t × (waiting_all (links t) t ≤ most) × (settle most settings at t ≡ settled settings at trace)
+
+pub reaches-start : (settings : Settings) (at : ℕ) (p : Parts) → Reaches settings at p p
+reaches-start settings at p more trace a = (waiting_all (links trace) trace, trace, a, omega arith, refl)
+
+pub reaches-one : (settings : Settings) (at : ℕ) (p q r : Parts) → Reaches settings at p q → StartsFirst settings at q r → Reaches settings at p r
+reaches-one settings at p q r reached one more trace a =
+    let x = reached more trace a in
+    let s = one more x.1 x.2 in
+    go x.0 x.1 x.3 x.4 s.0 s.1 (waiting_all-first settings at (links x.1) x.1 s.0 s.1) s.2
+  where
+    go : (most : ℕ) (t : List Event) → waiting_all (links t) t ≤ most → settle most settings at t ≡ settled settings at trace
+        → (s : Start) → first_start settings at (links t) t ≡ Some s → waiting_all (links t) (started s ∷ t) < waiting_all (links t) t → AgreesWith r more (started s ∷ t)
+        → (most : ℕ) × (t : List Event) × AgreesWith r more t × (waiting_all (links t) t ≤ most) × (settle most settings at t ≡ settled settings at trace)
+    go zero t few same s e fewer b = absurd (omega arith)
+    go (suc most) t few same s e fewer b = (most, started s ∷ t, b, omega arith, sym (settle-some most settings at t s e) ∙ same)
+
+pub reaches-none : (settings : Settings) (at : ℕ) (p q : Parts) → Reaches settings at p q → HasNoStart settings at q → SettlesAll settings at p q
+reaches-none settings at p q reached none more trace a =
+    let x = reached more trace a in
+    subst (λ (t : List Event). AgreesWith q more t) (sym (settle-none x.0 settings at x.1 (none more x.1 x.2)) ∙ x.4) x.2

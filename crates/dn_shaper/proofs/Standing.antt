@@ -1,0 +1,123 @@
+-- A shaper stands after a call more, and stays sound.
+use Rattle.std.proofs.Common.{◌≡◌, ◌∙◌, ◌≤◌, ◌^◌, ℕ, ◌+◌, ◌*◌, max, List, [], ◌∷◌, ap, subst, length, arith}
+use Rattle.std.specs.Prelude.{nat_le, nat_lt}
+use Rattle.std.specs.List.{filter}
+use Rattle.std.proofs.lemmas.List.Sums.{length-filter, count_by-le-length}
+use Rattle.dn_heap.specs.Heap.{Heap}
+use Rattle.dn_link.specs.Line.{Line}
+use Rattle.dn_types.specs.Calls.{trace_of}
+use Rattle.dn_types.specs.Clock.{effective_moment}
+use Rattle.dn_types.specs.Configuration.{Settings, settings}
+use Rattle.dn_types.specs.Deliveries.{given}
+use Rattle.dn_types.specs.Starts.{settled}
+use Rattle.dn_types.specs.Trace.{Link, Event, collected}
+use Rattle.dn_types.specs.declared.call.Call.{Call}
+use Rattle.dn_types.specs.declared.call.Call.TheVariants.{Advance, Collect}
+use Rattle.dn_types.specs.declared.delivery.Delivery.{Delivery}
+use Rattle.dn_types.specs.declared.reply.Reply.TheVariants.{Advanced, Delivered}
+use Rattle.dn_types.specs.declared.rule.Rule.{Rule}
+use Rattle.dn_shaper.specs.declared.due.Due.{Due}
+use Rattle.dn_shaper.specs.declared.parts.Parts.{Parts}
+use Rattle.dn_shaper.specs.declared.state.State.{State}
+use Rattle.dn_shaper.specs.Agreement.{AgreesWith}
+use Rattle.dn_shaper.specs.Settings.{settings_of}
+use Rattle.dn_shaper.specs.Settling.{IsKept, OnlyStarts, SettlesAll}
+use Rattle.dn_shaper.specs.Standing.{StandsAt, IsSound, Does}
+use Rattle.dn_shaper.specs.Starting.{Within}
+use Rattle.dn_shaper.specs.Views.{views_of}
+use Rattle.dn_shaper.proofs.Accepting.{within-more}
+use Rattle.dn_shaper.proofs.Quiet.{collected-agrees}
+
+-- ---- A timed call settles first
+
+module _ (old : State) (parts : Parts) (due : Heap Due) (at moment : ℕ) (at_is : at ≡ max old.now moment) (settles : SettlesAll (settings_of old.configured) at old.parts parts) (only : OnlyStarts old.parts old.due parts due) where
+  now-is : (calls : List Call) → StandsAt old calls → at ≡ max (effective_moment calls) moment
+  now-is calls s = at_is ∙ ap (λ n. max n moment) s.now_is
+
+  settled-then : (calls : List Call) → StandsAt old calls → AgreesWith parts [] (settled (settings calls) (max (effective_moment calls) moment) (trace_of calls))
+  settled-then calls s = subst (λ (x : Settings × ℕ). AgreesWith parts [] (settled x.0 x.1 (trace_of calls))) (λ i. (s.settings_are i, now-is calls s i)) (settles [] (trace_of calls) s.agrees)
+
+  pub advanced : Does (Advance moment) old (record { parts = parts; due = due; configured = old.configured; now = at; calls = old.calls + 1 }) (Advanced at)
+  advanced calls s = (
+    ap Advanced (now-is calls s),
+    record {
+      calls_are = let c = s.calls_are in omega arith;
+      now_is = now-is calls s;
+      settings_are = s.settings_are;
+      keys_are = only.keys ∙ s.keys_are;
+      agrees = settled-then calls s;
+    },
+  )
+
+  module _ (sound : IsSound old) (kept : IsKept parts due) (early : moment ≤ 2 ^ 62) where
+    at-early : at ≤ 2 ^ 62
+    at-early = let e = sound.early in omega (arith, at_is, e, early)
+
+    moves-then : due.moves + parts.waiting ≤ 2 * (old.calls + 1)
+    moves-then = let a = only.moves in let b = sound.moves in omega arith
+
+    pub advanced-sound : IsSound (record { parts = parts; due = due; configured = old.configured; now = at; calls = old.calls + 1 })
+    advanced-sound = record {
+      kept = kept;
+      within = within-more old.calls (old.calls + 1) parts (omega arith) (only.within old.calls sound.within);
+      moves = moves-then;
+      early = at-early;
+    }
+
+  -- ---- What a Collect gives
+
+  module _ (line : Line) (rest : line.pending ≡ filter (λ d. nat_lt at d.due) parts.line.pending) (room : parts.line.room ≤ line.room) (pushed : line.pushed ≡ parts.line.pushed) where
+    abbrev pub after : Parts
+    after = record { rule = parts.rule; accepted = parts.accepted; flows = parts.flows; homes = parts.homes; links = parts.links; waiting = parts.waiting; line = line }
+
+    after-agrees : (more : List Link) (trace : List Event) → AgreesWith parts more trace → AgreesWith after more (collected at ∷ trace)
+    after-agrees more trace a = collected-agrees parts.rule parts.accepted parts.flows.keys parts.homes.items (views_of parts) parts.flows.flows parts.line.pending more trace a at line.pending rest
+
+    pub collects : (list : List Delivery) → list ≡ filter (λ d. nat_le d.due at) parts.line.pending → Does (Collect moment) old (record { parts = after; due = due; configured = old.configured; now = at; calls = old.calls + 1 }) (Delivered at list)
+    collects list is calls s = (
+      reply_is,
+      record {
+        calls_are = let c = s.calls_are in omega arith;
+        now_is = now-is calls s;
+        settings_are = s.settings_are;
+        keys_are = only.keys ∙ s.keys_are;
+        agrees = subst (λ m. AgreesWith after [] (collected m ∷ settled (settings calls) (max (effective_moment calls) moment) (trace_of calls))) (now-is calls s) (after-agrees [] (settled (settings calls) (max (effective_moment calls) moment) (trace_of calls)) (settled-then calls s));
+      },
+    )
+      where
+        list_is : list ≡ given old.parts.rule at (settled (settings calls) (max (effective_moment calls) moment) (trace_of calls))
+        list_is =
+            is
+            ∙ ap (λ (ds : List Delivery). filter (λ d. nat_le d.due at) ds) (settled-then calls s).pending_is
+            ∙ ap (λ (r : Rule). given r at (settled (settings calls) (max (effective_moment calls) moment) (trace_of calls))) only.rule
+
+        reply_is : Delivered at list ≡ Delivered (max (effective_moment calls) moment) (given old.parts.rule (max (effective_moment calls) moment) (settled (settings calls) (max (effective_moment calls) moment) (trace_of calls)))
+        reply_is = ap (Delivered at) list_is ∙ ap (λ m. Delivered m (given old.parts.rule m (settled (settings calls) (max (effective_moment calls) moment) (trace_of calls)))) (now-is calls s)
+
+    fewer : (ds : List Delivery) → length (filter (λ d. nat_lt at d.due) ds) ≤ length ds
+    fewer ds = let a = length-filter (λ (d : Delivery). nat_lt at d.due) ds in let b = count_by-le-length (λ (d : Delivery). nat_lt at d.due) ds in omega arith
+
+    after-within : (n : ℕ) → Within n parts → Within n after
+    after-within n w = record {
+      waiting_is = w.waiting_is;
+      room = let a = w.room in omega arith;
+      pushed = let a = w.pushed in omega arith;
+      sums = let a = w.sums in let b = fewer parts.line.pending in let c = ap (λ (ds : List Delivery). length ds) rest in omega arith;
+      flows_are = w.flows_are;
+      arrivals = w.arrivals;
+      accepted = w.accepted;
+    }
+
+    pub collects-sound : IsSound old → IsKept parts due → moment ≤ 2 ^ 62 → IsSound (record { parts = after; due = due; configured = old.configured; now = at; calls = old.calls + 1 })
+    collects-sound sound kept early = record {
+      kept = record {
+        agrees = let a = kept.agrees in (a.0, collected at ∷ a.1, after-agrees a.0 a.1 a.2);
+        within = after-within (2 ^ 62) kept.within;
+        held = kept.held;
+        counted = kept.counted;
+        places = kept.places;
+      };
+      within = after-within (old.calls + 1) (within-more old.calls (old.calls + 1) parts (omega arith) (only.within old.calls sound.within));
+      moves = moves-then sound kept early;
+      early = at-early sound kept early;
+    }

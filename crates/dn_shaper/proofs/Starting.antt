@@ -1,0 +1,221 @@
+-- A link for which a packet waits can start one, and all parts agree with the start.
+use Rattle.std.proofs.Common.{◌≡◌, ◌∙◌, ◌≤◌, ◌<◌, ◌⊎◌, ◌^◌, ℕ, zero, suc, ◌+◌, Bool, true, false, cond, List, [], ◌∷◌, set, refl, ap, sym, subst, length, drop, arith, inl, inr}
+use Rattle.std.specs.Prelude.{Some, nat_eq, slice_get}
+use Rattle.std.proofs.lemmas.Bool.{cases_eq}
+use Rattle.dn_types.specs.Configuration.{Settings}
+use Rattle.dn_types.specs.Deliveries.{in_order, is_given_before}
+use Rattle.dn_types.specs.Links.{transmission_time, due_by}
+use Rattle.dn_types.specs.SharedLinks.{next_packet}
+use Rattle.dn_types.specs.Starts.{start_at}
+use Rattle.dn_types.specs.Trace.{Link, shared, Accepted, Event, started, pipe_of, backlog}
+use Rattle.dn_types.specs.declared.delivery.Delivery.{Delivery}
+use Rattle.dn_types.specs.declared.flow_key.FlowKey.{FlowKey}
+use Rattle.dn_types.specs.declared.rule.Rule.{Rule}
+use Rattle.dn_flows.specs.Table.{FlowState, flow_at, popped, popped_from}
+use Rattle.dn_flows.specs.declared.waiting.Waiting.{Waiting}
+use Rattle.dn_flows.proofs.Views.{flow_after_set, popped_backlog}
+use Rattle.dn_wf2q.specs.Schedule.{room_at}
+use Rattle.dn_shaper.specs.declared.parts.Home.{Home}
+use Rattle.dn_shaper.specs.declared.parts.Parts.{Parts}
+use Rattle.dn_shaper.specs.Views.{LinkView, views_of, waits_in_all, waiting_of, dues, due_of, CanSend}
+use Rattle.dn_shaper.specs.Agreement.{GivesRates, AgreesWith, Agrees, IsAt}
+use Rattle.dn_shaper.specs.Starting.{HasFront, IsFlowWithin, Within, IsReady, CanStart, StartsAt}
+use Rattle.dn_shaper.proofs.Events.{eq-yes, eq-no}
+use Rattle.dn_shaper.proofs.Next.{can_send, taken, front}
+use Rattle.dn_shaper.proofs.Places.{get-set, get-set-other, sum-set, sum-le, get-below, map-set}
+use Rattle.dn_shaper.proofs.Started.{start-agrees, popped_started, popped_rest}
+
+-- ---- What a start needs
+
+module _ (p : Parts) (agrees : Agrees p) (within : Within (2 ^ 62) p) (place moment : ℕ) (can : CanStart p place moment) where
+  pub sends-at : CanSend can.view can.view.link
+  sends-at = can_send p.rule p.accepted p.flows.keys p.homes.items (views_of p) p.flows.flows p.line.pending agrees.0 agrees.1 agrees.2 place can.view can.there can.some
+
+  pub front-at : HasFront can.view p.flows.flows
+  front-at flow v' takes =
+      let t = taken p.rule p.accepted p.flows.keys p.homes.items (views_of p) p.flows.flows p.line.pending agrees.0 agrees.1 agrees.2 place can.view can.there flow v' can.some takes.sends in
+      let f = front p.rule p.accepted p.flows.keys p.homes.items (views_of p) p.flows.flows p.line.pending agrees.0 agrees.1 agrees.2 place can.view can.there flow t.0 t.2 in
+      (waiting_of t.0, f.0, f.1, few flow (waiting_of t.0) f.0)
+    where
+      few : (flow : ℕ) (w : Waiting) → slice_get (flow_at p.flows.flows flow).backlog 0 ≡ Some w → (flow_at p.flows.flows flow).started < 2 ^ 62
+      few flow w e = let h = (within.flows_are flow).2 in let some = get-below (flow_at p.flows.flows flow).backlog 0 w e in omega arith
+
+  waits-at : 0 < p.waiting
+  waits-at = let le = sum-le (λ (v : LinkView). v.waits) (views_of p) place can.view can.there in let is = within.waiting_is in let some = can.some in omega arith
+
+  pub room-at : 0 < p.line.room
+  room-at = let w = waits-at in let r = within.room in omega arith
+
+  pub pushed-at : p.line.pushed < 2 ^ 62
+  pushed-at = let w = waits-at in let r = within.pushed in omega arith
+
+  pub waiting-at : 1 ≤ p.waiting
+  waiting-at = let w = waits-at in omega arith
+
+-- ---- What it leaves
+
+pub length-in_order : (d : Delivery) (ds : List Delivery) → length (in_order d ds) ≡ length ds + 1
+length-in_order d [] = refl
+length-in_order d (e ∷ es) = by (is_given_before d e) (length-in_order d es)
+  where
+    by : (b : Bool) → length (in_order d es) ≡ length es + 1 → length (cond b (d ∷ e ∷ es) (e ∷ in_order d es)) ≡ suc (length es) + 1
+    by true h = omega arith
+    by false h = omega arith
+
+module _ (place moment bandwidth delay : ℕ) (old new : Parts) (s : StartsAt place moment bandwidth delay old new) where
+  -- Some of the packets waited.
+  some-waited : 0 < s.view.waits
+  some-waited = let w = s.starts.waits in omega arith
+
+  pub starts-agree : (settings : Settings) (more : List Link) (trace : List Event) → GivesRates settings (pipe_of s.view.link) bandwidth delay → AgreesWith old more trace →
+      (p : Accepted) × (next_packet s.view.link trace ≡ Some p) × AgreesWith new more (started (start_at settings s.view.link p moment) ∷ trace)
+  starts-agree settings more trace rates a =
+      let t = taken old.rule old.accepted old.flows.keys old.homes.items (views_of old) old.flows.flows old.line.pending more trace a place s.view s.there s.starts.flow s.view' some-waited s.starts.sends in
+      let f = front old.rule old.accepted old.flows.keys old.homes.items (views_of old) old.flows.flows old.line.pending more trace a place s.view s.there s.starts.flow t.0 t.2 in
+      let both : Some s.starts.packet ≡ Some (waiting_of t.0) = sym s.starts.front ∙ f.0 in
+      let packet : s.starts.packet ≡ waiting_of t.0 = cc in
+      (t.0, t.1, after t.0 t.2 packet)
+    where
+      after : (p : Accepted) → slice_get (backlog s.view.link s.starts.flow trace) 0 ≡ Some p → s.starts.packet ≡ waiting_of p → AgreesWith new more (started (start_at settings s.view.link p moment) ∷ trace)
+      after p first packet =
+          subst (λ (r : Rule). IsAt r new.accepted new.flows.keys new.homes.items (views_of new) new.flows.flows new.line.pending more (started (start_at settings s.view.link p moment) ∷ trace)) (sym s.rule)
+          (subst (λ (x : ℕ × List FlowKey). IsAt old.rule x.0 x.1 new.homes.items (views_of new) new.flows.flows new.line.pending more (started (start_at settings s.view.link p moment) ∷ trace)) (λ i. (sym s.accepted i, sym s.keys i))
+          (subst (λ (x : List Home × List LinkView). IsAt old.rule old.accepted old.flows.keys x.0 x.1 new.flows.flows new.line.pending more (started (start_at settings s.view.link p moment) ∷ trace)) (λ i. ((sym s.homes i).items, sym s.views_are i))
+          (subst (λ (x : List FlowState × List Delivery). IsAt old.rule old.accepted old.flows.keys old.homes.items (set (views_of old) place s.view') x.0 x.1 more (started (start_at settings s.view.link p moment) ∷ trace)) (λ i. (sym s.starts.flows_are i, sym pending_is i)) base)))
+        where
+          transmission_is : transmission_time bandwidth s.starts.packet.len ≡ (start_at settings s.view.link p moment).transmission
+          transmission_is = ap (λ (w : Waiting). transmission_time bandwidth w.len) packet ∙ ap (λ b. transmission_time b p.stamped.len) (sym rates.bandwidth_is)
+
+          pending_is : new.line.pending ≡ in_order (record { due = s.view'.value.last_due; packet = p.packet; flow = s.starts.flow; start = moment }) old.line.pending
+          pending_is = s.starts.pending_is ∙ ap (λ (w : Waiting). in_order (record { due = s.view'.value.last_due; packet = w.packet; flow = s.starts.flow; start = moment }) old.line.pending) packet
+
+          base : IsAt old.rule old.accepted old.flows.keys old.homes.items (set (views_of old) place s.view') (set old.flows.flows s.starts.flow (popped (flow_at old.flows.flows s.starts.flow))) (in_order (record { due = s.view'.value.last_due; packet = p.packet; flow = s.starts.flow; start = moment }) old.line.pending) more (started (start_at settings s.view.link p moment) ∷ trace)
+          base = start-agrees old.rule old.accepted old.flows.keys old.homes.items (views_of old) old.flows.flows old.line.pending more trace a place s.view s.there s.starts.flow (start_at settings s.view.link p moment) first s.view' s.starts.link s.starts.slots s.starts.sends
+              (s.starts.free ∙ ap (λ x. moment + x) transmission_is)
+              (s.starts.last_due ∙ (λ i. due_by old.rule (moment + transmission_is i + sym rates.delay_is i) s.view.value.last_due))
+              s.starts.waits
+
+  pub starts-waiting : waits_in_all (views_of new) + 1 ≡ waits_in_all (views_of old)
+  starts-waiting =
+      let e = ap (λ (vs : List LinkView). waits_in_all vs) s.views_are in
+      let w = sum-set (λ (v : LinkView). v.waits) (views_of old) place s.view s.view' s.there in
+      let one = s.starts.waits in
+      omega arith
+
+  flow-there : s.starts.flow < length old.flows.flows
+  flow-there = below old.flows.flows s.starts.flow s.starts.packet s.starts.front
+    where
+      below : (fs : List FlowState) (i : ℕ) (w : Waiting) → slice_get (flow_at fs i).backlog 0 ≡ Some w → i < length fs
+      below [] i w e = absurd cc
+      below (x ∷ fs) zero w e = omega arith
+      below (x ∷ fs) (suc i) w e = let r = below fs i w e in omega arith
+
+  flow-now : (g : ℕ) → flow_at new.flows.flows g ≡ cond (nat_eq s.starts.flow g) (popped (flow_at old.flows.flows s.starts.flow)) (flow_at old.flows.flows g)
+  flow-now g = ap (λ (fs : List FlowState). flow_at fs g) s.starts.flows_are ∙ flow_after_set old.flows.flows s.starts.flow g (popped (flow_at old.flows.flows s.starts.flow)) flow-there
+
+  pub starts-within : (n : ℕ) → Within n old → Within n new
+  starts-within n w = record {
+    waiting_is = let a = starts-waiting in let b = s.waiting in let c = w.waiting_is in omega arith;
+    room = let a = s.waiting in let b = s.room in let c = w.room in omega arith;
+    pushed = let a = s.waiting in let b = s.pushed in let c = w.pushed in omega arith;
+    sums =
+        let a = s.waiting in
+        let b = ap (λ (ds : List Delivery). length ds) s.starts.pending_is in
+        let d = length-in_order (record { due = s.view'.value.last_due; packet = s.starts.packet.packet; flow = s.starts.flow; start = moment }) old.line.pending in
+        let c = w.sums in
+        omega arith;
+    flows_are = flows_within;
+    arrivals = arrivals_within;
+    accepted = let a = s.accepted in let b = w.accepted in omega arith;
+  }
+    where
+      popped_within : (x : FlowState) → slice_get x.backlog 0 ≡ Some s.starts.packet → IsFlowWithin n x → IsFlowWithin n (popped x)
+      popped_within x e h =
+          let r = popped_rest x in
+          let r0 = r.0 in
+          let r1 = r.1 in
+          let r2 = r.2 in
+          let one = popped_started x s.starts.packet e in
+          let b = ap (λ (ws : List Waiting). length ws) (popped_backlog x) in
+          let l = rest x.backlog e in
+          let h0 = h.0 in
+          let h1 = h.1 in
+          let h2 = h.2 in
+          (omega arith, omega arith, omega arith)
+        where
+          rest : (ws : List Waiting) → slice_get ws 0 ≡ Some s.starts.packet → length (drop 1 ws) + 1 ≡ length ws
+          rest [] e = absurd cc
+          rest (y ∷ ws) e = omega arith
+
+      flows_within : (g : ℕ) → IsFlowWithin n (flow_at new.flows.flows g)
+      flows_within g = by (cases_eq s.starts.flow g)
+        where
+          by : (s.starts.flow ≡ g) ⊎ (s.starts.flow ≡ g → ⊥) → IsFlowWithin n (flow_at new.flows.flows g)
+          by (inl same) =
+              let is = flow-now g ∙ ap (λ b. cond b (popped (flow_at old.flows.flows s.starts.flow)) (flow_at old.flows.flows g)) (eq-yes s.starts.flow g same) in
+              subst (λ (x : FlowState). IsFlowWithin n x) (sym is) (popped_within (flow_at old.flows.flows s.starts.flow) s.starts.front (w.flows_are s.starts.flow))
+          by (inr ne) =
+              let is = flow-now g ∙ ap (λ b. cond b (popped (flow_at old.flows.flows s.starts.flow)) (flow_at old.flows.flows g)) (eq-no s.starts.flow g ne) in
+              subst (λ (x : FlowState). IsFlowWithin n x) (sym is) (w.flows_are g)
+
+      arrivals_within : (j : ℕ) (v : LinkView) → slice_get (views_of new) j ≡ Some v → v.schedule.arrivals ≤ n
+      arrivals_within j v e = by (cases_eq j place)
+        where
+          now_at : slice_get (set (views_of old) place s.view') j ≡ Some v
+          now_at = ap (λ (vs : List LinkView). slice_get vs j) (sym s.views_are) ∙ e
+
+          by : (j ≡ place) ⊎ (j ≡ place → ⊥) → v.schedule.arrivals ≤ n
+          by (inl same) =
+              let both : Some s.view' ≡ Some v = sym (get-set (views_of old) place s.view s.view' s.there) ∙ ap (slice_get (set (views_of old) place s.view')) (sym same) ∙ now_at in
+              let is : s.view' ≡ v = cc in
+              let e1 = ap (λ (x : LinkView). x.schedule.arrivals) is in
+              let e2 = s.keeps.arrivals in
+              let le = w.arrivals place s.view s.there in
+              omega arith
+          by (inr ne) = w.arrivals j v (sym (get-set-other (views_of old) place j s.view' ne) ∙ now_at)
+
+  pub starts-ready : (flow : ℕ) → IsReady flow old → IsReady flow new
+  starts-ready flow r = record {
+    place = place_kept (cases_eq s.starts.flow flow);
+    slot = slot_kept;
+    line = let a = s.waiting in let b = s.room in let c = r.line in omega arith;
+  }
+    where
+      popped_reserved : (x : FlowState) → (popped x).reserved ≡ x.reserved
+      popped_reserved x = by x.backlog
+        where
+          by : (ws : List Waiting) → (popped_from ws x).reserved ≡ x.reserved
+          by [] = refl
+          by (y ∷ ws) = refl
+
+      place_kept : (s.starts.flow ≡ flow) ⊎ (s.starts.flow ≡ flow → ⊥) → (flow_at new.flows.flows flow).reserved ≡ true
+      place_kept (inl same) =
+          ap (λ (x : FlowState). x.reserved) (flow-now flow ∙ ap (λ b. cond b (popped (flow_at old.flows.flows s.starts.flow)) (flow_at old.flows.flows flow)) (eq-yes s.starts.flow flow same))
+          ∙ popped_reserved (flow_at old.flows.flows s.starts.flow)
+          ∙ ap (λ g. (flow_at old.flows.flows g).reserved) same
+          ∙ r.place
+      place_kept (inr ne) =
+          ap (λ (x : FlowState). x.reserved) (flow-now flow ∙ ap (λ b. cond b (popped (flow_at old.flows.flows s.starts.flow)) (flow_at old.flows.flows flow)) (eq-no s.starts.flow flow ne))
+          ∙ r.place
+
+      slot_kept : (h : Home) (v : LinkView) (pipe : ℕ) → slice_get new.homes.items flow ≡ Some h → slice_get (views_of new) h.place ≡ Some v → v.link ≡ shared pipe → 0 < room_at v.schedule.room h.slot
+      slot_kept h v pipe at_home e is = by (cases_eq h.place place)
+        where
+          home_before : slice_get old.homes.items flow ≡ Some h
+          home_before = (λ i. slice_get (sym s.homes i).items flow) ∙ at_home
+
+          now_at : slice_get (set (views_of old) place s.view') h.place ≡ Some v
+          now_at = ap (λ (vs : List LinkView). slice_get vs h.place) (sym s.views_are) ∙ e
+
+          by : (h.place ≡ place) ⊎ (h.place ≡ place → ⊥) → 0 < room_at v.schedule.room h.slot
+          by (inl same) =
+              let both : Some s.view' ≡ Some v = sym (get-set (views_of old) place s.view s.view' s.there) ∙ ap (slice_get (set (views_of old) place s.view')) (sym same) ∙ now_at in
+              let one : s.view' ≡ v = cc in
+              let before = r.slot h s.view pipe home_before (ap (slice_get (views_of old)) same ∙ s.there) (sym s.starts.link ∙ ap (λ (x : LinkView). x.link) one ∙ is) in
+              let keeps = s.keeps.room h.slot in
+              let e1 = ap (λ (x : LinkView). room_at x.schedule.room h.slot) one in
+              omega arith
+          by (inr ne) = r.slot h v pipe home_before (sym (get-set-other (views_of old) place h.place s.view' ne) ∙ now_at) is
+
+  pub starts-dues : dues (views_of new) ≡ set (dues (views_of old)) place (due_of s.view')
+  starts-dues = ap (λ (vs : List LinkView). dues vs) s.views_are ∙ map-set due_of (views_of old) place s.view'

@@ -1,0 +1,26 @@
+-- The link at the home's place loses the packets.
+use Rattle.std.proofs.Common.{ℕ, refl, subst, arith}
+use Rattle.dn_shaper.specs.Discarding.{Leaves}
+use Rattle.dn_shaper.specs.Views.{view_of}
+use Rattle.dn_shaper.proofs.Places.{viewed, get-map, map-set}
+use Rattle.dn_shaper.proofs.discard.empty_flow.Goals as goal
+
+pub returns : goal.returns
+returns c =
+    let v = viewed view_of c.args.parts.now.links.items c.args.home.place c.index_mut-state.result.now c.requires.at.0 c.requires.at.1 c.index_mut-state.ensures.value in
+    let all = c.requires.all in
+    let enough = c.requires.waiting in
+    record {
+      view = view_of c.index_mut-state.result.now;
+      view' = view_of c.leave_link.new.state;
+      there = get-map view_of c.args.parts.now.links.items c.args.home.place c.index_mut-state.result.now v.0;
+      views_are = map-set view_of c.args.parts.now.links.items c.args.home.place c.leave_link.new.state;
+      leaves = subst (λ (n : ℕ). Leaves c.args.home.slot n (view_of c.index_mut-state.result.now) (view_of c.leave_link.new.state)) all c.leave_link.ensures;
+      flows_are = c.discard.ensures.flows;
+      rule = refl;
+      accepted = refl;
+      keys = c.discard.ensures.keys;
+      homes = refl;
+      line = refl;
+      waiting = omega arith;
+    }

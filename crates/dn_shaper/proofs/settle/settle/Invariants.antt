@@ -1,0 +1,14 @@
+use Rattle.dn_shaper.specs.Settings.{settings_of}
+use Rattle.dn_shaper.specs.Settling.{IsKept, OnlyStarts}
+use Rattle.dn_shaper.proofs.Settles.{Reaches}
+use Rattle.dn_shaper.proofs.settle.settle.Given as goal
+
+abbrev pub invariant-loop : goal.invariant-loop
+invariant-loop l = record {
+  kept : IsKept l.parts l.due;
+  only : OnlyStarts l.initial.parts l.initial.due l.parts l.due;
+  reached : Reaches (settings_of l.configured) l.at l.initial.parts l.parts;
+}
+
+abbrev pub decreases-loop : goal.decreases-loop
+decreases-loop l = l.parts.waiting

@@ -1,0 +1,62 @@
+-- The link at the place is the one that can start.
+use Rattle.std.proofs.Common.{ℕ, ap, sym, refl, subst, arith}
+use Rattle.dn_shaper.specs.Views.{LinkView, view_of, CanSend}
+use Rattle.dn_shaper.specs.Starting.{HasFront}
+use Rattle.dn_shaper.proofs.Places.{viewed, get-map, map-set}
+use Rattle.dn_shaper.proofs.Starting.{sends-at, front-at, room-at, pushed-at, waiting-at}
+use Rattle.dn_shaper.proofs.start.start_next.Goals as goal
+
+pub start_one-requires-clause-sends : goal.start_one-requires-clause-sends
+start_one-requires-clause-sends c =
+    let v = viewed view_of c.args.parts.now.links.items c.args.place c.index_mut-state.result.now c.requires.can.view c.requires.can.there c.index_mut-state.ensures.value in
+    subst (λ (v : LinkView). CanSend v v.link) (sym v.1) (sends-at c.args.parts.now c.requires.agrees c.requires.within c.args.place c.args.moment c.requires.can)
+
+pub start_one-requires-clause-front : goal.start_one-requires-clause-front
+start_one-requires-clause-front c =
+    let v = viewed view_of c.args.parts.now.links.items c.args.place c.index_mut-state.result.now c.requires.can.view c.requires.can.there c.index_mut-state.ensures.value in
+    subst (λ (v : LinkView). HasFront v c.args.parts.now.flows.flows) (sym v.1) (front-at c.args.parts.now c.requires.agrees c.requires.within c.args.place c.args.moment c.requires.can)
+
+pub start_one-requires-clause-some : goal.start_one-requires-clause-some
+start_one-requires-clause-some c =
+    let v = viewed view_of c.args.parts.now.links.items c.args.place c.index_mut-state.result.now c.requires.can.view c.requires.can.there c.index_mut-state.ensures.value in
+    let e = ap {B = ℕ} (λ (x : LinkView). x.waits) v.1 in
+    let some = c.requires.can.some in
+    omega arith
+
+pub start_one-requires-clause-free : goal.start_one-requires-clause-free
+start_one-requires-clause-free c =
+    let v = viewed view_of c.args.parts.now.links.items c.args.place c.index_mut-state.result.now c.requires.can.view c.requires.can.there c.index_mut-state.ensures.value in
+    let e = ap {B = ℕ} (λ (x : LinkView). x.value.free) v.1 in
+    let soon = c.requires.can.soon in
+    omega arith
+
+pub start_one-requires-clause-room : goal.start_one-requires-clause-room
+start_one-requires-clause-room c = room-at c.args.parts.now c.requires.agrees c.requires.within c.args.place c.args.moment c.requires.can
+
+pub start_one-requires-clause-pushed : goal.start_one-requires-clause-pushed
+start_one-requires-clause-pushed c = pushed-at c.args.parts.now c.requires.agrees c.requires.within c.args.place c.args.moment c.requires.can
+
+pub overflow_sub-parts : goal.overflow_sub-parts
+overflow_sub-parts c = waiting-at c.args.parts.now c.requires.agrees c.requires.within c.args.place c.args.moment c.requires.can
+
+pub returns : goal.returns
+returns c =
+    let v = viewed view_of c.args.parts.now.links.items c.args.place c.index_mut-state.result.now c.requires.can.view c.requires.can.there c.index_mut-state.ensures.value in
+    let some = waiting-at c.args.parts.now c.requires.agrees c.requires.within c.args.place c.args.moment c.requires.can in
+    record {
+      starts = record {
+        view = view_of c.index_mut-state.result.now;
+        view' = view_of c.start_one.new.state;
+        there = get-map view_of c.args.parts.now.links.items c.args.place c.index_mut-state.result.now v.0;
+        views_are = map-set view_of c.args.parts.now.links.items c.args.place c.start_one.new.state;
+        starts = c.start_one.ensures.starts;
+        keeps = c.start_one.ensures.keeps;
+        rule = refl;
+        accepted = refl;
+        keys = c.start_one.ensures.keys;
+        homes = refl;
+        waiting = omega arith;
+        room = c.start_one.ensures.room;
+        pushed = c.start_one.ensures.pushed;
+      };
+    }

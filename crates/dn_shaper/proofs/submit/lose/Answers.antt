@@ -1,0 +1,40 @@
+-- The parts agree with the event.
+use Rattle.std.proofs.Common.{◌^◌, ◌+◌, List, [], ◌∷◌, sym, subst, refl, arith}
+use Rattle.dn_types.specs.Trace.{lost}
+use Rattle.dn_types.specs.declared.flow_key.FlowKey.{FlowKey}
+use Rattle.dn_flows.specs.Table.{FlowState, flow_at, one_lost}
+use Rattle.dn_shaper.specs.Starting.{Within}
+use Rattle.dn_shaper.proofs.Accepting.{within-more}
+use Rattle.dn_shaper.proofs.Submitting.{noted-within}
+use Rattle.dn_shaper.specs.Agreement.{IsAt}
+use Rattle.dn_shaper.specs.Views.{home, views_of}
+use Rattle.dn_shaper.proofs.Quiet.{lost-agrees}
+use Rattle.dn_shaper.proofs.submit.lose.Goals as goal
+
+pub returns-clause-sees : goal.returns-clause-sees
+returns-clause-sees c = λ more trace a made.
+    let p = c.args.parts.now in
+    subst (λ (x : List FlowKey × List FlowState). IsAt p.rule p.accepted x.0 p.homes.items (views_of p) x.1 p.line.pending [] (lost (home p.flows.keys c.args.flow) c.args.flow ∷ trace)) (λ i. (sym c.note_lost.ensures.keys i, sym c.note_lost.ensures.flows i))
+    (lost-agrees p.rule p.accepted p.flows.keys p.homes.items (views_of p) p.flows.flows p.line.pending more trace a c.args.flow c.requires.within made)
+
+within-all : (c : goal.After-note_lost) → Within (2 ^ 62) (record { rule = c.args.parts.now.rule; accepted = c.args.parts.now.accepted; flows = c.note_lost.new.self; homes = c.args.parts.now.homes; links = c.args.parts.now.links; waiting = c.args.parts.now.waiting; line = c.args.parts.now.line })
+within-all c =
+    let p = c.args.parts.now in
+    let few = c.requires.few in
+    let i = few.2.flows_are c.args.flow in
+    let i0 = i.0 in
+    let i1 = i.1 in
+    let i2 = i.2 in
+    let lt = c.requires.within in
+    let m = c.requires.seen.2.as_many in
+    let n = few.1 in
+    within-more (few.0 + 1) (2 ^ 62) _ (omega arith) (noted-within few.0 c.args.flow (one_lost (flow_at p.flows.flows c.args.flow)) p (record { rule = p.rule; accepted = p.accepted; flows = c.note_lost.new.self; homes = p.homes; links = p.links; waiting = p.waiting; line = p.line }) (omega arith) c.note_lost.ensures.flows (omega arith, omega arith, omega arith) refl refl refl refl few.2)
+
+pub returns-clause-kept : goal.returns-clause-kept
+returns-clause-kept c = λ due kept. record {
+  agrees = let s = c.requires.seen in ([], lost (home c.args.parts.now.flows.keys c.args.flow) c.args.flow ∷ s.1, returns-clause-sees c s.0 s.1 s.2 s.3);
+  within = within-all c;
+  held = kept.held;
+  counted = kept.counted;
+  places = kept.places;
+}

@@ -1,0 +1,14 @@
+pub mod Agreement
+pub mod Arriving
+pub mod Configuring
+pub mod Discarding
+pub mod Due
+pub mod Making
+pub mod Settings
+pub mod Settling
+pub mod Showing
+pub mod Slots
+pub mod Standing
+pub mod Starting
+pub mod Submitting
+pub mod Views

@@ -1,0 +1,66 @@
+ghost use Rattle.std.specs.Prelude.{◌≡◌, ℕ, ◌+◌, ◌<◌, ◌≤◌, ◌^◌, sum, length, nat_eq, nat_le, ◌&&◌};
+ghost use Rattle.dn_flows.specs.Table.{flow_at, lengths};
+ghost use Rattle.dn_shaper.specs.Arriving.{Accepts, CanAccept, KeepsFlows};
+ghost use Rattle.dn_shaper.specs.Settings.{settings_of};
+ghost use Rattle.dn_shaper.specs.Settling.{IsKept};
+ghost use Rattle.dn_shaper.specs.Starting.{IsReady, Within};
+
+use crate::arrive::arrive;
+use crate::configured::Configured;
+use crate::due::Due;
+use crate::parts::{LinkParts, Parts};
+use crate::start::start_next;
+use dn_heap::MinHeap;
+use dn_types::{Len, Weight};
+
+/// No packet waits for the link, and it is free by the moment.
+fn is_idle(state: &LinkParts, at: u64) -> bool
+    ensures { result ≡ (nat_eq state.now.waiting 0 && nat_le state.now.link.free at) }
+{
+    state.waiting == 0 && state.link.free() <= at
+}
+
+/// Accepts a packet of the flow after a settling, in the room that was reserved, and answers its
+/// number. It starts at once where its link is idle.
+pub fn accept(
+    parts: &mut Parts,
+    due: &mut MinHeap<Due>,
+    configured: &Configured,
+    flow: usize,
+    len: Len,
+    weight: Weight,
+    at: u64,
+) -> u64
+    requires kept { IsKept parts.old due.old }
+    requires within { flow < length parts.old.flows.keys }
+    requires ready { IsReady flow parts.old }
+    requires bytes { sum (lengths (flow_at parts.old.flows.flows flow).backlog) + len < 2 ^ 32 }
+    requires early { at ≤ 2 ^ 62 }
+    requires few { (n : ℕ) × (n < 2 ^ 62) × Within n parts.old }
+    requires moves { due.old.moves + parts.old.waiting + 2 ≤ 2 ^ 63 }
+    requires settled { CanAccept (settings_of configured.now) at flow parts.old }
+    ensures number { result ≡ parts.old.accepted }
+    ensures accepts { Accepts (settings_of configured.now) at flow len weight parts.old parts.new }
+    ensures kept { IsKept parts.new due.new }
+    ensures within { (n : ℕ) → Within n parts.old → Within (n + 1) parts.new }
+    ensures moves { due.new.moves + parts.new.waiting ≤ due.old.moves + parts.old.waiting + 2 }
+    ensures keeps { KeepsFlows parts.old parts.new }
+{
+    let home = parts.homes[flow];
+    let number = parts.accepted;
+    let state = &parts.links[home.place];
+    let free = state.link.free();
+    let waited = state.waiting;
+    let rates = configured.rates(state.pipe);
+    let idle = is_idle(state, at);
+    arrive(parts, home, flow, len, weight, idle);
+    if idle {
+        start_next(parts, home.place, at, &rates);
+    } else if waited == 0 {
+        due.push_reserved(Due {
+            moment: free,
+            place: home.place,
+        });
+    }
+    number
+}

@@ -1,0 +1,44 @@
+ghost use Rattle.std.specs.Prelude.{◌≡◌, ℕ, ◌+◌, ◌<◌, ◌≤◌, ◌^◌, true, sum, length, slice_get, Some};
+ghost use Rattle.dn_flows.specs.Table.{flow_at, lengths};
+ghost use Rattle.dn_shaper.specs.Agreement.{Agrees};
+ghost use Rattle.dn_shaper.specs.Arriving.{CanJoin, Joins, ArrivesAt};
+ghost use Rattle.dn_shaper.specs.Views.{LinkView, view_of, views_of};
+ghost use Rattle.dn_shaper.specs.declared.parts.Home.{Home as HomeValue};
+
+use crate::parts::{Carries, Home, LinkParts, Parts};
+use dn_flows::Waiting;
+use dn_types::{Len, Weight};
+
+/// A packet joins those that wait for the link. On a shared link a busy period begins with it where
+/// the link is idle.
+fn join_link(state: &mut LinkParts, slot: usize, len: Len, weight: Weight, idle: bool)
+    requires can { CanJoin slot idle (view_of state.old) (view_of state.old).link }
+    requires few { state.old.waiting < 2 ^ 62 }
+    ensures { Joins slot len weight idle (view_of state.old) (view_of state.new) }
+{
+    if let Carries::Shared(shared) = &mut state.carries {
+        if idle {
+            shared.sched.begin_busy();
+        }
+        shared.sched.arrive(slot, len, weight);
+    }
+    state.waiting += 1;
+}
+
+/// A packet is accepted, and waits at its home.
+pub fn arrive(parts: &mut Parts, home: Home, flow: usize, len: Len, weight: Weight, idle: bool)
+    requires can { (v : LinkView) × (slice_get (views_of parts.old) home.place ≡ Some v) × CanJoin home.slot idle v v.link × (v.waits < 2 ^ 62) }
+    requires within { flow < length parts.old.flows.flows }
+    requires reserved { (flow_at parts.old.flows.flows flow).reserved ≡ true }
+    requires bytes { sum (lengths (flow_at parts.old.flows.flows flow).backlog) + len < 2 ^ 32 }
+    requires accepted { parts.old.accepted < 2 ^ 62 }
+    requires waiting { parts.old.waiting < 2 ^ 62 }
+    ensures { ArrivesAt home flow len weight idle parts.old parts.new }
+{
+    let state = &mut parts.links[home.place];
+    join_link(state, home.slot, len, weight, idle);
+    let packet = parts.accepted;
+    parts.flows.push_reserved(flow, Waiting { packet, len });
+    parts.accepted += 1;
+    parts.waiting += 1;
+}

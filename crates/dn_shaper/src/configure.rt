@@ -1,0 +1,67 @@
+ghost use Rattle.std.specs.Prelude.{◌≡◌, ℕ, List, ◌+◌, ◌<◌, ◌≤◌, ◌^◌, IfOk, OnErr};
+ghost use Rattle.dn_types.specs.Calls.{reaches};
+ghost use Rattle.dn_types.specs.declared.call.Call.{Call as CallValue};
+ghost use Rattle.dn_types.specs.declared.call.Call.TheVariants.{Configure};
+ghost use Rattle.dn_shaper.specs.Arriving.{KeepsFlows};
+ghost use Rattle.dn_shaper.specs.Configuring.{DiscardsReached};
+ghost use Rattle.dn_shaper.specs.Settling.{IsKept};
+ghost use Rattle.dn_shaper.specs.Standing.{Does, IsSound, StandsAt};
+ghost use Rattle.dn_shaper.specs.Starting.{Within};
+
+use crate::discard::discard_flow;
+use crate::due::Due;
+use crate::parts::Parts;
+use crate::state::State;
+use dn_heap::MinHeap;
+use dn_types::{Command, FlowKey, Reply, Target};
+use std::alloc::AllocError;
+
+/// Whether a delete reaches the flows with the key: those of the queue, or those on the pipe.
+fn reaches(command: &Command, key: &FlowKey) -> bool
+    ensures { result ≡ reaches command.now key.now }
+{
+    match command {
+        Command::DeletePipe(number) => key.pipe == *number,
+        Command::DeleteQueue(number) => key.target == Target::Queue(*number),
+        _ => false,
+    }
+}
+
+/// Discards the packets of all flows that the delete reaches, in order of flow numbers.
+fn discard_reached(parts: &mut Parts, due: &mut MinHeap<Due>, command: &Command)
+    requires kept { IsKept parts.old due.old }
+    ensures discards { DiscardsReached command.now parts.old parts.new }
+    ensures kept { IsKept parts.new due.new }
+    ensures within { (n : ℕ) → Within n parts.old → Within n parts.new }
+    ensures moves { due.new.moves + parts.new.waiting ≤ due.old.moves + parts.old.waiting }
+    ensures keeps { KeepsFlows parts.old parts.new }
+{
+    for flow in 0..parts.flows.len() {
+        if reaches(command, &parts.flows.key(flow)) {
+            discard_flow(parts, due, flow);
+        }
+    }
+}
+
+/// Answers a command: an accepted one changes what is in force, and an accepted delete discards the
+/// packets of the flows that it reaches. Memory is taken for a new pipe or queue alone, before any
+/// change.
+pub fn configure(state: &mut State, command: &Command) -> Result<Reply, AllocError>
+    requires sound { IsSound state.old }
+    requires few { state.old.calls < 2 ^ 62 }
+    ensures does { IfOk result (λ reply. Does (Configure command.now) state.old state.new reply) }
+    ensures sound { IsSound state.new }
+    ensures refused { OnErr result ((calls : List CallValue) → StandsAt state.old calls → StandsAt state.new calls) }
+{
+    let reply = state.configured.reply(command);
+    match &reply {
+        Reply::Configured => state.configured.put(command)?,
+        Reply::Deleted => {
+            state.configured.remove(command);
+            discard_reached(&mut state.parts, &mut state.due, command);
+        }
+        _ => {}
+    }
+    state.calls += 1;
+    Ok(reply)
+}

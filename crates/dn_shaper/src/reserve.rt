@@ -1,0 +1,34 @@
+ghost use Rattle.std.specs.Prelude.{◌<◌, ◌^◌, length, OnOk};
+ghost use Rattle.dn_shaper.specs.Agreement.{Agrees};
+ghost use Rattle.dn_shaper.specs.Making.{HasRoom, KeepsLink, Reserves};
+ghost use Rattle.dn_shaper.specs.Starting.{IsReady};
+ghost use Rattle.dn_shaper.specs.Views.{view_of};
+
+use crate::parts::{Carries, LinkParts, Parts};
+use std::alloc::AllocError;
+
+/// Makes room for one more packet at the slot of a link. A link of one flow needs none.
+fn reserve_at(state: &mut LinkParts, slot: usize) -> Result<(), AllocError>
+    ensures ok { OnOk result (HasRoom slot (view_of state.new) (view_of state.new).link) }
+    ensures keeps { KeepsLink (view_of state.old) (view_of state.new) }
+{
+    match &mut state.carries {
+        Carries::Own(_) => Ok(()),
+        Carries::Shared(shared) => shared.sched.reserve_flow(slot),
+    }
+}
+
+/// Makes room for one more packet of a flow that is known: in the delay line, in the flow's queue
+/// and at its slot. It changes nothing but room, also where memory is refused.
+pub fn reserve_known(parts: &mut Parts, flow: usize) -> Result<(), AllocError>
+    requires agrees { Agrees parts.old }
+    requires within { flow < length parts.old.flows.keys }
+    requires few { parts.old.waiting < 2 ^ 62 }
+    ensures ready { OnOk result (IsReady flow parts.new) }
+    ensures only { Reserves parts.old parts.new }
+{
+    parts.line.reserve(parts.waiting + 1)?;
+    parts.flows.reserve_place(flow)?;
+    let home = parts.homes[flow];
+    reserve_at(&mut parts.links[home.place], home.slot)
+}

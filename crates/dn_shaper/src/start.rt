@@ -1,0 +1,114 @@
+ghost use Rattle.std.specs.Prelude.{◌≡◌, ℕ, ◌+◌, ◌*◌, ◌^◌, ◌<◌, ◌≤◌, slice_get, slice_set, length};
+ghost use Rattle.dn_types.specs.Deliveries.{in_order};
+ghost use Rattle.dn_types.specs.Links.{transmission_time, due_by};
+ghost use Rattle.dn_shaper.specs.Views.{view_of, TakesNext, CanSend};
+ghost use Rattle.dn_shaper.specs.Agreement.{Agrees};
+ghost use Rattle.dn_shaper.specs.Starting.{HasFront, Starts, KeepsSchedule, Within, CanStart, StartsAt};
+
+use crate::parts::{Carries, LinkParts, Parts};
+use dn_flows::{Flows, Waiting};
+use dn_link::{DelayLine, Link, tx_time};
+use dn_types::{Bandwidth, Delay, Delivery, Rule};
+
+/// The bandwidth and the delay of a pipe.
+#[derive(Clone, Copy, Debug, PartialEq, Eq)]
+pub struct Rates {
+    pub bandwidth: Bandwidth,
+    pub delay: Delay,
+}
+
+/// The flow whose packet the link sends next. On a shared link that is the scheduler's pick.
+fn next_flow(state: &mut LinkParts) -> usize
+    requires { CanSend (view_of state.old) (view_of state.old).link }
+    ensures takes { TakesNext result (view_of state.old) (view_of state.new) }
+    ensures keeps { KeepsSchedule (view_of state.old) (view_of state.new) }
+{
+    match &mut state.carries {
+        Carries::Own(flow) => *flow,
+        Carries::Shared(shared) => {
+            let slot = shared.sched.pick().unwrap();
+            shared.flows[slot]
+        }
+    }
+}
+
+/// The transmission of the packet begins, and it is under way.
+fn send(
+    rule: Rule,
+    rates: &Rates,
+    link: &mut Link,
+    flow: usize,
+    packet: Waiting,
+    moment: u64,
+    line: &mut DelayLine,
+)
+    requires free { link.old.free ≤ moment }
+    requires early { moment ≤ 2 ^ 62 }
+    requires room { 0 < line.old.room }
+    requires pushed { line.old.pushed < 2 ^ 62 }
+    ensures free { link.new.free ≡ moment + transmission_time rates.now.bandwidth packet.len }
+    ensures last_due { link.new.last_due ≡ due_by rule (moment + transmission_time rates.now.bandwidth packet.len + rates.now.delay * 1000000) link.old.last_due }
+    ensures pending { line.new.pending ≡ in_order (record { due = link.new.last_due; packet = packet.packet; flow = flow; start = moment }) line.old.pending }
+    ensures room { line.new.room + 1 ≡ line.old.room }
+    ensures pushed { line.new.pushed ≡ line.old.pushed + 1 }
+{
+    // The proof takes the bound of the delay from this.
+    let _delay = rates.delay.get();
+    let transmission = tx_time(packet.len, rates.bandwidth);
+    link.begin(moment, transmission);
+    let due = link.deliver(moment, transmission, rates.delay, rule);
+    line.push_reserved(Delivery {
+        due,
+        packet: packet.packet,
+        flow,
+        start: moment,
+    });
+}
+
+/// The link's next packet leaves its queue and is sent at the moment.
+pub fn start_one(
+    rule: Rule,
+    rates: &Rates,
+    moment: u64,
+    state: &mut LinkParts,
+    flows: &mut Flows,
+    line: &mut DelayLine,
+)
+    requires some { 0 < state.old.waiting }
+    requires sends { CanSend (view_of state.old) (view_of state.old).link }
+    requires front { HasFront (view_of state.old) flows.old.flows }
+    requires free { state.old.link.free ≤ moment }
+    requires early { moment ≤ 2 ^ 62 }
+    requires room { 0 < line.old.room }
+    requires pushed { line.old.pushed < 2 ^ 62 }
+    ensures starts { Starts rule rates.now.bandwidth rates.now.delay moment (view_of state.old) flows.old.flows line.old.pending (view_of state.new) flows.new.flows line.new.pending }
+    ensures keeps { KeepsSchedule (view_of state.old) (view_of state.new) }
+    ensures keys { flows.new.keys ≡ flows.old.keys }
+    ensures room { line.new.room + 1 ≡ line.old.room }
+    ensures pushed { line.new.pushed ≡ line.old.pushed + 1 }
+{
+    let flow = next_flow(state);
+    let packet = flows.pop_front(flow).unwrap();
+    send(rule, rates, &mut state.link, flow, packet, moment, line);
+    state.waiting -= 1;
+}
+
+/// The next packet of the link at the place is sent at the moment.
+pub fn start_next(parts: &mut Parts, place: usize, moment: u64, rates: &Rates)
+    requires agrees { Agrees parts.old }
+    requires within { Within (2 ^ 62) parts.old }
+    requires can { CanStart parts.old place moment }
+    requires early { moment ≤ 2 ^ 62 }
+    ensures starts { StartsAt place moment rates.now.bandwidth rates.now.delay parts.old parts.new }
+{
+    let state = &mut parts.links[place];
+    start_one(
+        parts.rule,
+        rates,
+        moment,
+        state,
+        &mut parts.flows,
+        &mut parts.line,
+    );
+    parts.waiting -= 1;
+}

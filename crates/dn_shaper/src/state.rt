@@ -1,0 +1,44 @@
+ghost use Rattle.std.specs.Prelude.{[]};
+ghost use Rattle.dn_shaper.specs.Standing.{IsSound, StandsAt};
+
+use crate::configured::Configured;
+use crate::due::Due;
+use crate::parts::Parts;
+use dn_flows::Flows;
+use dn_heap::MinHeap;
+use dn_link::DelayLine;
+use dn_types::Rule;
+use std::alloc::Global;
+
+/// All that a shaper keeps: the parts that packets change, the heap of the links that have a
+/// backlog, what is configured, the clock in nanoseconds and the count of calls.
+#[derive(Drop)]
+pub struct State {
+    pub parts: Parts,
+    pub due: MinHeap<Due>,
+    pub configured: Configured,
+    pub now: u64,
+    pub calls: u64,
+}
+
+/// A shaper before its first call. It takes no memory.
+pub fn new_state(alloc: Global, rule: Rule) -> State
+    ensures sound { IsSound result }
+    ensures stands { StandsAt result [] }
+{
+    State {
+        parts: Parts {
+            rule,
+            accepted: 0,
+            flows: Flows::new(alloc),
+            homes: Vec::new(alloc),
+            links: Vec::new(alloc),
+            waiting: 0,
+            line: DelayLine::new(alloc),
+        },
+        due: MinHeap::new(alloc),
+        configured: Configured::new(alloc),
+        now: 0,
+        calls: 0,
+    }
+}

@@ -1,0 +1,44 @@
+ghost use Rattle.std.specs.Prelude.{◌≡◌, ◌<◌, ◌^◌, IfOk, OnErr, OnOk};
+ghost use Rattle.dn_types.specs.declared.call.Call.TheVariants.{Advance, Collect};
+ghost use Rattle.dn_shaper.specs.Standing.{Does, IsSound};
+
+use crate::collect::give;
+use crate::settle::settle;
+use crate::state::State;
+use dn_types::{Deliveries, Moment, Reply};
+use std::alloc::{AllocError, Global};
+
+/// Moves the clock, and starts all that starts by then. It takes no memory.
+pub fn advance(state: &mut State, moment: Moment) -> Reply
+    requires sound { IsSound state.old }
+    requires few { state.old.calls < 2 ^ 62 }
+    ensures does { Does (Advance moment) state.old state.new result }
+    ensures sound { IsSound state.new }
+{
+    let at = state.now.max(moment.get());
+    settle(&mut state.parts, &mut state.due, &state.configured, at);
+    state.now = at;
+    state.calls += 1;
+    Reply::Advanced { at }
+}
+
+/// Moves the clock, and gives the packets that are due by then. The list is reserved first, with
+/// room for all that wait or are under way.
+pub fn collect(state: &mut State, alloc: Global, moment: Moment) -> Result<Reply, AllocError>
+    requires sound { IsSound state.old }
+    requires few { state.old.calls < 2 ^ 62 }
+    ensures does { IfOk result (λ reply. Does (Collect moment) state.old state.new reply) }
+    ensures sound { IsSound state.new }
+    ensures refused { OnErr result (state.new ≡ state.old) }
+{
+    let at = state.now.max(moment.get());
+    let mut list = Vec::with_capacity(alloc, state.parts.line.len() + state.parts.waiting)?;
+    settle(&mut state.parts, &mut state.due, &state.configured, at);
+    give(&mut state.parts.line, at, &mut list);
+    state.now = at;
+    state.calls += 1;
+    Ok(Reply::Delivered {
+        at,
+        list: Deliveries::from_vec(list),
+    })
+}
