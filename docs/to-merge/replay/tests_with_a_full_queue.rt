@@ -1,0 +1,201 @@
+use super::*;
+use dn_records::{FromReader, FromWriter, Inlet};
+use dn_types::{
+    Call, Command, Deliveries, Delivery, Entry, FiveTuple, Len, Moment, Number, Packet, Reply,
+    Target,
+};
+use std::io;
+use std::test::Fail;
+
+const HEADER: &str = "moment,target,number,src,dst,proto,sport,dport,len,word\n";
+
+// The answers are those of the page on packet files.
+#[test]
+fn packet_files_have_rows(rt: HostRuntime) -> Result<(), Fail> {
+    let alloc = rt.alloc();
+    let bad = |row, field| Err(ReplayFault::BadRow { row, field });
+    let rows: [(&str, Result<usize, ReplayFault>); 8] = [
+        ("", Ok(0)),
+        ("0,queue,9,10.0.0.1,10.0.0.2,17,1000,2000,1000,0\n", Ok(1)),
+        (
+            "4611686018427387904,pipe,1,0.0.0.0,255.255.255.255,0,0,0,1,4294967295",
+            Ok(1),
+        ),
+        ("0,pipe,1,10.0.0.1,10.0", bad(1, 0)),
+        (
+            "4611686018427387905,pipe,1,10.0.0.1,10.0.0.2,17,1000,2000,1000,0",
+            bad(1, 1),
+        ),
+        ("0,link,0,10.0.0.1,10.0.0.2,17,1000,2000,1000,0", bad(1, 2)),
+        ("0,pipe,0,10.0.0.1,10.0.0,17,1000,2000,1000,0", bad(1, 3)),
+        (
+            "0,pipe,1,10.0.0.1,10.0.0.2,17,1000,2000,1000,0\n0,pipe,1,10.0.0.1,10.0.0.2,17,1000,2000,0,0",
+            bad(2, 9),
+        ),
+    ];
+    for (below, answer) in rows {
+        let text = format!(in alloc; "{HEADER}{below}")?;
+        let mut input = FromReader::new(text.as_bytes());
+        let outcome = read_packets(alloc, &mut input);
+        assert!(rt; !input.failed());
+        assert!(rt; outcome.map(|rows| rows.len()) == answer);
+    }
+    let mut empty = FromReader::new(b"".as_slice());
+    assert!(rt; read_packets(alloc, &mut empty).map(|rows| rows.len()) == Ok(0));
+    let mut other = FromReader::new(b"moment,target\n".as_slice());
+    assert!(rt;
+        read_packets(alloc, &mut other).err() == Some(ReplayFault::BadRow { row: 0, field: 0 })
+    );
+    let mut endless = FromReader::new(io::repeat(b'\n'));
+    assert!(rt;
+        read_packets(alloc, &mut endless).err() == Some(ReplayFault::TooLong(Source::Packets))
+    );
+    Ok(())
+}
+
+#[test]
+fn configurations_have_numbered_lines(rt: HostRuntime) -> Result<(), Fail> {
+    let alloc = rt.alloc();
+    let mut input = FromReader::new(b"# two links\npipe delete 7\r\n\nqueue delete 2".as_slice());
+    let Ok(commands) = read_config(alloc, &mut input) else {
+        panic!(rt; "each line is a command or none")
+    };
+    let seven = Number::new(7).map(Command::DeletePipe);
+    let two = Number::new(2).map(Command::DeleteQueue);
+    assert!(rt; commands.len() == 2);
+    assert!(rt; commands[0].0 == 2 && Some(commands[0].1) == seven);
+    assert!(rt; commands[1].0 == 4 && Some(commands[1].1) == two);
+    let mut bad = FromReader::new(b"pipe 1 config\n\xff\n".as_slice());
+    assert!(rt; read_config(alloc, &mut bad).err() == Some(ReplayFault::ConfigText(2)));
+    Ok(())
+}
+
+#[test]
+fn fault_lines_and_statuses(rt: HostRuntime) -> Result<(), Fail> {
+    let alloc = rt.alloc();
+    let fault = dn_config::LineFault::OutOfRange(2);
+    let rows: [(ReplayFault, &str, u8); 12] = [
+        (
+            ReplayFault::Config { line: 3, fault },
+            "config line 3, word 2: out of range",
+            3,
+        ),
+        (ReplayFault::ConfigText(4), "config line 4: not UTF-8", 3),
+        (ReplayFault::NoSuchPipe(1), "config line 1: no such pipe", 3),
+        (
+            ReplayFault::BadRow { row: 7, field: 9 },
+            "packet row 7, field 9: bad",
+            4,
+        ),
+        (ReplayFault::BadRecord(12), "history record 12: bad", 4),
+        (ReplayFault::TooLong(Source::Input), "input too long", 6),
+        (ReplayFault::Read(Source::Config), "cannot read config", 6),
+        (ReplayFault::Write(Source::Report), "cannot write report", 6),
+        (ReplayFault::OutOfMemory, "out of memory", 5),
+        (ReplayFault::BadCount, "bad count of callers", 2),
+        (
+            ReplayFault::PipeHasQueues(2),
+            "config line 2: pipe has queues",
+            3,
+        ),
+        (
+            ReplayFault::NoSuchQueue(5),
+            "config line 5: no such queue",
+            3,
+        ),
+    ];
+    for (fault, line, status) in rows {
+        let shown = format!(in alloc; "{fault}")?;
+        assert!(rt; shown.as_str() == line);
+        assert!(rt; fault.status() == status);
+    }
+    Ok(())
+}
+
+fn submit(reply: Reply) -> Option<Entry> {
+    let packet = Packet {
+        tuple: FiveTuple {
+            src: 0,
+            dst: 0,
+            proto: 0,
+            sport: 0,
+            dport: 0,
+        },
+        len: Len::new(1000)?,
+        word: 0,
+    };
+    Some(Entry {
+        caller: 0,
+        call: Call::Submit {
+            target: Target::Pipe(Number::new(1)?),
+            packet,
+            moment: Moment::new(0)?,
+        },
+        reply,
+    })
+}
+
+// Four packets to a pipe of 8 Mbit/s with one slot: the second waits for the first, the third finds
+// the slot full, and the fourth comes when the first has gone.
+#[test]
+fn a_full_queue(rt: HostRuntime) -> Result<(), Fail> {
+    let alloc = rt.alloc();
+    let mut given = Vec::new(alloc);
+    for packet in 0..3u64 {
+        given.push(Delivery {
+            due: (packet + 1) * 1_000_000,
+            packet,
+            flow: 0,
+            start: packet * 1_000_000,
+        })?;
+    }
+    let replies = [
+        Reply::Queued {
+            at: 0,
+            flow: 0,
+            packet: 0,
+        },
+        Reply::Queued {
+            at: 0,
+            flow: 0,
+            packet: 1,
+        },
+        Reply::Full { at: 0, flow: 0 },
+        Reply::Queued {
+            at: 1_000_000,
+            flow: 0,
+            packet: 2,
+        },
+    ];
+    let mut history = Vec::new(alloc);
+    for reply in replies {
+        let Some(entry) = submit(reply) else {
+            panic!(rt; "the values are in range")
+        };
+        history.push(entry)?;
+    }
+    let Some(end) = Moment::new(1 << 62) else {
+        panic!(rt; "the last moment")
+    };
+    history.push(Entry {
+        caller: 0,
+        call: Call::Collect(end),
+        reply: Reply::Delivered {
+            at: 1 << 62,
+            list: Deliveries::from_vec(given),
+        },
+    })?;
+    for entry in &history {
+        assert!(rt; entry.caller < 1);
+    }
+    let mut output = Vec::new(alloc);
+    let outcome = write_report(alloc, 1, &history, &mut FromWriter::new(&mut output));
+    assert!(rt; outcome == Ok(()));
+    let report = "event,row,flow,packet,at,start,due\n\
+        out,1,0,0,0,0,1000000\n\
+        out,2,0,1,0,1000000,2000000\n\
+        out,4,0,2,1000000,2000000,3000000\n\
+        full,3,0,,0,,\n";
+    assert!(rt; output.as_slice() == report.as_bytes());
+    Ok(())
+}
