@@ -59,13 +59,16 @@ module _ (command : Command) (reply : Reply) (old new : State)
       ∙ (λ i. cond (target_eq (subject command) target) (setting_after (reply-is calls s i) command (s.settings_are i target)) (s.settings_are i target))
 
   pub configured-does : Does (Configure command) old (one-more new) reply
-  configured-does calls s = (reply-is calls s, record {
-    calls_are = let c = s.calls_are in let d = obeys.calls_are in omega arith;
-    now_is = obeys.now_is ∙ s.now_is ∙ untimed (effective_moment calls);
-    settings_are = λ i target. setting-is calls s target i;
-    keys_are = obeys.keys_are ∙ s.keys_are;
-    agrees = subst (λ (x : Reply × List FlowKey). AgreesWith new.parts [] (after_command x.0 command x.1 (trace_of calls))) (λ i. (reply-is calls s i, s.keys_are i)) (obeys.agrees [] (trace_of calls) s.agrees);
-  })
+  configured-does calls s = (
+    reply-is calls s,
+    record {
+      calls_are = let c = s.calls_are in let d = obeys.calls_are in omega arith;
+      now_is = obeys.now_is ∙ s.now_is ∙ untimed (effective_moment calls);
+      settings_are = λ i target. setting-is calls s target i;
+      keys_are = obeys.keys_are ∙ s.keys_are;
+      agrees = subst (λ (x : Reply × List FlowKey). AgreesWith new.parts [] (after_command x.0 command x.1 (trace_of calls))) (λ i. (reply-is calls s i, s.keys_are i)) (obeys.agrees [] (trace_of calls) s.agrees);
+    },
+  )
 
   pub configured-sound : IsSound old → IsSound (one-more new)
   configured-sound sound = record {

@@ -26,29 +26,29 @@ pub loop-flow-preserved : goal.loop-flow-preserved
 loop-flow-preserved c =
     let there : slice_get c.args.parts.now.flows.keys c.loop-flow.flow ≡ Some c.key.result = ap (λ (ks : List FlowKey). slice_get ks c.loop-flow.flow) (sym c.loop-flow.invariant.keeps.keys) ∙ c.key.ensures in
     elim c.if-reaches.branch [
-    | then-reaches w ↦ record {
-      kept = subst (λ (x : Parts × Heap Due). IsKept x.0 x.1) (λ i. (sym w.parts-is i, sym w.due-is i)) w.discard_flow.ensures.kept;
-      within = λ n h. subst (λ (p : Parts). Within n p) (sym w.parts-is) (w.discard_flow.ensures.within n (c.loop-flow.invariant.within n h));
-      moves =
-          let a = c.loop-flow.invariant.moves in
-          let b = w.discard_flow.ensures.moves in
-          let p = ap {B = ℕ} (λ (x : Parts). x.waiting) w.parts-is in
-          let d = ap {B = ℕ} (λ (x : Heap Due). x.moves) w.due-is in
-          omega arith;
-      keeps = subst (λ (p : Parts). KeepsFlows c.args.parts.now p) (sym w.parts-is) (keeps-more c.args.parts.now c.loop-flow.parts w.discard_flow.new.parts c.loop-flow.invariant.keeps w.discard_flow.ensures.keeps);
-      reached = subst (λ (p : Parts). DiscardsUpTo (c.loop-flow.flow + 1) c.args.command.now c.args.parts.now p) (sym w.parts-is) (one-discarded c.args.command.now c.args.parts.now c.loop-flow.flow c.loop-flow.parts c.key.result there c.loop-flow.invariant.reached w.discard_flow.new.parts (sym c.reaches.ensures ∙ w.if-reaches.true) w.discard_flow.ensures.discards);
-    }
-    | else-reaches w ↦ record {
-      kept = subst (λ (x : Parts × Heap Due). IsKept x.0 x.1) (λ i. (sym w.parts-is i, sym w.due-is i)) c.loop-flow.invariant.kept;
-      within = λ n h. subst (λ (p : Parts). Within n p) (sym w.parts-is) (c.loop-flow.invariant.within n h);
-      moves =
-          let a = c.loop-flow.invariant.moves in
-          let p = ap {B = ℕ} (λ (x : Parts). x.waiting) w.parts-is in
-          let d = ap {B = ℕ} (λ (x : Heap Due). x.moves) w.due-is in
-          omega arith;
-      keeps = subst (λ (p : Parts). KeepsFlows c.args.parts.now p) (sym w.parts-is) (c.loop-flow.invariant.keeps);
-      reached = subst (λ (p : Parts). DiscardsUpTo (c.loop-flow.flow + 1) c.args.command.now c.args.parts.now p) (sym w.parts-is) (one-passed c.args.command.now c.args.parts.now c.loop-flow.flow c.loop-flow.parts c.key.result there c.loop-flow.invariant.reached (sym c.reaches.ensures ∙ w.if-reaches.false));
-    }
+      | then-reaches w ↦ record {
+        kept = subst (λ (x : Parts × Heap Due). IsKept x.0 x.1) (λ i. (sym w.parts-is i, sym w.due-is i)) w.discard_flow.ensures.kept;
+        within = λ n h. subst (λ (p : Parts). Within n p) (sym w.parts-is) (w.discard_flow.ensures.within n (c.loop-flow.invariant.within n h));
+        moves =
+            let a = c.loop-flow.invariant.moves in
+            let b = w.discard_flow.ensures.moves in
+            let p = ap {B = ℕ} (λ (x : Parts). x.waiting) w.parts-is in
+            let d = ap {B = ℕ} (λ (x : Heap Due). x.moves) w.due-is in
+            omega arith;
+        keeps = subst (λ (p : Parts). KeepsFlows c.args.parts.now p) (sym w.parts-is) (keeps-more c.args.parts.now c.loop-flow.parts w.discard_flow.new.parts c.loop-flow.invariant.keeps w.discard_flow.ensures.keeps);
+        reached = subst (λ (p : Parts). DiscardsUpTo (c.loop-flow.flow + 1) c.args.command.now c.args.parts.now p) (sym w.parts-is) (one-discarded c.args.command.now c.args.parts.now c.loop-flow.flow c.loop-flow.parts c.key.result there c.loop-flow.invariant.reached w.discard_flow.new.parts (sym c.reaches.ensures ∙ w.if-reaches.true) w.discard_flow.ensures.discards);
+      }
+      | else-reaches w ↦ record {
+        kept = subst (λ (x : Parts × Heap Due). IsKept x.0 x.1) (λ i. (sym w.parts-is i, sym w.due-is i)) c.loop-flow.invariant.kept;
+        within = λ n h. subst (λ (p : Parts). Within n p) (sym w.parts-is) (c.loop-flow.invariant.within n h);
+        moves =
+            let a = c.loop-flow.invariant.moves in
+            let p = ap {B = ℕ} (λ (x : Parts). x.waiting) w.parts-is in
+            let d = ap {B = ℕ} (λ (x : Heap Due). x.moves) w.due-is in
+            omega arith;
+        keeps = subst (λ (p : Parts). KeepsFlows c.args.parts.now p) (sym w.parts-is) (c.loop-flow.invariant.keeps);
+        reached = subst (λ (p : Parts). DiscardsUpTo (c.loop-flow.flow + 1) c.args.command.now c.args.parts.now p) (sym w.parts-is) (one-passed c.args.command.now c.args.parts.now c.loop-flow.flow c.loop-flow.parts c.key.result there c.loop-flow.invariant.reached (sym c.reaches.ensures ∙ w.if-reaches.false));
+      }
     ]
 
 pub returns-clause-discards : goal.returns-clause-discards
