@@ -1,17 +1,17 @@
 -- The commands in force, as entries and as a function of the target.
-use Rattle.std.proofs.Common.{◌≡◌, ◌∙◌, ◌≤◌, ◌+◌, ◌⊎◌, ◌||◌, ℕ, zero, suc, take, length, Bool, true, false, cond, List, [], ◌∷◌, refl, ap, sym, subst, arith, ⊎_elim, inl, inr, true≢false}
+use Rattle.std.proofs.Common.{◌≡◌, ◌∙◌, ◌≤◌, ◌+◌, ◌||◌, ℕ, zero, suc, take, length, Bool, true, false, cond, List, [], ◌∷◌, refl, ap, sym, subst, arith, ⊎_elim, true≢false}
 use Rattle.std.specs.Prelude.{Option, Some, None, is_some, nat_eq, slice_get}
 use Rattle.std.specs.List.{list_any, IsDistinct, AllByRecursion}
 use Rattle.std.specs.Map.{keys_of, lookup}
 use Rattle.std.proofs.lemmas.Bool.{cases_eq}
 use Rattle.std.proofs.lemmas.Map.Keys.{IsDistinct-head, IsDistinct-tail}
 use Rattle.indexmap.specs.IndexMap.{IndexMap, get}
-use Rattle.dn_types.specs.Configuration.{Settings, target_eq, is_queue_of, has_queues, subject, settings, command_reply, queue_numbers, setting_after}
+use Rattle.dn_types.specs.Configuration.{target_eq, is_queue_of, has_queues, subject, settings, command_reply, queue_numbers, setting_after}
 use Rattle.dn_types.specs.declared.call.Call.{Call}
 use Rattle.dn_types.specs.declared.call.Call.TheVariants.{Configure, Submit, Advance, Collect, Show}
 use Rattle.dn_types.specs.declared.command.Command.{Command}
 use Rattle.dn_types.specs.declared.command.Command.TheVariants.{Pipe, Queue, DeletePipe, DeleteQueue}
-use Rattle.dn_types.specs.declared.reply.Reply.TheVariants.{Configured, Deleted, NoSuchQueue}
+use Rattle.dn_types.specs.declared.reply.Reply.TheVariants.{Deleted, NoSuchQueue}
 use Rattle.dn_types.specs.declared.target.Target.{Target}
 use Rattle.dn_types.specs.declared.target.Target.TheVariants.{Pipe as ToPipe, Queue as ToQueue}
 use Rattle.dn_types.specs.contracts.target.TargetPartialEq.TheImpl as impl

@@ -121,7 +121,9 @@ impl Configured {
     pub fn put(&mut self, command: &Command) -> Result<(), AllocError>
         ensures puts { OnOk result (Puts command.now (Some command.now) (settings_of self.old) (settings_of self.new)) }
         ensures refused { OnErr result (settings_of self.new ≡ settings_of self.old) }
+        ensures only_new { OnErr result (settings_of self.old (subject command.now) ≡ None) }
     {
+        // The prover asks that a body that moves a command into a map names the types in it.
         let _limit: Option<Limit> = None;
         let _buckets: Option<Buckets> = None;
         let _mask: Option<Mask> = None;

@@ -1,4 +1,4 @@
-use Rattle.std.proofs.Common.{◌≡◌, ◌≤◌, ◌+◌, ℕ, length}
+use Rattle.std.proofs.Common.{◌≤◌, ◌+◌, ℕ}
 use Rattle.dn_shaper.specs.Arriving.{KeepsFlows}
 use Rattle.dn_shaper.proofs.Reached.{DiscardsUpTo}
 use Rattle.dn_shaper.specs.Settling.{IsKept}
