@@ -1,7 +1,9 @@
 -- A new shaper stands after no call.
 use Rattle.std.proofs.Common.{◌≡◌, ◌∙◌, ◌^◌, ℕ, List, [], map, refl, ap, sym, subst, length, arith}
-use Rattle.std.specs.Prelude.{Some, None, slice_get}
+use Rattle.std.specs.Prelude.{Some, None, nat_eq, slice_get}
+use Rattle.std.specs.Map.{lookup}
 use Rattle.std.proofs.lemmas.List.Elements.{All-nil}
+use Rattle.dn_types.specs.Trace.{Link}
 use Rattle.dn_types.specs.declared.delivery.Delivery.{Delivery}
 use Rattle.dn_types.specs.declared.flow_key.FlowKey.{FlowKey}
 use Rattle.dn_types.specs.declared.rule.Rule.{Rule}
@@ -10,10 +12,10 @@ use Rattle.dn_flows.specs.Table.{FlowState, flow_at}
 use Rattle.dn_shaper.specs.declared.due.Due.{Due}
 use Rattle.dn_shaper.specs.declared.parts.Home.{Home}
 use Rattle.dn_shaper.specs.declared.state.State.{State}
-use Rattle.dn_shaper.specs.Agreement.{AgreesWith, IsAt}
+use Rattle.dn_shaper.specs.Agreement.{AgreesWith, IsAt, link_names}
 use Rattle.dn_shaper.specs.Due.{Holds, due_at, backlogged}
 use Rattle.dn_shaper.specs.Settings.{settings_of}
-use Rattle.dn_shaper.specs.Standing.{StandsAt, IsSound}
+use Rattle.dn_shaper.specs.Standing.{StandsAt, IsIndexed, IsSound}
 use Rattle.dn_shaper.specs.Starting.{IsFlowWithin, Within}
 use Rattle.dn_shaper.specs.Views.{LinkView, view_of, views_of, dues, waits_in_all}
 
@@ -35,7 +37,7 @@ nothing-agrees rule = record {
 }
 
 module _ (s : State) (accepted : s.parts.accepted ≡ 0) (keys : s.parts.flows.keys ≡ []) (flows : s.parts.flows.flows ≡ []) (homes : s.parts.homes.items ≡ []) (links : s.parts.links.items ≡ []) (waiting : s.parts.waiting ≡ 0)
-    (pending : s.parts.line.pending ≡ []) (pushed : s.parts.line.pushed ≡ 0) (empty : s.due.keys ≡ []) (moves : s.due.moves ≡ 0) (none : (t : Target) → settings_of s.configured t ≡ None) (now : s.now ≡ 0) (calls : s.calls ≡ 0) where
+    (shared : s.shared ≡ []) (pending : s.parts.line.pending ≡ []) (pushed : s.parts.line.pushed ≡ 0) (empty : s.due.keys ≡ []) (moves : s.due.moves ≡ 0) (none : (t : Target) → settings_of s.configured t ≡ None) (now : s.now ≡ 0) (calls : s.calls ≡ 0) where
   views : views_of s.parts ≡ []
   views = ap (map view_of) links
 
@@ -44,8 +46,8 @@ module _ (s : State) (accepted : s.parts.accepted ≡ 0) (keys : s.parts.flows.k
       subst (λ (x : ℕ × List FlowKey × List FlowState). IsAt s.parts.rule x.0 x.1 s.parts.homes.items (views_of s.parts) x.2 s.parts.line.pending [] []) (λ i. (sym accepted i, sym keys i, sym flows i))
       (subst (λ (x : List Home × List LinkView × List Delivery). IsAt s.parts.rule 0 [] x.0 x.1 [] x.2 [] []) (λ i. (sym homes i, sym views i, sym pending i)) (nothing-agrees s.parts.rule))
 
-  pub begins : StandsAt s []
-  begins = record { calls_are = calls; now_is = now; settings_are = λ i t. none t i; keys_are = keys; agrees = agrees }
+  pub begins : (rule : Rule) → s.parts.rule ≡ rule → StandsAt rule s []
+  begins rule is = record { rule_is = is; calls_are = calls; now_is = now; settings_are = λ i t. none t i; keys_are = keys; agrees = agrees }
 
   flow-none : (g : ℕ) (n : ℕ) → IsFlowWithin n (flow_at s.parts.flows.flows g)
   flow-none g n = subst (λ (fs : List FlowState). IsFlowWithin n (flow_at fs g)) (sym flows) (omega arith, omega arith, omega arith)
@@ -64,6 +66,16 @@ module _ (s : State) (accepted : s.parts.accepted ≡ 0) (keys : s.parts.flows.k
   held : Holds (dues (views_of s.parts)) s.due.keys
   held = subst (λ (x : List LinkView × List Due). Holds (dues x.0) x.1) (λ i. (sym views i, sym empty i)) (record { once = λ place. refl; moments = All-nil (λ k. due_at [] k.place ≡ Some k.moment) })
 
+  -- No place is noted of any pipe.
+  unnoted : (pipe : ℕ) → lookup (nat_eq pipe) s.shared ≡ None
+  unnoted pipe = ap (λ (ps : List (ℕ × ℕ)). lookup (nat_eq pipe) ps) shared
+
+  indexed-none : IsIndexed s []
+  indexed-none = record {
+    found = λ pipe place e. absurd (let z : None ≡ Some place = sym (unnoted pipe) ∙ e in cc);
+    missing = λ pipe e. refl;
+  }
+
   pub begins-sound : IsSound s
   begins-sound = record {
     kept = record {
@@ -76,4 +88,5 @@ module _ (s : State) (accepted : s.parts.accepted ≡ 0) (keys : s.parts.flows.k
     within = within-none s.calls;
     moves = omega arith;
     early = omega arith;
+    indexed = subst (λ (ls : List Link). IsIndexed s ls) (sym (ap (λ (vs : List LinkView). link_names vs) views)) indexed-none;
   }

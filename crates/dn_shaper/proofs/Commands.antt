@@ -16,10 +16,12 @@ use Rattle.dn_types.specs.declared.target.Target.{Target}
 use Rattle.dn_types.specs.declared.target.Target.TheVariants.{Pipe as ToPipe, Queue as ToQueue}
 use Rattle.dn_types.specs.contracts.target.TargetPartialEq.TheImpl as impl
 use Rattle.dn_types.proofs.Settled.{true_or_false}
-use Rattle.dn_shaper.specs.Configuring.{Lists, Puts, names_pipe}
+use Rattle.dn_shaper.specs.Configuring.{Lists, Puts}
+use Rattle.dn_shaper.specs.QueueCounts.{names_pipe}
+use Rattle.dn_shaper.specs.Settings.{settings_of}
 use Rattle.dn_shaper.proofs.Events.{eq-yes, eq-no}
 
-abbrev Entry : Type 0
+abbrev pub Entry : Type 0
 Entry = Target × Command
 
 abbrev names_entry : ℕ → Entry → Bool
@@ -28,7 +30,7 @@ names_entry pipe e = names_pipe pipe e.0 e.1
 abbrev found : List Entry → ℕ → Option Command
 found es q = lookup (target_eq (ToQueue q)) es
 
-same-number : (a b : ℕ) → nat_eq a b ≡ true → a ≡ b
+pub same-number : (a b : ℕ) → nat_eq a b ≡ true → a ≡ b
 same-number a b e = ⊎_elim (λ s. s) (λ ne. let n = eq-no a b ne in absurd cc) (cases_eq a b)
 
 or-right : (a b : Bool) → b ≡ true → (a || b) ≡ true
@@ -132,40 +134,5 @@ same-target (ToQueue a) (ToQueue b) = refl
 pub key-test : impl.eq-value.it ≡ target_eq
 key-test i a b = same-target a b i
 
-pub puts-by : {S : Type 0} (command : Command) (o : Option Command) (old new : IndexMap Target Command S) (t : Target) → t ≡ subject command
-    → ((q : Target) → get impl.eq-value.it new q ≡ cond (impl.eq-value.it t q) o (get impl.eq-value.it old q)) → Puts command o (λ q. get target_eq old q) (λ q. get target_eq new q)
-puts-by command o old new t is says q = subst (λ (x : (Target → Target → Bool) × Target). get x.0 new q ≡ cond (x.0 x.1 q) o (get x.0 old q)) (λ i. (key-test i, is i)) (says q)
-
 pub distinct-by : {S : Type 0} (m : IndexMap Target Command S) → IsDistinct impl.eq-value.it (keys_of m.entries) → IsDistinct target_eq (keys_of m.entries)
 distinct-by m d = subst (λ (eq : Target → Target → Bool). IsDistinct eq (keys_of m.entries)) key-test d
-
--- ---- A search of the entries, one by one
-
-unseen : (a b : Bool) → (a || b) ≡ false → (a ≡ false) × (b ≡ false)
-unseen true b e = absurd (true≢false e)
-unseen false b e = (refl, e)
-
-module _ (pipe : ℕ) where
-  pub seen-at : (es : List Entry) (i : ℕ) (e : Entry) → slice_get es i ≡ Some e → names_entry pipe e ≡ true → list_any (names_entry pipe) es ≡ true
-  seen-at [] i e at yes' = absurd cc
-  seen-at (x ∷ es) zero e at yes' = let same : x ≡ e = cc in ap (λ b. b || list_any (names_entry pipe) es) (ap (names_entry pipe) same ∙ yes')
-  seen-at (x ∷ es) (suc i) e at yes' = or-right (names_entry pipe x) (list_any (names_entry pipe) es) (seen-at es i e at yes')
-
-  unseen-after : (es : List Entry) (i : ℕ) (e : Entry) → slice_get es i ≡ Some e → names_entry pipe e ≡ false → list_any (names_entry pipe) (take i es) ≡ false → list_any (names_entry pipe) (take (suc i) es) ≡ false
-  unseen-after [] i e at no' none = absurd cc
-  unseen-after (x ∷ es) zero e at no' none = let same : x ≡ e = cc in ap (λ b. b || false) (ap (names_entry pipe) same ∙ no')
-  unseen-after (x ∷ es) (suc i) e at no' none =
-      let both = unseen (names_entry pipe x) (list_any (names_entry pipe) (take i es)) none in
-      ap (λ b. b || list_any (names_entry pipe) (take (suc i) es)) both.0 ∙ unseen-after es i e at no' both.1
-
-  pub unseen-at : (es : List Entry) (i : ℕ) (e : Entry) → slice_get es i ≡ Some e → names_entry pipe e ≡ false → list_any (names_entry pipe) (take i es) ≡ false → list_any (names_entry pipe) (take (i + 1) es) ≡ false
-  unseen-at es i e at no' none = let more : suc i ≡ i + 1 = omega arith in ap (λ n. list_any (names_entry pipe) (take n es)) (sym more) ∙ unseen-after es i e at no' none
-
-  take-all : (es : List Entry) (i : ℕ) → length es ≤ i → take i es ≡ es
-  take-all [] zero e = refl
-  take-all [] (suc i) e = refl
-  take-all (x ∷ es) zero e = absurd (omega arith)
-  take-all (x ∷ es) (suc i) e = ap (λ r. x ∷ r) (take-all es i (omega arith))
-
-  pub unseen-all : (es : List Entry) (i : ℕ) → length es ≤ i → list_any (names_entry pipe) (take i es) ≡ false → list_any (names_entry pipe) es ≡ false
-  unseen-all es i end none = ap (list_any (names_entry pipe)) (sym (take-all es i end)) ∙ none

@@ -1,11 +1,10 @@
 -- A shaper stands after a Configure call more, and stays sound.
-use Rattle.std.proofs.Common.{◌≡◌, ◌∙◌, ◌≤◌, ◌<◌, ◌^◌, ℕ, zero, suc, ◌+◌, ◌*◌, max, Bool, true, false, cond, List, [], ◌∷◌, refl, ap, sym, subst, length, arith}
+use Rattle.std.proofs.Common.{◌≡◌, ◌∙◌, ◌≤◌, ℕ, ◌+◌, max, Bool, true, false, cond, List, [], ◌∷◌, refl, ap, sym, subst, arith}
 use Rattle.std.specs.Prelude.{Option, Some, None}
 use Rattle.dn_heap.specs.Heap.{Heap}
 use Rattle.dn_types.specs.Calls.{after_command, trace_of}
 use Rattle.dn_types.specs.Clock.{effective_moment}
 use Rattle.dn_types.specs.Configuration.{Settings, settings, setting_after, command_reply, queue_numbers, reply_to_command, target_eq, subject}
-use Rattle.dn_types.specs.Flows.{keys}
 use Rattle.dn_types.specs.Trace.{Link, Event}
 use Rattle.dn_types.specs.declared.call.Call.{Call}
 use Rattle.dn_types.specs.declared.call.Call.TheVariants.{Configure}
@@ -13,34 +12,39 @@ use Rattle.dn_types.specs.declared.command.Command.{Command}
 use Rattle.dn_types.specs.declared.flow_key.FlowKey.{FlowKey}
 use Rattle.dn_types.specs.declared.reply.Reply.{Reply}
 use Rattle.dn_types.specs.declared.reply.Reply.TheVariants.{Configured, NoSuchPipe, Deleted, PipeHasQueues, NoSuchQueue, Queued, Lost, Full, NoTarget, Advanced, Delivered, Status, Exhausted}
+use Rattle.dn_types.specs.declared.rule.Rule.{Rule}
 use Rattle.dn_types.specs.declared.target.Target.{Target}
-use Rattle.dn_shaper.specs.declared.configured.Configured.{Configured as Commands}
 use Rattle.dn_shaper.specs.declared.due.Due.{Due}
 use Rattle.dn_shaper.specs.declared.parts.Parts.{Parts}
 use Rattle.dn_shaper.specs.declared.state.State.{State}
-use Rattle.dn_shaper.specs.Agreement.{AgreesWith}
+use Rattle.dn_shaper.specs.Agreement.{AgreesWith, link_names}
 use Rattle.dn_shaper.specs.Arriving.{KeepsFlows}
 use Rattle.dn_shaper.specs.Configuring.{Lists, Puts, DiscardsReached}
 use Rattle.dn_shaper.specs.Settings.{settings_of}
 use Rattle.dn_shaper.specs.Settling.{IsKept}
 use Rattle.dn_shaper.specs.Standing.{StandsAt, IsSound, Does}
 use Rattle.dn_shaper.specs.Starting.{Within}
+use Rattle.dn_shaper.specs.Views.{views_of}
 use Rattle.dn_shaper.proofs.Accepting.{within-more}
 use Rattle.dn_shaper.proofs.Commands.{numbers-listed}
+use Rattle.dn_shaper.proofs.Noted.{indexed-still}
 
 -- A command that was answered is obeyed, and isn't counted yet.
 pub record Obeys (command : Command) (reply : Reply) (old new : State) : Type 0 where
   pub settings_are : (target : Target) → settings_of new.configured target ≡ cond (target_eq (subject command) target) (setting_after reply command (settings_of old.configured target)) (settings_of old.configured target)
+  pub rule_is : new.parts.rule ≡ old.parts.rule
   pub keys_are : new.parts.flows.keys ≡ old.parts.flows.keys
   pub agrees : (more : List Link) (trace : List Event) → AgreesWith old.parts more trace → AgreesWith new.parts more (after_command reply command old.parts.flows.keys trace)
   pub kept : IsKept new.parts new.due
   pub within : Within old.calls new.parts
   pub moves : new.due.moves + new.parts.waiting ≤ old.due.moves + old.parts.waiting
+  pub shared_are : new.shared ≡ old.shared
+  pub names_are : link_names (views_of new.parts) ≡ link_names (views_of old.parts)
   pub now_is : new.now ≡ old.now
   pub calls_are : new.calls ≡ old.calls
 
 abbrev pub one-more : State → State
-one-more s = record { parts = s.parts; due = s.due; configured = s.configured; now = s.now; calls = s.calls + 1 }
+one-more s = record { parts = s.parts; due = s.due; shared = s.shared; configured = s.configured; now = s.now; calls = s.calls + 1 }
 
 untimed : (n : ℕ) → n ≡ max n 0
 untimed n = omega arith
@@ -48,25 +52,26 @@ untimed n = omega arith
 module _ (command : Command) (reply : Reply) (old new : State)
     (replies : (queues : List ℕ) → Lists (settings_of old.configured) queues → reply ≡ command_reply (settings_of old.configured) queues command)
     (obeys : Obeys command reply old new) where
-  reply-is : (calls : List Call) → StandsAt old calls → reply ≡ reply_to_command calls command
-  reply-is calls s =
+  reply-is : (rule : Rule) (calls : List Call) → StandsAt rule old calls → reply ≡ reply_to_command calls command
+  reply-is rule calls s =
       replies (queue_numbers calls) (subst (λ (f : Settings). Lists f (queue_numbers calls)) (sym s.settings_are) (numbers-listed calls))
       ∙ ap (λ (f : Settings). command_reply f (queue_numbers calls) command) s.settings_are
 
-  setting-is : (calls : List Call) (s : StandsAt old calls) (target : Target) → settings_of new.configured target ≡ settings (Configure command ∷ calls) target
-  setting-is calls s target =
+  setting-is : (rule : Rule) (calls : List Call) (s : StandsAt rule old calls) (target : Target) → settings_of new.configured target ≡ settings (Configure command ∷ calls) target
+  setting-is rule calls s target =
       obeys.settings_are target
-      ∙ (λ i. cond (target_eq (subject command) target) (setting_after (reply-is calls s i) command (s.settings_are i target)) (s.settings_are i target))
+      ∙ (λ i. cond (target_eq (subject command) target) (setting_after (reply-is rule calls s i) command (s.settings_are i target)) (s.settings_are i target))
 
   pub configured-does : Does (Configure command) old (one-more new) reply
-  configured-does calls s = (
-    reply-is calls s,
+  configured-does rule calls s = (
+    reply-is rule calls s,
     record {
+      rule_is = obeys.rule_is ∙ s.rule_is;
       calls_are = let c = s.calls_are in let d = obeys.calls_are in omega arith;
       now_is = obeys.now_is ∙ s.now_is ∙ untimed (effective_moment calls);
-      settings_are = λ i target. setting-is calls s target i;
+      settings_are = λ i target. setting-is rule calls s target i;
       keys_are = obeys.keys_are ∙ s.keys_are;
-      agrees = subst (λ (x : Reply × List FlowKey). AgreesWith new.parts [] (after_command x.0 command x.1 (trace_of calls))) (λ i. (reply-is calls s i, s.keys_are i)) (obeys.agrees [] (trace_of calls) s.agrees);
+      agrees = subst (λ (x : Reply × List FlowKey). AgreesWith new.parts [] (after_command x.0 command x.1 (trace_of calls))) (λ i. (reply-is rule calls s i, s.keys_are i)) (obeys.agrees [] (trace_of calls) s.agrees);
     },
   )
 
@@ -76,32 +81,39 @@ module _ (command : Command) (reply : Reply) (old new : State)
     within = within-more old.calls (new.calls + 1) new.parts (let d = obeys.calls_are in omega arith) obeys.within;
     moves = let m = sound.moves in let n = obeys.moves in let d = obeys.calls_are in omega arith;
     early = let e = sound.early in let n = obeys.now_is in omega arith;
+    indexed = indexed-still old (one-more new) (link_names (views_of old.parts)) (link_names (views_of new.parts)) obeys.shared_are obeys.names_are sound.indexed;
   }
 
 -- ---- The three ways to answer
 
 module _ (command : Command) (old : State) (sound : IsSound old) where
-  pub obeys-put : (configured : Commands) → Puts command (Some command) (settings_of old.configured) (settings_of configured) → Obeys command Configured old (record { parts = old.parts; due = old.due; configured = configured; now = old.now; calls = old.calls })
+  pub obeys-put : (configured : List (Target × Command)) → Puts command (Some command) (settings_of old.configured) (settings_of configured) → Obeys command Configured old (record { parts = old.parts; due = old.due; shared = old.shared; configured = configured; now = old.now; calls = old.calls })
   obeys-put configured puts = record {
     settings_are = puts;
+    rule_is = refl;
     keys_are = refl;
     agrees = λ more trace a. a;
     kept = sound.kept;
     within = sound.within;
     moves = omega arith;
+    shared_are = refl;
+    names_are = refl;
     now_is = refl;
     calls_are = refl;
   }
 
-  pub obeys-delete : (configured : Commands) (parts : Parts) (due : Heap Due) → Puts command None (settings_of old.configured) (settings_of configured) → KeepsFlows old.parts parts → DiscardsReached command old.parts parts → IsKept parts due → ((n : ℕ) → Within n old.parts → Within n parts) → due.moves + parts.waiting ≤ old.due.moves + old.parts.waiting
-      → Obeys command Deleted old (record { parts = parts; due = due; configured = configured; now = old.now; calls = old.calls })
+  pub obeys-delete : (configured : List (Target × Command)) (parts : Parts) (due : Heap Due) → Puts command None (settings_of old.configured) (settings_of configured) → KeepsFlows old.parts parts → DiscardsReached command old.parts parts → IsKept parts due → ((n : ℕ) → Within n old.parts → Within n parts) → due.moves + parts.waiting ≤ old.due.moves + old.parts.waiting
+      → Obeys command Deleted old (record { parts = parts; due = due; shared = old.shared; configured = configured; now = old.now; calls = old.calls })
   obeys-delete configured parts due puts keeps discards kept within moves = record {
     settings_are = puts;
+    rule_is = keeps.rule;
     keys_are = keeps.keys;
     agrees = discards;
     kept = kept;
     within = within old.calls sound.within;
     moves = moves;
+    shared_are = refl;
+    names_are = keeps.names;
     now_is = refl;
     calls_are = refl;
   }
@@ -114,11 +126,14 @@ module _ (command : Command) (old : State) (sound : IsSound old) where
   changes-none : (reply : Reply) → ((o : Option Command) → setting_after reply command o ≡ o) → ((ks : List FlowKey) (trace : List Event) → after_command reply command ks trace ≡ trace) → Obeys command reply old old
   changes-none reply setting after = record {
     settings_are = λ target. same-setting (target_eq (subject command) target) (settings_of old.configured target) ∙ ap (λ o. cond (target_eq (subject command) target) o (settings_of old.configured target)) (sym (setting (settings_of old.configured target)));
+    rule_is = refl;
     keys_are = refl;
     agrees = λ more trace a. subst (λ (t : List Event). AgreesWith old.parts more t) (sym (after old.parts.flows.keys trace)) a;
     kept = sound.kept;
     within = sound.within;
     moves = omega arith;
+    shared_are = refl;
+    names_are = refl;
     now_is = refl;
     calls_are = refl;
   }

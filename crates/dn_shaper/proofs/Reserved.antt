@@ -2,6 +2,7 @@
 use Rattle.std.proofs.Common.{◌≡◌, ◌∙◌, ◌^◌, ℕ, suc, List, [], ◌∷◌, map, refl, ap, sym, subst, length, arith}
 use Rattle.std.specs.Prelude.{Option, Some, None, nat_lt, slice_get}
 use Rattle.std.proofs.Common.{cond}
+use Rattle.std.proofs.lemmas.List.{length-map}
 use Rattle.std.proofs.lemmas.List.Sums.{sum_by-cons}
 use Rattle.dn_types.specs.Links.{free, last_due}
 use Rattle.dn_types.specs.SharedLinks.{waiting}
@@ -90,7 +91,7 @@ module _ (old new : Parts) (r : Reserves old new) where
   reserves-agree more trace a =
       subst (λ (x : Rule). IsAt x new.accepted new.flows.keys new.homes.items (views_of new) new.flows.flows new.line.pending more trace) (sym r.rule)
       (subst (λ (x : ℕ × List FlowKey). IsAt old.rule x.0 x.1 new.homes.items (views_of new) new.flows.flows new.line.pending more trace) (λ i. (sym r.accepted i, sym r.keys i))
-      (subst (λ (x : List Home × List Delivery). IsAt old.rule old.accepted old.flows.keys x.0 (views_of new) new.flows.flows x.1 more trace) (λ i. ((sym r.homes i).items, sym r.pending i)) base))
+      (subst (λ (x : List Home × List Delivery). IsAt old.rule old.accepted old.flows.keys x.0 (views_of new) new.flows.flows x.1 more trace) (λ i. (sym r.homes i, sym r.pending i)) base))
     where
       home_now : (flow : ℕ) (h : Home) → IsHomeOf flow (home old.flows.keys flow) (views_of old) h → IsHomeOf flow (home old.flows.keys flow) (views_of new) h
       home_now flow h is =
@@ -154,8 +155,4 @@ module _ (old new : Parts) (r : Reserves old new) where
   }
     where
       lengths : length (views_of new) ≡ length (views_of old)
-      lengths = sym (length-names (views_of new)) ∙ ap (λ (ls : List Link). length ls) reserved-names ∙ length-names (views_of old)
-        where
-          length-names : (vs : List LinkView) → length (link_names vs) ≡ length vs
-          length-names [] = refl
-          length-names (v ∷ vs) = ap suc (length-names vs)
+      lengths = sym (length-map (views_of new) (λ v. v.link)) ∙ ap (λ (ls : List Link). length ls) reserved-names ∙ length-map (views_of old) (λ v. v.link)

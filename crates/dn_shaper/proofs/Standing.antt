@@ -1,5 +1,5 @@
 -- A shaper stands after a call more, and stays sound.
-use Rattle.std.proofs.Common.{◌≡◌, ◌∙◌, ◌≤◌, ◌^◌, ℕ, ◌+◌, ◌*◌, max, List, [], ◌∷◌, ap, subst, length, arith}
+use Rattle.std.proofs.Common.{◌≡◌, ◌∙◌, ◌≤◌, ◌^◌, ℕ, ◌+◌, ◌*◌, max, List, [], ◌∷◌, refl, ap, subst, length, arith}
 use Rattle.std.specs.Prelude.{nat_le, nat_lt}
 use Rattle.std.specs.List.{filter}
 use Rattle.std.proofs.lemmas.List.Sums.{length-filter, count_by-le-length}
@@ -19,33 +19,35 @@ use Rattle.dn_types.specs.declared.rule.Rule.{Rule}
 use Rattle.dn_shaper.specs.declared.due.Due.{Due}
 use Rattle.dn_shaper.specs.declared.parts.Parts.{Parts}
 use Rattle.dn_shaper.specs.declared.state.State.{State}
-use Rattle.dn_shaper.specs.Agreement.{AgreesWith}
+use Rattle.dn_shaper.specs.Agreement.{AgreesWith, link_names}
 use Rattle.dn_shaper.specs.Settings.{settings_of}
 use Rattle.dn_shaper.specs.Settling.{IsKept, OnlyStarts, SettlesAll}
 use Rattle.dn_shaper.specs.Standing.{StandsAt, IsSound, Does}
 use Rattle.dn_shaper.specs.Starting.{Within}
 use Rattle.dn_shaper.specs.Views.{views_of}
 use Rattle.dn_shaper.proofs.Accepting.{within-more}
+use Rattle.dn_shaper.proofs.Noted.{indexed-still}
 use Rattle.dn_shaper.proofs.Quiet.{collected-agrees}
 
 -- ---- A timed call settles first
 
 module _ (old : State) (parts : Parts) (due : Heap Due) (at moment : ℕ) (at_is : at ≡ max old.now moment) (settles : SettlesAll (settings_of old.configured) at old.parts parts) (only : OnlyStarts old.parts old.due parts due) where
-  now-is : (calls : List Call) → StandsAt old calls → at ≡ max (effective_moment calls) moment
-  now-is calls s = at_is ∙ ap (λ n. max n moment) s.now_is
+  now-is : (rule : Rule) (calls : List Call) → StandsAt rule old calls → at ≡ max (effective_moment calls) moment
+  now-is rule calls s = at_is ∙ ap (λ n. max n moment) s.now_is
 
-  settled-then : (calls : List Call) → StandsAt old calls → AgreesWith parts [] (settled (settings calls) (max (effective_moment calls) moment) (trace_of calls))
-  settled-then calls s = subst (λ (x : Settings × ℕ). AgreesWith parts [] (settled x.0 x.1 (trace_of calls))) (λ i. (s.settings_are i, now-is calls s i)) (settles [] (trace_of calls) s.agrees)
+  settled-then : (rule : Rule) (calls : List Call) → StandsAt rule old calls → AgreesWith parts [] (settled (settings calls) (max (effective_moment calls) moment) (trace_of calls))
+  settled-then rule calls s = subst (λ (x : Settings × ℕ). AgreesWith parts [] (settled x.0 x.1 (trace_of calls))) (λ i. (s.settings_are i, now-is rule calls s i)) (settles [] (trace_of calls) s.agrees)
 
-  pub advanced : Does (Advance moment) old (record { parts = parts; due = due; configured = old.configured; now = at; calls = old.calls + 1 }) (Advanced at)
-  advanced calls s = (
-    ap Advanced (now-is calls s),
+  pub advanced : Does (Advance moment) old (record { parts = parts; due = due; shared = old.shared; configured = old.configured; now = at; calls = old.calls + 1 }) (Advanced at)
+  advanced rule calls s = (
+    ap Advanced (now-is rule calls s),
     record {
+      rule_is = only.rule ∙ s.rule_is;
       calls_are = let c = s.calls_are in omega arith;
-      now_is = now-is calls s;
+      now_is = now-is rule calls s;
       settings_are = s.settings_are;
       keys_are = only.keys ∙ s.keys_are;
-      agrees = settled-then calls s;
+      agrees = settled-then rule calls s;
     },
   )
 
@@ -56,12 +58,13 @@ module _ (old : State) (parts : Parts) (due : Heap Due) (at moment : ℕ) (at_is
     moves-then : due.moves + parts.waiting ≤ 2 * (old.calls + 1)
     moves-then = let a = only.moves in let b = sound.moves in omega arith
 
-    pub advanced-sound : IsSound (record { parts = parts; due = due; configured = old.configured; now = at; calls = old.calls + 1 })
+    pub advanced-sound : IsSound (record { parts = parts; due = due; shared = old.shared; configured = old.configured; now = at; calls = old.calls + 1 })
     advanced-sound = record {
       kept = kept;
       within = within-more old.calls (old.calls + 1) parts (omega arith) (only.within old.calls sound.within);
       moves = moves-then;
       early = at-early;
+      indexed = indexed-still old _ (link_names (views_of old.parts)) (link_names (views_of parts)) refl only.names sound.indexed;
     }
 
   -- ---- What a Collect gives
@@ -73,26 +76,27 @@ module _ (old : State) (parts : Parts) (due : Heap Due) (at moment : ℕ) (at_is
     after-agrees : (more : List Link) (trace : List Event) → AgreesWith parts more trace → AgreesWith after more (collected at ∷ trace)
     after-agrees more trace a = collected-agrees parts.rule parts.accepted parts.flows.keys parts.homes.items (views_of parts) parts.flows.flows parts.line.pending more trace a at line.pending rest
 
-    pub collects : (list : List Delivery) → list ≡ filter (λ d. nat_le d.due at) parts.line.pending → Does (Collect moment) old (record { parts = after; due = due; configured = old.configured; now = at; calls = old.calls + 1 }) (Delivered at list)
-    collects list is calls s = (
+    pub collects : (list : List Delivery) → list ≡ filter (λ d. nat_le d.due at) parts.line.pending → Does (Collect moment) old (record { parts = after; due = due; shared = old.shared; configured = old.configured; now = at; calls = old.calls + 1 }) (Delivered at list)
+    collects list is rule calls s = (
       reply_is,
       record {
+        rule_is = only.rule ∙ s.rule_is;
         calls_are = let c = s.calls_are in omega arith;
-        now_is = now-is calls s;
+        now_is = now-is rule calls s;
         settings_are = s.settings_are;
         keys_are = only.keys ∙ s.keys_are;
-        agrees = subst (λ m. AgreesWith after [] (collected m ∷ settled (settings calls) (max (effective_moment calls) moment) (trace_of calls))) (now-is calls s) (after-agrees [] (settled (settings calls) (max (effective_moment calls) moment) (trace_of calls)) (settled-then calls s));
+        agrees = subst (λ m. AgreesWith after [] (collected m ∷ settled (settings calls) (max (effective_moment calls) moment) (trace_of calls))) (now-is rule calls s) (after-agrees [] (settled (settings calls) (max (effective_moment calls) moment) (trace_of calls)) (settled-then rule calls s));
       },
     )
       where
-        list_is : list ≡ given old.parts.rule at (settled (settings calls) (max (effective_moment calls) moment) (trace_of calls))
+        list_is : list ≡ given rule at (settled (settings calls) (max (effective_moment calls) moment) (trace_of calls))
         list_is =
             is
-            ∙ ap (λ (ds : List Delivery). filter (λ d. nat_le d.due at) ds) (settled-then calls s).pending_is
-            ∙ ap (λ (r : Rule). given r at (settled (settings calls) (max (effective_moment calls) moment) (trace_of calls))) only.rule
+            ∙ ap (λ (ds : List Delivery). filter (λ d. nat_le d.due at) ds) (settled-then rule calls s).pending_is
+            ∙ ap (λ (r : Rule). given r at (settled (settings calls) (max (effective_moment calls) moment) (trace_of calls))) (only.rule ∙ s.rule_is)
 
-        reply_is : Delivered at list ≡ Delivered (max (effective_moment calls) moment) (given old.parts.rule (max (effective_moment calls) moment) (settled (settings calls) (max (effective_moment calls) moment) (trace_of calls)))
-        reply_is = ap (Delivered at) list_is ∙ ap (λ m. Delivered m (given old.parts.rule m (settled (settings calls) (max (effective_moment calls) moment) (trace_of calls)))) (now-is calls s)
+        reply_is : Delivered at list ≡ Delivered (max (effective_moment calls) moment) (given rule (max (effective_moment calls) moment) (settled (settings calls) (max (effective_moment calls) moment) (trace_of calls)))
+        reply_is = ap (Delivered at) list_is ∙ ap (λ m. Delivered m (given rule m (settled (settings calls) (max (effective_moment calls) moment) (trace_of calls)))) (now-is rule calls s)
 
     fewer : (ds : List Delivery) → length (filter (λ d. nat_lt at d.due) ds) ≤ length ds
     fewer ds = let a = length-filter (λ (d : Delivery). nat_lt at d.due) ds in let b = count_by-le-length (λ (d : Delivery). nat_lt at d.due) ds in omega arith
@@ -108,7 +112,7 @@ module _ (old : State) (parts : Parts) (due : Heap Due) (at moment : ℕ) (at_is
       accepted = w.accepted;
     }
 
-    pub collects-sound : IsSound old → IsKept parts due → moment ≤ 2 ^ 62 → IsSound (record { parts = after; due = due; configured = old.configured; now = at; calls = old.calls + 1 })
+    pub collects-sound : IsSound old → IsKept parts due → moment ≤ 2 ^ 62 → IsSound (record { parts = after; due = due; shared = old.shared; configured = old.configured; now = at; calls = old.calls + 1 })
     collects-sound sound kept early = record {
       kept = record {
         agrees = let a = kept.agrees in (a.0, collected at ∷ a.1, after-agrees a.0 a.1 a.2);
@@ -120,4 +124,5 @@ module _ (old : State) (parts : Parts) (due : Heap Due) (at moment : ℕ) (at_is
       within = after-within (old.calls + 1) (within-more old.calls (old.calls + 1) parts (omega arith) (only.within old.calls sound.within));
       moves = moves-then sound kept early;
       early = at-early sound kept early;
+      indexed = indexed-still old _ (link_names (views_of old.parts)) (link_names (views_of parts)) refl only.names sound.indexed;
     }

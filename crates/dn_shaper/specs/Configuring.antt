@@ -1,12 +1,13 @@
 -- What a Configure call asks of the commands in force, and what a delete does to the flows that it reaches.
-use Rattle.std.specs.Prelude.{◌≡◌, ℕ, Bool, true, false, cond, List, Option, Some, is_some, nat_eq}
+use Rattle.std.specs.Prelude.{◌≡◌, ℕ, true, cond, List, Option, is_some, nat_eq}
 use Rattle.std.specs.List.{list_any}
 use Rattle.dn_types.specs.Calls.{discard_reached}
-use Rattle.dn_types.specs.Configuration.{Settings, target_eq, subject, is_queue_of}
+use Rattle.dn_types.specs.Configuration.{Settings, target_eq, subject, command_reply}
 use Rattle.dn_types.specs.Trace.{Link, Event}
 use Rattle.dn_types.specs.declared.command.Command.{Command}
+use Rattle.dn_types.specs.declared.reply.Reply.{Reply}
 use Rattle.dn_types.specs.declared.target.Target.{Target}
-use Rattle.dn_types.specs.declared.target.Target.TheVariants.{Pipe as ToPipe, Queue as ToQueue}
+use Rattle.dn_types.specs.declared.target.Target.TheVariants.{Queue as ToQueue}
 use Rattle.dn_shaper.specs.declared.parts.Parts.{Parts}
 use Rattle.dn_shaper.specs.Agreement.{AgreesWith}
 
@@ -14,10 +15,10 @@ use Rattle.dn_shaper.specs.Agreement.{AgreesWith}
 abbrev pub Lists : Settings → List ℕ → Type 0
 Lists settings queues = (q : ℕ) → is_some (settings (ToQueue q)) ≡ true → list_any (nat_eq q) queues ≡ true
 
--- Whether the command that is in force for the target makes it a queue of the pipe.
-abbrev pub names_pipe : ℕ → Target → Command → Bool
-names_pipe pipe (ToPipe number) command = false
-names_pipe pipe (ToQueue number) command = is_queue_of pipe (Some command)
+-- The reply is how the command is answered where so much is in force.
+abbrev pub IsAnswered : Settings → Command → Reply → Type 0
+IsAnswered settings command reply =
+    (queues : List ℕ) → Lists settings queues → reply ≡ command_reply settings queues command
 
 -- So much is in force for the command's subject, and all else stays.
 abbrev pub Puts : Command → Option Command → Settings → Settings → Type 0

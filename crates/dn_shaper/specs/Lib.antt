@@ -3,9 +3,13 @@ pub mod Arriving
 pub mod Configuring
 pub mod Discarding
 pub mod Due
+pub mod Homing
 pub mod Making
+pub mod QueueCounts
+pub mod Sending
 pub mod Settings
 pub mod Settling
+pub mod Shaper
 pub mod Showing
 pub mod Slots
 pub mod Standing

@@ -1,9 +1,12 @@
--- What reserving room for one more packet of a known flow leaves as it is.
-use Rattle.std.specs.Prelude.{◌≡◌, ℕ, ◌<◌, ◌≤◌, length, Option, Some, None, slice_get}
-use Rattle.dn_types.specs.Trace.{Link, own, shared}
+-- What is reserved and made for a packet before the call that sends it changes anything.
+use Rattle.std.specs.Prelude.{◌≡◌, ℕ, ◌<◌, ◌≤◌, List, [], length, Option, Some, None, slice_get}
+use Rattle.dn_types.specs.Trace.{Link, own, shared, Event}
 use Rattle.dn_flows.specs.Table.{FlowState, flow_at}
 use Rattle.dn_wf2q.specs.Schedule.{Schedule, flow_at as slot_at, room_at}
 use Rattle.dn_shaper.specs.declared.parts.Parts.{Parts}
+use Rattle.dn_shaper.specs.declared.state.State.{State}
+use Rattle.dn_shaper.specs.Agreement.{AgreesWith}
+use Rattle.dn_shaper.specs.Submitting.{IsMade}
 use Rattle.dn_shaper.specs.Views.{LinkView, views_of}
 
 -- Only room is made in the schedule.
@@ -46,7 +49,7 @@ pub record Reserves (old new : Parts) : Type 0 where
   pub rule : new.rule ≡ old.rule
   pub accepted : new.accepted ≡ old.accepted
   pub keys : new.flows.keys ≡ old.flows.keys
-  pub homes : new.homes ≡ old.homes
+  pub homes : new.homes.items ≡ old.homes.items
   pub waiting : new.waiting ≡ old.waiting
   pub pending : new.line.pending ≡ old.line.pending
   pub pushed : new.line.pushed ≡ old.line.pushed
@@ -54,3 +57,14 @@ pub record Reserves (old new : Parts) : Type 0 where
   pub flows : (flow : ℕ) → SameFlow (flow_at old.flows.flows flow) (flow_at new.flows.flows flow)
   pub many : length new.flows.flows ≡ length old.flows.flows
   pub views : (place : ℕ) → KeepsAt (slice_get (views_of old) place) (slice_get (views_of new) place)
+
+-- Whatever trace the parts agreed with, they agree with it still, and the flow's link is seen or made.
+abbrev pub Prepares : ℕ → Parts → Parts → Type 0
+Prepares flow old new = (trace : List Event) → AgreesWith old [] trace → (more : List Link) × AgreesWith new more trace × IsMade flow new trace
+
+-- The clock, the settings and the count of calls stay.
+pub record KeepsCalls (old new : State) : Type 0 where
+  pub rule : new.parts.rule ≡ old.parts.rule
+  pub configured : new.configured ≡ old.configured
+  pub now : new.now ≡ old.now
+  pub calls : new.calls ≡ old.calls

@@ -1,6 +1,6 @@
--- The parts of a shaper as lists: for each link its name, its moments, how many packets wait for it, and where it is
--- shared its schedule and the flow number of each slot.
-use Rattle.std.specs.Prelude.{◌≡◌, ℕ, cond, List, [], map, Option, Some, None, nat_lt, slice_get}
+-- The parts of a shaper as lists: for each link its name, its moments, how many packets wait for it, the flow number of
+-- each slot, and where it is shared its schedule.
+use Rattle.std.specs.Prelude.{◌≡◌, ℕ, cond, List, [], ◌∷◌, map, Option, Some, None, nat_lt, slice_get}
 use Rattle.std.specs.List.{sum_by}
 use Rattle.dn_types.specs.Trace.{Link, own, shared, Accepted}
 use Rattle.dn_types.specs.Calls.{link_of}
@@ -34,7 +34,7 @@ carried_schedule (Own flow) = no_schedule
 carried_schedule (Shared s) = s.sched
 
 abbrev pub carried_slots : Carries → List ℕ
-carried_slots (Own flow) = []
+carried_slots (Own flow) = flow ∷ []
 carried_slots (Shared s) = s.flows.items
 
 abbrev pub view_of : LinkParts → LinkView

@@ -1,13 +1,12 @@
-ghost use Rattle.std.specs.Prelude.{◌≡◌, ℕ, List, None, ◌+◌, ◌<◌, ◌≤◌, ◌^◌, IfOk, OnErr};
+ghost use Rattle.std.specs.Prelude.{◌≡◌, ℕ, None, ◌+◌, ◌<◌, ◌≤◌, ◌^◌, IfOk, OnErr};
 ghost use Rattle.dn_types.specs.Calls.{reaches};
 ghost use Rattle.dn_types.specs.Configuration.{subject};
-ghost use Rattle.dn_types.specs.declared.call.Call.{Call as CallValue};
 ghost use Rattle.dn_types.specs.declared.call.Call.TheVariants.{Configure};
 ghost use Rattle.dn_shaper.specs.Arriving.{KeepsFlows};
 ghost use Rattle.dn_shaper.specs.Configuring.{DiscardsReached};
 ghost use Rattle.dn_shaper.specs.Settings.{settings_of};
 ghost use Rattle.dn_shaper.specs.Settling.{IsKept};
-ghost use Rattle.dn_shaper.specs.Standing.{Does, IsSound, StandsAt};
+ghost use Rattle.dn_shaper.specs.Standing.{Does, IsSound, StillStands};
 ghost use Rattle.dn_shaper.specs.Starting.{Within};
 
 use crate::discard::discard_flow;
@@ -53,7 +52,7 @@ pub fn configure(state: &mut State, command: &Command) -> Result<Reply, AllocErr
     requires few { state.old.calls < 2 ^ 62 }
     ensures does { IfOk result (λ reply. Does (Configure command.now) state.old state.new reply) }
     ensures sound { IsSound state.new }
-    ensures refused { OnErr result ((calls : List CallValue) → StandsAt state.old calls → StandsAt state.new calls) }
+    ensures refused { OnErr result (StillStands state.old state.new) }
     ensures only_new { OnErr result (settings_of state.old.configured (subject command.now) ≡ None) }
 {
     let reply = state.configured.reply(command);

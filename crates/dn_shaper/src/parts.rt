@@ -1,7 +1,13 @@
+ghost use Rattle.std.specs.Prelude.{◌≡◌, ◌<◌, [], ◌∷◌, ◌++◌, length, IfOk, OnErr, OnOk};
+ghost use Rattle.dn_wf2q.specs.Schedule.{room_at};
+ghost use Rattle.dn_shaper.specs.Making.{OnlyRoom};
+ghost use Rattle.dn_shaper.specs.Views.{no_schedule};
+
 use dn_flows::Flows;
 use dn_link::{DelayLine, Link};
 use dn_types::{Number, Rule};
 use dn_wf2q::Sched;
+use std::alloc::{AllocError, Global};
 
 /// Where the packets of a flow wait: the place of its link, and its slot there.
 #[derive(Clone, Copy, Debug, PartialEq, Eq)]
@@ -16,6 +22,34 @@ pub struct Home {
 pub struct SharedLink {
     pub sched: Sched,
     pub flows: Vec<usize>,
+}
+
+impl SharedLink {
+    /// A link that no flow shares yet. It takes no memory.
+    pub fn new(alloc: Global) -> SharedLink
+        ensures sched { result.sched ≡ no_schedule }
+        ensures flows { result.flows.items ≡ [] }
+    {
+        SharedLink {
+            sched: Sched::new(alloc),
+            flows: Vec::new(alloc),
+        }
+    }
+
+    /// Gives a new flow the next slot, with room for a packet.
+    pub fn take_slot(&mut self, flow: usize) -> Result<usize, AllocError>
+        ensures slot { IfOk result (λ slot. slot ≡ length self.old.flows.items) }
+        ensures flows { OnOk result (self.new.flows.items ≡ self.old.flows.items ++ flow ∷ []) }
+        ensures room { OnOk result (0 < room_at self.new.sched.room (length self.old.flows.items)) }
+        ensures only { OnlyRoom self.old.sched self.new.sched }
+        ensures refused { OnErr result (self.new.flows.items ≡ self.old.flows.items) }
+    {
+        let slot = self.flows.len();
+        self.flows.reserve(1)?;
+        self.sched.reserve_flow(slot)?;
+        self.flows.push_reserved(flow);
+        Ok(slot)
+    }
 }
 
 /// Whose packets a link carries: one flow's, or those of all queues on the pipe.

@@ -4,6 +4,7 @@ ghost use Rattle.dn_shaper.specs.Standing.{IsSound, StandsAt};
 use crate::configured::Configured;
 use crate::due::Due;
 use crate::parts::Parts;
+use crate::shared_places::SharedPlaces;
 use dn_flows::Flows;
 use dn_heap::MinHeap;
 use dn_link::DelayLine;
@@ -16,6 +17,7 @@ use std::alloc::Global;
 pub struct State {
     pub parts: Parts,
     pub due: MinHeap<Due>,
+    pub shared: SharedPlaces,
     pub configured: Configured,
     pub now: u64,
     pub calls: u64,
@@ -24,7 +26,7 @@ pub struct State {
 /// A shaper before its first call. It takes no memory.
 pub fn new_state(alloc: Global, rule: Rule) -> State
     ensures sound { IsSound result }
-    ensures stands { StandsAt result [] }
+    ensures stands { StandsAt rule result [] }
 {
     State {
         parts: Parts {
@@ -37,6 +39,7 @@ pub fn new_state(alloc: Global, rule: Rule) -> State
             line: DelayLine::new(alloc),
         },
         due: MinHeap::new(alloc),
+        shared: SharedPlaces::new(alloc),
         configured: Configured::new(alloc),
         now: 0,
         calls: 0,

@@ -1,5 +1,9 @@
+ghost use Rattle.std.specs.Prelude.{◌≡◌};
+ghost use Rattle.dn_types.specs.Flows.{key_of};
+ghost use Rattle.dn_shaper.specs.Submitting.{treatment_of};
+
 use dn_flows::DropRule;
-use dn_types::{Mask, Number, Weight};
+use dn_types::{FlowKey, Mask, Number, Packet, Target, Weight};
 
 /// How packets to a target are treated: the pipe that carries them, their weight, and the mask, the
 /// loss rate and the limit that judge them.
@@ -9,4 +13,18 @@ pub struct Treatment {
     pub weight: Weight,
     pub mask: Mask,
     pub drops: DropRule,
+}
+
+impl Treatment {
+    /// The key of the flow of a packet that goes to the target.
+    pub fn key(&self, target: Target, packet: &Packet) -> FlowKey
+        ensures { result ≡ key_of target packet.now.tuple (treatment_of self.now) }
+    {
+        FlowKey {
+            target,
+            pipe: self.pipe,
+            mask: self.mask,
+            tuple: self.mask.apply(&packet.tuple),
+        }
+    }
 }

@@ -1,5 +1,5 @@
 -- The command is answered and obeyed, and counts.
-use Rattle.std.proofs.Common.{◌≡◌, sym, subst}
+use Rattle.std.proofs.Common.{sym, subst}
 use Rattle.dn_types.specs.declared.reply.Reply.{Reply}
 use Rattle.dn_shaper.specs.declared.state.State.{State}
 use Rattle.dn_shaper.proofs.Configuring.{Obeys, obeys-put, obeys-delete, obeys-refused, configured-does, configured-sound}

@@ -1,5 +1,5 @@
 -- Each flow that the delete reaches is discarded, and each other one is passed.
-use Rattle.std.proofs.Common.{◌≡◌, ◌∙◌, ◌≤◌, ◌+◌, ℕ, List, ap, sym, subst, arith}
+use Rattle.std.proofs.Common.{◌≡◌, ◌∙◌, ◌+◌, ℕ, List, ap, sym, subst, arith}
 use Rattle.std.specs.Prelude.{Some, slice_get}
 use Rattle.dn_heap.specs.Heap.{Heap}
 use Rattle.dn_types.specs.declared.flow_key.FlowKey.{FlowKey}

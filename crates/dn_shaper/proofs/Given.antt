@@ -1,0 +1,53 @@
+-- All parts agree with the trace after a new flow got its home, and the shaper stays sound.
+use Rattle.std.proofs.Common.{◌≡◌, ℕ, List, [], refl, sym, subst, length}
+use Rattle.std.specs.Prelude.{Option, Some, None}
+use Rattle.dn_types.specs.Trace.{Event}
+use Rattle.dn_types.specs.declared.flow_key.FlowKey.{FlowKey}
+use Rattle.dn_flows.specs.Table.{Table}
+use Rattle.dn_shaper.specs.declared.state.State.{State}
+use Rattle.dn_shaper.specs.Agreement.{AgreesWith}
+use Rattle.dn_shaper.specs.Homing.{GivesHome, Houses, place_for}
+use Rattle.dn_shaper.specs.Making.{Prepares}
+use Rattle.dn_shaper.specs.Standing.{IsSound}
+use Rattle.dn_shaper.specs.Starting.{IsReady}
+use Rattle.dn_shaper.specs.Views.{views_of}
+use Rattle.dn_shaper.proofs.Preparing.{IsOneMore, with_flows}
+use Rattle.dn_shaper.proofs.SharedHome.{shared-ready, shared-prepares, shared-sound}
+use Rattle.dn_shaper.proofs.NewHome.{opened-ready, opened-prepares, opened-sound}
+
+module _ (old new : State) (t : Table) (key : FlowKey) (one : IsOneMore key old.parts.flows t) (sound : IsSound old) (trace : List Event) (a : AgreesWith old.parts [] trace) where
+  abbrev pub Given : ℕ → Type 0
+  Given n = GivesHome key n (with_flows old t) new
+
+  given-at : (f : ℕ) → f ≡ length old.parts.flows.keys → Given f → Given (length old.parts.flows.keys)
+  given-at f e g = subst Given e g
+
+  pub given-ready : (f : ℕ) → f ≡ length old.parts.flows.keys → Given f → IsReady f new.parts
+  given-ready f e given = subst (λ n. IsReady n new.parts) (sym e) (by (place_for key old.shared) refl g.houses)
+    where
+      g : Given (length old.parts.flows.keys)
+      g = given-at f e given
+
+      by : (o : Option ℕ) → place_for key old.shared ≡ o → Houses o key (length old.parts.flows.keys) g.home (views_of old.parts) (views_of new.parts) new.due old.shared new.shared → IsReady (length old.parts.flows.keys) new.parts
+      by (Some place) noted h = shared-ready old new t key one g a.as_many place noted h.0 h.1 sound.indexed a.as_many_homes
+      by None noted h = opened-ready old new t key one g a.as_many noted h.0 h.1 sound.indexed a.as_many_homes
+
+  pub given-prepares : (f : ℕ) → f ≡ length old.parts.flows.keys → Given f → Prepares f old.parts new.parts
+  given-prepares f e given = subst (λ n. Prepares n old.parts new.parts) (sym e) (by (place_for key old.shared) refl g.houses)
+    where
+      g : Given (length old.parts.flows.keys)
+      g = given-at f e given
+
+      by : (o : Option ℕ) → place_for key old.shared ≡ o → Houses o key (length old.parts.flows.keys) g.home (views_of old.parts) (views_of new.parts) new.due old.shared new.shared → Prepares (length old.parts.flows.keys) old.parts new.parts
+      by (Some place) noted h = shared-prepares old new t key one g a.as_many place noted h.0 h.1 sound.indexed
+      by None noted h = opened-prepares old new t key one g a.as_many noted h.0 h.1 sound.indexed
+
+  pub given-sound : (f : ℕ) → f ≡ length old.parts.flows.keys → Given f → IsSound new
+  given-sound f e given = by (place_for key old.shared) refl g.houses
+    where
+      g : Given (length old.parts.flows.keys)
+      g = given-at f e given
+
+      by : (o : Option ℕ) → place_for key old.shared ≡ o → Houses o key (length old.parts.flows.keys) g.home (views_of old.parts) (views_of new.parts) new.due old.shared new.shared → IsSound new
+      by (Some place) noted h = shared-sound old new t key one g a.as_many place noted h.0 h.1 sound.indexed trace a sound
+      by None noted h = opened-sound old new t key one g a.as_many noted h.0 h.1 sound.indexed trace a sound

@@ -1,0 +1,142 @@
+-- How many packets wait or are under way, and how many items the list in a reply has.
+use Rattle.std.proofs.Common.{◌≡◌, ◌∙◌, ◌≤◌, ◌+◌, ℕ, zero, suc, max, Bool, true, false, cond, List, [], ◌∷◌, length, refl, ap, sym, subst, ⊎_elim, arith}
+use Rattle.std.specs.Prelude.{Option, Some, None, is_some, nat_le, slice_get}
+use Rattle.std.specs.List.{filter}
+use Rattle.std.proofs.lemmas.List.{append-nil}
+use Rattle.std.proofs.lemmas.List.Sums.{length-filter, count_by-le-length, sum_by-cons}
+use Rattle.dn_types.specs.Calls.{Verdict, no_target, loses, refuses, takes, trace_of, verdict}
+use Rattle.dn_types.specs.Clock.{counted, effective_moment}
+use Rattle.dn_types.specs.Configuration.{Settings, command_reply, has_queues, queue_numbers, settings}
+use Rattle.dn_types.specs.Deliveries.{delivery_of, given, undelivered}
+use Rattle.dn_types.specs.Flows.{keys}
+use Rattle.dn_types.specs.Links.{last_due}
+use Rattle.dn_types.specs.Replies.{counted_reply, reply, reply_to_verdict, statuses_from}
+use Rattle.dn_types.specs.SharedLinks.{waiting}
+use Rattle.dn_types.specs.Starts.{first_start, settle, settled, waiting_all}
+use Rattle.dn_types.specs.Trace.{Link, Event, Start, links, started}
+use Rattle.dn_types.specs.declared.call.Call.{Call}
+use Rattle.dn_types.specs.declared.call.Call.TheVariants.{Configure, Submit, Advance, Collect, Show}
+use Rattle.dn_types.specs.declared.command.Command.{Command}
+use Rattle.dn_types.specs.declared.command.Command.TheVariants.{Pipe, Queue, DeletePipe, DeleteQueue}
+use Rattle.dn_types.specs.declared.delivery.Delivery.{Delivery}
+use Rattle.dn_types.specs.declared.flow_key.FlowKey.{FlowKey}
+use Rattle.dn_types.specs.declared.reply.Reply.{Reply}
+use Rattle.dn_types.specs.declared.reply.Reply.TheVariants.{Configured, Deleted, NoSuchPipe, NoSuchQueue, PipeHasQueues}
+use Rattle.dn_types.specs.declared.rule.Rule.{Rule}
+use Rattle.dn_types.specs.declared.target.Target.TheVariants.{Pipe as ToPipe, Queue as ToQueue}
+use Rattle.dn_types.proofs.Settled.{waiting_all-first}
+use Rattle.dn_shaper.specs.declared.state.State.{State}
+use Rattle.dn_shaper.specs.Agreement.{link_names}
+use Rattle.dn_shaper.specs.Shaper.{held, items_in}
+use Rattle.dn_shaper.specs.Standing.{IsSound, StandsAt}
+use Rattle.dn_shaper.specs.Views.{LinkView, views_of, waits_in_all}
+use Rattle.dn_shaper.proofs.Counting.{counts}
+use Rattle.dn_shaper.proofs.FirstStart.{settle-none, settle-some}
+use Rattle.dn_shaper.proofs.Starting.{length-in_order}
+
+-- ---- What a state holds is what its calls do
+
+waits-all : (views : List LinkView) (trace : List Event) → ((k : ℕ) (v : LinkView) → slice_get views k ≡ Some v → v.waits ≡ waiting v.link trace) → waits_in_all views ≡ waiting_all (link_names views) trace
+waits-all [] trace h = refl
+waits-all (v ∷ views) trace h =
+    let here : v.waits ≡ waiting v.link trace = h 0 v refl in
+    let rest = waits-all views trace (λ k w e. h (suc k) w e) in
+    sum_by-cons (λ (w : LinkView). w.waits) v views ∙ (λ i. here i + rest i)
+
+module _ (rule : Rule) (calls : List Call) (s : State) (sound : IsSound s) (stands : StandsAt rule s calls) where
+  names-are : link_names (views_of s.parts) ≡ links (trace_of calls)
+  names-are = stands.agrees.links_are ∙ append-nil (links (trace_of calls))
+
+  waits-are : s.parts.waiting ≡ waiting_all (links (trace_of calls)) (trace_of calls)
+  waits-are =
+      sound.within.waiting_is
+      ∙ waits-all (views_of s.parts) (trace_of calls) (λ k v e. (stands.agrees.views_are k v e).waits_are)
+      ∙ ap (λ (ls : List Link). waiting_all ls (trace_of calls)) names-are
+
+  under-way : length s.parts.line.pending ≡ length (undelivered rule (trace_of calls))
+  under-way = ap (λ (ds : List Delivery). length ds) stands.agrees.pending_is ∙ ap (λ (r : Rule). length (undelivered r (trace_of calls))) stands.rule_is
+
+  holds-are : s.parts.waiting + length s.parts.line.pending ≡ held rule (trace_of calls)
+  holds-are = λ i. waits-are i + under-way i
+
+  -- The greater of what is held and the count of flows.
+  pub room-is : (n flows : ℕ) → n ≡ length s.parts.line.pending → flows ≡ length s.parts.flows.keys → max (s.parts.waiting + n) flows ≡ max (held rule (trace_of calls)) (length (keys calls))
+  room-is n flows line many = λ i. max (((λ j. s.parts.waiting + line j) ∙ holds-are) i) ((many ∙ ap (λ (ks : List FlowKey). length ks) stands.keys_are) i)
+
+-- ---- A settling holds no more
+
+held-one : (rule : Rule) (settings : Settings) (at : ℕ) (trace : List Event) (s : Start) → first_start settings at (links trace) trace ≡ Some s → held rule (started s ∷ trace) ≤ held rule trace
+held-one rule settings at trace s e =
+    let fewer = waiting_all-first settings at (links trace) trace s e in
+    let more = length-in_order (delivery_of rule s (last_due rule s.packet.link trace)) (undelivered rule trace) in
+    omega arith
+
+held-settle : (rule : Rule) (settings : Settings) (at most : ℕ) (trace : List Event) → held rule (settle most settings at trace) ≤ held rule trace
+held-settle rule settings at zero trace = omega arith
+held-settle rule settings at (suc most) trace = by (first_start settings at (links trace) trace) refl (λ s. held-settle rule settings at most (started s ∷ trace))
+  where
+    by : (o : Option Start) → first_start settings at (links trace) trace ≡ o → ((s : Start) → held rule (settle most settings at (started s ∷ trace)) ≤ held rule (started s ∷ trace)) → held rule (settle (suc most) settings at trace) ≤ held rule trace
+    by None e after = subst (λ (t : List Event). held rule t ≤ held rule trace) (sym (settle-none (suc most) settings at trace e)) (omega arith)
+    by (Some s) e after =
+        let rest = after s in
+        let one = held-one rule settings at trace s e in
+        subst (λ (t : List Event). held rule t ≤ held rule trace) (sym (settle-some most settings at trace s e)) (omega arith)
+
+-- ---- The list in each reply
+
+none-configured : (settings : Settings) (queues : List ℕ) (command : Command) → items_in (command_reply settings queues command) ≡ 0
+none-configured settings queues (Pipe number bw delay limit loss buckets mask) = refl
+none-configured settings queues (Queue number pipe weight limit loss buckets mask) = by (is_some (settings (ToPipe pipe)))
+  where
+    by : (b : Bool) → items_in (cond b Configured NoSuchPipe) ≡ 0
+    by true = refl
+    by false = refl
+none-configured settings queues (DeletePipe number) = by (is_some (settings (ToPipe number))) (has_queues settings queues number)
+  where
+    by : (b d : Bool) → items_in (cond b (cond d PipeHasQueues Deleted) NoSuchPipe) ≡ 0
+    by true true = refl
+    by true false = refl
+    by false d = refl
+none-configured settings queues (DeleteQueue number) = by (is_some (settings (ToQueue number)))
+  where
+    by : (b : Bool) → items_in (cond b Deleted NoSuchQueue) ≡ 0
+    by true = refl
+    by false = refl
+
+none-submitted : (at : ℕ) (v : Verdict) (trace : List Event) → items_in (reply_to_verdict at v trace) ≡ 0
+none-submitted at no_target trace = refl
+none-submitted at (loses link flow) trace = refl
+none-submitted at (refuses link flow) trace = refl
+none-submitted at (takes link flow how) trace = refl
+
+length-statuses : (flow : ℕ) (known : List FlowKey) (trace : List Event) → length (statuses_from flow known trace) ≡ length known
+length-statuses flow [] trace = refl
+length-statuses flow (key ∷ known) trace = ap suc (length-statuses (flow + 1) known trace)
+
+given-few : (rule : Rule) (at : ℕ) (trace : List Event) → length (given rule at trace) ≤ held rule trace
+given-few rule at trace =
+    let a = length-filter (λ (d : Delivery). nat_le d.due at) (undelivered rule trace) in
+    let b = count_by-le-length (λ (d : Delivery). nat_le d.due at) (undelivered rule trace) in
+    omega arith
+
+counted-items : (rule : Rule) (calls : List Call) (call : Call) → items_in (counted_reply rule calls call) ≤ max (held rule (trace_of calls)) (length (keys calls))
+counted-items rule calls (Configure command) = let none = none-configured (settings calls) (queue_numbers calls) command in omega arith
+counted-items rule calls (Submit target packet moment) =
+    let at = max (effective_moment calls) moment in
+    let before = settled (settings calls) at (trace_of calls) in
+    let none = none-submitted at (verdict calls target packet before) before in
+    omega arith
+counted-items rule calls (Advance moment) = omega arith
+counted-items rule calls (Collect moment) =
+    let at = max (effective_moment calls) moment in
+    let a = given-few rule at (settled (settings calls) at (trace_of calls)) in
+    let b = held-settle rule (settings calls) at (waiting_all (links (trace_of calls)) (trace_of calls)) (trace_of calls) in
+    omega arith
+counted-items rule calls Show = let all = length-statuses 0 (keys calls) (trace_of calls) in omega arith
+
+-- No list in the next reply is longer.
+pub items-few : (rule : Rule) (calls : List Call) (call : Call) → items_in (reply rule calls call) ≤ max (held rule (trace_of (counted calls))) (length (keys (counted calls)))
+items-few rule calls call = ⊎_elim
+    (λ few. subst (λ (x : Reply × List Call). items_in x.0 ≤ max (held rule (trace_of x.1)) (length (keys x.1))) (λ i. (sym few.2 i, sym few.1 i)) (counted-items rule calls call))
+    (λ many. subst (λ (r : Reply). items_in r ≤ max (held rule (trace_of (counted calls))) (length (keys (counted calls)))) (sym many.1) (omega arith))
+    (counts rule calls call)

@@ -1,0 +1,112 @@
+-- What holds after a new flow got its home, whichever it is.
+use Rattle.std.proofs.Common.{◌≡◌, ◌∙◌, ◌≤◌, ◌<◌, ◌^◌, ℕ, ◌+◌, true, cond, List, [], ◌∷◌, ◌++◌, refl, ap, sym, subst, length, arith}
+use Rattle.std.specs.Prelude.{Some, slice_get}
+use Rattle.dn_types.specs.Trace.{Link, shared, Event}
+use Rattle.dn_types.specs.declared.delivery.Delivery.{Delivery}
+use Rattle.dn_types.specs.declared.flow_key.FlowKey.{FlowKey}
+use Rattle.dn_types.specs.declared.rule.Rule.{Rule}
+use Rattle.dn_flows.specs.Table.{FlowState, Table, new_flow, flow_at, with_place}
+use Rattle.dn_flows.specs.declared.waiting.Waiting.{Waiting}
+use Rattle.dn_flows.proofs.Views.{flow_after_set}
+use Rattle.dn_wf2q.specs.Schedule.{room_at}
+use Rattle.dn_shaper.specs.declared.due.Due.{Due}
+use Rattle.dn_shaper.specs.declared.parts.Home.{Home}
+use Rattle.dn_shaper.specs.declared.state.State.{State}
+use Rattle.dn_shaper.specs.Agreement.{AgreesWith, IsAt, link_names}
+use Rattle.dn_shaper.specs.Due.{Holds, backlogged}
+use Rattle.dn_shaper.specs.Homing.{GivesHome}
+use Rattle.dn_shaper.specs.Making.{SameFlow}
+use Rattle.dn_shaper.specs.Standing.{IsIndexed, IsSound}
+use Rattle.dn_shaper.specs.Starting.{IsReady, Within}
+use Rattle.dn_shaper.specs.Views.{LinkView, views_of, dues, waits_in_all}
+use Rattle.dn_shaper.proofs.Events.{eq-yes, length-set}
+use Rattle.dn_shaper.proofs.Places.{get-last, length-more}
+use Rattle.dn_shaper.proofs.Preparing.{IsOneMore, flow-more, with_flows}
+use Rattle.dn_shaper.proofs.Reserving.{place-reserved}
+
+module _ (old new : State) (t : Table) (key : FlowKey) (one : IsOneMore key old.parts.flows t) (g : GivesHome key (length old.parts.flows.keys) (with_flows old t) new) where
+  abbrev flow : ℕ
+  flow = length old.parts.flows.keys
+
+  pub keys-are : new.parts.flows.keys ≡ old.parts.flows.keys ++ key ∷ []
+  keys-are = g.keys ∙ one.keys
+
+  module _ (as_many : length old.parts.flows.flows ≡ length old.parts.flows.keys) where
+    inside : flow < length t.flows
+    inside = let m = ap {B = ℕ} (λ (fs : List FlowState). length fs) one.flows ∙ length-more old.parts.flows.flows new_flow in omega arith
+
+    pub same-flows : (f : ℕ) → SameFlow (flow_at old.parts.flows.flows f) (flow_at new.parts.flows.flows f)
+    same-flows f =
+        subst (λ (x : FlowState × List FlowState). SameFlow x.0 (flow_at x.1 f)) (λ i. ((ap (λ (fs : List FlowState). flow_at fs f) one.flows ∙ flow-more old.parts.flows.flows f) i, sym g.flows i)) (place-reserved t.flows flow f inside)
+
+    pub many-flows : length new.parts.flows.flows ≡ length old.parts.flows.keys + 1
+    many-flows =
+        ap (λ (fs : List FlowState). length fs) g.flows
+        ∙ length-set t.flows flow (with_place (flow_at t.flows flow))
+        ∙ ap (λ (fs : List FlowState). length fs) one.flows
+        ∙ length-more old.parts.flows.flows new_flow
+        ∙ ap (λ n. n + 1) as_many
+
+    reserved-now : (flow_at new.parts.flows.flows flow).reserved ≡ true
+    reserved-now =
+        ap (λ (fs : List FlowState). (flow_at fs flow).reserved) g.flows
+        ∙ ap (λ (s : FlowState). s.reserved) (flow_after_set t.flows flow flow (with_place (flow_at t.flows flow)) inside)
+        ∙ ap (λ b. (cond b (with_place (flow_at t.flows flow)) (flow_at t.flows flow)).reserved) (eq-yes flow flow refl)
+
+    -- ---- What holds on either home
+
+    pub ready-by : (room : (v : LinkView) (pipe : ℕ) → slice_get (views_of new.parts) g.home.place ≡ Some v → v.link ≡ shared pipe → 0 < room_at v.schedule.room g.home.slot) → length old.parts.homes.items ≡ flow → IsReady flow new.parts
+    ready-by room many = record {
+      place = reserved-now;
+      slot = λ h v pipe at e is.
+          let last : slice_get new.parts.homes.items flow ≡ Some g.home = (λ i. slice_get (g.homes i) (sym many i)) ∙ get-last old.parts.homes.items g.home in
+          let both : Some g.home ≡ Some h = sym last ∙ at in
+          let same : g.home ≡ h = cc in
+          subst (λ (x : Home). 0 < room_at v.schedule.room x.slot) same (room v pipe (ap (λ (x : Home). slice_get (views_of new.parts) x.place) same ∙ e) is);
+      line = let a = g.line in let b = g.waiting in omega arith;
+    }
+
+    pub within-by : waits_in_all (views_of new.parts) ≡ waits_in_all (views_of old.parts) → ((n : ℕ) → Within n old.parts → (k : ℕ) (v : LinkView) → slice_get (views_of new.parts) k ≡ Some v → v.schedule.arrivals ≤ n) → (n : ℕ) → Within n old.parts → Within n new.parts
+    within-by waits arrivals n w = record {
+      waiting_is = g.waiting ∙ w.waiting_is ∙ sym waits;
+      room = let a = w.room in let b = g.waiting in let c = g.room in omega arith;
+      pushed = let a = w.pushed in let b = g.waiting in let c = g.pushed in omega arith;
+      sums = let a = w.sums in let b = g.waiting in let c = ap {B = ℕ} (λ (ds : List Delivery). length ds) g.pending in omega arith;
+      flows_are = λ f.
+          let s = same-flows f in
+          let i = w.flows_are f in
+          let x = i.0 in
+          let y = i.1 in
+          let z = i.2 in
+          let a = s.lost in
+          let b = s.full in
+          let c = s.started in
+          let d = s.discarded in
+          let e = ap {B = ℕ} (λ (q : List Waiting). length q) s.backlog in
+          (omega arith, omega arith, omega arith);
+      arrivals = arrivals n w;
+      accepted = let a = w.accepted in let b = g.accepted in omega arith;
+    }
+
+    pub sound-by : (agrees : (more : List Link) × (trace : List Event) × AgreesWith new.parts more trace) → ((n : ℕ) → Within n old.parts → Within n new.parts) → Holds (dues (views_of new.parts)) old.due.keys → backlogged (dues (views_of new.parts)) ≡ backlogged (dues (views_of old.parts)) → length (views_of new.parts) ≤ length old.due.keys + new.due.room → IsIndexed new (link_names (views_of new.parts)) → IsSound old → IsSound new
+    sound-by agrees within held same_count places indexed s = record {
+      kept = record {
+        agrees = agrees;
+        within = within (2 ^ 62) s.kept.within;
+        held = subst (λ (ks : List Due). Holds (dues (views_of new.parts)) ks) (sym g.due.keys) held;
+        counted = ap (λ (ks : List Due). length ks) g.due.keys ∙ s.kept.counted ∙ sym same_count;
+        places = let e = ap {B = ℕ} (λ (ks : List Due). length ks) g.due.keys in omega arith;
+      };
+      within = subst (λ n. Within n new.parts) (sym g.keeps.calls) (within old.calls s.within);
+      moves = let a = s.moves in let b = g.due.moves in let c = g.waiting in let d = g.keeps.calls in omega arith;
+      early = let a = s.early in let b = g.keeps.now in omega arith;
+      indexed = indexed;
+    }
+
+    -- The parts from their pieces.
+    pub agrees-by : (more : List Link) (trace : List Event) (h : Home) (views : List LinkView) → g.home ≡ h → views_of new.parts ≡ views → IsAt old.parts.rule old.parts.accepted (old.parts.flows.keys ++ key ∷ []) (old.parts.homes.items ++ h ∷ []) views new.parts.flows.flows old.parts.line.pending more trace → AgreesWith new.parts more trace
+    agrees-by more trace h views same_home same_views a =
+        subst (λ (x : Rule). IsAt x new.parts.accepted new.parts.flows.keys new.parts.homes.items (views_of new.parts) new.parts.flows.flows new.parts.line.pending more trace) (sym g.keeps.rule)
+        (subst (λ (x : ℕ × List FlowKey). IsAt old.parts.rule x.0 x.1 new.parts.homes.items (views_of new.parts) new.parts.flows.flows new.parts.line.pending more trace) (λ i. (sym g.accepted i, sym keys-are i))
+        (subst (λ (x : List Home × List Delivery). IsAt old.parts.rule old.parts.accepted (old.parts.flows.keys ++ key ∷ []) x.0 (views_of new.parts) new.parts.flows.flows x.1 more trace) (λ i. (sym (g.homes ∙ ap (λ (y : Home). old.parts.homes.items ++ y ∷ []) same_home) i, sym g.pending i))
+        (subst (λ (vs : List LinkView). IsAt old.parts.rule old.parts.accepted (old.parts.flows.keys ++ key ∷ []) (old.parts.homes.items ++ h ∷ []) vs new.parts.flows.flows old.parts.line.pending more trace) (sym same_views) a)))

@@ -1,0 +1,125 @@
+-- The home of a new flow is a link that is made.
+use Rattle.std.proofs.Common.{◌≡◌, ◌∙◌, ◌≤◌, ◌<◌, ◌⊎◌, ℕ, zero, suc, false, cond, List, [], ◌∷◌, ◌++◌, slice_index_or, refl, ap, sym, subst, length, arith, inl, inr}
+use Rattle.std.specs.Prelude.{Option, Some, None, nat_lt, is_some, slice_get}
+use Rattle.std.specs.List.{list_any}
+use Rattle.std.proofs.lemmas.List.{length-map, map-append}
+use Rattle.dn_types.specs.Calls.{link_of}
+use Rattle.dn_types.specs.Trace.{Link, link_eq, Event, links, with_link}
+use Rattle.dn_types.specs.declared.flow_key.FlowKey.{FlowKey}
+use Rattle.dn_flows.specs.Table.{Table}
+use Rattle.dn_wf2q.specs.Schedule.{room_at}
+use Rattle.dn_shaper.specs.declared.due.Due.{Due}
+use Rattle.dn_shaper.specs.declared.state.State.{State}
+use Rattle.dn_shaper.specs.Agreement.{AgreesWith, link_names}
+use Rattle.dn_shaper.specs.Due.{Holds, due_at, backlogged, is_backlogged}
+use Rattle.dn_shaper.specs.Homing.{GivesHome, Opens, NotesFor, place_for}
+use Rattle.dn_shaper.specs.Making.{HasRoom}
+use Rattle.dn_shaper.specs.Slots.{Ascends, top}
+use Rattle.dn_shaper.specs.Standing.{IsIndexed, IsSound}
+use Rattle.dn_shaper.specs.Starting.{IsReady, Within}
+use Rattle.dn_shaper.specs.Submitting.{IsMade}
+use Rattle.dn_shaper.specs.Views.{LinkView, views_of, home, home_by, dues, due_of, waits_in_all}
+use Rattle.dn_shaper.proofs.Events.{append-none}
+use Rattle.dn_shaper.proofs.Indexed.{noted-more, unnoted-unknown}
+use Rattle.dn_shaper.proofs.Made.{linked-agrees}
+use Rattle.dn_shaper.proofs.Places.{get-more, get-last, length-more, sum-more}
+use Rattle.dn_shaper.proofs.Preparing.{IsOneMore, with_flows}
+use Rattle.dn_shaper.proofs.Housed.{keys-are, same-flows, many-flows, ready-by, within-by, sound-by, agrees-by}
+
+-- ---- The links with a backlog, and one more without
+
+due-more : (ds : List (Option ℕ)) (place : ℕ) → due_at (ds ++ None ∷ []) place ≡ due_at ds place
+due-more [] zero = refl
+due-more [] (suc place) = refl
+due-more (d ∷ ds) zero = refl
+due-more (d ∷ ds) (suc place) = due-more ds place
+
+holds-more : (ds : List (Option ℕ)) (keys : List Due) → Holds ds keys → Holds (ds ++ None ∷ []) keys
+holds-more ds keys h = record {
+  once = λ place. h.once place ∙ ap {B = ℕ} (λ (o : Option ℕ). cond (is_some o) 1 0) (sym (due-more ds place));
+  moments = λ i d lt. due-more ds (slice_index_or keys i d).place ∙ h.moments i d lt;
+}
+
+no-due : (v : LinkView) → v.waits ≡ 0 → due_of v ≡ None
+no-due v e = ap (λ n. cond (nat_lt 0 n) (Some v.value.free) None) e
+
+module _ (old new : State) (t : Table) (key : FlowKey) (one : IsOneMore key old.parts.flows t) (g : GivesHome key (length old.parts.flows.keys) (with_flows old t) new) (as_many : length old.parts.flows.flows ≡ length old.parts.flows.keys) where
+  abbrev flow : ℕ
+  flow = length old.parts.flows.keys
+
+  abbrev link : Link
+  link = link_of key.target flow key.pipe
+
+  module _ (noted : place_for key old.shared ≡ None) (s : Opens link flow g.home (views_of old.parts) (views_of new.parts) new.due) (notes : NotesFor key.target key.pipe g.home.place old.shared new.shared) (index : IsIndexed old (link_names (views_of old.parts))) where
+    module _ (trace : List Event) (a : AgreesWith old.parts [] trace) where
+      unknown : list_any (link_eq link) (link_names (views_of old.parts)) ≡ false
+      unknown = unnoted-unknown old old.parts.links.items index key.target flow key.pipe (λ k v e. (a.views_are k v e).below) noted
+
+      pub opened-agrees : AgreesWith new.parts (link ∷ []) trace
+      opened-agrees =
+          agrees-by old new t key one g as_many (link ∷ []) trace (record { place = length (views_of old.parts); slot = 0 }) (views_of old.parts ++ s.view ∷ [])
+          (λ i. record { place = s.place_is i; slot = s.slot_is i }) s.views_are
+          (linked-agrees old.parts.rule old.parts.accepted old.parts.flows.keys old.parts.homes.items (views_of old.parts) old.parts.flows.flows old.parts.line.pending trace a key new.parts.flows.flows (same-flows old new t key one g as_many) (many-flows old new t key one g as_many) s.view s.is_new.link_is unknown s.is_new.free s.is_new.last_due s.is_new.waits s.is_new.schedule.virtual_time s.is_new.schedule.flows
+          (λ slot f e. only-one slot f (ap (λ (fs : List ℕ). slice_get fs slot) (sym s.is_new.slots) ∙ e))
+          (λ pipe e. ap (λ (fs : List ℕ). slice_get fs 0) s.is_new.slots)
+          (subst (λ (fs : List ℕ). Ascends 0 fs) (sym s.is_new.slots) (omega arith, tt))
+          (let e = ap {B = ℕ} (λ (fs : List ℕ). top 0 fs) s.is_new.slots in omega arith))
+        where
+          only-one : (slot f : ℕ) → slice_get (flow ∷ []) slot ≡ Some f → f ≡ flow
+          only-one zero f e = let same : flow ≡ f = cc in sym same
+          only-one (suc slot) f e = absurd cc
+
+      pub opened-prepares : (more : List Link) × AgreesWith new.parts more trace × IsMade flow new.parts trace
+      opened-prepares =
+          let b = opened-agrees in
+          let names : link_names (views_of old.parts) ≡ links trace = a.links_are ∙ append-none (links trace) in
+          let unseen : list_any (link_eq link) (links trace) ≡ false = ap (λ (ls : List Link). list_any (link_eq link) ls) (sym names) ∙ unknown in
+          let home_is : home new.parts.flows.keys flow ≡ link = ap (λ (ks : List FlowKey). home ks flow) (keys-are old new t key one g) ∙ ap (home_by flow) (get-last old.parts.flows.keys key) in (
+            link ∷ [],
+            b,
+            b.links_are ∙ sym (ap (λ x. cond x (links trace) (links trace ++ link ∷ [])) unseen) ∙ ap (λ (l : Link). with_link l (links trace)) (sym home_is),
+          )
+
+    view-last : (v : LinkView) → slice_get (views_of new.parts) (length (views_of old.parts)) ≡ Some v → s.view ≡ v
+    view-last v e =
+        let both : Some s.view ≡ Some v = sym (get-last (views_of old.parts) s.view) ∙ ap (λ (vs : List LinkView). slice_get vs (length (views_of old.parts))) (sym s.views_are) ∙ e in
+        cc
+
+    pub opened-ready : length old.parts.homes.items ≡ flow → IsReady flow new.parts
+    opened-ready many = ready-by old new t key one g as_many (λ v pipe e is.
+        let same = view-last v (ap (slice_get (views_of new.parts)) (sym s.place_is) ∙ e) in
+        let room : HasRoom 0 v v.link = subst (λ (x : LinkView). HasRoom 0 x x.link) same s.is_new.room in
+        let here : 0 < room_at v.schedule.room 0 = subst (λ (l : Link). HasRoom 0 v l) is room in
+        subst (λ n. 0 < room_at v.schedule.room n) (sym s.slot_is) here) many
+
+    waits-more : waits_in_all (views_of new.parts) ≡ waits_in_all (views_of old.parts)
+    waits-more =
+        let sum = sum-more (λ (x : LinkView). x.waits) (views_of old.parts) s.view in
+        let w = s.is_new.waits in
+        ap waits_in_all s.views_are ∙ (omega arith)
+
+    arrivals-more : (n : ℕ) → Within n old.parts → (k : ℕ) (v : LinkView) → slice_get (views_of new.parts) k ≡ Some v → v.schedule.arrivals ≤ n
+    arrivals-more n w k v e = by (get-more (views_of old.parts) s.view v k (ap (λ (vs : List LinkView). slice_get vs k) (sym s.views_are) ∙ e))
+      where
+        by : (slice_get (views_of old.parts) k ≡ Some v) ⊎ ((k ≡ length (views_of old.parts)) × (v ≡ s.view)) → v.schedule.arrivals ≤ n
+        by (inl there) = w.arrivals k v there
+        by (inr last) =
+            let is = ap {B = ℕ} (λ (x : LinkView). x.schedule.arrivals) last.1 in
+            let a = s.is_new.schedule.arrivals in
+            omega arith
+
+    dues-more : dues (views_of new.parts) ≡ dues (views_of old.parts) ++ None ∷ []
+    dues-more = ap dues s.views_are ∙ map-append due_of (views_of old.parts) (s.view ∷ []) ∙ ap (λ (o : Option ℕ). dues (views_of old.parts) ++ o ∷ []) (no-due s.view s.is_new.waits)
+
+    count-same : backlogged (dues (views_of new.parts)) ≡ backlogged (dues (views_of old.parts))
+    count-same = let m = sum-more is_backlogged (dues (views_of old.parts)) None in ap backlogged dues-more ∙ (omega arith)
+
+    names-more : link_names (views_of new.parts) ≡ link_names (views_of old.parts) ++ link ∷ []
+    names-more = ap link_names s.views_are ∙ map-append (λ (x : LinkView). x.link) (views_of old.parts) (s.view ∷ []) ∙ ap (λ (l : Link). link_names (views_of old.parts) ++ l ∷ []) s.is_new.link_is
+
+    pub opened-sound : (trace : List Event) → AgreesWith old.parts [] trace → IsSound old → IsSound new
+    opened-sound trace a sound =
+        sound-by old new t key one g as_many (link ∷ [], trace, opened-agrees trace a) (within-by old new t key one g as_many waits-more arrivals-more)
+        (subst (λ (ds : List (Option ℕ)). Holds ds old.due.keys) (sym dues-more) (holds-more (dues (views_of old.parts)) old.due.keys sound.kept.held)) count-same
+        (let l = ap {B = ℕ} (λ (vs : List LinkView). length vs) s.views_are ∙ length-more (views_of old.parts) s.view in let r = s.room in omega arith)
+        (subst (λ (ls : List Link). IsIndexed new ls) (sym names-more) (noted-more old new (link_names (views_of old.parts)) index key.target flow key.pipe g.home.place (s.place_is ∙ sym (length-map (views_of old.parts) (λ v. v.link))) noted notes)) sound

@@ -1,0 +1,226 @@
+-- Where only room was made, a shaper stays sound. So does one whose last flow, which was made for a packet, is taken out.
+use Rattle.std.proofs.Common.{◌≡◌, ◌∙◌, ◌≤◌, ◌<◌, ◌-◌, ℕ, zero, suc, ◌+◌, Bool, true, false, not, cond, ◌||◌, List, [], ◌∷◌, ◌++◌, refl, ap, sym, subst, length, take, arith, ⊎_elim}
+use Rattle.std.specs.Prelude.{Some, Result, Ok, Err, OnOk, OnErr, is_err, nat_eq, slice_get}
+use Rattle.std.specs.Map.{lookup}
+use Rattle.std.specs.List.{list_any, position_or_len}
+use Rattle.std.proofs.lemmas.Bool.{cases_lt}
+use Rattle.std.proofs.lemmas.List.{get_or-take, get_or_past, length-take-le}
+use Rattle.std.proofs.Math.Seq.{take-append_seam}
+use Rattle.dn_heap.specs.Heap.{Heap}
+use Rattle.dn_types.specs.Flows.{key_eq, flow_number, with_key}
+use Rattle.dn_types.specs.Trace.{Link, shared, link_eq, Event, links}
+use Rattle.dn_types.specs.declared.flow_key.FlowKey.{FlowKey}
+use Rattle.dn_flows.specs.Table.{FlowState, Table, new_flow, flow_at, is_known, flows_with}
+use Rattle.dn_shaper.specs.declared.due.Due.{Due}
+use Rattle.dn_shaper.specs.declared.parts.Parts.{Parts}
+use Rattle.dn_shaper.specs.declared.state.State.{State}
+use Rattle.dn_shaper.specs.Agreement.{AgreesWith, link_names}
+use Rattle.dn_shaper.specs.Due.{Holds}
+use Rattle.dn_shaper.specs.Homing.{KeepsDue, OnlyReserves, without_last}
+use Rattle.dn_shaper.specs.Making.{Prepares, Reserves, SameFlow}
+use Rattle.dn_shaper.specs.Settling.{IsKept}
+use Rattle.dn_shaper.specs.Standing.{IsSound}
+use Rattle.dn_shaper.specs.Starting.{Within}
+use Rattle.dn_shaper.specs.Submitting.{IsMade}
+use Rattle.dn_shaper.specs.Views.{LinkView, views_of, dues, home}
+use Rattle.dn_shaper.proofs.Events.{append-none}
+use Rattle.dn_shaper.proofs.Places.{length-more}
+use Rattle.dn_shaper.proofs.Reserved.{reserved-names, reserves-agree, reserves-kept, reserves-within}
+use Rattle.dn_shaper.proofs.Reserving.{same-flow}
+use Rattle.dn_types.proofs.Settled.{link_eq-refl}
+
+-- ---- The flow's link is seen
+
+or-yes : (a b : Bool) → b ≡ true → (a || b) ≡ true
+or-yes true b e = refl
+or-yes false b e = e
+
+named : (views : List LinkView) (k : ℕ) (v : LinkView) (link : Link) → slice_get views k ≡ Some v → v.link ≡ link → list_any (link_eq link) (link_names views) ≡ true
+named [] k v link e is = absurd cc
+named (w ∷ views) zero v link e is =
+    let same : w ≡ v = cc in
+    ap (λ (l : Link). link_eq link l || list_any (link_eq link) (link_names views)) (ap (λ (x : LinkView). x.link) same ∙ is)
+    ∙ ap (λ b. b || list_any (link_eq link) (link_names views)) (link_eq-refl link)
+named (w ∷ views) (suc k) v link e is = or-yes (link_eq link w.link) (list_any (link_eq link) (link_names views)) (named views k v link e is)
+
+pub seen-made : (p : Parts) (trace : List Event) (flow : ℕ) → AgreesWith p [] trace → flow < length p.flows.keys → IsMade flow p trace
+seen-made p trace flow a lt =
+    let h = a.homes_are flow lt in
+    let names : link_names (views_of p) ≡ links trace = a.links_are ∙ append-none (links trace) in
+    let there : list_any (link_eq (home p.flows.keys flow)) (links trace) ≡ true =
+    ap (λ (ls : List Link). list_any (link_eq (home p.flows.keys flow)) ls) (sym names)
+    ∙ named (views_of p) h.0.place h.2.view (home p.flows.keys flow) h.2.there h.2.link_is in
+    names ∙ sym (ap (λ b. cond b (links trace) (links trace ++ home p.flows.keys flow ∷ [])) there)
+
+pub reserves-prepares : (old new : Parts) (flow : ℕ) → Reserves old new → flow < length old.flows.keys → Prepares flow old new
+reserves-prepares old new flow r lt trace a =
+    let b = reserves-agree old new r [] trace a in
+    let e = ap {B = ℕ} (λ (ks : List FlowKey). length ks) r.keys in
+    ([], b, seen-made new trace flow b (omega arith))
+
+-- ---- Only room was made
+
+pub due-kept : (p : Parts) (due due' : Heap Due) → KeepsDue due due' → IsKept p due → IsKept p due'
+due-kept p due due' d k = record {
+  agrees = k.agrees;
+  within = k.within;
+  held = subst (λ (ks : List Due). Holds (dues (views_of p)) ks) (sym d.keys) k.held;
+  counted = ap (λ (ks : List Due). length ks) d.keys ∙ k.counted;
+  places = let a = k.places in let b = ap {B = ℕ} (λ (ks : List Due). length ks) d.keys in let c = d.room in omega arith;
+}
+
+pub reserves-sound : (old new : State) → OnlyReserves old new → IsSound old → IsSound new
+reserves-sound old new o s = record {
+  kept = due-kept new.parts old.due new.due o.due (reserves-kept old.parts new.parts o.parts old.due s.kept);
+  within = subst (λ n. Within n new.parts) (sym o.keeps.calls) (reserves-within old.parts new.parts o.parts old.calls s.within);
+  moves = let a = s.moves in let b = o.due.moves in let c = o.parts.waiting in let d = o.keeps.calls in omega arith;
+  early = let a = s.early in let b = o.keeps.now in omega arith;
+  indexed =
+      let names = reserved-names old.parts new.parts o.parts in
+      record {
+        found = λ pipe place e. ap (λ (ls : List Link). slice_get ls place) names ∙ s.indexed.found pipe place (ap (λ (es : List (ℕ × ℕ)). lookup (nat_eq pipe) es) (sym o.shared) ∙ e);
+        missing = λ pipe e. ap (λ (ls : List Link). list_any (link_eq (shared pipe)) ls) names ∙ s.indexed.missing pipe (ap (λ (es : List (ℕ × ℕ)). lookup (nat_eq pipe) es) (sym o.shared) ∙ e);
+      };
+}
+
+-- ---- The flow is known
+
+position-known : {X : Type 0} (p : X → Bool) (xs : List X) → position_or_len p xs < length xs → list_any p xs ≡ true
+position-known {X = X} p [] lt = absurd (omega arith)
+position-known {X = X} p (x ∷ xs) lt = by (p x) (λ below. position-known p xs below) lt
+  where
+    by : (b : Bool) → (position_or_len p xs < length xs → list_any p xs ≡ true) → cond (not b) (1 + position_or_len p xs) 0 < suc (length xs) → (b || list_any p xs) ≡ true
+    by true rest below = refl
+    by false rest below = rest (omega arith)
+
+position-new : {X : Type 0} (p : X → Bool) (xs : List X) → length xs ≤ position_or_len p xs → (position_or_len p xs ≡ length xs) × (list_any p xs ≡ false)
+position-new {X = X} p [] le = (refl, refl)
+position-new {X = X} p (x ∷ xs) le = by (p x) (λ above. position-new p xs above) le
+  where
+    by : (b : Bool) → (length xs ≤ position_or_len p xs → (position_or_len p xs ≡ length xs) × (list_any p xs ≡ false)) → suc (length xs) ≤ cond (not b) (1 + position_or_len p xs) 0 → (cond (not b) (1 + position_or_len p xs) 0 ≡ suc (length xs)) × ((b || list_any p xs) ≡ false)
+    by true rest above = absurd (omega arith)
+    by false rest above = let r = rest (omega arith) in let e = r.0 in (omega arith, r.1)
+
+pub known-table : (old t : Table) (key : FlowKey) → flow_number old.keys key < length old.keys → t.keys ≡ with_key key old.keys → t.flows ≡ flows_with key old → t ≡ old
+known-table old t key lt keys flows =
+    let known : is_known key old.keys ≡ true = position-known (key_eq key) old.keys lt in
+    λ i. record {
+      keys = (keys ∙ ap (λ b. cond b old.keys (old.keys ++ key ∷ [])) known) i;
+      flows = (flows ∙ ap (λ b. cond b old.flows (old.flows ++ new_flow ∷ [])) known) i;
+    }
+
+-- The table has one flow more, which is new.
+pub record IsOneMore (key : FlowKey) (old new : Table) : Type 0 where
+  pub keys : new.keys ≡ old.keys ++ key ∷ []
+  pub flows : new.flows ≡ old.flows ++ new_flow ∷ []
+  pub number : flow_number old.keys key ≡ length old.keys
+
+pub new-table : (old t : Table) (key : FlowKey) → length old.keys ≤ flow_number old.keys key → t.keys ≡ with_key key old.keys → t.flows ≡ flows_with key old → IsOneMore key old t
+new-table old t key le keys flows =
+    let p = position-new (key_eq key) old.keys le in
+    record {
+      keys = keys ∙ ap (λ b. cond b old.keys (old.keys ++ key ∷ [])) p.1;
+      flows = flows ∙ ap (λ b. cond b old.flows (old.flows ++ new_flow ∷ [])) p.1;
+      number = p.0;
+    }
+
+abbrev pub with_table : Parts → Table → Parts
+with_table p t = record { rule = p.rule; accepted = p.accepted; flows = t; homes = p.homes; links = p.links; waiting = p.waiting; line = p.line }
+
+abbrev pub with_flows : State → Table → State
+with_flows s t = record { parts = with_table s.parts t; due = s.due; shared = s.shared; configured = s.configured; now = s.now; calls = s.calls }
+
+pub same-reserves : (old new : Parts) (t : Table) → t ≡ old.flows → Reserves (with_table old t) new → Reserves old new
+same-reserves old new t e r = subst (λ (x : Table). Reserves (with_table old x) new) e r
+
+pub only-parts : (old : State) (new : Parts) → Reserves old.parts new → OnlyReserves old (record { parts = new; due = old.due; shared = old.shared; configured = old.configured; now = old.now; calls = old.calls })
+only-parts old new r = record {
+  parts = r;
+  due = record { keys = refl; moves = refl; room = omega arith };
+  shared = refl;
+  keeps = record { rule = r.rule; configured = refl; now = refl; calls = refl };
+}
+
+-- ---- The last flow is taken out
+
+take-last : {X : Type 0} (xs : List X) (y : X) → take (length (xs ++ y ∷ []) - 1) (xs ++ y ∷ []) ≡ xs
+take-last xs y = let m = length-more xs y in let e : length (xs ++ y ∷ []) - 1 ≡ length xs = omega arith in ap (λ n. take n (xs ++ y ∷ [])) e ∙ take-append_seam xs (y ∷ [])
+
+pub flow-more : (flows : List FlowState) (g : ℕ) → flow_at (flows ++ new_flow ∷ []) g ≡ flow_at flows g
+flow-more [] zero = refl
+flow-more [] (suc g) = refl
+flow-more (s ∷ flows) zero = refl
+flow-more (s ∷ flows) (suc g) = flow-more flows g
+
+-- A table whose last flow is new and was taken out is the table before it.
+pub without-new : (old : State) (t : Table) (key : FlowKey) → IsOneMore key old.parts.flows t → (new : State) → OnlyReserves (without_last (with_flows old t)) new → OnlyReserves old new
+without-new old t key more new o =
+    subst (λ (x : Table). OnlyReserves (with_flows old x) new) (λ i. record {
+      keys = (ap (λ (ks : List FlowKey). take (length ks - 1) ks) more.keys ∙ take-last old.parts.flows.keys key) i;
+      flows = (ap (λ (fs : List FlowState). take (length fs - 1) fs) more.flows ∙ take-last old.parts.flows.flows new_flow) i;
+    }) o
+
+module _ (old mid : State) (o : OnlyReserves old mid) (t : Table) (keys : t.keys ≡ take (length mid.parts.flows.keys - 1) mid.parts.flows.keys) (flows : t.flows ≡ take (length mid.parts.flows.flows - 1) mid.parts.flows.flows) where
+  abbrev pub most : ℕ
+  most = length old.parts.flows.flows - 1
+
+  flows-are : t.flows ≡ take most mid.parts.flows.flows
+  flows-are = flows ∙ ap (λ n. take (n - 1) mid.parts.flows.flows) o.parts.many
+
+  many-left : length t.flows ≡ length (take most old.parts.flows.flows)
+  many-left =
+      let m = o.parts.many in
+      ap (λ (fs : List FlowState). length fs) flows-are
+      ∙ length-take-le most mid.parts.flows.flows (omega arith)
+      ∙ sym (length-take-le most old.parts.flows.flows (omega arith))
+
+  flows-left : (g : ℕ) → SameFlow (flow_at (take most old.parts.flows.flows) g) (flow_at t.flows g)
+  flows-left g = ⊎_elim below beyond (cases_lt g most)
+    where
+      below : g < most → SameFlow (flow_at (take most old.parts.flows.flows) g) (flow_at t.flows g)
+      below lt =
+          let a : flow_at (take most old.parts.flows.flows) g ≡ flow_at old.parts.flows.flows g = get_or-take most old.parts.flows.flows g new_flow lt in
+          let b : flow_at t.flows g ≡ flow_at mid.parts.flows.flows g = ap (λ (fs : List FlowState). flow_at fs g) flows-are ∙ get_or-take most mid.parts.flows.flows g new_flow lt in
+          subst (λ (x : FlowState × FlowState). SameFlow x.0 x.1) (λ i. (sym a i, sym b i)) (o.parts.flows g)
+
+      beyond : most ≤ g → SameFlow (flow_at (take most old.parts.flows.flows) g) (flow_at t.flows g)
+      beyond le =
+          let n = length-take-le most old.parts.flows.flows (omega arith) in
+          let m = many-left in
+          let a : flow_at (take most old.parts.flows.flows) g ≡ new_flow = get_or_past (take most old.parts.flows.flows) g new_flow (omega arith) in
+          let b : flow_at t.flows g ≡ new_flow = get_or_past t.flows g new_flow (omega arith) in
+          subst (λ (x : FlowState × FlowState). SameFlow x.0 x.1) (λ i. (sym a i, sym b i)) (same-flow new_flow)
+
+  -- What is left is the shaper without its last flow, but for room.
+  pub forgets : OnlyReserves (without_last old) (with_flows mid t)
+  forgets = record {
+    parts = record {
+      rule = o.parts.rule;
+      accepted = o.parts.accepted;
+      keys = keys ∙ ap (λ (ks : List FlowKey). take (length ks - 1) ks) o.parts.keys;
+      homes = o.parts.homes;
+      waiting = o.parts.waiting;
+      pending = o.parts.pending;
+      pushed = o.parts.pushed;
+      room = o.parts.room;
+      flows = flows-left;
+      many = many-left;
+      views = o.parts.views;
+    };
+    due = o.due;
+    shared = o.shared;
+    keeps = record { rule = o.keeps.rule; configured = o.keeps.configured; now = o.keeps.now; calls = o.keeps.calls };
+  }
+
+-- ---- What a result says
+
+pub err-of : {X E : Type 0} {A : Type 0} (r : Result X E) → is_err r ≡ true → OnErr r A → A
+err-of (Ok x) e a = absurd cc
+err-of (Err x) e a = a
+
+pub ok-of : {X E : Type 0} {A : Type 0} (r : Result X E) → is_err r ≡ false → OnOk r A → A
+ok-of (Ok x) e a = a
+ok-of (Err x) e a = absurd cc
+
+pub parts-sound : (old : State) (new : Parts) → Reserves old.parts new → IsSound old → IsSound (record { parts = new; due = old.due; shared = old.shared; configured = old.configured; now = old.now; calls = old.calls })
+parts-sound old new r s = reserves-sound old (record { parts = new; due = old.due; shared = old.shared; configured = old.configured; now = old.now; calls = old.calls }) (only-parts old new r) s

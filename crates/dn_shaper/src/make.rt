@@ -1,0 +1,153 @@
+//! The making of a flow's home. All growths come before the first change.
+ghost use Rattle.std.specs.Prelude.{◌≡◌, ℕ, ◌+◌, ◌-◌, ◌<◌, ◌^◌, Some, length, map, slice_get, IfOk, OnErr, OnOk};
+ghost use Rattle.dn_types.specs.Calls.{link_of};
+ghost use Rattle.dn_types.specs.Trace.{shared as shared_link};
+ghost use Rattle.dn_flows.specs.Table.{flow_at, IsUnused};
+ghost use Rattle.dn_shaper.specs.Agreement.{link_names};
+ghost use Rattle.dn_shaper.specs.Homing.{GivesHome, Houses, IsNewLink, KeepsDue, KeepsLinks, OnlyReserves, Opens, Shares, TakesSlot, NotesFor, place_for, without_last};
+ghost use Rattle.dn_shaper.specs.Making.{KeepsLink};
+ghost use Rattle.dn_shaper.specs.Views.{view_of, views_of};
+
+use crate::due::Due;
+use crate::parts::{Carries, Home, LinkParts, SharedLink};
+use crate::shared_places::SharedPlaces;
+use crate::state::State;
+use dn_heap::MinHeap;
+use dn_link::Link;
+use dn_types::{FlowKey, Target};
+use std::alloc::{AllocError, Global};
+
+/// A new flow takes the next slot of a shared link, with room for a packet.
+fn take_slot(state: &mut LinkParts, flow: usize) -> Result<usize, AllocError>
+    requires is_shared { (pipe : ℕ) × ((view_of state.old).link ≡ shared_link pipe) }
+    ensures slot { IfOk result (λ slot. slot ≡ length (view_of state.old).slots) }
+    ensures takes { OnOk result (TakesSlot flow (view_of state.old) (view_of state.new)) }
+    ensures refused { OnErr result (KeepsLink (view_of state.old) (view_of state.new)) }
+{
+    match &mut state.carries {
+        Carries::Own(_) => unreachable!(),
+        Carries::Shared(shared) => shared.take_slot(flow),
+    }
+}
+
+/// A new flow gets its home on the link at the place, which is shared.
+fn share_link(links: &mut Vec<LinkParts>, place: usize, flow: usize) -> Result<Home, AllocError>
+    requires is_shared { (pipe : ℕ) × (slice_get (link_names (map view_of links.old.items)) place ≡ Some (shared_link pipe)) }
+    ensures shares { IfOk result (λ home. Shares flow place home (map view_of links.old.items) (map view_of links.new.items)) }
+    ensures refused { OnErr result (KeepsLinks (map view_of links.old.items) (map view_of links.new.items)) }
+{
+    let slot = take_slot(&mut links[place], flow)?;
+    Ok(Home { place, slot })
+}
+
+/// A link on which nothing has started, for a new flow with the key, with room for a packet: one of
+/// its own, or the one that the queues on its pipe share from now on.
+fn new_link(alloc: Global, key: &FlowKey, flow: usize) -> Result<LinkParts, AllocError>
+    ensures { IfOk result (λ made. IsNewLink (link_of key.now.target flow key.now.pipe) flow (view_of made)) }
+{
+    let carries = match key.target {
+        Target::Pipe(_) => Carries::Own(flow),
+        Target::Queue(_) => {
+            let mut shared = SharedLink::new(alloc);
+            shared.take_slot(flow)?;
+            Carries::Shared(shared)
+        }
+    };
+    Ok(LinkParts {
+        pipe: key.pipe,
+        link: Link::new(),
+        waiting: 0,
+        carries,
+    })
+}
+
+/// A new flow gets its home on a link that is made for it at the end.
+fn make_link(
+    links: &mut Vec<LinkParts>,
+    due: &mut MinHeap<Due>,
+    shared: &mut SharedPlaces,
+    alloc: Global,
+    key: &FlowKey,
+    flow: usize,
+) -> Result<Home, AllocError>
+    ensures opens { IfOk result (λ home. Opens (link_of key.now.target flow key.now.pipe) flow home (map view_of links.old.items) (map view_of links.new.items) due.new) }
+    ensures notes { IfOk result (λ home. NotesFor key.now.target key.now.pipe home.place shared.old shared.new) }
+    ensures due { KeepsDue due.old due.new }
+    ensures refused { OnErr result (links.new.items ≡ links.old.items) }
+    ensures unnoted { OnErr result (shared.new ≡ shared.old) }
+{
+    let place = links.len();
+    links.reserve(1)?;
+    due.reserve(place + 1)?;
+    let link = new_link(alloc, key, flow)?;
+    shared.note(key, place)?;
+    links.push_reserved(link);
+    Ok(Home { place, slot: 0 })
+}
+
+/// A new flow with the key gets its home: on the link that it shares, where that is there, and else
+/// on one that is made.
+fn find_home(
+    links: &mut Vec<LinkParts>,
+    due: &mut MinHeap<Due>,
+    shared: &mut SharedPlaces,
+    alloc: Global,
+    key: &FlowKey,
+    flow: usize,
+) -> Result<Home, AllocError>
+    requires noted { (place : ℕ) → place_for key.now shared.old ≡ Some place → slice_get (link_names (map view_of links.old.items)) place ≡ Some (shared_link key.now.pipe) }
+    ensures houses { IfOk result (λ home. Houses (place_for key.now shared.old) key.now flow home (map view_of links.old.items) (map view_of links.new.items) due.new shared.old shared.new) }
+    ensures due { KeepsDue due.old due.new }
+    ensures refused { OnErr result (KeepsLinks (map view_of links.old.items) (map view_of links.new.items)) }
+    ensures unnoted { OnErr result (shared.new ≡ shared.old) }
+{
+    match shared.place_for(key) {
+        Some(place) => share_link(links, place, flow),
+        None => make_link(links, due, shared, alloc, key, flow),
+    }
+}
+
+/// Gives the last flow, which is new, its home, with room for a packet.
+fn make_home(state: &mut State, alloc: Global, key: &FlowKey, flow: usize) -> Result<(), AllocError>
+    requires within { flow < length state.old.parts.flows.flows }
+    requires few { state.old.parts.waiting < 2 ^ 62 }
+    requires noted { (place : ℕ) → place_for key.now state.old.shared ≡ Some place → slice_get (link_names (views_of state.old.parts)) place ≡ Some (shared_link key.now.pipe) }
+    ensures gives { OnOk result (GivesHome key.now flow state.old state.new) }
+    ensures refused { OnErr result (OnlyReserves state.old state.new) }
+{
+    state.parts.line.reserve(state.parts.waiting + 1)?;
+    state.parts.flows.reserve_place(flow)?;
+    state.parts.homes.reserve(1)?;
+    let home = find_home(
+        &mut state.parts.links,
+        &mut state.due,
+        &mut state.shared,
+        alloc,
+        key,
+        flow,
+    )?;
+    state.parts.homes.push_reserved(home);
+    Ok(())
+}
+
+/// Gives the last flow, which was made for a packet, its home, with room for the packet. Where memory
+/// is refused, the flow is taken out again.
+pub fn house_last(
+    state: &mut State,
+    alloc: Global,
+    key: &FlowKey,
+    flow: usize,
+) -> Result<(), AllocError>
+    requires last { flow + 1 ≡ length state.old.parts.flows.flows }
+    requires unused { IsUnused (flow_at state.old.parts.flows.flows (length state.old.parts.flows.flows - 1)) }
+    requires few { state.old.parts.waiting < 2 ^ 62 }
+    requires noted { (place : ℕ) → place_for key.now state.old.shared ≡ Some place → slice_get (link_names (views_of state.old.parts)) place ≡ Some (shared_link key.now.pipe) }
+    ensures gives { OnOk result (GivesHome key.now flow state.old state.new) }
+    ensures forgets { OnErr result (OnlyReserves (without_last state.old) state.new) }
+{
+    if make_home(state, alloc, key, flow).is_err() {
+        state.parts.flows.forget_last();
+        return Err(AllocError);
+    }
+    Ok(())
+}

@@ -1,0 +1,107 @@
+ghost use Rattle.std.specs.Prelude.{◌≡◌, ℕ, ◌≤◌, List, [], ◌∷◌, length, max, IfOk, OnErr, IsOk};
+ghost use Rattle.dn_types.specs.Calls.{trace_of};
+ghost use Rattle.dn_types.specs.Clock.{call_limit, counted};
+ghost use Rattle.dn_types.specs.Flows.{keys};
+ghost use Rattle.dn_types.specs.Replies.{reply};
+ghost use Rattle.dn_types.specs.declared.call.Call.{Call as CallValue};
+ghost use Rattle.dn_types.specs.declared.call.Call.TheVariants.{Advance};
+ghost use Rattle.dn_types.specs.declared.rule.Rule.{Rule as RuleValue};
+ghost use Rattle.dn_types.specs.declared.rule.Rule.TheVariants.{Ordered};
+ghost use Rattle.dn_shaper.specs.Shaper.{StandsAfter, held, items_in};
+
+use crate::configure::configure;
+use crate::show::show;
+use crate::state::{State, new_state};
+use crate::submitted::submit_call;
+use crate::timed::{advance, collect};
+use dn_types::{Call, Reply, Rule};
+use std::alloc::{AllocError, Global};
+use std::marker::Model;
+
+/// So many calls are answered. Every further one is answered Exhausted.
+const CALL_LIMIT: u64 = 1 << 62;
+
+/// Sequential dummynet: pipes and queues with their flows, links and delay line (ipfw(8); Rizzo
+/// 1997). Times are in nanoseconds, up to 2^62. Contracts see its state, and say how it stands after
+/// the calls that it answered, newest first.
+#[derive(Drop)]
+pub struct Shaper {
+    state: State,
+    alloc: Global,
+}
+
+impl Model for Shaper {
+    ghost use Rattle.std.specs.Prelude.{List};
+    ghost use Rattle.dn_types.specs.declared.call.Call.{Call};
+    ghost use Rattle.dn_types.specs.declared.rule.Rule.{Rule};
+    ghost use Rattle.dn_shaper.specs.declared.state.State.{State};
+    ghost use Rattle.dn_shaper.specs.Shaper.{StandsAfter};
+    ghost use Rattle.dn_shaper.specs.Standing.{IsSound};
+
+    ghost Value = { State };
+
+    ghost view = { λ a. a.state };
+
+    ghost invariant = { λ a. IsSound a.state × ((rule : Rule) × (calls : List Call) × StandsAfter rule a.state calls) };
+}
+
+impl Shaper {
+    /// A shaper before its first call, on whose links no packet overtakes another. It takes no memory.
+    pub fn new(alloc: Global) -> Shaper
+        ensures { StandsAfter Ordered result [] }
+    {
+        Shaper::with_rule(alloc, Rule::Ordered)
+    }
+
+    /// A shaper before its first call, with the rule for due moments. It takes no memory.
+    pub fn with_rule(alloc: Global, rule: Rule) -> Shaper
+        ensures { StandsAfter rule result [] }
+    {
+        Shaper {
+            state: new_state(alloc, rule),
+            alloc,
+        }
+    }
+
+    /// Answers a call as dummynet does after the calls before it, and Exhausted after 2^62 of them. Err
+    /// says that memory was refused: the call is then as if it had never come. An Advance takes none,
+    /// and neither does a call that is answered Exhausted.
+    pub fn apply(&mut self, call: &Call) -> Result<Reply, AllocError>
+        ensures ok { IfOk result (λ r. (rule : RuleValue) (calls : List CallValue) → StandsAfter rule self.old calls → (r ≡ reply rule calls call.now) × StandsAfter rule self.new (call.now ∷ calls)) }
+        ensures err { OnErr result ((rule : RuleValue) (calls : List CallValue) → StandsAfter rule self.old calls → StandsAfter rule self.new calls) }
+        ensures advance { (moment : ℕ) → call.now ≡ Advance moment → IsOk result }
+        ensures exhausted { (rule : RuleValue) (calls : List CallValue) → StandsAfter rule self.old calls → call_limit ≤ length calls → IsOk result }
+    {
+        if self.state.calls == CALL_LIMIT {
+            return Ok(Reply::Exhausted);
+        }
+        match call {
+            Call::Configure(command) => configure(&mut self.state, command),
+            Call::Submit {
+                target,
+                packet,
+                moment,
+            } => submit_call(&mut self.state, self.alloc, *target, packet, *moment),
+            Call::Advance(moment) => Ok(advance(&mut self.state, *moment)),
+            Call::Collect(moment) => collect(&mut self.state, self.alloc, *moment),
+            Call::Show => show(&mut self.state, self.alloc),
+        }
+    }
+
+    /// The count of the calls that were answered, but for those that were answered Exhausted.
+    pub fn calls(&self) -> u64
+        ensures { (rule : RuleValue) (calls : List CallValue) → StandsAfter rule self.now calls → result ≡ length (counted calls) }
+    {
+        self.state.calls
+    }
+
+    /// The list in the next reply has at most so many items: the greater of the count of packets that
+    /// wait or are under way and the count of flows.
+    pub fn reply_room(&self) -> usize
+        ensures value { (rule : RuleValue) (calls : List CallValue) → StandsAfter rule self.now calls → result ≡ max (held rule (trace_of (counted calls))) (length (keys (counted calls))) }
+        ensures room { (rule : RuleValue) (calls : List CallValue) → StandsAfter rule self.now calls → (c : CallValue) → items_in (reply rule calls c) ≤ result }
+    {
+        let parts = &self.state.parts;
+        (parts.waiting + parts.line.len()).max(parts.flows.len())
+    }
+}
