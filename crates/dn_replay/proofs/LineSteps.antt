@@ -1,0 +1,103 @@
+-- One entry more of a history, and one line more of a report.
+use Rattle.std.proofs.Common.{◌≡◌, ◌≢◌, ◌∙◌, sym, ap, refl, ℕ, suc, ◌+◌, ◌<◌, ◌≤◌, nat_eq, arith, take, drop, length, get_or, Option, List, [], ◌∷◌, ◌++◌, Bool, true, false, inl, inr, append_assoc, add-one, drop-cons}
+use Rattle.std.specs.Prelude.{◌&&◌, option_to_list, filter, map}
+use Rattle.std.proofs.lemmas.Bool.{cases_Bool}
+use Rattle.std.proofs.lemmas.Bool.Decides.{nat_tests}
+use Rattle.std.proofs.lemmas.List.{append-nil, take_more, drop_all, map_push, map-append, get_or-set_same, get_or-set_other}
+use Rattle.std.proofs.lemmas.List.Elements.{filter-append}
+use Rattle.std.proofs.lemmas.List.Sums.{count_by_more_yes, count_by_more_no}
+use Rattle.dn_types.specs.declared.delivery.Delivery.{Delivery}
+use Rattle.dn_types.specs.declared.entry.Entry.{Entry}
+use Rattle.dn_records.specs.Records.{Fields, line_of, text_of}
+use Rattle.dn_replay.specs.Report.{due_and_packet, entry_line, in_order, is_other, is_out, is_submit, line_fields, lines_after, lines_of, report, report_header, row_number, submits_by}
+use Rattle.dn_replay.specs.Tables.{counts_after}
+use Rattle.dn_replay.specs.declared.line.Line.{Line}
+
+same : (a b : ℕ) → nat_eq a b ≡ true → a ≡ b
+same a b e = grind (arith, nat_tests)
+
+differ : (a b : ℕ) → nat_eq a b ≡ false → b ≢ a
+differ a b e = grind (arith, nat_tests)
+
+-- The counts of Submits after one entry more.
+pub counts-step : (entries : List Entry) (i : ℕ) (e : Entry) (counts : List ℕ) → i < length entries → e ≡ get_or entries i e → e.caller < length counts
+    → ((k : ℕ) → k < length counts → get_or counts k 0 ≡ submits_by k (take i entries))
+    → (k : ℕ) → k < length counts → get_or (counts_after counts e) k 0 ≡ submits_by k (take (i + 1) entries)
+counts-step entries i e counts lt is caller counted k below =
+    let p : Entry → Bool = λ (x : Entry). is_submit x.call && nat_eq x.caller k in
+    elim (cases_Bool (is_submit e.call)) [
+      | inl submit ↦ elim (cases_Bool (nat_eq e.caller k)) [
+        | inl own ↦
+            let this : p e ≡ true = rw (submit, own) refl in
+            let more = count_by_more_yes p entries i e lt (ap p (sym is) ∙ this) in
+            let eq = same e.caller k own in
+            rw (submit, eq) (get_or-set_same counts k (get_or counts k 0 + 1) 0 below ∙ ap (λ (m : ℕ). m + 1) (counted k below) ∙ sym more)
+        | inr other ↦
+            let this : p e ≡ false = rw (submit, other) refl in
+            let more = count_by_more_no p entries i e lt (ap p (sym is) ∙ this) in
+            rw submit (get_or-set_other counts e.caller k (get_or counts e.caller 0 + 1) 0 (differ e.caller k other) ∙ counted k below ∙ sym more)
+      ]
+      | inr plain ↦
+          let this : p e ≡ false = rw plain refl in
+          let more = count_by_more_no p entries i e lt (ap p (sym is) ∙ this) in
+          rw plain (counted k below ∙ sym more)
+    ]
+
+-- The lines of the entries that are left, at one more.
+pub lines-step : (n : ℕ) (given : List Delivery) (entries : List Entry) (i : ℕ) (e : Entry) → i < length entries → e ≡ get_or entries i e
+    → lines_after n given (take i entries) (drop i entries) ≡ option_to_list (entry_line n given (submits_by e.caller (take i entries)) e) ++ lines_after n given (take (i + 1) entries) (drop (i + 1) entries)
+unfolding lines_after
+lines-step n given entries i e lt is =
+    let cut : drop i entries ≡ e ∷ drop (i + 1) entries = drop-cons entries i e lt ∙ ap (λ (x : Entry). x ∷ drop (suc i) entries) (sym is) ∙ ap (λ (m : ℕ). e ∷ drop m entries) (sym (add-one i)) in
+    let more : take (i + 1) entries ≡ take i entries ++ e ∷ [] = take_more entries i e lt ∙ ap (λ (x : Entry). take i entries ++ x ∷ []) (sym is) in
+    rw (cut, more) refl
+
+-- The same of the lines that pass a test.
+pub passed : (test : Line → Bool) (n : ℕ) (given : List Delivery) (entries : List Entry) (i : ℕ) (e : Entry) (front total : List Line) (one : Option Line) → i < length entries → e ≡ get_or entries i e
+    → one ≡ entry_line n given (submits_by e.caller (take i entries)) e
+    → front ++ filter test (lines_after n given (take i entries) (drop i entries)) ≡ total
+    → (front ++ filter test (option_to_list one)) ++ filter test (lines_after n given (take (i + 1) entries) (drop (i + 1) entries)) ≡ total
+passed test n given entries i e front total one lt is line so_far =
+    let whole = rw (lines-step n given entries i e lt is, ← line, filter-append test (option_to_list one)) at so_far in
+    append_assoc front _ _ ∙ whole
+
+-- No entry is left.
+pub all : (test : Line → Bool) (n : ℕ) (given : List Delivery) (entries : List Entry) (i : ℕ) (front total : List Line) → length entries ≤ i
+    → front ++ filter test (lines_after n given (take i entries) (drop i entries)) ≡ total → front ≡ total
+unfolding lines_after
+all test n given entries i front total le so_far =
+    let whole = rw (drop_all i entries le) at so_far in
+    sym (append-nil front) ∙ whole
+
+-- The text of records and of further ones.
+pub text-append : (front back : List Fields) → text_of (front ++ back) ≡ text_of front ++ text_of back
+unfolding text_of
+text-append [] back = refl
+text-append (first ∷ front) back = rw (text-append front back) (sym (append_assoc (line_of first) (text_of front) (text_of back)))
+
+text-push : (front : List Fields) (last : Fields) → text_of (front ++ last ∷ []) ≡ text_of front ++ line_of last
+unfolding text_of
+text-push front last = text-append front (last ∷ []) ∙ ap (λ (t : List ℕ). text_of front ++ t) (append-nil (line_of last))
+
+-- The text of one line more.
+pub text-more : (start : List ℕ) (lines : List Line) (i : ℕ) (d : Line) → i < length lines
+    → (start ++ text_of (map line_fields (take i lines))) ++ line_of (line_fields (get_or lines i d)) ≡ start ++ text_of (map line_fields (take (i + 1) lines))
+text-more start lines i d lt =
+    let more : map line_fields (take (i + 1) lines) ≡ map line_fields (take i lines) ++ line_fields (get_or lines i d) ∷ [] =
+    ap (map line_fields) (take_more lines i d lt) ∙ map_push line_fields (take i lines) (get_or lines i d) in
+    append_assoc start _ _ ∙ ap (λ (t : List ℕ). start ++ t) (sym (text-push (map line_fields (take i lines)) (line_fields (get_or lines i d))) ∙ ap text_of (sym more))
+
+-- The text of no line.
+pub text-none : (start : List ℕ) → start ≡ start ++ text_of []
+unfolding text_of
+text-none start = sym (append-nil start)
+
+-- The header, the lines of delivered packets and the others are the report.
+pub report_is : (n : ℕ) (history : List Entry) (outs others : List Line) → outs ≡ in_order due_and_packet (filter is_out (lines_of n history)) → others ≡ in_order row_number (filter is_other (lines_of n history))
+    → (line_of report_header ++ text_of (map line_fields outs)) ++ text_of (map line_fields others) ≡ report n history
+unfolding report text_of
+report_is n history outs others is_outs is_others =
+    let first = in_order due_and_packet (filter is_out (lines_of n history)) in
+    let then = in_order row_number (filter is_other (lines_of n history)) in
+    rw (is_outs, is_others) (append_assoc (line_of report_header) (text_of (map line_fields first)) (text_of (map line_fields then))
+    ∙ ap (λ (t : List ℕ). line_of report_header ++ t) (sym (text-append (map line_fields first) (map line_fields then)) ∙ ap text_of (sym (map-append line_fields first then))))

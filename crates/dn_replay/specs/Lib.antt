@@ -1,0 +1,10 @@
+pub mod ConfigFile
+pub mod Configuring
+pub mod Faults
+pub mod PacketFile
+pub mod Reading
+pub mod Replays
+pub mod Report
+pub mod Runs
+pub mod Tables
+pub mod Writing

@@ -1,0 +1,73 @@
+-- A replay: the calls that its inputs ask for, and what is written of them.
+use Rattle.std.specs.Prelude.{◌≡◌, ◌⊎◌, ℕ, Bool, true, false, List, Option, Result, Ok, Err}
+use Rattle.std.specs.Io.KnownBytes.{Appends, Keeps}
+use Rattle.dn_types.specs.declared.call.Call.{Call}
+use Rattle.dn_types.specs.declared.entry.Entry.{Entry}
+use Rattle.dn_records.specs.Devices.{AppendsPart}
+use Rattle.dn_text.specs.Joined.{joined_parts}
+use Rattle.dn_replay.specs.ConfigFile.{config_limit}
+use Rattle.dn_replay.specs.Configuring.{configured_by}
+use Rattle.dn_replay.specs.PacketFile.{packet_file, packet_limit, rows_of}
+use Rattle.dn_replay.specs.Reading.{◌>>=◌, within, IsTextOf, ReadsAs}
+use Rattle.dn_replay.specs.Report.{report}
+use Rattle.dn_replay.specs.Runs.{history_of, replayed}
+use Rattle.dn_replay.specs.declared.replay_fault.ReplayFault.{ReplayFault}
+use Rattle.dn_replay.specs.declared.replay_fault.ReplayFault.TheVariants.{Read, Write, OutOfMemory}
+use Rattle.dn_replay.specs.declared.source.Source.{Source}
+use Rattle.dn_replay.specs.declared.source.Source.TheVariants.{Input, Config, Packets, Report}
+
+-- The calls of a configuration.
+abbrev pub config_calls : List ℕ → Result (List Call) ReplayFault
+config_calls text = within config_limit Config text >>= configured_by
+
+-- The calls of two inputs, newest first, or their first fault. The configuration comes before the packets.
+unfoldable pub calls_of : List ℕ → List ℕ → Result (List Call) ReplayFault
+calls_of config packets = config_calls config >>= λ calls. packet_file packets >>= λ rows. Ok (replayed calls rows)
+
+-- The same of the two parts of one input, which has one limit.
+abbrev pub calls_of_parts : List ℕ × List ℕ → Result (List Call) ReplayFault
+calls_of_parts parts = configured_by parts.0 >>= λ calls. rows_of parts.1 >>= λ rows. Ok (replayed calls rows)
+
+unfoldable pub calls_of_joined : List ℕ → Result (List Call) ReplayFault
+calls_of_joined text = within packet_limit Input text >>= λ whole. calls_of_parts (joined_parts whole)
+
+-- What two inputs may have held asks for these calls, or has this fault.
+abbrev pub AskFor : Option (List ℕ) → Option (List ℕ) → Result (List Call) ReplayFault → Type 0
+AskFor config packets asked = (c : List ℕ) × (p : List ℕ) × IsTextOf config c × IsTextOf packets p × (calls_of c p ≡ asked)
+
+-- What one joined input may have held does.
+abbrev pub AsksFor : Option (List ℕ) → Result (List Call) ReplayFault → Type 0
+AsksFor input asked = (text : List ℕ) × IsTextOf input text × (calls_of_joined text ≡ asked)
+
+-- What a configuration may have held is accepted.
+abbrev pub IsAccepted : Option (List ℕ) → Type 0
+IsAccepted config = (calls : List Call) × ReadsAs config_calls config calls
+
+-- A read of one of two inputs failed, whose configuration is this. The packets are read after it was accepted.
+abbrev pub EitherFailed : Option (List ℕ) → Bool → Bool → Source → Type 0
+EitherFailed config config_failed packets_failed what = ((what ≡ Config) × (config_failed ≡ true)) ⊎ ((what ≡ Packets) × (packets_failed ≡ true) × IsAccepted config)
+
+-- A read of the one input failed.
+abbrev pub InputFailed : Bool → Source → Type 0
+InputFailed input what = (what ≡ Input) × (input ≡ true)
+
+-- The entries are the history of the calls, and their report was written.
+abbrev pub IsReported : List Call → List Entry → Option (List ℕ) → Option (List ℕ) → Type 0
+IsReported calls entries old new = (entries ≡ history_of calls) × Appends old new (report 1 (history_of calls))
+
+-- A write failed after a part of the report of the calls, or memory was refused before anything was written.
+abbrev pub IsUnreported : List Call → Option (List ℕ) → Option (List ℕ) → Bool → ReplayFault → Type 0
+IsUnreported calls old new failed (Write what) = (what ≡ Report) × (failed ≡ true) × AppendsPart old new (report 1 (history_of calls))
+IsUnreported calls old new failed OutOfMemory = (failed ≡ false) × Keeps old new
+IsUnreported calls old new failed _ = ⊥
+
+-- What is asked for was answered by its history and its report.
+abbrev pub IsReplayed : (Result (List Call) ReplayFault → Type 0) → List Entry → Option (List ℕ) → Option (List ℕ) → Type 0
+IsReplayed Asked entries old new = (calls : List Call) × Asked (Ok calls) × IsReported calls entries old new
+
+-- Why nothing was answered. Before a failed write a part of the report was written, and before any other fault nothing.
+abbrev pub IsUnreplayed : (Source → Type 0) → (Result (List Call) ReplayFault → Type 0) → Option (List ℕ) → Option (List ℕ) → Bool → ReplayFault → Type 0
+IsUnreplayed ReadFailed Asked old new failed (Read what) = ReadFailed what × Keeps old new
+IsUnreplayed ReadFailed Asked old new failed (Write what) = (calls : List Call) × Asked (Ok calls) × IsUnreported calls old new failed (Write what)
+IsUnreplayed ReadFailed Asked old new failed OutOfMemory = Keeps old new
+IsUnreplayed ReadFailed Asked old new failed fault = Asked (Err fault) × Keeps old new

@@ -1,0 +1,36 @@
+-- A run: the calls of one caller, newest first, and the history that they make.
+use Rattle.std.specs.Prelude.{◌≡◌, ◌^◌, List, [], ◌∷◌, ◌++◌}
+use Rattle.dn_types.specs.Replies.{reply}
+use Rattle.dn_types.specs.declared.call.Call.{Call}
+use Rattle.dn_types.specs.declared.call.Call.TheVariants.{Submit, Collect}
+use Rattle.dn_types.specs.declared.entry.Entry.{Entry}
+use Rattle.dn_types.specs.declared.rule.Rule.TheVariants.{Ordered}
+use Rattle.dn_shaper.specs.Shaper.{StandsAfter}
+use Rattle.dn_replay.specs.declared.row.Row.{Row}
+use Rattle.dn_replay.specs.declared.run.Run.{Run}
+
+-- The entry of a call by caller 0, after the calls before it.
+abbrev pub entry_after : List Call → Call → Entry
+entry_after calls c = record { caller = 0; call = c; reply = reply Ordered calls c }
+
+-- The history of the calls by caller 0, oldest first.
+unfoldable pub history_of : List Call → List Entry
+history_of [] = []
+history_of (c ∷ calls) = history_of calls ++ entry_after calls c ∷ []
+
+-- A run has made these calls: its shaper stands after them, and its history is theirs.
+abbrev pub HasMade : Run → List Call → Type 0
+HasMade run calls = StandsAfter Ordered run.shaper calls × (run.history.items ≡ history_of calls)
+
+-- The Submit of a row.
+abbrev pub submit : Row → Call
+submit row = Submit row.target row.packet row.moment
+
+-- The calls, followed by a Submit of each row.
+unfoldable pub submitted : List Call → List Row → List Call
+submitted calls [] = calls
+submitted calls (row ∷ rows) = submitted (submit row ∷ calls) rows
+
+-- The calls of a replay: those of the configuration, a Submit of each row, and a Collect at the last moment.
+abbrev pub replayed : List Call → List Row → List Call
+replayed calls rows = Collect (2 ^ 62) ∷ submitted calls rows

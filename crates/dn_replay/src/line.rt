@@ -1,0 +1,71 @@
+ghost use Rattle.std.specs.Prelude.{◌≡◌};
+ghost use Rattle.dn_replay.specs.Report.{due_and_packet, is_out, row_number};
+
+/// A line of a report: what became of the packet of one row. `at` is the effective moment of its
+/// Submit; moments are in nanoseconds.
+#[derive(Clone, Copy, Debug)]
+pub(crate) enum Line {
+    /// The packet was delivered.
+    Out {
+        row: u128,
+        flow: usize,
+        packet: u64,
+        at: u64,
+        start: u64,
+        due: u64,
+    },
+    /// It was accepted, and no Collect gave it.
+    Held {
+        row: u128,
+        flow: usize,
+        packet: u64,
+        at: u64,
+    },
+    /// It was lost by the loss rate.
+    Lost {
+        row: u128,
+        flow: usize,
+        at: u64,
+    },
+    /// It was refused by a full queue.
+    Full {
+        row: u128,
+        flow: usize,
+        at: u64,
+    },
+    /// Its target had no configuration.
+    NoTarget {
+        row: u128,
+        at: u64,
+    },
+}
+
+impl Line {
+    pub(crate) fn is_out(&self) -> bool
+        ensures { result ≡ is_out self.now }
+    {
+        matches!(self, Line::Out { .. })
+    }
+
+    /// The place of an `out` line among them.
+    pub(crate) fn due_and_packet(&self) -> u128
+        ensures { result ≡ due_and_packet self.now }
+    {
+        match self {
+            Line::Out { packet, due, .. } => u128::from(*due) * (1 << 64) + u128::from(*packet),
+            _ => 0,
+        }
+    }
+
+    pub(crate) fn row(&self) -> u128
+        ensures { result ≡ row_number self.now }
+    {
+        match self {
+            Line::Out { row, .. }
+            | Line::Held { row, .. }
+            | Line::Lost { row, .. }
+            | Line::Full { row, .. }
+            | Line::NoTarget { row, .. } => *row,
+        }
+    }
+}

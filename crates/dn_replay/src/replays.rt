@@ -1,0 +1,130 @@
+ghost use Rattle.std.specs.Prelude.{◌≡◌, List, false, Ok, IfOk, IfErr};
+ghost use Rattle.dn_types.specs.declared.call.Call.{Call};
+ghost use Rattle.dn_replay.specs.Reading.{IsRefusal, ReadsAs};
+ghost use Rattle.dn_replay.specs.Replays.{AskFor, AsksFor, config_calls, EitherFailed, InputFailed, IsReplayed, IsReported, IsUnreplayed, IsUnreported};
+ghost use Rattle.dn_replay.specs.Runs.{HasMade, replayed};
+ghost use Rattle.dn_replay.specs.declared.source.Source.TheVariants.{Config};
+
+use crate::config::CONFIG_LIMIT;
+use crate::configuration::configured;
+use crate::input::read_input;
+use crate::packets::{PACKET_LIMIT, read_packets, rows_of_text};
+use crate::replay_fault::ReplayFault;
+use crate::report::write_report;
+use crate::row::Row;
+use crate::run::Run;
+use crate::source::Source;
+use dn_records::{Inlet, Outlet};
+use dn_text::split_joined;
+use dn_types::Entry;
+use std::alloc::Global;
+
+/// Makes the calls of the rows after those of the configuration, and writes the report of all.
+fn finish<O: Outlet>(
+    alloc: Global,
+    run: Run,
+    rows: &[Row],
+    out: &mut O,
+) -> Result<Vec<Entry>, ReplayFault>
+    requires made { (calls : List Call) × HasMade run calls }
+    requires sound { O.has_failed out.old ≡ false }
+    ensures ok { IfOk result (λ entries. (calls : List Call) → HasMade run calls →
+        IsReported (replayed calls rows.now) entries.items (O.contents out.old) (O.contents out.new)) }
+    ensures sound { IfOk result (λ _. O.has_failed out.new ≡ false) }
+    ensures err { IfErr result (λ fault. (calls : List Call) → HasMade run calls →
+        IsUnreported (replayed calls rows.now) (O.contents out.old) (O.contents out.new) (O.has_failed out.new) fault) }
+{
+    let mut whole = run;
+    let Ok(()) = whole.finish(rows) else {
+        return Err(ReplayFault::OutOfMemory);
+    };
+    let history = whole.into_history();
+    match write_report(alloc, 1, history.as_slice(), out) {
+        Ok(()) => Ok(history),
+        Err(fault) => Err(fault),
+    }
+}
+
+/// A run that has made the commands of a configuration.
+fn configured_input<I: Inlet>(alloc: Global, config: &mut I) -> Result<Run, ReplayFault>
+    requires { I.has_failed config.old ≡ false }
+    ensures ok { IfOk result (λ run. (calls : List Call) × ReadsAs config_calls (I.remaining config.old) calls × HasMade run calls) }
+    ensures sound { IfOk result (λ _. I.has_failed config.new ≡ false) }
+    ensures err { IfErr result (λ fault.
+        IsRefusal Config config_calls (I.remaining config.old) (I.has_failed config.new) fault) }
+{
+    match read_input(alloc, config, CONFIG_LIMIT, Source::Config) {
+        Ok(text) => configured(alloc, text.as_slice()),
+        Err(fault) => Err(fault),
+    }
+}
+
+/// Replays a packet file through a configuration for one caller: it makes the command of each
+/// configuration line, submits each row, and then takes all packets that are due by 2^62 ns. It writes
+/// the report and answers the history. Nothing is written before both inputs were read and judged.
+pub fn replay<C: Inlet, P: Inlet, O: Outlet>(
+    alloc: Global,
+    config: &mut C,
+    packets: &mut P,
+    out: &mut O,
+) -> Result<Vec<Entry>, ReplayFault>
+    requires config { C.has_failed config.old ≡ false }
+    requires packets { P.has_failed packets.old ≡ false }
+    requires out { O.has_failed out.old ≡ false }
+    ensures ok { IfOk result (λ entries.
+        IsReplayed (AskFor (C.remaining config.old) (P.remaining packets.old)) entries.items
+        (O.contents out.old) (O.contents out.new)) }
+    ensures sound { IfOk result (λ _. O.has_failed out.new ≡ false) }
+    ensures err { IfErr result (λ fault.
+        IsUnreplayed (EitherFailed (C.remaining config.old) (C.has_failed config.new) (P.has_failed packets.new))
+        (AskFor (C.remaining config.old) (P.remaining packets.old))
+        (O.contents out.old) (O.contents out.new) (O.has_failed out.new) fault) }
+{
+    let run = match configured_input(alloc, config) {
+        Ok(run) => run,
+        Err(fault) => return Err(fault),
+    };
+    let rows = match read_packets(alloc, packets) {
+        Ok(rows) => rows,
+        Err(fault) => return Err(fault),
+    };
+    match finish(alloc, run, rows.as_slice(), out) {
+        Ok(history) => Ok(history),
+        Err(fault) => Err(fault),
+    }
+}
+
+/// The same over one joined input of at most 67,108,864 bytes: a configuration up to the first line
+/// `--`, and then a packet file.
+pub fn replay_joined<I: Inlet, O: Outlet>(
+    alloc: Global,
+    input: &mut I,
+    out: &mut O,
+) -> Result<Vec<Entry>, ReplayFault>
+    requires input { I.has_failed input.old ≡ false }
+    requires out { O.has_failed out.old ≡ false }
+    ensures ok { IfOk result (λ entries. IsReplayed (AsksFor (I.remaining input.old)) entries.items
+        (O.contents out.old) (O.contents out.new)) }
+    ensures sound { IfOk result (λ _. O.has_failed out.new ≡ false) }
+    ensures err { IfErr result (λ fault.
+        IsUnreplayed (InputFailed (I.has_failed input.new)) (AsksFor (I.remaining input.old))
+        (O.contents out.old) (O.contents out.new) (O.has_failed out.new) fault) }
+{
+    let text = match read_input(alloc, input, PACKET_LIMIT, Source::Input) {
+        Ok(text) => text,
+        Err(fault) => return Err(fault),
+    };
+    let (config, packets) = split_joined(text.as_slice());
+    let run = match configured(alloc, config) {
+        Ok(run) => run,
+        Err(fault) => return Err(fault),
+    };
+    let rows = match rows_of_text(alloc, packets) {
+        Ok(rows) => rows,
+        Err(fault) => return Err(fault),
+    };
+    match finish(alloc, run, rows.as_slice(), out) {
+        Ok(history) => Ok(history),
+        Err(fault) => Err(fault),
+    }
+}

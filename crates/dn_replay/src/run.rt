@@ -1,0 +1,140 @@
+ghost use Rattle.std.specs.Prelude.{◌≡◌, List, [], ◌∷◌, Some, None, OnOk, OnErr, MatchOption};
+ghost use Rattle.dn_types.specs.declared.call.Call.{Call};
+ghost use Rattle.dn_types.specs.declared.call.Call.TheVariants.{Configure};
+ghost use Rattle.dn_replay.specs.Configuring.{applied, refusal};
+ghost use Rattle.dn_replay.specs.Reading.{IsFaultOf};
+ghost use Rattle.dn_replay.specs.Runs.{HasMade, replayed, submitted};
+ghost use Rattle.std.specs.Prelude.{IfErr, Ok};
+
+use crate::replay_fault::ReplayFault;
+use crate::row::Row;
+use dn_shaper::Shaper;
+use dn_types::{Call, Command, Entry, Moment, Reply};
+use std::alloc::{AllocError, Global};
+
+/// The calls of one caller to a shaper of its own, and their history.
+#[derive(Drop)]
+pub(crate) struct Run {
+    pub(crate) shaper: Shaper,
+    pub(crate) history: Vec<Entry>,
+}
+
+/// Why the command of a line is refused, by its reply.
+fn refusal(line: usize, reply: &Reply) -> Option<ReplayFault>
+    ensures { result ≡ refusal line reply.now }
+{
+    match reply {
+        Reply::NoSuchPipe => Some(ReplayFault::NoSuchPipe(line)),
+        Reply::PipeHasQueues => Some(ReplayFault::PipeHasQueues(line)),
+        Reply::NoSuchQueue => Some(ReplayFault::NoSuchQueue(line)),
+        Reply::Configured
+        | Reply::Deleted
+        | Reply::Queued { .. }
+        | Reply::Lost { .. }
+        | Reply::Full { .. }
+        | Reply::NoTarget { .. }
+        | Reply::Advanced { .. }
+        | Reply::Delivered { .. }
+        | Reply::Status { .. }
+        | Reply::Exhausted => None,
+    }
+}
+
+impl Run {
+    /// A run without a call.
+    #[tactic(auto, unfolding(crate::specs::Runs::history_of))]
+    pub(crate) fn new(alloc: Global) -> Run
+        ensures { HasMade result [] }
+    {
+        Run {
+            shaper: Shaper::new(alloc),
+            history: Vec::new(alloc),
+        }
+    }
+
+    /// Makes a call.
+    fn make(&mut self, call: Call) -> Result<(), AllocError>
+        ensures { OnOk result ((calls : List Call) → HasMade self.old calls → HasMade self.new (call ∷ calls)) }
+    {
+        let reply = self.shaper.apply(&call)?;
+        let entry = Entry {
+            caller: 0,
+            call,
+            reply,
+        };
+        self.history.push(entry)?;
+        Ok(())
+    }
+
+    /// Makes the command of a line, or answers why it is refused.
+    fn configure(&mut self, line: usize, command: Command) -> Result<(), ReplayFault>
+        ensures ok { OnOk result ((calls : List Call) → HasMade self.old calls →
+            (applied line calls (Some command) ≡ Ok (Configure command ∷ calls)) × HasMade self.new (Configure command ∷ calls)) }
+        ensures err { IfErr result (λ fault. (calls : List Call) → HasMade self.old calls →
+            IsFaultOf (applied line calls (Some command)) fault) }
+    {
+        let call = Call::Configure(command);
+        let Ok(reply) = self.shaper.apply(&call) else {
+            return Err(ReplayFault::OutOfMemory);
+        };
+        match refusal(line, &reply) {
+            Some(fault) => return Err(fault),
+            None => {}
+        }
+        let entry = Entry {
+            caller: 0,
+            call,
+            reply,
+        };
+        if self.history.push(entry).is_err() {
+            return Err(ReplayFault::OutOfMemory);
+        }
+        Ok(())
+    }
+
+    /// Makes the command of a line, if it has one.
+    pub(crate) fn apply_line(
+        &mut self,
+        line: usize,
+        command: Option<Command>,
+    ) -> Result<(), ReplayFault>
+        ensures ok { OnOk result ((calls : List Call) → HasMade self.old calls →
+            (after : List Call) × (applied line calls command ≡ Ok after) × HasMade self.new after) }
+        ensures err { IfErr result (λ fault. (calls : List Call) → HasMade self.old calls →
+            IsFaultOf (applied line calls command) fault) }
+    {
+        match command {
+            Some(command) => self.configure(line, command),
+            None => Ok(()),
+        }
+    }
+
+    /// Submits each row.
+    fn submit(&mut self, rows: &[Row]) -> Result<(), AllocError>
+        ensures { OnOk result ((calls : List Call) → HasMade self.old calls → HasMade self.new (submitted calls rows.now)) }
+    {
+        for row in rows {
+            self.make(Call::Submit {
+                target: row.target,
+                packet: row.packet,
+                moment: row.moment,
+            })?;
+        }
+        Ok(())
+    }
+
+    /// Submits each row, and takes all that is delivered.
+    pub(crate) fn finish(&mut self, rows: &[Row]) -> Result<(), AllocError>
+        ensures { OnOk result ((calls : List Call) → HasMade self.old calls → HasMade self.new (replayed calls rows.now)) }
+    {
+        self.submit(rows)?;
+        self.make(Call::Collect(Moment::new(1 << 62).unwrap()))
+    }
+
+    /// The history so far.
+    pub(crate) fn into_history(self) -> Vec<Entry>
+        ensures { result.items ≡ self.history.items }
+    {
+        self.history
+    }
+}

@@ -1,0 +1,9 @@
+mod broken;
+mod fakes;
+mod files;
+mod replays;
+mod reports;
+
+const PACKET_HEADER: &str = "moment,target,number,src,dst,proto,sport,dport,len,word\n";
+
+const REPORT_HEADER: &str = "event,row,flow,packet,at,start,due\n";

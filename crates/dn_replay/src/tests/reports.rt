@@ -1,0 +1,58 @@
+use super::REPORT_HEADER;
+use crate::write_report;
+use dn_records::FromWriter;
+use dn_types::{Call, Entry, FiveTuple, Len, Moment, Number, Packet, Reply, Target};
+use std::test::Fail;
+
+fn submit(caller: usize, reply: Reply) -> Option<Entry> {
+    let tuple = FiveTuple {
+        src: 0,
+        dst: 0,
+        proto: 0,
+        sport: 0,
+        dport: 0,
+    };
+    let packet = Packet {
+        tuple,
+        len: Len::new(1000)?,
+        word: 0,
+    };
+    let call = Call::Submit {
+        target: Target::Pipe(Number::new(1)?),
+        packet,
+        moment: Moment::new(0)?,
+    };
+    Some(Entry {
+        caller,
+        call,
+        reply,
+    })
+}
+
+// With two callers the rows of a caller are two apart: caller 0 has rows 1 and 3, and caller 1 rows 2 and 4.
+#[test]
+fn rows_of_two_callers(rt: HostRuntime) -> Result<(), Fail> {
+    let alloc = rt.alloc();
+    let queued = Reply::Queued {
+        at: 0,
+        flow: 0,
+        packet: 0,
+    };
+    let (Some(first), Some(second), Some(third), Some(fourth)) = (
+        submit(1, queued),
+        submit(1, Reply::Full { at: 1, flow: 0 }),
+        submit(0, Reply::NoTarget { at: 2 }),
+        submit(0, Reply::Lost { at: 3, flow: 1 }),
+    ) else {
+        panic!(rt; "the values are in range")
+    };
+    let mut written = Vec::new(alloc);
+    let history = [first, second, third, fourth];
+    let outcome = write_report(alloc, 2, &history, &mut FromWriter::new(&mut written));
+    assert!(rt; outcome == Ok(()));
+    let report = format!(in alloc;
+        "{REPORT_HEADER}none,1,,,2,,\nheld,2,0,0,0,,\nlost,3,1,,3,,\nfull,4,0,,1,,\n"
+    )?;
+    assert!(rt; written.as_slice() == report.as_bytes());
+    Ok(())
+}

@@ -1,0 +1,22 @@
+use clap::{Arg, Command, Error};
+use std::alloc::Global;
+
+/// The command line of the program.
+pub fn command<'a>(alloc: Global) -> Result<Command<'a>, Error> {
+    let replay = Command::new(alloc, "replay")
+        .about("Replays a packet file through a configuration and writes the report")
+        .arg(
+            Arg::new(alloc, "config")
+                .value_name("CONFIG")
+                .required(true),
+        )?
+        .arg(
+            Arg::new(alloc, "packets")
+                .value_name("PACKETS")
+                .required(true),
+        )?;
+    let all = Command::new(alloc, "dummynet")
+        .about("Emulates pipes and queues. Without arguments it replays one joined input")
+        .subcommand(replay)?;
+    Ok(all)
+}

@@ -1,0 +1,111 @@
+//! The program: replays a joined input, or a packet file through a configuration.
+#![tactic(auto)]
+
+mod command;
+
+use clap::error::ErrorKind;
+use clap::{ArgMatches, Error};
+use command::command;
+use dn_records::{FromReader, FromWriter};
+use dn_replay::{ReplayFault, Source, replay, replay_joined};
+use std::process::ExitCode;
+use std::rt::{Env, Files};
+use std::{env, fs, io};
+
+// The status of a command line that isn't understood.
+const USAGE: u8 = 2;
+
+/// From standard input to standard output.
+fn replay_input<R: Input + Print + AllocGlobal>(rt: &R) -> Result<(), ReplayFault> {
+    let mut input = FromReader::new(rt.reader());
+    let mut out = FromWriter::new(io::writer(rt));
+    let _history = replay_joined(rt.alloc(), &mut input, &mut out)?;
+    Ok(())
+}
+
+/// From two files to standard output. Both are opened before either is read.
+fn replay_files<R: Files + Print + AllocGlobal>(
+    rt: &R,
+    config: &str,
+    packets: &str,
+) -> Result<(), ReplayFault> {
+    let Ok(config) = fs::open(rt, config) else {
+        return Err(ReplayFault::Read(Source::Config));
+    };
+    let Ok(packets) = fs::open(rt, packets) else {
+        return Err(ReplayFault::Read(Source::Packets));
+    };
+    let mut config = FromReader::new(config);
+    let mut packets = FromReader::new(packets);
+    let mut out = FromWriter::new(io::writer(rt));
+    let _history = replay(rt.alloc(), &mut config, &mut packets, &mut out)?;
+    Ok(())
+}
+
+fn run<R: Input + Files + Print + AllocGlobal>(
+    rt: &R,
+    matches: &ArgMatches<'_>,
+) -> Result<(), ReplayFault> {
+    match matches.subcommand() {
+        Some((_, found)) => {
+            let config = found.get_str("config").unwrap_or("");
+            let packets = found.get_str("packets").unwrap_or("");
+            replay_files(rt, config, packets)
+        }
+        None => replay_input(rt),
+    }
+}
+
+/// The status of an outcome, with one line on standard error for a fault.
+fn status_of(rt: &impl Eprint, outcome: Result<(), ReplayFault>) -> u8 {
+    match outcome {
+        Ok(()) => 0,
+        Err(fault) => {
+            let _ = eprintln!(rt; "{fault}");
+            fault.status()
+        }
+    }
+}
+
+/// The status where the command line gives nothing to do: help was asked for, the words aren't
+/// understood, or memory was refused, which is a fault as it is elsewhere.
+fn status_of_words<R: Print + Eprint>(rt: &R, error: &Error) -> u8 {
+    if error.kind() == ErrorKind::OutOfMemory {
+        return status_of(rt, Err(ReplayFault::OutOfMemory));
+    }
+    let _ = error.print(rt);
+    error.exit_code() as u8
+}
+
+/// The status where the words can't be told: memory was refused, or one of them isn't UTF-8.
+fn status_without_words(rt: &impl Eprint, error: &io::Error) -> u8 {
+    if error.kind() == io::ErrorKind::OutOfMemory {
+        return status_of(rt, Err(ReplayFault::OutOfMemory));
+    }
+    let _ = eprintln!(rt; "error: an argument isn't UTF-8");
+    USAGE
+}
+
+/// Does what the command line says, and answers the status.
+fn done<R: Env + Input + Files + Print + Eprint + AllocGlobal>(rt: &R) -> u8 {
+    let alloc = rt.alloc();
+    let args = match env::args(rt) {
+        Ok(args) => args,
+        Err(error) => return status_without_words(rt, &error),
+    };
+    let Ok(words) = args.collect::<Vec<String>>(alloc) else {
+        return status_of(rt, Err(ReplayFault::OutOfMemory));
+    };
+    let command = match command(alloc) {
+        Ok(command) => command,
+        Err(error) => return status_of_words(rt, &error),
+    };
+    match command.try_get_matches_from(words.as_slice()) {
+        Ok(matches) => status_of(rt, run(rt, &matches)),
+        Err(error) => status_of_words(rt, &error),
+    }
+}
+
+fn main(rt: HostRuntime) -> ExitCode {
+    ExitCode::from(done(&rt))
+}
