@@ -1,0 +1,69 @@
+-- A call: what the seat of one caller knows at each step, and what the caller knows after it.
+use Rattle.std.proofs.Common.{◌≡◌, ℕ, ◌<◌, List, [], ◌∷◌, ◌++◌, map, sym, refl, ap, ◌∙◌, subst, inl, Some, None}
+use Rattle.atomic_table.specs.Seated.{TableId}
+use Rattle.dn_types.specs.History.{IsLawful, own_entries}
+use Rattle.dn_types.specs.declared.call.Call.{Call}
+use Rattle.dn_types.specs.declared.entry.Entry.{Entry}
+use Rattle.dn_types.specs.declared.reply.Reply.{Reply}
+use Rattle.dn_types.specs.declared.rule.Rule.TheVariants.{Ordered}
+use Rattle.dn_service.specs.Callers.{ServiceView, CallerView, Answered}
+use Rattle.dn_service.specs.Histories.{entry_of, AreBelow}
+use Rattle.dn_service.specs.Rule.{Follows}
+use Rattle.dn_service.specs.Seats.{SeatState, SeatView, Slot, Has, Each, sitting, with_taken, up_to_date, front_in, own_in}
+use Rattle.dn_service.proofs.HistoryLaws.{own-more, below_more}
+use Rattle.dn_service.proofs.Taking.{slot_in}
+
+-- a caller, by its seat
+abbrev pub seen_from : TableId → ℕ → SeatState → CallerView
+seen_from service k m = record { service = record { table = service; callers = m.0.count }; number = k; front = front_in m.0.accounts; own = own_in m.0.accounts }
+
+-- the seat is that of the caller k, with nothing in hand
+abbrev pub IsSitting : ℕ → SeatState → Type 0
+IsSitting k m = m ≡ (sitting m.0.count k (front_in m.0.accounts) (own_in m.0.accounts), [])
+
+module _ (k : ℕ) (m : SeatState) (is : IsSitting k m) where
+  pub is_idle : m.0.taken ≡ None
+  is_idle = ap (λ (x : SeatState). x.0.taken) is
+
+  pub has_nothing : m.1 ≡ []
+  has_nothing = ap (λ (x : SeatState). x.1) is
+
+  abbrev accounts_is : m.0.accounts ≡ record { number = k; front = front_in m.0.accounts; own = own_in m.0.accounts } ∷ []
+  accounts_is = ap (λ (x : SeatState). x.0.accounts) is
+
+  pub stands_for : Has k m.0.accounts
+  stands_for = subst (Has k) (sym accounts_is) (inl refl)
+
+  pub has_seen : (history : List Entry) → Each (Follows history) m.0.accounts → Follows history (record { number = k; front = front_in m.0.accounts; own = own_in m.0.accounts })
+  has_seen history h = (subst (Each (Follows history)) accounts_is h).0
+
+-- two readings of what is in hand agree
+pub same_book : (cs : List (ℕ × Slot)) (a b : List Entry) → cs ≡ (0, Some a) ∷ [] → cs ≡ (0, Some b) ∷ [] → a ≡ b
+same_book cs a b p q = ap (slot_in []) (sym p ∙ q)
+
+-- the seat after the book was given back with a history
+pub now_sitting : (k : ℕ) (m m' : SeatState) (x : SeatView) (history later : List Entry) → IsSitting k m → x ≡ with_taken m.0 (Some history)
+    → m' ≡ (record { count = x.count; accounts = map (up_to_date later) x.accounts; taken = None }, []) → m' ≡ (sitting m.0.count k later (own_entries k later), [])
+now_sitting k m m' x history later is at told = told ∙ (λ i. (record { count = (at i).count; accounts = map (up_to_date later) (at i).accounts; taken = None }, []))
+    ∙ (λ i. (record { count = m.0.count; accounts = map (up_to_date later) (accounts_is k m is i); taken = None }, []))
+
+pub sits_again : (k n : ℕ) (front own : List Entry) (m : SeatState) → m ≡ (sitting n k front own, []) → IsSitting k m
+sits_again k n front own m e = subst (IsSitting k) (sym e) refl
+
+pub answers : (service : TableId) (k : ℕ) (m m' : SeatState) (service' : TableId) (history : List Entry) (c : Call) (a : Reply) → IsSitting k m → k < m.0.count
+    → IsLawful Ordered (history ++ entry_of k c a ∷ []) → AreBelow m.0.count history → Each (Follows history) m.0.accounts
+    → m' ≡ (sitting m.0.count k (history ++ entry_of k c a ∷ []) (own_entries k (history ++ entry_of k c a ∷ [])), [])
+    → Answered (seen_from service k m) c a (seen_from service' k m')
+answers service k m m' service' history c a is small lawful below follows e =
+    let f = has_seen k m is history follows in let x : Entry = entry_of k c a in
+    subst (λ (z : SeatState). Answered (seen_from service k m) c a (seen_from service' k z)) (sym e) record {
+      lawful = lawful;
+      below = below_more m.0.count history x below small;
+      between = f.front.0;
+      front = ap (λ l. l ++ x ∷ []) f.front.1;
+      own = own-more k history x refl ∙ ap (λ l. l ++ x ∷ []) (sym f.own);
+      all_own = refl;
+    }
+
+pub same_service : {a b : TableId} {m n : ℕ} → a ≡ b → m ≡ n → ◌≡◌ {A = ServiceView} (record { table = a; callers = m }) (record { table = b; callers = n })
+same_service e f = λ i. record { table = e i; callers = f i }

@@ -1,0 +1,191 @@
+-- The three steps on the lock word keep the rule of the table: the try, and the two ways to give the word back.
+use Rattle.std.proofs.Common.{◌≡◌, ◌≢◌, ℕ, ◌+◌, ◌-◌, ◌<◌, ◌≤◌, eqb, List, [], ◌∷◌, ◌++◌, map, length, get_or, set, sym, refl, ap, ◌∙◌, subst, arith, Option, Some, None, length-set, get_or-set_same, eq-eqb, ne_eqb}
+use mathlib.Core.Logic.{dite}
+use mathlib.Core.Option.{none, some}
+use mathlib.Core.Option as maybe
+use native.Mathlib.Decide.{ℕ_discrete}
+use lib.ListN.{get_elem?}
+use lib.Seq.{set-get_or}
+use prog.Atomic.{either}
+use Rattle.atomic_table.specs.Table.{State, step, keeps, takes, gives, stepped, Allows, rest}
+use Rattle.atomic_table.proofs.Lists.{set_again}
+use Rattle.dn_types.specs.History.{IsLawful}
+use Rattle.dn_types.specs.declared.entry.Entry.{Entry}
+use Rattle.dn_types.specs.declared.rule.Rule.TheVariants.{Ordered}
+use Rattle.dn_service.specs.Histories.{AreBelow}
+use Rattle.dn_service.specs.Rule.{Follows, Sits, SeatFits, SeatRule}
+use Rattle.dn_service.specs.Seats.{Account, SeatState, SeatView, Slot, Each, Has, with_taken, up_to_date}
+use Rattle.dn_service.specs.Steps.{tried, returned, published}
+use Rattle.dn_service.proofs.Accounts.{each_map, each_at, has_some, has_updated}
+use Rattle.dn_service.proofs.HistoryLaws.{own-other, below_more, starts_more, starts_all}
+use Rattle.dn_service.proofs.Views.{one_home, seats_set, held_set}
+
+abbrev TableState : Type 0
+TableState = State Slot SeatView
+
+abbrev some_is : {A : Type 0} → Option A → A → A
+some_is (Some x) d = x
+some_is None d = d
+
+-- The history in the first slot in hand, or this one where there is none.
+abbrev pub slot_in : List Entry → List (ℕ × Slot) → List Entry
+slot_in d [] = d
+slot_in d (x ∷ xs) = some_is x.1 d
+
+module _ (n : ℕ) where
+  -- a step of the seat id, after which the word is `word` and the history `history`
+  moved : (s : TableState) (r : SeatRule n s) (id : ℕ) (v w : SeatView) (word : ℕ) (homes' : List (maybe.Option Slot)) (history : List Entry)
+      → get_elem? s.views id ≡ some v → word ≤ n → length homes' ≡ 1 → IsLawful Ordered history → AreBelow n history → (word ≡ 0 → get_elem? homes' 0 ≡ some (some (Some history)))
+      → SeatFits n word history r.seat_of id w → ((j : ℕ) (u : SeatView) → j ≢ id → get_elem? s.views j ≡ some u → SeatFits n word history r.seat_of j u)
+      → ((k : ℕ) → Has k v.accounts → Has k w.accounts) → SeatRule n record { words = set s.words 0 word; homes = homes'; views = set s.views id w }
+  moved s r id v w word homes' history at small one lawful below home mine theirs keep =
+      let wide = r.one_word in let now : get_or (set s.words 0 word) 0 0 ≡ word = get_or-set_same s.words 0 word 0 (omega arith) in record {
+        history = history;
+        seat_of = r.seat_of;
+        one_word = length-set s.words 0 word ∙ r.one_word;
+        one_slot = one;
+        word = subst (λ (z : ℕ). z ≤ n) (sym now) small;
+        lawful = lawful;
+        below = below;
+        home = λ e. home (sym now ∙ e);
+        seats = subst (λ (z : ℕ). (j : ℕ) (u : SeatView) → get_elem? (set s.views id w) j ≡ some u → SeatFits n z history r.seat_of j u) (sym now) (seats_set (SeatFits n word history r.seat_of) s.views id w mine theirs);
+        held = λ k l. held_set s.views id v w at (r.seat_of k) k (keep k) (r.held k l);
+      }
+
+  -- a step that changes nothing
+  same : (s : TableState) (id : ℕ) (v : SeatView) (cs : List (ℕ × Slot)) → SeatRule n s → get_elem? s.views id ≡ some v → SeatRule n (stepped s 0 (get_or s.words 0 0) id cs v keeps)
+  same s id v cs r at = subst (λ (z : List ℕ × List SeatView). SeatRule n record { words = z.0; homes = s.homes; views = z.1 }) (λ i. (sym (set-get_or s.words 0 0) i, sym (set_again s.views id v at) i)) r
+
+  -- the seat that took the book is the one of which the word tells
+  has_book : (s : TableState) (r : SeatRule n s) (id : ℕ) (v : SeatView) (history : List Entry) → get_elem? s.views id ≡ some v → v.taken ≡ Some history
+      → (k : ℕ) × (get_or s.words 0 0 ≡ k + 1) × (r.seat_of k ≡ id) × (r.history ≡ history)
+  has_book s r id v history at took = let x : ℕ = get_or s.words 0 0 in let f = r.seats id v at in dite (ℕ_discrete x 0)
+      (λ z. let e = f.free z in absurd (cc))
+      (λ ne. let k : ℕ = x - 1 in let is : x ≡ k + 1 = omega arith in dite (ℕ_discrete (r.seat_of k) id)
+      (λ here. (k, is, here, ap (λ o. some_is o history) (sym (f.taken k is here) ∙ took)))
+      (λ there. let e = f.idle k is there in absurd (cc)))
+
+  -- what holds of the other seats is kept
+  sits_on : (history later : List Entry) (seat_of : ℕ → ℕ) (seat : ℕ) (xs : List Account) → ((x : Account) → seat_of x.number ≡ seat → Follows history x → Follows later x) → Each (Sits n history seat_of seat) xs → Each (Sits n later seat_of seat) xs
+  sits_on history later seat_of seat xs f h = each_map xs (λ x t. record { below = t.below; seated = t.seated; follows = f x t.seated t.follows }) h
+
+  pub tries : (slots id : ℕ) (me : SeatState) (k : ℕ) → me.0.taken ≡ None → Has k me.0.accounts → Allows (SeatRule n) slots id me 0 (λ x. either (eqb x 0) (k + 1) x) (tried (step slots 0 0 (k + 1) none) me)
+  tries slots id me k idle has s r deep at _ =
+      let x : ℕ = get_or s.words 0 0 in let f = r.seats id me.0 at in
+      let mine = each_at _ me.0.accounts k f.accounts has in
+      let seated : r.seat_of k ≡ id = ap r.seat_of (sym mine.2) ∙ mine.1.seated in
+      let small : k < n = (let b = mine.1.below in let e = mine.2 in omega arith) in
+      let count : me.0.count ≡ n = f.count (has_some me.0.accounts k has) in
+      dite (ℕ_discrete x 0)
+      (λ hit. (
+        with_taken me.0 (Some r.history),
+        takes 0 (Some r.history),
+        r.home hit,
+        subst (λ b. SeatRule n (stepped s 0 (either b (k + 1) x) id me.1 (with_taken me.0 (Some r.history)) (takes 0 (Some r.history)))) (sym (eq-eqb x 0 hit))
+            (moved s r id me.0 (with_taken me.0 (Some r.history)) (k + 1) (set s.homes 0 none) r.history at (omega arith) (length-set s.homes 0 none ∙ r.one_slot) r.lawful r.below (λ z. absurd (omega arith))
+            record {
+              count = f.count;
+              accounts = f.accounts;
+              free = λ z. absurd (omega arith);
+              taken = λ j e h. refl;
+              idle = λ j e h. absurd (h (ap r.seat_of (let q : j ≡ k = omega arith in q) ∙ seated));
+            }
+            (λ j u other there. let g = r.seats j u there in record {
+              count = g.count;
+              accounts = g.accounts;
+              free = λ z. absurd (omega arith);
+              taken = λ i e h. absurd (other (sym h ∙ (ap r.seat_of (let q : i ≡ k = omega arith in q) ∙ seated)));
+              idle = λ i e h. g.free hit;
+            })
+            (λ j h. h)),
+        ((λ _. (r.history, refl, r.lawful, subst (λ (z : ℕ). AreBelow z r.history) (sym count) r.below, each_map me.0.accounts (λ y t. t.follows) f.accounts)), λ miss. absurd (miss hit)),
+      ))
+      (λ miss. (
+        me.0,
+        keeps,
+        tt,
+        subst (λ b. SeatRule n (stepped s 0 (either b (k + 1) x) id me.1 me.0 keeps)) (sym (ne_eqb x 0 miss)) (same s id me.0 me.1 r at),
+        (
+          (λ hit. absurd (miss hit)),
+          λ _. (
+            refl,
+            (let w = r.word in omega arith),
+            λ j is there. let other = each_at _ me.0.accounts j f.accounts there in let took = f.taken j is (ap r.seat_of (sym other.2) ∙ other.1.seated) in absurd (cc),
+          ),
+        ),
+      ))
+
+  pub gives_back : (slots id : ℕ) (me : SeatState) (history : List Entry) → me.0.taken ≡ Some history → me.1 ≡ (0, Some history) ∷ [] → Allows (SeatRule n) slots id me 0 (λ _. 0) (λ _. returned (step slots 0 0 0 none) me 0)
+  gives_back slots id me history took carried s r deep at _ =
+      let f = r.seats id me.0 at in let b = has_book s r id me.0 history at took in let w = with_taken me.0 None in
+      let one = r.one_slot in (
+        w,
+        gives,
+        tt,
+        subst (λ (cs : List (ℕ × Slot)). SeatRule n (stepped s 0 0 id cs w gives)) (sym carried)
+            (moved s r id me.0 w 0 (set s.homes 0 (some (Some history))) r.history at (omega arith) (length-set s.homes 0 (some (Some history)) ∙ r.one_slot) r.lawful r.below
+            (λ _. one_home s.homes (some (Some history)) r.one_slot ∙ ap (λ (h : List Entry). some (some (Some h))) (sym b.3))
+            record {
+              count = f.count;
+              accounts = f.accounts;
+              free = λ _. refl;
+              taken = λ j e h. absurd (omega arith);
+              idle = λ j e h. refl;
+            }
+            (λ j u other there. let g = r.seats j u there in record {
+              count = g.count;
+              accounts = g.accounts;
+              free = λ _. g.idle b.0 b.1 (λ e. other (sym e ∙ b.2));
+              taken = λ i e h. absurd (omega arith);
+              idle = λ i e h. absurd (omega arith);
+            })
+            (λ j h. h)),
+        refl,
+      )
+
+  pub publishes : (slots id : ℕ) (me : SeatState) (was : List Entry) (e : Entry) → me.0.taken ≡ Some was → me.1 ≡ (0, Some (was ++ e ∷ [])) ∷ [] → IsLawful Ordered (was ++ e ∷ []) → Has e.caller me.0.accounts
+      → Allows (SeatRule n) slots id me 0 (λ _. 0) (λ _. published (step slots 0 0 0 none) me 0)
+  publishes slots id me was e took carried lawful has s r deep at _ =
+      let f = r.seats id me.0 at in let b = has_book s r id me.0 was at took in
+      let now : List Entry = was ++ e ∷ [] in
+      let w : SeatView = record { count = me.0.count; accounts = map (up_to_date now) me.0.accounts; taken = None } in
+      let mine = each_at _ me.0.accounts e.caller f.accounts has in
+      let seated : r.seat_of e.caller ≡ id = ap r.seat_of (sym mine.2) ∙ mine.1.seated in
+      let small : e.caller < n = (let l = mine.1.below in let q = mine.2 in omega arith) in
+      let more : r.history ++ e ∷ [] ≡ now = ap (λ l. l ++ e ∷ []) b.3 in (
+        w,
+        gives,
+        tt,
+        subst (λ (cs : List (ℕ × Slot)). SeatRule n (stepped s 0 0 id cs w gives)) (sym carried)
+            (moved s r id me.0 w 0 (set s.homes 0 (some (Some now))) now at (omega arith) (length-set s.homes 0 (some (Some now)) ∙ r.one_slot) lawful (subst (AreBelow n) more (below_more n r.history e r.below small))
+            (λ _. one_home s.homes (some (Some now)) r.one_slot)
+            record {
+              count = λ l. f.count (updated_some now me.0.accounts l);
+              accounts = updated_sit now me.0.accounts f.accounts;
+              free = λ _. refl;
+              taken = λ j q h. absurd (omega arith);
+              idle = λ j q h. refl;
+            }
+            (λ j u other there. let g = r.seats j u there in record {
+              count = g.count;
+              accounts = sits_on r.history now r.seat_of j u.accounts
+                  (λ y at_j t. subst (λ (h : List Entry). Follows h y) more record {
+                    front = starts_more r.history y.front e t.front;
+                    own = t.own ∙ sym (own-other y.number r.history e (λ q. other (sym at_j ∙ (ap r.seat_of (sym q) ∙ seated))));
+                  }) g.accounts;
+              free = λ _. g.idle b.0 b.1 (λ q. other (sym q ∙ b.2));
+              taken = λ i q h. absurd (omega arith);
+              idle = λ i q h. absurd (omega arith);
+            })
+            (λ j h. has_updated now me.0.accounts j h)),
+        λ history is. let same_history : history ≡ now = ap (λ (l : List (ℕ × Slot)). slot_in now l) (sym is ∙ carried) in
+            (λ i. (record { count = me.0.count; accounts = map (up_to_date (sym same_history i)) me.0.accounts; taken = None }, ap rest carried i)),
+      )
+    where
+      updated_some : (history : List Entry) (xs : List Account) → 0 < length (map (up_to_date history) xs) → 0 < length xs
+      updated_some history [] l = l
+      updated_some history (x ∷ xs) l = omega arith
+
+      updated_sit : (history : List Entry) (xs : List Account) → Each (Sits n r.history r.seat_of id) xs → Each (Sits n history r.seat_of id) (map (up_to_date history) xs)
+      updated_sit history [] h = tt
+      updated_sit history (x ∷ xs) h = (record { below = h.0.below; seated = h.0.seated; follows = record { front = starts_all history; own = refl } }, updated_sit history xs h.1)

@@ -1,0 +1,6 @@
+use Rattle.std.proofs.Common.{rules, ◌∷◌, Some, ap, sym, ◌∙◌}
+use Rattle.atomic_table.specs.Table.{rest}
+use Rattle.dn_service.proofs.lock.take_out.Goals as goal
+
+pub exchange-requires : goal.exchange-requires
+exchange-requires c = let b = c.requires.book in (search rules, (Some b.0, b.1 ∙ ap (λ cs. (0, Some b.0) ∷ rest cs) (sym b.1)))

@@ -1,0 +1,5 @@
+use Rattle.std.proofs.Common.{◌≡◌, ◌≤◌, length, take, vec_len, vec_capacity}
+use Rattle.dn_service.proofs.room.filled.Given as goal
+
+abbrev pub invariant-loop-item : goal.invariant-loop-item
+invariant-loop-item g l = (l.room.items ≡ take l.item-index l.items) × (vec_len l.room ≡ l.item-index) × (length l.items ≤ vec_capacity l.room)

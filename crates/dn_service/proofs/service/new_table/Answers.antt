@@ -1,0 +1,11 @@
+use Rattle.std.proofs.Common.{rules, ◌≡◌, List, [], ◌∷◌, Some, sym, subst}
+use Rattle.atomic_table.specs.Table.{opening}
+use Rattle.dn_service.specs.Rule.{SeatRule}
+use Rattle.dn_service.specs.Seats.{Slot, first_seat}
+use Rattle.dn_service.proofs.Splitting.{opens}
+use Rattle.dn_service.proofs.service.new_table.Goals as goal
+
+pub new-requires-2 : goal.new-requires-2
+new-requires-2 c =
+    let is : c.push_reserved.new.self.items ≡ Some [] ∷ [] = search rules in
+    subst (λ (xs : List Slot). SeatRule c.args.count (opening (0 ∷ []) xs (first_seat c.args.count))) (sym is) (opens c.args.count)

@@ -1,0 +1,45 @@
+-- The rule of the table of the book, true between any two steps of any threads.
+-- The lock word is 0 where the book is at home, and k + 1 where the seat of caller k has taken it.
+use Rattle.std.specs.Prelude.{◌≡◌, ◌≢◌, ℕ, ◌+◌, ◌<◌, ◌≤◌, List, length, slice_index, Some, None}
+use mathlib.Core.Option.{some}
+use lib.ListN.{get_elem?}
+use Rattle.atomic_table.specs.Table.{State}
+use Rattle.dn_types.specs.History.{IsLawful, own_entries}
+use Rattle.dn_types.specs.declared.entry.Entry.{Entry}
+use Rattle.dn_types.specs.declared.rule.Rule.TheVariants.{Ordered}
+use Rattle.dn_service.specs.Histories.{StartsWith, AreBelow}
+use Rattle.dn_service.specs.Seats.{Account, SeatView, Slot, Each, Has}
+
+-- What the caller has seen begins the history, and the account has all its entries so far.
+pub record Follows (history : List Entry) (a : Account) : Type 0 where
+  pub front : StartsWith history a.front
+  pub own : a.own ≡ own_entries a.number history
+
+-- The account is that of a caller below n who sits at this seat, and it follows the history.
+pub record Sits (n : ℕ) (history : List Entry) (seat_of : ℕ → ℕ) (seat : ℕ) (a : Account) : Type 0 where
+  pub below : a.number < n
+  pub seated : seat_of a.number ≡ seat
+  pub follows : Follows history a
+
+-- What holds of one seat where the lock word is w: each of its callers sits here, and it has the history in its hands
+-- exactly where the word names one of them.
+pub record SeatFits (n w : ℕ) (history : List Entry) (seat_of : ℕ → ℕ) (seat : ℕ) (v : SeatView) : Type 0 where
+  pub count : 0 < length v.accounts → v.count ≡ n
+  pub accounts : Each (Sits n history seat_of seat) v.accounts
+  pub free : w ≡ 0 → v.taken ≡ None
+  pub taken : (k : ℕ) → w ≡ k + 1 → seat_of k ≡ seat → v.taken ≡ Some history
+  pub idle : (k : ℕ) → w ≡ k + 1 → seat_of k ≢ seat → v.taken ≡ None
+
+-- The rule for n callers: there is one current history, which is lawful, and while the word is 0 the book with it is in
+-- the slot. Each caller below n sits at exactly one seat.
+pub record SeatRule (n : ℕ) (s : State Slot SeatView) : Type 0 where
+  pub history : List Entry
+  pub seat_of : ℕ → ℕ
+  pub one_word : length s.words ≡ 1
+  pub one_slot : length s.homes ≡ 1
+  pub word : slice_index s.words 0 ≤ n
+  pub lawful : IsLawful Ordered history
+  pub below : AreBelow n history
+  pub home : slice_index s.words 0 ≡ 0 → get_elem? s.homes 0 ≡ some (some (Some history))
+  pub seats : (j : ℕ) (v : SeatView) → get_elem? s.views j ≡ some v → SeatFits n (slice_index s.words 0) history seat_of j v
+  pub held : (k : ℕ) → k < n → (v : SeatView) × (get_elem? s.views (seat_of k) ≡ some v) × Has k v.accounts

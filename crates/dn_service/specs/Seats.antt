@@ -1,0 +1,110 @@
+-- What a seat at the table of the book knows: an account of each caller that it stands for, and the history that it took with the book.
+use Rattle.std.specs.Prelude.{◌≡◌, ⊤, ◌⊎◌, ℕ, zero, suc, ◌+◌, ◌<◌, ◌≤◌, List, [], ◌∷◌, ◌++◌, map, take, drop, Option, None}
+use Rattle.atomic_table.specs.Seated.{TableId}
+use Rattle.atomic_table.specs.Table.{Me}
+use Rattle.dn_types.specs.History.{own_entries}
+use Rattle.dn_types.specs.declared.entry.Entry.{Entry}
+
+-- One caller: its number, the history that it has seen, and its own entries.
+pub record Account : Type 0 where
+  pub number : ℕ
+  pub front : List Entry
+  pub own : List Entry
+
+-- A seat: the number of all callers, the accounts of those that it stands for, and the history that came with the book
+-- where the seat has taken it. A seat without accounts is spent.
+pub record SeatView : Type 0 where
+  pub count : ℕ
+  pub accounts : List Account
+  pub taken : Option (List Entry)
+
+-- What the slot holds: the book, which clauses see as its history, or nothing.
+abbrev pub Slot : Type 0
+Slot = Option (List Entry)
+
+-- The fact holds of each account.
+abbrev pub Each : (Account → Type 0) → List Account → Type 0
+Each P [] = ⊤
+Each P (a ∷ accounts) = P a × Each P accounts
+
+-- One of the accounts is that of caller k.
+abbrev pub Has : ℕ → List Account → Type 0
+Has k [] = ⊥
+Has k (a ∷ accounts) = (a.number ≡ k) ⊎ Has k accounts
+
+-- The account of caller k, who has seen nothing.
+abbrev pub new_account : ℕ → Account
+new_account k = record { number = k; front = []; own = [] }
+
+-- The accounts of n callers from k on.
+abbrev pub new_accounts : ℕ → ℕ → List Account
+new_accounts k zero = []
+new_accounts k (suc n) = new_account k ∷ new_accounts (k + 1) n
+
+-- The account after its caller has seen the history.
+abbrev pub up_to_date : List Entry → Account → Account
+up_to_date history a = record { number = a.number; front = history; own = own_entries a.number history }
+
+-- A seat that has not taken the book.
+abbrev pub waiting : ℕ → List Account → SeatView
+waiting n accounts = record { count = n; accounts = accounts; taken = None }
+
+-- The seat of one caller, which has not taken the book.
+abbrev pub sitting : ℕ → ℕ → List Entry → List Entry → SeatView
+sitting n k front own = waiting n (record { number = k; front = front; own = own } ∷ [])
+
+-- The first seat stands for all callers.
+abbrev pub first_seat : ℕ → SeatView
+first_seat n = waiting n (new_accounts 0 n)
+
+-- A spent seat, whose number of callers is forgotten.
+abbrev pub spent : SeatView
+spent = waiting 0 []
+
+-- The seat with this in place of what it has taken.
+abbrev pub with_taken : SeatView → Option (List Entry) → SeatView
+with_taken v t = record { count = v.count; accounts = v.accounts; taken = t }
+
+-- The seat after it gave the book back with this history, which each of its callers has seen.
+abbrev pub with_history : SeatView → List Entry → SeatView
+with_history v history = waiting v.count (map (up_to_date history) v.accounts)
+
+-- The seat after its first caller got a seat of its own, and that seat.
+abbrev pub without_first : SeatView → SeatView
+without_first v = record { count = v.count; accounts = drop 1 v.accounts; taken = v.taken }
+
+abbrev pub only_first : SeatView → SeatView
+only_first v = waiting v.count (take 1 v.accounts)
+
+-- Two seats in one, which keeps each caller's own account.
+abbrev pub joined : SeatView → SeatView → SeatView
+joined v w = record { count = w.count; accounts = v.accounts ++ w.accounts; taken = v.taken }
+
+-- The front and the own entries of the first account.
+abbrev pub front_in : List Account → List Entry
+front_in [] = []
+front_in (a ∷ accounts) = a.front
+
+abbrev pub own_in : List Account → List Entry
+own_in [] = []
+own_in (a ∷ accounts) = a.own
+
+-- A seat's view, and the slots that it has in hand.
+abbrev pub SeatState : Type 0
+SeatState = Me Slot SeatView
+
+-- The seat of the caller of this number, which is at the table and has nothing in hand.
+pub record IsCallerSeat (table : TableId) (number : ℕ) (seat : TableId) (me : SeatState) : Type 0 where
+  pub at_table : seat ≡ table
+  pub one_word : seat.words ≡ 1
+  pub below : number < me.0.count
+  pub few : me.0.count ≤ 16
+  pub sits : me ≡ (sitting me.0.count number (front_in me.0.accounts) (own_in me.0.accounts), [])
+
+-- The seat that the service keeps, which stands for no caller until the service is closed.
+pub record IsServiceSeat (table : TableId) (count : ℕ) (seat : TableId) (me : SeatState) : Type 0 where
+  pub at_table : seat ≡ table
+  pub one_word : seat.words ≡ 1
+  pub some : 0 < count
+  pub few : count ≤ 16
+  pub waits : me ≡ (waiting count [], [])

@@ -1,0 +1,84 @@
+ghost use Rattle.std.specs.Prelude.{◌≡◌, [], ◌∷◌, ◌++◌, IfOk, OnErr};
+ghost use Rattle.dn_types.specs.History.{IsLawful};
+ghost use Rattle.dn_types.specs.declared.rule.Rule.TheVariants.{Ordered};
+ghost use Rattle.dn_service.specs.Histories.{entry_of};
+
+use crate::room::Room;
+use dn_shaper::Shaper;
+use dn_types::{Call, Entry, Reply};
+use std::alloc::{AllocError, Global};
+use std::marker::Model;
+
+/// What a book has in it.
+#[derive(Drop)]
+pub(crate) struct Pages {
+    shaper: Shaper,
+    history: Vec<Entry>,
+}
+
+/// The shaper, with the history of all its calls. Contracts see the history, which is lawful, and after whose calls the
+/// shaper stands. Its pages lie in a block of their own, so that a book that changes hands is a pointer.
+#[derive(Drop)]
+pub(crate) struct Book {
+    pages: Box<Pages>,
+}
+
+impl Model for Book {
+    ghost use Rattle.std.specs.Prelude.{List};
+    ghost use Rattle.dn_types.specs.History.{IsLawful, calls_of};
+    ghost use Rattle.dn_types.specs.declared.entry.Entry.{Entry};
+    ghost use Rattle.dn_types.specs.declared.rule.Rule.TheVariants.{Ordered};
+    ghost use Rattle.dn_shaper.specs.Shaper.{StandsAfter};
+
+    ghost Value = { List Entry };
+
+    ghost view = { λ b. b.pages.value.history.items };
+
+    ghost invariant = { λ b. IsLawful Ordered b.pages.value.history.items
+        × StandsAfter Ordered b.pages.value.shaper (calls_of b.pages.value.history.items) };
+}
+
+impl Book {
+    /// A new shaper, with no calls.
+    pub(crate) fn new(alloc: Global) -> Result<Book, AllocError>
+        ensures { IfOk result (λ book. book ≡ []) }
+    {
+        let pages = Pages {
+            shaper: Shaper::new(alloc),
+            history: Vec::new(alloc),
+        };
+        Ok(Book {
+            pages: Box::new(alloc, pages)?,
+        })
+    }
+
+    /// Applies a caller's call to the shaper, and notes it with its reply. All room is taken before the shaper is touched,
+    /// so that a refusal of memory leaves no trace.
+    pub(crate) fn apply(&mut self, caller: usize, call: Call) -> Result<Reply, AllocError>
+        ensures ok { IfOk result (λ reply. self.new ≡ self.old ++ entry_of caller call reply ∷ []) }
+        ensures lawful { IsLawful Ordered self.new }
+        ensures err { OnErr result (self.new ≡ self.old) }
+    {
+        let pages = &mut *self.pages;
+        pages.history.reserve(1)?;
+        let room = Room::reserve(*pages.history.allocator(), &call, pages.shaper.reply_room())?;
+        let reply = pages.shaper.apply(&call)?;
+        let copy = room.copy_of(&reply);
+        pages.history.push_reserved(Entry {
+            caller,
+            call,
+            reply: copy,
+        });
+        Ok(reply)
+    }
+
+    pub(crate) fn into_history(self) -> Vec<Entry>
+        ensures { result.items ≡ self }
+    {
+        let Pages {
+            shaper: _shaper,
+            history,
+        } = Box::into_inner(self.pages);
+        history
+    }
+}

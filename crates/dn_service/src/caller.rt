@@ -1,0 +1,129 @@
+ghost use Rattle.std.specs.Prelude.{◌≡◌, ◌<◌, ◌≤◌, [], IfOk, IfErr, OnErr};
+
+use crate::lock::{enter, give_back, publish};
+use crate::rule::{BookSeat, BookTable};
+use crate::try_fault::TryFault;
+use dn_types::{Call, Reply};
+use std::alloc::AllocError;
+use std::marker::Model;
+use std::sync::{Arc, Wait};
+use std::thread;
+
+/// One of the callers that a service handed out. It can be sent to a thread of its own.
+///
+/// Contracts see the service, the number, the *front*, which is the history up to the last call of this caller that was
+/// answered, and the caller's *own* entries, one for each of its answered calls.
+#[derive(Drop)]
+pub struct Caller {
+    table: Arc<BookTable>,
+    seat: BookSeat,
+    number: usize,
+}
+
+impl Model for Caller {
+    ghost use Rattle.std.specs.Arc.{arc_value};
+    ghost use Rattle.dn_service.specs.Callers.{CallerView};
+    ghost use Rattle.dn_service.specs.Seats.{IsCallerSeat, front_in, own_in};
+
+    ghost Value = { CallerView };
+
+    ghost view = { λ c. record {
+      service = record { table = c.seat.table_id; callers = c.seat.me.0.count };
+      number = c.number;
+      front = front_in c.seat.me.0.accounts;
+      own = own_in c.seat.me.0.accounts;
+    } };
+
+    ghost invariant = { λ c. IsCallerSeat (arc_value c.table).shared.table_id c.number c.seat.table_id c.seat.me };
+}
+
+impl Caller {
+    ghost use Rattle.std.specs.Arc.{arc_value};
+    ghost use Rattle.dn_service.specs.Callers.{new_caller, IsSameCaller, Answered, NamesAnother};
+    ghost use Rattle.dn_service.specs.Seats.{sitting};
+
+    /// The caller of this number, who sits at the seat.
+    pub(crate) fn new(table: Arc<BookTable>, seat: BookSeat, number: usize) -> Caller
+        requires table { (seat.table_id ≡ (arc_value table).shared.table_id) × (seat.table_id.words ≡ 1) }
+        requires number { (number < seat.me.0.count) × (seat.me.0.count ≤ 16) }
+        requires seat { seat.me ≡ (sitting seat.me.0.count number [] [], []) }
+        ensures { result ≡ new_caller (record { table = seat.table_id; callers = seat.me.0.count }) number }
+    {
+        Caller {
+            table,
+            seat,
+            number,
+        }
+    }
+
+    pub(crate) fn into_seat(self) -> BookSeat
+        ensures table { result.table_id ≡ self.service.table }
+        ensures seat { result.me ≡ (sitting self.service.callers self.number self.front self.own, []) }
+    {
+        let Caller {
+            table: _table,
+            seat,
+            number: _,
+        } = self;
+        seat
+    }
+
+    /// The caller's number, from 0 on.
+    pub fn number(&self) -> usize
+        ensures { result ≡ self.now.number }
+    {
+        self.number
+    }
+
+    /// Makes a call if no other caller is in one. It tries once and waits for nobody. `Busy(k)`, which is tested first, says
+    /// that caller k was in a call; `OutOfMemory` that memory was refused, for the call or for its place in the history.
+    /// Neither changes anything.
+    pub fn try_call(&mut self, call: Call) -> Result<Reply, TryFault>
+        ensures ok { IfOk result (λ reply. Answered self.old call reply self.new) }
+        ensures same_caller { IsSameCaller self.old self.new }
+        ensures err { OnErr result (self.new ≡ self.old) }
+        ensures busy { IfErr result (λ fault. NamesAnother self.old fault) }
+    {
+        let number = self.number;
+        let table: &BookTable = &self.table;
+        let mut book = match enter(table, &mut self.seat, number) {
+            Ok(book) => book,
+            Err(holder) => return Err(TryFault::Busy(holder)),
+        };
+        match book.apply(number, call) {
+            Ok(reply) => {
+                publish(table, &mut self.seat, book);
+                Ok(reply)
+            }
+            Err(_) => {
+                give_back(table, &mut self.seat, book);
+                Err(TryFault::OutOfMemory)
+            }
+        }
+    }
+
+    /// Makes a call, and waits while other callers are in one: it yields its processor between two tries. Where memory is
+    /// refused, for the call or for its place in the history, nothing has changed.
+    pub fn call<R: Wait>(&mut self, rt: &R, call: Call) -> Result<Reply, AllocError>
+        ensures ok { IfOk result (λ reply. Answered self.old call reply self.new) }
+        ensures same_caller { IsSameCaller self.old self.new }
+        ensures err { OnErr result (self.new ≡ self.old) }
+    {
+        self.call_in_turn(rt, &call)
+    }
+
+    fn call_in_turn<R: Wait>(&mut self, rt: &R, call: &Call) -> Result<Reply, AllocError>
+        ensures ok { IfOk result (λ reply. Answered self.old call.now reply self.new) }
+        ensures same_caller { IsSameCaller self.old self.new }
+        ensures err { OnErr result (self.new ≡ self.old) }
+    {
+        for _ in rt.forever() {
+            match self.try_call(*call) {
+                Ok(reply) => return Ok(reply),
+                Err(TryFault::OutOfMemory) => return Err(AllocError),
+                Err(TryFault::Busy(_)) => thread::yield_now(),
+            }
+        }
+        unreachable!()
+    }
+}

@@ -1,0 +1,75 @@
+//! The lock of the book: how a seat takes the book, and gives it back.
+ghost use Rattle.std.specs.Prelude.{◌≡◌, ◌+◌, ◌^◌, ◌<◌, List, [], ◌∷◌, ◌++◌, MatchResult, Some, None};
+ghost use Rattle.dn_types.specs.History.{IsLawful};
+ghost use Rattle.dn_types.specs.declared.entry.Entry.{Entry};
+ghost use Rattle.dn_types.specs.declared.rule.Rule.TheVariants.{Ordered};
+ghost use Rattle.dn_service.specs.Seats.{Has, with_taken, with_history};
+ghost use Rattle.dn_service.specs.Steps.{Won};
+
+use crate::book::Book;
+use crate::rule::{BookSeat, BookTable};
+use crate::steps::{Publish, Return, Try};
+
+/// Takes the book out of the slot, which the seat has in hand.
+fn take_out(table: &BookTable, seat: &mut BookSeat) -> Book
+    requires table { seat.old.table_id ≡ table.now.shared.table_id }
+    requires book { (history : List Entry) × (seat.old.me.1 ≡ (0, Some history) ∷ []) }
+    ensures table { (seat.new.table_id ≡ seat.old.table_id) × (seat.new.id ≡ seat.old.id) }
+    ensures seat { seat.new.me ≡ (seat.old.me.0, (0, None) ∷ []) }
+    ensures book { seat.old.me.1 ≡ (0, Some result) ∷ [] }
+{
+    table.shared.exchange(seat, 0, None).unwrap()
+}
+
+/// Puts the book into the slot again.
+fn put_in(table: &BookTable, seat: &mut BookSeat, book: Book)
+    requires table { seat.old.table_id ≡ table.now.shared.table_id }
+    requires seat { seat.old.me.1 ≡ (0, None) ∷ [] }
+    ensures table { (seat.new.table_id ≡ seat.old.table_id) × (seat.new.id ≡ seat.old.id) }
+    ensures seat { seat.new.me ≡ (seat.old.me.0, (0, Some book) ∷ []) }
+{
+    table.shared.exchange(seat, 0, Some(book));
+}
+
+/// Tries once to take the word and the book for the caller `number`. `Err` names the caller that has them.
+pub(crate) fn enter(table: &BookTable, seat: &mut BookSeat, number: usize) -> Result<Book, usize>
+    requires table { (seat.old.table_id ≡ table.now.shared.table_id) × (seat.old.table_id.words ≡ 1) }
+    requires number { number + 1 < 2 ^ 64 }
+    requires seat { (seat.old.me.0.taken ≡ None) × (seat.old.me.1 ≡ []) × Has number seat.old.me.0.accounts }
+    ensures table { (seat.new.table_id ≡ seat.old.table_id) × (seat.new.id ≡ seat.old.id) }
+    ensures taken { MatchResult result
+        (λ book. Won seat.old.me seat.new.me book)
+        (λ holder. (seat.new.me ≡ seat.old.me) × (holder < seat.old.me.0.count) × (¬ Has holder seat.old.me.0.accounts)) }
+{
+    let found = table
+        .shared
+        .compare_exchange::<Try>(seat, 0, 0, number as u64 + 1);
+    if found != 0 {
+        return Err((found - 1) as usize);
+    }
+    Ok(take_out(table, seat))
+}
+
+/// Gives the book back as it was taken.
+pub(crate) fn give_back(table: &BookTable, seat: &mut BookSeat, book: Book)
+    requires table { (seat.old.table_id ≡ table.now.shared.table_id) × (seat.old.table_id.words ≡ 1) }
+    requires seat { (seat.old.me.0.taken ≡ Some book) × (seat.old.me.1 ≡ (0, None) ∷ []) }
+    ensures table { (seat.new.table_id ≡ seat.old.table_id) × (seat.new.id ≡ seat.old.id) }
+    ensures seat { seat.new.me ≡ (with_taken seat.old.me.0 None, []) }
+{
+    put_in(table, seat, book);
+    table.shared.store::<Return>(seat, 0, 0);
+}
+
+/// Gives the book back with one entry more, of a caller of this seat. Here the call happens, for all callers.
+pub(crate) fn publish(table: &BookTable, seat: &mut BookSeat, book: Book)
+    requires table { (seat.old.table_id ≡ table.now.shared.table_id) × (seat.old.table_id.words ≡ 1) }
+    requires seat { seat.old.me.1 ≡ (0, None) ∷ [] }
+    requires book { (was : List Entry) × (e : Entry) × (seat.old.me.0.taken ≡ Some was)
+        × (book ≡ was ++ e ∷ []) × IsLawful Ordered book × Has e.caller seat.old.me.0.accounts }
+    ensures table { (seat.new.table_id ≡ seat.old.table_id) × (seat.new.id ≡ seat.old.id) }
+    ensures seat { seat.new.me ≡ (with_history seat.old.me.0 book, []) }
+{
+    put_in(table, seat, book);
+    table.shared.store::<Publish>(seat, 0, 0);
+}
