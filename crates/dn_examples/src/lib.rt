@@ -1,0 +1,23 @@
+//! Worked examples of the whole shaper: lists of calls, each with the reply that it gets.
+#![tactic(auto)]
+
+#[cfg(test)]
+mod deletes;
+#[cfg(test)]
+mod example;
+#[cfg(test)]
+mod flows;
+#[cfg(test)]
+mod links;
+#[cfg(test)]
+mod refused_growths;
+#[cfg(test)]
+mod shared_links;
+#[cfg(test)]
+mod short_lists_flows;
+#[cfg(test)]
+mod short_lists_wf2q;
+#[cfg(test)]
+mod trial;
+#[cfg(test)]
+mod values;
