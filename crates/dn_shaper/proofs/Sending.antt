@@ -33,13 +33,11 @@ use Rattle.dn_shaper.specs.Starting.{Within}
 use Rattle.dn_shaper.specs.Submitting.{Answers, verdict_on}
 use Rattle.dn_shaper.specs.Views.{views_of, home, home_by}
 use Rattle.dn_shaper.proofs.Accepting.{within-more}
+use Rattle.dn_shaper.proofs.Commands.{same-number}
 use Rattle.dn_shaper.proofs.Events.{eq-no}
 use Rattle.dn_shaper.proofs.Reserved.{reserves-agree}
 
 -- ---- The link of the packet's flow
-
-number-is : (a b : ℕ) → nat_eq a b ≡ true → a ≡ b
-number-is a b e = ⊎_elim (λ same. same) (λ ne. let n = eq-no a b ne in absurd cc) (cases_eq a b)
 
 same-link : (t u : Target) (flow : ℕ) → target_eq t u ≡ true → (pipe : ℕ) → link_of t flow pipe ≡ link_of u flow pipe
 same-link (ToPipe a) (ToPipe b) flow e pipe = refl
@@ -52,7 +50,7 @@ same-home key k e flow =
     let rest = target_eq key.target k.target && nat_eq key.pipe k.pipe in
     let both = and-left rest (mask_eq key.mask k.mask) (and-left (rest && mask_eq key.mask k.mask) (tuple_eq key.tuple k.tuple) e) in
     sym (same-link key.target k.target flow (and-left (target_eq key.target k.target) (nat_eq key.pipe k.pipe) both) key.pipe
-    ∙ ap (link_of k.target flow) (number-is key.pipe k.pipe (and-right (target_eq key.target k.target) (nat_eq key.pipe k.pipe) both)))
+    ∙ ap (link_of k.target flow) (same-number key.pipe k.pipe (and-right (target_eq key.target k.target) (nat_eq key.pipe k.pipe) both)))
 
 -- The flow with the key's number has a key of the same link.
 record IsNumbered (key : FlowKey) (known : List FlowKey) : Type 0 where
