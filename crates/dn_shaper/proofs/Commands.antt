@@ -1,12 +1,12 @@
 -- The commands in force, as entries and as a function of the target.
-use Rattle.std.proofs.Common.{◌≡◌, ◌∙◌, ◌≤◌, ◌+◌, ◌||◌, ℕ, zero, suc, take, length, Bool, true, false, cond, List, [], ◌∷◌, refl, ap, sym, subst, arith, ⊎_elim, true≢false}
-use Rattle.std.specs.Prelude.{Option, Some, None, is_some, nat_eq, slice_get}
+use Rattle.std.proofs.Common.{◌≡◌, ◌∙◌, ◌||◌, ℕ, Bool, true, false, cond, List, [], ◌∷◌, refl, ap, sym, subst, ⊎_elim, true≢false}
+use Rattle.std.specs.Prelude.{Option, Some, None, is_some, nat_eq}
 use Rattle.std.specs.List.{list_any, IsDistinct, AllByRecursion}
 use Rattle.std.specs.Map.{keys_of, lookup}
 use Rattle.std.proofs.lemmas.Bool.{cases_eq}
 use Rattle.std.proofs.lemmas.Map.Keys.{IsDistinct-head, IsDistinct-tail}
-use Rattle.indexmap.specs.IndexMap.{IndexMap, get}
-use Rattle.dn_types.specs.Configuration.{target_eq, is_queue_of, has_queues, subject, settings, command_reply, queue_numbers, setting_after}
+use Rattle.indexmap.specs.IndexMap.{IndexMap}
+use Rattle.dn_types.specs.Configuration.{target_eq, is_queue_of, has_queues, settings, command_reply, queue_numbers, setting_after}
 use Rattle.dn_types.specs.declared.call.Call.{Call}
 use Rattle.dn_types.specs.declared.call.Call.TheVariants.{Configure, Submit, Advance, Collect, Show}
 use Rattle.dn_types.specs.declared.command.Command.{Command}
@@ -16,9 +16,8 @@ use Rattle.dn_types.specs.declared.target.Target.{Target}
 use Rattle.dn_types.specs.declared.target.Target.TheVariants.{Pipe as ToPipe, Queue as ToQueue}
 use Rattle.dn_types.specs.contracts.target.TargetPartialEq.TheImpl as impl
 use Rattle.dn_types.proofs.Settled.{true_or_false}
-use Rattle.dn_shaper.specs.Configuring.{Lists, Puts}
+use Rattle.dn_shaper.specs.Configuring.{Lists}
 use Rattle.dn_shaper.specs.QueueCounts.{names_pipe}
-use Rattle.dn_shaper.specs.Settings.{settings_of}
 use Rattle.dn_shaper.proofs.Events.{eq-yes, eq-no}
 
 abbrev pub Entry : Type 0

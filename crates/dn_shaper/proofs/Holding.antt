@@ -1,7 +1,6 @@
 -- How many packets wait or are under way, and how many items the list in a reply has.
 use Rattle.std.proofs.Common.{◌≡◌, ◌∙◌, ◌≤◌, ◌+◌, ℕ, zero, suc, max, Bool, true, false, cond, List, [], ◌∷◌, length, refl, ap, sym, subst, ⊎_elim, arith}
 use Rattle.std.specs.Prelude.{Option, Some, None, is_some, nat_le, slice_get}
-use Rattle.std.specs.List.{filter}
 use Rattle.std.proofs.lemmas.List.{append-nil}
 use Rattle.std.proofs.lemmas.List.Sums.{length-filter, count_by-le-length, sum_by-cons}
 use Rattle.dn_types.specs.Calls.{Verdict, no_target, loses, refuses, takes, trace_of, verdict}

@@ -1,21 +1,19 @@
 -- What a command that is put in force, or taken out, does to the counts of the queues that name a pipe.
-use Rattle.std.proofs.Common.{◌≡◌, ◌∙◌, ◌≤◌, ◌+◌, ◌||◌, ℕ, length, Bool, true, false, cond, List, [], ◌∷◌, refl, ap, sym, subst, arith, ⊎_elim, true≢false}
+use Rattle.std.proofs.Common.{◌≡◌, ◌∙◌, ◌≤◌, ◌+◌, ◌||◌, ℕ, length, Bool, true, false, cond, List, [], ◌∷◌, refl, ap, sym, subst, arith, true≢false}
 use Rattle.std.specs.Prelude.{Option, Some, None, is_some, nat_eq, nat_lt}
-use Rattle.std.specs.List.{list_any, count_by, sum_by, IsDistinct}
+use Rattle.std.specs.List.{list_any, count_by, IsDistinct}
 use Rattle.std.specs.Map.{keys_of, lookup}
 use Rattle.std.specs.Option.{IfSome}
 use Rattle.std.proofs.lemmas.List.{length-map}
 use Rattle.std.proofs.lemmas.List.Sums.{sum_by-cons, count_by-le-length}
 use Rattle.std.proofs.lemmas.Bool.Decides.{nat_tests}
-use Rattle.dn_types.specs.Configuration.{target_eq, subject, has_queues, command_reply}
+use Rattle.dn_types.specs.Configuration.{target_eq, subject, has_queues}
 use Rattle.dn_types.specs.declared.command.Command.{Command}
 use Rattle.dn_types.specs.declared.command.Command.TheVariants.{Pipe, Queue, DeletePipe, DeleteQueue}
-use Rattle.dn_types.specs.declared.reply.Reply.{Reply}
 use Rattle.dn_types.specs.declared.reply.Reply.TheVariants.{Configured, NoSuchPipe, Deleted, PipeHasQueues, NoSuchQueue}
 use Rattle.dn_types.specs.declared.target.Target.{Target}
 use Rattle.dn_types.specs.declared.target.Target.TheVariants.{Pipe as ToPipe, Queue as ToQueue}
 use Rattle.dn_types.specs.contracts.target.TargetPartialEq.TheImpl as impl
-use Rattle.dn_types.proofs.Settled.{true_or_false}
 use Rattle.dn_shaper.specs.declared.in_force.InForce.{InForce}
 use Rattle.dn_shaper.specs.Configuring.{IsAnswered, Lists, Puts}
 use Rattle.dn_shaper.specs.QueueCounts.{commands_of, names_pipe, queues_of, kept_count, pipe_of, one_for, Replaces, CountsQueues}

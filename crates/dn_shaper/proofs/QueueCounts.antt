@@ -1,7 +1,7 @@
 -- What changes of the entries do to the commands in force, and to the counts of the queues that name a pipe.
-use Rattle.std.proofs.Common.{◌≡◌, ◌∙◌, ◌≤◌, ◌<◌, ◌+◌, ◌||◌, ℕ, zero, suc, length, get_or, Bool, true, false, cond, if◌then◌else◌, List, [], ◌∷◌, refl, ap, sym, subst, arith, ⊎_elim, true≢false}
-use Rattle.std.specs.Prelude.{Option, Some, None, is_some, nat_eq, nat_lt, slice_get, position, swap_remove}
-use Rattle.std.specs.List.{list_any, count_by, sum_by, IsDistinct}
+use Rattle.std.proofs.Common.{◌≡◌, ◌∙◌, ◌≤◌, ◌+◌, ℕ, zero, suc, get_or, Bool, true, false, cond, if◌then◌else◌, List, [], ◌∷◌, refl, ap, sym, subst, arith, true≢false}
+use Rattle.std.specs.Prelude.{Option, Some, None, is_some, nat_eq, slice_get, position, swap_remove}
+use Rattle.std.specs.List.{sum_by, IsDistinct}
 use Rattle.std.specs.Map.{keys_of, values_of, lookup, lookup_key, set_value}
 use Rattle.std.specs.Borrow.{MutBor}
 use Rattle.std.specs.Option.{option_copied_mut, option_map, option_map_or, unwrap_or}
@@ -15,12 +15,11 @@ use Rattle.dn_types.specs.declared.command.Command.TheVariants.{Pipe, Queue, Del
 use Rattle.dn_types.specs.declared.target.Target.{Target}
 use Rattle.dn_types.specs.declared.target.Target.TheVariants.{Pipe as ToPipe, Queue as ToQueue}
 use Rattle.dn_types.specs.contracts.target.TargetPartialEq.TheImpl as impl
-use Rattle.dn_types.proofs.Settled.{true_or_false}
 use Rattle.dn_shaper.specs.declared.in_force.InForce.{InForce}
-use Rattle.dn_shaper.specs.QueueCounts.{commands_of, names_pipe, queues_of, kept_count, pipe_of, one_for, Replaces, CountsQueues}
+use Rattle.dn_shaper.specs.QueueCounts.{commands_of, names_pipe, queues_of, kept_count, pipe_of, one_for, Replaces}
 use Rattle.dn_shaper.specs.Settings.{settings_of}
 use Rattle.dn_shaper.proofs.Commands.{same-number, key-test}
-use Rattle.dn_shaper.proofs.Events.{eq-yes, eq-no}
+use Rattle.dn_shaper.proofs.Events.{eq-yes}
 
 abbrev pub Kept : Type 0
 Kept = Target × InForce

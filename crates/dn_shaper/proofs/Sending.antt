@@ -1,8 +1,7 @@
 -- A shaper stands after a Submit call more, and stays sound.
-use Rattle.std.proofs.Common.{◌≡◌, ◌∙◌, ◌≤◌, ◌^◌, ◌⊎◌, ℕ, suc, ◌+◌, max, not, ◌||◌, Bool, true, false, cond, List, [], ◌∷◌, ◌++◌, refl, ap, sym, subst, arith, ⊎_elim, true≢false}
+use Rattle.std.proofs.Common.{◌≡◌, ◌∙◌, ◌≤◌, ◌^◌, ℕ, suc, ◌+◌, max, not, ◌||◌, Bool, true, false, cond, List, [], ◌∷◌, ◌++◌, refl, ap, sym, subst, arith, ⊎_elim, true≢false}
 use Rattle.std.specs.Prelude.{◌&&◌, Option, Some, nat_eq, slice_get}
 use Rattle.std.specs.List.{list_any}
-use Rattle.std.proofs.lemmas.Bool.{cases_eq}
 use Rattle.dn_heap.specs.Heap.{Heap}
 use Rattle.dn_types.specs.Calls.{link_of, verdict_by, after_verdict, trace_of}
 use Rattle.dn_types.specs.Clock.{effective_moment}
@@ -34,7 +33,6 @@ use Rattle.dn_shaper.specs.Submitting.{Answers, verdict_on}
 use Rattle.dn_shaper.specs.Views.{views_of, home, home_by}
 use Rattle.dn_shaper.proofs.Accepting.{within-more}
 use Rattle.dn_shaper.proofs.Commands.{same-number}
-use Rattle.dn_shaper.proofs.Events.{eq-no}
 use Rattle.dn_shaper.proofs.Reserved.{reserves-agree}
 
 -- ---- The link of the packet's flow

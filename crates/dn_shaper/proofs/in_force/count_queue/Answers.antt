@@ -1,6 +1,6 @@
 -- The pipe has an entry, and its count is the only change.
-use Rattle.std.proofs.Common.{◌≡◌, ◌∙◌, ◌+◌, ◌-◌, ◌≤◌, ap, sym, subst, refl, arith}
-use Rattle.std.specs.Prelude.{Option, Some, is_some, true}
+use Rattle.std.proofs.Common.{◌≡◌, ◌∙◌, ◌+◌, ap, sym, subst, refl, arith}
+use Rattle.std.specs.Prelude.{Some, is_some, true}
 use Rattle.std.specs.Option.{IfSome, option_copied_mut}
 use Rattle.dn_types.specs.declared.target.Target.TheVariants.{Pipe as ToPipe}
 use Rattle.dn_shaper.specs.declared.in_force.InForce.{InForce}

@@ -1,11 +1,9 @@
 -- The pipe has an entry, and its count is the only change.
-use Rattle.std.proofs.Common.{◌≡◌, ◌∙◌, ◌+◌, ◌-◌, ◌≤◌, ap, sym, subst, refl, arith}
-use Rattle.std.specs.Prelude.{Option, Some, is_some, true}
-use Rattle.std.specs.Option.{IfSome, option_copied_mut}
-use Rattle.dn_types.specs.declared.target.Target.TheVariants.{Pipe as ToPipe}
+use Rattle.std.proofs.Common.{◌∙◌, ◌+◌, ◌-◌, ap, sym, arith}
+use Rattle.std.specs.Prelude.{Some, is_some}
+use Rattle.std.specs.Option.{option_copied_mut}
 use Rattle.dn_shaper.specs.declared.in_force.InForce.{InForce}
-use Rattle.dn_shaper.specs.QueueCounts.{commands_of, kept_count, one_for}
-use Rattle.dn_shaper.specs.Settings.{settings_of}
+use Rattle.dn_shaper.specs.QueueCounts.{kept_count, one_for}
 use Rattle.dn_shaper.proofs.QueueCounts.{some-copied, keeps-commands, one-less, counted-entry, counted-once, kept-is}
 use Rattle.dn_shaper.proofs.in_force.discount_queue.Goals as goal
 

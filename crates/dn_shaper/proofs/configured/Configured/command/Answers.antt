@@ -1,5 +1,5 @@
 -- The kept entry's command is what is in force.
-use Rattle.std.proofs.Common.{◌≡◌, ◌∙◌, ap, sym}
+use Rattle.std.proofs.Common.{◌∙◌, ap, sym}
 use Rattle.std.specs.Prelude.{Some, None}
 use Rattle.dn_shaper.specs.Settings.{settings_of}
 use Rattle.dn_shaper.proofs.QueueCounts.{setting-by}

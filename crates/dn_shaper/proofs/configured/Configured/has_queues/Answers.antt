@@ -1,10 +1,6 @@
 -- The kept count is above 0 exactly if one of the queues names the pipe.
-use Rattle.std.proofs.Common.{◌≡◌, ◌∙◌, ap, sym, subst}
-use Rattle.std.specs.Prelude.{Some, None, nat_lt}
-use Rattle.dn_types.specs.Configuration.{has_queues}
-use Rattle.dn_shaper.specs.Configuring.{Lists}
-use Rattle.dn_shaper.specs.QueueCounts.{kept_count}
-use Rattle.dn_shaper.specs.Settings.{settings_of}
+use Rattle.std.proofs.Common.{sym}
+use Rattle.std.specs.Prelude.{Some, None}
 use Rattle.dn_shaper.proofs.Putting.{has-queues-by}
 use Rattle.dn_shaper.proofs.configured.Configured.has_queues.Goals as goal
 

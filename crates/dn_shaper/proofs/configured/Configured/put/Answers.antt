@@ -1,5 +1,5 @@
 -- The command takes the place of what was in force for its subject, and a queue moves from one pipe's count to another's.
-use Rattle.std.proofs.Common.{◌∙◌, ap, sym}
+use Rattle.std.proofs.Common.{◌∙◌, ap}
 use Rattle.std.specs.Prelude.{Some}
 use Rattle.dn_shaper.specs.QueueCounts.{pipe_of}
 use Rattle.dn_shaper.proofs.Putting.{puts-after, counted-before, counts-more, few, still-there}

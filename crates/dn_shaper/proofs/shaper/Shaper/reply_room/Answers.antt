@@ -1,13 +1,9 @@
 -- The two counts are those of the calls, and no list in the next reply is longer.
-use Rattle.std.proofs.Common.{◌≡◌, ◌∙◌, ◌≤◌, List, ap, max, sym, subst}
-use Rattle.dn_types.specs.Calls.{trace_of}
+use Rattle.std.proofs.Common.{◌∙◌, ◌≤◌, sym, subst}
 use Rattle.dn_types.specs.Clock.{counted}
-use Rattle.dn_types.specs.Flows.{keys}
 use Rattle.dn_types.specs.Replies.{reply}
-use Rattle.dn_types.specs.declared.call.Call.{Call}
-use Rattle.dn_types.specs.declared.rule.Rule.{Rule}
 use Rattle.dn_shaper.specs.declared.state.State.{State}
-use Rattle.dn_shaper.specs.Shaper.{StandsAfter, held, items_in}
+use Rattle.dn_shaper.specs.Shaper.{items_in}
 use Rattle.dn_shaper.specs.Standing.{StandsAt}
 use Rattle.dn_shaper.proofs.Holding.{room-is, items-few}
 use Rattle.dn_shaper.proofs.shaper.Shaper.reply_room.Goals as goal
