@@ -8,7 +8,8 @@ use dn_types::{
     Target,
 };
 use std::sync::Wait;
-use std::time::Instant;
+use std::thread::Threads;
+use std::time::{Clock, Instant};
 use std::{io, thread};
 
 /// `pipe 1 config`, unlimited, so that each packet starts when it is submitted.
@@ -109,7 +110,12 @@ fn measure_alone(rt: &HostRuntime, packets: bool, rounds: u64) -> io::Result<()>
 }
 
 /// So many calls in all on a service, by so many callers.
-fn measure(rt: &HostRuntime, callers: usize, packets: bool, rounds: u64) -> io::Result<()> {
+fn measure<R: Wait + Threads + Sync + Clock + Print + Alloc>(
+    rt: &R,
+    callers: usize,
+    packets: bool,
+    rounds: u64,
+) -> io::Result<()> {
     let kind = if packets { "packets" } else { "moves" };
     let Ok((_service, mut opened)) = Service::open(rt.alloc(), callers) else {
         return Ok(());

@@ -1,8 +1,8 @@
 use crate::values::{command, moment, pipe, queue, sized};
 use dn_shaper::{Shaper, run};
 use dn_types::{
-    Buckets, Call, Deliveries, Delivery, FlowStatus, Limit, Mask, Packet, Reply, Rule, Statuses,
-    Target,
+    Buckets, Call, Command, Deliveries, Delivery, FlowStatus, Limit, Mask, Packet, Reply, Rule,
+    Statuses, Target,
 };
 use std::alloc::{AllocError, Global};
 use std::io::Print;
@@ -60,7 +60,10 @@ impl Example {
         if self.replies.reserve(1).is_err() {
             self.replies.reserve(1)?;
         }
-        // The prover asks that a body that moves a command into a list names the types in it.
+        // The prover asks that a body that moves a call into a list names the types in it.
+        let _command: Option<Command> = None;
+        let _target: Option<Target> = None;
+        let _packet: Option<Packet> = None;
         let _limit: Option<Limit> = None;
         let _buckets: Option<Buckets> = None;
         let _mask: Option<Mask> = None;

@@ -4,7 +4,7 @@ use dn_types::{
 };
 
 /// What is configured, and where the packets go.
-#[derive(Clone, Copy, Debug, PartialEq, Eq)]
+#[derive(Clone, Copy)]
 pub struct Load {
     pub name: &'static str,
     /// How many queues share pipe 1; 0 where the packets go to the pipe.

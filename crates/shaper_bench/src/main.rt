@@ -54,32 +54,45 @@ const LOADS: [Load; 5] = [
     },
 ];
 
-/// What a run came to: the packets that were accepted, and the deliveries.
-#[derive(Clone, Copy, Debug, PartialEq, Eq)]
-struct Counts {
+/// What a run came to: the packets that were accepted, the deliveries, and the times in ns.
+#[derive(Clone, Copy)]
+struct Run {
     queued: u64,
     delivered: u64,
+    submitting: u128,
+    collecting: u128,
+}
+
+impl Run {
+    fn new() -> Run {
+        Run {
+            queued: 0,
+            delivered: 0,
+            submitting: 0,
+            collecting: 0,
+        }
+    }
 }
 
 /// Applies a call and counts what it was answered.
-fn apply(shaper: &mut Shaper, call: Option<Call>, counts: &mut Counts) {
+fn apply(shaper: &mut Shaper, call: Option<Call>, run: &mut Run) {
     let Some(call) = call else {
         return;
     };
     match shaper.apply(&call) {
-        Ok(Reply::Queued { .. }) => counts.queued = counts.queued.wrapping_add(1),
+        Ok(Reply::Queued { .. }) => run.queued = run.queued.wrapping_add(1),
         Ok(Reply::Delivered { list, .. }) => {
-            counts.delivered = counts.delivered.wrapping_add(list.as_slice().len() as u64);
+            run.delivered = run.delivered.wrapping_add(list.as_slice().len() as u64);
         }
         _ => {}
     }
 }
 
 /// Configures the pipe and its queues.
-fn configure(shaper: &mut Shaper, load: &Load, counts: &mut Counts) {
-    apply(shaper, pipe(load), counts);
+fn configure(shaper: &mut Shaper, load: &Load, run: &mut Run) {
+    apply(shaper, pipe(load), run);
     for number in 1..load.queues.wrapping_add(1) {
-        apply(shaper, queue(number), counts);
+        apply(shaper, queue(number), run);
     }
 }
 
@@ -90,53 +103,102 @@ fn submit(
     packets: u64,
     from: u64,
     seed: u64,
-    counts: &mut Counts,
+    run: &mut Run,
 ) -> u64 {
     let mut seed = seed;
     for i in 0..packets {
         seed = next(seed);
         let moment = from.wrapping_add(i.wrapping_mul(load.interval));
-        apply(shaper, packet(load, seed, moment), counts);
+        apply(shaper, packet(load, seed, moment), run);
     }
     seed
 }
 
 /// Collects what is due at the moment.
-fn collect(shaper: &mut Shaper, moment: u64, counts: &mut Counts) {
-    apply(shaper, Moment::new(moment).map(Call::Collect), counts);
+fn collect(shaper: &mut Shaper, moment: u64, run: &mut Run) {
+    apply(shaper, Moment::new(moment).map(Call::Collect), run);
 }
 
-/// Submits packets in rounds of 1,000, each followed by a Collect, and tells the time for each packet.
-fn measure(rt: &HostRuntime, load: &Load, rounds: u64) -> io::Result<()> {
-    let mut shaper = Shaper::new(rt.alloc());
-    let mut counts = Counts {
-        queued: 0,
-        delivered: 0,
-    };
-    configure(&mut shaper, load, &mut counts);
-    let mut seed = 1;
-    let mut nanos = 0u128;
-    let mut collecting = 0u128;
-    let mut moment = 0u64;
-    for _ in 0..rounds {
-        let start = Instant::now(rt)?;
-        seed = submit(&mut shaper, load, 1_000, moment, seed, &mut counts);
-        let middle = Instant::now(rt)?;
-        nanos = nanos.wrapping_add(start.elapsed(rt)?.as_nanos());
-        moment = moment.wrapping_add(load.interval.wrapping_mul(1_000));
-        collect(&mut shaper, moment, &mut counts);
-        collecting = collecting.wrapping_add(middle.elapsed(rt)?.as_nanos());
-    }
-    let Counts { queued, delivered } = counts;
-    let name = load.name;
+/// Adds the time since the start, in ns.
+fn add_time(rt: &HostRuntime, start: &Instant, nanos: &mut u128) -> io::Result<()> {
+    let elapsed = start.elapsed(rt)?;
+    *nanos = nanos.wrapping_add(elapsed.as_nanos());
+    Ok(())
+}
+
+/// Submits 1,000 packets from the moment on, and adds the time that they took. It answers the next
+/// seed.
+fn submit_timed(
+    rt: &HostRuntime,
+    shaper: &mut Shaper,
+    load: &Load,
+    from: u64,
+    seed: u64,
+    run: &mut Run,
+) -> io::Result<u64> {
+    let start = Instant::now(rt)?;
+    let seed = submit(shaper, load, 1_000, from, seed, run);
+    add_time(rt, &start, &mut run.submitting)?;
+    Ok(seed)
+}
+
+/// Collects what is due at the moment, and adds the time that it took.
+fn collect_timed(
+    rt: &HostRuntime,
+    shaper: &mut Shaper,
+    moment: u64,
+    run: &mut Run,
+) -> io::Result<()> {
+    let start = Instant::now(rt)?;
+    collect(shaper, moment, run);
+    add_time(rt, &start, &mut run.collecting)
+}
+
+/// Tells what a run came to.
+fn tell(rt: &HostRuntime, name: &str, rounds: u64, run: &Run) -> io::Result<()> {
+    let queued = run.queued;
+    let delivered = run.delivered;
     println!(rt; "{name}: {queued} queued, {delivered} delivered")?;
+    let submitting = run.submitting;
+    let collecting = run.collecting;
     eprintln!(rt;
-        "{name}: {nanos} ns for {rounds},000 packets, {collecting} ns for their Collects"
+        "{name}: {submitting} ns and {collecting} ns for the Collects of {rounds} rounds"
     )?;
     Ok(())
 }
 
-/// With 1,000 packets under way, so many rounds of 1,000 Collects that give one packet each.
+/// Submits packets in rounds of 1,000, each followed by a Collect.
+fn measure(rt: &HostRuntime, load: &Load, rounds: u64) -> io::Result<()> {
+    let mut shaper = Shaper::new(rt.alloc());
+    let mut run = Run::new();
+    configure(&mut shaper, load, &mut run);
+    let mut seed = 1;
+    let mut moment = 0u64;
+    for _ in 0..rounds {
+        seed = submit_timed(rt, &mut shaper, load, moment, seed, &mut run)?;
+        moment = moment.wrapping_add(load.interval.wrapping_mul(1_000));
+        collect_timed(rt, &mut shaper, moment, &mut run)?;
+    }
+    tell(rt, load.name, rounds, &run)
+}
+
+/// With 1,000 packets under way, 1,000 Collects from the moment on that give one packet each.
+fn collect_each(
+    rt: &HostRuntime,
+    shaper: &mut Shaper,
+    load: &Load,
+    from: u64,
+    run: &mut Run,
+) -> io::Result<()> {
+    for i in 0..1_000u64 {
+        let moment = from.wrapping_add(i.wrapping_mul(1_000));
+        submit(shaper, load, 1, moment, 1, run);
+        collect_timed(rt, shaper, moment, run)?;
+    }
+    Ok(())
+}
+
+/// So many rounds of 1,000 Collects that give one packet of 1,000 under way.
 fn measure_collect(rt: &HostRuntime, rounds: u64) -> io::Result<()> {
     let load = Load {
         name: "a Collect of one packet, 1,000 under way",
@@ -147,29 +209,15 @@ fn measure_collect(rt: &HostRuntime, rounds: u64) -> io::Result<()> {
         interval: 1_000,
     };
     let mut shaper = Shaper::new(rt.alloc());
-    let mut counts = Counts {
-        queued: 0,
-        delivered: 0,
-    };
-    configure(&mut shaper, &load, &mut counts);
-    let mut seed = submit(&mut shaper, &load, 1_000, 0, 1, &mut counts);
-    let mut nanos = 0u128;
+    let mut run = Run::new();
+    configure(&mut shaper, &load, &mut run);
+    submit(&mut shaper, &load, 1_000, 0, 1, &mut run);
     let mut from = 1_000_000u64;
     for _ in 0..rounds {
-        for i in 0..1_000u64 {
-            let moment = from.wrapping_add(i.wrapping_mul(1_000));
-            seed = submit(&mut shaper, &load, 1, moment, seed, &mut counts);
-            let start = Instant::now(rt)?;
-            collect(&mut shaper, moment, &mut counts);
-            nanos = nanos.wrapping_add(start.elapsed(rt)?.as_nanos());
-        }
+        collect_each(rt, &mut shaper, &load, from, &mut run)?;
         from = from.wrapping_add(1_000_000);
     }
-    let Counts { queued, delivered } = counts;
-    let name = load.name;
-    println!(rt; "{name}: {queued} queued, {delivered} delivered")?;
-    eprintln!(rt; "{name}: {nanos} ns for {rounds},000 Collects, the clock's own reading in each")?;
-    Ok(())
+    tell(rt, load.name, rounds, &run)
 }
 
 /// The count of rounds that the program is asked for.

@@ -2,4 +2,4 @@ use Rattle.std.proofs.Common.{◌≡◌}
 use Rattle.callers_stress.proofs.try_all.Given as goal
 
 abbrev pub invariant-loop-moment : goal.invariant-loop-moment
-invariant-loop-moment g l = l.caller.service ≡ l.fn.caller.service
+invariant-loop-moment l = l.caller.service ≡ l.fn.caller.service

@@ -2,4 +2,4 @@ use Rattle.dn_service.specs.Callers.{IsSameCaller}
 use Rattle.callers_stress.proofs.try_until_answered.Given as goal
 
 abbrev pub invariant-loop : goal.invariant-loop
-invariant-loop g l = IsSameCaller l.initial.caller l.caller
+invariant-loop l = IsSameCaller l.initial.caller l.caller

@@ -4,7 +4,7 @@ use dn_records::FromWriter;
 use dn_types::{Call, Entry, FiveTuple, Len, Moment, Number, Packet, Reply, Target};
 use std::test::Fail;
 
-fn submit(caller: usize, reply: Reply) -> Option<Entry> {
+fn submit() -> Option<Call> {
     let tuple = FiveTuple {
         src: 0,
         dst: 0,
@@ -17,15 +17,10 @@ fn submit(caller: usize, reply: Reply) -> Option<Entry> {
         len: Len::new(1000)?,
         word: 0,
     };
-    let call = Call::Submit {
+    Some(Call::Submit {
         target: Target::Pipe(Number::new(1)?),
         packet,
         moment: Moment::new(0)?,
-    };
-    Some(Entry {
-        caller,
-        call,
-        reply,
     })
 }
 
@@ -33,22 +28,49 @@ fn submit(caller: usize, reply: Reply) -> Option<Entry> {
 #[test]
 fn rows_of_two_callers(rt: HostRuntime) -> Result<(), Fail> {
     let alloc = rt.alloc();
+    let (Some(first), Some(second), Some(third), Some(fourth)) = (
+        submit(),
+        submit(),
+        submit(),
+        submit(),
+    ) else {
+        panic!(rt; "the values are in range")
+    };
     let queued = Reply::Queued {
         at: 0,
         flow: 0,
         packet: 0,
     };
-    let (Some(first), Some(second), Some(third), Some(fourth)) = (
-        submit(1, queued),
-        submit(1, Reply::Full { at: 1, flow: 0 }),
-        submit(0, Reply::NoTarget { at: 2 }),
-        submit(0, Reply::Lost { at: 3, flow: 1 }),
-    ) else {
-        panic!(rt; "the values are in range")
-    };
+    let entries = [
+        Entry {
+            caller: 1,
+            call: first,
+            reply: queued,
+        },
+        Entry {
+            caller: 1,
+            call: second,
+            reply: Reply::Full { at: 1, flow: 0 },
+        },
+        Entry {
+            caller: 0,
+            call: third,
+            reply: Reply::NoTarget { at: 2 },
+        },
+        Entry {
+            caller: 0,
+            call: fourth,
+            reply: Reply::Lost { at: 3, flow: 1 },
+        },
+    ];
+    let history = Vec::from_array(alloc, entries)?;
     let mut written = Vec::new(alloc);
-    let history = [first, second, third, fourth];
-    let outcome = write_report(alloc, 2, &history, &mut FromWriter::new(&mut written));
+    let outcome = write_report(
+        alloc,
+        2,
+        history.as_slice(),
+        &mut FromWriter::new(&mut written),
+    );
     assert!(rt; outcome == Ok(()));
     let report = format!(in alloc;
         "{REPORT_HEADER}none,1,,,2,,\nheld,2,0,0,0,,\nlost,3,1,,3,,\nfull,4,0,,1,,\n"
