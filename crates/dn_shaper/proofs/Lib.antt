@@ -31,6 +31,7 @@ pub mod QueueCounts
 pub mod Quiet
 pub mod Reached
 pub mod Replying
+pub mod Recounting
 pub mod Reserved
 pub mod Reserving
 pub mod Sending

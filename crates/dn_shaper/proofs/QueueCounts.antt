@@ -1,6 +1,6 @@
 -- What changes of the entries do to the commands in force, and to the counts of the queues that name a pipe.
 use Rattle.std.proofs.Common.{◌≡◌, ◌∙◌, ◌≤◌, ◌+◌, ℕ, zero, suc, get_or, Bool, true, false, cond, if◌then◌else◌, List, [], ◌∷◌, refl, ap, sym, subst, arith, true≢false}
-use Rattle.std.specs.Prelude.{Option, Some, None, is_some, nat_eq, slice_get, position, swap_remove}
+use Rattle.std.specs.Prelude.{Option, Some, None, is_some, slice_get, position, swap_remove}
 use Rattle.std.specs.List.{sum_by, IsDistinct}
 use Rattle.std.specs.Map.{keys_of, values_of, lookup, lookup_key, set_value}
 use Rattle.std.specs.Borrow.{MutBor}
@@ -173,7 +173,7 @@ set-is-insert t f old (e ∷ es) is = by (target_eq t e.0) is (set-is-insert t f
     by false h rest = ap (λ l. e ∷ l) (rest h)
 
 -- So much is kept for the target, and what was kept for each other.
-abbrev Gets : Target → Option InForce → List Kept → List Kept → (Target → Target → Bool) → Type 0
+abbrev pub Gets : Target → Option InForce → List Kept → List Kept → (Target → Target → Bool) → Type 0
 Gets t o old new eq = (q : Target) → lookup (eq q) new ≡ cond (eq t q) o (lookup (eq q) old)
 
 abbrev pub command-in : Option InForce → Option Command
@@ -202,7 +202,7 @@ counts-by t o old new gets same p = ap count-of (gets (ToPipe p)) ∙ either (ta
     either true is = same p (same-target t (ToPipe p) is)
     either false is = refl
 
-by-key : (P : (Target → Target → Bool) → Type 0) → P impl.eq-value.it → P target_eq
+pub by-key : (P : (Target → Target → Bool) → Type 0) → P impl.eq-value.it → P target_eq
 by-key P p = subst P key-test p
 
 module _ (t : Target) (f : InForce) (old new : List Kept) (gets : Gets t (Some f) old new impl.eq-value.it) where
@@ -239,54 +239,6 @@ module _ (t : Target) (old new : List Kept) (gets : Gets t None old new impl.eq-
 
 pub setting-by : (t : Target) (es : List Kept) (o : Option InForce) → lookup (impl.eq-value.it t) es ≡ o → settings_of (commands_of es) t ≡ command-in o
 setting-by t es o is = setting-is t es ∙ ap command-in (by-key (λ eq. lookup (eq t) es ≡ o) is)
-
--- ---- Another count at a pipe
-
-commands-stay : (test : Target → Bool) (had : InForce) (queues : ℕ) (es : List Kept) → lookup test es ≡ Some had → commands_of (set_value test es (record { command = had.command; queues = queues })) ≡ commands_of es
-commands-stay test had queues [] is = absurd cc
-commands-stay test had queues (e ∷ es) is = by (test e.0) is (commands-stay test had queues es)
-  where
-    kept : InForce
-    kept = record { command = had.command; queues = queues }
-
-    by : (b : Bool) → cond b (Some e.1) (lookup test es) ≡ Some had → (lookup test es ≡ Some had → commands_of (set_value test es (record { command = had.command; queues = queues })) ≡ commands_of es)
-        → commands_of (cond b ((e.0, record { command = had.command; queues = queues }) ∷ es) (e ∷ set_value test es (record { command = had.command; queues = queues }))) ≡ commands_of (e ∷ es)
-    by true h rest =
-        let same : e.1 ≡ had = cc in
-        ap (λ (f : InForce). (e.0, f.command) ∷ commands_of es) (sym same)
-    by false h rest = ap (λ l. (e.0, e.1.command) ∷ l) (rest h)
-
-module _ (pipe : ℕ) (had : InForce) (queues : ℕ) (old new : List Kept) (there : lookup (impl.eq-value.it (ToPipe pipe)) old ≡ Some had)
-    (gets : Gets (ToPipe pipe) (Some (record { command = had.command; queues = queues })) old new impl.eq-value.it) where
-  pub keeps-commands : new ≡ set_value (impl.eq-value.it (ToPipe pipe)) old (record { command = had.command; queues = queues }) → commands_of new ≡ commands_of old
-  keeps-commands is = ap commands_of is ∙ commands-stay (impl.eq-value.it (ToPipe pipe)) had queues old there
-
-  found : lookup (target_eq (ToPipe pipe)) old ≡ Some had
-  found = by-key (λ eq. lookup (eq (ToPipe pipe)) old ≡ Some had) there
-
-  recounted : (p : ℕ) → kept_count p new ≡ cond (nat_eq pipe p) queues (kept_count p old)
-  recounted p = ap count-of (by-key (Gets (ToPipe pipe) (Some (record { command = had.command; queues = queues })) old new) gets (ToPipe p)) ∙ either (nat_eq pipe p)
-    where
-      either : (b : Bool) → count-of (cond b (Some (record { command = had.command; queues = queues })) (lookup (target_eq (ToPipe p)) old)) ≡ cond b queues (kept_count p old)
-      either true = refl
-      either false = refl
-
-  had-count : (p : ℕ) → nat_eq pipe p ≡ true → kept_count p old ≡ had.queues
-  had-count p same = ap (λ p. kept_count p old) (sym (same-number pipe p same)) ∙ ap count-of found
-
-  pub one-more : queues ≡ had.queues + 1 → (p : ℕ) → kept_count p new ≡ kept_count p old + cond (nat_eq pipe p) 1 0
-  one-more more p = by (nat_eq pipe p) (recounted p) (had-count p)
-    where
-      by : (b : Bool) → kept_count p new ≡ cond b queues (kept_count p old) → (b ≡ true → kept_count p old ≡ had.queues) → kept_count p new ≡ kept_count p old + cond b 1 0
-      by true is same = let h = same refl in omega (arith, is, h, more)
-      by false is same = omega (arith, is)
-
-  pub one-less : queues + 1 ≡ had.queues → (p : ℕ) → kept_count p new + cond (nat_eq pipe p) 1 0 ≡ kept_count p old
-  one-less less p = by (nat_eq pipe p) (recounted p) (had-count p)
-    where
-      by : (b : Bool) → kept_count p new ≡ cond b queues (kept_count p old) → (b ≡ true → kept_count p old ≡ had.queues) → kept_count p new + cond b 1 0 ≡ kept_count p old
-      by true is same = let h = same refl in omega (arith, is, h, less)
-      by false is same = omega (arith, is)
 
 -- What is in force, or has a count, has an entry.
 pub has-entry : (t : Target) (es : List Kept) → is_some (settings_of (commands_of es) t) ≡ true → is_some (lookup (impl.eq-value.it t) es) ≡ true

@@ -6,7 +6,8 @@ use Rattle.dn_types.specs.declared.target.Target.TheVariants.{Pipe as ToPipe}
 use Rattle.dn_shaper.specs.declared.in_force.InForce.{InForce}
 use Rattle.dn_shaper.specs.QueueCounts.{commands_of, kept_count, one_for}
 use Rattle.dn_shaper.specs.Settings.{settings_of}
-use Rattle.dn_shaper.proofs.QueueCounts.{some-copied, keeps-commands, one-more, has-entry, kept-is}
+use Rattle.dn_shaper.proofs.Recounting.{keeps-commands, one-more}
+use Rattle.dn_shaper.proofs.QueueCounts.{some-copied, has-entry, kept-is}
 use Rattle.dn_shaper.proofs.in_force.count_queue.Goals as goal
 
 pub unwrap-counted-requires : goal.unwrap-counted-requires

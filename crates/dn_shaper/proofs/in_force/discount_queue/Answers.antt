@@ -4,7 +4,8 @@ use Rattle.std.specs.Prelude.{Some, is_some}
 use Rattle.std.specs.Option.{option_copied_mut}
 use Rattle.dn_shaper.specs.declared.in_force.InForce.{InForce}
 use Rattle.dn_shaper.specs.QueueCounts.{kept_count, one_for}
-use Rattle.dn_shaper.proofs.QueueCounts.{some-copied, keeps-commands, one-less, counted-entry, counted-once, kept-is}
+use Rattle.dn_shaper.proofs.Recounting.{keeps-commands, one-less}
+use Rattle.dn_shaper.proofs.QueueCounts.{some-copied, counted-entry, counted-once, kept-is}
 use Rattle.dn_shaper.proofs.in_force.discount_queue.Goals as goal
 
 pub unwrap-counted-requires : goal.unwrap-counted-requires
