@@ -1,18 +1,27 @@
 #!/bin/sh
-# Runs the tests of a crate (dn_examples, if none is named) with the Nth growth of memory refused, for N = 1, 2, .. until
-# no test writes that one was. It fails where a test fails, and else tells the last N of each test. A run takes about as
-# long as a build.
+# Runs each test of a crate with each of its growths of memory refused in turn, a process each. The arguments are the
+# crate and then, if wanted, tests whose names stand in for all. A test passes if it tries a refused call again.
+# It takes what `rt test` has built.
 set -e
-cd "$(dirname "$0")/../crates/${1:-dn_examples}"
-found=$(mktemp)
-trap 'rm -f "$found" "$found.all"' EXIT
-n=0
-while :; do
-    n=$((n + 1))
-    rt try --test --fail-alloc "$n" > "$found" 2>&1 || { cat "$found"; exit 1; }
-    grep -q '^test result: ok' "$found"
-    grep -q 'a growth was refused' "$found" || break
-    # A test's output stands below its line.
-    awk -v n="$n" '/^test .* \.\.\. /{name = $2} /a growth was refused/{print name, n}' "$found" >> "$found.all"
+here=$(cd "$(dirname "$0")" && pwd)
+crate=$1
+shift
+kit=$(dirname "$(rt doc | tail -1)")
+work=$(mktemp -d)
+trap 'rm -rf "$work"' EXIT
+cc -O2 -no-pie -o "$work/tests" "$here/refused_growths.c" "$here/../crates/$crate/out/${crate}_tests.o" \
+    "$kit/c/libos_c.a" "$kit/c/liblibc_c.a" -Wl,--wrap=rattle_alloc,--wrap=rattle_realloc
+cd "$work"
+ulimit -c 0
+failed=0
+for name in ${*:-$(./tests --list | sed -n 's/: test$//p')}; do
+    growths=$(./tests "$name" 2>&1 | sed -n 's/^growths //p')
+    for growth in $(seq 1 "${growths:-0}"); do
+        if ! REFUSE=$growth ./tests "$name" >told 2>&1 || ! grep -q '^refused$' told; then
+            echo "$name fails where growth $growth is refused: $(tail -1 told)"
+            failed=$((failed + 1))
+        fi
+    done
+    echo "$name: each of ${growths:-0} growths refused in turn"
 done
-awk '{last[$1] = $2} END {for (name in last) print name, last[name]}' "$found.all" | sort
+[ "$failed" = 0 ]

@@ -53,7 +53,8 @@ impl Deliveries {
     pub fn into_vec(self) -> Vec<Delivery>
         ensures { result.items ≡ self }
     {
-        self.items
+        let Deliveries { items } = self;
+        items
     }
 
     /// The items.

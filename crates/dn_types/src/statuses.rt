@@ -53,7 +53,8 @@ impl Statuses {
     pub fn into_vec(self) -> Vec<FlowStatus>
         ensures { result.items ≡ self }
     {
-        self.items
+        let Statuses { items } = self;
+        items
     }
 
     /// The items.

@@ -1,11 +1,28 @@
 use crate::Sched;
 use dn_types::{Len, Weight};
-use std::alloc::AllocError;
+use std::alloc::Global;
+use std::process::Abort;
 use std::test::Fail;
 
-/// A packet of 1,000 bytes arrives.
-fn add(sched: &mut Sched, slot: usize, weight: u8) -> Result<(), AllocError> {
-    sched.reserve_flow(slot)?;
+/// What a scheduler tells of itself: whether it is idle, virtual time, arrivals, picks and pushes.
+fn told(sched: &Sched) -> (bool, u128, u64, u64, u64) {
+    (
+        sched.is_idle(),
+        sched.virtual_time(),
+        sched.arrivals(),
+        sched.picks(),
+        sched.moves(),
+    )
+}
+
+/// A packet of 1,000 bytes arrives. A refused growth changes nothing, and the next try goes on: with
+/// each allocation refused in turn, `rt try --test --fail-alloc N`, the tests pass for every N.
+fn add(rt: &impl Abort, sched: &mut Sched, slot: usize, weight: u8) -> Result<(), Fail> {
+    let before = told(sched);
+    if sched.reserve_flow(slot).is_err() {
+        assert_eq!(rt; told(sched), before);
+        sched.reserve_flow(slot)?;
+    }
     if let (Some(len), Some(weight)) = (Len::new(1000), Weight::new(weight)) {
         if sched.arrivals() < 1 << 62 {
             sched.arrive(slot, len, weight);
@@ -18,6 +35,15 @@ fn begin(sched: &mut Sched) {
     if sched.is_idle() {
         sched.begin_busy();
     }
+}
+
+/// A busy period in which the flow at slot 0, of weight 1, has sent one packet.
+fn one_sent(rt: &impl Abort, alloc: Global) -> Result<Sched, Fail> {
+    let mut sched = Sched::new(alloc);
+    begin(&mut sched);
+    add(rt, &mut sched, 0, 1)?;
+    assert_eq!(rt; sched.pick(), Some(0));
+    Ok(sched)
 }
 
 /// Picks once for each row, and answers the slots and virtual time after each pick.
@@ -34,7 +60,7 @@ fn picked<const N: usize>(sched: &mut Sched) -> [(Option<usize>, u128); N] {
 fn parts_by_themselves(rt: HostRuntime) -> Result<(), Fail> {
     let mut sched = Sched::new(rt.alloc());
     assert!(rt; sched.is_idle());
-    add(&mut sched, 0, 1)?;
+    add(&rt, &mut sched, 0, 1)?;
     assert_eq!(rt;
         picked(&mut sched),
         [(Some(0), 65_536_000), (None, 65_536_000)]
@@ -49,13 +75,10 @@ fn parts_by_themselves(rt: HostRuntime) -> Result<(), Fail> {
 
 #[test]
 fn shares_by_weight(rt: HostRuntime) -> Result<(), Fail> {
-    let mut sched = Sched::new(rt.alloc());
-    begin(&mut sched);
-    add(&mut sched, 0, 1)?;
-    assert_eq!(rt; sched.pick(), Some(0));
+    let mut sched = one_sent(&rt, rt.alloc())?;
     assert_eq!(rt; sched.virtual_time(), 65_536_000);
     for (slot, weight) in [(0, 1), (1, 3), (1, 3), (1, 3)] {
-        add(&mut sched, slot, weight)?;
+        add(&rt, &mut sched, slot, weight)?;
     }
     let wanted = [
         (Some(1), 81_920_000),
@@ -70,12 +93,9 @@ fn shares_by_weight(rt: HostRuntime) -> Result<(), Fail> {
 
 #[test]
 fn ties_by_flow_number(rt: HostRuntime) -> Result<(), Fail> {
-    let mut sched = Sched::new(rt.alloc());
-    begin(&mut sched);
-    add(&mut sched, 0, 1)?;
-    assert_eq!(rt; sched.pick(), Some(0));
-    add(&mut sched, 1, 1)?;
-    add(&mut sched, 0, 1)?;
+    let mut sched = one_sent(&rt, rt.alloc())?;
+    add(&rt, &mut sched, 1, 1)?;
+    add(&rt, &mut sched, 0, 1)?;
     let wanted = [
         (Some(0), 98_304_000),
         (Some(1), 163_840_000),
@@ -87,12 +107,9 @@ fn ties_by_flow_number(rt: HostRuntime) -> Result<(), Fail> {
 
 #[test]
 fn raised_virtual_time(rt: HostRuntime) -> Result<(), Fail> {
-    let mut sched = Sched::new(rt.alloc());
-    begin(&mut sched);
-    add(&mut sched, 0, 1)?;
-    assert_eq!(rt; sched.pick(), Some(0));
+    let mut sched = one_sent(&rt, rt.alloc())?;
     for (slot, weight) in [(0, 1), (1, 3), (1, 3)] {
-        add(&mut sched, slot, weight)?;
+        add(&rt, &mut sched, slot, weight)?;
     }
     let wanted = [
         (Some(1), 81_920_000),
@@ -101,7 +118,7 @@ fn raised_virtual_time(rt: HostRuntime) -> Result<(), Fail> {
     ];
     assert_eq!(rt; picked(&mut sched), wanted);
     // The start tag is 131,072,000, to which virtual time is raised.
-    add(&mut sched, 0, 1)?;
+    add(&rt, &mut sched, 0, 1)?;
     assert_eq!(rt;
         picked(&mut sched),
         [(Some(0), 196_608_000), (None, 196_608_000)]
@@ -113,17 +130,17 @@ fn raised_virtual_time(rt: HostRuntime) -> Result<(), Fail> {
 fn a_new_busy_period(rt: HostRuntime) -> Result<(), Fail> {
     let mut sched = Sched::new(rt.alloc());
     begin(&mut sched);
-    add(&mut sched, 0, 1)?;
-    add(&mut sched, 0, 1)?;
+    add(&rt, &mut sched, 0, 1)?;
+    add(&rt, &mut sched, 0, 1)?;
     assert_eq!(rt;
         picked(&mut sched),
         [(Some(0), 65_536_000), (Some(0), 131_072_000)]
     );
     begin(&mut sched);
-    add(&mut sched, 1, 1)?;
+    add(&rt, &mut sched, 1, 1)?;
     assert_eq!(rt; picked(&mut sched), [(Some(1), 65_536_000)]);
-    add(&mut sched, 1, 1)?;
-    add(&mut sched, 0, 1)?;
+    add(&rt, &mut sched, 1, 1)?;
+    add(&rt, &mut sched, 0, 1)?;
     let wanted = [
         (Some(0), 98_304_000),
         (Some(1), 163_840_000),
@@ -136,17 +153,14 @@ fn a_new_busy_period(rt: HostRuntime) -> Result<(), Fail> {
 // With the finish tag of a discarded packet kept, slot 0 would go twice before slot 1.
 #[test]
 fn a_discarded_backlog(rt: HostRuntime) -> Result<(), Fail> {
-    let mut sched = Sched::new(rt.alloc());
-    begin(&mut sched);
-    add(&mut sched, 0, 1)?;
-    assert_eq!(rt; sched.pick(), Some(0));
+    let mut sched = one_sent(&rt, rt.alloc())?;
     for (slot, weight) in [(0, 1), (1, 1), (1, 1)] {
-        add(&mut sched, slot, weight)?;
+        add(&rt, &mut sched, slot, weight)?;
     }
     sched.discard(1);
     sched.discard(7);
-    add(&mut sched, 1, 1)?;
-    add(&mut sched, 0, 1)?;
+    add(&rt, &mut sched, 1, 1)?;
+    add(&rt, &mut sched, 0, 1)?;
     let wanted = [
         (Some(0), 98_304_000),
         (Some(1), 131_072_000),
@@ -190,7 +204,7 @@ fn a_hundred_flows(rt: HostRuntime) -> Result<(), Fail> {
     begin(&mut sched);
     for _ in 0..100 {
         for slot in 0..100 {
-            add(&mut sched, slot, slot as u8 + 1)?;
+            add(&rt, &mut sched, slot, slot as u8 + 1)?;
         }
     }
     let mut sent = [0u128; 100];
