@@ -10,7 +10,7 @@ cc -O2 -shared -fPIC -o "$work/refuse_nth.so" ../../bench/refuse_nth.c
 for test in a_call_that_memory_refuses_leaves_no_trace a_try_that_memory_refuses_leaves_no_trace; do
     nth=1
     while true; do
-        REFUSE_NTH=$nth LD_PRELOAD="$work/refuse_nth.so" out/dn_service_tests tests::one_caller::$test 2>"$work/told" \
+        REFUSE_NTH=$nth LD_PRELOAD="$work/refuse_nth.so" out/dn_service_tests tests::one_caller::$test >/dev/null 2>"$work/told" \
             || { echo "$test fails with growth $nth refused"; exit 1; }
         grep -q refused "$work/told" || break
         nth=$((nth + 1))

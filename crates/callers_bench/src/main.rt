@@ -7,6 +7,7 @@ use dn_types::{
     Bandwidth, Call, Command, Delay, FiveTuple, Len, Limit, Loss, Mask, Moment, Number, Packet,
     Target,
 };
+use std::alloc::Global;
 use std::sync::Wait;
 use std::thread::Threads;
 use std::time::{Clock, Instant};
@@ -98,27 +99,33 @@ fn rounds(rt: &HostRuntime) -> io::Result<u64> {
     }
 }
 
+/// How many calls were answered, and in what time.
+#[derive(Clone, Copy)]
+struct Tally {
+    answered: u64,
+    nanos: u128,
+}
+
 /// So many calls on a shaper alone.
-fn measure_alone(rt: &HostRuntime, packets: bool, rounds: u64) -> io::Result<()> {
-    let kind = if packets { "packets" } else { "moves" };
+fn measure_alone(rt: &HostRuntime, packets: bool, rounds: u64) -> io::Result<Tally> {
     let mut shaper = Shaper::new(rt.alloc());
     let start = Instant::now(rt)?;
     let answered = answered_alone(&mut shaper, packets, rounds);
     let nanos = start.elapsed(rt)?.as_nanos();
-    println!(rt; "no service: {answered} {kind}")?;
-    eprintln!(rt; "no service: {nanos} ns for {answered} {kind}")
+    Ok(Tally { answered, nanos })
 }
 
 /// So many calls in all on a service, by so many callers.
-fn measure<R: Wait + Threads + Sync + Clock + Print + Alloc>(
+fn measure<R: Wait + Threads + Sync + Clock>(
     rt: &R,
+    alloc: Global,
     callers: usize,
     packets: bool,
     rounds: u64,
-) -> io::Result<()> {
-    let kind = if packets { "packets" } else { "moves" };
-    let Ok((_service, mut opened)) = Service::open(rt.alloc(), callers) else {
-        return Ok(());
+) -> io::Result<Tally> {
+    let mut answered = 0u64;
+    let Ok((_service, mut opened)) = Service::open(alloc, callers) else {
+        return Ok(Tally { answered, nanos: 0 });
     };
     if let (Some(first), Some(call)) = (opened.first_mut(), pipe()) {
         let _ = first.call(rt, call);
@@ -127,20 +134,23 @@ fn measure<R: Wait + Threads + Sync + Clock + Print + Alloc>(
     let start = Instant::now(rt)?;
     let counts = thread::map_vec(rt, opened, &|caller| answered_to(rt, caller, packets, each))?;
     let nanos = start.elapsed(rt)?.as_nanos();
-    let mut answered = 0u64;
     for count in counts {
         answered = answered.wrapping_add(count);
     }
-    println!(rt; "{callers} callers: {answered} {kind}")?;
-    eprintln!(rt; "{callers} callers: {nanos} ns for {answered} {kind}")
+    Ok(Tally { answered, nanos })
 }
 
 fn main(rt: HostRuntime) -> io::Result<()> {
     let rounds = rounds(&rt)?;
     for packets in [false, true] {
-        measure_alone(&rt, packets, rounds)?;
+        let kind = if packets { "packets" } else { "moves" };
+        let Tally { answered, nanos } = measure_alone(&rt, packets, rounds)?;
+        println!(rt; "no service: {answered} {kind}")?;
+        eprintln!(rt; "no service: {nanos} ns for {answered} {kind}")?;
         for callers in [1usize, 2, 4, 8, 16] {
-            measure(&rt, callers, packets, rounds)?;
+            let Tally { answered, nanos } = measure(&rt, rt.alloc(), callers, packets, rounds)?;
+            println!(rt; "{callers} callers: {answered} {kind}")?;
+            eprintln!(rt; "{callers} callers: {nanos} ns for {answered} {kind}")?;
         }
     }
     Ok(())
