@@ -114,18 +114,6 @@ pub fn queue_key(value: u32, on: u32) -> Result<FlowKey, Fail> {
     })
 }
 
-/// The key of a flow of pipe 1 by `mask dst-ip 0x000000ff`.
-pub fn last_byte_key(dst: u32) -> Result<FlowKey, Fail> {
-    Ok(FlowKey {
-        mask: Mask {
-            dst: 0xff,
-            ..NO_MASK
-        },
-        tuple: FiveTuple { dst, ..NO_TUPLE },
-        ..pipe_key(1)?
-    })
-}
-
 /// The state of a flow that has lost or refused no packet.
 pub fn status(
     flow: usize,
