@@ -1,84 +1,236 @@
-"""Takes one clause at a time away from a contract that dn_shaper stands on, and asks whether dn_shaper still proves.
+"""Takes clauses away from the contracts that dn_shaper stands on, and asks whether dn_shaper still proves.
 
     python3 tools/boundaries.py COPY [WORD..]
 
-COPY is a copy of the repository with the `out` folders of a whole check, which this program changes and mends again. With
-words, only the clauses are tried whose crate, function or name holds one of them. For each clause it prints `refused`
-where dn_shaper's check fails without it, `below` where already the crate of the clause fails, and `not used` where all
-still proves: then nothing that is proved of the shaper rests on the clause.
+COPY is a copy of the repository with the `out` folders of a whole check, which this program changes. A clause is taken away
+by `⊤` in its place, so that its name stays and only what it says is gone. Each round takes one clause away from several
+functions at once, whose callers in dn_shaper don't call one another, so that a goal that is no longer proved tells of one
+clause. With words, only the clauses are tried whose crate, function or name holds one of them. For each clause it prints
+`refused` with a goal of dn_shaper that isn't proved without it; `below` where already the crate of the clause fails; and `not
+used` where all still proves: then nothing that is proved of the shaper rests on the clause.
+
+dn_shaper gets a copy of dn_heap of its own, `heap_of_links`, since dn_link and dn_wf2q stand on that crate too.
 """
 
 import pathlib
 import re
+import shutil
 import subprocess
 import sys
 
-CRATES = ["dn_heap", "dn_link", "dn_flows", "dn_wf2q"]
-FILES = {
-    "dn_heap": ["min_heap.rt"],
-    "dn_link": ["delay_line.rt", "link.rt", "timing.rt"],
-    "dn_flows": ["flows.rt"],
-    "dn_wf2q": ["sched.rt"],
+HEAP = "heap_of_links"
+# The functions of dn_shaper that call a function of a crate below, by file.
+CALLERS = {
+    f"{HEAP} min_heap": {
+        "new": ["state::new_state"],
+        "reserve": ["make::make_link"],
+        "push_reserved": ["accept::accept", "settle::settle_one"],
+        "peek": ["settle::settle_one"],
+        "pop": ["settle::settle_one"],
+        "take_out": ["discard::discard_flow"],
+    },
+    "dn_link delay_line": {
+        "new": ["state::new_state"],
+        "reserve": ["make::make_home", "reserve::reserve_known"],
+        "push_reserved": ["start::send"],
+        "pop_due": ["collect::give"],
+        "len": ["shaper::reply_room", "timed::collect"],
+    },
+    "dn_link link": {
+        "new": ["make::new_link"],
+        "free": ["accept::is_idle", "accept::accept", "settle::settle_one", "discard::discard_flow"],
+        "begin": ["start::send"],
+        "deliver": ["start::send"],
+    },
+    "dn_link timing": {"tx_time": ["start::send"]},
+    "dn_flows flows": {
+        "new": ["state::new_state"],
+        "len": ["prepare::prepare", "configure::discard_reached", "show::statuses", "shaper::reply_room"],
+        "find_or_make": ["prepare::prepare"],
+        "forget_last": ["make::house_last"],
+        "key": ["configure::discard_reached"],
+        "status": ["discard::discard_flow", "show::statuses"],
+        "verdict": ["submit::submit"],
+        "reserve_place": ["make::make_home", "reserve::reserve_known"],
+        "push_reserved": ["arrive::arrive"],
+        "pop_front": ["start::start_one"],
+        "note_lost": ["submit::lose"],
+        "note_full": ["submit::refuse"],
+        "discard": ["discard::empty_flow"],
+    },
+    "dn_wf2q sched": {
+        "new": ["parts::new"],
+        "begin_busy": ["arrive::join_link"],
+        "reserve_flow": ["reserve::reserve_at", "parts::take_slot"],
+        "arrive": ["arrive::join_link"],
+        "pick": ["start::next_flow"],
+        "discard": ["discard::leave_link"],
+    },
 }
-CLAUSE = re.compile(r"^\s+ensures (?:(\w+) )?\{.*\}$")
-FUNCTION = re.compile(r"^\s*pub fn (\w+)")
+CLAUSE = re.compile(r"^(\s+ensures (?:(\w+) )?)\{.*\}$")
+FUNCTION = re.compile(r"^\s*(?:pub )?fn (\w+)")
+VERDICT = re.compile(r"^fn dn_shaper::([\w:]+): (proved|not proved|no proof)")
+GOAL = re.compile(r"\(`([\w-]+)`\)$")
+ANSWER = re.compile(r"proofs/(?:\w+/)*?(\w+)/(?:[A-Z]\w*/)?(\w+)/Answers\.antt:\S+ error: `([\w'-]+)`")
+
+
+class Clause:
+    """A clause of a function that dn_shaper calls, by the place of its line."""
+
+    def __init__(self, path, function, name, place, callers):
+        self.path, self.function, self.name, self.place, self.callers = path, function, name, place, callers
+        self.crate = path.parts[-3]
+
+    def __str__(self):
+        return f"{self.crate} {self.path.stem}::{self.function} {self.name}"
 
 
 def clauses(copy):
-    """Every one-line clause of a public function, as (crate, file, function, name, place of the line)."""
-    for crate in CRATES:
-        for name in FILES[crate]:
-            path = copy / "crates" / crate / "src" / name
-            function = ""
-            for place, line in enumerate(path.read_text().split("\n")):
-                if match := FUNCTION.match(line):
-                    function = match[1]
-                if match := CLAUSE.match(line):
-                    yield crate, path, function, match[1] or "ensures", place
+    """Every clause of the functions that dn_shaper calls, with its number in the function."""
+    for where, functions in CALLERS.items():
+        crate, file = where.split()
+        path = copy / "crates" / crate / "src" / f"{file}.rt"
+        function, number = "", 0
+        for place, line in enumerate(path.read_text().split("\n")):
+            if match := FUNCTION.match(line):
+                function, number = match[1], 0
+            match = CLAUSE.match(line)
+            if match and function in functions:
+                yield number, Clause(path, function, match[2] or "ensures", place, functions[function])
+                number += 1
 
 
-def proves(copy, crate):
-    run = subprocess.run(
-        ["rt", "check", "--jobs", "1"], cwd=copy / "crates" / crate, capture_output=True, text=True
-    )
-    refused = re.findall(r"\(`([\w-]+)`\)", run.stdout + run.stderr)
-    return run.returncode == 0, refused
+def calls_of(copy):
+    """For each function of dn_shaper the functions that it reaches, itself among them."""
+    bodies = {}
+    for path in sorted((copy / "crates/dn_shaper/src").glob("*.rt")):
+        name = ""
+        for line in path.read_text().split("\n"):
+            if match := FUNCTION.match(line):
+                name = f"{path.stem}::{match[1]}"
+                bodies[name] = ""
+            elif name:
+                bodies[name] += line
+    called = {
+        f: [g for g in bodies if re.search(rf"\b{g.split('::')[1]}\(", text)] for f, text in bodies.items()
+    }
+    reached = {f: {f} for f in bodies}
+    for _ in bodies:
+        for f in bodies:
+            reached[f].update(*(reached[g] for g in called[f]))
+    return reached
 
 
-def without_answers(text, name):
-    """An answers file without what it answers to the clause."""
+def are_apart(one, other, reached):
+    """Neither clause has a caller that stands on a caller of the other."""
+    return all(f not in reached[g] and g not in reached[f] for f in one.callers for g in other.callers)
+
+
+def rounds(left, reached):
+    while left:
+        chosen = []
+        for clause in left:
+            if all(are_apart(clause, other, reached) for other in chosen):
+                chosen.append(clause)
+        left = [clause for clause in left if clause not in chosen]
+        yield chosen
+
+
+def give_a_heap(copy):
+    """Lets dn_shaper stand on its own copy of dn_heap."""
+    crates = copy / "crates"
+    if (crates / HEAP).exists():
+        return
+    shutil.copytree(crates / "dn_heap", crates / HEAP, ignore=shutil.ignore_patterns("out", "must-fail"))
+    for path in [*(crates / HEAP).rglob("*.*t"), *(crates / "dn_shaper").rglob("*.*t")]:
+        if path.is_file() and "out" not in path.parts:
+            path.write_text(path.read_text().replace("dn_heap", HEAP))
+    listed = copy / "crates.txt"
+    text = listed.read_text().replace("dn_shaper: dn_types dn_heap", f"dn_shaper: dn_types {HEAP}")
+    listed.write_text(f"{text}{HEAP}:\n")
+
+
+def without_answers(text, names):
+    """An answers file without what it answers to the clauses."""
     blocks = text.split("\n\n")
-    return "\n\n".join(b for b in blocks if not re.search(rf"^(pub )?returns\S*-clause-{name} ", b, re.M))
+    goals = "|".join(f"clause-{name}" if name != "ensures" else "returns" for name in names)
+    return "\n\n".join(b for b in blocks if not re.search(rf"^(pub )?\S*({goals}) ", b, re.M))
 
 
-def judge(copy, crate, path, function, name, place):
-    lines = path.read_text().split("\n")
-    del lines[place]
-    changed = {path: "\n".join(lines)}
-    for answers in (copy / "crates" / crate / "proofs").glob(f"**/{function}/Answers.antt"):
-        changed[answers] = without_answers(answers.read_text(), name)
-    kept = {file: file.read_text() for file in changed}
+def weaken(chosen):
+    """Takes the clauses away. Answers with the texts that were there before."""
+    kept = {}
+    for clause in chosen:
+        crate = clause.path.parent.parent
+        kept.setdefault(clause.path, clause.path.read_text())
+        lines = clause.path.read_text().split("\n")
+        lines[clause.place] = CLAUSE.sub(r"\1{ ⊤ }", lines[clause.place])
+        text = "\n".join(lines)
+        if "Prelude.{⊤" not in text:
+            text = text.replace("Prelude.{", "Prelude.{⊤, ", 1)
+        clause.path.write_text(text)
+        for answers in (crate / "proofs" / clause.path.stem).glob(f"**/{clause.function}/Answers.antt"):
+            kept.setdefault(answers, answers.read_text())
+            answers.write_text(without_answers(answers.read_text(), [clause.name]))
+    return kept
+
+
+def check(copy):
+    """What became of each function of dn_shaper, with the goals that aren't proved, and the crate below that fails."""
+    run = subprocess.run(["rt", "check", "--jobs", "2"], cwd=copy / "crates/dn_shaper", capture_output=True, text=True)
+    verdicts, goals, all_goals = {}, [], {}
+    for line in (run.stdout + run.stderr).split("\n"):
+        if match := ANSWER.search(line):
+            all_goals.setdefault(f"{match[1]}::{match[2]}", []).append(match[3])
+        elif match := GOAL.search(line):
+            goals.append(match[1])
+        if match := VERDICT.match(line):
+            name = "::".join(re.sub(r"::[A-Z]\w*", "", match[1]).split("::")[-2:])
+            verdicts[name], all_goals[name], goals = match[2], all_goals.get(name, []) + goals, []
+    failed = re.findall(r"^fn (?!dn_shaper)(\w+)::\S+: not proved", run.stdout + run.stderr, re.M)
+    return verdicts, all_goals, failed, run.stdout + run.stderr
+
+
+def judge(copy, chosen):
+    """Tries the clauses together; those of which nothing was learned come back."""
+    kept = weaken(chosen)
     try:
-        for file, text in changed.items():
-            file.write_text(text)
-        if not proves(copy, crate)[0]:
-            return "below", []
-        good, goals = proves(copy, "dn_shaper")
-        return ("not used" if good else "refused"), goals
+        verdicts, goals, failed, said = check(copy)
     finally:
-        for file, text in kept.items():
-            file.write_text(text)
+        for path, text in kept.items():
+            path.write_text(text)
+    if not verdicts and not failed:
+        (copy / "boundaries.log").write_text(said)
+    again = []
+    for clause in chosen:
+        said = [verdicts.get(caller, "proved") for caller in clause.callers]
+        if failed or not verdicts:
+            if len(chosen) == 1:
+                print(f"{clause}: below {' '.join(failed)}", flush=True)
+            else:
+                again.append(clause)
+        elif "not proved" in said:
+            caller = clause.callers[said.index("not proved")]
+            print(f"{clause}: refused at {caller} {' '.join(goals[caller][:2])}", flush=True)
+        elif "no proof" in said:
+            again.append(clause)
+        else:
+            print(f"{clause}: not used", flush=True)
+    return again
 
 
 def main():
-    copy = pathlib.Path(sys.argv[1])
+    copy = pathlib.Path(sys.argv[1]).resolve()
     words = sys.argv[2:]
-    for crate, path, function, name, place in list(clauses(copy)):
-        where = f"{crate} {path.stem}::{function} {name}"
-        if words and not any(word in where for word in words):
-            continue
-        verdict, goals = judge(copy, crate, path, function, name, place)
-        print(f"{where}: {verdict} {' '.join(goals[:2])}", flush=True)
+    give_a_heap(copy)
+    # The first clause of each function comes first.
+    numbered = sorted(clauses(copy), key=lambda it: it[0])
+    left = [c for _, c in numbered if not words or any(word in str(c) for word in words)]
+    again = []
+    for chosen in rounds(left, calls_of(copy)):
+        again += judge(copy, chosen)
+    for clause in again:
+        judge(copy, [clause])
 
 
 if __name__ == "__main__":
