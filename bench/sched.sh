@@ -8,7 +8,8 @@ kit=$(dirname "$(rt doc | tail -1)")
 ours=crates/sched_bench/out/libsched_bench.a
 work=$(mktemp -d)
 trap 'rm -rf "$work"' EXIT
-cc -O2 -o "$work/refused" bench/sched_refused.c "$ours" "$kit/c/liblibc_c.a" -Wl,--wrap=rattle_alloc,--wrap=rattle_realloc
+cc -O2 -o "$work/refused" bench/sched_refused.c tools/refused_growths.c "$ours" "$kit/c/liblibc_c.a" \
+    -Wl,--wrap=rattle_alloc,--wrap=rattle_realloc
 "$work/refused"
 rustc --edition 2021 -O -o "$work/sched" bench/sched.rs -L native=crates/sched_bench/out -l static=sched_bench \
     -L native="$kit/c" -l static=libc_c

@@ -1,26 +1,12 @@
 /* Refuses each growth of a run of the scheduler in turn, and tries the refused call once more. The order of the picks
-   and virtual time must be those of the run in which none was refused. bench/sched.sh builds and runs it. */
+   and virtual time must be those of the run in which none was refused. bench/sched.sh builds and runs it with
+   tools/refused_growths.c, which refuses. */
 #include <stdbool.h>
 #include <stddef.h>
 #include <stdint.h>
 #include <stdio.h>
 
-typedef struct {
-    uint64_t ok;
-    void *block;
-} grown; /* what the library's allocator answers */
-
-static long refuse_at = 0, growths = 0;
-
-grown __real_rattle_alloc(size_t size, size_t align);
-grown __wrap_rattle_alloc(size_t size, size_t align) {
-    return ++growths == refuse_at ? (grown){0, (void *)16} : __real_rattle_alloc(size, align);
-}
-
-grown __real_rattle_realloc(void *old, size_t a, size_t b, size_t c);
-grown __wrap_rattle_realloc(void *old, size_t a, size_t b, size_t c) {
-    return ++growths == refuse_at ? (grown){0, old} : __real_rattle_realloc(old, a, b, c);
-}
+extern long growths, first_refused;
 
 bool sched_bench(size_t flows, uint64_t depth, uint64_t steps, uint64_t *order, uint64_t *virtual_time, uint64_t *refused);
 
@@ -29,11 +15,11 @@ int main(void) {
     bool ran = sched_bench(40, 5, 400, &want_order, &want_time, &refused);
     long all = growths;
     if (!ran || refused != 0) return 1;
-    for (refuse_at = 1; refuse_at <= all; refuse_at++) {
+    for (first_refused = 1; first_refused <= all; first_refused++) {
         growths = 0;
         ran = sched_bench(40, 5, 400, &order, &time, &refused);
         if (!ran || refused != 1 || order != want_order || time != want_time) {
-            printf("growth %ld refused: ran %d, refused %d, order and virtual time %s\n", refuse_at, ran, (int)refused,
+            printf("growth %ld refused: ran %d, refused %d, order and virtual time %s\n", first_refused, ran, (int)refused,
                    order == want_order && time == want_time ? "equal" : "differ");
             return 1;
         }

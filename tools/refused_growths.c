@@ -1,5 +1,6 @@
-/* The allocator of a test program that refuses one growth: that whose number REFUSE names, counted from 1. Without
-   REFUSE it refuses none and tells in the end how many there were. tools/refused_growths.sh builds and runs it. */
+/* Linked into a program, it refuses growths of memory: the one whose number REFUSE names, counted from 1, and those after
+   it, as many in a row as REFUSE_IN_A_ROW says (1). Where REFUSE is 0 it refuses none and tells in the end how many growths
+   there were. A program can also set `first_refused` itself. tools/refused_growths.sh and bench/sched.sh link it. */
 #include <stddef.h>
 #include <stdint.h>
 #include <stdio.h>
@@ -10,18 +11,25 @@ typedef struct {
     void *block;
 } grown; /* what the library's allocator answers */
 
-static long growths = 0, refused = -1;
+long growths = 0, first_refused = 0;
+static long in_a_row = 1;
+static int says_so = 0;
 
 static void tell(void) { fprintf(stderr, "growths %ld\n", growths); }
 
+__attribute__((constructor)) static void begin(void) {
+    const char *first = getenv("REFUSE"), *row = getenv("REFUSE_IN_A_ROW");
+    if (!first) return;
+    says_so = 1;
+    first_refused = atol(first);
+    if (row) in_a_row = atol(row);
+    if (first_refused == 0) atexit(tell);
+}
+
 static int refuses(void) {
-    if (refused < 0) {
-        const char *word = getenv("REFUSE");
-        refused = word ? atol(word) : 0;
-        if (!word) atexit(tell);
-    }
-    if (++growths != refused) return 0;
-    fprintf(stderr, "refused\n");
+    long number = __atomic_add_fetch(&growths, 1, __ATOMIC_RELAXED);
+    if (first_refused == 0 || number < first_refused || number >= first_refused + in_a_row) return 0;
+    if (says_so) fprintf(stderr, "refused\n");
     return 1;
 }
 

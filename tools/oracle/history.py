@@ -1,13 +1,13 @@
-"""The text of a history: configuration lines in canonical form, a record for each call, and records for its reply."""
+"""The text of a history: a record for each call, with its configuration line as it is printed, and records for its reply."""
 
 from __future__ import annotations
 
 from typing import Iterable
 
+from config_lines import command_text
 from model import (
-    ALL_BITS, FREE, NO_BITS, Advance, Advanced, Call, Collect, Command, Configure, Configured, Deleted, DeletePipe,
-    DeleteQueue, Delivered, Exhausted, FiveTuple, FlowStatus, Full, Lost, NoSuchPipe, NoSuchQueue, NoTarget, Pipe,
-    PipeHasQueues, Queued, Reply, Status, Submit,
+    FREE, Advance, Advanced, Call, Collect, Configure, Configured, Deleted, Delivered, Exhausted, FiveTuple, FlowStatus,
+    Full, Lost, NoSuchPipe, NoSuchQueue, NoTarget, PipeHasQueues, Queued, Reply, Status, Submit,
 )
 
 BARE_REPLIES = {
@@ -19,46 +19,6 @@ BARE_REPLIES = {
     Exhausted: "exhausted",
 }
 NUMBERED_REPLIES = {Queued: "queued", Lost: "lost", Full: "full", NoTarget: "no-target", Advanced: "advanced"}
-MASK_FIELDS = (("dst-ip", "dst", 8), ("src-ip", "src", 8), ("dst-port", "dport", 4), ("src-port", "sport", 4),
-               ("proto", "proto", 2))
-LOSS_OF_ALL = 2**31
-
-
-def mask_words(mask: FiveTuple) -> list[str]:
-    if mask == NO_BITS:
-        return []
-    if mask == ALL_BITS:
-        return ["mask all"]
-    values = ((word, getattr(mask, name), width) for word, name, width in MASK_FIELDS)
-    return ["mask"] + [f"{word} 0x{value:0{width}x}" for word, value, width in values if value]
-
-
-def loss_words(loss: int) -> list[str]:
-    if loss == 0:
-        return []
-    if loss == LOSS_OF_ALL:
-        return ["plr 1"]
-    return [f"plr 0.{-(-loss * 10**18 // LOSS_OF_ALL):018d}"]  # rounded up
-
-
-def command_text(c: Command) -> str:
-    """The canonical configuration line."""
-    if isinstance(c, (DeletePipe, DeleteQueue)):
-        return f"{'pipe' if isinstance(c, DeletePipe) else 'queue'} delete {c.number}"
-    if isinstance(c, Pipe):
-        words = [f"pipe {c.number} config"]
-        words += [f"bw {c.bw}bit/s"] if c.bw else []
-        words += [f"delay {c.delay}"] if c.delay else []
-    else:
-        words = [f"queue {c.number} config pipe {c.pipe}"]
-        words += [f"weight {c.weight}"] if c.weight != 1 else []
-    if c.limit.kbytes is not None:
-        words.append(f"queue {c.limit.kbytes}Kbytes")
-    elif c.limit.slots != 50:
-        words.append(f"queue {c.limit.slots}")
-    words += loss_words(c.loss)
-    words += [f"buckets {c.buckets}"] if c.buckets is not None else []
-    return " ".join(words + mask_words(c.mask))
 
 
 def address_text(value: int) -> str:

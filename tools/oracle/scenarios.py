@@ -1,4 +1,4 @@
-"""Random but meaningful lists of calls.
+"""Random but meaningful lists of calls and rows of packet files.
 
 All is a function of the random.Random that is handed in.
 """
@@ -11,7 +11,7 @@ from typing import Optional
 
 from model import (
     ALL_BITS, DEFAULT_LIMIT, NO_BITS, Advance, Call, Collect, Command, Configure, DeletePipe, DeleteQueue, FiveTuple,
-    Limit, Packet, Pipe, Queue, Show, Submit, Target,
+    Limit, Packet, Pipe, Queue, Row, Show, Submit, Target,
 )
 
 TX = 1_000_000  # 1,000 bytes at 8 Mbit/s
@@ -203,3 +203,13 @@ def random_calls(rng: Random, style: Style, count: int, callers: int, deletes: b
     if rng.random() < 0.3:
         calls.append(Show())
     return [(rng.randrange(callers), c) for c in calls]
+
+
+def random_rows(rng: Random, style: Style, count: int) -> list[Row]:
+    moments = Moments(rng, style)
+    rows = []
+    while len(rows) < count:
+        target = random_target(rng, style)
+        for _ in range(rng.choice((1, 1, 1, 2, 3, 5))):  # a burst to one target
+            rows.append(Row(moments.next(), target, random_packet(rng, style)))
+    return rows[:count]

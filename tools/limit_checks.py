@@ -1,0 +1,90 @@
+"""The limits of input, at the last byte and one beyond it, and inputs that never end.
+
+    python3 tools/limit_checks.py PROGRAM
+
+Files of up to 64 MiB are made in the folder for temporary files, and removed. PROGRAM may have several words. A line is
+printed for each difference, and the last line is 'N passed, M failed'.
+"""
+
+from __future__ import annotations
+
+import os
+import shlex
+import subprocess
+import sys
+from pathlib import Path
+from tempfile import TemporaryDirectory
+from typing import Iterator, NamedTuple
+
+sys.path.insert(0, str(Path(__file__).parent / "oracle"))
+
+from files import LIMITS, PACKET_HEADER, REPORT_HEADER  # noqa: E402
+
+HEADER = PACKET_HEADER.encode() + b"\n"
+CONFIG = ["replay", "file", "empty"]
+PACKETS = ["replay", "empty", "file"]
+Outcome = tuple[bytes, bytes, int]
+EMPTY_REPORT: Outcome = (f"{REPORT_HEADER}\n".encode(), b"", 0)
+BAD_RECORD: Outcome = (b"", b"packet row 1, field 0: bad\n", 4)
+
+
+class Filled(NamedTuple):
+    """An input as long as its limit: a beginning, and one byte again and again."""
+
+    name: str
+    source: str
+    words: list[str]
+    head: bytes
+    fill: bytes
+    outcome: Outcome
+
+
+FILLED = (
+    Filled("configuration of empty lines", "config", CONFIG, b"", b"\n", EMPTY_REPORT),
+    Filled("packet file of empty lines", "packets", PACKETS, HEADER, b"\n", EMPTY_REPORT),
+    Filled("joined input of empty lines", "input", [], b"--\n" + HEADER, b"\n", EMPTY_REPORT),
+    Filled("joined input of one comment", "input", [], b"#", b"x", EMPTY_REPORT),
+    Filled("packet file of one quoted field", "packets", PACKETS, HEADER + b'"', b"x", BAD_RECORD),
+    Filled("packet file of one record of commas", "packets", PACKETS, HEADER, b",", BAD_RECORD),
+)
+ENDLESS = (("input", []), ("config", ["replay", "/dev/zero", "empty"]), ("packets", ["replay", "empty", "/dev/zero"]))
+
+
+def too_long(source: str) -> Outcome:
+    return b"", f"{source} too long\n".encode(), 6
+
+
+def outcome(program: list[str], words: list[str], stdin: str, folder: str) -> Outcome:
+    with open(stdin, "rb") as file:
+        done = subprocess.run(program + words, stdin=file, capture_output=True, cwd=folder)
+    return done.stdout, done.stderr, done.returncode
+
+
+def checks(program: list[str], folder: str) -> Iterator[tuple[str, Outcome, Outcome]]:
+    """For each input its name, the outcome that it has to have, and the one that it has."""
+    path = os.path.join(folder, "file")
+    Path(folder, "empty").touch()
+    for f in FILLED:
+        for extra in (0, 1):
+            Path(path).write_bytes(f.head + f.fill * (LIMITS[f.source] + extra - len(f.head)))
+            stdin = os.devnull if f.words else path
+            yield f"{f.name}, {extra} over", too_long(f.source) if extra else f.outcome, outcome(program, f.words, stdin, folder)
+    for source, words in ENDLESS:
+        stdin = os.devnull if words else "/dev/zero"
+        yield f"endless {source}", too_long(source), outcome(program, words, stdin, folder)
+
+
+def main(program_text: str) -> int:
+    program = [os.path.abspath(w) if os.path.isfile(w) else w for w in shlex.split(program_text)]
+    passed = failed = 0
+    with TemporaryDirectory() as folder:
+        for name, want, got in checks(program, folder):
+            passed, failed = passed + (want == got), failed + (want != got)
+            if want != got:
+                print(f"{name}: want {want}, got {tuple(x[:200] if isinstance(x, bytes) else x for x in got)}")
+    print(f"{passed} passed, {failed} failed")
+    return 1 if failed else 0
+
+
+if __name__ == "__main__":
+    sys.exit(main(*sys.argv[1:]))
