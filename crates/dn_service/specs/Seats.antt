@@ -12,7 +12,7 @@ pub record Account : Type 0 where
   pub own : List Entry
 
 -- A seat: the number of all callers, the accounts of those that it stands for, and the history that came with the book
--- where the seat has taken it. A seat without accounts is spent.
+-- where the seat has taken it. A spent seat has no accounts.
 pub record SeatView : Type 0 where
   pub count : ℕ
   pub accounts : List Account

@@ -5,7 +5,10 @@ use crate::service::Service;
 /// What was handed to `close`, with the reason why it was not closed. The service goes on as before.
 #[derive(Drop)]
 pub struct Unclosed {
+    /// Why the service was not closed.
     pub fault: CloseFault,
+    /// The service, with all that it has answered.
     pub service: Service,
+    /// The callers that were handed in, in the same order.
     pub callers: Vec<Caller>,
 }
