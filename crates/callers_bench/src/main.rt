@@ -61,12 +61,12 @@ fn measured(packets: bool, moment: u64) -> Option<Call> {
 }
 
 /// How many of so many calls the shaper answers, with no service round it.
-fn answered_alone(shaper: &mut Shaper, packets: bool, rounds: u64) -> u64 {
+fn answered_alone(shaper: &mut Shaper, packets: bool, calls: u64) -> u64 {
     let mut answered = 0u64;
     if let Some(call) = pipe() {
         let _ = shaper.apply(&call);
     }
-    for moment in 0..rounds {
+    for moment in 0..calls {
         if let Some(call) = measured(packets, moment) {
             if shaper.apply(&call).is_ok() {
                 answered = answered.wrapping_add(1);
@@ -77,9 +77,9 @@ fn answered_alone(shaper: &mut Shaper, packets: bool, rounds: u64) -> u64 {
 }
 
 /// How many of so many calls the caller gets an answer to.
-fn answered_to<R: Wait>(rt: &R, mut caller: Caller, packets: bool, rounds: u64) -> u64 {
+fn answered_to<R: Wait>(rt: &R, mut caller: Caller, packets: bool, calls: u64) -> u64 {
     let mut answered = 0u64;
-    for moment in 0..rounds {
+    for moment in 0..calls {
         if let Some(call) = measured(packets, moment) {
             if caller.call(rt, call).is_ok() {
                 answered = answered.wrapping_add(1);
@@ -90,7 +90,7 @@ fn answered_to<R: Wait>(rt: &R, mut caller: Caller, packets: bool, rounds: u64) 
 }
 
 /// The count of calls that the program is asked for.
-fn rounds(rt: &HostRuntime) -> io::Result<u64> {
+fn asked_for(rt: &HostRuntime) -> io::Result<u64> {
     let mut args = std::env::args(rt)?;
     let _program = args.next();
     match args.next() {
@@ -107,10 +107,10 @@ struct Tally {
 }
 
 /// So many calls on a shaper alone.
-fn measure_alone(rt: &HostRuntime, packets: bool, rounds: u64) -> io::Result<Tally> {
+fn measure_alone(rt: &HostRuntime, packets: bool, calls: u64) -> io::Result<Tally> {
     let mut shaper = Shaper::new(rt.alloc());
     let start = Instant::now(rt)?;
-    let answered = answered_alone(&mut shaper, packets, rounds);
+    let answered = answered_alone(&mut shaper, packets, calls);
     let nanos = start.elapsed(rt)?.as_nanos();
     Ok(Tally { answered, nanos })
 }
@@ -121,7 +121,7 @@ fn measure<R: Wait + Threads + Sync + Clock>(
     alloc: Global,
     callers: usize,
     packets: bool,
-    rounds: u64,
+    calls: u64,
 ) -> io::Result<Tally> {
     let mut answered = 0u64;
     let Ok((_service, mut opened)) = Service::open(alloc, callers) else {
@@ -130,7 +130,7 @@ fn measure<R: Wait + Threads + Sync + Clock>(
     if let (Some(first), Some(call)) = (opened.first_mut(), pipe()) {
         let _ = first.call(rt, call);
     }
-    let each = rounds.checked_div(callers as u64).unwrap_or(0);
+    let each = calls.checked_div(callers as u64).unwrap_or(0);
     let start = Instant::now(rt)?;
     let counts = thread::map_vec(rt, opened, &|caller| answered_to(rt, caller, packets, each))?;
     let nanos = start.elapsed(rt)?.as_nanos();
@@ -141,14 +141,14 @@ fn measure<R: Wait + Threads + Sync + Clock>(
 }
 
 fn main(rt: HostRuntime) -> io::Result<()> {
-    let rounds = rounds(&rt)?;
+    let calls = asked_for(&rt)?;
     for packets in [false, true] {
         let kind = if packets { "packets" } else { "moves" };
-        let Tally { answered, nanos } = measure_alone(&rt, packets, rounds)?;
+        let Tally { answered, nanos } = measure_alone(&rt, packets, calls)?;
         println!(rt; "no service: {answered} {kind}")?;
         eprintln!(rt; "no service: {nanos} ns for {answered} {kind}")?;
         for callers in [1usize, 2, 4, 8, 16] {
-            let Tally { answered, nanos } = measure(&rt, rt.alloc(), callers, packets, rounds)?;
+            let Tally { answered, nanos } = measure(&rt, rt.alloc(), callers, packets, calls)?;
             println!(rt; "{callers} callers: {answered} {kind}")?;
             eprintln!(rt; "{callers} callers: {nanos} ns for {answered} {kind}")?;
         }

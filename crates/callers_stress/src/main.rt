@@ -183,7 +183,7 @@ fn run_by_try<R: Threads + Sync>(
 }
 
 /// The count of runs that the program is asked for.
-fn rounds(rt: &HostRuntime) -> io::Result<u64> {
+fn asked_for(rt: &HostRuntime) -> io::Result<u64> {
     let mut args = std::env::args(rt)?;
     let _program = args.next();
     match args.next() {
@@ -193,12 +193,12 @@ fn rounds(rt: &HostRuntime) -> io::Result<u64> {
 }
 
 fn main(rt: HostRuntime) -> io::Result<()> {
-    let rounds = rounds(&rt)?;
+    let runs = asked_for(&rt)?;
     for callers in [2usize, 16] {
         let busy = AtomicU64::new(0);
         let mut called = 0u64;
         let mut tried = 0u64;
-        for _ in 0..rounds {
+        for _ in 0..runs {
             if run_by_call(&rt, rt.alloc(), callers)? {
                 called = called.wrapping_add(1);
             }
@@ -207,7 +207,7 @@ fn main(rt: HostRuntime) -> io::Result<()> {
             }
         }
         println!(rt;
-            "{callers} callers: {called} of {rounds} runs right by call, {tried} by try_call"
+            "{callers} callers: {called} of {runs} runs right by call, {tried} by try_call"
         )?;
         let busy = busy.load(Ordering::SeqCst);
         eprintln!(rt; "{callers} callers: busy {busy} times")?;

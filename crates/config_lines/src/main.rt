@@ -1,5 +1,5 @@
-//! Compares `parse_line` and `print_command` with a table that an independent program made: two
-//! lines of input for each row, the answer and then the configuration line itself.
+//! Compares `parse_line` and `print_command` with the answers of an independent program. The input
+//! has an answer and then its configuration line, one such pair after the other.
 #![tactic(auto)]
 
 use dn_config::{LineFault, parse_line, print_command};
@@ -7,7 +7,7 @@ use std::alloc::{AllocError, Global};
 use std::io;
 use std::io::{BufRead, BufReader};
 
-/// The name by which the table calls a fault.
+/// The name by which an answer calls a fault.
 fn fault_name(fault: LineFault) -> &'static str {
     match fault {
         LineFault::UnknownWord(_) => "UnknownWord",
@@ -20,7 +20,7 @@ fn fault_name(fault: LineFault) -> &'static str {
     }
 }
 
-/// The answer of a line as the table writes it.
+/// The answer to a configuration line, as the input writes it.
 fn answer(alloc: Global, line: &str) -> Result<String, AllocError> {
     match parse_line(line) {
         Ok(None) => String::from_str(alloc, "none"),

@@ -19,7 +19,7 @@ struct Answered {
 pub struct Cases {
     alloc: Global,
     shaper: Shaper,
-    scenarios: u64,
+    histories: u64,
     calls: u64,
     differ: u64,
     // The last call, and the first one whose reply differs.
@@ -33,7 +33,7 @@ impl Cases {
         Cases {
             alloc,
             shaper: Shaper::new(alloc),
-            scenarios: 0,
+            histories: 0,
             calls: 0,
             differ: 0,
             last: None,
@@ -43,7 +43,7 @@ impl Cases {
 
     // A history begins.
     fn begin(&mut self, rule: Rule) {
-        self.scenarios = self.scenarios.wrapping_add(1);
+        self.histories = self.histories.wrapping_add(1);
         self.shaper = Shaper::with_rule(self.alloc, rule);
     }
 
@@ -98,8 +98,8 @@ impl Cases {
     /// Writes how many histories and calls there were and how many replies differ, and the first one
     /// that does.
     pub fn report(&self, rt: &impl Print) -> io::Result<()> {
-        let (scenarios, calls, differ) = (self.scenarios, self.calls, self.differ);
-        println!(rt; "{scenarios} scenarios, {calls} calls, {differ} differ")?;
+        let (histories, calls, differ) = (self.histories, self.calls, self.differ);
+        println!(rt; "{histories} scenarios, {calls} calls, {differ} differ")?;
         if let Some(first) = &self.first {
             let Answered {
                 call,
