@@ -1,4 +1,6 @@
 mod Cases
+pub mod Bounded
+pub mod BoundedReplies
 pub mod Bridge
 pub mod Dues
 pub mod ExampleWords
@@ -15,6 +17,7 @@ pub mod Ordered
 pub mod PickLaws
 pub mod Picks
 pub mod Proper
+pub mod Ranges
 pub mod Settled
 pub mod Settling
 mod ShortListsFlows

@@ -2,6 +2,8 @@
 use Rattle.std.specs.Prelude.{◌≡◌, ◌≤◌, ◌<◌, ◌+◌, ◌*◌, ◌^◌, ℕ, List, [], ◌∷◌, ◌++◌, length, map, reverse, take, Some, None, refl, drop}
 use Rattle.std.specs.List.{All, count_by}
 use Rattle.std.proofs.Common.{arith}
+use Rattle.std.proofs.lemmas.List.Elements.{All-nil, All-cons}
+use Rattle.dn_types.specs.Bounds.{IsInRange, HasBoundedMoments, HasBoundedBytes}
 use Rattle.dn_types.specs.Calls.{trace_of}
 use Rattle.dn_types.specs.Clock.{counted}
 use Rattle.dn_types.specs.Configuration.{settings}
@@ -17,14 +19,16 @@ use Rattle.dn_types.specs.Starts.{next_start, settled}
 use Rattle.dn_types.specs.Trace.{Event, own, shared, backlog, Start}
 use Rattle.dn_types.specs.Wf2q.{Stamped, pick}
 use Rattle.dn_types.specs.declared.call.Call.{Call}
-use Rattle.dn_types.specs.declared.call.Call.TheVariants.{Advance, Collect}
+use Rattle.dn_types.specs.declared.call.Call.TheVariants.{Advance, Collect, Show}
 use Rattle.dn_types.specs.declared.entry.Entry.{Entry}
 use Rattle.dn_types.specs.declared.reply.Reply.{Reply}
-use Rattle.dn_types.specs.declared.reply.Reply.TheVariants.{Configured, Delivered, Queued}
+use Rattle.dn_types.specs.declared.reply.Reply.TheVariants.{Configured, Delivered, Queued, Status}
 use Rattle.dn_types.specs.declared.rule.Rule.TheVariants.{Ordered}
+use Rattle.dn_types.specs.declared.target.Target.TheVariants.{Pipe as ToPipe}
+use Rattle.dn_types.proofs.BoundedReplies.{bounded-moments, due-moments-bounded, bounded-bytes}
 use Rattle.dn_types.proofs.Bridge.{replies-by-standing}
 use Rattle.dn_types.proofs.Dues.{due-moments-never-fall, gives-once, gives-what-is-due, leaves-what-is-not-due}
-use Rattle.dn_types.proofs.ExampleWords.{delivery, pipe, queue, to_pipe, to_queue}
+use Rattle.dn_types.proofs.ExampleWords.{delivery, key, no_mask, pipe, queue, status, to_pipe, to_queue, tuple}
 use Rattle.dn_types.proofs.Giving.{gives-started}
 use Rattle.dn_types.proofs.Histories.{counts-up-to-the-limit, lawful-replies, own-entries-grow}
 use Rattle.dn_types.proofs.Once.{starts-once}
@@ -155,3 +159,34 @@ stands_the_same = refl
 
 replies_the_same : reply Ordered (advanced 1000000) (to_pipe 1 0) ≡ reply Ordered (advanced 2000000) (to_pipe 1 0)
 replies_the_same = (replies-by-standing Ordered (advanced 1000000) (advanced 2000000) refl (to_pipe 1 0)).0
+
+-- ---- Bounds
+
+-- A packet to a pipe of 1 Kbit/s with a delay of an hour, sent twice at the last moment of the clock.
+abbrev latest : List Call
+latest = to_pipe 1 (2 ^ 62) ∷ to_pipe 1 (2 ^ 62) ∷ pipe 1 1000 3600000 ∷ []
+
+latest_in_range : All IsInRange latest
+latest_in_range =
+    let one = pipe 1 1000 3600000 ∷ [] in
+    let two = to_pipe 1 (2 ^ 62) ∷ one in
+    let first = All-cons IsInRange (pipe 1 1000 3600000) [] (omega arith, omega arith) (All-nil IsInRange) in
+    let second = All-cons IsInRange (to_pipe 1 (2 ^ 62)) one (omega arith, omega arith) first in
+    All-cons IsInRange (to_pipe 1 (2 ^ 62)) two (omega arith, omega arith) second
+
+-- The first of them starts then, and is due after it.
+due_later : undelivered Ordered (trace_of latest) ≡ delivery 0 0 4611686018427387904 4611689626427387904 ∷ []
+due_later = refl
+
+due_in_time : All (λ d. (d.start ≤ 2 ^ 62) × (d.due < 2 ^ 63)) (undelivered Ordered (trace_of latest))
+due_in_time = due-moments-bounded Ordered latest latest_in_range
+
+answered_in_time : HasBoundedMoments (reply Ordered latest (Collect (2 ^ 62)))
+answered_in_time = bounded-moments Ordered latest (Collect (2 ^ 62)) latest_in_range (omega arith)
+
+-- The second waits.
+a_thousand_bytes : reply Ordered latest Show ≡ Status (status 0 (key (ToPipe 1) 1 no_mask (tuple 0 0 0 0 0)) 1 1000 0 0 1 0 ∷ [])
+a_thousand_bytes = refl
+
+few_bytes : HasBoundedBytes (reply Ordered latest Show)
+few_bytes = bounded-bytes Ordered latest Show latest_in_range

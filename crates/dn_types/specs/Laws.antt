@@ -1,6 +1,7 @@
 -- The laws that the definitions keep, as statements in the words of the subject.
 use Rattle.std.specs.Prelude.{◌≡◌, ◌≤◌, ◌<◌, ◌+◌, ◌*◌, ◌^◌, ℕ, cond, List, [], ◌∷◌, ◌++◌, length, map, reverse, nat_eq, nat_le, true, false, is_some, Some, None}
 use Rattle.std.specs.List.{All, Contains, count_by}
+use Rattle.dn_types.specs.Bounds.{IsInRange, HasBoundedMoments, HasBoundedBytes}
 use Rattle.dn_types.specs.Calls.{trace_of}
 use Rattle.dn_types.specs.Clock.{call_limit, counted, effective_moment}
 use Rattle.dn_types.specs.Configuration.{Settings}
@@ -92,3 +93,15 @@ CountsUpToTheLimit = (c : Call) (calls : List Call) → counted (c ∷ calls) �
 -- reply after both, and leaves it the same again.
 abbrev pub RepliesByStanding : Type 0
 RepliesByStanding = (rule : Rule) (calls others : List Call) → standing rule calls ≡ standing rule others → (c : Call) → (reply rule calls c ≡ reply rule others c) × (standing rule (c ∷ calls) ≡ standing rule (c ∷ others))
+
+-- After calls in range, the moments of a reply to one more are at most 2^62 ns.
+abbrev pub MomentsAreBounded : Type 0
+MomentsAreBounded = (rule : Rule) (calls : List Call) (c : Call) → All IsInRange calls → IsInRange c → HasBoundedMoments (reply rule calls c)
+
+-- What is still to be given after calls in range has started by 2^62 ns and is due before 2^63 ns.
+abbrev pub DueMomentsAreBounded : Type 0
+DueMomentsAreBounded = (rule : Rule) (calls : List Call) → All IsInRange calls → All (λ d. (d.start ≤ 2 ^ 62) × (d.due < 2 ^ 63)) (undelivered rule (trace_of calls))
+
+-- After calls in range, no queue holds 2^32 bytes.
+abbrev pub BytesAreBounded : Type 0
+BytesAreBounded = (rule : Rule) (calls : List Call) (c : Call) → All IsInRange calls → HasBoundedBytes (reply rule calls c)

@@ -1,15 +1,19 @@
 //! Laws of the definitions. A function here does nothing: its contract is the law, which the
 //! check proves.
 
+ghost use Rattle.dn_types.specs.Bounds.{IsInRange};
 ghost use Rattle.dn_types.specs.Laws.{
+  BytesAreBounded,
   CountsUpToTheLimit,
   DueIsLast,
+  DueMomentsAreBounded,
   DueMomentsNeverFall,
   GivesOnce,
   GivesStarted,
   GivesWhatIsDue,
   LawfulReplies,
   LeavesWhatIsNotDue,
+  MomentsAreBounded,
   OwnEntriesGrow,
   PickIsFirst,
   PickIsThere,
@@ -20,6 +24,8 @@ ghost use Rattle.dn_types.specs.Laws.{
   StartsOnce,
   TransmissionIsLeast,
 };
+
+use crate::call::Call;
 
 /// A settling starts every packet that can start: after it no start is due on any link. A link
 /// sends one packet at a time. The packets of a flow start in the order of their arrival, and none
@@ -63,4 +69,17 @@ pub fn laws_of_histories()
     ensures counts { CountsUpToTheLimit }
     ensures own { OwnEntriesGrow }
     ensures standing { RepliesByStanding }
+{}
+
+/// After calls in range, the moments of a reply are at most 2^62 ns, the due moments of what is still
+/// to be given are below 2^63 ns, and no queue holds 2^32 bytes.
+pub fn laws_of_bounds()
+    ensures moments { MomentsAreBounded }
+    ensures dues { DueMomentsAreBounded }
+    ensures bytes { BytesAreBounded }
+{}
+
+/// Each call is in range, as the laws of bounds ask, since its types hold no other values.
+pub fn is_in_range(call: Call)
+    ensures { IsInRange call }
 {}
