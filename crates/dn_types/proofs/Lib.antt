@@ -1,5 +1,7 @@
+pub mod CallCounts
 mod Cases
 pub mod Bounded
+pub mod BoundedCounts
 pub mod BoundedReplies
 pub mod Bridge
 pub mod Dues
@@ -14,6 +16,7 @@ pub mod Histories
 pub mod Least
 pub mod Once
 pub mod Ordered
+pub mod PacketCounts
 pub mod PickLaws
 pub mod Picks
 pub mod Proper

@@ -3,7 +3,7 @@ use Rattle.std.specs.Prelude.{◌≡◌, ◌≤◌, ◌<◌, ◌+◌, ◌*◌, �
 use Rattle.std.specs.List.{All, count_by}
 use Rattle.std.proofs.Common.{arith}
 use Rattle.std.proofs.lemmas.List.Elements.{All-nil, All-cons}
-use Rattle.dn_types.specs.Bounds.{IsInRange, HasBoundedMoments, HasBoundedBytes}
+use Rattle.dn_types.specs.Bounds.{IsInRange, HasBoundedMoments, HasBoundedBytes, HasBoundedCounts}
 use Rattle.dn_types.specs.Calls.{trace_of}
 use Rattle.dn_types.specs.Clock.{counted}
 use Rattle.dn_types.specs.Configuration.{settings}
@@ -25,6 +25,7 @@ use Rattle.dn_types.specs.declared.reply.Reply.{Reply}
 use Rattle.dn_types.specs.declared.reply.Reply.TheVariants.{Configured, Delivered, Queued, Status}
 use Rattle.dn_types.specs.declared.rule.Rule.TheVariants.{Ordered}
 use Rattle.dn_types.specs.declared.target.Target.TheVariants.{Pipe as ToPipe}
+use Rattle.dn_types.proofs.BoundedCounts.{bounded-counts}
 use Rattle.dn_types.proofs.BoundedReplies.{bounded-moments, due-moments-bounded, bounded-bytes}
 use Rattle.dn_types.proofs.Bridge.{replies-by-standing}
 use Rattle.dn_types.proofs.Dues.{due-moments-never-fall, gives-once, gives-what-is-due, leaves-what-is-not-due}
@@ -190,3 +191,6 @@ a_thousand_bytes = refl
 
 few_bytes : HasBoundedBytes (reply Ordered latest Show)
 few_bytes = bounded-bytes Ordered latest Show latest_in_range
+
+few_counts : HasBoundedCounts (reply Ordered latest Show)
+few_counts = bounded-counts Ordered latest Show

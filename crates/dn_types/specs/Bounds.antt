@@ -45,3 +45,10 @@ HasBoundedMoments _ = ⊤
 abbrev pub HasBoundedBytes : Reply → Type 0
 HasBoundedBytes (Status list) = All (λ s. s.bytes < 2 ^ 32) list
 HasBoundedBytes _ = ⊤
+
+-- The counts of a reply and the numbers of its packets are below 2^62.
+abbrev pub HasBoundedCounts : Reply → Type 0
+HasBoundedCounts (Queued at flow packet) = packet < 2 ^ 62
+HasBoundedCounts (Delivered at list) = All (λ d. d.packet < 2 ^ 62) list
+HasBoundedCounts (Status list) = All (λ s. (s.queued < 2 ^ 62) × (s.lost < 2 ^ 62) × (s.full < 2 ^ 62) × (s.started < 2 ^ 62) × (s.discarded < 2 ^ 62)) list
+HasBoundedCounts _ = ⊤

@@ -1,7 +1,7 @@
 -- The laws that the definitions keep, as statements in the words of the subject.
 use Rattle.std.specs.Prelude.{◌≡◌, ◌≤◌, ◌<◌, ◌+◌, ◌*◌, ◌^◌, ℕ, cond, List, [], ◌∷◌, ◌++◌, length, map, reverse, nat_eq, nat_le, true, false, is_some, Some, None}
 use Rattle.std.specs.List.{All, Contains, count_by}
-use Rattle.dn_types.specs.Bounds.{IsInRange, HasBoundedMoments, HasBoundedBytes}
+use Rattle.dn_types.specs.Bounds.{IsInRange, HasBoundedMoments, HasBoundedBytes, HasBoundedCounts}
 use Rattle.dn_types.specs.Calls.{trace_of}
 use Rattle.dn_types.specs.Clock.{call_limit, counted, effective_moment}
 use Rattle.dn_types.specs.Configuration.{Settings}
@@ -105,3 +105,7 @@ DueMomentsAreBounded = (rule : Rule) (calls : List Call) → All IsInRange calls
 -- After calls in range, no queue holds 2^32 bytes.
 abbrev pub BytesAreBounded : Type 0
 BytesAreBounded = (rule : Rule) (calls : List Call) (c : Call) → All IsInRange calls → HasBoundedBytes (reply rule calls c)
+
+-- No count of a reply and no number of a packet reaches 2^62, whatever the calls.
+abbrev pub CountsAreBounded : Type 0
+CountsAreBounded = (rule : Rule) (calls : List Call) (c : Call) → HasBoundedCounts (reply rule calls c)

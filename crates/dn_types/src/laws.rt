@@ -4,6 +4,7 @@
 ghost use Rattle.dn_types.specs.Bounds.{IsInRange};
 ghost use Rattle.dn_types.specs.Laws.{
   BytesAreBounded,
+  CountsAreBounded,
   CountsUpToTheLimit,
   DueIsLast,
   DueMomentsAreBounded,
@@ -72,14 +73,16 @@ pub fn laws_of_histories()
 {}
 
 /// After calls in range, the moments of a reply are at most 2^62 ns, the due moments of what is still
-/// to be given are below 2^63 ns, and no queue holds 2^32 bytes.
+/// to be given are below 2^63 ns, and no queue holds 2^32 bytes. After any calls, the counts of a
+/// reply and its packet numbers are below 2^62.
 pub fn laws_of_bounds()
     ensures moments { MomentsAreBounded }
     ensures dues { DueMomentsAreBounded }
     ensures bytes { BytesAreBounded }
+    ensures counts { CountsAreBounded }
 {}
 
 /// Each call is in range, as the laws of bounds ask, since its types hold no other values.
-pub fn is_in_range(call: Call)
+pub fn each_call_is_in_range(call: Call)
     ensures { IsInRange call }
 {}

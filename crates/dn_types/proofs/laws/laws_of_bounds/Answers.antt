@@ -1,4 +1,5 @@
 -- Each law is a lemma over the definitions.
+use Rattle.dn_types.proofs.BoundedCounts.{bounded-counts}
 use Rattle.dn_types.proofs.BoundedReplies.{bounded-moments, due-moments-bounded, bounded-bytes}
 use Rattle.dn_types.proofs.laws.laws_of_bounds.Goals as goal
 
@@ -10,3 +11,6 @@ returns-clause-dues c = due-moments-bounded
 
 pub returns-clause-bytes : goal.returns-clause-bytes
 returns-clause-bytes c = bounded-bytes
+
+pub returns-clause-counts : goal.returns-clause-counts
+returns-clause-counts c = bounded-counts
