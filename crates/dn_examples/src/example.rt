@@ -1,33 +1,34 @@
-use crate::values::{command, moment, pipe, queue, sized};
+//! The one way that an example is run. What is refused memory is tried once more, so that an example
+//! holds also where any one growth is refused.
+
+use crate::step::Step;
 use dn_shaper::{Shaper, run};
-use dn_types::{
-    Buckets, Call, Command, Deliveries, Delivery, FlowStatus, Limit, Mask, Packet, Reply, Rule,
-    Statuses, Target,
-};
+use dn_types::{Buckets, Call, Command, Limit, Mask, Packet, Reply, Rule, Target};
 use std::alloc::{AllocError, Global};
 use std::io::Print;
 use std::process::Abort;
 use std::test::Fail;
 
-/// A list of calls, each with the reply that it gets. An example is made and holds also where any
-/// one growth of memory is refused: what was refused is tried once more.
-#[derive(Drop)]
-pub struct Example {
-    alloc: Global,
-    calls: Vec<Call>,
-    replies: Vec<Reply>,
-}
-
-/// A vector of the items.
-fn copied<T: Copy>(alloc: Global, items: &[T]) -> Result<Vec<T>, AllocError> {
-    let mut list = Vec::new(alloc);
-    if list.extend_from_slice(items).is_err() {
-        list.extend_from_slice(items)?;
+// The calls of the steps.
+fn calls_of(alloc: Global, steps: &[Step<'_>]) -> Result<Vec<Call>, Fail> {
+    let mut calls = Vec::new(alloc);
+    if calls.reserve(steps.len()).is_err() {
+        calls.reserve(steps.len())?;
     }
-    Ok(list)
+    // The prover asks that a body that moves a call into a list names the types in it.
+    let _command: Option<Command> = None;
+    let _target: Option<Target> = None;
+    let _packet: Option<Packet> = None;
+    let _limit: Option<Limit> = None;
+    let _buckets: Option<Buckets> = None;
+    let _mask: Option<Mask> = None;
+    for step in steps {
+        calls.push(step.asked.call()?)?;
+    }
+    Ok(calls)
 }
 
-/// The replies to the calls, by a shaper of the rule.
+// The replies to the calls, by a shaper of the rule.
 fn replies_by(alloc: Global, rule: Rule, calls: &[Call]) -> Result<Vec<Reply>, AllocError> {
     match rule {
         Rule::Ordered => run(alloc, calls),
@@ -42,115 +43,24 @@ fn replies_by(alloc: Global, rule: Rule, calls: &[Call]) -> Result<Vec<Reply>, A
     }
 }
 
-impl Example {
-    /// No call.
-    pub fn new(alloc: Global) -> Example {
-        Example {
-            alloc,
-            calls: Vec::new(alloc),
-            replies: Vec::new(alloc),
+/// A shaper of the rule answers the steps so, from its beginning: by `run` for Ordered, by `apply`
+/// for Free.
+pub fn holds<R: Abort + Print + AllocGlobal>(
+    rt: &R,
+    rule: Rule,
+    steps: &[Step<'_>],
+) -> Result<(), Fail> {
+    let calls = calls_of(rt.alloc(), steps)?;
+    let replies = match replies_by(rt.alloc(), rule, &calls) {
+        Ok(replies) => replies,
+        Err(_) => {
+            println!(rt; "a growth was refused")?;
+            replies_by(rt.alloc(), rule, &calls)?
         }
+    };
+    for (place, (reply, step)) in replies.iter().zip(steps).enumerate() {
+        assert_eq!(rt; *reply, step.wanted.reply(rt.alloc())?, "call {place}");
     }
-
-    /// A call and its reply.
-    pub fn call(&mut self, call: Call, reply: Reply) -> Result<(), Fail> {
-        if self.calls.reserve(1).is_err() {
-            self.calls.reserve(1)?;
-        }
-        if self.replies.reserve(1).is_err() {
-            self.replies.reserve(1)?;
-        }
-        // The prover asks that a body that moves a call into a list names the types in it.
-        let _command: Option<Command> = None;
-        let _target: Option<Target> = None;
-        let _packet: Option<Packet> = None;
-        let _limit: Option<Limit> = None;
-        let _buckets: Option<Buckets> = None;
-        let _mask: Option<Mask> = None;
-        self.calls.push(call)?;
-        self.replies.push(reply)?;
-        Ok(())
-    }
-
-    /// A Configure call of a configuration line.
-    pub fn line(&mut self, line: &str, reply: Reply) -> Result<(), Fail> {
-        self.call(Call::Configure(command(line)?), reply)
-    }
-
-    /// A Configure call that is answered Configured.
-    pub fn config(&mut self, line: &str) -> Result<(), Fail> {
-        self.line(line, Reply::Configured)
-    }
-
-    /// A Submit of a packet.
-    pub fn submit(
-        &mut self,
-        target: Target,
-        packet: Packet,
-        at: u64,
-        reply: Reply,
-    ) -> Result<(), Fail> {
-        let moment = moment(at)?;
-        self.call(
-            Call::Submit {
-                target,
-                packet,
-                moment,
-            },
-            reply,
-        )
-    }
-
-    /// A Submit of a packet of 1,000 bytes to a pipe.
-    pub fn to_pipe(&mut self, number: u32, at: u64, reply: Reply) -> Result<(), Fail> {
-        self.submit(pipe(number)?, sized(1_000)?, at, reply)
-    }
-
-    /// A Submit of a packet of 1,000 bytes to a queue.
-    pub fn to_queue(&mut self, number: u32, at: u64, reply: Reply) -> Result<(), Fail> {
-        self.submit(queue(number)?, sized(1_000)?, at, reply)
-    }
-
-    /// An Advance to a moment that no call before it has passed.
-    pub fn advance(&mut self, at: u64) -> Result<(), Fail> {
-        self.call(Call::Advance(moment(at)?), Reply::Advanced { at })
-    }
-
-    /// A Collect at a moment that no call before it has passed.
-    pub fn collect(&mut self, at: u64, list: &[Delivery]) -> Result<(), Fail> {
-        self.collect_at(at, at, list)
-    }
-
-    /// A Collect with a moment, and the effective moment in its reply.
-    pub fn collect_at(&mut self, asked: u64, at: u64, list: &[Delivery]) -> Result<(), Fail> {
-        let list = Deliveries::from_vec(copied(self.alloc, list)?);
-        self.call(Call::Collect(moment(asked)?), Reply::Delivered { at, list })
-    }
-
-    /// A Show.
-    pub fn show(&mut self, list: &[FlowStatus]) -> Result<(), Fail> {
-        let list = Statuses::from_vec(copied(self.alloc, list)?);
-        self.call(Call::Show, Reply::Status { list })
-    }
-
-    /// A shaper of the rule answers the calls so, from its beginning.
-    pub fn holds_by(&self, rt: &(impl Abort + Print), rule: Rule) -> Result<(), Fail> {
-        let replies = match replies_by(self.alloc, rule, &self.calls) {
-            Ok(replies) => replies,
-            Err(_) => {
-                println!(rt; "a growth was refused")?;
-                replies_by(self.alloc, rule, &self.calls)?
-            }
-        };
-        for (place, (reply, wanted)) in replies.iter().zip(&self.replies).enumerate() {
-            assert_eq!(rt; reply, wanted, "call {place}");
-        }
-        assert_eq!(rt; replies.len(), self.replies.len());
-        Ok(())
-    }
-
-    /// `run` answers the calls so.
-    pub fn holds(&self, rt: &(impl Abort + Print)) -> Result<(), Fail> {
-        self.holds_by(rt, Rule::Ordered)
-    }
+    assert_eq!(rt; replies.len(), steps.len());
+    Ok(())
 }

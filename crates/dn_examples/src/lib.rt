@@ -2,15 +2,25 @@
 #![tactic(auto)]
 
 #[cfg(test)]
+mod asked;
+#[cfg(test)]
 mod deletes;
+#[cfg(test)]
+mod destination;
 #[cfg(test)]
 mod example;
 #[cfg(test)]
+mod flow;
+#[cfg(test)]
 mod flows;
+#[cfg(test)]
+mod key;
 #[cfg(test)]
 mod links;
 #[cfg(test)]
 mod refused_growths;
+#[cfg(test)]
+mod sent;
 #[cfg(test)]
 mod shared_links;
 #[cfg(test)]
@@ -18,6 +28,10 @@ mod short_lists_flows;
 #[cfg(test)]
 mod short_lists_wf2q;
 #[cfg(test)]
+mod shown_step;
+#[cfg(test)]
+mod step;
+#[cfg(test)]
 mod trial;
 #[cfg(test)]
-mod values;
+mod wanted;

@@ -1,72 +1,181 @@
 //! Worked examples whose calls are made again where memory is refused. With any one growth refused
 //! (`rt try --test --fail-alloc N`) each of them passes: the refused call has changed nothing.
 
-use crate::trial::Trial;
-use crate::values::{delivery, pipe, pipe_key, queue, queue_key, queued, sized, status};
-use dn_types::{FlowStatus, Reply};
+use crate::destination::pipe;
+use crate::flow::{Flow, status};
+use crate::key::{last_byte_key, pipe_key, queue_key};
+use crate::sent::to_host;
+use crate::shown_step::shown;
+use crate::step::{collect, config, line, submit, to_pipe, to_queue};
+use crate::trial::holds_when_refused;
+use crate::wanted::{Wanted, delivery, lost, queued};
 use std::test::Fail;
+
+// The flow of queue 1.
+fn first(waiting: (u64, u64), started: u64) -> Flow {
+    status(0, queue_key(1, 1), waiting, started, 0)
+}
+
+// The flow of queue 2.
+fn second(waiting: (u64, u64), started: u64, discarded: u64) -> Flow {
+    status(1, queue_key(2, 1), waiting, started, discarded)
+}
 
 #[test]
 fn shares_by_weight(rt: HostRuntime) -> Result<(), Fail> {
-    let to_a = (queue(1)?, sized(1_000)?, 0);
-    let to_b = (queue(2)?, sized(1_000)?, 0);
-    let a = status(0, queue_key(1, 1)?, (1, 1_000), 1, 0);
-    let b = status(1, queue_key(2, 1)?, (3, 3_000), 0, 0);
-    let mut trial = Trial::new(rt.alloc());
-    for line in [
-        "pipe 1 config bw 8Mbit/s",
-        "queue 1 config pipe 1 weight 1",
-        "queue 2 config pipe 1 weight 3",
-    ] {
-        trial.line(&rt, line, Reply::Configured, &[])?;
-    }
-    let sent = FlowStatus {
-        queued: 0,
-        bytes: 0,
-        ..a
-    };
-    trial.submit(&rt, to_a, queued(0, 0, 0), &[sent])?;
-    trial.submit(&rt, to_a, queued(0, 0, 1), &[a])?;
-    for (packet, queued_packets, bytes) in [(2, 1, 1_000), (3, 2, 2_000), (4, 3, 3_000)] {
-        let waiting = FlowStatus {
-            queued: queued_packets,
-            bytes,
-            ..b
-        };
-        trial.submit(&rt, to_b, queued(0, 1, packet), &[a, waiting])?;
-    }
-    trial.collect(
+    let a = first((1, 1_000), 1);
+    let given = [
+        delivery(0, 0, 0, 1_000_000),
+        delivery(2, 1, 1_000_000, 2_000_000),
+        delivery(1, 0, 2_000_000, 3_000_000),
+        delivery(3, 1, 3_000_000, 4_000_000),
+        delivery(4, 1, 4_000_000, 5_000_000),
+    ];
+    holds_when_refused(
         &rt,
-        10_000_000,
         &[
-            delivery(0, 0, 0, 1_000_000),
-            delivery(2, 1, 1_000_000, 2_000_000),
-            delivery(1, 0, 2_000_000, 3_000_000),
-            delivery(3, 1, 3_000_000, 4_000_000),
-            delivery(4, 1, 4_000_000, 5_000_000),
-        ],
-        &[
-            status(0, queue_key(1, 1)?, (0, 0), 2, 0),
-            status(1, queue_key(2, 1)?, (0, 0), 3, 0),
+            shown(config("pipe 1 config bw 8Mbit/s"), &[]),
+            shown(config("queue 1 config pipe 1 weight 1"), &[]),
+            shown(config("queue 2 config pipe 1 weight 3"), &[]),
+            shown(to_queue(1, 0, queued(0, 0, 0)), &[first((0, 0), 1)]),
+            shown(to_queue(1, 0, queued(0, 0, 1)), &[a]),
+            shown(
+                to_queue(2, 0, queued(0, 1, 2)),
+                &[a, second((1, 1_000), 0, 0)],
+            ),
+            shown(
+                to_queue(2, 0, queued(0, 1, 3)),
+                &[a, second((2, 2_000), 0, 0)],
+            ),
+            shown(
+                to_queue(2, 0, queued(0, 1, 4)),
+                &[a, second((3, 3_000), 0, 0)],
+            ),
+            shown(
+                collect(10_000_000, &given),
+                &[first((0, 0), 2), second((0, 0), 3, 0)],
+            ),
         ],
     )
 }
 
 #[test]
 fn a_link_keeps_its_order(rt: HostRuntime) -> Result<(), Fail> {
-    let (target, packet, key) = (pipe(1)?, sized(1_000)?, pipe_key(1)?);
-    let one = [status(0, key, (0, 0), 1, 0)];
-    let two = [status(0, key, (0, 0), 2, 0)];
-    let due = 51_000_000;
-    let mut trial = Trial::new(rt.alloc());
-    let slow = "pipe 1 config bw 8Mbit/s delay 50";
-    trial.line(&rt, slow, Reply::Configured, &[])?;
-    trial.submit(&rt, (target, packet, 0), queued(0, 0, 0), &one)?;
-    trial.line(&rt, "pipe 1 config bw 8Mbit/s", Reply::Configured, &one)?;
+    let one = [status(0, pipe_key(1), (0, 0), 1, 0)];
+    let two = [status(0, pipe_key(1), (0, 0), 2, 0)];
     let late = 2_000_000;
-    trial.submit(&rt, (target, packet, late), queued(late, 0, 1), &two)?;
-    trial.collect(&rt, 3_000_000, &[], &two)?;
+    let due = 51_000_000;
     let both = [delivery(0, 0, 0, due), delivery(1, 0, late, due)];
-    trial.collect(&rt, 51_000_000, &both, &two)?;
-    trial.collect(&rt, 60_000_000, &[], &two)
+    holds_when_refused(
+        &rt,
+        &[
+            shown(config("pipe 1 config bw 8Mbit/s delay 50"), &[]),
+            shown(to_pipe(1, 0, queued(0, 0, 0)), &one),
+            shown(config("pipe 1 config bw 8Mbit/s"), &one),
+            shown(to_pipe(1, late, queued(late, 0, 1)), &two),
+            shown(collect(3_000_000, &[]), &two),
+            shown(collect(51_000_000, &both), &two),
+            shown(collect(60_000_000, &[]), &two),
+        ],
+    )
+}
+
+#[test]
+fn flows_by_mask(rt: HostRuntime) -> Result<(), Fail> {
+    let by_last_byte = "pipe 1 config bw 8Mbit/s mask dst-ip 0x000000ff";
+    let losing = "pipe 1 config bw 8Mbit/s mask dst-ip 0x000000ff plr 1";
+    let sent = status(0, last_byte_key(1), (0, 0), 1, 0);
+    let waiting = status(0, last_byte_key(1), (1, 1_000), 1, 0);
+    let done = status(0, last_byte_key(1), (0, 0), 2, 0);
+    let second = status(1, last_byte_key(2), (0, 0), 1, 0);
+    let third = Flow {
+        lost: 1,
+        ..status(2, last_byte_key(3), (0, 0), 0, 0)
+    };
+    let fourth = status(3, last_byte_key(4), (0, 0), 1, 0);
+    let third_again = Flow {
+        started: 1,
+        ..third
+    };
+    let given = [
+        delivery(0, 0, 0, 1_000_000),
+        delivery(2, 1, 0, 1_000_000),
+        delivery(1, 0, 1_000_000, 2_000_000),
+    ];
+    let at = 2_000_000;
+    holds_when_refused(
+        &rt,
+        &[
+            shown(config(by_last_byte), &[]),
+            shown(
+                submit(pipe(1), to_host(0x0a00_0001), 0, queued(0, 0, 0)),
+                &[sent],
+            ),
+            shown(
+                submit(pipe(1), to_host(0x0a01_0001), 0, queued(0, 0, 1)),
+                &[waiting],
+            ),
+            shown(
+                submit(pipe(1), to_host(0x0a00_0002), 0, queued(0, 1, 2)),
+                &[waiting, second],
+            ),
+            shown(collect(at, &given), &[done, second]),
+            shown(config(losing), &[done, second]),
+            shown(
+                submit(pipe(1), to_host(0x0a00_0003), at, lost(at, 2)),
+                &[done, second, third],
+            ),
+            shown(config(by_last_byte), &[done, second, third]),
+            shown(
+                submit(pipe(1), to_host(0x0a00_0004), at, queued(at, 3, 3)),
+                &[done, second, third, fourth],
+            ),
+            shown(
+                submit(pipe(1), to_host(0x0a00_0003), at, queued(at, 2, 4)),
+                &[done, second, third_again, fourth],
+            ),
+        ],
+    )
+}
+
+#[test]
+fn a_deleted_queue(rt: HostRuntime) -> Result<(), Fail> {
+    let a = first((1, 1_000), 1);
+    let b = second((2, 2_000), 0, 0);
+    let discarded = second((0, 0), 0, 2);
+    let again = second((1, 1_000), 0, 2);
+    let given = [
+        delivery(0, 0, 0, 1_000_000),
+        delivery(1, 0, 1_000_000, 2_000_000),
+        delivery(4, 1, 2_000_000, 3_000_000),
+        delivery(5, 0, 3_000_000, 4_000_000),
+    ];
+    holds_when_refused(
+        &rt,
+        &[
+            shown(config("pipe 1 config bw 8Mbit/s"), &[]),
+            shown(config("queue 1 config pipe 1"), &[]),
+            shown(config("queue 2 config pipe 1"), &[]),
+            shown(to_queue(1, 0, queued(0, 0, 0)), &[first((0, 0), 1)]),
+            shown(to_queue(1, 0, queued(0, 0, 1)), &[a]),
+            shown(
+                to_queue(2, 0, queued(0, 1, 2)),
+                &[a, second((1, 1_000), 0, 0)],
+            ),
+            shown(to_queue(2, 0, queued(0, 1, 3)), &[a, b]),
+            shown(line("pipe 1 delete", Wanted::PipeHasQueues), &[a, b]),
+            shown(line("queue 2 delete", Wanted::Deleted), &[a, discarded]),
+            shown(to_queue(2, 0, Wanted::NoTarget { at: 0 }), &[a, discarded]),
+            shown(config("queue 2 config pipe 1"), &[a, discarded]),
+            shown(to_queue(2, 0, queued(0, 1, 4)), &[a, again]),
+            shown(
+                to_queue(1, 0, queued(0, 0, 5)),
+                &[first((2, 2_000), 1), again],
+            ),
+            shown(
+                collect(4_000_000, &given),
+                &[first((0, 0), 3), second((0, 0), 1, 2)],
+            ),
+        ],
+    )
 }

@@ -1,6 +1,7 @@
-use crate::values::{command, moment};
+use crate::shown_step::ShownStep;
+use crate::step::Step;
 use dn_shaper::Shaper;
-use dn_types::{Call, Delivery, FlowStatus, Packet, Reply, Statuses, Target};
+use dn_types::{Call, Reply, Statuses};
 use std::alloc::Global;
 use std::io::Print;
 use std::process::Abort;
@@ -10,6 +11,7 @@ use std::test::Fail;
 /// and is then made again.
 #[derive(Drop)]
 pub struct Trial {
+    alloc: Global,
     shaper: Shaper,
     // The last reply to a Show.
     shown: Reply,
@@ -17,8 +19,9 @@ pub struct Trial {
 
 impl Trial {
     /// A shaper before its first call.
-    pub fn new(alloc: Global) -> Trial {
+    fn new(alloc: Global) -> Trial {
         Trial {
+            alloc,
             shaper: Shaper::new(alloc),
             shown: Reply::Status {
                 list: Statuses::from_vec(Vec::new(alloc)),
@@ -26,89 +29,44 @@ impl Trial {
         }
     }
 
-    // The reply to a call. Where it is refused, no call is counted and the flows stay.
+    // The reply to a call. Where it is refused, no call is counted.
     fn answer(&mut self, rt: &(impl Abort + Print), call: &Call) -> Result<Reply, Fail> {
         let calls = self.shaper.calls();
         let Ok(reply) = self.shaper.apply(call) else {
             println!(rt; "a growth was refused")?;
             assert_eq!(rt; self.shaper.calls(), calls);
-            assert_eq!(rt; self.shaper.apply(&Call::Show)?, self.shown);
+            // A Show that is refused comes after a call that was answered.
+            if *call != Call::Show {
+                assert_eq!(rt; self.shaper.apply(&Call::Show)?, self.shown);
+            }
             return Ok(self.shaper.apply(call)?);
         };
         Ok(reply)
     }
 
-    // Shows the flows.
-    fn show(&mut self, rt: &(impl Abort + Print), wanted: &[FlowStatus]) -> Result<(), Fail> {
-        let shown = match self.shaper.apply(&Call::Show) {
-            Ok(reply) => reply,
-            Err(_) => {
-                println!(rt; "a growth was refused")?;
-                self.shaper.apply(&Call::Show)?
-            }
-        };
-        let Reply::Status { list } = &shown else {
-            panic!(rt; "a Show is answered Status")
-        };
-        assert_eq!(rt; list.as_slice(), wanted);
-        self.shown = shown;
-        Ok(())
-    }
-
-    /// A call, its reply, and the flows after it.
-    pub fn call(
+    // The reply to a step, which is the one that it wants.
+    fn reply(
         &mut self,
         rt: &(impl Abort + Print),
-        call: &Call,
-        wanted: Reply,
-        flows: &[FlowStatus],
-    ) -> Result<(), Fail> {
-        let reply = self.answer(rt, call)?;
-        assert_eq!(rt; reply, wanted);
-        self.show(rt, flows)
+        place: usize,
+        step: &Step<'_>,
+    ) -> Result<Reply, Fail> {
+        let reply = self.answer(rt, &step.asked.call()?)?;
+        assert_eq!(rt; reply, step.wanted.reply(self.alloc)?, "call {place}");
+        Ok(reply)
     }
+}
 
-    /// A configuration line, its reply, and the flows after it.
-    pub fn line(
-        &mut self,
-        rt: &(impl Abort + Print),
-        line: &str,
-        wanted: Reply,
-        flows: &[FlowStatus],
-    ) -> Result<(), Fail> {
-        self.call(rt, &Call::Configure(command(line)?), wanted, flows)
+/// A shaper answers the steps so, by `apply`, and shows these flows after each. It does so also where
+/// any one growth is refused.
+pub fn holds_when_refused<R: Abort + Print + AllocGlobal>(
+    rt: &R,
+    steps: &[ShownStep<'_>],
+) -> Result<(), Fail> {
+    let mut trial = Trial::new(rt.alloc());
+    for (place, shown) in steps.iter().enumerate() {
+        trial.reply(rt, place, &shown.step)?;
+        trial.shown = trial.reply(rt, place, &shown.show)?;
     }
-
-    /// A packet, its reply, and the flows after it.
-    pub fn submit(
-        &mut self,
-        rt: &(impl Abort + Print),
-        (target, packet, at): (Target, Packet, u64),
-        wanted: Reply,
-        flows: &[FlowStatus],
-    ) -> Result<(), Fail> {
-        let call = Call::Submit {
-            target,
-            packet,
-            moment: moment(at)?,
-        };
-        self.call(rt, &call, wanted, flows)
-    }
-
-    /// A Collect, what it gives, and the flows after it.
-    pub fn collect(
-        &mut self,
-        rt: &(impl Abort + Print),
-        at: u64,
-        wanted: &[Delivery],
-        flows: &[FlowStatus],
-    ) -> Result<(), Fail> {
-        let reply = self.answer(rt, &Call::Collect(moment(at)?))?;
-        let Reply::Delivered { at: moment, list } = &reply else {
-            panic!(rt; "a Collect is answered Delivered")
-        };
-        assert_eq!(rt; *moment, at);
-        assert_eq!(rt; list.as_slice(), wanted);
-        self.show(rt, flows)
-    }
+    Ok(())
 }

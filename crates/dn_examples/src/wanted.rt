@@ -1,0 +1,87 @@
+use crate::flow::Flow;
+use dn_types::{Deliveries, Delivery, Reply, Statuses};
+use std::alloc::Global;
+use std::test::Fail;
+
+/// A reply in plain numbers and lists.
+#[derive(Clone, Copy)]
+pub enum Wanted<'a> {
+    Configured,
+    NoSuchPipe,
+    Deleted,
+    PipeHasQueues,
+    NoSuchQueue,
+    Queued { at: u64, flow: usize, packet: u64 },
+    Lost { at: u64, flow: usize },
+    Full { at: u64, flow: usize },
+    NoTarget { at: u64 },
+    Advanced { at: u64 },
+    Delivered { at: u64, list: &'a [Delivery] },
+    Status { list: &'a [Flow] },
+}
+
+// What is refused memory here is tried once more, so that the shaper is asked all the same.
+fn deliveries(alloc: Global, list: &[Delivery]) -> Result<Deliveries, Fail> {
+    let mut items = Vec::new(alloc);
+    if items.extend_from_slice(list).is_err() {
+        items.extend_from_slice(list)?;
+    }
+    Ok(Deliveries::from_vec(items))
+}
+
+fn statuses(alloc: Global, list: &[Flow]) -> Result<Statuses, Fail> {
+    let mut items = Vec::new(alloc);
+    if items.reserve(list.len()).is_err() {
+        items.reserve(list.len())?;
+    }
+    for flow in list {
+        items.push(flow.status()?)?;
+    }
+    Ok(Statuses::from_vec(items))
+}
+
+impl Wanted<'_> {
+    /// The reply.
+    pub fn reply(&self, alloc: Global) -> Result<Reply, Fail> {
+        Ok(match *self {
+            Wanted::Configured => Reply::Configured,
+            Wanted::NoSuchPipe => Reply::NoSuchPipe,
+            Wanted::Deleted => Reply::Deleted,
+            Wanted::PipeHasQueues => Reply::PipeHasQueues,
+            Wanted::NoSuchQueue => Reply::NoSuchQueue,
+            Wanted::Queued { at, flow, packet } => Reply::Queued { at, flow, packet },
+            Wanted::Lost { at, flow } => Reply::Lost { at, flow },
+            Wanted::Full { at, flow } => Reply::Full { at, flow },
+            Wanted::NoTarget { at } => Reply::NoTarget { at },
+            Wanted::Advanced { at } => Reply::Advanced { at },
+            Wanted::Delivered { at, list } => Reply::Delivered {
+                at,
+                list: deliveries(alloc, list)?,
+            },
+            Wanted::Status { list } => Reply::Status {
+                list: statuses(alloc, list)?,
+            },
+        })
+    }
+}
+
+pub fn queued<'a>(at: u64, flow: usize, packet: u64) -> Wanted<'a> {
+    Wanted::Queued { at, flow, packet }
+}
+
+pub fn lost<'a>(at: u64, flow: usize) -> Wanted<'a> {
+    Wanted::Lost { at, flow }
+}
+
+pub fn full<'a>(at: u64, flow: usize) -> Wanted<'a> {
+    Wanted::Full { at, flow }
+}
+
+pub fn delivery(packet: u64, flow: usize, start: u64, due: u64) -> Delivery {
+    Delivery {
+        due,
+        packet,
+        flow,
+        start,
+    }
+}
