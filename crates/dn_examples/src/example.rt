@@ -9,9 +9,10 @@ use std::io::Print;
 use std::process::Abort;
 use std::test::Fail;
 
-// The calls of the steps.
-fn calls_of(alloc: Global, steps: &[Step<'_>]) -> Result<Vec<Call>, Fail> {
-    let mut calls = Vec::new(alloc);
+// Lists are filled behind a reference: a `?` where a list is owned would drop it there.
+
+// Appends the calls of the steps.
+fn push_calls(calls: &mut Vec<Call>, steps: &[Step<'_>]) -> Result<(), Fail> {
     if calls.reserve(steps.len()).is_err() {
         calls.reserve(steps.len())?;
     }
@@ -25,7 +26,19 @@ fn calls_of(alloc: Global, steps: &[Step<'_>]) -> Result<Vec<Call>, Fail> {
     for step in steps {
         calls.push(step.asked.call()?)?;
     }
-    Ok(calls)
+    Ok(())
+}
+
+// Appends the replies of the shaper to the calls.
+fn push_replies(
+    shaper: &mut Shaper,
+    replies: &mut Vec<Reply>,
+    calls: &[Call],
+) -> Result<(), AllocError> {
+    for call in calls {
+        replies.push(shaper.apply(call)?)?;
+    }
+    Ok(())
 }
 
 // The replies to the calls, by a shaper of the rule.
@@ -35,12 +48,23 @@ fn replies_by(alloc: Global, rule: Rule, calls: &[Call]) -> Result<Vec<Reply>, A
         Rule::Free => {
             let mut shaper = Shaper::with_rule(alloc, rule);
             let mut replies = Vec::new(alloc);
-            for call in calls {
-                replies.push(shaper.apply(call)?)?;
-            }
+            push_replies(&mut shaper, &mut replies, calls)?;
             Ok(replies)
         }
     }
+}
+
+// Each reply is the one that its step wants, and there are as many.
+fn compare<R: Abort + AllocGlobal>(
+    rt: &R,
+    replies: &[Reply],
+    steps: &[Step<'_>],
+) -> Result<(), Fail> {
+    for (place, (reply, step)) in replies.iter().zip(steps).enumerate() {
+        assert_eq!(rt; *reply, step.wanted.reply(rt.alloc())?, "call {place}");
+    }
+    assert_eq!(rt; replies.len(), steps.len());
+    Ok(())
 }
 
 /// A shaper of the rule answers the steps so, from its beginning: by `run` for Ordered, by `apply`
@@ -50,7 +74,8 @@ pub fn holds<R: Abort + Print + AllocGlobal>(
     rule: Rule,
     steps: &[Step<'_>],
 ) -> Result<(), Fail> {
-    let calls = calls_of(rt.alloc(), steps)?;
+    let mut calls = Vec::new(rt.alloc());
+    push_calls(&mut calls, steps)?;
     let replies = match replies_by(rt.alloc(), rule, &calls) {
         Ok(replies) => replies,
         Err(_) => {
@@ -58,9 +83,5 @@ pub fn holds<R: Abort + Print + AllocGlobal>(
             replies_by(rt.alloc(), rule, &calls)?
         }
     };
-    for (place, (reply, step)) in replies.iter().zip(steps).enumerate() {
-        assert_eq!(rt; *reply, step.wanted.reply(rt.alloc())?, "call {place}");
-    }
-    assert_eq!(rt; replies.len(), steps.len());
-    Ok(())
+    compare(rt, &replies, steps)
 }

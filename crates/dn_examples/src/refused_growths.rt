@@ -5,7 +5,7 @@ use crate::destination::pipe;
 use crate::flow::{Flow, status};
 use crate::key::{last_byte_key, pipe_key, queue_key};
 use crate::sent::to_host;
-use crate::shown_step::shown;
+use crate::shown_step::{ShownStep, shown};
 use crate::step::{collect, config, line, submit, to_pipe, to_queue};
 use crate::trial::holds_when_refused;
 use crate::wanted::{Wanted, delivery, lost, queued};
@@ -80,22 +80,29 @@ fn a_link_keeps_its_order(rt: HostRuntime) -> Result<(), Fail> {
     )
 }
 
+// The flow of pipe 1 to addresses with this last byte, of which no packet waits.
+fn masked(flow: usize, last_byte: u32, started: u64) -> Flow {
+    status(flow, last_byte_key(last_byte), (0, 0), started, 0)
+}
+
+// A packet of pipe 1 to an address, and the flows after it.
+fn to_address<'a>(dst: u32, at: u64, wanted: Wanted<'a>, flows: &'a [Flow]) -> ShownStep<'a> {
+    shown(submit(pipe(1), to_host(dst), at, wanted), flows)
+}
+
 #[test]
 fn flows_by_mask(rt: HostRuntime) -> Result<(), Fail> {
     let by_last_byte = "pipe 1 config bw 8Mbit/s mask dst-ip 0x000000ff";
     let losing = "pipe 1 config bw 8Mbit/s mask dst-ip 0x000000ff plr 1";
-    let sent = status(0, last_byte_key(1), (0, 0), 1, 0);
     let waiting = status(0, last_byte_key(1), (1, 1_000), 1, 0);
-    let done = status(0, last_byte_key(1), (0, 0), 2, 0);
-    let second = status(1, last_byte_key(2), (0, 0), 1, 0);
-    let third = Flow {
+    let (a, b, d) = (masked(0, 1, 2), masked(1, 2, 1), masked(3, 4, 1));
+    let lost_one = Flow {
         lost: 1,
-        ..status(2, last_byte_key(3), (0, 0), 0, 0)
+        ..masked(2, 3, 0)
     };
-    let fourth = status(3, last_byte_key(4), (0, 0), 1, 0);
-    let third_again = Flow {
+    let c = Flow {
         started: 1,
-        ..third
+        ..lost_one
     };
     let given = [
         delivery(0, 0, 0, 1_000_000),
@@ -107,33 +114,15 @@ fn flows_by_mask(rt: HostRuntime) -> Result<(), Fail> {
         &rt,
         &[
             shown(config(by_last_byte), &[]),
-            shown(
-                submit(pipe(1), to_host(0x0a00_0001), 0, queued(0, 0, 0)),
-                &[sent],
-            ),
-            shown(
-                submit(pipe(1), to_host(0x0a01_0001), 0, queued(0, 0, 1)),
-                &[waiting],
-            ),
-            shown(
-                submit(pipe(1), to_host(0x0a00_0002), 0, queued(0, 1, 2)),
-                &[waiting, second],
-            ),
-            shown(collect(at, &given), &[done, second]),
-            shown(config(losing), &[done, second]),
-            shown(
-                submit(pipe(1), to_host(0x0a00_0003), at, lost(at, 2)),
-                &[done, second, third],
-            ),
-            shown(config(by_last_byte), &[done, second, third]),
-            shown(
-                submit(pipe(1), to_host(0x0a00_0004), at, queued(at, 3, 3)),
-                &[done, second, third, fourth],
-            ),
-            shown(
-                submit(pipe(1), to_host(0x0a00_0003), at, queued(at, 2, 4)),
-                &[done, second, third_again, fourth],
-            ),
+            to_address(0x0a00_0001, 0, queued(0, 0, 0), &[masked(0, 1, 1)]),
+            to_address(0x0a01_0001, 0, queued(0, 0, 1), &[waiting]),
+            to_address(0x0a00_0002, 0, queued(0, 1, 2), &[waiting, b]),
+            shown(collect(at, &given), &[a, b]),
+            shown(config(losing), &[a, b]),
+            to_address(0x0a00_0003, at, lost(at, 2), &[a, b, lost_one]),
+            shown(config(by_last_byte), &[a, b, lost_one]),
+            to_address(0x0a00_0004, at, queued(at, 3, 3), &[a, b, lost_one, d]),
+            to_address(0x0a00_0003, at, queued(at, 2, 4), &[a, b, c, d]),
         ],
     )
 }
@@ -144,6 +133,7 @@ fn a_deleted_queue(rt: HostRuntime) -> Result<(), Fail> {
     let b = second((2, 2_000), 0, 0);
     let discarded = second((0, 0), 0, 2);
     let again = second((1, 1_000), 0, 2);
+    let longer = first((2, 2_000), 1);
     let given = [
         delivery(0, 0, 0, 1_000_000),
         delivery(1, 0, 1_000_000, 2_000_000),
@@ -168,10 +158,7 @@ fn a_deleted_queue(rt: HostRuntime) -> Result<(), Fail> {
             shown(to_queue(2, 0, Wanted::NoTarget { at: 0 }), &[a, discarded]),
             shown(config("queue 2 config pipe 1"), &[a, discarded]),
             shown(to_queue(2, 0, queued(0, 1, 4)), &[a, again]),
-            shown(
-                to_queue(1, 0, queued(0, 0, 5)),
-                &[first((2, 2_000), 1), again],
-            ),
+            shown(to_queue(1, 0, queued(0, 0, 5)), &[longer, again]),
             shown(
                 collect(4_000_000, &given),
                 &[first((0, 0), 3), second((0, 0), 1, 2)],

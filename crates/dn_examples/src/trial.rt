@@ -55,6 +55,26 @@ impl Trial {
         assert_eq!(rt; reply, step.wanted.reply(self.alloc)?, "call {place}");
         Ok(reply)
     }
+
+    // A step and the Show after it. The shaper stands behind a reference: a `?` where it is owned
+    // would drop it there.
+    fn step(
+        &mut self,
+        rt: &(impl Abort + Print),
+        place: usize,
+        shown: &ShownStep<'_>,
+    ) -> Result<(), Fail> {
+        self.reply(rt, place, &shown.step)?;
+        self.shown = self.reply(rt, place, &shown.show)?;
+        Ok(())
+    }
+
+    fn steps(&mut self, rt: &(impl Abort + Print), steps: &[ShownStep<'_>]) -> Result<(), Fail> {
+        for (place, shown) in steps.iter().enumerate() {
+            self.step(rt, place, shown)?;
+        }
+        Ok(())
+    }
 }
 
 /// A shaper answers the steps so, by `apply`, and shows these flows after each. It does so also where
@@ -64,9 +84,5 @@ pub fn holds_when_refused<R: Abort + Print + AllocGlobal>(
     steps: &[ShownStep<'_>],
 ) -> Result<(), Fail> {
     let mut trial = Trial::new(rt.alloc());
-    for (place, shown) in steps.iter().enumerate() {
-        trial.reply(rt, place, &shown.step)?;
-        trial.shown = trial.reply(rt, place, &shown.show)?;
-    }
-    Ok(())
+    trial.steps(rt, steps)
 }

@@ -1,5 +1,5 @@
 use crate::flow::Flow;
-use dn_types::{Deliveries, Delivery, Reply, Statuses};
+use dn_types::{Deliveries, Delivery, FlowKey, Reply, Statuses, Target};
 use std::alloc::Global;
 use std::test::Fail;
 
@@ -34,6 +34,9 @@ fn statuses(alloc: Global, list: &[Flow]) -> Result<Statuses, Fail> {
     if items.reserve(list.len()).is_err() {
         items.reserve(list.len())?;
     }
+    // The prover asks that a body that moves a state into a list names the types in it.
+    let _key: Option<FlowKey> = None;
+    let _target: Option<Target> = None;
     for flow in list {
         items.push(flow.status()?)?;
     }
