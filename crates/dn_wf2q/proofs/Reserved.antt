@@ -1,11 +1,12 @@
 -- Room is made, for a queue that is there or by adding queues without a packet.
 use Rattle.std.proofs.Common.{◌≡◌, ℕ, zero, suc, ◌+◌, ◌-◌, ◌<◌, ◌≤◌, List, [], ◌∷◌, ◌++◌, length, map, All, refl, sym, ap, ◌∙◌, arith, slice_index_or, get_or, set, sum_by, replicate, nat_lt, Result, Ok, Err, OnOk, OnErr}
 use Rattle.std.proofs.lemmas.List.{append_assoc, append-nil, length-append, length-replicate, set-get_or, get_or-map, get_or-set_same, get_or_read, length-set}
-use Rattle.std.proofs.lemmas.List.Sums.{sum_by-append}
+use Rattle.std.proofs.lemmas.List.Sums.{sum_by-append, sum_by-cons}
 use Rattle.std.proofs.lemmas.List.Folds.{sum_by-replicate}
 use Rattle.std.proofs.lemmas.List.Elements.{All-nil, All-append, All-replicate, All-weaker, All-push, All-set}
 use Rattle.std.specs.Vec.{with_item}
 use Rattle.dn_heap.specs.Heap.{Heap}
+use Rattle.dn_types.specs.Wf2q.{Stamped}
 use Rattle.dn_wf2q.specs.declared.flow_queue.FlowQueue.{FlowQueue}
 use Rattle.dn_wf2q.specs.declared.parts.Parts.{Parts}
 use Rattle.dn_wf2q.specs.Rank.{Rank}
@@ -94,6 +95,20 @@ module _ {flows : List Flow} {eligible waiting : Heap Rank} {virtual_time weight
         waiting_room = omega arith;
       }
 
+-- Each key stands for a flow.
+presence-le : (b : List Stamped) → presence b ≤ 1
+presence-le [] = omega arith
+presence-le (x ∷ b) = omega arith
+
+pub presences : (flows : List Flow) → sum_by (λ flow. presence flow.backlog) flows ≤ length flows
+presences [] = omega arith
+presences (fl ∷ fls) = omega (arith, sum_by-cons (λ flow. presence flow.backlog) fl fls, presence-le fl.backlog, presences fls)
+
+pub keys_within : (p : Parts) → IsKept p → length p.eligible.keys + length p.waiting.keys ≤ length p.flows.items
+keys_within p kept =
+    let c = kept.kept.counted in
+    omega (arith, presences (flows_of p), length-by_slot (seen p.busy_from) p.flows.items)
+
 pub on_ok_always : {T E : Type 0} (r : Result T E) (Q : Type 0) → Q → OnOk r Q
 on_ok_always (Ok x) Q q = q
 on_ok_always (Err e) Q q = tt
@@ -156,14 +171,12 @@ module _ (p : Parts) (kept : IsKept p) (slot : ℕ) (listed : slot < length p.fl
     }
 
 -- Queues are added.
-pub kept_extended : (p new : Parts) → IsKept p → (n : ℕ) → IsExtended p.flows.items new.flows.items → length new.flows.items ≡ n → length p.flows.items ≤ n → new.eligible.keys ≡ p.eligible.keys → new.waiting.keys ≡ p.waiting.keys → new.eligible.moves ≡ p.eligible.moves → new.waiting.moves ≡ p.waiting.moves → p.eligible.room + (n - length p.flows.items) ≤ new.eligible.room → p.waiting.room + (n - length p.flows.items) ≤ new.waiting.room → new.virtual_time ≡ p.virtual_time → new.weights ≡ p.weights → new.busy_from ≡ p.busy_from → new.arrivals ≡ p.arrivals → new.picks ≡ p.picks → IsKept new
-kept_extended p new kept n e l le ek wk em wm er wr nt nw nb na np =
+pub kept_extended : (p new : Parts) → IsKept p → (n : ℕ) → IsExtended p.flows.items new.flows.items → length new.flows.items ≡ n → length p.flows.items ≤ n → new.eligible.keys ≡ p.eligible.keys → new.waiting.keys ≡ p.waiting.keys → new.eligible.moves ≡ p.eligible.moves → new.waiting.moves ≡ p.waiting.moves → p.eligible.room ≤ new.eligible.room → p.waiting.room ≤ new.waiting.room → n ≤ length new.eligible.keys + new.eligible.room → n ≤ length new.waiting.keys + new.waiting.room → new.virtual_time ≡ p.virtual_time → new.weights ≡ p.weights → new.busy_from ≡ p.busy_from → new.arrivals ≡ p.arrivals → new.picks ≡ p.picks → IsKept new
+kept_extended p new kept n e l le ek wk em wm er wr ee ww nt nw nb na np =
     let long = length-by_slot (seen p.busy_from) p.flows.items in
     let lk = ap length ek in
     let lw = ap length wk in
-    let a = kept.kept.eligible_room in
-    let b = kept.kept.waiting_room in
-    let k = roomy_kept kept.kept new.eligible new.waiting ek wk em wm (omega arith) (omega arith) in
+    let k = roomy_kept kept.kept new.eligible new.waiting ek wk em wm er wr in
     let m = more_flows k (n - length (flows_of p)) (omega arith) (omega arith) in
     record {
       kept = rw (nb, extended_seen p.busy_from p.flows.items new.flows.items n e l, nt, nw, na, np) m;

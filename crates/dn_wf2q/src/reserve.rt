@@ -24,13 +24,13 @@ impl Parts {
         if slot < self.flows.len() {
             return self.flows[slot].reserve_place();
         }
-        let more = slot - self.flows.len();
-        self.flows.reserve(more)?;
-        self.flows.reserve(more + 1)?;
-        let eligible = self.eligible.room();
-        self.eligible.reserve(eligible + more + 1)?;
-        let waiting = self.waiting.room();
-        self.waiting.reserve(waiting + more + 1)?;
+        // Where the sum saturates, it is more than any vector holds, so that its growth is refused.
+        let flows = slot.saturating_add(1);
+        self.flows.reserve(flows - self.flows.len())?;
+        // Each heap has a place for every flow. What an earlier call got before it was refused
+        // counts too, so that refusals don't add up.
+        self.eligible.reserve(flows - self.eligible.len())?;
+        self.waiting.reserve(flows - self.waiting.len())?;
         let packets = VecDeque::with_capacity(alloc, 1)?;
         add_queues(&mut self.flows, alloc, slot, packets);
         Ok(())

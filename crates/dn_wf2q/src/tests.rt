@@ -1,8 +1,29 @@
 use crate::Sched;
 use dn_types::{Len, Weight};
-use std::alloc::Global;
+use std::alloc::{AllocError, Global};
 use std::process::Abort;
 use std::test::Fail;
+
+/// The lines of the README's sample.
+fn sample(alloc: Global, len: Len, weight: Weight) -> Result<Option<usize>, AllocError> {
+    let mut sched = Sched::new(alloc);
+    sched.begin_busy();
+    sched.reserve_flow(0)?;
+    sched.arrive(0, len, weight);
+    let sent = sched.pick();
+    Ok(sent)
+}
+
+#[test]
+fn the_example_of_the_readme(rt: HostRuntime) {
+    let len = Len::new(1000).unwrap();
+    let weight = Weight::new(1).unwrap();
+    let mut sent = sample(rt.alloc(), len, weight);
+    if sent.is_err() {
+        sent = sample(rt.alloc(), len, weight);
+    }
+    assert_eq!(rt; sent, Ok(Some(0)));
+}
 
 /// What a scheduler tells of itself: whether it is idle, virtual time, arrivals, picks and pushes.
 fn told(sched: &Sched) -> (bool, u128, u64, u64, u64) {
