@@ -1,5 +1,25 @@
 use crate::MinHeap;
+use std::alloc::{AllocError, Global};
 use std::test::Fail;
+
+/// The lines of the README's sample.
+fn sample(alloc: Global) -> Result<Option<u64>, AllocError> {
+    let mut due: MinHeap<u64> = MinHeap::new(alloc);
+    due.reserve(2)?;
+    due.push_reserved(90);
+    due.push_reserved(30);
+    let first = due.pop();
+    Ok(first)
+}
+
+#[test]
+fn the_example_of_the_readme(rt: HostRuntime) {
+    let mut first = sample(rt.alloc());
+    if first.is_err() {
+        first = sample(rt.alloc());
+    }
+    assert_eq!(rt; first, Ok(Some(30)));
+}
 
 #[test]
 fn parts_by_themselves(rt: HostRuntime) -> Result<(), Fail> {
