@@ -24,6 +24,7 @@ fn command_in_range(command: Command)
 
 /// Prints a command and parses its text, which gives the command again. Want of memory in the
 /// printing is the one refusal.
+#[tactic(auto, using(crate::proofs::CommandsBack::text_back))]
 pub fn print_and_parse(
     alloc: Global,
     command: &Command,
