@@ -17,7 +17,8 @@ from random import Random
 sys.path.insert(0, str(Path(__file__).parent / "oracle"))
 
 from broken import bad_line, random_words_line  # noqa: E402
-from config_lines import LineFault, command_text, parse_line  # noqa: E402
+from config_lines import LineFault, parse_line  # noqa: E402
+from printing import command_text  # noqa: E402
 from scenarios import STYLES  # noqa: E402
 from spelling import any_command, spell  # noqa: E402
 

@@ -25,11 +25,11 @@ from typing import Optional
 sys.path.insert(0, str(Path(__file__).parent / "oracle"))
 
 from broken import bad_line, damaged_record, random_words_line  # noqa: E402
-from config_lines import command_text  # noqa: E402
 from files import PACKET_HEADER  # noqa: E402
 from fixed_cases import ENDLESS, JOINED, REPLAYS, USAGES  # noqa: E402
 from history import tuple_text  # noqa: E402
 from model import Command, DeletePipe, DeleteQueue, Queue, Row  # noqa: E402
+from printing import command_text  # noqa: E402
 from program import outcome  # noqa: E402
 from scenarios import STYLES, Style, first_commands, random_rows  # noqa: E402
 from spelling import spell  # noqa: E402

@@ -4,11 +4,11 @@ from __future__ import annotations
 
 from typing import Iterable
 
-from config_lines import command_text
 from model import (
     FREE, Advance, Advanced, Call, Collect, Configure, Configured, Deleted, Delivered, Exhausted, FiveTuple, FlowStatus,
     Full, Lost, NoSuchPipe, NoSuchQueue, NoTarget, PipeHasQueues, Queued, Reply, Status, Submit,
 )
+from printing import command_text
 
 BARE_REPLIES = {
     Configured: "configured",
