@@ -69,8 +69,8 @@ CALLERS = {
 }
 CLAUSE = re.compile(r"^(\s+ensures (?:(\w+) )?)\{.*\}$")
 FUNCTION = re.compile(r"^\s*(?:pub )?fn (\w+)")
-VERDICT = re.compile(r"^fn dn_shaper::([\w:]+): (proved|not proved|no proof)")
-GOAL = re.compile(r"\(`([\w-]+)`\)$")
+VERDICT = re.compile(r"^fn dn_shaper::([\w:]+): (proved|not proved|no proof: it calls|no proof)")
+GOAL = re.compile(r"it is not proved that .*\(`([\w-]+)`\)")
 ANSWER = re.compile(r"proofs/(?:\w+/)*?(\w+)/(?:[A-Z]\w*/)?(\w+)/Answers\.antt:\S+ error: `([\w'-]+)`")
 
 
@@ -209,10 +209,9 @@ def judge(copy, chosen):
                 print(f"{clause}: below {' '.join(failed)}", flush=True)
             else:
                 again.append(clause)
-        elif "not proved" in said:
-            caller = clause.callers[said.index("not proved")]
-            print(f"{clause}: refused at {caller} {' '.join(goals[caller][:2])}", flush=True)
-        elif "no proof" in said:
+        elif refused := [f for f, word in zip(clause.callers, said) if word in ("not proved", "no proof")]:
+            print(f"{clause}: refused at {refused[0]} {' '.join(goals[refused[0]][:2])}", flush=True)
+        elif "no proof: it calls" in said:
             again.append(clause)
         else:
             print(f"{clause}: not used", flush=True)
