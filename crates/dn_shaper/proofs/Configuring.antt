@@ -26,7 +26,7 @@ use Rattle.dn_shaper.specs.Standing.{StandsAt, IsSound, Does}
 use Rattle.dn_shaper.specs.Starting.{Within}
 use Rattle.dn_shaper.specs.Views.{views_of}
 use Rattle.dn_shaper.proofs.Accepting.{within-more}
-use Rattle.dn_shaper.proofs.Commands.{numbers-listed}
+use Rattle.dn_shaper.proofs.Needing.{answered-after}
 use Rattle.dn_shaper.proofs.Noted.{indexed-still}
 
 -- A command that was answered is obeyed, and isn't counted yet.
@@ -53,9 +53,7 @@ module _ (command : Command) (reply : Reply) (old new : State)
     (replies : (queues : List ℕ) → Lists (settings_of old.configured) queues → reply ≡ command_reply (settings_of old.configured) queues command)
     (obeys : Obeys command reply old new) where
   reply-is : (rule : Rule) (calls : List Call) → StandsAt rule old calls → reply ≡ reply_to_command calls command
-  reply-is rule calls s =
-      replies (queue_numbers calls) (subst (λ (f : Settings). Lists f (queue_numbers calls)) (sym s.settings_are) (numbers-listed calls))
-      ∙ ap (λ (f : Settings). command_reply f (queue_numbers calls) command) s.settings_are
+  reply-is rule calls s = answered-after command reply old rule calls s replies
 
   setting-is : (rule : Rule) (calls : List Call) (s : StandsAt rule old calls) (target : Target) → settings_of new.configured target ≡ settings (Configure command ∷ calls) target
   setting-is rule calls s target =

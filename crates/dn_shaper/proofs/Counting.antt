@@ -11,7 +11,7 @@ use Rattle.dn_types.specs.declared.reply.Reply.{Reply}
 use Rattle.dn_types.specs.declared.reply.Reply.TheVariants.{Exhausted}
 use Rattle.dn_types.specs.declared.rule.Rule.{Rule}
 use Rattle.dn_shaper.specs.declared.state.State.{State}
-use Rattle.dn_shaper.specs.Shaper.{StandsAfter}
+use Rattle.dn_shaper.specs.Shaper.{CanNeedMemory, StandsAfter}
 use Rattle.dn_shaper.specs.Standing.{Does, IsSound, StandsAt, StillStands}
 
 all-count : (calls : List Call) → length calls ≤ 2 ^ 62 → counted calls ≡ calls
@@ -80,6 +80,11 @@ module _ {E : Type 0} where
   pub refuses : (old s new : State) (result : Result Reply E) → old ≡ s → OnErr result (StillStands old new) → OnErr result ((rule : Rule) (calls : List Call) → StandsAfter rule s calls → StandsAfter rule new calls)
   refuses old s new (Ok r) is still = tt
   refuses old s new (Err e) is still = λ rule calls stands. still rule (counted calls) (subst (λ (x : State). StandsAt rule x (counted calls)) (sym is) stands)
+
+  -- What is known of a call that was refused memory, where the list is of the calls that count.
+  pub needs : (call named : Call) (old s : State) (result : Result Reply E) → named ≡ call → old ≡ s → OnErr result ((rule : Rule) (calls : List Call) → StandsAt rule old calls → CanNeedMemory calls call) → OnErr result ((rule : Rule) (calls : List Call) → StandsAfter rule s calls → CanNeedMemory (counted calls) named)
+  needs call named old s (Ok r) same is need = tt
+  needs call named old s (Err e) same is need = λ rule calls stands. subst (λ (c : Call). CanNeedMemory (counted calls) c) (sym same) (need rule (counted calls) (subst (λ (x : State). StandsAt rule x (counted calls)) (sym is) stands))
 
 -- What holds between calls.
 abbrev pub Holds : State → Type 0

@@ -20,6 +20,7 @@ pub mod Homes
 pub mod Housed
 pub mod Indexed
 pub mod Made
+pub mod Needing
 pub mod NewHome
 pub mod Next
 pub mod Noted

@@ -3,7 +3,7 @@ ghost use Rattle.dn_types.specs.Calls.{reaches};
 ghost use Rattle.dn_types.specs.Configuration.{subject};
 ghost use Rattle.dn_types.specs.declared.call.Call.TheVariants.{Configure};
 ghost use Rattle.dn_shaper.specs.Arriving.{KeepsFlows};
-ghost use Rattle.dn_shaper.specs.Configuring.{DiscardsReached};
+ghost use Rattle.dn_shaper.specs.Configuring.{DiscardsReached, IsAnswered};
 ghost use Rattle.dn_shaper.specs.Settings.{settings_of};
 ghost use Rattle.dn_shaper.specs.Settling.{IsKept};
 ghost use Rattle.dn_shaper.specs.Standing.{Does, IsSound, StillStands};
@@ -54,6 +54,7 @@ pub fn configure(state: &mut State, command: &Command) -> Result<Reply, AllocErr
     ensures sound { IsSound state.new }
     ensures refused { OnErr result (StillStands state.old state.new) }
     ensures only_new { OnErr result (settings_of state.old.configured (subject command.now) ≡ None) }
+    ensures only_accepted { OnErr result (IsAnswered (settings_of state.old.configured) command.now Reply.Configured) }
 {
     let reply = state.configured.reply(command);
     match &reply {

@@ -1,4 +1,4 @@
-ghost use Rattle.std.specs.Prelude.{◌≡◌, ℕ, ◌≤◌, List, [], ◌∷◌, length, max, IfOk, OnErr, IsOk};
+ghost use Rattle.std.specs.Prelude.{◌≡◌, ℕ, ◌≤◌, ◌^◌, List, [], ◌∷◌, length, max, IfOk, OnErr, IsOk};
 ghost use Rattle.dn_types.specs.Calls.{trace_of};
 ghost use Rattle.dn_types.specs.Clock.{call_limit, counted};
 ghost use Rattle.dn_types.specs.Flows.{keys};
@@ -7,7 +7,7 @@ ghost use Rattle.dn_types.specs.declared.call.Call.{Call as CallValue};
 ghost use Rattle.dn_types.specs.declared.call.Call.TheVariants.{Advance};
 ghost use Rattle.dn_types.specs.declared.rule.Rule.{Rule as RuleValue};
 ghost use Rattle.dn_types.specs.declared.rule.Rule.TheVariants.{Ordered};
-ghost use Rattle.dn_shaper.specs.Shaper.{StandsAfter, held, items_in};
+ghost use Rattle.dn_shaper.specs.Shaper.{CanNeedMemory, StandsAfter, held, items_in};
 
 use crate::configure::configure;
 use crate::show::show;
@@ -69,6 +69,7 @@ impl Shaper {
     pub fn apply(&mut self, call: &Call) -> Result<Reply, AllocError>
         ensures ok { IfOk result (λ r. (rule : RuleValue) (calls : List CallValue) → StandsAfter rule self.old calls → (r ≡ reply rule calls call.now) × StandsAfter rule self.new (call.now ∷ calls)) }
         ensures err { OnErr result ((rule : RuleValue) (calls : List CallValue) → StandsAfter rule self.old calls → StandsAfter rule self.new calls) }
+        ensures needs { OnErr result ((rule : RuleValue) (calls : List CallValue) → StandsAfter rule self.old calls → CanNeedMemory (counted calls) call.now) }
         ensures advance { (moment : ℕ) → call.now ≡ Advance moment → IsOk result }
         ensures exhausted { (rule : RuleValue) (calls : List CallValue) → StandsAfter rule self.old calls → call_limit ≤ length calls → IsOk result }
     {
@@ -90,7 +91,8 @@ impl Shaper {
 
     /// The count of the calls that were answered, but for those that were answered Exhausted.
     pub fn calls(&self) -> u64
-        ensures { (rule : RuleValue) (calls : List CallValue) → StandsAfter rule self.now calls → result ≡ length (counted calls) }
+        ensures value { (rule : RuleValue) (calls : List CallValue) → StandsAfter rule self.now calls → result ≡ length (counted calls) }
+        ensures bound { result ≤ 2 ^ 62 }
     {
         self.state.calls
     }

@@ -1,10 +1,12 @@
-ghost use Rattle.std.specs.Prelude.{◌≡◌, ℕ, ◌<◌, ◌≤◌, ◌^◌, max, List, [], IfOk, OnErr};
+ghost use Rattle.std.specs.Prelude.{◌≡◌, ℕ, ◌<◌, ◌≤◌, ◌^◌, max, true, List, [], is_some, IfOk, OnErr};
+ghost use Rattle.dn_types.specs.Flows.{treatment};
 ghost use Rattle.dn_types.specs.Trace.{Event};
 ghost use Rattle.dn_types.specs.declared.call.Call.{Call as CallValue};
 ghost use Rattle.dn_types.specs.declared.call.Call.TheVariants.{Submit};
 ghost use Rattle.dn_types.specs.declared.rule.Rule.{Rule as RuleValue};
 ghost use Rattle.dn_shaper.specs.Agreement.{AgreesWith};
 ghost use Rattle.dn_shaper.specs.Sending.{counted_at};
+ghost use Rattle.dn_shaper.specs.Settings.{settings_of};
 ghost use Rattle.dn_shaper.specs.Standing.{Does, IsSound, StandsAt, StillStands};
 
 use crate::prepare::prepare;
@@ -33,6 +35,7 @@ fn send_packet(
     ensures calls { state.new.calls ≡ state.old.calls }
     ensures refused { OnErr result (StillStands state.old state.new) }
     ensures still_sound { OnErr result (IsSound state.new) }
+    ensures only_treated { OnErr result (is_some (treatment (settings_of state.old.configured target.now)) ≡ true) }
 {
     match state.configured.treatment(*target) {
         None => {
@@ -70,6 +73,7 @@ pub fn submit_call(
     ensures does { IfOk result (λ reply. Does (Submit target packet.now moment) state.old state.new reply) }
     ensures sound { IsSound state.new }
     ensures refused { OnErr result (StillStands state.old state.new) }
+    ensures only_treated { OnErr result (is_some (treatment (settings_of state.old.configured target)) ≡ true) }
 {
     let at = state.now.max(moment.get());
     let reply = send_packet(state, alloc, &target, packet, at)?;

@@ -1,6 +1,8 @@
 -- Each kind of call is answered by its function, below the limit of calls.
 use Rattle.dn_types.specs.declared.call.Call.TheVariants.{Configure, Submit, Advance, Collect, Show}
-use Rattle.dn_shaper.proofs.Counting.{exhausted, answers, answers-ok, never-full, refuses, holds-then, holds-ok, same-stands}
+use Rattle.dn_wf2q.proofs.Reserved.{on_err_always}
+use Rattle.dn_shaper.proofs.Counting.{exhausted, answers, answers-ok, never-full, refuses, holds-then, holds-ok, needs, same-stands}
+use Rattle.dn_shaper.proofs.Needing.{configure-needs, submit-needs}
 use Rattle.dn_shaper.proofs.shaper.Shaper.apply.Goals as goal
 
 pub returns-then-self-eq-CALL_LIMIT-clause-ok : goal.returns-then-self-eq-CALL_LIMIT-clause-ok
@@ -53,3 +55,15 @@ returns-in-Collect-clause-exhausted c = never-full c.self.inside.state c.args.se
 
 pub returns-in-Show-clause-exhausted : goal.returns-in-Show-clause-exhausted
 returns-in-Show-clause-exhausted c = never-full c.self.inside.state c.args.self.now c.show.result c.self.view_is c.if-self-eq-CALL_LIMIT.false
+
+pub returns-in-Configure-clause-needs : goal.returns-in-Configure-clause-needs
+returns-in-Configure-clause-needs c = needs (Configure c.in-Configure.command) c.args.call.now c.self.inside.state c.args.self.now c.configure.result c.in-Configure.is c.self.view_is (configure-needs c.in-Configure.command c.self.inside.state c.configure.result c.configure.ensures.only_new c.configure.ensures.only_accepted)
+
+pub returns-in-Submit-clause-needs : goal.returns-in-Submit-clause-needs
+returns-in-Submit-clause-needs c = needs (Submit c.in-Submit.target c.in-Submit.packet c.in-Submit.moment) c.args.call.now c.self.inside.state c.args.self.now c.submit_call.result c.in-Submit.is c.self.view_is (submit-needs c.in-Submit.target c.in-Submit.packet c.in-Submit.moment c.self.inside.state c.submit_call.result c.submit_call.ensures.only_treated)
+
+pub returns-in-Collect-clause-needs : goal.returns-in-Collect-clause-needs
+returns-in-Collect-clause-needs c = needs (Collect c.in-Collect.moment) c.args.call.now c.self.inside.state c.args.self.now c.collect.result c.in-Collect.is c.self.view_is (on_err_always c.collect.result _ (λ rule calls stands. tt))
+
+pub returns-in-Show-clause-needs : goal.returns-in-Show-clause-needs
+returns-in-Show-clause-needs c = needs Show c.args.call.now c.self.inside.state c.args.self.now c.show.result c.in-Show.is c.self.view_is (on_err_always c.show.result _ (λ rule calls stands. tt))
