@@ -51,10 +51,11 @@ pub fn accept(
     let state = &parts.links[home.place];
     let free = state.link.free();
     let waited = state.waiting;
-    let rates = configured.rates(state.pipe);
+    let pipe = state.pipe;
     let idle = is_idle(state, at);
     arrive(parts, home, flow, len, weight, idle);
     if idle {
+        let rates = configured.rates(pipe);
         start_next(parts, home.place, at, &rates);
     } else if waited == 0 {
         due.push_reserved(Due {

@@ -66,7 +66,7 @@ fn send(
 }
 
 /// The link's next packet leaves its queue and is sent at the moment.
-pub fn start_one(
+fn start_one(
     rule: Rule,
     rates: &Rates,
     moment: u64,

@@ -23,7 +23,7 @@ pub fn advance(state: &mut State, moment: Moment) -> Reply
 }
 
 /// Moves the clock, and gives the packets that are due by then. The list is reserved first, with
-/// room for all that wait or are under way.
+/// room for all that wait or are under way, and gives back what it doesn't use.
 pub fn collect(state: &mut State, alloc: Global, moment: Moment) -> Result<Reply, AllocError>
     requires sound { IsSound state.old }
     requires few { state.old.calls < 2 ^ 62 }
@@ -35,6 +35,7 @@ pub fn collect(state: &mut State, alloc: Global, moment: Moment) -> Result<Reply
     let mut list = Vec::with_capacity(alloc, state.parts.line.len() + state.parts.waiting)?;
     settle(&mut state.parts, &mut state.due, &state.configured, at);
     give(&mut state.parts.line, at, &mut list);
+    list.shrink_to_fit();
     state.now = at;
     state.calls += 1;
     Ok(Reply::Delivered {
