@@ -11,8 +11,8 @@ use Rattle.dn_shaper.specs.Agreement.{AgreesWith, Agrees, link_names}
 use Rattle.dn_shaper.specs.Due.{Holds, backlogged}
 use Rattle.dn_shaper.specs.Starting.{Within, IsReady}
 
--- The parts with the heap of the links that have a backlog: the heap has a place for each link, and fewer pushes than
--- its limit.
+-- The parts with the heap of the links that have a backlog: each of them stands in it once, with the moment from which it is
+-- free, and the heap has a place for each link.
 pub record IsKept (p : Parts) (due : Heap Due) : Type 0 where
   pub agrees : Agrees p
   pub within : Within (2 ^ 62) p

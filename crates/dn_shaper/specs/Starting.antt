@@ -35,10 +35,11 @@ pub record KeepsSchedule (old new : LinkView) : Type 0 where
   pub room : (slot : ℕ) → room_at old.schedule.room slot ≤ room_at new.schedule.room slot
   pub arrivals : new.schedule.arrivals ≡ old.schedule.arrivals
 
--- So many packets at most were counted anywhere, and there is room in the delay line for each that waits.
+-- None of the flow's counts is above n.
 abbrev pub IsFlowWithin : ℕ → FlowState → Type 0
 IsFlowWithin n s = (s.lost ≤ n) × (s.full ≤ n) × (s.started + s.discarded + length s.backlog ≤ n)
 
+-- No count anywhere is above n. There is room in the delay line for each packet that waits.
 pub record Within (n : ℕ) (p : Parts) : Type 0 where
   pub waiting_is : p.waiting ≡ waits_in_all (views_of p)
   pub room : p.waiting ≤ p.line.room

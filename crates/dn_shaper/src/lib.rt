@@ -1,4 +1,4 @@
-//! Sequential dummynet: the state of a shaper, its timed calls, and what packets do to it.
+//! Sequential dummynet: each call answered after the calls before it.
 #![tactic(auto)]
 
 mod accept;

@@ -22,8 +22,9 @@ use std::marker::Model;
 const CALL_LIMIT: u64 = 1 << 62;
 
 /// Sequential dummynet: pipes and queues with their flows, links and delay line (ipfw(8); Rizzo
-/// 1997). Times are in nanoseconds, up to 2^62. Contracts see its state, and say how it stands after
-/// the calls that it answered, newest first.
+/// 1997). Times are in nanoseconds: the moments of calls are at most 2^62, and due moments are below
+/// 2^63. Contracts see its state, and say how it stands after the calls that it answered, newest
+/// first.
 #[derive(Drop)]
 pub struct Shaper {
     state: State,
