@@ -1,5 +1,6 @@
 use crate::{DelayLine, Link, tx_time};
 use dn_types::{Bandwidth, Delay, Delivery, Len, Rule};
+use std::alloc::{AllocError, Global};
 use std::test::Fail;
 
 fn delivery(due: u64, packet: u64) -> Delivery {
@@ -9,6 +10,43 @@ fn delivery(due: u64, packet: u64) -> Delivery {
         flow: 0,
         start: 0,
     }
+}
+
+/// The lines of the README's sample, for packet 7 of flow 0, which starts at 0.
+fn sample(
+    alloc: Global,
+    len: Len,
+    bandwidth: Bandwidth,
+    delay: Delay,
+) -> Result<Option<Delivery>, AllocError> {
+    let (packet, flow, start) = (7, 0, 0);
+    let mut line = DelayLine::new(alloc);
+    line.reserve(1)?;
+    let mut link = Link::new();
+    let tx = tx_time(len, bandwidth);
+    link.begin(start, tx);
+    let due = link.deliver(start, tx, delay, Rule::Ordered);
+    line.push_reserved(Delivery {
+        due,
+        packet,
+        flow,
+        start,
+    });
+    let first = line.pop_due(due);
+    Ok(first)
+}
+
+// 1,000 bytes at 8 Mbit/s take 1 ms, and the delay is 50 ms.
+#[test]
+fn the_example_of_the_readme(rt: HostRuntime) {
+    let len = Len::new(1_000).unwrap();
+    let bandwidth = Bandwidth::new(8_000_000).unwrap();
+    let delay = Delay::new(50).unwrap();
+    let mut first = sample(rt.alloc(), len, bandwidth, delay);
+    if first.is_err() {
+        first = sample(rt.alloc(), len, bandwidth, delay);
+    }
+    assert_eq!(rt; first, Ok(Some(delivery(51_000_000, 7))));
 }
 
 // Bytes, bit/s and nanoseconds, worked out by hand: bits divided by bit/s, rounded up.
