@@ -83,7 +83,7 @@ impl FlowQueue {
     /// Reserves a place for the next push.
     pub fn reserve_place(&mut self) -> Result<(), AllocError>
         ensures reserved { OnOk result (self.new ≡ with_place self.old) }
-        ensures refused { OnErr result (self.new ≡ self.old) }
+        ensures err { OnErr result (self.new ≡ self.old) }
         ensures succeeds { self.old.reserved ≡ true → IsOk result }
     {
         if self.reserved {

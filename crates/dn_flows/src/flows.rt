@@ -60,7 +60,7 @@ impl Flows {
         ensures within { IfOk result (λ flow. flow < length self.new.flows) }
         ensures keys { OnOk result (self.new.keys ≡ with_key key self.old.keys) }
         ensures flows { OnOk result (self.new.flows ≡ flows_with key self.old) }
-        ensures refused { OnErr result (self.new ≡ self.old) }
+        ensures err { OnErr result (self.new ≡ self.old) }
         ensures succeeds { is_known key self.old.keys ≡ true → IsOk result }
     {
         let key = TableKey::new(key);
@@ -120,7 +120,7 @@ impl Flows {
         requires { flow < length self.old.flows }
         ensures reserved { OnOk result (self.new.flows ≡ slice_set self.old.flows flow (with_place (flow_at self.old.flows flow))) }
         ensures keys { self.new.keys ≡ self.old.keys }
-        ensures refused { OnErr result (self.new ≡ self.old) }
+        ensures err { OnErr result (self.new ≡ self.old) }
         ensures succeeds { (flow_at self.old.flows flow).reserved ≡ true → IsOk result }
     {
         let queue = &mut self.queues[flow];

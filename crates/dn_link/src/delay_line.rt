@@ -39,7 +39,7 @@ impl DelayLine {
         ensures room { OnOk result (self.new.room ≡ max self.old.room n) }
         ensures pending { self.new.pending ≡ self.old.pending }
         ensures pushed { self.new.pushed ≡ self.old.pushed }
-        ensures refused { OnErr result (self.new ≡ self.old) }
+        ensures err { OnErr result (self.new ≡ self.old) }
         ensures succeeds { n ≤ self.old.room → IsOk result }
     {
         self.heap.reserve(n)
