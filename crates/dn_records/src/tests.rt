@@ -1,4 +1,5 @@
 mod devices;
 mod example;
 mod fakes;
+mod memory;
 mod records;

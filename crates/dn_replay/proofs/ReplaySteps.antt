@@ -1,22 +1,23 @@
 -- Why a replay isn't made, step by step.
-use Rattle.std.proofs.Common.{◌≡◌, ℕ, ◌<◌, Bool, true, List, [], ◌∷◌, Option, Some, None, Result, Ok, Err, refl, All, arith}
+use Rattle.std.proofs.Common.{◌≡◌, ◌∙◌, ℕ, ◌<◌, Bool, true, false, List, [], ◌∷◌, ◌++◌, Option, Some, None, Result, Ok, Err, refl, sym, ap, All, arith}
 use Rattle.std.specs.Io.KnownBytes.{Keeps}
 use Rattle.std.proofs.lemmas.List.Elements.{All-nil, All-push}
+use Rattle.dn_types.specs.History.{IsLawful, IsLawfulAfter}
+use Rattle.dn_types.specs.Replies.{reply}
 use Rattle.dn_types.specs.declared.call.Call.{Call}
 use Rattle.dn_types.specs.declared.entry.Entry.{Entry}
+use Rattle.dn_types.specs.declared.rule.Rule.TheVariants.{Ordered}
 use Rattle.dn_text.specs.Joined.{joined_parts}
 use Rattle.dn_replay.specs.Configuring.{configured_by}
 use Rattle.dn_replay.specs.PacketFile.{packet_file, packet_limit, rows_of}
 use Rattle.dn_replay.specs.Reading.{within, IsFaultOf, IsRefusal, IsRefusedFor, IsTextOf, ReadsAs}
-use Rattle.dn_replay.specs.Report.{report}
-use Rattle.dn_replay.specs.Writing.{IsUnwritten}
 use Rattle.dn_replay.specs.Replays.{AskFor, calls_of, calls_of_joined, config_calls, IsUnreplayed, IsUnreported}
 use Rattle.dn_replay.specs.Runs.{entry_after, history_of, replayed}
 use Rattle.dn_replay.specs.declared.replay_fault.ReplayFault.{ReplayFault}
 use Rattle.dn_replay.specs.declared.replay_fault.ReplayFault.TheVariants.{BadRow, Read, Write, TooLong, OutOfMemory, Config, ConfigText, NoSuchPipe, BadRecord, BadCount, PipeHasQueues, NoSuchQueue}
 use Rattle.dn_replay.specs.declared.row.Row.{Row}
 use Rattle.dn_replay.specs.declared.source.Source.{Source}
-use Rattle.dn_replay.specs.declared.source.Source.TheVariants.{Report, Input}
+use Rattle.dn_replay.specs.declared.source.Source.TheVariants.{Input}
 
 pub keeps : (known : Option (List ℕ)) → Keeps known known
 keeps None = tt
@@ -30,74 +31,86 @@ by_one (c ∷ calls) =
     let zero_below : 0 < 1 = omega arith in
     All-push (λ (e : Entry). e.caller < 1) (history_of calls) (entry_after calls c) (by_one calls) zero_below
 
+-- The calls before these entries, and theirs.
+made_after : List Call → List Entry → List Call
+made_after calls [] = calls
+made_after calls (e ∷ entries) = made_after (e.call ∷ calls) entries
+
+made_after-push : (calls : List Call) (entries : List Entry) (e : Entry) → made_after calls (entries ++ e ∷ []) ≡ e.call ∷ made_after calls entries
+unfolding made_after
+made_after-push calls [] e = refl
+made_after-push calls (first ∷ entries) e = made_after-push (first.call ∷ calls) entries e
+
+made : (calls : List Call) → made_after [] (history_of calls) ≡ calls
+unfolding made_after history_of
+made [] = refl
+made (c ∷ calls) = made_after-push [] (history_of calls) (entry_after calls c) ∙ ap (λ (before : List Call). c ∷ before) (made calls)
+
+lawful-push : (calls : List Call) (entries : List Entry) (e : Entry) → IsLawfulAfter Ordered calls entries → e.reply ≡ reply Ordered (made_after calls entries) e.call → IsLawfulAfter Ordered calls (entries ++ e ∷ [])
+unfolding made_after
+lawful-push calls [] e lawful is = (is, tt)
+lawful-push calls (first ∷ entries) e lawful is = (lawful.0, lawful-push (first.call ∷ calls) entries e lawful.1 is)
+
+-- The history of a run is lawful.
+pub lawful : (calls : List Call) → IsLawful Ordered (history_of calls)
+unfolding history_of
+lawful [] = tt
+lawful (c ∷ calls) =
+    lawful-push [] (history_of calls) (entry_after calls c) (lawful calls) (ap (λ (before : List Call). reply Ordered before c) (sym (made calls)))
+
 -- An input may have held some text.
 pub some_text : (known : Option (List ℕ)) → (text : List ℕ) × IsTextOf known text
 some_text None = ([], tt)
 some_text (Some bytes) = (bytes, refl)
 
-pub unwritten : (calls : List Call) (text : List ℕ) (old new : Option (List ℕ)) (failed : Bool) (fault : ReplayFault) → text ≡ report 1 (history_of calls)
-    → IsUnwritten Report text old new failed fault → IsUnreported calls old new failed fault
-unwritten calls text old new failed (Write what) is h = (h.0, h.1, rw (← is) h.2)
-unwritten calls text old new failed OutOfMemory is h = h
-unwritten calls text old new failed (Read what) is h = absurd h
-unwritten calls text old new failed (Config l f) is h = absurd h
-unwritten calls text old new failed (ConfigText l) is h = absurd h
-unwritten calls text old new failed (NoSuchPipe l) is h = absurd h
-unwritten calls text old new failed (BadRow r f) is h = absurd h
-unwritten calls text old new failed (BadRecord n) is h = absurd h
-unwritten calls text old new failed (TooLong s) is h = absurd h
-unwritten calls text old new failed BadCount is h = absurd h
-unwritten calls text old new failed (PipeHasQueues l) is h = absurd h
-unwritten calls text old new failed (NoSuchQueue l) is h = absurd h
-
--- The report of the calls that were asked for wasn't written.
-pub unreported : (ReadFailed : Source → Type 0) (Asked : Result (List Call) ReplayFault → Type 0) (calls : List Call) (old new : Option (List ℕ)) (failed : Bool) (fault : ReplayFault)
-    → Asked (Ok calls) → IsUnreported calls old new failed fault → IsUnreplayed ReadFailed Asked old new failed fault
-unreported ReadFailed Asked calls old new failed (Write what) asked h = (calls, asked, h)
-unreported ReadFailed Asked calls old new failed OutOfMemory asked h = h.1
-unreported ReadFailed Asked calls old new failed (Read what) asked h = absurd h
-unreported ReadFailed Asked calls old new failed (Config l f) asked h = absurd h
-unreported ReadFailed Asked calls old new failed (ConfigText l) asked h = absurd h
-unreported ReadFailed Asked calls old new failed (NoSuchPipe l) asked h = absurd h
-unreported ReadFailed Asked calls old new failed (BadRow r f) asked h = absurd h
-unreported ReadFailed Asked calls old new failed (BadRecord n) asked h = absurd h
-unreported ReadFailed Asked calls old new failed (TooLong s) asked h = absurd h
-unreported ReadFailed Asked calls old new failed BadCount asked h = absurd h
-unreported ReadFailed Asked calls old new failed (PipeHasQueues l) asked h = absurd h
-unreported ReadFailed Asked calls old new failed (NoSuchQueue l) asked h = absurd h
+-- The report of the calls that were asked for wasn't written, and no read failed.
+pub unreported : (ReadFailed : Option Source → Type 0) (Asked : Result (List Call) ReplayFault → Type 0) (calls : List Call) (old new : Option (List ℕ)) (failed : Bool) (fault : ReplayFault)
+    → ReadFailed None → Asked (Ok calls) → IsUnreported calls old new failed fault → IsUnreplayed ReadFailed Asked old new failed fault
+unreported ReadFailed Asked calls old new failed (Write what) sound asked h = (sound, (calls, asked, h))
+unreported ReadFailed Asked calls old new failed OutOfMemory sound asked h = (sound, h)
+unreported ReadFailed Asked calls old new failed (Read what) sound asked h = absurd h
+unreported ReadFailed Asked calls old new failed (Config l f) sound asked h = absurd h
+unreported ReadFailed Asked calls old new failed (ConfigText l) sound asked h = absurd h
+unreported ReadFailed Asked calls old new failed (NoSuchPipe l) sound asked h = absurd h
+unreported ReadFailed Asked calls old new failed (BadRow r f) sound asked h = absurd h
+unreported ReadFailed Asked calls old new failed (BadRecord n) sound asked h = absurd h
+unreported ReadFailed Asked calls old new failed (TooLong s) sound asked h = absurd h
+unreported ReadFailed Asked calls old new failed BadCount sound asked h = absurd h
+unreported ReadFailed Asked calls old new failed (PipeHasQueues l) sound asked h = absurd h
+unreported ReadFailed Asked calls old new failed (NoSuchQueue l) sound asked h = absurd h
 
 -- A text has a fault of its own.
-pub faulty_text : {A : Type 0} (ReadFailed : Source → Type 0) (Asked : Result (List Call) ReplayFault → Type 0) (read : Result A ReplayFault) (known : Option (List ℕ)) (failed : Bool) (fault : ReplayFault)
-    → ((f : ReplayFault) → read ≡ Err f → Asked (Err f)) → IsFaultOf read fault → IsUnreplayed ReadFailed Asked known known failed fault
-faulty_text ReadFailed Asked read known failed (Write what) asked h = absurd h
-faulty_text ReadFailed Asked read known failed OutOfMemory asked h = keeps known
-faulty_text ReadFailed Asked read known failed (Read what) asked h = absurd h
-faulty_text ReadFailed Asked read known failed (Config l f) asked h = (asked (Config l f) h, keeps known)
-faulty_text ReadFailed Asked read known failed (ConfigText l) asked h = (asked (ConfigText l) h, keeps known)
-faulty_text ReadFailed Asked read known failed (NoSuchPipe l) asked h = (asked (NoSuchPipe l) h, keeps known)
-faulty_text ReadFailed Asked read known failed (BadRow r f) asked h = (asked (BadRow r f) h, keeps known)
-faulty_text ReadFailed Asked read known failed (BadRecord n) asked h = (asked (BadRecord n) h, keeps known)
-faulty_text ReadFailed Asked read known failed (TooLong s) asked h = (asked (TooLong s) h, keeps known)
-faulty_text ReadFailed Asked read known failed BadCount asked h = (asked BadCount h, keeps known)
-faulty_text ReadFailed Asked read known failed (PipeHasQueues l) asked h = (asked (PipeHasQueues l) h, keeps known)
-faulty_text ReadFailed Asked read known failed (NoSuchQueue l) asked h = (asked (NoSuchQueue l) h, keeps known)
+pub faulty_text : {A : Type 0} (ReadFailed : Option Source → Type 0) (Asked : Result (List Call) ReplayFault → Type 0) (read : Result A ReplayFault) (known : Option (List ℕ)) (failed : Bool) (fault : ReplayFault)
+    → ReadFailed None → failed ≡ false → ((f : ReplayFault) → read ≡ Err f → Asked (Err f)) → IsFaultOf read fault → IsUnreplayed ReadFailed Asked known known failed fault
+faulty_text ReadFailed Asked read known failed (Write what) sound whole asked h = absurd h
+faulty_text ReadFailed Asked read known failed OutOfMemory sound whole asked h = (sound, (whole, keeps known))
+faulty_text ReadFailed Asked read known failed (Read what) sound whole asked h = absurd h
+faulty_text ReadFailed Asked read known failed (Config l f) sound whole asked h = (sound, asked (Config l f) h, (whole, keeps known))
+faulty_text ReadFailed Asked read known failed (ConfigText l) sound whole asked h = (sound, asked (ConfigText l) h, (whole, keeps known))
+faulty_text ReadFailed Asked read known failed (NoSuchPipe l) sound whole asked h = (sound, asked (NoSuchPipe l) h, (whole, keeps known))
+faulty_text ReadFailed Asked read known failed (BadRow r f) sound whole asked h = (sound, asked (BadRow r f) h, (whole, keeps known))
+faulty_text ReadFailed Asked read known failed (BadRecord n) sound whole asked h = (sound, asked (BadRecord n) h, (whole, keeps known))
+faulty_text ReadFailed Asked read known failed (TooLong s) sound whole asked h = (sound, asked (TooLong s) h, (whole, keeps known))
+faulty_text ReadFailed Asked read known failed BadCount sound whole asked h = (sound, asked BadCount h, (whole, keeps known))
+faulty_text ReadFailed Asked read known failed (PipeHasQueues l) sound whole asked h = (sound, asked (PipeHasQueues l) h, (whole, keeps known))
+faulty_text ReadFailed Asked read known failed (NoSuchQueue l) sound whole asked h = (sound, asked (NoSuchQueue l) h, (whole, keeps known))
 
 -- An input is refused.
-pub refused_input : {A : Type 0} (ReadFailed : Source → Type 0) (Asked : Result (List Call) ReplayFault → Type 0) (source : Source) (read : List ℕ → Result A ReplayFault) (input known : Option (List ℕ)) (input_failed failed : Bool) (fault : ReplayFault)
-    → ((f : ReplayFault) → IsRefusedFor read input f → Asked (Err f)) → ((what : Source) → what ≡ source → input_failed ≡ true → ReadFailed what)
+pub refused_input : {A : Type 0} (ReadFailed : Option Source → Type 0) (Asked : Result (List Call) ReplayFault → Type 0) (source : Source) (read : List ℕ → Result A ReplayFault) (input known : Option (List ℕ)) (input_failed failed : Bool) (fault : ReplayFault)
+    → failed ≡ false → ((f : ReplayFault) → IsRefusedFor read input f → Asked (Err f)) → (input_failed ≡ false → ReadFailed None) → (input_failed ≡ true → ReadFailed (Some source))
     → IsRefusal source read input input_failed fault → IsUnreplayed ReadFailed Asked known known failed fault
-refused_input ReadFailed Asked source read input known input_failed failed (Write what) asked reads h = absurd h
-refused_input ReadFailed Asked source read input known input_failed failed OutOfMemory asked reads h = keeps known
-refused_input ReadFailed Asked source read input known input_failed failed (Read what) asked reads h = (reads what h.0 h.1, keeps known)
-refused_input ReadFailed Asked source read input known input_failed failed (Config l f) asked reads h = (asked (Config l f) h.1, keeps known)
-refused_input ReadFailed Asked source read input known input_failed failed (ConfigText l) asked reads h = (asked (ConfigText l) h.1, keeps known)
-refused_input ReadFailed Asked source read input known input_failed failed (NoSuchPipe l) asked reads h = (asked (NoSuchPipe l) h.1, keeps known)
-refused_input ReadFailed Asked source read input known input_failed failed (BadRow r f) asked reads h = (asked (BadRow r f) h.1, keeps known)
-refused_input ReadFailed Asked source read input known input_failed failed (BadRecord n) asked reads h = (asked (BadRecord n) h.1, keeps known)
-refused_input ReadFailed Asked source read input known input_failed failed (TooLong s) asked reads h = (asked (TooLong s) h.1, keeps known)
-refused_input ReadFailed Asked source read input known input_failed failed BadCount asked reads h = (asked BadCount h.1, keeps known)
-refused_input ReadFailed Asked source read input known input_failed failed (PipeHasQueues l) asked reads h = (asked (PipeHasQueues l) h.1, keeps known)
-refused_input ReadFailed Asked source read input known input_failed failed (NoSuchQueue l) asked reads h = (asked (NoSuchQueue l) h.1, keeps known)
+refused_input ReadFailed Asked source read input known input_failed failed (Write what) whole asked sound reads h = absurd h
+refused_input ReadFailed Asked source read input known input_failed failed OutOfMemory whole asked sound reads h = (sound h, (whole, keeps known))
+refused_input ReadFailed Asked source read input known input_failed failed (Read what) whole asked sound reads h = (rw h.0 (reads h.1), (whole, keeps known))
+refused_input ReadFailed Asked source read input known input_failed failed (Config l f) whole asked sound reads h = (sound h.0, asked (Config l f) h.1, (whole, keeps known))
+refused_input ReadFailed Asked source read input known input_failed failed (ConfigText l) whole asked sound reads h = (sound h.0, asked (ConfigText l) h.1, (whole, keeps known))
+refused_input ReadFailed Asked source read input known input_failed failed (NoSuchPipe l) whole asked sound reads h = (sound h.0, asked (NoSuchPipe l) h.1, (whole, keeps known))
+refused_input ReadFailed Asked source read input known input_failed failed (BadRow r f) whole asked sound reads h = (sound h.0, asked (BadRow r f) h.1, (whole, keeps known))
+refused_input ReadFailed Asked source read input known input_failed failed (BadRecord n) whole asked sound reads h = (sound h.0, asked (BadRecord n) h.1, (whole, keeps known))
+refused_input ReadFailed Asked source read input known input_failed failed (TooLong s) whole asked sound reads h = (sound h.0, asked (TooLong s) h.1, (whole, keeps known))
+refused_input ReadFailed Asked source read input known input_failed failed BadCount whole asked sound reads h = (sound h.0, asked BadCount h.1, (whole, keeps known))
+refused_input ReadFailed Asked source read input known input_failed failed (PipeHasQueues l) whole asked sound reads h = (sound h.0, asked (PipeHasQueues l) h.1, (whole, keeps known))
+refused_input ReadFailed Asked source read input known input_failed failed (NoSuchQueue l) whole asked sound reads h = (sound h.0, asked (NoSuchQueue l) h.1, (whole, keeps known))
 
 -- What two inputs ask for.
 pub asks : (config packets : Option (List ℕ)) (calls : List Call) (rows : List Row) → ReadsAs config_calls config calls → ReadsAs packet_file packets rows → AskFor config packets (Ok (replayed calls rows))

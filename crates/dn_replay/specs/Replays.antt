@@ -1,9 +1,8 @@
 -- A replay: the calls that its inputs ask for, and what is written of them.
-use Rattle.std.specs.Prelude.{◌≡◌, ◌⊎◌, ℕ, Bool, true, false, List, Option, Result, Ok, Err}
+use Rattle.std.specs.Prelude.{◌≡◌, ℕ, Bool, true, false, List, Option, None, Some, Result, Ok, Err}
 use Rattle.std.specs.Io.KnownBytes.{Appends, Keeps}
 use Rattle.dn_types.specs.declared.call.Call.{Call}
 use Rattle.dn_types.specs.declared.entry.Entry.{Entry}
-use Rattle.dn_records.specs.Devices.{AppendsPart}
 use Rattle.dn_text.specs.Joined.{joined_parts}
 use Rattle.dn_replay.specs.ConfigFile.{config_limit}
 use Rattle.dn_replay.specs.Configuring.{configured_by}
@@ -11,6 +10,7 @@ use Rattle.dn_replay.specs.PacketFile.{packet_file, packet_limit, rows_of}
 use Rattle.dn_replay.specs.Reading.{◌>>=◌, within, IsTextOf, ReadsAs}
 use Rattle.dn_replay.specs.Report.{report}
 use Rattle.dn_replay.specs.Runs.{history_of, replayed}
+use Rattle.dn_replay.specs.Writing.{IsUnwritten}
 use Rattle.dn_replay.specs.declared.replay_fault.ReplayFault.{ReplayFault}
 use Rattle.dn_replay.specs.declared.replay_fault.ReplayFault.TheVariants.{Read, Write, OutOfMemory}
 use Rattle.dn_replay.specs.declared.source.Source.{Source}
@@ -43,13 +43,17 @@ AsksFor input asked = (text : List ℕ) × IsTextOf input text × (calls_of_join
 abbrev pub IsAccepted : Option (List ℕ) → Type 0
 IsAccepted config = (calls : List Call) × ReadsAs config_calls config calls
 
--- A read of one of two inputs failed, whose configuration is this. The packets are read after it was accepted.
-abbrev pub EitherFailed : Option (List ℕ) → Bool → Bool → Source → Type 0
-EitherFailed config config_failed packets_failed what = ((what ≡ Config) × (config_failed ≡ true)) ⊎ ((what ≡ Packets) × (packets_failed ≡ true) × IsAccepted config)
+-- Of which of two inputs a read failed, if of one. The packets are read after the configuration was accepted.
+abbrev pub EitherFailed : Option (List ℕ) → Bool → Bool → Option Source → Type 0
+EitherFailed config config_failed packets_failed None = (config_failed ≡ false) × (packets_failed ≡ false)
+EitherFailed config config_failed packets_failed (Some Config) = (config_failed ≡ true) × (packets_failed ≡ false)
+EitherFailed config config_failed packets_failed (Some Packets) = (config_failed ≡ false) × (packets_failed ≡ true) × IsAccepted config
+EitherFailed config config_failed packets_failed (Some _) = ⊥
 
--- A read of the one input failed.
-abbrev pub InputFailed : Bool → Source → Type 0
-InputFailed input what = (what ≡ Input) × (input ≡ true)
+-- The same of the one input.
+abbrev pub InputFailed : Bool → Option Source → Type 0
+InputFailed failed None = failed ≡ false
+InputFailed failed (Some what) = (what ≡ Input) × (failed ≡ true)
 
 -- The entries are the history of the calls, and their report was written.
 abbrev pub IsReported : List Call → List Entry → Option (List ℕ) → Option (List ℕ) → Type 0
@@ -57,17 +61,20 @@ IsReported calls entries old new = (entries ≡ history_of calls) × Appends old
 
 -- A write failed after a part of the report of the calls, or memory was refused before anything was written.
 abbrev pub IsUnreported : List Call → Option (List ℕ) → Option (List ℕ) → Bool → ReplayFault → Type 0
-IsUnreported calls old new failed (Write what) = (what ≡ Report) × (failed ≡ true) × AppendsPart old new (report 1 (history_of calls))
-IsUnreported calls old new failed OutOfMemory = (failed ≡ false) × Keeps old new
-IsUnreported calls old new failed _ = ⊥
+IsUnreported calls = IsUnwritten Report (report 1 (history_of calls))
 
 -- What is asked for was answered by its history and its report.
 abbrev pub IsReplayed : (Result (List Call) ReplayFault → Type 0) → List Entry → Option (List ℕ) → Option (List ℕ) → Type 0
 IsReplayed Asked entries old new = (calls : List Call) × Asked (Ok calls) × IsReported calls entries old new
 
+-- Nothing was written, and no write failed.
+abbrev pub IsUntouched : Option (List ℕ) → Option (List ℕ) → Bool → Type 0
+IsUntouched old new failed = (failed ≡ false) × Keeps old new
+
 -- Why nothing was answered. Before a failed write a part of the report was written, and before any other fault nothing.
-abbrev pub IsUnreplayed : (Source → Type 0) → (Result (List Call) ReplayFault → Type 0) → Option (List ℕ) → Option (List ℕ) → Bool → ReplayFault → Type 0
-IsUnreplayed ReadFailed Asked old new failed (Read what) = ReadFailed what × Keeps old new
-IsUnreplayed ReadFailed Asked old new failed (Write what) = (calls : List Call) × Asked (Ok calls) × IsUnreported calls old new failed (Write what)
-IsUnreplayed ReadFailed Asked old new failed OutOfMemory = Keeps old new
-IsUnreplayed ReadFailed Asked old new failed fault = Asked (Err fault) × Keeps old new
+-- Each fault but a failed read comes only where no read failed.
+abbrev pub IsUnreplayed : (Option Source → Type 0) → (Result (List Call) ReplayFault → Type 0) → Option (List ℕ) → Option (List ℕ) → Bool → ReplayFault → Type 0
+IsUnreplayed ReadFailed Asked old new failed (Read what) = ReadFailed (Some what) × IsUntouched old new failed
+IsUnreplayed ReadFailed Asked old new failed (Write what) = ReadFailed None × ((calls : List Call) × Asked (Ok calls) × IsUnreported calls old new failed (Write what))
+IsUnreplayed ReadFailed Asked old new failed OutOfMemory = ReadFailed None × IsUntouched old new failed
+IsUnreplayed ReadFailed Asked old new failed fault = ReadFailed None × Asked (Err fault) × IsUntouched old new failed

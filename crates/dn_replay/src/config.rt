@@ -101,8 +101,6 @@ pub fn read_config<I: Inlet>(
     ensures err { IfErr result (λ fault.
         IsRefusal Config config_file (I.remaining reader.old) (I.has_failed reader.new) fault) }
 {
-    match read_input(alloc, reader, CONFIG_LIMIT, Source::Config) {
-        Ok(text) => commands_of_text(alloc, text.as_slice()),
-        Err(fault) => Err(fault),
-    }
+    let text = read_input(alloc, reader, CONFIG_LIMIT, Source::Config)?;
+    commands_of_text(alloc, text.as_slice())
 }

@@ -22,6 +22,8 @@ pub(crate) fn configured(alloc: Global, text: &[u8]) -> Result<Run, ReplayFault>
         let Some((line, rest)) = lines.next() else {
             return Ok(run);
         };
+        // Where a loop of this crate reads, a `match` stands for `?`: the proof names its arms, and here
+        // the check makes no plan for `?`.
         let command = match command_at(number, line) {
             Ok(command) => command,
             Err(fault) => return Err(fault),

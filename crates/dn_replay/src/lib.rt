@@ -20,6 +20,7 @@ mod source;
 mod tests;
 
 pub use config::read_config;
+pub use dn_records::{FromReader, FromWriter, Inlet, Outlet};
 pub use packets::read_packets;
 pub use replay_fault::ReplayFault;
 pub use replays::{replay, replay_joined};

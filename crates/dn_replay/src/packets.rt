@@ -89,8 +89,6 @@ pub fn read_packets<I: Inlet>(alloc: Global, reader: &mut I) -> Result<Vec<Row>,
     ensures err { IfErr result (λ fault.
         IsRefusal Packets packet_file (I.remaining reader.old) (I.has_failed reader.new) fault) }
 {
-    match read_input(alloc, reader, PACKET_LIMIT, Source::Packets) {
-        Ok(text) => rows_of_text(alloc, text.as_slice()),
-        Err(fault) => Err(fault),
-    }
+    let text = read_input(alloc, reader, PACKET_LIMIT, Source::Packets)?;
+    rows_of_text(alloc, text.as_slice())
 }

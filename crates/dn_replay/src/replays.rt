@@ -1,5 +1,7 @@
-ghost use Rattle.std.specs.Prelude.{◌≡◌, List, false, Ok, IfOk, IfErr};
+ghost use Rattle.std.specs.Prelude.{◌≡◌, ◌<◌, All, List, false, None, Ok, IfOk, IfErr};
+ghost use Rattle.dn_types.specs.History.{IsLawful};
 ghost use Rattle.dn_types.specs.declared.call.Call.{Call};
+ghost use Rattle.dn_types.specs.declared.rule.Rule.TheVariants.{Ordered};
 ghost use Rattle.dn_replay.specs.Reading.{IsRefusal, ReadsAs};
 ghost use Rattle.dn_replay.specs.Replays.{AskFor, AsksFor, config_calls, EitherFailed, InputFailed, IsReplayed, IsReported, IsUnreplayed, IsUnreported};
 ghost use Rattle.dn_replay.specs.Runs.{HasMade, replayed};
@@ -30,6 +32,8 @@ fn finish<O: Outlet>(
     requires sound { O.has_failed out.old ≡ false }
     ensures ok { IfOk result (λ entries. (calls : List Call) → HasMade run calls →
         IsReported (replayed calls rows.now) entries.items (O.contents out.old) (O.contents out.new)) }
+    ensures lawful { IfOk result (λ entries. IsLawful Ordered entries.items) }
+    ensures callers { IfOk result (λ entries. All (λ e. e.caller < 1) entries.items) }
     ensures sound { IfOk result (λ _. O.has_failed out.new ≡ false) }
     ensures err { IfErr result (λ fault. (calls : List Call) → HasMade run calls →
         IsUnreported (replayed calls rows.now) (O.contents out.old) (O.contents out.new) (O.has_failed out.new) fault) }
@@ -39,10 +43,8 @@ fn finish<O: Outlet>(
         return Err(ReplayFault::OutOfMemory);
     };
     let history = whole.into_history();
-    match write_report(alloc, 1, history.as_slice(), out) {
-        Ok(()) => Ok(history),
-        Err(fault) => Err(fault),
-    }
+    write_report(alloc, 1, history.as_slice(), out)?;
+    Ok(history)
 }
 
 /// A run that has made the commands of a configuration.
@@ -53,10 +55,8 @@ fn configured_input<I: Inlet>(alloc: Global, config: &mut I) -> Result<Run, Repl
     ensures err { IfErr result (λ fault.
         IsRefusal Config config_calls (I.remaining config.old) (I.has_failed config.new) fault) }
 {
-    match read_input(alloc, config, CONFIG_LIMIT, Source::Config) {
-        Ok(text) => configured(alloc, text.as_slice()),
-        Err(fault) => Err(fault),
-    }
+    let text = read_input(alloc, config, CONFIG_LIMIT, Source::Config)?;
+    configured(alloc, text.as_slice())
 }
 
 /// Replays a packet file through a configuration for one caller: it makes the command of each
@@ -74,24 +74,23 @@ pub fn replay<C: Inlet, P: Inlet, O: Outlet>(
     ensures ok { IfOk result (λ entries.
         IsReplayed (AskFor (C.remaining config.old) (P.remaining packets.old)) entries.items
         (O.contents out.old) (O.contents out.new)) }
+
+    // The history is lawful, and the report of one caller stands for it.
+    ensures lawful { IfOk result (λ entries. IsLawful Ordered entries.items) }
+    ensures callers { IfOk result (λ entries. All (λ e. e.caller < 1) entries.items) }
+
+    // No read and no write failed.
+    ensures inputs { IfOk result (λ _. EitherFailed (C.remaining config.old)
+        (C.has_failed config.new) (P.has_failed packets.new) None) }
     ensures sound { IfOk result (λ _. O.has_failed out.new ≡ false) }
     ensures err { IfErr result (λ fault.
         IsUnreplayed (EitherFailed (C.remaining config.old) (C.has_failed config.new) (P.has_failed packets.new))
         (AskFor (C.remaining config.old) (P.remaining packets.old))
         (O.contents out.old) (O.contents out.new) (O.has_failed out.new) fault) }
 {
-    let run = match configured_input(alloc, config) {
-        Ok(run) => run,
-        Err(fault) => return Err(fault),
-    };
-    let rows = match read_packets(alloc, packets) {
-        Ok(rows) => rows,
-        Err(fault) => return Err(fault),
-    };
-    match finish(alloc, run, rows.as_slice(), out) {
-        Ok(history) => Ok(history),
-        Err(fault) => Err(fault),
-    }
+    let run = configured_input(alloc, config)?;
+    let rows = read_packets(alloc, packets)?;
+    finish(alloc, run, rows.as_slice(), out)
 }
 
 /// The same over one joined input of at most 67,108,864 bytes: a configuration up to the first line
@@ -105,26 +104,17 @@ pub fn replay_joined<I: Inlet, O: Outlet>(
     requires out { O.has_failed out.old ≡ false }
     ensures ok { IfOk result (λ entries. IsReplayed (AsksFor (I.remaining input.old)) entries.items
         (O.contents out.old) (O.contents out.new)) }
+    ensures lawful { IfOk result (λ entries. IsLawful Ordered entries.items) }
+    ensures callers { IfOk result (λ entries. All (λ e. e.caller < 1) entries.items) }
+    ensures inputs { IfOk result (λ _. InputFailed (I.has_failed input.new) None) }
     ensures sound { IfOk result (λ _. O.has_failed out.new ≡ false) }
     ensures err { IfErr result (λ fault.
         IsUnreplayed (InputFailed (I.has_failed input.new)) (AsksFor (I.remaining input.old))
         (O.contents out.old) (O.contents out.new) (O.has_failed out.new) fault) }
 {
-    let text = match read_input(alloc, input, PACKET_LIMIT, Source::Input) {
-        Ok(text) => text,
-        Err(fault) => return Err(fault),
-    };
+    let text = read_input(alloc, input, PACKET_LIMIT, Source::Input)?;
     let (config, packets) = split_joined(text.as_slice());
-    let run = match configured(alloc, config) {
-        Ok(run) => run,
-        Err(fault) => return Err(fault),
-    };
-    let rows = match rows_of_text(alloc, packets) {
-        Ok(rows) => rows,
-        Err(fault) => return Err(fault),
-    };
-    match finish(alloc, run, rows.as_slice(), out) {
-        Ok(history) => Ok(history),
-        Err(fault) => Err(fault),
-    }
+    let run = configured(alloc, config)?;
+    let rows = rows_of_text(alloc, packets)?;
+    finish(alloc, run, rows.as_slice(), out)
 }

@@ -1,6 +1,8 @@
 mod broken;
+mod example;
 mod fakes;
 mod files;
+mod memory;
 mod replays;
 mod reports;
 

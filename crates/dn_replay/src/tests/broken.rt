@@ -7,14 +7,14 @@ use dn_records::{FromReader, FromWriter, Inlet, Outlet};
 use std::io;
 use std::test::Fail;
 
-const FULL_QUEUE: &str = "pipe 1 config bw 8Mbit/s queue 1\n--\n\
+pub const FULL_QUEUE: &str = "pipe 1 config bw 8Mbit/s queue 1\n--\n\
     moment,target,number,src,dst,proto,sport,dport,len,word\n\
     0,pipe,1,10.0.0.1,10.0.0.2,17,1000,2000,1000,0\n\
     0,pipe,1,10.0.0.1,10.0.0.2,17,1000,2000,1000,0\n\
     0,pipe,1,10.0.0.1,10.0.0.2,17,1000,2000,1000,0\n\
     1000000,pipe,1,10.0.0.1,10.0.0.2,17,1000,2000,1000,0\n";
 
-const REPORT: &str = "event,row,flow,packet,at,start,due\n\
+pub const REPORT: &str = "event,row,flow,packet,at,start,due\n\
     out,1,0,0,0,0,1000000\n\
     out,2,0,1,0,1000000,2000000\n\
     out,4,0,2,1000000,2000000,3000000\n\

@@ -1,0 +1,27 @@
+use crate::{FromReader, FromWriter, read_config, read_packets, replay, write_report};
+use std::test::Fail;
+
+#[test]
+fn the_example_of_the_readme(rt: HostRuntime) -> Result<(), Fail> {
+    let alloc = rt.alloc();
+    let config = b"pipe 1 config bw 8Mbit/s\n".as_slice();
+    let packets = b"moment,target,number,src,dst,proto,sport,dport,len,word\n\
+        0,pipe,1,10.0.0.1,10.0.0.2,17,1000,2000,1000,0\n"
+        .as_slice();
+    let mut output = Vec::new(alloc);
+    let mut out = FromWriter::new(&mut output);
+    let history = replay(
+        alloc,
+        &mut FromReader::new(config),
+        &mut FromReader::new(packets),
+        &mut out,
+    )?;
+    write_report(alloc, 1, &history, &mut out)?;
+    let rows = read_packets(alloc, &mut FromReader::new(packets))?;
+    let commands = read_config(alloc, &mut FromReader::new(config))?;
+    assert!(rt; history.len() == commands.len() + rows.len() + 1);
+    let report = "event,row,flow,packet,at,start,due\nout,1,0,0,0,0,1000000\n";
+    let twice = report.repeat(alloc, 2)?;
+    assert!(rt; output.as_slice() == twice.as_bytes());
+    Ok(())
+}
