@@ -1,5 +1,4 @@
 mod devices;
 mod example;
 mod fakes;
-mod memory;
 mod records;
