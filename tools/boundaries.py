@@ -187,7 +187,7 @@ def check(copy):
         if match := VERDICT.match(line):
             name = "::".join(re.sub(r"::[A-Z]\w*", "", match[1]).split("::")[-2:])
             verdicts[name], all_goals[name], goals = match[2], all_goals.get(name, []) + goals, []
-    failed = re.findall(r"^fn (?!dn_shaper)(\w+)::\S+: not proved", run.stdout + run.stderr, re.M)
+    failed = re.findall(r"^fn (?!dn_shaper)(\w+)::\S+: no(?:t proved| proof)", run.stdout + run.stderr, re.M)
     return verdicts, all_goals, failed, run.stdout + run.stderr
 
 
@@ -206,7 +206,7 @@ def judge(copy, chosen):
         said = [verdicts.get(caller, "proved") for caller in clause.callers]
         if failed or not verdicts:
             if len(chosen) == 1:
-                print(f"{clause}: below {' '.join(failed)}", flush=True)
+                print(f"{clause}: below, in {' '.join(sorted(set(failed)))}", flush=True)
             else:
                 again.append(clause)
         elif refused := [f for f, word in zip(clause.callers, said) if word in ("not proved", "no proof")]:

@@ -1,6 +1,6 @@
 #!/bin/sh
 # Runs each test of a crate with each of its growths of memory refused in turn, a process each. The arguments are the
-# crate and then, if wanted, tests whose names stand in for all. A test passes if it tries a refused call again.
+# crate and then, if wanted, whole names of tests that stand in for all. A test passes if it tries a refused call again.
 # A Vec that is refused room for more asks again for just enough, which hides a refusal: REFUSE_IN_A_ROW=2 refuses both.
 # It takes what `rt test` has built.
 set -e
@@ -16,6 +16,10 @@ cd "$work"
 ulimit -c 0
 failed=0
 for name in ${*:-$(./tests --list | sed -n 's/: test$//p')}; do
+    if ! ./tests --list | grep -qx "$name: test"; then
+        echo "$crate has no test $name" >&2
+        exit 1
+    fi
     growths=$(REFUSE=0 ./tests "$name" 2>&1 | sed -n 's/^growths //p')
     for growth in $(seq 1 "${growths:-0}"); do
         if ! REFUSE=$growth ./tests "$name" >told 2>&1 || ! grep -q '^refused$' told; then
