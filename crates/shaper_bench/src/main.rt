@@ -4,7 +4,7 @@
 mod load;
 
 use dn_shaper::Shaper;
-use dn_types::{Call, Moment, Reply};
+use dn_types::{Call, Command, Moment, Number, Reply};
 use load::{Load, next, packet, pipe, queue};
 use std::io;
 use std::time::Instant;
@@ -220,6 +220,48 @@ fn measure_collect(rt: &HostRuntime, rounds: u64) -> io::Result<()> {
     tell(rt, load.name, rounds, &run)
 }
 
+/// Deletes the pipe.
+fn delete_pipe(shaper: &mut Shaper, run: &mut Run) {
+    let Some(number) = Number::new(1) else {
+        return;
+    };
+    apply(
+        shaper,
+        Some(Call::Configure(Command::DeletePipe(number))),
+        run,
+    );
+}
+
+/// Tells how long the delete of a pipe takes whose flows have a link each, most with waiting packets.
+fn measure_delete(rt: &HostRuntime, flows: u32) -> io::Result<()> {
+    let load = Load {
+        name: "a delete",
+        queues: 0,
+        flows,
+        bandwidth: 1_000,
+        delay: 0,
+        interval: 0,
+    };
+    let mut shaper = Shaper::new(rt.alloc());
+    let mut run = Run::new();
+    configure(&mut shaper, &load, &mut run);
+    let packets = u64::from(flows).wrapping_mul(4);
+    submit(&mut shaper, &load, packets, 0, 1, &mut run);
+    let start = Instant::now(rt)?;
+    delete_pipe(&mut shaper, &mut run);
+    add_time(rt, &start, &mut run.submitting)?;
+    tell_delete(rt, flows, &run)
+}
+
+/// Tells what a delete came to.
+fn tell_delete(rt: &HostRuntime, flows: u32, run: &Run) -> io::Result<()> {
+    let queued = run.queued;
+    println!(rt; "a delete of {flows} links: {queued} queued")?;
+    let nanos = run.submitting;
+    eprintln!(rt; "a delete of {flows} links: {nanos} ns")?;
+    Ok(())
+}
+
 /// The count of rounds that the program is asked for.
 fn rounds(rt: &HostRuntime) -> io::Result<u64> {
     let mut args = std::env::args(rt)?;
@@ -235,5 +277,9 @@ fn main(rt: HostRuntime) -> io::Result<()> {
     for load in LOADS {
         measure(&rt, &load, rounds)?;
     }
-    measure_collect(&rt, rounds)
+    measure_collect(&rt, rounds)?;
+    for flows in [1_000u32, 4_000, 16_384] {
+        measure_delete(&rt, flows)?;
+    }
+    Ok(())
 }
