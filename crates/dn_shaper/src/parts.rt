@@ -56,8 +56,7 @@ impl SharedLink {
 #[derive(Drop)]
 pub enum Carries {
     Own(usize),
-    /// In a block of its own, so that an own link doesn't take the room of a scheduler.
-    Shared(Box<SharedLink>),
+    Shared(SharedLink),
 }
 
 /// A link, and the count of the packets that wait for it.
