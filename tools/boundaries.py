@@ -203,15 +203,15 @@ def judge(copy, chosen):
         (copy / "boundaries.log").write_text(said)
     again = []
     for clause in chosen:
-        said = [verdicts.get(caller, "proved") for caller in clause.callers]
+        words = [verdicts.get(caller, "proved") for caller in clause.callers]
         if failed or not verdicts:
             if len(chosen) == 1:
                 print(f"{clause}: below, in {' '.join(sorted(set(failed)))}", flush=True)
             else:
                 again.append(clause)
-        elif refused := [f for f, word in zip(clause.callers, said) if word in ("not proved", "no proof")]:
+        elif refused := [f for f, word in zip(clause.callers, words) if word in ("not proved", "no proof")]:
             print(f"{clause}: refused at {refused[0]} {' '.join(goals[refused[0]][:2])}", flush=True)
-        elif "no proof: it calls" in said:
+        elif "no proof: it calls" in words:
             again.append(clause)
         else:
             print(f"{clause}: not used", flush=True)
