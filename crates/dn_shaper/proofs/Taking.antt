@@ -1,5 +1,5 @@
 -- A link takes the flow that it sends next.
-use Rattle.std.proofs.Common.{◌≡◌, ◌∙◌, ℕ, zero, suc, List, [], ◌∷◌, get_or, refl, ap, sym, subst}
+use Rattle.std.proofs.Common.{◌≡◌, ◌∙◌, ℕ, zero, suc, List, [], ◌∷◌, get_or, refl, ap, sym, subst, Box, Global}
 use Rattle.std.specs.Prelude.{Option, Some, None, IsSome, slice_get, option_map, IfSome}
 use Rattle.dn_types.specs.Trace.{shared}
 use Rattle.dn_types.specs.Wf2q.{Stamped, pick}
@@ -44,16 +44,25 @@ takes-shared v schedule pipe slot flow is can picked some read = record {
         let flow_is : flow ≡ can.1 = read ∙ ap (λ i. get_or v.slots i flow) slot_is ∙ read-is v.slots h.flow flow can.1 at in
         (h, e, at ∙ ap (λ f. Some f) (sym flow_is), subst (λ (o : Option Stamped). IfSome o (λ x. Picks x v.schedule schedule)) e some)
 
-pub takes-of : (pipe : ℕ) (value : LinkState) (waits : ℕ) (carries : Carries) (s : SharedLink) (schedule : Schedule) (slot flow : ℕ) → carries ≡ Shared s →
-    CanSend (view_of (record { pipe = pipe; link = value; waiting = waits; carries = carries })) (view_of (record { pipe = pipe; link = value; waiting = waits; carries = carries })).link →
-    Some slot ≡ option_map (λ h. h.flow) (pick s.sched.virtual_time (heads_of s.sched.flows)) →
-    IfSome (pick s.sched.virtual_time (heads_of s.sched.flows)) (λ h. Picks h s.sched schedule) →
-    flow ≡ get_or s.flows.items slot flow →
-    TakesNext flow (view_of (record { pipe = pipe; link = value; waiting = waits; carries = carries })) (view_of (record { pipe = pipe; link = value; waiting = waits; carries = Shared (record { sched = schedule; flows = s.flows }) }))
-takes-of pipe value waits carries s schedule slot flow is can picked some read =
-    subst (λ (x : Carries). TakesNext flow (view_of (record { pipe = pipe; link = value; waiting = waits; carries = x })) (view_of (record { pipe = pipe; link = value; waiting = waits; carries = Shared (record { sched = schedule; flows = s.flows }) }))) (sym is)
-    (takes-shared (view_of (record { pipe = pipe; link = value; waiting = waits; carries = Shared s })) schedule pipe slot flow refl
-    (subst (λ (x : Carries). CanSend (view_of (record { pipe = pipe; link = value; waiting = waits; carries = x })) (view_of (record { pipe = pipe; link = value; waiting = waits; carries = x })).link) is can) picked some read)
+-- The link after the pick is in the block t, and before it in the block s, which holds d.
+module _ (pipe : ℕ) (value : LinkState) (waits : ℕ) where
+  abbrev with_carries : Carries → LinkView
+  with_carries x = view_of (record { pipe = pipe; link = value; waiting = waits; carries = x })
+
+  abbrev seen : Schedule → List ℕ → LinkView
+  seen schedule slots = record { link = shared pipe; value = value; waits = waits; schedule = schedule; slots = slots }
+
+  pub takes-of : (carries : Carries) (s t : Box SharedLink Global) (d : SharedLink) (schedule : Schedule) (slot flow : ℕ) → carries ≡ Shared s → d ≡ s.value → t.value ≡ record { sched = schedule; flows = d.flows } →
+      CanSend (with_carries carries) (with_carries carries).link →
+      Some slot ≡ option_map (λ h. h.flow) (pick d.sched.virtual_time (heads_of d.sched.flows)) →
+      IfSome (pick d.sched.virtual_time (heads_of d.sched.flows)) (λ h. Picks h d.sched schedule) →
+      flow ≡ get_or d.flows.items slot flow →
+      TakesNext flow (with_carries carries) (with_carries (Shared t))
+  takes-of carries s t d schedule slot flow is at made can picked some read =
+      let before : seen d.sched d.flows.items ≡ with_carries carries = ap (λ (x : SharedLink). seen x.sched x.flows.items) at ∙ ap (λ (x : Carries). with_carries x) (sym is) in
+      let after : seen schedule d.flows.items ≡ with_carries (Shared t) = ap (λ (x : SharedLink). seen x.sched x.flows.items) (sym made) in
+      subst (λ (x : LinkView × LinkView). TakesNext flow x.0 x.1) (λ i. (before i, after i))
+      (takes-shared (seen d.sched d.flows.items) schedule pipe slot flow refl (subst (λ (x : LinkView). CanSend x x.link) (sym before) can) picked some read)
 
 pub at-some : {X : Type 0} (P : X → Type 0) (o : Option X) (x : X) → o ≡ Some x → IfSome o P → P x
 at-some P o x e h = subst (λ r. IfSome r P) e h

@@ -31,11 +31,11 @@ carried_link pipe (Shared s) = shared pipe
 
 abbrev pub carried_schedule : Carries → Schedule
 carried_schedule (Own flow) = no_schedule
-carried_schedule (Shared s) = s.sched
+carried_schedule (Shared s) = s.value.sched
 
 abbrev pub carried_slots : Carries → List ℕ
 carried_slots (Own flow) = flow ∷ []
-carried_slots (Shared s) = s.flows.items
+carried_slots (Shared s) = s.value.flows.items
 
 abbrev pub view_of : LinkParts → LinkView
 view_of s = record { link = carried_link s.pipe s.carries; value = s.link; waits = s.waiting; schedule = carried_schedule s.carries; slots = carried_slots s.carries }

@@ -50,7 +50,7 @@ fn new_link(alloc: Global, key: &FlowKey, flow: usize) -> Result<LinkParts, Allo
         Target::Queue(_) => {
             let mut shared = SharedLink::new(alloc);
             shared.take_slot(flow)?;
-            Carries::Shared(shared)
+            Carries::Shared(Box::new(alloc, shared)?)
         }
     };
     Ok(LinkParts {

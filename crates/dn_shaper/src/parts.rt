@@ -56,7 +56,8 @@ impl SharedLink {
 #[derive(Drop)]
 pub enum Carries {
     Own(usize),
-    Shared(SharedLink),
+    /// In a block of its own, so that an own link doesn't take the room of a scheduler.
+    Shared(Box<SharedLink>),
 }
 
 /// A link, and the count of the packets that wait for it.
