@@ -4,7 +4,7 @@ use Rattle.std.specs.Prelude.{Option, Some, None}
 use Rattle.dn_heap.specs.Heap.{Heap}
 use Rattle.dn_types.specs.Calls.{after_command, trace_of}
 use Rattle.dn_types.specs.Clock.{effective_moment}
-use Rattle.dn_types.specs.Configuration.{Settings, settings, setting_after, command_reply, queue_numbers, reply_to_command, target_eq, subject}
+use Rattle.dn_types.specs.Configuration.{settings, setting_after, command_reply, reply_to_command, target_eq, subject}
 use Rattle.dn_types.specs.Trace.{Link, Event}
 use Rattle.dn_types.specs.declared.call.Call.{Call}
 use Rattle.dn_types.specs.declared.call.Call.TheVariants.{Configure}

@@ -21,14 +21,14 @@ use Rattle.dn_shaper.specs.declared.parts.Parts.{Parts}
 use Rattle.dn_shaper.specs.Agreement.{Agrees, IsAt, IsHomeOf, link_names}
 use Rattle.dn_shaper.specs.Arriving.{KeepsFlows}
 use Rattle.dn_shaper.specs.Discarding.{DiscardsOn, DiscardsAt, Discards}
-use Rattle.dn_shaper.specs.Due.{due_at, Holds, is_backlogged, backlogged}
+use Rattle.dn_shaper.specs.Due.{due_cmp, due_at, Holds, is_backlogged, backlogged}
 use Rattle.dn_shaper.specs.Settling.{IsKept}
 use Rattle.dn_shaper.specs.Starting.{IsFlowWithin, Within}
 use Rattle.dn_shaper.specs.Views.{LinkView, view_of, views_of, home, dues, due_of, waits_in_all}
 use Rattle.dn_shaper.proofs.Accepting.{due-some, due-none, due-listed}
 use Rattle.dn_shaper.proofs.Arriving.{set-self}
 use Rattle.dn_shaper.proofs.Discarded.{discarded-agrees, length-waiting}
-use Rattle.dn_shaper.proofs.Dues.{due_cmp, holds_none, some_standing}
+use Rattle.dn_shaper.proofs.Dues.{holds_none, some_standing}
 use Rattle.dn_shaper.proofs.Events.{length-set}
 use Rattle.dn_shaper.proofs.Next.{home-here}
 use Rattle.dn_shaper.proofs.Places.{viewed, get-set, get-set-other, get-map, map-set, map-set-same, sum-set, sum-le}

@@ -7,11 +7,10 @@ use Rattle.std.proofs.lemmas.List.Elements.{All-nil, All-cons, All-head, All-tai
 use Rattle.std.proofs.lemmas.List.{get_or-set_same, get_or-set_other}
 use Rattle.std.proofs.lemmas.Bool.{cases_eq, cases_order, cases_lt}
 use Rattle.std.proofs.lemmas.Bool.Decides.{nat_tests}
-use Rattle.std.specs.declared.cmp.Ordering.{Ordering}
-use Rattle.std.specs.Ordering.{is_lt, nat_cmp, ordering_then}
+use Rattle.std.specs.Ordering.{is_lt}
 use Rattle.dn_heap.specs.Heap.{IsLeast}
 use Rattle.dn_shaper.specs.declared.due.Due.{Due}
-use Rattle.dn_shaper.specs.Due.{due_at, at_place, standing, Holds}
+use Rattle.dn_shaper.specs.Due.{due_cmp, due_at, at_place, standing, Holds}
 
 -- ---- Keys
 
@@ -50,9 +49,6 @@ some_standing place (k ∷ ks) h =
           let r = some_standing place ks (omega (arith, s, z, h)) in
           (suc r.0, omega arith, r.2)
     ]
-
-abbrev pub due_cmp : Due → Due → Ordering
-due_cmp x y = ordering_then (nat_cmp x.moment y.moment) (nat_cmp x.place y.place)
 
 -- A key that none goes before, ties by place.
 pub not_before : (x y : Due) → is_lt (due_cmp y x) ≡ false → (x.moment ≤ y.moment) × (y.moment ≡ x.moment → x.place ≤ y.place)

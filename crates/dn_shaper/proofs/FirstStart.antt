@@ -10,8 +10,8 @@ use Rattle.dn_types.specs.Links.{free}
 use Rattle.dn_types.specs.SharedLinks.{next_packet}
 use Rattle.dn_types.specs.Starts.{next_start, sooner, first_start, start_at, settle}
 use Rattle.dn_shaper.specs.declared.due.Due.{Due}
-use Rattle.dn_shaper.specs.Due.{due_at, Holds}
-use Rattle.dn_shaper.proofs.Dues.{due_cmp, not_before, held_by, popped_due}
+use Rattle.dn_shaper.specs.Due.{due_cmp, due_at, Holds}
+use Rattle.dn_shaper.proofs.Dues.{not_before, held_by, popped_due}
 
 -- The moment from which the link is free, where a packet waits for it.
 abbrev pub due_moment : List Event → Link → Option ℕ

@@ -25,6 +25,7 @@ pub mod NewHome
 pub mod Next
 pub mod Noted
 pub mod Opened
+pub mod Ordered
 pub mod Places
 pub mod Preparing
 pub mod Putting

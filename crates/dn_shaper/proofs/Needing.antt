@@ -1,7 +1,7 @@
 -- Which calls can be refused memory, by what is in force.
 use Rattle.std.proofs.Common.{◌≡◌, ◌∙◌, ℕ, true, List, ap, sym, subst}
 use Rattle.std.specs.Prelude.{Result, Ok, Err, OnErr, None, is_some}
-use Rattle.dn_types.specs.Configuration.{Settings, settings, command_reply, queue_numbers, reply_to_command, subject}
+use Rattle.dn_types.specs.Configuration.{Settings, command_reply, queue_numbers, reply_to_command, subject}
 use Rattle.dn_types.specs.Flows.{treatment}
 use Rattle.dn_types.specs.declared.call.Call.{Call}
 use Rattle.dn_types.specs.declared.call.Call.TheVariants.{Configure, Submit}

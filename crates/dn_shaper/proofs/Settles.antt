@@ -18,10 +18,10 @@ use Rattle.dn_shaper.specs.declared.parts.Carries.TheVariants.{Own, Shared}
 use Rattle.dn_shaper.specs.declared.parts.Parts.{Parts}
 use Rattle.dn_shaper.specs.Views.{LinkView, views_of, dues, due_of, carried_link}
 use Rattle.dn_shaper.specs.Agreement.{GivesRates, AgreesWith, Agrees, AreDistinct, link_names}
-use Rattle.dn_shaper.specs.Due.{due_at, Holds, is_backlogged, backlogged}
+use Rattle.dn_shaper.specs.Due.{due_cmp, due_at, Holds, is_backlogged, backlogged}
 use Rattle.dn_shaper.specs.Starting.{CanStart, StartsAt}
 use Rattle.dn_shaper.specs.Settling.{IsKept, OnlyStarts, StartsFirst, HasNoStart, SettlesAll}
-use Rattle.dn_shaper.proofs.Dues.{due_cmp, popped_due, holds_none, holds_some}
+use Rattle.dn_shaper.proofs.Dues.{popped_due, holds_none, holds_some}
 use Rattle.dn_shaper.proofs.FirstStart.{due_moment, first_popped, none_due, first_start-more, settle-none, settle-some}
 use Rattle.dn_shaper.proofs.Events.{length-set}
 use Rattle.dn_shaper.proofs.Next.{dues-agree}

@@ -1,7 +1,13 @@
 -- The links with a backlog by the moments at which they are free, and the heap that holds them.
 use Rattle.std.specs.Prelude.{◌≡◌, ℕ, ◌==◌, cond, List, Option, Some, None, is_some, slice_index_or}
 use Rattle.std.specs.List.{All, sum_by}
+use Rattle.std.specs.Ordering.{nat_cmp, ordering_then}
+use Rattle.std.specs.declared.cmp.Ordering.{Ordering}
 use Rattle.dn_shaper.specs.declared.due.Due.{Due}
+
+-- By moment, and then by place.
+abbrev pub due_cmp : Due → Due → Ordering
+due_cmp x y = ordering_then (nat_cmp x.moment y.moment) (nat_cmp x.place y.place)
 
 abbrev pub due_at : List (Option ℕ) → ℕ → Option ℕ
 due_at due place = slice_index_or due place None

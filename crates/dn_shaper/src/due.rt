@@ -1,6 +1,51 @@
-/// When a link with a backlog is free, and the link's place. The links stand in a heap of these.
-#[derive(Clone, Copy, Debug, PartialEq, Eq, PartialOrd, Ord)]
+ghost use Rattle.std.specs.Prelude.{◌≡◌, ◌+◌, ◌*◌, ◌<◌, refl};
+ghost use Rattle.std.specs.Ordering.{as_partial_cmp};
+ghost use Rattle.std.specs.Cmp.{partial_order_from_own_ties};
+ghost use Rattle.std.specs.Cmp.Rules.{comparing};
+ghost use Rattle.std.proofs.Common.{rules};
+ghost use Rattle.dn_shaper.specs.Due.{due_cmp};
+
+use std::cmp::Ordering;
+
+/// When a link with a backlog is free, and the link's place. The links stand in a heap of these, by
+/// moment and then by place.
+#[derive(Clone, Copy, Debug, PartialEq, Eq)]
 pub struct Due {
     pub moment: u64,
     pub place: usize,
+}
+
+impl Due {
+    /// Both in one number, so that two are compared at once: the heap of many links compares most, and
+    /// a branch for each field would be guessed wrong there half of the time.
+    fn key(&self) -> u128
+        ensures value { result ≡ self.now.moment * 18446744073709551616 + self.now.place }
+        ensures place { self.now.place < 18446744073709551616 }
+    {
+        self.moment as u128 * 18446744073709551616 + self.place as u128
+    }
+}
+
+impl PartialOrd for Due {
+    ghost partial_cmp = { as_partial_cmp due_cmp };
+
+    ghost laws = { partial_order_from_own_ties (Prim.search (comparing, rules)) (Prim.search (comparing, rules)) };
+
+    fn partial_cmp(&self, other: &Due) -> Option<Ordering> {
+        Some(self.cmp(other))
+    }
+}
+
+impl Ord for Due {
+    ghost cmp = { due_cmp };
+
+    ghost total = { Prim.search (comparing, rules) };
+
+    ghost matches_partial_cmp = { λ x y. refl };
+
+    ghost matches_eq = { Prim.search (comparing, rules) };
+
+    fn cmp(&self, other: &Due) -> Ordering {
+        self.key().cmp(&other.key())
+    }
 }

@@ -2,7 +2,7 @@
 use Rattle.std.proofs.Common.{All, true, false, ◌≡◌, ◌∙◌, ℕ, List, ap, subst, arith, ⊎_elim}
 use Rattle.std.specs.Prelude.{slice_get}
 use Rattle.std.specs.Ordering.{is_eq}
-use Rattle.dn_shaper.proofs.Dues.{due_cmp}
+use Rattle.dn_shaper.specs.Due.{due_cmp}
 use Rattle.std.proofs.lemmas.Grind.{common_steps}
 use Rattle.dn_types.specs.declared.flow_status.FlowStatus.{FlowStatus}
 use Rattle.dn_shaper.specs.Views.{LinkView, view_of, views_of}
