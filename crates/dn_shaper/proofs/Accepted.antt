@@ -28,13 +28,13 @@ use Rattle.dn_shaper.proofs.Places.{get-set, sum-set, get-map, map-set-same, get
 use Rattle.dn_shaper.proofs.Starting.{starts-agree, starts-within, starts-dues}
 use Rattle.dn_shaper.proofs.Accepting.{within-more, holds_pushed, backlogged-one, due-listed, due-some, due-none, in-table}
 
-pub same-view : (h : Home) (flow len weight : ℕ) (idle : Bool) (old mid : Parts) (s : ArrivesAt h flow len weight idle old mid) (v : LinkView) → slice_get (views_of old) h.place ≡ Some v → s.view ≡ v
-same-view h flow len weight idle old mid s v there = let both : Some s.view ≡ Some v = sym s.there ∙ there in cc
+pub same-view : (at : ℕ) (h : Home) (flow len weight : ℕ) (idle : Bool) (old mid : Parts) (s : ArrivesAt at h flow len weight idle old mid) (v : LinkView) → slice_get (views_of old) h.place ≡ Some v → s.view ≡ v
+same-view at h flow len weight idle old mid s v there = let both : Some s.view ≡ Some v = sym s.there ∙ there in cc
 
 module _ (settings : Settings) (at : ℕ) (h : Home) (flow len weight : ℕ) (idle : Bool) (old mid : Parts) (due : Heap Due) (kept : IsKept old due) (within : flow < length old.flows.keys) (ready : IsReady flow old) (few : (n : ℕ) × (n < 2 ^ 62) × Within n old) (can : CanAccept settings at flow old)
-    (at_home : slice_get old.homes.items flow ≡ Some h) (s : ArrivesAt h flow len weight idle old mid) (idle_is : idle ≡ (nat_eq s.view.waits 0 && nat_le s.view.value.free at)) where
+    (at_home : slice_get old.homes.items flow ≡ Some h) (s : ArrivesAt at h flow len weight idle old mid) where
   home-is : home old.flows.keys flow ≡ s.view.link
-  home-is = link-home settings at h flow len weight idle old mid s can.0 can.1 can.2 within at_home idle_is
+  home-is = link-home settings at h flow len weight idle old mid s can.0 can.1 can.2 within at_home
 
   abbrev some_packet : Packet
   some_packet = record { tuple = record { src = 0; dst = 0; proto = 0; sport = 0; dport = 0 }; len = len; word = 0 }
@@ -50,13 +50,13 @@ module _ (settings : Settings) (at : ℕ) (h : Home) (flow len weight : ℕ) (id
 
   pub arrived-at : (packet : Packet) (how : Treatment) (more : List Link) (trace : List Event) → AgreesWith old more trace → packet.len ≡ len → how.weight ≡ weight → link_names (views_of old) ≡ with_link (home old.flows.keys flow) (links trace) →
       AgreesWith mid [] (arrived (accept l packet flow how (opening l at trace)) ∷ opening l at trace)
-  arrived-at packet how more trace a len_is weight_is made = arrives-agree settings at h flow len weight idle old mid s more trace a within at_home idle_is packet how len_is weight_is (made-there trace made)
+  arrived-at packet how more trace a len_is weight_is made = arrives-agree settings at h flow len weight idle old mid s more trace a within at_home packet how len_is weight_is (made-there trace made)
 
   pub mid-agrees : Agrees mid
   mid-agrees = ([], arrived (accept l some_packet flow some_treatment (opening l at can.1)) ∷ opening l at can.1, arrived-at some_packet some_treatment can.0 can.1 can.2 refl refl can.3)
 
   pub mid-within : (n : ℕ) → Within n old → Within (n + 1) mid
-  mid-within n w = arrives-within h flow len weight idle old mid s n (in-table settings at flow old due kept within ready few can) ready.line w
+  mid-within n w = arrives-within at h flow len weight idle old mid s n (in-table settings at flow old due kept within ready few can) ready.line w
 
   pub mid-all : Within (2 ^ 62) mid
   mid-all = within-more (few.0 + 1) (2 ^ 62) mid (let a = few.1 in omega arith) (mid-within few.0 few.2)
@@ -68,7 +68,7 @@ module _ (settings : Settings) (at : ℕ) (h : Home) (flow len weight : ℕ) (id
   length-mid = ap (λ (vs : List LinkView). length vs) s.views_are ∙ length-set (views_of old) h.place s.view'
 
   pub mid-keeps : KeepsFlows old mid
-  mid-keeps = record { rule = s.rule; keys = s.keys; homes = s.homes; names = arrives-names h flow len weight idle old mid s }
+  mid-keeps = record { rule = s.rule; keys = s.keys; homes = s.homes; names = arrives-names at h flow len weight idle old mid s }
 
   due-then : slice_get (dues (views_of old)) h.place ≡ Some (due_of s.view)
   due-then = get-map due_of (views_of old) h.place s.view s.there
@@ -82,7 +82,7 @@ module _ (settings : Settings) (at : ℕ) (h : Home) (flow len weight : ℕ) (id
   module _ (yes' : idle ≡ true) where
     was_idle : (s.view.waits ≡ 0) × (s.view.value.free ≤ at)
     was_idle =
-        let e = left (nat_eq s.view.waits 0) (nat_le s.view.value.free at) (sym idle_is ∙ yes') in
+        let e = left (nat_eq s.view.waits 0) (nat_le s.view.value.free at) (sym s.idle_is ∙ yes') in
         let le = e.1 in
         (eqb-true s.view.waits 0 e.0, low s.view.value.free le)
       where
@@ -114,7 +114,7 @@ module _ (settings : Settings) (at : ℕ) (h : Home) (flow len weight : ℕ) (id
           let j = s.joins.waits in
           let z = was_idle.0 in
           starts-dues h.place at bandwidth delay mid new t
-          ∙ ap (λ (d : List (Option ℕ)). set d h.place (due_of t.view')) (arrives-dues h flow len weight idle old mid s)
+          ∙ ap (λ (d : List (Option ℕ)). set d h.place (due_of t.view')) (arrives-dues at h flow len weight idle old mid s)
           ∙ set-set (dues (views_of old)) h.place (due_of s.view') (due_of t.view')
           ∙ ap (λ (o : Option ℕ). set (dues (views_of old)) h.place o) (due-none t.view' (omega arith) ∙ sym (due-none s.view (omega arith)))
           ∙ set-self (dues (views_of old)) h.place (due_of s.view) due-then
@@ -139,15 +139,15 @@ module _ (settings : Settings) (at : ℕ) (h : Home) (flow len weight : ℕ) (id
         rule = t.rule ∙ s.rule;
         keys = t.keys ∙ s.keys;
         homes = t.homes ∙ s.homes;
-        names = ap (λ (vs : List LinkView). link_names vs) t.views_are ∙ map-set-same (λ (x : LinkView). x.link) (views_of mid) h.place t.view t.view' t.there t.starts.link ∙ arrives-names h flow len weight idle old mid s;
+        names = ap (λ (vs : List LinkView). link_names vs) t.views_are ∙ map-set-same (λ (x : LinkView). x.link) (views_of mid) h.place t.view t.view' t.there t.starts.link ∙ arrives-names at h flow len weight idle old mid s;
       }
 
       idle-accepts-at : (more : List Link) (trace : List Event) (packet : Packet) (how : Treatment) → packet.len ≡ len → how.weight ≡ weight → link_names (views_of old) ≡ with_link (home old.flows.keys flow) (links trace) → next_start settings at l trace ≡ None → AgreesWith old more trace → AgreesWith new [] (join settings at (accept l packet flow how (opening l at trace)) (opening l at trace))
       idle-accepts-at more trace packet how len_is weight_is made none a =
           let r = starts-agree h.place at bandwidth delay mid new t settings [] (arrived (accept l packet flow how (opening l at trace)) ∷ opening l at trace) rates-mid (arrived-at packet how more trace a len_is weight_is made) in
           let next = ap (λ (x : Link). next_packet x (arrived (accept l packet flow how (opening l at trace)) ∷ opening l at trace)) (sym link-mid) ∙ r.1 in
-          let packet_is = next-alone settings at h flow len weight idle old mid s more trace a within at_home idle_is packet how len_is weight_is (made-there trace made) yes' r.0 next in
-          let once = starts-at-once settings at h flow len weight idle old mid s more trace a within at_home idle_is none ∙ yes' in
+          let packet_is = next-alone settings at h flow len weight idle old mid s more trace a within at_home packet how len_is weight_is (made-there trace made) yes' r.0 next in
+          let once = starts-at-once settings at h flow len weight idle old mid s more trace a within at_home none ∙ yes' in
           subst (λ (e : List Event). AgreesWith new [] e)
           ((λ i. started (start_at settings (link-mid i) (packet_is i) at) ∷ arrived (accept l packet flow how (opening l at trace)) ∷ opening l at trace)
           ∙ sym (ap (λ b. cond b (started (start_at settings l (accept l packet flow how (opening l at trace)) at) ∷ arrived (accept l packet flow how (opening l at trace)) ∷ opening l at trace) (arrived (accept l packet flow how (opening l at trace)) ∷ opening l at trace)) once))
@@ -163,7 +163,7 @@ module _ (settings : Settings) (at : ℕ) (h : Home) (flow len weight : ℕ) (id
   module _ (no' : idle ≡ false) where
     waits-accepts-at : (more : List Link) (trace : List Event) (packet : Packet) (how : Treatment) → packet.len ≡ len → how.weight ≡ weight → link_names (views_of old) ≡ with_link (home old.flows.keys flow) (links trace) → next_start settings at l trace ≡ None → AgreesWith old more trace → AgreesWith mid [] (join settings at (accept l packet flow how (opening l at trace)) (opening l at trace))
     waits-accepts-at more trace packet how len_is weight_is made none a =
-        let once = starts-at-once settings at h flow len weight idle old mid s more trace a within at_home idle_is none ∙ no' in
+        let once = starts-at-once settings at h flow len weight idle old mid s more trace a within at_home none ∙ no' in
         subst (λ (e : List Event). AgreesWith mid [] e)
         (sym (ap (λ b. cond b (started (start_at settings l (accept l packet flow how (opening l at trace)) at) ∷ arrived (accept l packet flow how (opening l at trace)) ∷ opening l at trace) (arrived (accept l packet flow how (opening l at trace)) ∷ opening l at trace)) once))
         (arrived-at packet how more trace a len_is weight_is made)
@@ -191,7 +191,7 @@ module _ (settings : Settings) (at : ℕ) (h : Home) (flow len weight : ℕ) (id
       let none : due_of s.view ≡ None = due-none s.view (omega arith) in
       let w = s.joins.waits in
       let some : due_of s.view' ≡ Some s.view.value.free = due-some s.view' (omega arith) ∙ ap (λ x. Some x.free) s.joins.value in
-      let now : dues (views_of mid) ≡ set (dues (views_of old)) h.place (Some s.view.value.free) = arrives-dues h flow len weight idle old mid s ∙ ap (λ (o : Option ℕ). set (dues (views_of old)) h.place o) some in
+      let now : dues (views_of mid) ≡ set (dues (views_of old)) h.place (Some s.view.value.free) = arrives-dues at h flow len weight idle old mid s ∙ ap (λ (o : Option ℕ). set (dues (views_of old)) h.place o) some in
       record {
         agrees = mid-agrees;
         within = mid-all;
@@ -215,7 +215,7 @@ module _ (settings : Settings) (at : ℕ) (h : Home) (flow len weight : ℕ) (id
   other-kept some =
       let w = s.joins.waits in
       let same : due_of s.view' ≡ due_of s.view = due-some s.view' (omega arith) ∙ ap (λ x. Some x.free) s.joins.value ∙ sym (due-some s.view some) in
-      let now : dues (views_of mid) ≡ dues (views_of old) = arrives-dues h flow len weight idle old mid s ∙ ap (λ (o : Option ℕ). set (dues (views_of old)) h.place o) same ∙ set-self (dues (views_of old)) h.place (due_of s.view) due-then in
+      let now : dues (views_of mid) ≡ dues (views_of old) = arrives-dues at h flow len weight idle old mid s ∙ ap (λ (o : Option ℕ). set (dues (views_of old)) h.place o) same ∙ set-self (dues (views_of old)) h.place (due_of s.view) due-then in
       record {
         agrees = mid-agrees;
         within = mid-all;

@@ -1,7 +1,7 @@
 -- A packet is accepted: what that needs, and a heap with one key more.
-use Rattle.std.proofs.Common.{◌≡◌, ◌∙◌, ◌≤◌, ◌<◌, ◌⊎◌, ◌^◌, ℕ, zero, suc, ◌+◌, Bool, true, false, cond, ◌&&◌, List, [], ◌∷◌, map, set, refl, ap, sym, subst, length, arith, ⊎_elim, inl, inr, IsPermutation, slice_index_or, get_or-set_same, get_or-set_other}
-use Rattle.std.specs.Prelude.{Option, Some, None, is_some, nat_eq, nat_le, nat_lt, slice_get}
-use Rattle.std.proofs.lemmas.Bool.{cases_eq, eqb-true}
+use Rattle.std.proofs.Common.{◌≡◌, ◌∙◌, ◌≤◌, ◌<◌, ◌⊎◌, ◌^◌, ℕ, zero, suc, ◌+◌, true, false, cond, List, [], ◌∷◌, map, set, refl, ap, sym, subst, length, arith, ⊎_elim, inl, inr, IsPermutation, slice_index_or, get_or-set_same, get_or-set_other}
+use Rattle.std.specs.Prelude.{Option, Some, None, is_some, nat_lt, slice_get}
+use Rattle.std.proofs.lemmas.Bool.{cases_eq}
 use Rattle.std.proofs.lemmas.Bool.Decides.{nat_tests}
 use Rattle.std.proofs.lemmas.List.Elements.{All-cons}
 use Rattle.std.proofs.lemmas.List.Sorted.{All-permutation}
@@ -132,16 +132,12 @@ module _ (settings : Settings) (at flow : ℕ) (p : Parts) (due : Heap Due) (kep
           none zero = refl
           none (suc n) = let r = none n in omega arith
 
-      pub can-join : (idle : Bool) → idle ≡ (nat_eq v.waits 0 && nat_le v.value.free at) → CanJoin h.slot idle v v.link
-      can-join idle idle_is = by v.link refl
+      pub can-join : CanJoin h.slot v v.link
+      can-join = by v.link refl
         where
-          left : (x y : Bool) → (x && y) ≡ true → x ≡ true
-          left true y e = refl
-          left false y e = absurd cc
-
-          by : (l : Link) → v.link ≡ l → CanJoin h.slot idle v l
+          by : (l : Link) → v.link ≡ l → CanJoin h.slot v l
           by (own pipe f) is = tt
-          by (shared pipe) is = (ready.slot h v pipe at_home there is, (let a = few.2.arrivals h.place v there in let b = few.1 in omega arith), λ yes'. idle-schedule pipe is (eqb-true v.waits 0 (left (nat_eq v.waits 0) (nat_le v.value.free at) (sym idle_is ∙ yes'))))
+          by (shared pipe) is = (ready.slot h v pipe at_home there is, (let a = few.2.arrivals h.place v there in let b = few.1 in omega arith), idle-schedule pipe is)
 
       pub few-wait : v.waits ≤ p.waiting
       few-wait = let le = sum-le (λ (x : LinkView). x.waits) (views_of p) h.place v there in let is = few.2.waiting_is in omega arith

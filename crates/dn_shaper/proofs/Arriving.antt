@@ -57,10 +57,9 @@ length-mapped slot (p ∷ ps) = ap suc (length-mapped slot ps)
 abbrev begun_view : Bool → LinkView → LinkView
 begun_view idle v = record { link = v.link; value = v.value; waits = v.waits; schedule = record { flows = begun_flows idle v.schedule; virtual_time = begun_time idle v.schedule; room = v.schedule.room; arrivals = v.schedule.arrivals; picks = v.schedule.picks; moves = v.schedule.moves }; slots = v.slots }
 
-module _ (settings : Settings) (at : ℕ) (h : Home) (flow len weight : ℕ) (idle : Bool) (old new : Parts) (s : ArrivesAt h flow len weight idle old new)
+module _ (settings : Settings) (at : ℕ) (h : Home) (flow len weight : ℕ) (idle : Bool) (old new : Parts) (s : ArrivesAt at h flow len weight idle old new)
     (more : List Link) (trace : List Event) (a : AgreesWith old more trace)
-    (within : flow < length old.flows.keys) (at_home : slice_get old.homes.items flow ≡ Some h)
-    (idle_is : idle ≡ (nat_eq s.view.waits 0 && nat_le s.view.value.free at)) where
+    (within : flow < length old.flows.keys) (at_home : slice_get old.homes.items flow ≡ Some h) where
   the_home : IsHomeOf flow (home old.flows.keys flow) (views_of old) h
   the_home =
       let g = a.homes_are flow within in
@@ -81,7 +80,7 @@ module _ (settings : Settings) (at : ℕ) (h : Home) (flow len weight : ℕ) (id
   l = s.view.link
 
   opens_there : idle ≡ (nat_eq (waiting l trace) 0 && nat_le (free l trace) at)
-  opens_there = let b = a.views_are h.place s.view s.there in idle_is ∙ (λ i. nat_eq (b.waits_are i) 0 && nat_le (b.free_is i) at)
+  opens_there = let b = a.views_are h.place s.view s.there in s.idle_is ∙ (λ i. nat_eq (b.waits_are i) 0 && nat_le (b.free_is i) at)
 
   abbrev before : List Event
   before = opening l at trace
@@ -204,11 +203,11 @@ module _ (settings : Settings) (at : ℕ) (h : Home) (flow len weight : ℕ) (id
       by (inr zero_waits) =
           let z : nat_eq s.view.waits 0 ≡ true = eq-yes s.view.waits 0 (omega arith) in
           let e = (a.views_are h.place s.view s.there).free_is in
-          sym (idle_is ∙ ap (λ t. t && nat_le s.view.value.free at) z ∙ ap (λ m. nat_le m at) e)
+          sym (s.idle_is ∙ ap (λ t. t && nat_le s.view.value.free at) z ∙ ap (λ m. nat_le m at) e)
 
 -- ---- Counts
 
-module _ (h : Home) (flow len weight : ℕ) (idle : Bool) (old new : Parts) (s : ArrivesAt h flow len weight idle old new) where
+module _ (at : ℕ) (h : Home) (flow len weight : ℕ) (idle : Bool) (old new : Parts) (s : ArrivesAt at h flow len weight idle old new) where
   pub arrives-waiting : waits_in_all (views_of new) ≡ waits_in_all (views_of old) + 1
   arrives-waiting =
       let e = ap (λ (vs : List LinkView). waits_in_all vs) s.views_are in

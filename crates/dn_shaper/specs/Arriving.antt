@@ -1,5 +1,5 @@
 -- What the arrival of one packet does to its link, the flow table and the counts.
-use Rattle.std.specs.Prelude.{◌≡◌, ℕ, ◌+◌, ◌<◌, ◌^◌, Bool, true, cond, List, [], None, Some, slice_get, slice_set}
+use Rattle.std.specs.Prelude.{◌≡◌, ◌&&◌, ℕ, ◌+◌, ◌<◌, ◌^◌, Bool, cond, List, [], None, Some, nat_eq, nat_le, slice_get, slice_set}
 use Rattle.dn_types.specs.Calls.{accept, join}
 use Rattle.dn_types.specs.Configuration.{Settings}
 use Rattle.dn_types.specs.Flows.{Treatment}
@@ -14,10 +14,14 @@ use Rattle.dn_shaper.specs.declared.parts.Parts.{Parts}
 use Rattle.dn_shaper.specs.Views.{LinkView, views_of, home}
 use Rattle.dn_shaper.specs.Agreement.{AgreesWith, link_names}
 
--- The scheduler of a shared link can take a packet at the slot, and begin a busy period where it is to.
-abbrev pub CanJoin : ℕ → Bool → LinkView → Link → Type 0
-CanJoin slot idle v (own pipe f) = Unit {0}
-CanJoin slot idle v (shared pipe) = (0 < room_at v.schedule.room slot) × (v.schedule.arrivals < 2 ^ 62) × (idle ≡ true → IsIdle v.schedule.flows)
+-- The scheduler of a shared link can take a packet at the slot, and is idle where no packet waits for the link.
+abbrev pub CanJoin : ℕ → LinkView → Link → Type 0
+CanJoin slot v (own pipe f) = Unit {0}
+CanJoin slot v (shared pipe) = (0 < room_at v.schedule.room slot) × (v.schedule.arrivals < 2 ^ 62) × (v.waits ≡ 0 → IsIdle v.schedule.flows)
+
+-- No packet waits for the link, and it is free by the moment.
+abbrev pub is_idle : ℕ → LinkView → Bool
+is_idle at v = nat_eq v.waits 0 && nat_le v.value.free at
 
 -- The flows and virtual time after a busy period began, if one does.
 abbrev pub begun_flows : Bool → Schedule → List Flow
@@ -44,11 +48,12 @@ pub record Joins (slot len weight : ℕ) (idle : Bool) (old new : LinkView) : Ty
   pub waits : new.waits ≡ old.waits + 1
   pub arrives : ArrivesOn slot len weight idle old new old.link
 
--- One arrival at a flow, seen by all parts.
-pub record ArrivesAt (h : Home) (flow len weight : ℕ) (idle : Bool) (old new : Parts) : Type 0 where
+-- One arrival at a flow, seen by all parts. The link was idle at the moment, or it wasn't.
+pub record ArrivesAt (at : ℕ) (h : Home) (flow len weight : ℕ) (idle : Bool) (old new : Parts) : Type 0 where
   pub view : LinkView
   pub view' : LinkView
   pub there : slice_get (views_of old) h.place ≡ Some view
+  pub idle_is : idle ≡ is_idle at view
   pub views_are : views_of new ≡ slice_set (views_of old) h.place view'
   pub joins : Joins h.slot len weight idle view view'
   pub flows_are : new.flows.flows ≡ slice_set old.flows.flows flow (pushed (record { packet = old.accepted; len = len }) (flow_at old.flows.flows flow))

@@ -1,4 +1,4 @@
-ghost use Rattle.std.specs.Prelude.{◌≡◌, ℕ, ◌+◌, ◌<◌, ◌≤◌, ◌^◌, sum, length, nat_eq, nat_le, ◌&&◌};
+ghost use Rattle.std.specs.Prelude.{◌≡◌, ℕ, ◌+◌, ◌<◌, ◌≤◌, ◌^◌, sum, length};
 ghost use Rattle.dn_flows.specs.Table.{flow_at, lengths};
 ghost use Rattle.dn_shaper.specs.Arriving.{Accepts, CanAccept, KeepsFlows};
 ghost use Rattle.dn_shaper.specs.Settings.{settings_of};
@@ -8,17 +8,10 @@ ghost use Rattle.dn_shaper.specs.Starting.{IsReady, Within};
 use crate::arrive::arrive;
 use crate::configured::Configured;
 use crate::due::Due;
-use crate::parts::{LinkParts, Parts};
+use crate::parts::Parts;
 use crate::start::start_next;
 use dn_heap::MinHeap;
 use dn_types::{Len, Weight};
-
-/// No packet waits for the link, and it is free by the moment.
-fn is_idle(state: &LinkParts, at: u64) -> bool
-    ensures { result ≡ (nat_eq state.now.waiting 0 && nat_le state.now.link.free at) }
-{
-    state.waiting == 0 && state.link.free() <= at
-}
 
 /// Accepts a packet of the flow after a settling, in the room that was reserved, and answers its
 /// number. It starts at once where its link is idle.
@@ -52,8 +45,7 @@ pub fn accept(
     let free = state.link.free();
     let waited = state.waiting;
     let pipe = state.pipe;
-    let idle = is_idle(state, at);
-    arrive(parts, home, flow, len, weight, idle);
+    let idle = arrive(parts, home, flow, len, weight, at);
     if idle {
         let rates = configured.rates(pipe);
         start_next(parts, home.place, at, &rates);

@@ -1,7 +1,7 @@
 ghost use Rattle.std.specs.Prelude.{◌≡◌, ℕ, ◌+◌, ◌<◌, ◌≤◌, ◌^◌, true, sum, length, slice_get, Some};
 ghost use Rattle.dn_flows.specs.Table.{flow_at, lengths};
 ghost use Rattle.dn_shaper.specs.Agreement.{Agrees};
-ghost use Rattle.dn_shaper.specs.Arriving.{CanJoin, Joins, ArrivesAt};
+ghost use Rattle.dn_shaper.specs.Arriving.{CanJoin, Joins, ArrivesAt, is_idle};
 ghost use Rattle.dn_shaper.specs.Views.{LinkView, view_of, views_of};
 ghost use Rattle.dn_shaper.specs.declared.parts.Home.{Home as HomeValue};
 
@@ -9,13 +9,22 @@ use crate::parts::{Carries, Home, LinkParts, Parts};
 use dn_flows::Waiting;
 use dn_types::{Len, Weight};
 
-/// A packet joins those that wait for the link. On a shared link a busy period begins with it where
-/// the link is idle.
-fn join_link(state: &mut LinkParts, slot: usize, len: Len, weight: Weight, idle: bool)
-    requires can { CanJoin slot idle (view_of state.old) (view_of state.old).link }
-    requires few { state.old.waiting < 2 ^ 62 }
-    ensures { Joins slot len weight idle (view_of state.old) (view_of state.new) }
+/// No packet waits for the link, and it is free by the moment.
+fn is_idle(state: &LinkParts, at: u64) -> bool
+    ensures { result ≡ is_idle at (view_of state.now) }
 {
+    state.waiting == 0 && state.link.free() <= at
+}
+
+/// A packet joins those that wait for the link. On a shared link a busy period begins with it where
+/// the link is idle, which is answered.
+fn join_link(state: &mut LinkParts, slot: usize, len: Len, weight: Weight, at: u64) -> bool
+    requires can { CanJoin slot (view_of state.old) (view_of state.old).link }
+    requires few { state.old.waiting < 2 ^ 62 }
+    ensures idle { result ≡ is_idle at (view_of state.old) }
+    ensures joins { Joins slot len weight result (view_of state.old) (view_of state.new) }
+{
+    let idle = is_idle(state, at);
     if let Carries::Shared(shared) = &mut state.carries {
         if idle {
             shared.sched.begin_busy();
@@ -23,22 +32,25 @@ fn join_link(state: &mut LinkParts, slot: usize, len: Len, weight: Weight, idle:
         shared.sched.arrive(slot, len, weight);
     }
     state.waiting += 1;
+    idle
 }
 
-/// A packet is accepted, and waits at its home.
-pub fn arrive(parts: &mut Parts, home: Home, flow: usize, len: Len, weight: Weight, idle: bool)
-    requires can { (v : LinkView) × (slice_get (views_of parts.old) home.place ≡ Some v) × CanJoin home.slot idle v v.link × (v.waits < 2 ^ 62) }
+/// A packet is accepted at the moment, and waits at its home. The answer is whether its link was
+/// idle.
+pub fn arrive(parts: &mut Parts, home: Home, flow: usize, len: Len, weight: Weight, at: u64) -> bool
+    requires can { (v : LinkView) × (slice_get (views_of parts.old) home.place ≡ Some v) × CanJoin home.slot v v.link × (v.waits < 2 ^ 62) }
     requires within { flow < length parts.old.flows.flows }
     requires reserved { (flow_at parts.old.flows.flows flow).reserved ≡ true }
     requires bytes { sum (lengths (flow_at parts.old.flows.flows flow).backlog) + len < 2 ^ 32 }
     requires accepted { parts.old.accepted < 2 ^ 62 }
     requires waiting { parts.old.waiting < 2 ^ 62 }
-    ensures { ArrivesAt home flow len weight idle parts.old parts.new }
+    ensures { ArrivesAt at home flow len weight result parts.old parts.new }
 {
     let state = &mut parts.links[home.place];
-    join_link(state, home.slot, len, weight, idle);
+    let idle = join_link(state, home.slot, len, weight, at);
     let packet = parts.accepted;
     parts.flows.push_reserved(flow, Waiting { packet, len });
     parts.accepted += 1;
     parts.waiting += 1;
+    idle
 }

@@ -9,10 +9,11 @@ returns c =
     let v = viewed view_of c.args.parts.now.links.items c.args.home.place c.index_mut-state.result.now c.requires.can.0 c.requires.can.1 c.index_mut-state.ensures.value in
     record {
       view = view_of c.index_mut-state.result.now;
-      view' = view_of c.join_link.new.state;
+      view' = view_of c.join_link-idle.new.state;
       there = get-map view_of c.args.parts.now.links.items c.args.home.place c.index_mut-state.result.now v.0;
-      views_are = map-set view_of c.args.parts.now.links.items c.args.home.place c.join_link.new.state;
-      joins = c.join_link.ensures;
+      idle_is = c.join_link-idle.ensures.idle;
+      views_are = map-set view_of c.args.parts.now.links.items c.args.home.place c.join_link-idle.new.state;
+      joins = c.join_link-idle.ensures.joins;
       flows_are = c.push_reserved.ensures.flows;
       rule = refl;
       accepted = refl;
