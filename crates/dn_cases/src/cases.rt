@@ -99,7 +99,7 @@ impl Cases {
     /// that does.
     pub fn report(&self, rt: &impl Print) -> io::Result<()> {
         let (histories, calls, differ) = (self.histories, self.calls, self.differ);
-        println!(rt; "{histories} scenarios, {calls} calls, {differ} differ")?;
+        println!(rt; "{histories} histories, {calls} calls, {differ} differ")?;
         if let Some(first) = &self.first {
             let Answered {
                 call,

@@ -24,6 +24,7 @@ pub enum ReplayFault {
     #[error("packet row {row}, field {field}: bad")]
     BadRow { row: u64, field: u64 },
     /// A record of a history file isn't of the history form. Records are numbered from 1.
+    /// No call gives it yet.
     #[error("history record {0}: bad")]
     BadRecord(u64),
     /// An input is longer than its limit.
@@ -38,7 +39,7 @@ pub enum ReplayFault {
     /// Memory was refused.
     #[error("out of memory")]
     OutOfMemory,
-    /// There can be 1 to 16 callers.
+    /// There can be 1 to 16 callers. No call gives it yet.
     #[error("bad count of callers")]
     BadCount,
     /// The line deletes a pipe that a configured queue names.

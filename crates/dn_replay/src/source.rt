@@ -12,9 +12,9 @@ pub enum Source {
     Config,
     /// A packet file.
     Packets,
-    /// A history file.
+    /// A history file. No call reads one yet.
     History,
-    /// A report, or the line of an audit.
+    /// A report.
     Report,
 }
 
