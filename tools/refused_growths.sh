@@ -2,7 +2,7 @@
 # Runs each test of a crate with each of its growths of memory refused in turn, a process each. The arguments are the
 # crate and then, if wanted, whole names of tests that stand in for all. A test passes if it tries a refused call again.
 # A Vec that is refused room for more asks again for just enough, which hides a refusal: REFUSE_IN_A_ROW=2 refuses both.
-# It takes what `rt test` has built.
+# It takes what `rt test` has built. The tests of dn_examples tell where it was the shaper that was refused.
 set -e
 here=$(cd "$(dirname "$0")" && pwd)
 crate=$1
@@ -22,14 +22,17 @@ for name in ${*:-$(./tests --list | sed -n 's/: test$//p')}; do
     fi
     # A program with threads ends without telling how many growths there were, so they are refused until none is left.
     growth=1
+    in_shaper=0
     while true; do
         if ! REFUSE=$growth ./tests "$name" >told 2>&1; then
             echo "$name fails where growth $growth is refused: $(tail -1 told)"
             failed=$((failed + 1))
         fi
         grep -q '^refused$' told || break
+        if grep -q 'a growth was refused' told; then in_shaper=$((in_shaper + 1)); fi
         growth=$((growth + 1))
     done
     echo "$name: each of $((growth - 1)) growths refused in turn"
+    [ "$in_shaper" = 0 ] || echo "$name: $in_shaper of them answered by the shaper"
 done
 [ "$failed" = 0 ]
