@@ -1,10 +1,10 @@
 -- Two numbers below 2^64 in one of 128 bits are in order as the pair of them is.
-use Rattle.std.proofs.Common.{◌≡◌, ◌<◌, ℕ, ◌+◌, ◌*◌, arith, inl, inr}
+use Rattle.std.proofs.Common.{◌≡◌, ◌<◌, ◌^◌, ℕ, ◌+◌, ◌*◌, arith, inl, inr}
 use Rattle.std.specs.Ordering.{nat_cmp, ordering_then}
 use Rattle.std.proofs.lemmas.Bool.{cases_order}
 use Rattle.std.proofs.lemmas.Bool.Decides.{nat_tests}
 
-pub ordered : (a b c d : ℕ) → b < 18446744073709551616 → d < 18446744073709551616 → nat_cmp (a * 18446744073709551616 + b) (c * 18446744073709551616 + d) ≡ ordering_then (nat_cmp a c) (nat_cmp b d)
+pub ordered : (a b c d : ℕ) → b < 2 ^ 64 → d < 2 ^ 64 → nat_cmp (a * 2 ^ 64 + b) (c * 2 ^ 64 + d) ≡ ordering_then (nat_cmp a c) (nat_cmp b d)
 ordered a b c d lb ld = elim (cases_order a c) [
   | inl e ↦ elim (cases_order b d) [
     | inl f ↦ grind (arith, nat_tests)

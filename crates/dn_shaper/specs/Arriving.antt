@@ -19,7 +19,7 @@ abbrev pub CanJoin : ℕ → LinkView → Link → Type 0
 CanJoin slot v (own pipe f) = Unit {0}
 CanJoin slot v (shared pipe) = (0 < room_at v.schedule.room slot) × (v.schedule.arrivals < 2 ^ 62) × (v.waits ≡ 0 → IsIdle v.schedule.flows)
 
--- No packet waits for the link, and it is free by the moment.
+-- Whether no packet waits for the link and it is free by the moment.
 abbrev pub is_idle : ℕ → LinkView → Bool
 is_idle at v = nat_eq v.waits 0 && nat_le v.value.free at
 
@@ -48,7 +48,7 @@ pub record Joins (slot len weight : ℕ) (idle : Bool) (old new : LinkView) : Ty
   pub waits : new.waits ≡ old.waits + 1
   pub arrives : ArrivesOn slot len weight idle old new old.link
 
--- One arrival at a flow, seen by all parts. The link was idle at the moment, or it wasn't.
+-- One arrival at a flow, seen by all parts. `idle` says whether the link was idle at the moment.
 pub record ArrivesAt (at : ℕ) (h : Home) (flow len weight : ℕ) (idle : Bool) (old new : Parts) : Type 0 where
   pub view : LinkView
   pub view' : LinkView

@@ -9,7 +9,7 @@ use crate::parts::{Carries, Home, LinkParts, Parts};
 use dn_flows::Waiting;
 use dn_types::{Len, Weight};
 
-/// No packet waits for the link, and it is free by the moment.
+/// Whether no packet waits for the link and it is free by the moment.
 fn is_idle(state: &LinkParts, at: u64) -> bool
     ensures { result ≡ is_idle at (view_of state.now) }
 {

@@ -1,4 +1,4 @@
-ghost use Rattle.std.specs.Prelude.{◌≡◌, ◌+◌, ◌*◌, ◌<◌, refl};
+ghost use Rattle.std.specs.Prelude.{◌≡◌, ◌+◌, ◌*◌, ◌^◌, ◌<◌, refl};
 ghost use Rattle.std.specs.Ordering.{as_partial_cmp};
 ghost use Rattle.std.specs.Cmp.{partial_order_from_own_ties};
 ghost use Rattle.std.specs.Cmp.Rules.{comparing};
@@ -16,13 +16,13 @@ pub struct Due {
 }
 
 impl Due {
-    /// Both in one number, so that two are compared at once: the heap of many links compares most, and
-    /// a branch for each field would be guessed wrong there half of the time.
+    /// Both in one number, so that two are compared without a branch for each field, which a processor
+    /// can't foresee in a heap of many links.
     fn key(&self) -> u128
-        ensures value { result ≡ self.now.moment * 18446744073709551616 + self.now.place }
-        ensures place { self.now.place < 18446744073709551616 }
+        ensures value { result ≡ self.now.moment * 2 ^ 64 + self.now.place }
+        ensures place { self.now.place < 2 ^ 64 }
     {
-        self.moment as u128 * 18446744073709551616 + self.place as u128
+        self.moment as u128 * (1 << 64) + self.place as u128
     }
 }
 
