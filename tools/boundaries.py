@@ -3,11 +3,12 @@
     python3 tools/boundaries.py COPY [WORD..]
 
 COPY is a copy of the repository with the `out` folders of a whole check, which this program changes. A clause is taken away
-by `⊤` in its place, so that its name stays and only what it says is gone. Each round takes one clause away from several
-functions at once, whose callers in dn_shaper don't call one another, so that a goal that is no longer proved tells of one
-clause. With words, only the clauses are tried whose crate, function or name holds one of them. For each clause it prints
-`refused` with a goal of dn_shaper that isn't proved without it; `below` where already the crate of the clause fails; and `not
-used` where all still proves: then nothing that is proved of the shaper rests on the clause.
+by `⊤` in its place, so that its name stays and only what it says is gone. Each round takes away one clause each of several
+functions, no two of which are called by the same function of dn_shaper. So a goal that is no longer proved tells of one clause,
+since a function's own goals are tried also where it calls one that isn't proved. With words, only the clauses are tried whose
+crate, function or name holds one of them. For each clause it prints `refused` with a goal of dn_shaper that isn't proved without
+it; `below` where already the crate of the clause fails; and `not used` where all still proves: then nothing that is proved of
+the shaper rests on the clause. docs/BOUNDARIES.md lists what came of it.
 
 dn_shaper gets a copy of dn_heap of its own, `heap_of_links`, since dn_link and dn_wf2q stand on that crate too.
 """
@@ -100,38 +101,14 @@ def clauses(copy):
                 number += 1
 
 
-def calls_of(copy):
-    """For each function of dn_shaper the functions that it reaches, itself among them."""
-    bodies = {}
-    for path in sorted((copy / "crates/dn_shaper/src").glob("*.rt")):
-        name = ""
-        for line in path.read_text().split("\n"):
-            if match := FUNCTION.match(line):
-                name = f"{path.stem}::{match[1]}"
-                bodies[name] = ""
-            elif name:
-                bodies[name] += line
-    called = {
-        f: [g for g in bodies if re.search(rf"\b{g.split('::')[1]}\(", text)] for f, text in bodies.items()
-    }
-    reached = {f: {f} for f in bodies}
-    for _ in bodies:
-        for f in bodies:
-            reached[f].update(*(reached[g] for g in called[f]))
-    return reached
-
-
-def are_apart(one, other, reached):
-    """Neither clause has a caller that stands on a caller of the other."""
-    return all(f not in reached[g] and g not in reached[f] for f in one.callers for g in other.callers)
-
-
-def rounds(left, reached):
+def rounds(left):
+    """The clauses in rounds: no function of dn_shaper calls two that are taken away together."""
     while left:
-        chosen = []
+        chosen, callers = [], set()
         for clause in left:
-            if all(are_apart(clause, other, reached) for other in chosen):
+            if callers.isdisjoint(clause.callers):
                 chosen.append(clause)
+                callers.update(clause.callers)
         left = [clause for clause in left if clause not in chosen]
         yield chosen
 
@@ -201,14 +178,15 @@ def judge(copy, chosen):
             path.write_text(text)
     if not verdicts and not failed:
         (copy / "boundaries.log").write_text(said)
+    if (failed or not verdicts) and len(chosen) > 1:
+        rest = [clause for clause in chosen if failed and clause.crate not in failed]
+        again = judge(copy, rest) if rest else []
+        return again + [clause for clause in chosen if clause not in rest]
     again = []
     for clause in chosen:
         words = [verdicts.get(caller, "proved") for caller in clause.callers]
         if failed or not verdicts:
-            if len(chosen) == 1:
-                print(f"{clause}: below, in {' '.join(sorted(set(failed)))}", flush=True)
-            else:
-                again.append(clause)
+            print(f"{clause}: below, in {' '.join(sorted(set(failed)))}", flush=True)
         elif refused := [f for f, word in zip(clause.callers, words) if word in ("not proved", "no proof")]:
             print(f"{clause}: refused at {refused[0]} {' '.join(goals[refused[0]][:2])}", flush=True)
         elif "no proof: it calls" in words:
@@ -225,10 +203,9 @@ def main():
     # The first clause of each function comes first.
     numbered = sorted(clauses(copy), key=lambda it: it[0])
     left = [c for _, c in numbered if not words or any(word in str(c) for word in words)]
-    again = []
-    for chosen in rounds(left, calls_of(copy)):
-        again += judge(copy, chosen)
-    for clause in again:
+    again = [clause for chosen in rounds(left) for clause in judge(copy, chosen)]
+    # What is left is mostly not used, so that nothing fails beside it now.
+    for clause in [clause for chosen in rounds(again) for clause in judge(copy, chosen)]:
         judge(copy, [clause])
 
 
