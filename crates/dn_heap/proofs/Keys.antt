@@ -1,5 +1,6 @@
 -- What the library's heap says of its reversed keys, said of the keys.
-use Rattle.std.proofs.Common.{◌≡◌, Bool, false, List, [], ◌∷◌, map, All, IsPermutation}
+use Rattle.std.proofs.Common.{◌≡◌, Bool, true, false, cond, List, [], ◌∷◌, map, refl, ap, subst, All, IsPermutation}
+use Rattle.std.specs.Prelude.{filter}
 use Rattle.std.specs.declared.cmp.Ordering.{Ordering}
 use Rattle.std.specs.declared.cmp.Reverse.{Reverse}
 use Rattle.std.specs.BinaryHeap.{IsUpperBound}
@@ -25,3 +26,15 @@ none_passes p [] h = All-nil (λ k. p k ≡ false)
 none_passes p (x ∷ xs) h =
     let e : (p x.0 ≡ false) × (list_any (λ r. p r.0) xs ≡ false) = or_parts _ _ h in
     All-cons (λ k. p k ≡ false) x.0 (keys_of xs) e.0 (none_passes p xs e.1)
+
+kept_or_not : {K : Type 0} (b : Bool) (x : Reverse K) (xs : List (Reverse K)) (ys : List K) → keys_of xs ≡ ys → keys_of (cond b (x ∷ xs) xs) ≡ cond b (x.0 ∷ ys) ys
+kept_or_not {K} true x xs ys e = ap (λ (l : List K). x.0 ∷ l) e
+kept_or_not false x xs ys e = e
+
+-- keys are filtered as what the heap holds
+filter_keys : {K : Type 0} (p : K → Bool) (xs : List (Reverse K)) → keys_of (filter (λ r. p r.0) xs) ≡ filter p (keys_of xs)
+filter_keys p [] = refl
+filter_keys p (x ∷ xs) = kept_or_not (p x.0) x _ _ (filter_keys p xs)
+
+pub kept_permuted : {K : Type 0} (p : K → Bool) (xs ys : List (Reverse K)) → IsPermutation (filter (λ r. p r.0) xs) ys → IsPermutation (filter p (keys_of xs)) (keys_of ys)
+kept_permuted {K} p xs ys h = subst (λ (ks : List K). IsPermutation ks (keys_of ys)) (filter_keys p xs) (keys_permuted _ _ h)

@@ -1,6 +1,7 @@
 //! A heap that gives its least key first, and in which a push into reserved room can't fail.
 #![tactic(auto)]
 
+mod keep;
 mod min_heap;
 mod remove;
 #[cfg(test)]

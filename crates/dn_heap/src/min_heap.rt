@@ -1,7 +1,9 @@
-ghost use Rattle.std.specs.Prelude.{◌≡◌, ◌==◌, ◌+◌, ◌<◌, ◌≤◌, ◌^◌, ◌↔◌, [], ◌∷◌, length, max, true, false, All, Contains, IfSome, IfNone, IsSome, IsOk, OnOk, OnErr, IsPermutation};
+ghost use Rattle.std.specs.Prelude.{◌≡◌, ◌==◌, ◌+◌, ◌<◌, ◌≤◌, ◌^◌, ◌↔◌, Bool, [], ◌∷◌, length, max, true, false, All, Contains, filter, IfSome, IfNone, IsSome, IsOk, OnOk, OnErr, IsPermutation};
 ghost use Rattle.dn_heap.specs.Heap.{IsLeast};
+ghost use Rattle.std.specs.Fn.{FnReturnsAt};
 ghost use Rattle.std.specs.Ordering.{is_eq};
 
+use crate::keep::keep_where;
 use crate::remove::{holds, remove_one};
 use std::alloc::{AllocError, Global};
 use std::cmp::Reverse;
@@ -128,6 +130,21 @@ impl<K: Ord> MinHeap<K> {
         remove_one(&mut self.heap, key);
         self.room += 1;
         true
+    }
+
+    /// Lets go of each key at which `keep` answers false, and gives its room back. It looks at every
+    /// key once, in no promised order.
+    pub fn retain<F: Fn(&K) -> bool>(&mut self, keep: F)
+    where
+        K: Drop,
+        requires { F.IsAlwaysCallable keep }
+        ensures kept { (test : K → Bool) → ((key : K) (answer : Bool) → FnReturnsAt F.Fn keep key answer → answer ≡ test key) → IsPermutation (filter test self.old.keys) self.new.keys }
+        ensures room { length self.new.keys + self.new.room ≡ length self.old.keys + self.old.room }
+        ensures keeps_moves { self.new.moves ≡ self.old.moves }
+    {
+        let before = self.heap.len();
+        keep_where(&mut self.heap, keep);
+        self.room += before - self.heap.len();
     }
 
     /// How many keys are in.

@@ -67,3 +67,43 @@ fn takes_one_of_equal_keys(rt: HostRuntime) -> Result<(), Fail> {
     assert!(rt; heap.is_empty());
     Ok(())
 }
+
+#[test]
+fn retains_what_passes(rt: HostRuntime) -> Result<(), Fail> {
+    let mut heap: MinHeap<u32> = MinHeap::new(rt.alloc());
+    if heap.reserve(5).is_err() {
+        assert_eq!(rt; (heap.len(), heap.room(), heap.moves()), (0, 0, 0));
+        heap.reserve(5)?;
+    }
+    heap.push_reserved(8);
+    heap.push_reserved(3);
+    heap.push_reserved(4);
+    heap.push_reserved(8);
+    heap.push_reserved(5);
+    // Of two equal keys both are let go, and each key that is let go gives its room back.
+    heap.retain(|key| *key != 8 && *key != 3);
+    assert_eq!(rt; (heap.len(), heap.room(), heap.moves()), (2, 3, 5));
+    heap.push_reserved(6);
+    assert_eq!(rt; heap.pop(), Some(4));
+    assert_eq!(rt; heap.pop(), Some(5));
+    assert_eq!(rt; heap.pop(), Some(6));
+    assert_eq!(rt; heap.pop(), None);
+    Ok(())
+}
+
+#[test]
+fn retains_all_or_none(rt: HostRuntime) -> Result<(), Fail> {
+    let mut heap: MinHeap<u32> = MinHeap::new(rt.alloc());
+    heap.retain(|_| false);
+    assert_eq!(rt; (heap.len(), heap.room(), heap.moves()), (0, 0, 0));
+    if heap.reserve(2).is_err() {
+        heap.reserve(2)?;
+    }
+    heap.push_reserved(2);
+    heap.push_reserved(1);
+    heap.retain(|_| true);
+    assert_eq!(rt; (heap.len(), heap.room(), heap.peek()), (2, 0, Some(&1)));
+    heap.retain(|_| false);
+    assert_eq!(rt; (heap.len(), heap.room(), heap.peek()), (0, 2, None));
+    Ok(())
+}
