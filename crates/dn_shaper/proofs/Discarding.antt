@@ -1,11 +1,7 @@
--- A flow's packets are discarded: all parts agree, and the heap loses the link where none waits any more.
-use Rattle.std.proofs.Common.{◌≡◌, ◌∙◌, ◌≤◌, ◌<◌, ◌⊎◌, ◌^◌, ℕ, ◌+◌, Bool, true, false, cond, List, ◌∷◌, set, get_or, ap, sym, subst, length, arith, ⊎_elim, inl, inr, All, IsPermutation, slice_index_or}
+-- A flow's packets are discarded: all parts agree, and a link only loses its backlog.
+use Rattle.std.proofs.Common.{◌≡◌, ◌∙◌, ◌≤◌, ◌<◌, ◌⊎◌, ◌^◌, ℕ, ◌+◌, Bool, true, false, cond, List, ◌∷◌, set, ap, sym, subst, length, arith, inl, inr, get_or-set_same, get_or-set_other}
 use Rattle.std.specs.Prelude.{Option, Some, None, is_some, nat_eq, slice_get}
-use Rattle.std.specs.Ordering.{is_eq}
-use Rattle.std.proofs.lemmas.Bool.{cases_eq, cases_lt, cases_order}
-use Rattle.std.proofs.lemmas.Bool.Decides.{nat_tests}
-use Rattle.std.proofs.lemmas.List.Sorted.{length_permutation}
-use Rattle.dn_heap.specs.Heap.{Heap}
+use Rattle.std.proofs.lemmas.Bool.{cases_eq, cases_lt}
 use Rattle.dn_types.specs.Trace.{Link, own, shared, discarded, backlog}
 use Rattle.dn_types.specs.declared.delivery.Delivery.{Delivery}
 use Rattle.dn_types.specs.declared.flow_key.FlowKey.{FlowKey}
@@ -14,62 +10,29 @@ use Rattle.dn_flows.specs.Table.{FlowState, flow_at, emptied}
 use Rattle.dn_flows.specs.declared.waiting.Waiting.{Waiting}
 use Rattle.dn_flows.proofs.Views.{flow_after_set}
 use Rattle.dn_wf2q.specs.Schedule.{Schedule}
-use Rattle.dn_shaper.specs.declared.due.Due.{Due}
 use Rattle.dn_shaper.specs.declared.parts.Home.{Home}
-use Rattle.dn_shaper.specs.declared.parts.LinkParts.{LinkParts}
 use Rattle.dn_shaper.specs.declared.parts.Parts.{Parts}
 use Rattle.dn_shaper.specs.Agreement.{Agrees, IsAt, IsHomeOf, link_names}
 use Rattle.dn_shaper.specs.Arriving.{KeepsFlows}
-use Rattle.dn_shaper.specs.Discarding.{DiscardsOn, DiscardsAt, Discards}
-use Rattle.dn_shaper.specs.Due.{due_cmp, due_at, Holds, is_backlogged, backlogged}
-use Rattle.dn_shaper.specs.Settling.{IsKept}
+use Rattle.dn_shaper.specs.Discarding.{DiscardsOn, DiscardsAt, Discards, OnlyEmpties}
+use Rattle.dn_shaper.specs.Due.{due_at}
 use Rattle.dn_shaper.specs.Starting.{IsFlowWithin, Within}
-use Rattle.dn_shaper.specs.Views.{LinkView, view_of, views_of, home, dues, due_of, waits_in_all}
+use Rattle.dn_shaper.specs.Views.{LinkView, views_of, home, dues, due_of, waits_in_all}
 use Rattle.dn_shaper.proofs.Accepting.{due-some, due-none, due-listed}
-use Rattle.dn_shaper.proofs.Arriving.{set-self}
 use Rattle.dn_shaper.proofs.Discarded.{discarded-agrees, length-waiting}
-use Rattle.dn_shaper.proofs.Dues.{holds_none, some_standing}
-use Rattle.dn_shaper.proofs.Events.{length-set}
 use Rattle.dn_shaper.proofs.Next.{home-here}
-use Rattle.dn_shaper.proofs.Places.{viewed, get-set, get-set-other, get-map, map-set, map-set-same, sum-set, sum-le}
+use Rattle.dn_shaper.proofs.Places.{get-below, get-set, get-set-other, get-map, map-set, map-set-same, sum-set, sum-le}
 use Rattle.dn_shaper.proofs.Waiting.{waiting-discarded}
 
--- ---- A key that is equal to another
-
-pub key-is : (k : Due) (moment place : ℕ) → is_eq (due_cmp k (record { moment = moment; place = place })) ≡ true → (k.moment ≡ moment) × (k.place ≡ place)
-key-is k moment place e = (same_moment, same_place)
-  where
-    same_moment : k.moment ≡ moment
-    same_moment = ⊎_elim (λ s. s) (λ o. absurd (⊎_elim (λ l. let z : is_eq (due_cmp k (record { moment = moment; place = place })) ≡ false = grind (arith, nat_tests) in let t : true ≡ false = sym e ∙ z in cc) (λ g. let z : is_eq (due_cmp k (record { moment = moment; place = place })) ≡ false = grind (arith, nat_tests) in let t : true ≡ false = sym e ∙ z in cc) o)) (cases_order k.moment moment)
-
-    same_place : k.place ≡ place
-    same_place = ⊎_elim (λ s. s) (λ o. absurd (⊎_elim (λ l. let m = same_moment in let z : is_eq (due_cmp k (record { moment = moment; place = place })) ≡ false = grind (arith, nat_tests) in let t : true ≡ false = sym e ∙ z in cc) (λ g. let m = same_moment in let z : is_eq (due_cmp k (record { moment = moment; place = place })) ≡ false = grind (arith, nat_tests) in let t : true ≡ false = sym e ∙ z in cc) o)) (cases_order k.place place)
-
-pub key-same : (k : Due) (moment place : ℕ) → k.moment ≡ moment → k.place ≡ place → is_eq (due_cmp k (record { moment = moment; place = place })) ≡ true
-key-same k moment place e f = grind (arith, nat_tests)
-
--- A link with a backlog has its key in the heap.
-pub key-there : (due : List (Option ℕ)) (keys : List Due) (place m : ℕ) → Holds due keys → due_at due place ≡ Some m → All (λ k. is_eq (due_cmp k (record { moment = m; place = place })) ≡ false) keys → ⊥
-key-there due keys place m h e none =
-    let one = h.once place ∙ ap {B = ℕ} (λ (o : Option ℕ). cond (is_some o) 1 0) e in
-    let i = some_standing place keys (omega (arith, one)) in
-    let d : Due = record { moment = 0; place = 0 } in
-    let k = slice_index_or keys i.0 d in
-    let there = i.2 d in
-    let here : Some k.moment ≡ Some m = sym (h.moments i.0 d i.1) ∙ ap (due_at due) there ∙ e in
-    let same : k.moment ≡ m = cc in
-    let t : true ≡ false = sym (key-same k m place same there) ∙ none i.0 d i.1 in
-    absurd cc
-
-module _ (p : Parts) (due : Heap Due) (kept : IsKept p due) (flow : ℕ) (within : flow < length p.flows.keys) where
+module _ (p : Parts) (agrees : Agrees p) (bound : Within (2 ^ 62) p) (flow : ℕ) (within : flow < length p.flows.keys) where
   pub home-of : (h : Home) × (slice_get p.homes.items flow ≡ Some h) × IsHomeOf flow (home p.flows.keys flow) (views_of p) h
-  home-of = kept.agrees.2.homes_are flow within
+  home-of = agrees.2.homes_are flow within
 
   pub flow-there : flow < length p.flows.flows
-  flow-there = let m = kept.agrees.2.as_many in omega arith
+  flow-there = let m = agrees.2.as_many in omega arith
 
   pub few-there : (flow_at p.flows.flows flow).discarded + length (flow_at p.flows.flows flow).backlog ≤ 2 ^ 62
-  few-there = let i = (kept.within.flows_are flow).2 in omega arith
+  few-there = let i = (bound.flows_are flow).2 in omega arith
 
   module _ (h : Home) (at_home : slice_get p.homes.items flow ≡ Some h) where
     pub is-home : IsHomeOf flow (home p.flows.keys flow) (views_of p) h
@@ -78,20 +41,16 @@ module _ (p : Parts) (due : Heap Due) (kept : IsKept p due) (flow : ℕ) (within
     -- The flow's packets are among those that wait for its link.
     pub enough : length (flow_at p.flows.flows flow).backlog ≤ is-home.view.waits
     enough =
-        let a = kept.agrees.2 in
-        let w = waiting-discarded is-home.view.link flow kept.agrees.1 in
-        let c = ap {B = ℕ} (λ (q : List Waiting). length q) (a.flows_are flow).backlog_is ∙ length-waiting _ ∙ ap {B = ℕ} (λ (l : Link). length (backlog l flow kept.agrees.1)) (sym is-home.link_is) in
+        let a = agrees.2 in
+        let w = waiting-discarded is-home.view.link flow agrees.1 in
+        let c = ap {B = ℕ} (λ (q : List Waiting). length q) (a.flows_are flow).backlog_is ∙ length-waiting _ ∙ ap {B = ℕ} (λ (l : Link). length (backlog l flow agrees.1)) (sym is-home.link_is) in
         let v = (a.views_are h.place is-home.view is-home.there).waits_are in
         omega arith
 
     pub enough-all : length (flow_at p.flows.flows flow).backlog ≤ p.waiting
-    enough-all = let e = enough in let le = sum-le (λ (v : LinkView). v.waits) (views_of p) h.place is-home.view is-home.there in let is = kept.within.waiting_is in omega arith
+    enough-all = let e = enough in let le = sum-le (λ (v : LinkView). v.waits) (views_of p) h.place is-home.view is-home.there in let is = bound.waiting_is in omega arith
 
--- The moment that was read is the link's.
-pub free-is : (old : Parts) (h : Home) (flow : ℕ) (new : Parts) (s : DiscardsAt h flow old new) (state : LinkParts) → state ≡ get_or old.links.items h.place state → (moment : ℕ) → moment ≡ state.link.free → moment ≡ s.view.value.free
-free-is old h flow new s state read moment is = let v = viewed view_of old.links.items h.place state s.view s.there read in is ∙ ap (λ (x : LinkView). x.value.free) v.1
-
-module _ (h : Home) (flow : ℕ) (old new : Parts) (due : Heap Due) (kept : IsKept old due) (within : flow < length old.flows.keys) (at_home : slice_get old.homes.items flow ≡ Some h) (s : DiscardsAt h flow old new) where
+module _ (h : Home) (flow : ℕ) (old new : Parts) (agrees : Agrees old) (bound : Within (2 ^ 62) old) (within : flow < length old.flows.keys) (at_home : slice_get old.homes.items flow ≡ Some h) (s : DiscardsAt h flow old new) where
   pub discards-agree : Discards flow old new
   discards-agree more trace a =
       let g = a.homes_are flow within in
@@ -126,7 +85,7 @@ module _ (h : Home) (flow : ℕ) (old new : Parts) (due : Heap Due) (kept : IsKe
     room = let b = s.waiting in let c = ap {B = ℕ} (λ x. x.room) s.line in let d = w.room in omega arith;
     pushed = let b = s.waiting in let c = ap {B = ℕ} (λ x. x.pushed) s.line in let d = w.pushed in omega arith;
     sums = let b = s.waiting in let c = ap {B = ℕ} (λ x. length x.pending) s.line in let d = w.sums in omega arith;
-    flows_are = λ g. subst (λ (x : FlowState). IsFlowWithin n x) (sym (ap (λ (fs : List FlowState). flow_at fs g) s.flows_are ∙ flow_after_set old.flows.flows flow g (emptied (flow_at old.flows.flows flow)) (flow-there old due kept flow within))) (by g (nat_eq flow g));
+    flows_are = λ g. subst (λ (x : FlowState). IsFlowWithin n x) (sym (ap (λ (fs : List FlowState). flow_at fs g) s.flows_are ∙ flow_after_set old.flows.flows flow g (emptied (flow_at old.flows.flows flow)) (flow-there old agrees bound flow within))) (by g (nat_eq flow g));
     arrivals = λ j v e. few_arrivals j v e (cases_eq j h.place);
     accepted = let a = s.accepted in let b = w.accepted in omega arith;
   }
@@ -156,59 +115,23 @@ module _ (h : Home) (flow : ℕ) (old new : Parts) (due : Heap Due) (kept : IsKe
   due-then : slice_get (dues (views_of old)) h.place ≡ Some (due_of s.view)
   due-then = get-map due_of (views_of old) h.place s.view s.there
 
-  agrees-then : Agrees new
-  agrees-then = let a = kept.agrees in (a.0, discarded flow ∷ a.1, discards-agree a.0 a.1 a.2)
-
-  same-length : length (views_of new) ≡ length (views_of old)
-  same-length = ap (λ (vs : List LinkView). length vs) s.views_are ∙ length-set (views_of old) h.place s.view'
-
-  -- The heap stays where the link's due moment does.
-  same-kept : due_of s.view' ≡ due_of s.view → IsKept new due
-  same-kept same =
-      let now : dues (views_of new) ≡ dues (views_of old) = discards-dues ∙ ap (λ (o : Option ℕ). set (dues (views_of old)) h.place o) same ∙ set-self (dues (views_of old)) h.place (due_of s.view) due-then in
-      record {
-        agrees = agrees-then;
-        within = discards-within (2 ^ 62) kept.within;
-        held = subst (λ (d : List (Option ℕ)). Holds d due.keys) (sym now) kept.held;
-        counted = kept.counted ∙ ap backlogged (sym now);
-        places = let b = same-length in let c = kept.places in omega arith;
-      }
-
-  pub none-kept : length (flow_at old.flows.flows flow).backlog ≡ 0 → IsKept new due
-  none-kept none = same-kept (by (cases_lt 0 s.view.waits))
+  -- A link of which packets are left is free from the same moment.
+  still-due : (m : ℕ) → due_of s.view' ≡ Some m → due_of s.view ≡ Some m
+  still-due m e = by (cases_lt 0 s.view'.waits)
     where
-      by : (0 < s.view.waits) ⊎ (s.view.waits ≤ 0) → due_of s.view' ≡ due_of s.view
-      by (inl some) = let w = s.leaves.waits in due-some s.view' (omega arith) ∙ ap (λ x. Some x.free) s.leaves.value ∙ sym (due-some s.view some)
-      by (inr no_more) = let w = s.leaves.waits in due-none s.view' (omega arith) ∙ sym (due-none s.view (omega arith))
+      by : (0 < s.view'.waits) ⊎ (s.view'.waits ≤ 0) → due_of s.view ≡ Some m
+      by (inl some) = let w = s.leaves.waits in due-some s.view (omega arith) ∙ ap (λ x. Some x.free) (sym s.leaves.value) ∙ sym (due-some s.view' some) ∙ e
+      by (inr none) = let z : Some m ≡ None = sym e ∙ due-none s.view' none in let f : true ≡ false = ap is_some z in absurd cc
 
-  pub others-kept : 0 < s.view'.waits → IsKept new due
-  others-kept some = let w = s.leaves.waits in same-kept (due-some s.view' some ∙ ap (λ x. Some x.free) s.leaves.value ∙ sym (due-some s.view (omega arith)))
+  pub discards-empties : OnlyEmpties old new
+  discards-empties place m e = by (cases_eq place h.place)
+    where
+      now : due_at (set (dues (views_of old)) h.place (due_of s.view')) place ≡ Some m
+      now = ap (λ (d : List (Option ℕ)). due_at d place) (sym discards-dues) ∙ e
 
-  module _ (count : 0 < length (flow_at old.flows.flows flow).backlog) (gone : s.view'.waits ≡ 0) where
-    was-due : due_of s.view ≡ Some s.view.value.free
-    was-due = let w = s.leaves.waits in due-some s.view (omega arith)
-
-    pub stands : All (λ k. is_eq (due_cmp k (record { moment = s.view.value.free; place = h.place })) ≡ false) due.keys → ⊥
-    stands none = key-there (dues (views_of old)) due.keys h.place s.view.value.free kept.held (due-listed (dues (views_of old)) h.place (Some s.view.value.free) (due-then ∙ ap (λ (o : Option ℕ). Some o) was-due)) none
-
-    pub taken-kept : (k : Due) (due' : Heap Due) → is_eq (due_cmp k (record { moment = s.view.value.free; place = h.place })) ≡ true → IsPermutation due.keys (k ∷ due'.keys) → due'.room ≡ due.room + 1 → IsKept new due'
-    taken-kept k due' equal perm room =
-        let is = key-is k s.view.value.free h.place equal in
-        let now : dues (views_of new) ≡ set (dues (views_of old)) k.place None = discards-dues ∙ (λ i. set (dues (views_of old)) (sym is.1 i) (due-none s.view' (let g = gone in omega arith) i)) in
-        record {
-          agrees = agrees-then;
-          within = discards-within (2 ^ 62) kept.within;
-          held = subst (λ (d : List (Option ℕ)). Holds d due'.keys) (sym now) (holds_none (dues (views_of old)) due.keys due'.keys k kept.held perm);
-          counted =
-              let a = length_permutation due.keys (k ∷ due'.keys) perm in
-              let b = sum-set is_backlogged (dues (views_of old)) k.place (due_of s.view) None (ap (slice_get (dues (views_of old))) is.1 ∙ due-then) in
-              let c = kept.counted in
-              let d = ap {B = ℕ} (λ (o : Option ℕ). is_backlogged o) was-due in
-              let n = ap {B = ℕ} (λ (x : List (Option ℕ)). backlogged x) now in
-              omega arith;
-          places =
-              let a = length_permutation due.keys (k ∷ due'.keys) perm in
-              let b = same-length in
-              let c = kept.places in
-              omega arith;
-        }
+      by : (place ≡ h.place) ⊎ (place ≡ h.place → ⊥) → due_at (dues (views_of old)) place ≡ Some m
+      by (inl same) =
+          let listed = get-below (dues (views_of old)) h.place (due_of s.view) due-then in
+          let here = sym (get_or-set_same (dues (views_of old)) h.place (due_of s.view') None listed) ∙ ap (due_at (set (dues (views_of old)) h.place (due_of s.view'))) (sym same) ∙ now in
+          ap (due_at (dues (views_of old))) same ∙ due-listed (dues (views_of old)) h.place (due_of s.view) due-then ∙ still-due m here
+      by (inr ne) = sym (get_or-set_other (dues (views_of old)) h.place place (due_of s.view') None ne) ∙ now

@@ -11,6 +11,7 @@ pub mod Discarded
 pub mod Discarding
 pub mod Distinct
 pub mod Dues
+pub mod Emptied
 pub mod Events
 pub mod FirstStart
 pub mod Given

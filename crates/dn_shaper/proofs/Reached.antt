@@ -1,15 +1,23 @@
--- The flows that a delete reaches are discarded one by one.
-use Rattle.std.proofs.Common.{◌≡◌, ◌∙◌, ◌≤◌, ℕ, zero, suc, ◌+◌, true, false, cond, List, [], ◌∷◌, refl, ap, sym, subst, length, arith}
-use Rattle.std.specs.Prelude.{Some, drop, slice_get}
+-- The flows that a delete reaches are discarded one by one, and the links that this empties leave the heap together.
+use Rattle.std.proofs.Common.{◌≡◌, ◌∙◌, ◌≤◌, ◌^◌, ℕ, zero, suc, ◌+◌, true, false, cond, List, [], ◌∷◌, refl, ap, sym, subst, length, arith, IsPermutation}
+use Rattle.std.specs.Prelude.{Some, drop, filter, slice_get}
+use Rattle.std.proofs.lemmas.List.{length-map}
+use Rattle.dn_heap.specs.Heap.{Heap}
 use Rattle.dn_types.specs.Calls.{reaches, discard_reached}
 use Rattle.dn_types.specs.Trace.{Link, Event, discarded}
 use Rattle.dn_types.specs.declared.command.Command.{Command}
 use Rattle.dn_types.specs.declared.flow_key.FlowKey.{FlowKey}
+use Rattle.dn_shaper.specs.declared.due.Due.{Due}
 use Rattle.dn_shaper.specs.declared.parts.Parts.{Parts}
-use Rattle.dn_shaper.specs.Agreement.{AgreesWith}
+use Rattle.dn_shaper.specs.Agreement.{Agrees, AgreesWith}
 use Rattle.dn_shaper.specs.Arriving.{KeepsFlows}
 use Rattle.dn_shaper.specs.Configuring.{DiscardsReached}
-use Rattle.dn_shaper.specs.Discarding.{Discards}
+use Rattle.dn_shaper.specs.Discarding.{Discards, OnlyEmpties}
+use Rattle.dn_shaper.specs.Due.{is_due}
+use Rattle.dn_shaper.specs.Settling.{IsKept}
+use Rattle.dn_shaper.specs.Starting.{Within}
+use Rattle.dn_shaper.specs.Views.{LinkView, dues, views_of}
+use Rattle.dn_shaper.proofs.Emptied.{holds-kept, counted-held}
 
 -- The flows below this one are done, and the rest would end at the same trace.
 abbrev pub DiscardsUpTo : ℕ → Command → Parts → Parts → Type 0
@@ -59,3 +67,30 @@ keeps-none p = record { rule = refl; keys = refl; homes = refl; names = refl }
 
 pub keeps-more : (old mid new : Parts) → KeepsFlows old mid → KeepsFlows mid new → KeepsFlows old new
 keeps-more old mid new a b = record { rule = b.rule ∙ a.rule; keys = b.keys ∙ a.keys; homes = b.homes ∙ a.homes; names = b.names ∙ a.names }
+
+pub agrees-discarded : (flow : ℕ) (old new : Parts) → Agrees old → Discards flow old new → Agrees new
+agrees-discarded flow old new a d = (a.0, discarded flow ∷ a.1, d a.0 a.1 a.2)
+
+agrees-reached : (command : Command) (old new : Parts) → Agrees old → DiscardsReached command old new → Agrees new
+agrees-reached command old new a d = (a.0, discard_reached command 0 old.flows.keys a.1, d a.0 a.1 a.2)
+
+pub empties-none : (p : Parts) → OnlyEmpties p p
+empties-none p place moment e = e
+
+pub empties-more : (old mid new : Parts) → OnlyEmpties old mid → OnlyEmpties mid new → OnlyEmpties old new
+empties-more old mid new a b place moment e = a place moment (b place moment e)
+
+-- The emptied links left the heap together.
+pub emptied-kept : (command : Command) (old new : Parts) (due due' : Heap Due) → IsKept old due → DiscardsReached command old new → ((n : ℕ) → Within n old → Within n new) → KeepsFlows old new → OnlyEmpties old new → IsPermutation (filter (is_due (dues (views_of new))) due.keys) due'.keys → length due'.keys + due'.room ≡ length due.keys + due.room → IsKept new due'
+emptied-kept command old new due due' kept discards within keeps empties perm room =
+    let held = holds-kept (dues (views_of old)) (dues (views_of new)) due.keys due'.keys kept.held empties perm in
+    record {
+      agrees = agrees-reached command old new kept.agrees discards;
+      within = within (2 ^ 62) kept.within;
+      held = held;
+      counted = counted-held due'.keys (dues (views_of new)) held;
+      places =
+          let many = sym (length-map (views_of new) (λ (v : LinkView). v.link)) ∙ ap (λ (ls : List Link). length ls) keeps.names ∙ length-map (views_of old) (λ (v : LinkView). v.link) in
+          let p = kept.places in
+          omega (arith, many, p, room);
+    }

@@ -1,5 +1,5 @@
 -- The links with a backlog by the moments at which they are free, and the heap that holds them.
-use Rattle.std.specs.Prelude.{◌≡◌, ℕ, ◌==◌, cond, List, Option, Some, None, is_some, slice_index_or}
+use Rattle.std.specs.Prelude.{◌≡◌, ℕ, ◌==◌, cond, Bool, List, Option, Some, None, is_some, slice_index_or}
 use Rattle.std.specs.List.{All, sum_by}
 use Rattle.std.specs.Ordering.{nat_cmp, ordering_then}
 use Rattle.std.specs.declared.cmp.Ordering.{Ordering}
@@ -18,6 +18,10 @@ at_place place k = cond (k.place == place) 1 0
 
 abbrev pub standing : ℕ → List Due → ℕ
 standing place keys = sum_by (at_place place) keys
+
+-- Whether the link of the key has a backlog.
+abbrev pub is_due : List (Option ℕ) → Due → Bool
+is_due due k = is_some (due_at due k.place)
 
 -- How many links have a backlog.
 abbrev pub is_backlogged : Option ℕ → ℕ

@@ -2,14 +2,16 @@ ghost use Rattle.std.specs.Prelude.{◌≡◌, ℕ, None, ◌+◌, ◌<◌, ◌�
 ghost use Rattle.dn_types.specs.Calls.{reaches};
 ghost use Rattle.dn_types.specs.Configuration.{subject};
 ghost use Rattle.dn_types.specs.declared.call.Call.TheVariants.{Configure};
+ghost use Rattle.dn_shaper.specs.Agreement.{Agrees};
 ghost use Rattle.dn_shaper.specs.Arriving.{KeepsFlows};
 ghost use Rattle.dn_shaper.specs.Configuring.{DiscardsReached, IsAnswered};
+ghost use Rattle.dn_shaper.specs.Discarding.{OnlyEmpties};
 ghost use Rattle.dn_shaper.specs.Settings.{settings_of};
 ghost use Rattle.dn_shaper.specs.Settling.{IsKept};
 ghost use Rattle.dn_shaper.specs.Standing.{Does, IsSound, StillStands};
 ghost use Rattle.dn_shaper.specs.Starting.{Within};
 
-use crate::discard::discard_flow;
+use crate::discard::{discard_flow, forget_emptied};
 use crate::due::Due;
 use crate::parts::Parts;
 use crate::state::State;
@@ -29,6 +31,24 @@ fn reaches(command: &Command, key: &FlowKey) -> bool
 }
 
 /// Discards the packets of all flows that the delete reaches, in order of flow numbers.
+fn discard_flows(parts: &mut Parts, command: &Command)
+    requires agrees { Agrees parts.old }
+    requires few { Within (2 ^ 62) parts.old }
+    ensures discards { DiscardsReached command.now parts.old parts.new }
+    ensures within { (n : ℕ) → Within n parts.old → Within n parts.new }
+    ensures waiting { parts.new.waiting ≤ parts.old.waiting }
+    ensures keeps { KeepsFlows parts.old parts.new }
+    ensures empties { OnlyEmpties parts.old parts.new }
+{
+    for flow in 0..parts.flows.len() {
+        if reaches(command, &parts.flows.key(flow)) {
+            discard_flow(parts, flow);
+        }
+    }
+}
+
+/// Discards the packets of all flows that the delete reaches. The links that this empties leave the
+/// heap together, so that a delete costs one pass over it and not one for each of them.
 fn discard_reached(parts: &mut Parts, due: &mut MinHeap<Due>, command: &Command)
     requires kept { IsKept parts.old due.old }
     ensures discards { DiscardsReached command.now parts.old parts.new }
@@ -37,11 +57,8 @@ fn discard_reached(parts: &mut Parts, due: &mut MinHeap<Due>, command: &Command)
     ensures moves { due.new.moves + parts.new.waiting ≤ due.old.moves + parts.old.waiting }
     ensures keeps { KeepsFlows parts.old parts.new }
 {
-    for flow in 0..parts.flows.len() {
-        if reaches(command, &parts.flows.key(flow)) {
-            discard_flow(parts, due, flow);
-        }
-    }
+    discard_flows(parts, command);
+    forget_emptied(due, parts);
 }
 
 /// Answers a command: an accepted one changes what is in force, and an accepted delete discards the

@@ -1,10 +1,11 @@
-ghost use Rattle.std.specs.Prelude.{◌≡◌, ℕ, ◌+◌, ◌<◌, ◌≤◌, ◌^◌, length, slice_get, Some};
+ghost use Rattle.std.specs.Prelude.{◌≡◌, ℕ, ◌+◌, ◌<◌, ◌≤◌, ◌^◌, filter, is_some, length, slice_get, IsPermutation, Some};
 ghost use Rattle.dn_flows.specs.Table.{flow_at};
+ghost use Rattle.dn_shaper.specs.Agreement.{Agrees};
 ghost use Rattle.dn_shaper.specs.Arriving.{KeepsFlows};
-ghost use Rattle.dn_shaper.specs.Discarding.{Discards, DiscardsAt, Leaves};
-ghost use Rattle.dn_shaper.specs.Settling.{IsKept};
+ghost use Rattle.dn_shaper.specs.Discarding.{Discards, DiscardsAt, Leaves, OnlyEmpties};
+ghost use Rattle.dn_shaper.specs.Due.{due_at, is_due};
 ghost use Rattle.dn_shaper.specs.Starting.{Within};
-ghost use Rattle.dn_shaper.specs.Views.{LinkView, view_of, views_of};
+ghost use Rattle.dn_shaper.specs.Views.{LinkView, dues, view_of, views_of};
 
 use crate::due::Due;
 use crate::parts::{Carries, Home, LinkParts, Parts};
@@ -36,25 +37,38 @@ fn empty_flow(parts: &mut Parts, home: Home, flow: usize, count: usize)
     parts.waiting -= count;
 }
 
-/// Discards the packets of the flow as a delete does. The link stays in the heap where others wait
-/// for it, and is taken out where none does.
-pub fn discard_flow(parts: &mut Parts, due: &mut MinHeap<Due>, flow: usize)
-    requires kept { IsKept parts.old due.old }
+/// Discards the packets of the flow as a delete does. A link that this empties keeps its place in the
+/// heap of links until `forget_emptied`.
+pub fn discard_flow(parts: &mut Parts, flow: usize)
+    requires agrees { Agrees parts.old }
+    requires few { Within (2 ^ 62) parts.old }
     requires within { flow < length parts.old.flows.keys }
     ensures discards { Discards flow parts.old parts.new }
-    ensures kept { IsKept parts.new due.new }
     ensures within { (n : ℕ) → Within n parts.old → Within n parts.new }
-    ensures moves { due.new.moves + parts.new.waiting ≤ due.old.moves + parts.old.waiting }
+    ensures waiting { parts.new.waiting ≤ parts.old.waiting }
     ensures keeps { KeepsFlows parts.old parts.new }
+    ensures empties { OnlyEmpties parts.old parts.new }
 {
     let home = parts.homes[flow];
     let count = parts.flows.status(flow).queued as usize;
-    let free = parts.links[home.place].link.free();
     empty_flow(parts, home, flow, count);
-    if count > 0 && parts.links[home.place].waiting == 0 {
-        due.take_out(&Due {
-            moment: free,
-            place: home.place,
-        });
+}
+
+/// Whether a packet waits for the link at the place.
+fn has_backlog(parts: &Parts, place: usize) -> bool
+    ensures { result ≡ is_some (due_at (dues (views_of parts.now)) place) }
+{
+    match parts.links.get(place) {
+        Some(state) => state.waiting > 0,
+        None => false,
     }
+}
+
+/// Lets go of each link for which no packet waits any more, in one pass over the heap.
+pub fn forget_emptied(due: &mut MinHeap<Due>, parts: &Parts)
+    ensures keys { IsPermutation (filter (is_due (dues (views_of parts.now))) due.old.keys) due.new.keys }
+    ensures room { length due.new.keys + due.new.room ≡ length due.old.keys + due.old.room }
+    ensures keeps_moves { due.new.moves ≡ due.old.moves }
+{
+    due.retain(|key| has_backlog(parts, key.place));
 }

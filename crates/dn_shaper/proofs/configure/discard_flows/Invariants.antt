@@ -1,15 +1,18 @@
-use Rattle.std.proofs.Common.{◌≤◌, ◌+◌, ℕ}
+use Rattle.std.proofs.Common.{◌≤◌, ◌^◌, ℕ}
+use Rattle.dn_shaper.specs.Agreement.{Agrees}
 use Rattle.dn_shaper.specs.Arriving.{KeepsFlows}
+use Rattle.dn_shaper.specs.Discarding.{OnlyEmpties}
 use Rattle.dn_shaper.proofs.Reached.{DiscardsUpTo}
-use Rattle.dn_shaper.specs.Settling.{IsKept}
 use Rattle.dn_shaper.specs.Starting.{Within}
-use Rattle.dn_shaper.proofs.configure.discard_reached.Given as goal
+use Rattle.dn_shaper.proofs.configure.discard_flows.Given as goal
 
 abbrev pub invariant-loop-flow : goal.invariant-loop-flow
 invariant-loop-flow l = record {
-  kept : IsKept l.parts l.due;
+  agrees : Agrees l.parts;
+  few : Within (2 ^ 62) l.parts;
   within : (n : ℕ) → Within n l.initial.parts → Within n l.parts;
-  moves : l.due.moves + l.parts.waiting ≤ l.initial.due.moves + l.initial.parts.waiting;
+  waiting : l.parts.waiting ≤ l.initial.parts.waiting;
   keeps : KeepsFlows l.initial.parts l.parts;
+  empties : OnlyEmpties l.initial.parts l.parts;
   reached : DiscardsUpTo l.flow l.command l.initial.parts l.parts;
 }
