@@ -60,6 +60,17 @@ pub fn queue(number: u32) -> Option<Call> {
     }))
 }
 
+/// The delete of the queue where packets go to one, and of the pipe where they go to the pipe.
+pub fn delete(load: &Load) -> Option<Call> {
+    let number = Number::new(1)?;
+    let command = if load.queues == 0 {
+        Command::DeletePipe(number)
+    } else {
+        Command::DeleteQueue(number)
+    };
+    Some(Call::Configure(command))
+}
+
 /// A packet of 1,000 bytes, whose target and flow the seed picks.
 pub fn packet(load: &Load, seed: u64, moment: u64) -> Option<Call> {
     let pick = (seed >> 33) as u32;

@@ -4,8 +4,8 @@
 mod load;
 
 use dn_shaper::Shaper;
-use dn_types::{Call, Command, Moment, Number, Reply};
-use load::{Load, next, packet, pipe, queue};
+use dn_types::{Call, Moment, Reply};
+use load::{Load, delete, next, packet, pipe, queue};
 use std::io;
 use std::time::Instant;
 
@@ -220,23 +220,12 @@ fn measure_collect(rt: &HostRuntime, rounds: u64) -> io::Result<()> {
     tell(rt, load.name, rounds, &run)
 }
 
-/// Deletes the pipe.
-fn delete_pipe(shaper: &mut Shaper, run: &mut Run) {
-    let Some(number) = Number::new(1) else {
-        return;
-    };
-    apply(
-        shaper,
-        Some(Call::Configure(Command::DeletePipe(number))),
-        run,
-    );
-}
-
-/// Tells how long the delete of a pipe takes whose flows have a link each, most with waiting packets.
-fn measure_delete(rt: &HostRuntime, flows: u32) -> io::Result<()> {
+/// Tells how long a delete takes that reaches so many flows, most with waiting packets: of a pipe,
+/// where each flow has a link of its own, or of the one queue of a pipe, whose flows share a link.
+fn measure_delete(rt: &HostRuntime, name: &'static str, queues: u32, flows: u32) -> io::Result<()> {
     let load = Load {
-        name: "a delete",
-        queues: 0,
+        name,
+        queues,
         flows,
         bandwidth: 1_000,
         delay: 0,
@@ -248,17 +237,19 @@ fn measure_delete(rt: &HostRuntime, flows: u32) -> io::Result<()> {
     let packets = u64::from(flows).wrapping_mul(4);
     submit(&mut shaper, &load, packets, 0, 1, &mut run);
     let start = Instant::now(rt)?;
-    delete_pipe(&mut shaper, &mut run);
+    apply(&mut shaper, delete(&load), &mut run);
     add_time(rt, &start, &mut run.submitting)?;
-    tell_delete(rt, flows, &run)
+    tell_delete(rt, &load, &run)
 }
 
 /// Tells what a delete came to.
-fn tell_delete(rt: &HostRuntime, flows: u32, run: &Run) -> io::Result<()> {
+fn tell_delete(rt: &HostRuntime, load: &Load, run: &Run) -> io::Result<()> {
+    let name = load.name;
+    let flows = load.flows;
     let queued = run.queued;
-    println!(rt; "a delete of {flows} links: {queued} queued")?;
+    println!(rt; "a delete of {flows} {name}: {queued} queued")?;
     let nanos = run.submitting;
-    eprintln!(rt; "a delete of {flows} links: {nanos} ns")?;
+    eprintln!(rt; "a delete of {flows} {name}: {nanos} ns")?;
     Ok(())
 }
 
@@ -279,7 +270,8 @@ fn main(rt: HostRuntime) -> io::Result<()> {
     }
     measure_collect(&rt, rounds)?;
     for flows in [1_000u32, 4_000, 16_384] {
-        measure_delete(&rt, flows)?;
+        measure_delete(&rt, "links", 0, flows)?;
+        measure_delete(&rt, "flows of one link", 1, flows)?;
     }
     Ok(())
 }
