@@ -5,6 +5,7 @@ ghost use Rattle.dn_records.specs.Records.{line_of, text_of};
 ghost use Rattle.dn_records.specs.Writing.{bytes_of};
 ghost use Rattle.dn_replay.specs.Report.{line_fields, report, report_header};
 ghost use Rattle.dn_replay.specs.Writing.{IsUnwritten};
+ghost use Rattle.dn_replay.specs.declared.line.Line.TheVariants.{Held, NoTarget};
 ghost use Rattle.dn_replay.specs.declared.source.Source.TheVariants.{Report};
 
 use crate::line::Line;
@@ -61,6 +62,42 @@ fn write_refused(
     ])
 }
 
+/// Adds a line whose packet was accepted and not delivered.
+fn write_held(
+    writer: &mut RecordWriter,
+    row: u128,
+    flow: usize,
+    packet: u64,
+    at: u64,
+) -> Result<(), AllocError>
+    ensures { OnOk result (writer.new.text ≡ writer.old.text ++ line_of (line_fields (Held row flow packet at))) }
+{
+    writer.write(&[
+        Field::Text("held"),
+        Field::Number(row),
+        number(flow as u64),
+        number(packet),
+        number(at),
+        Field::Empty,
+        Field::Empty,
+    ])
+}
+
+/// Adds a line whose packet has no target, and so neither a flow nor a packet number.
+fn write_no_target(writer: &mut RecordWriter, row: u128, at: u64) -> Result<(), AllocError>
+    ensures { OnOk result (writer.new.text ≡ writer.old.text ++ line_of (line_fields (NoTarget row at))) }
+{
+    writer.write(&[
+        Field::Text("none"),
+        Field::Number(row),
+        Field::Empty,
+        Field::Empty,
+        number(at),
+        Field::Empty,
+        Field::Empty,
+    ])
+}
+
 /// Adds a line.
 fn write_line(writer: &mut RecordWriter, line: &Line) -> Result<(), AllocError>
     ensures { OnOk result (writer.new.text ≡ writer.old.text ++ line_of (line_fields line.now)) }
@@ -87,26 +124,10 @@ fn write_line(writer: &mut RecordWriter, line: &Line) -> Result<(), AllocError>
             flow,
             packet,
             at,
-        } => writer.write(&[
-            Field::Text("held"),
-            Field::Number(*row),
-            number(*flow as u64),
-            number(*packet),
-            number(*at),
-            Field::Empty,
-            Field::Empty,
-        ]),
+        } => write_held(writer, *row, *flow, *packet, *at),
         Line::Lost { row, flow, at } => write_refused(writer, "lost", *row, *flow, *at),
         Line::Full { row, flow, at } => write_refused(writer, "full", *row, *flow, *at),
-        Line::NoTarget { row, at } => writer.write(&[
-            Field::Text("none"),
-            Field::Number(*row),
-            Field::Empty,
-            Field::Empty,
-            number(*at),
-            Field::Empty,
-            Field::Empty,
-        ]),
+        Line::NoTarget { row, at } => write_no_target(writer, *row, *at),
     }
 }
 

@@ -1,3 +1,5 @@
+ghost use Rattle.std.specs.Prelude.{◌≡◌};
+
 use super::REPORT_HEADER;
 use crate::write_report;
 use dn_records::FromWriter;
@@ -24,6 +26,16 @@ fn submit() -> Option<Call> {
     })
 }
 
+fn entry(caller: usize, call: Call, reply: Reply) -> Entry
+    ensures { result.caller ≡ caller }
+{
+    Entry {
+        caller,
+        call,
+        reply,
+    }
+}
+
 // With two callers the rows of a caller are two apart: caller 0 has rows 1 and 3, and caller 1 rows 2 and 4.
 #[test]
 fn rows_of_two_callers(rt: HostRuntime) -> Result<(), Fail> {
@@ -42,26 +54,10 @@ fn rows_of_two_callers(rt: HostRuntime) -> Result<(), Fail> {
         packet: 0,
     };
     let entries = [
-        Entry {
-            caller: 1,
-            call: first,
-            reply: queued,
-        },
-        Entry {
-            caller: 1,
-            call: second,
-            reply: Reply::Full { at: 1, flow: 0 },
-        },
-        Entry {
-            caller: 0,
-            call: third,
-            reply: Reply::NoTarget { at: 2 },
-        },
-        Entry {
-            caller: 0,
-            call: fourth,
-            reply: Reply::Lost { at: 3, flow: 1 },
-        },
+        entry(1, first, queued),
+        entry(1, second, Reply::Full { at: 1, flow: 0 }),
+        entry(0, third, Reply::NoTarget { at: 2 }),
+        entry(0, fourth, Reply::Lost { at: 3, flow: 1 }),
     ];
     let history = Vec::from_array(alloc, entries)?;
     let mut written = Vec::new(alloc);
