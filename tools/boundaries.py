@@ -39,7 +39,7 @@ CALLERS = {
     },
     "dn_link link": {
         "new": ["make::new_link"],
-        "free": ["accept::is_idle", "accept::accept", "settle::settle_one"],
+        "free": ["arrive::is_idle", "accept::accept", "settle::settle_one"],
         "begin": ["start::send"],
         "deliver": ["start::send"],
     },
