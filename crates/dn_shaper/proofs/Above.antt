@@ -3,7 +3,7 @@ use Rattle.std.proofs.Common.{◌≡◌, ◌∙◌, ◌≤◌, ℕ, ◌+◌, Boo
 use Rattle.std.specs.Prelude.{nat_eq}
 use Rattle.dn_types.specs.SharedLinks.{last_finish_tag}
 use Rattle.dn_types.specs.Trace.{Link, link_eq, Accepted, Event, opened, arrived, started, lost, refused, discarded, collected, flow_bound, discarded_count}
-use Rattle.dn_shaper.proofs.Events.{eq-no}
+use Rattle.dn_flows.proofs.Places.{eq-no}
 use Rattle.dn_types.proofs.Settling.{and-no, backlog-above}
 
 zero-if : (b : Bool) (n : ℕ) → n ≡ 0 → cond b 0 n ≡ 0

@@ -24,7 +24,7 @@ use Rattle.dn_shaper.specs.Starting.{Within, IsReady, CanStart, StartsAt}
 use Rattle.dn_shaper.specs.Views.{LinkView, views_of, home, dues, due_of}
 use Rattle.dn_shaper.proofs.Arriving.{set-self, set-set, link-home, arrives-agree, next-alone, starts-at-once, arrives-dues, arrives-names, arrives-within}
 use Rattle.dn_shaper.proofs.Events.{length-set}
-use Rattle.dn_shaper.proofs.Places.{get-set, sum-set, get-map, map-set-same, get-below}
+use Rattle.dn_flows.proofs.Places.{get-set, sum-set, get-map, map-set-same, get-below}
 use Rattle.dn_shaper.proofs.Starting.{starts-agree, starts-within, starts-dues}
 use Rattle.dn_shaper.proofs.Accepting.{within-more, holds_pushed, backlogged-one, due-listed, due-some, due-none, in-table}
 

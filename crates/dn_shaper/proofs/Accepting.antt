@@ -23,7 +23,7 @@ use Rattle.dn_shaper.specs.Starting.{Within, IsReady}
 use Rattle.dn_shaper.specs.Views.{LinkView, views_of, home, stamped_of, at_slot, due_of}
 use Rattle.dn_shaper.proofs.Dues.{same_place, other_place, pushed, none_standing}
 use Rattle.dn_shaper.proofs.Heads.{slot_or}
-use Rattle.dn_shaper.proofs.Places.{sum-le}
+use Rattle.dn_flows.proofs.Places.{sum-le}
 use Rattle.dn_shaper.proofs.Waiting.{empty-all, total-same}
 
 pub within-more : (n m : ℕ) (p : Parts) → n ≤ m → Within n p → Within m p

@@ -15,8 +15,8 @@ use Rattle.dn_flows.proofs.Views.{flow_after_set}
 use Rattle.dn_shaper.specs.declared.parts.Home.{Home}
 use Rattle.dn_shaper.specs.Views.{LinkView, home, waiting_of, stamped_of, at_slot}
 use Rattle.dn_shaper.specs.Agreement.{AreDistinct, IsAt, IsLinkAt, IsFlowAt, IsScheduleAt, IsSlotAt, link_names}
-use Rattle.dn_shaper.proofs.Events.{uncounted, counted-once, read-set, eq-yes, eq-no, append-none, length-set}
-use Rattle.dn_shaper.proofs.Places.{get-set, get-set-other, map-set-same, get-below}
+use Rattle.dn_shaper.proofs.Events.{uncounted, counted-once, read-set, append-none, length-set}
+use Rattle.dn_flows.proofs.Places.{eq-no, eq-yes, get-set, get-set-other, map-set-same, get-below}
 use Rattle.dn_types.proofs.Settled.{link_eq-refl}
 use Rattle.dn_shaper.proofs.Unseen.{not_with}
 use Rattle.dn_types.proofs.Settling.{and-no}

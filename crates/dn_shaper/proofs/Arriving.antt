@@ -25,10 +25,9 @@ use Rattle.dn_shaper.specs.Arriving.{begun_flows, begun_time, Arrives, ArrivesOn
 use Rattle.dn_shaper.specs.Starting.{IsFlowWithin, Within}
 use Rattle.dn_shaper.specs.Views.{LinkView, views_of, home, waiting_of, stamped_of, at_slot, dues, due_of}
 use Rattle.dn_shaper.proofs.Arrived.{arrived-agrees}
-use Rattle.dn_shaper.proofs.Events.{eq-yes}
 use Rattle.dn_shaper.proofs.Next.{home-here, next_exists}
 use Rattle.dn_shaper.proofs.Opened.{opened-agrees}
-use Rattle.dn_shaper.proofs.Places.{get-set, get-set-other, map-set, map-set-same, sum-set, length-more}
+use Rattle.dn_flows.proofs.Places.{eq-yes, get-set, get-set-other, map-set, map-set-same, sum-set, length-more}
 use Rattle.dn_types.proofs.Settling.{next_packet-first}
 use Rattle.dn_shaper.proofs.Waiting.{empty-all}
 use Rattle.std.proofs.lemmas.Bool.{eqb-true}

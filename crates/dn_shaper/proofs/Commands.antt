@@ -17,8 +17,8 @@ use Rattle.dn_types.specs.declared.target.Target.TheVariants.{Pipe as ToPipe, Qu
 use Rattle.dn_types.specs.contracts.target.TargetPartialEq.TheImpl as impl
 use Rattle.dn_types.proofs.Settled.{true_or_false}
 use Rattle.dn_shaper.specs.Configuring.{Lists}
+use Rattle.dn_flows.proofs.Places.{eq-no, eq-yes}
 use Rattle.dn_shaper.specs.QueueCounts.{names_pipe}
-use Rattle.dn_shaper.proofs.Events.{eq-yes, eq-no}
 
 abbrev pub Entry : Type 0
 Entry = Target × Command

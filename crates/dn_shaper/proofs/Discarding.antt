@@ -21,7 +21,7 @@ use Rattle.dn_shaper.specs.Views.{LinkView, views_of, home, dues, due_of, waits_
 use Rattle.dn_shaper.proofs.Accepting.{due-some, due-none, due-listed}
 use Rattle.dn_shaper.proofs.Discarded.{discarded-agrees, length-waiting}
 use Rattle.dn_shaper.proofs.Next.{home-here}
-use Rattle.dn_shaper.proofs.Places.{get-below, get-set, get-set-other, get-map, map-set, map-set-same, sum-set, sum-le}
+use Rattle.dn_flows.proofs.Places.{get-below, get-set, get-set-other, get-map, map-set, map-set-same, sum-set, sum-le}
 use Rattle.dn_shaper.proofs.Waiting.{waiting-discarded}
 
 module _ (p : Parts) (agrees : Agrees p) (bound : Within (2 ^ 62) p) (flow : ℕ) (within : flow < length p.flows.keys) where

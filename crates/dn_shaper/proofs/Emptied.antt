@@ -11,7 +11,7 @@ use Rattle.dn_shaper.specs.declared.parts.LinkParts.{LinkParts}
 use Rattle.dn_shaper.specs.Views.{dues, due_of, view_of}
 use Rattle.dn_shaper.proofs.Accepting.{due-listed}
 use Rattle.dn_shaper.proofs.Dues.{other_place, popped_due, holds_none}
-use Rattle.dn_shaper.proofs.Places.{get-map, sum-set}
+use Rattle.dn_flows.proofs.Places.{get-map, sum-set}
 
 -- ---- Keys of links with a backlog stay
 

@@ -24,12 +24,6 @@ read-set xs i j y d within = elim (cases_eq i j) [
       rw test (get_or-set_other xs i j y d (λ e. other (sym e)))
 ]
 
-pub eq-yes : (i j : ℕ) → i ≡ j → nat_eq i j ≡ true
-eq-yes i j e = grind (arith, nat_tests)
-
-pub eq-no : (i j : ℕ) → (i ≡ j → ⊥) → nat_eq i j ≡ false
-eq-no i j ne = grind (arith, nat_tests)
-
 pub append-none : {X : Type 0} (xs : List X) → xs ++ [] ≡ xs
 append-none {X = X} [] = refl
 append-none {X = X} (x ∷ xs) = ap (λ (r : List X). x ∷ r) (append-none xs)

@@ -7,7 +7,7 @@ use Rattle.dn_shaper.specs.declared.parts.Home.{Home}
 use Rattle.dn_shaper.specs.Slots.{Ascends}
 use Rattle.dn_shaper.specs.Views.{LinkView, home}
 use Rattle.dn_shaper.specs.Agreement.{IsHomeOf, AreSlotsAtHome}
-use Rattle.dn_shaper.proofs.Places.{get-set, get-set-other}
+use Rattle.dn_flows.proofs.Places.{get-set, get-set-other}
 use Rattle.dn_shaper.proofs.Slots.{flow-at, flows-rise}
 
 pub home-after : (keys : List FlowKey) (views : List LinkView) (k : ℕ) (v : LinkView) → slice_get views k ≡ Some v → (v' : LinkView) → v'.link ≡ v.link → v'.slots ≡ v.slots → (g : ℕ) (h : Home) → IsHomeOf g (home keys g) views h → IsHomeOf g (home keys g) (set views k v') h

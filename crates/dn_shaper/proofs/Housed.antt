@@ -19,8 +19,8 @@ use Rattle.dn_shaper.specs.Making.{SameFlow}
 use Rattle.dn_shaper.specs.Standing.{IsIndexed, IsSound}
 use Rattle.dn_shaper.specs.Starting.{IsReady, Within}
 use Rattle.dn_shaper.specs.Views.{LinkView, views_of, dues, waits_in_all}
-use Rattle.dn_shaper.proofs.Events.{eq-yes, length-set}
-use Rattle.dn_shaper.proofs.Places.{get-last, length-more}
+use Rattle.dn_shaper.proofs.Events.{length-set}
+use Rattle.dn_flows.proofs.Places.{eq-yes, get-last, length-more}
 use Rattle.dn_shaper.proofs.Preparing.{IsOneMore, flow-more, with_flows}
 use Rattle.dn_shaper.proofs.Reserving.{place-reserved}
 

@@ -18,8 +18,7 @@ use Rattle.dn_shaper.specs.Homing.{NotesFor, shared_only}
 use Rattle.dn_shaper.specs.Slots.{top}
 use Rattle.dn_shaper.specs.Standing.{IsIndexed}
 use Rattle.dn_shaper.specs.Views.{LinkView, carried_link, carried_slots, view_of}
-use Rattle.dn_shaper.proofs.Events.{eq-yes, eq-no}
-use Rattle.dn_shaper.proofs.Places.{get-kept, get-last}
+use Rattle.dn_flows.proofs.Places.{eq-no, eq-yes, get-kept, get-last}
 use Rattle.dn_types.proofs.Settling.{and-no}
 
 -- ---- The links that are noted

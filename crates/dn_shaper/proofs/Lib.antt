@@ -27,7 +27,6 @@ pub mod Next
 pub mod Noted
 pub mod Opened
 pub mod Ordered
-pub mod Places
 pub mod Preparing
 pub mod Putting
 pub mod QueueCounts

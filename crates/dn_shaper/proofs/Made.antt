@@ -14,7 +14,7 @@ use Rattle.dn_shaper.specs.declared.parts.Home.{Home}
 use Rattle.dn_shaper.specs.Views.{LinkView, home, waiting_of, stamped_of, at_slot}
 use Rattle.dn_shaper.specs.Agreement.{AreDistinct, IsAt, IsLinkAt, IsFlowAt, IsHomeOf, IsScheduleAt, IsSlotAt, link_names}
 use Rattle.dn_shaper.proofs.Events.{append-none}
-use Rattle.dn_shaper.proofs.Places.{get-set, get-set-other, map-set-same}
+use Rattle.dn_flows.proofs.Places.{get-set, get-set-other, map-set-same}
 use Rattle.std.proofs.lemmas.List.{map-append}
 use Rattle.dn_types.specs.Calls.{link_of}
 use Rattle.dn_wf2q.specs.Schedule.{Flow, Schedule, flow_at as slot_at, no_packets}
@@ -24,7 +24,7 @@ use Rattle.dn_shaper.specs.Slots.{Ascends, top}
 use Rattle.dn_shaper.specs.Views.{home_by}
 use Rattle.dn_shaper.proofs.Above.{last_finish-above, discarded-above}
 use Rattle.dn_shaper.proofs.Distinct.{distinct-more}
-use Rattle.dn_shaper.proofs.Places.{get-more, get-kept, get-last, length-more}
+use Rattle.dn_flows.proofs.Places.{get-more, get-kept, get-last, length-more}
 use Rattle.dn_types.proofs.Settled.{backlog-unknown}
 use Rattle.dn_types.proofs.Settling.{backlog-above}
 use Rattle.dn_shaper.proofs.Slots.{ascends-more, top-more, below-top}

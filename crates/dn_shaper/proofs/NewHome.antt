@@ -22,7 +22,7 @@ use Rattle.dn_shaper.specs.Views.{LinkView, views_of, home, home_by, dues, due_o
 use Rattle.dn_shaper.proofs.Events.{append-none}
 use Rattle.dn_shaper.proofs.Indexed.{noted-more, unnoted-unknown}
 use Rattle.dn_shaper.proofs.Made.{linked-agrees}
-use Rattle.dn_shaper.proofs.Places.{get-more, get-last, length-more, sum-more}
+use Rattle.dn_flows.proofs.Places.{get-more, get-last, length-more, sum-more}
 use Rattle.dn_shaper.proofs.Preparing.{IsOneMore, with_flows}
 use Rattle.dn_shaper.proofs.Housed.{keys-are, same-flows, many-flows, ready-by, within-by, sound-by, agrees-by}
 

@@ -20,7 +20,7 @@ use Rattle.dn_shaper.specs.Agreement.{IsAt, IsHomeOf, IsScheduleAt, link_names}
 use Rattle.dn_shaper.proofs.FirstStart.{due_moment}
 use Rattle.dn_shaper.proofs.Heads.{none-agree, flow-picked, packet-picked, pick-flow, backlog-flow}
 use Rattle.dn_types.proofs.Picks.{pick-some, heads-none}
-use Rattle.dn_shaper.proofs.Places.{get-map}
+use Rattle.dn_flows.proofs.Places.{get-map}
 use Rattle.dn_types.proofs.Settled.{link_eq-true, link_eq-refl, true_or_false}
 use Rattle.dn_types.proofs.Settling.{backlog-above, next_packet-first, waiting-start}
 use Rattle.dn_types.specs.Links.{free}

@@ -13,7 +13,7 @@ use Rattle.dn_shaper.specs.declared.parts.Home.{Home}
 use Rattle.dn_shaper.specs.Views.{LinkView}
 use Rattle.dn_shaper.specs.Agreement.{AreDistinct, IsAt, IsLinkAt, IsScheduleAt, link_names}
 use Rattle.dn_shaper.proofs.Events.{uncounted}
-use Rattle.dn_shaper.proofs.Places.{get-set, get-set-other, map-set-same}
+use Rattle.dn_flows.proofs.Places.{get-set, get-set-other, map-set-same}
 use Rattle.dn_types.proofs.Settled.{link_eq-refl}
 use Rattle.dn_wf2q.specs.Schedule.{Flow, flow_at as slot_at, forgotten, without_tag}
 use Rattle.dn_shaper.specs.Slots.{Ascends, top}

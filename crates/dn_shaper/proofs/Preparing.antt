@@ -24,7 +24,7 @@ use Rattle.dn_shaper.specs.Starting.{Within}
 use Rattle.dn_shaper.specs.Submitting.{IsMade}
 use Rattle.dn_shaper.specs.Views.{LinkView, views_of, dues, home}
 use Rattle.dn_shaper.proofs.Events.{append-none}
-use Rattle.dn_shaper.proofs.Places.{length-more}
+use Rattle.dn_flows.proofs.Places.{length-more}
 use Rattle.dn_shaper.proofs.Reserved.{reserved-names, reserves-agree, reserves-kept, reserves-within}
 use Rattle.dn_shaper.proofs.Reserving.{same-flow}
 use Rattle.dn_types.proofs.Settled.{link_eq-refl}

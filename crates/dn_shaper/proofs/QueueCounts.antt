@@ -18,8 +18,8 @@ use Rattle.dn_types.specs.contracts.target.TargetPartialEq.TheImpl as impl
 use Rattle.dn_shaper.specs.declared.in_force.InForce.{InForce}
 use Rattle.dn_shaper.specs.QueueCounts.{commands_of, names_pipe, queues_of, kept_count, pipe_of, one_for, Replaces}
 use Rattle.dn_shaper.specs.Settings.{settings_of}
+use Rattle.dn_flows.proofs.Places.{eq-yes}
 use Rattle.dn_shaper.proofs.Commands.{same-number, key-test}
-use Rattle.dn_shaper.proofs.Events.{eq-yes}
 
 abbrev pub Kept : Type 0
 Kept = Target × InForce

@@ -12,7 +12,8 @@ use Rattle.dn_flows.proofs.Views.{flow_after_set}
 use Rattle.dn_shaper.specs.declared.parts.Home.{Home}
 use Rattle.dn_shaper.specs.Views.{LinkView, home}
 use Rattle.dn_shaper.specs.Agreement.{IsAt, IsFlowAt, link_names}
-use Rattle.dn_shaper.proofs.Events.{uncounted, counted-once, eq-yes, eq-no, append-none, length-set}
+use Rattle.dn_shaper.proofs.Events.{uncounted, counted-once, append-none, length-set}
+use Rattle.dn_flows.proofs.Places.{eq-no, eq-yes}
 use Rattle.dn_shaper.proofs.Unseen.{not_with}
 
 module _ (rule : Rule) (accepted : ℕ) (keys : List FlowKey) (homes : List Home) (views : List LinkView) (flows : List FlowState) (pending : List Delivery) (more : List Link) (trace : List Event) (a : IsAt rule accepted keys homes views flows pending more trace) where

@@ -8,8 +8,7 @@ use Rattle.dn_types.specs.Trace.{Link, shared}
 use Rattle.dn_wf2q.specs.Schedule.{room_at}
 use Rattle.dn_shaper.specs.Making.{KeepsLink, SameFlow, KeepsAt, HasRoom}
 use Rattle.dn_shaper.specs.Views.{LinkView}
-use Rattle.dn_shaper.proofs.Events.{eq-yes, eq-no}
-use Rattle.dn_shaper.proofs.Places.{get-set, get-set-other}
+use Rattle.dn_flows.proofs.Places.{eq-no, eq-yes, get-set, get-set-other}
 
 pub same-flow : (s : FlowState) → SameFlow s s
 same-flow s = record { backlog = refl; lost = refl; full = refl; started = refl; discarded = refl }

@@ -25,7 +25,7 @@ use Rattle.dn_shaper.proofs.Dues.{popped_due, holds_none, holds_some}
 use Rattle.dn_shaper.proofs.FirstStart.{due_moment, first_popped, none_due, first_start-more, settle-none, settle-some}
 use Rattle.dn_shaper.proofs.Events.{length-set}
 use Rattle.dn_shaper.proofs.Next.{dues-agree}
-use Rattle.dn_shaper.proofs.Places.{map-set-same, get-map, sum-set}
+use Rattle.dn_flows.proofs.Places.{map-set-same, get-map, sum-set}
 use Rattle.dn_types.proofs.Settled.{none-unknown, waiting_all-first}
 use Rattle.dn_shaper.proofs.Starting.{starts-agree, starts-within, starts-ready, starts-dues, length-in_order}
 

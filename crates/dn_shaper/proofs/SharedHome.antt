@@ -20,7 +20,7 @@ use Rattle.dn_shaper.specs.Views.{LinkView, views_of, dues, due_of, waits_in_all
 use Rattle.dn_shaper.proofs.Events.{length-set}
 use Rattle.dn_shaper.proofs.Indexed.{noted-found}
 use Rattle.dn_shaper.proofs.Made.{joined-agrees}
-use Rattle.dn_shaper.proofs.Places.{get-set, get-set-other, length-more, map-set-same, sum-set}
+use Rattle.dn_flows.proofs.Places.{get-set, get-set-other, length-more, map-set-same, sum-set}
 use Rattle.dn_shaper.proofs.Preparing.{IsOneMore, seen-made, with_flows}
 use Rattle.dn_shaper.proofs.Sharing.{named-at}
 use Rattle.dn_shaper.proofs.Housed.{keys-are, same-flows, many-flows, ready-by, within-by, sound-by, agrees-by}

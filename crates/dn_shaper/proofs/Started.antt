@@ -20,11 +20,11 @@ use Rattle.dn_shaper.specs.declared.parts.Home.{Home}
 use Rattle.dn_shaper.specs.Slots.{Ascends, top}
 use Rattle.dn_shaper.specs.Views.{LinkView, home, waiting_of, stamped_of, at_slot, Sends}
 use Rattle.dn_shaper.specs.Agreement.{AreDistinct, IsAt, IsLinkAt, IsFlowAt, IsScheduleAt, IsSlotAt, IsUntouched, link_names}
-use Rattle.dn_shaper.proofs.Events.{uncounted, counted-once, read-set, eq-yes, eq-no, length-set}
+use Rattle.dn_shaper.proofs.Events.{uncounted, counted-once, read-set, length-set}
 use Rattle.dn_shaper.proofs.Homes.{home-after, slots-apart, slots_home-after}
 use Rattle.dn_shaper.proofs.Heads.{first-picked, packet-picked, grown-agree}
 use Rattle.dn_shaper.proofs.Next.{front, listed, schedule-at, distinct_views}
-use Rattle.dn_shaper.proofs.Places.{get-set, get-set-other, map-set-same, get-below}
+use Rattle.dn_flows.proofs.Places.{eq-no, eq-yes, get-set, get-set-other, map-set-same, get-below}
 use Rattle.dn_types.proofs.Settled.{link_eq-true, link_eq-refl, true_or_false, backlog-elsewhere, free-elsewhere, virtual_time-elsewhere, last_due-elsewhere, backlog-unknown}
 use Rattle.dn_types.proofs.Settling.{and-no, waiting-start, is_of-start}
 

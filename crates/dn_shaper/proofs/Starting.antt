@@ -20,9 +20,8 @@ use Rattle.dn_shaper.specs.declared.parts.Parts.{Parts}
 use Rattle.dn_shaper.specs.Views.{LinkView, views_of, waits_in_all, waiting_of, dues, due_of, CanSend}
 use Rattle.dn_shaper.specs.Agreement.{GivesRates, AgreesWith, Agrees, IsAt}
 use Rattle.dn_shaper.specs.Starting.{HasFront, IsFlowWithin, Within, IsReady, CanStart, StartsAt}
-use Rattle.dn_shaper.proofs.Events.{eq-yes, eq-no}
 use Rattle.dn_shaper.proofs.Next.{can_send, taken, front}
-use Rattle.dn_shaper.proofs.Places.{get-set, get-set-other, sum-set, sum-le, get-below, map-set}
+use Rattle.dn_flows.proofs.Places.{eq-no, eq-yes, get-set, get-set-other, sum-set, sum-le, get-below, map-set}
 use Rattle.dn_shaper.proofs.Started.{start-agrees, popped_started, popped_rest}
 
 -- ---- What a start needs

@@ -5,8 +5,8 @@ use Rattle.std.proofs.lemmas.Bool.{cases_eq, cases_lt}
 use Rattle.dn_types.specs.Wf2q.{total}
 use Rattle.dn_types.specs.Trace.{Link, link_eq, Accepted, Event, arrived, discarded, is_of, backlog, flow_bound}
 use Rattle.dn_types.specs.SharedLinks.{waiting}
-use Rattle.dn_shaper.proofs.Events.{eq-yes, eq-no}
 use Rattle.dn_types.proofs.Settled.{link_eq-refl}
+use Rattle.dn_flows.proofs.Places.{eq-no, eq-yes}
 use Rattle.dn_types.proofs.Settling.{backlog-above, and-no}
 
 module _ {X : Type 0} where

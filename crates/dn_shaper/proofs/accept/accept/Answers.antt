@@ -7,7 +7,7 @@ use Rattle.dn_shaper.specs.Settings.{settings_of}
 use Rattle.dn_shaper.specs.Views.{LinkView, view_of}
 use Rattle.dn_shaper.proofs.Accepted.{same-view, mid-agrees, mid-all, mid-within, mid-keeps, can-start-mid, idle-kept, idle-within, idle-keeps, idle-accepts, waits-accepts, room-first, first-kept, other-kept}
 use Rattle.dn_shaper.proofs.Accepting.{home-there, is-home, can-join, few-wait, few-waiting, few-accepted, in-table}
-use Rattle.dn_shaper.proofs.Places.{viewed, get-map, get-below, get-read, get-below-map}
+use Rattle.dn_flows.proofs.Places.{viewed, get-map, get-below, get-read, get-below-map}
 use Rattle.dn_shaper.proofs.Settles.{pipe-carried}
 use Rattle.dn_shaper.proofs.accept.accept.Goals as goal
 

@@ -1,7 +1,7 @@
 -- The link at the home's place takes the packet.
 use Rattle.std.proofs.Common.{refl}
 use Rattle.dn_shaper.specs.Views.{view_of}
-use Rattle.dn_shaper.proofs.Places.{viewed, get-map, map-set}
+use Rattle.dn_flows.proofs.Places.{viewed, get-map, map-set}
 use Rattle.dn_shaper.proofs.arrive.arrive.Goals as goal
 
 pub returns : goal.returns

@@ -3,7 +3,7 @@ use Rattle.std.proofs.Common.{ℕ, ap, arith}
 use Rattle.std.proofs.lemmas.Grind.{common_steps}
 use Rattle.dn_types.specs.declared.flow_status.FlowStatus.{FlowStatus}
 use Rattle.dn_shaper.proofs.Discarding.{home-of, few-there, is-home, enough, enough-all, discards-agree, discards-within, discards-keeps, discards-empties}
-use Rattle.dn_shaper.proofs.Places.{get-below, get-read}
+use Rattle.dn_flows.proofs.Places.{get-below, get-read}
 use Rattle.dn_shaper.proofs.discard.discard_flow.Goals as goal
 
 pub index-home-requires : goal.index-home-requires

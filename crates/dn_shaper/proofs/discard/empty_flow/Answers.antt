@@ -2,7 +2,7 @@
 use Rattle.std.proofs.Common.{ℕ, refl, subst, arith}
 use Rattle.dn_shaper.specs.Discarding.{Leaves}
 use Rattle.dn_shaper.specs.Views.{view_of}
-use Rattle.dn_shaper.proofs.Places.{viewed, get-map, map-set}
+use Rattle.dn_flows.proofs.Places.{viewed, get-map, map-set}
 use Rattle.dn_shaper.proofs.discard.empty_flow.Goals as goal
 
 pub returns : goal.returns

@@ -2,7 +2,7 @@ use Rattle.std.proofs.Common.{◌≡◌, List, subst}
 use Rattle.std.specs.Prelude.{Some, slice_get}
 use Rattle.dn_shaper.specs.declared.parts.LinkParts.{LinkParts}
 use Rattle.dn_shaper.proofs.Emptied.{backlog-told}
-use Rattle.dn_shaper.proofs.Places.{get-read}
+use Rattle.dn_flows.proofs.Places.{get-read}
 use Rattle.dn_shaper.proofs.discard.has_backlog.Goals as goal
 
 pub returns-in-Some : goal.returns-in-Some

@@ -4,7 +4,7 @@ use Rattle.std.specs.Prelude.{slice_get}
 use Rattle.dn_types.specs.Trace.{shared}
 use Rattle.dn_shaper.specs.Making.{KeepsAt}
 use Rattle.dn_shaper.specs.Views.{LinkView, view_of}
-use Rattle.dn_shaper.proofs.Places.{map-set}
+use Rattle.dn_flows.proofs.Places.{map-set}
 use Rattle.dn_shaper.proofs.Reserving.{link-reserved}
 use Rattle.dn_shaper.proofs.Sharing.{on-err, read-name, read-view}
 use Rattle.dn_shaper.proofs.make.share_link.Goals as goal

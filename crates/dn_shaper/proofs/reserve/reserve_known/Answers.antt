@@ -10,8 +10,8 @@ use Rattle.dn_shaper.specs.declared.parts.Home.{Home}
 use Rattle.dn_shaper.specs.Agreement.{IsHomeOf}
 use Rattle.dn_shaper.specs.Making.{SameFlow, KeepsAt}
 use Rattle.dn_shaper.specs.Views.{LinkView, home, view_of, views_of}
-use Rattle.dn_shaper.proofs.Events.{eq-yes, length-set}
-use Rattle.dn_shaper.proofs.Places.{viewed, get-map, get-below, get-read, get-below-map, map-set}
+use Rattle.dn_shaper.proofs.Events.{length-set}
+use Rattle.dn_flows.proofs.Places.{eq-yes, viewed, get-map, get-below, get-read, get-below-map, map-set}
 use Rattle.dn_shaper.proofs.Reserving.{place-reserved, link-reserved, on-ok, slot-ready}
 use Rattle.dn_shaper.proofs.reserve.reserve_known.Goals as goal
 

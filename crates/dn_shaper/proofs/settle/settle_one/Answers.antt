@@ -13,7 +13,7 @@ use Rattle.dn_shaper.specs.Settings.{settings_of}
 use Rattle.dn_shaper.specs.Views.{LinkView, view_of, views_of}
 use Rattle.dn_shaper.specs.Due.{due_cmp}
 use Rattle.dn_shaper.proofs.Dues.{not_before, zero_from_none, none_late, all_late}
-use Rattle.dn_shaper.proofs.Places.{viewed, get-set, get-below-map}
+use Rattle.dn_flows.proofs.Places.{viewed, get-set, get-below-map}
 use Rattle.dn_shaper.proofs.Settles.{none-starts, can-start, pipe-carried, first-starts, kept-some, kept-none, only-starts}
 use Rattle.dn_shaper.proofs.Taking.{at-some}
 use Rattle.dn_shaper.proofs.settle.settle_one.Goals as goal

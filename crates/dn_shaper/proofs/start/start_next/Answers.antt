@@ -2,7 +2,7 @@
 use Rattle.std.proofs.Common.{ℕ, ap, sym, refl, subst, arith}
 use Rattle.dn_shaper.specs.Views.{LinkView, view_of, CanSend}
 use Rattle.dn_shaper.specs.Starting.{HasFront}
-use Rattle.dn_shaper.proofs.Places.{viewed, get-map, map-set}
+use Rattle.dn_flows.proofs.Places.{viewed, get-map, map-set}
 use Rattle.dn_shaper.proofs.Starting.{sends-at, front-at, room-at, pushed-at, waiting-at}
 use Rattle.dn_shaper.proofs.start.start_next.Goals as goal
 

@@ -1,8 +1,15 @@
--- Lists with one place set, and sums over them.
-use Rattle.std.proofs.Common.{◌≡◌, ◌∙◌, ◌≤◌, ◌<◌, ◌⊎◌, ℕ, zero, suc, ◌+◌, List, [], ◌∷◌, ◌++◌, map, set, get_or, refl, ap, sym, length, arith, inl, inr}
+-- Lists with one place set, sums over them, and the test whether two places are one.
+use Rattle.std.proofs.Common.{◌≡◌, ◌∙◌, ◌≤◌, ◌<◌, ◌⊎◌, ℕ, zero, suc, true, false, nat_eq, ◌+◌, List, [], ◌∷◌, ◌++◌, map, set, get_or, refl, ap, sym, length, arith, inl, inr}
 use Rattle.std.specs.Prelude.{Some, slice_get}
 use Rattle.std.specs.List.{sum_by}
+use Rattle.std.proofs.lemmas.Bool.Decides.{nat_tests}
 use Rattle.std.proofs.lemmas.List.Sums.{sum_by-cons}
+
+pub eq-yes : (i j : ℕ) → i ≡ j → nat_eq i j ≡ true
+eq-yes i j e = grind (arith, nat_tests)
+
+pub eq-no : (i j : ℕ) → (i ≡ j → ⊥) → nat_eq i j ≡ false
+eq-no i j ne = grind (arith, nat_tests)
 
 module _ {X : Type 0} where
   pub get-set : (xs : List X) (k : ℕ) (x y : X) → slice_get xs k ≡ Some x → slice_get (set xs k y) k ≡ Some y
