@@ -2,7 +2,7 @@
 use Rattle.std.proofs.Common.{◌≡◌, ◌+◌, ◌*◌, ◌≤◌, List, [], ◌∷◌, ◌++◌, sum, length, refl, arith}
 use Rattle.std.proofs.lemmas.List.Sums.{sum_by-cons}
 use Rattle.dn_flows.specs.declared.waiting.Waiting.{Waiting}
-use Rattle.dn_flows.specs.Kept.{AreShort}
+use Rattle.dn_flows.specs.Store.{AreShort}
 use Rattle.dn_flows.specs.Table.{lengths}
 
 -- The bytes of a queue are the first packet's and the others'.
@@ -18,15 +18,24 @@ lengths-push (v ∷ ws) w =
     let others = lengths-push ws w in
     omega arith
 
-pub AreShort-push : (ws : List Waiting) (w : Waiting) → AreShort ws → w.len ≤ 65535 → AreShort (ws ++ w ∷ [])
-AreShort-push [] w short one = (one, tt)
-AreShort-push (v ∷ ws) w short one = (short.0, AreShort-push ws w short.1 one)
+pub AreShort-push : (ws : List Waiting) (w : Waiting) → AreShort ws → 1 ≤ w.len → w.len ≤ 65535 → AreShort (ws ++ w ∷ [])
+AreShort-push [] w short some one = (some, one, tt)
+AreShort-push (v ∷ ws) w short some one = (short.0, short.1, AreShort-push ws w short.2 some one)
 
 -- Packets that are short have few bytes.
 pub short_bytes : (ws : List Waiting) → AreShort ws → sum (lengths ws) ≤ 65535 * length ws
 short_bytes [] short = omega arith
 short_bytes (w ∷ ws) short =
     let all = lengths-cons w ws in
-    let others = short_bytes ws short.1 in
-    let first : w.len ≤ 65535 = short.0 in
+    let others = short_bytes ws short.2 in
+    let first : w.len ≤ 65535 = short.1 in
+    omega arith
+
+-- A packet has at least one byte, so there are no more packets than bytes.
+pub no_more_than_bytes : (ws : List Waiting) → AreShort ws → length ws ≤ sum (lengths ws)
+no_more_than_bytes [] short = omega arith
+no_more_than_bytes (w ∷ ws) short =
+    let all = lengths-cons w ws in
+    let others = no_more_than_bytes ws short.2 in
+    let first : 1 ≤ w.len = short.0 in
     omega arith

@@ -1,3 +1,3 @@
-pub mod Kept
 pub mod KeyWords
+pub mod Store
 pub mod Table

@@ -1,61 +1,60 @@
-ghost use Rattle.std.specs.Prelude.{◌≡◌, ◌+◌, ◌<◌, ◌≤◌, ◌^◌, length, sum, slice_get, true, false, OnOk, OnErr, IsOk};
+ghost use Rattle.std.specs.Prelude.{◌≡◌, ◌+◌, ◌≤◌, ◌<◌, ◌^◌, List, sum, false, IfSome, IfNone, OnSome};
 ghost use Rattle.dn_types.specs.Drops.{is_full};
-ghost use Rattle.dn_flows.specs.Table.{new_flow, lengths, verdict_of, with_place, pushed, popped, one_lost, one_full, emptied, status_of};
+ghost use Rattle.slab.specs.Slab.{ContainsKey, HasRoomFor, slab_len};
+ghost use Rattle.dn_flows.specs.Store.{Appends, IsCounted, Lies, Shortens, Takes, new_queue, stored_at};
+ghost use Rattle.dn_flows.specs.Table.{lengths, verdict_of};
+ghost use Rattle.dn_flows.specs.declared.waiting.Waiting.{Waiting as WaitingValue};
 
 use crate::drop_rule::DropRule;
+use crate::stored::{Stored, name_next};
 use crate::verdict::Verdict;
 use crate::waiting::Waiting;
-use dn_types::{FlowKey, FlowStatus, Limit, Packet};
-use std::alloc::{AllocError, Global};
-use std::collections::VecDeque;
-use std::marker::Model;
+use dn_types::{Limit, Packet};
+use slab::Slab;
 
-/// The queue of one flow, and the counts of the flow's packets.
+/// The queue of one flow, and the counts of the flow's packets. The packets themselves lie in the
+/// store of all queues.
 #[derive(Drop)]
 pub struct FlowQueue {
-    packets: VecDeque<Waiting>,
-    /// Whether the next push finds a place. A pop and a discard keep the buffer, so that only the
-    /// push itself uses the place up.
-    reserved: bool,
-    bytes: u64,
-    lost: u64,
-    full: u64,
-    started: u64,
-    discarded: u64,
-}
-
-impl Model for FlowQueue {
-    ghost use Rattle.std.specs.VecDeque.{deque_len, deque_capacity};
-    ghost use Rattle.dn_flows.specs.Kept.{IsKept};
-    ghost use Rattle.dn_flows.specs.Table.{FlowState};
-
-    ghost Value = { FlowState };
-
-    ghost view = { λ a. record { backlog = a.packets.items; reserved = a.reserved; lost = a.lost; full = a.full; started = a.started; discarded = a.discarded } };
-
-    ghost invariant = { λ a. IsKept a.packets.items (deque_len a.packets) (deque_capacity a.packets) a.reserved a.bytes };
+    /// Where the first packet lies, if there is one.
+    pub front: usize,
+    /// Where the last packet lies, if there is one.
+    pub back: usize,
+    pub len: usize,
+    /// The sum of the packets' lengths, which is below 2^32.
+    pub bytes: u32,
+    /// Whether the store keeps room for the next push. A pop and a clear leave it, so that only the
+    /// push itself uses it up.
+    pub reserved: bool,
+    pub started: u64,
+    // No packet that is sent changes what follows, so that what it does change lies side by side.
+    pub lost: u64,
+    pub full: u64,
+    pub discarded: u64,
 }
 
 impl FlowQueue {
     /// An empty queue with no count.
-    pub fn new(alloc: Global) -> FlowQueue
-        ensures { result ≡ new_flow }
+    pub fn new() -> FlowQueue
+        ensures { result ≡ new_queue }
     {
         FlowQueue {
-            packets: VecDeque::new(alloc),
-            reserved: false,
+            front: 0,
+            back: 0,
+            len: 0,
             bytes: 0,
+            reserved: false,
+            started: 0,
             lost: 0,
             full: 0,
-            started: 0,
             discarded: 0,
         }
     }
 
     /// Loss comes before the limit, so that a packet that is lost anyway doesn't count as refused.
     pub fn verdict(&self, packet: &Packet, rule: &DropRule) -> Verdict
-        ensures value { result ≡ verdict_of rule.now.loss rule.now.limit packet.now.word self.now.backlog }
-        ensures fits { result ≡ Verdict.Take → sum (lengths self.now.backlog) + packet.now.len < 2 ^ 32 }
+        ensures value { (backlog : List WaitingValue) → IsCounted backlog self.now.len self.now.bytes → result ≡ verdict_of rule.now.loss rule.now.limit packet.now.word backlog }
+        ensures fits { (backlog : List WaitingValue) → IsCounted backlog self.now.len self.now.bytes → result ≡ Verdict.Take → sum (lengths backlog) + packet.now.len < 2 ^ 32 }
     {
         // The proof of `fits` takes the bound of the length from this.
         let _len = packet.len.get();
@@ -68,96 +67,68 @@ impl FlowQueue {
         }
     }
 
-    #[tactic(auto, using(crate::proofs::Bytes::short_bytes))]
     fn is_full(&self, limit: &Limit) -> bool
-        ensures value { result ≡ is_full limit.now (lengths self.now.backlog) }
+        ensures value { (backlog : List WaitingValue) → IsCounted backlog self.now.len self.now.bytes → result ≡ is_full limit.now (lengths backlog) }
         // Fewer than 10000 packets of at most 65535 bytes, or at most 1024 units of 1024 bytes.
-        ensures room { result ≡ false → sum (lengths self.now.backlog) ≤ 655350000 }
+        ensures room { (backlog : List WaitingValue) → IsCounted backlog self.now.len self.now.bytes → result ≡ false → sum (lengths backlog) ≤ 655350000 }
     {
         match limit {
-            Limit::Slots(count) => self.packets.len() >= usize::from(count.get()),
-            Limit::Kbytes(count) => self.bytes > u64::from(count.get()) * 1024,
+            Limit::Slots(count) => self.len >= usize::from(count.get()),
+            Limit::Kbytes(count) => u64::from(self.bytes) > u64::from(count.get()) * 1024,
         }
     }
 
-    /// Reserves a place for the next push.
-    pub fn reserve_place(&mut self) -> Result<(), AllocError>
-        ensures reserved { OnOk result (self.new ≡ with_place self.old) }
-        ensures err { OnErr result (self.new ≡ self.old) }
-        ensures succeeds { self.old.reserved ≡ true → IsOk result }
+    /// Puts a packet at the end, in room that the store has.
+    pub fn push_back(&mut self, store: &mut Slab<Stored>, waiting: Waiting)
+        requires room { HasRoomFor store.old 1 }
+        requires few { self.old.len < 2 ^ 32 }
+        requires bytes { self.old.bytes + waiting.len < 2 ^ 32 }
+        ensures appends { Appends waiting store.old self.old store.new self.new }
+        ensures len { slab_len store.new ≡ slab_len store.old + 1 }
+        ensures capacity { store.new.capacity ≡ store.old.capacity }
     {
-        if self.reserved {
-            return Ok(());
+        let bytes = u32::from(waiting.len.get());
+        let key = store.insert_reserved(Stored { waiting, next: 0 });
+        if self.len == 0 {
+            self.front = key;
+        } else {
+            name_next(store, self.back, key);
         }
-        self.packets.reserve(1)?;
-        self.reserved = true;
-        Ok(())
-    }
-
-    /// Puts a packet at the end, in the place that was reserved.
-    pub fn push_reserved(&mut self, waiting: Waiting)
-        requires reserved { self.old.reserved ≡ true }
-        requires bytes { sum (lengths self.old.backlog) + waiting.len < 2 ^ 32 }
-        ensures { self.new ≡ pushed waiting self.old }
-    {
-        let bytes = u64::from(waiting.len.get());
-        self.packets.push_back_reserved(waiting);
+        self.back = key;
+        self.len += 1;
         self.bytes += bytes;
         self.reserved = false;
     }
 
-    /// Takes the first packet out and counts its start.
-    pub fn pop_front(&mut self) -> Option<Waiting>
-        requires { self.old.started < 2 ^ 62 }
-        ensures front { result ≡ slice_get self.old.backlog 0 }
-        ensures rest { self.new ≡ popped self.old }
+    /// Takes the first packet out, if there is one.
+    pub fn pop_front(&mut self, store: &mut Slab<Stored>) -> Option<Waiting>
+        requires held { 0 < self.old.len → ContainsKey store.old self.old.front }
+        requires bytes { 0 < self.old.len → (stored_at store.old self.old.front).waiting.len ≤ self.old.bytes }
+        ensures takes { IfSome result (λ first. Takes first store.old self.old store.new self.new) }
+        ensures len { OnSome result (slab_len store.new + 1 ≡ slab_len store.old) }
+        ensures capacity { store.new.capacity ≡ store.old.capacity }
+        ensures none { IfNone result (self.old.len ≡ 0) }
+        ensures keeps_store { IfNone result (store.new ≡ store.old) }
+        ensures keeps_queue { IfNone result (self.new ≡ self.old) }
     {
-        let first = self.packets.pop_front()?;
-        self.bytes -= u64::from(first.len.get());
-        self.started += 1;
-        Some(first)
+        if self.len == 0 {
+            return None;
+        }
+        let Stored { waiting, next } = store.remove(self.front);
+        self.front = next;
+        self.len -= 1;
+        self.bytes -= u32::from(waiting.len.get());
+        Some(waiting)
     }
 
-    /// Counts a packet that was lost.
-    pub fn note_lost(&mut self)
-        requires { self.old.lost < 2 ^ 62 }
-        ensures { self.new ≡ one_lost self.old }
+    /// Takes all packets out.
+    pub fn clear(&mut self, store: &mut Slab<Stored>)
+        requires { Lies store.old self.old }
+        ensures shortens { Shortens store.old self.old store.new self.new }
+        ensures none { self.new.len ≡ 0 }
     {
-        self.lost += 1;
-    }
-
-    /// Counts a packet that was refused.
-    pub fn note_full(&mut self)
-        requires { self.old.full < 2 ^ 62 }
-        ensures { self.new ≡ one_full self.old }
-    {
-        self.full += 1;
-    }
-
-    /// Empties the queue and counts its packets as discarded.
-    pub fn discard(&mut self)
-        requires { self.old.discarded + length self.old.backlog ≤ 2 ^ 62 }
-        ensures { self.new ≡ emptied self.old }
-    {
-        self.discarded += self.packets.len() as u64;
-        self.packets.clear();
-        self.bytes = 0;
-    }
-
-    /// The state of the flow with the number and the key.
-    pub fn status(&self, flow: usize, key: FlowKey) -> FlowStatus
-        ensures value { result ≡ status_of flow key self.now }
-        ensures bytes { result.bytes < 2 ^ 32 }
-    {
-        FlowStatus {
-            flow,
-            key,
-            queued: self.packets.len() as u64,
-            bytes: self.bytes,
-            lost: self.lost,
-            full: self.full,
-            started: self.started,
-            discarded: self.discarded,
+        while self.len > 0 {
+            let _ = self.pop_front(store);
         }
     }
 }

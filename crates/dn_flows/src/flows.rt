@@ -4,32 +4,41 @@ ghost use Rattle.dn_flows.specs.Table.{flow_at, is_known, flows_with, IsUnused, 
 
 use crate::drop_rule::DropRule;
 use crate::flow_queue::FlowQueue;
+use crate::stored::Stored;
 use crate::table_key::TableKey;
 use crate::verdict::Verdict;
 use crate::waiting::Waiting;
 use dn_types::{FlowKey, FlowStatus, Packet};
 use indexmap::IndexSet;
+use slab::Slab;
 use std::alloc::{AllocError, Global};
 use std::marker::Model;
 
 /// The flows, numbered from 0 in order of first sight. Contracts see the keys and the states of the
 /// flows as two lists. Flows never expire.
+///
+/// The packets of all queues lie in one store, in which the place that a packet left last is taken
+/// first. So the memory that is in use stays small and near, where a buffer for each queue would be
+/// gone through round and round.
 #[derive(Drop)]
 pub struct Flows {
     keys: IndexSet<TableKey>,
     queues: Vec<FlowQueue>,
-    alloc: Global,
+    packets: Slab<Stored>,
+    /// The count of flows with a reserved place. The store has room for a packet of each.
+    reserved: usize,
 }
 
 impl Model for Flows {
-    ghost use Rattle.std.specs.Prelude.{◌≡◌, length};
+    ghost use Rattle.std.specs.Prelude.{◌≡◌, length, map};
+    ghost use Rattle.dn_flows.specs.Store.{AreStored, HasReserved, state_of};
     ghost use Rattle.dn_flows.specs.Table.{Table};
 
     ghost Value = { Table };
 
-    ghost view = { λ a. record { keys = a.keys.keys; flows = a.queues.items } };
+    ghost view = { λ a. record { keys = a.keys.keys; flows = map (state_of a.packets) a.queues.items } };
 
-    ghost invariant = { λ a. length a.keys.keys ≡ length a.queues.items };
+    ghost invariant = { λ a. (length a.keys.keys ≡ length a.queues.items) × HasReserved a.packets a.queues.items a.reserved × AreStored a.packets a.queues.items };
 }
 
 impl Flows {
@@ -41,7 +50,8 @@ impl Flows {
         Flows {
             keys: IndexSet::new(alloc),
             queues: Vec::new(alloc),
-            alloc,
+            packets: Slab::new(alloc),
+            reserved: 0,
         }
     }
 
@@ -72,7 +82,8 @@ impl Flows {
         let Ok((flow, _)) = self.keys.insert_full(key) else {
             return Err(AllocError);
         };
-        self.queues.push_reserved(FlowQueue::new(self.alloc));
+        let queue = FlowQueue::new();
+        self.queues.push_reserved(queue);
         Ok(flow)
     }
 
@@ -84,7 +95,11 @@ impl Flows {
         ensures flows { self.new.flows ≡ take (length self.old.flows - 1) self.old.flows }
     {
         let _ = self.keys.pop();
-        let _ = self.queues.pop();
+        if let Some(queue) = self.queues.pop()
+            && queue.reserved
+        {
+            self.reserved -= 1;
+        }
     }
 
     /// The key of the flow.
@@ -102,7 +117,18 @@ impl Flows {
         ensures key { slice_get self.now.keys flow ≡ Some result.key }
         ensures bytes { result.bytes < 2 ^ 32 }
     {
-        self.queues[flow].status(flow, self.key(flow))
+        let queue = &self.queues[flow];
+        let key = self.key(flow);
+        FlowStatus {
+            flow,
+            key,
+            queued: queue.len as u64,
+            bytes: u64::from(queue.bytes),
+            lost: queue.lost,
+            full: queue.full,
+            started: queue.started,
+            discarded: queue.discarded,
+        }
     }
 
     /// What becomes of a packet of the flow. A packet that is taken fits: the bytes queued with it
@@ -124,7 +150,13 @@ impl Flows {
         ensures succeeds { (flow_at self.old.flows flow).reserved ≡ true → IsOk result }
     {
         let queue = &mut self.queues[flow];
-        queue.reserve_place()
+        if queue.reserved {
+            return Ok(());
+        }
+        self.packets.reserve(self.reserved + 1)?;
+        queue.reserved = true;
+        self.reserved += 1;
+        Ok(())
     }
 
     /// Puts a packet at the end of the flow's queue, in the place that was reserved.
@@ -136,7 +168,8 @@ impl Flows {
         ensures keys { self.new.keys ≡ self.old.keys }
     {
         let queue = &mut self.queues[flow];
-        queue.push_reserved(waiting);
+        queue.push_back(&mut self.packets, waiting);
+        self.reserved -= 1;
     }
 
     /// Takes the first packet out of the flow's queue and counts its start.
@@ -148,7 +181,9 @@ impl Flows {
         ensures keys { self.new.keys ≡ self.old.keys }
     {
         let queue = &mut self.queues[flow];
-        queue.pop_front()
+        let first = queue.pop_front(&mut self.packets)?;
+        queue.started += 1;
+        Some(first)
     }
 
     /// Counts a packet of the flow that was lost by the loss rate.
@@ -159,7 +194,7 @@ impl Flows {
         ensures keys { self.new.keys ≡ self.old.keys }
     {
         let queue = &mut self.queues[flow];
-        queue.note_lost();
+        queue.lost += 1;
     }
 
     /// Counts a packet of the flow that was refused by its full queue.
@@ -170,7 +205,7 @@ impl Flows {
         ensures keys { self.new.keys ≡ self.old.keys }
     {
         let queue = &mut self.queues[flow];
-        queue.note_full();
+        queue.full += 1;
     }
 
     /// Empties the flow's queue, as a delete does, and counts its packets as discarded.
@@ -181,6 +216,8 @@ impl Flows {
         ensures keys { self.new.keys ≡ self.old.keys }
     {
         let queue = &mut self.queues[flow];
-        queue.discard();
+        let count = queue.len as u64;
+        queue.clear(&mut self.packets);
+        queue.discarded += count;
     }
 }

@@ -4,6 +4,7 @@
 mod drop_rule;
 mod flow_queue;
 mod flows;
+mod stored;
 mod table_key;
 #[cfg(test)]
 mod tests;

@@ -1,5 +1,6 @@
 use crate::{DropRule, Flows, Verdict, Waiting};
 use dn_types::{FiveTuple, FlowKey, Len, Limit, Loss, Mask, Number, Packet, Target};
+use std::alloc::AllocError;
 use std::test::Fail;
 
 /// UDP from 10.0.0.1 to 10.0.0.`last`.
@@ -118,6 +119,73 @@ fn a_byte_limit(rt: HostRuntime) -> Result<(), Fail> {
     );
     assert_eq!(rt; flows.verdict(flow, &probe, &bytes), Verdict::Full);
     assert_eq!(rt; flows.status(flow).bytes, 1_025);
+    Ok(())
+}
+
+/// Puts a packet of 100 bytes into the flow's queue, where that takes it.
+fn push(flows: &mut Flows, flow: usize, number: u64, rule: &DropRule) -> Result<(), AllocError> {
+    if flow >= flows.len() {
+        return Ok(());
+    }
+    flows.reserve_place(flow)?;
+    let sent = packet(Len::new(100).unwrap(), 0);
+    if let Verdict::Take = flows.verdict(flow, &sent, rule) {
+        flows.push_reserved(
+            flow,
+            Waiting {
+                packet: number,
+                len: sent.len,
+            },
+        );
+    }
+    Ok(())
+}
+
+/// The number of the flow's first packet, which starts.
+fn pop(flows: &mut Flows, flow: usize) -> Option<u64> {
+    if flow >= flows.len() || flows.status(flow).started > 100 {
+        return None;
+    }
+    let first = flows.pop_front(flow)?;
+    Some(first.packet)
+}
+
+/// Empties the flow's queue.
+fn discard(flows: &mut Flows, flow: usize) {
+    if flow >= flows.len() {
+        return;
+    }
+    let status = flows.status(flow);
+    if status.queued < 100 && status.discarded < 100 {
+        flows.discard(flow);
+    }
+}
+
+// The packets of two flows lie in one store, and take the places of those that left.
+#[test]
+fn two_queues_in_one_store(rt: HostRuntime) -> Result<(), Fail> {
+    let mut flows = Flows::new(rt.alloc());
+    let rule = DropRule {
+        limit: Limit::slots(100).unwrap(),
+        loss: Loss::new(0).unwrap(),
+    };
+    let one = flows.find_or_make(key(1))?;
+    let two = flows.find_or_make(key(2))?;
+    push(&mut flows, one, 0, &rule)?;
+    push(&mut flows, two, 1, &rule)?;
+    push(&mut flows, one, 2, &rule)?;
+    push(&mut flows, two, 3, &rule)?;
+    assert_eq!(rt; pop(&mut flows, one), Some(0));
+    push(&mut flows, two, 4, &rule)?;
+    assert_eq!(rt; pop(&mut flows, two), Some(1));
+    push(&mut flows, one, 5, &rule)?;
+    discard(&mut flows, two);
+    push(&mut flows, two, 6, &rule)?;
+    assert_eq!(rt; pop(&mut flows, one), Some(2));
+    assert_eq!(rt; pop(&mut flows, one), Some(5));
+    assert_eq!(rt; pop(&mut flows, one), None);
+    assert_eq!(rt; pop(&mut flows, two), Some(6));
+    assert_eq!(rt; pop(&mut flows, two), None);
     Ok(())
 }
 

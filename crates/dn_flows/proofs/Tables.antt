@@ -1,0 +1,253 @@
+-- The table of flows after one queue changed, or one was added or taken out.
+use Rattle.std.proofs.Common.{◌≡◌, ◌∙◌, ◌+◌, ◌⊎◌, ℕ, zero, suc, ◌<◌, ◌≤◌, ◌^◌, List, [], ◌∷◌, ◌++◌, map, set, get_or, length, length-set, Bool, true, false, cond, refl, ap, sym, subst, arith, inl, inr}
+use Rattle.std.specs.Prelude.{Option, Some, None, slice_get, slice_index_or, sum}
+use Rattle.std.proofs.lemmas.Bool.{cases_eq}
+use Rattle.std.proofs.lemmas.List.{length-map}
+use Rattle.std.proofs.lemmas.List.Sums.{sum_by-cons}
+use Rattle.slab.specs.Slab.{Slab, ContainsKey}
+use Rattle.dn_flows.specs.declared.flow_queue.FlowQueue.{FlowQueue}
+use Rattle.dn_flows.specs.declared.stored.Stored.{Stored}
+use Rattle.dn_flows.specs.declared.waiting.Waiting.{Waiting}
+use Rattle.dn_flows.specs.Store.{IsCounted, IsQueue, AreStored, Appends, Takes, Lies, Shortens, Leaves, state_of, stored_at, waiting_from, new_queue, reserved_one, reservations}
+use Rattle.dn_flows.specs.Table.{FlowState, flow_at, new_flow, lengths, pushed, popped, popped_from, emptied}
+use Rattle.dn_flows.proofs.Appended.{Appended, appended, owner-appended, behind-appended, others-stay-appended}
+use Rattle.dn_flows.proofs.Bytes.{lengths-push, AreShort-push, no_more_than_bytes}
+use Rattle.dn_flows.proofs.Chains.{Stay, Same, stays, same-queue, SamePackets, taken, taken-queue, others-stay-taken, held-first, short-first}
+use Rattle.dn_flows.proofs.Places.{get-set, get-set-other, get-read, get-more, get-kept, length-more, sum-set}
+
+-- ---- Lists
+
+module _ {X Y : Type 0} (f h : X → Y) where
+  map-same : (xs : List X) → ((j : ℕ) (x : X) → slice_get xs j ≡ Some x → h x ≡ f x) → map h xs ≡ map f xs
+  map-same [] same = refl
+  map-same (z ∷ xs) same = λ i. same 0 z refl i ∷ map-same xs (λ j x e. same (suc j) x e) i
+
+  -- One element changes, and the others stand for what they stood for.
+  map-set-but : (xs : List X) (k : ℕ) (y : X) → ((j : ℕ) (x : X) → slice_get xs j ≡ Some x → (j ≡ k → ⊥) → h x ≡ f x) → map h (set xs k y) ≡ set (map f xs) k (h y)
+  map-set-but [] k y same = refl
+  map-set-but (z ∷ xs) zero y same = λ i. h y ∷ map-same xs (λ j x e. same (suc j) x e (λ n. absurd (omega arith))) i
+  map-set-but (z ∷ xs) (suc k) y same = λ i. same 0 z refl (λ n. absurd (omega arith)) i ∷ map-set-but xs k y (λ j x e ne. same (suc j) x e (λ n. ne (let m = n in omega arith))) i
+
+-- Each queue reserves one place at most.
+at-most-one-each : (queues : List FlowQueue) → reservations queues ≤ length queues
+at-most-one-each [] = omega arith
+at-most-one-each (q ∷ queues) =
+    let all = sum_by-cons reserved_one q queues in
+    let others = at-most-one-each queues in
+    let one : reserved_one q ≤ 1 = by q.reserved in
+    omega arith
+  where
+    by : (b : Bool) → cond b 1 0 ≤ 1
+    by true = omega arith
+    by false = omega arith
+
+-- ---- The flow with a queue
+
+pub flow-read : (store : Slab Stored) (queues : List FlowQueue) (flow : ℕ) (q : FlowQueue) → slice_get queues flow ≡ Some q → flow_at (map (state_of store) queues) flow ≡ state_of store q
+flow-read store [] flow q e = absurd cc
+flow-read store (z ∷ queues) zero q e = let same : z ≡ q = cc in ap (state_of store) same
+flow-read store (z ∷ queues) (suc flow) q e = flow-read store queues flow q e
+
+-- ---- One queue changes
+
+-- A queue whose packets stay is the flow's queue still, and stands for what it stood for.
+stay-queue : (owner behind owner' behind' : ℕ → ℕ) (old new : Slab Stored) (flow : ℕ) (q : FlowQueue) → IsQueue owner behind old flow q → Stay owner behind owner' behind' old new flow q.len → IsQueue owner' behind' new flow q × (state_of new q ≡ state_of old q)
+stay-queue owner behind owner' behind' old new flow q is stay = (
+  record {
+    chain = same.chain;
+    last = λ n e. same.keys n (omega arith) ∙ is.last n e;
+    counts = subst (λ (ws : List Waiting). IsCounted ws q.len q.bytes) (sym same.waiting) is.counts;
+  },
+  λ i. record { backlog = same.waiting i; reserved = q.reserved; lost = q.lost; full = q.full; started = q.started; discarded = q.discarded },
+)
+  where
+    same : Same owner behind owner' behind' old new flow q.front q.len
+    same = stays owner behind owner' behind' old new flow q.front q.len is.chain stay
+
+-- The table after the flow's queue changed, which may have changed the store.
+pub record Changed (old new : Slab Stored) (queues : List FlowQueue) (flow : ℕ) (q' : FlowQueue) : Type 0 where
+  pub stored : AreStored new (set queues flow q')
+  pub states : map (state_of new) (set queues flow q') ≡ set (map (state_of old) queues) flow (state_of new q')
+
+changed : (old new : Slab Stored) (queues : List FlowQueue) (flow : ℕ) (q q' : FlowQueue) (are : AreStored old queues) (owner' behind' : ℕ → ℕ) → slice_get queues flow ≡ Some q → ((g n : ℕ) → (g ≡ flow → ⊥) → Stay are.owner are.behind owner' behind' old new g n) → IsQueue owner' behind' new flow q' → Changed old new queues flow q'
+changed old new queues flow q q' are owner' behind' there stay is = record {
+  stored = record { owner = owner'; behind = behind'; queues_are = λ g x e. by g x e (cases_eq g flow) };
+  states = map-set-but (state_of old) (state_of new) queues flow q' (λ g x e ne. (stay-queue are.owner are.behind owner' behind' old new g x (are.queues_are g x e) (stay g x.len ne)).1);
+}
+  where
+    by : (g : ℕ) (x : FlowQueue) → slice_get (set queues flow q') g ≡ Some x → (g ≡ flow) ⊎ (g ≡ flow → ⊥) → IsQueue owner' behind' new g x
+    by g x e (inl same) =
+        let both : Some q' ≡ Some x = sym (get-set queues flow q q' there) ∙ ap (slice_get (set queues flow q')) (sym same) ∙ e in
+        let one : q' ≡ x = cc in
+        subst (λ (p : ℕ × FlowQueue). IsQueue owner' behind' new p.0 p.1) (λ i. (sym same i, one i)) is
+    by g x e (inr ne) =
+        let before = sym (get-set-other queues flow g q' ne) ∙ e in
+        (stay-queue are.owner are.behind owner' behind' old new g x (are.queues_are g x before) (stay g x.len ne)).0
+
+-- ---- A call on the flow with a queue
+
+module _ (old : Slab Stored) (queues : List FlowQueue) (flow : ℕ) (q : FlowQueue) (are : AreStored old queues) (within : flow < length (map (state_of old) queues)) (read : q ≡ get_or queues flow q) where
+  there : slice_get queues flow ≡ Some q
+  there = get-read queues flow q (let e = length-map queues (state_of old) in omega arith) read
+
+  pub queue-is : IsQueue are.owner are.behind old flow q
+  queue-is = are.queues_are flow q there
+
+  -- What callers see of the flow.
+  pub read-state : flow_at (map (state_of old) queues) flow ≡ state_of old q
+  read-state = flow-read old queues flow q there
+
+  -- There are fewer packets than a queue may have bytes.
+  pub few : q.len < 2 ^ 32
+  few =
+      let many = queue-is.counts.many in
+      let counted = queue-is.counts.counted in
+      let bounded = queue-is.counts.bounded in
+      let bytes = no_more_than_bytes (waiting_from old q.front q.len) queue-is.counts.short in
+      omega arith
+
+  -- The bytes that wait are those that the queue counts.
+  pub fits : (n : ℕ) → sum (lengths (flow_at (map (state_of old) queues) flow).backlog) + n < 2 ^ 32 → q.bytes + n < 2 ^ 32
+  fits n lt =
+      let counted = queue-is.counts.counted in
+      let same = ap (λ (s : FlowState). sum (lengths s.backlog)) read-state in
+      omega arith
+
+  -- How many places are reserved after the call.
+  reserving : (q' : FlowQueue) → reservations (set queues flow q') + reserved_one q ≡ reservations queues + reserved_one q'
+  reserving q' = sum-set reserved_one queues flow q q' there
+
+  pub same-reserved : (q' : FlowQueue) → q'.reserved ≡ q.reserved → reservations (set queues flow q') ≡ reservations queues
+  same-reserved q' same =
+      let sums = reserving q' in
+      let one : reserved_one q' ≡ reserved_one q = ap (λ b. cond b 1 0) same in
+      omega arith
+
+  -- The flow whose place is reserved uses it up, or gets one.
+  pub one-less : (q' : FlowQueue) → q.reserved ≡ true → q'.reserved ≡ false → reservations (set queues flow q') + 1 ≡ reservations queues
+  one-less q' had has =
+      let sums = reserving q' in
+      let one : reserved_one q ≡ 1 = ap (λ b. cond b 1 0) had in
+      let none : reserved_one q' ≡ 0 = ap (λ b. cond b 1 0) has in
+      omega arith
+
+  pub one-more : (q' : FlowQueue) → q.reserved ≡ false → q'.reserved ≡ true → reservations (set queues flow q') ≡ reservations queues + 1
+  one-more q' had has =
+      let sums = reserving q' in
+      let none : reserved_one q ≡ 0 = ap (λ b. cond b 1 0) had in
+      let one : reserved_one q' ≡ 1 = ap (λ b. cond b 1 0) has in
+      omega arith
+
+  -- No more places are reserved than there are flows.
+  pub few-reserved : q.reserved ≡ false → reservations queues + 1 ≤ length queues
+  few-reserved none =
+      let more = one-more (record q { reserved = true }) none refl in
+      let most = at-most-one-each (set queues flow (record q { reserved = true })) in
+      let many = length-set queues flow (record q { reserved = true }) in
+      omega arith
+
+  -- The table after the call, by which the flow stands for `s`.
+  pub record After (new : Slab Stored) (q' : FlowQueue) (s : FlowState) : Type 0 where
+    pub stored : AreStored new (set queues flow q')
+    pub states : map (state_of new) (set queues flow q') ≡ set (map (state_of old) queues) flow s
+
+  after : (new : Slab Stored) (q' : FlowQueue) (s : FlowState) → Changed old new queues flow q' → state_of new q' ≡ s → After new q' s
+  after new q' s c e = record { stored = c.stored; states = c.states ∙ ap (set (map (state_of old) queues) flow) e }
+
+  -- No packet moves, though the store may get room.
+  pub counting : (new : Slab Stored) (q' : FlowQueue) (s : FlowState) → new.slots ≡ old.slots → SamePackets q q' → state_of old q' ≡ s → After new q' s
+  counting new q' s slots same e = after new q' s (changed old new queues flow q q' are are.owner are.behind there (λ g n ne. stay g n) now.0) (now.1 ∙ e)
+    where
+      stay : (g n : ℕ) → Stay are.owner are.behind are.owner are.behind old new g n
+      stay g n key stored held own lt = (ap (λ (all : List (Option Stored)). slice_index_or all key None) slots ∙ held, own, refl)
+
+      now : IsQueue are.owner are.behind new flow q' × (state_of new q' ≡ state_of old q')
+      now = stay-queue are.owner are.behind are.owner are.behind old new flow q' (same-queue are.owner are.behind old flow q q' same queue-is) (stay flow q'.len)
+
+  -- A packet joins.
+  pub pushing : (new : Slab Stored) (w : Waiting) (q' : FlowQueue) → Appends w old q new q' → 1 ≤ w.len → w.len ≤ 65535 → sum (lengths (flow_at (map (state_of old) queues) flow).backlog) + w.len < 2 ^ 32 → After new q' (pushed w (flow_at (map (state_of old) queues) flow))
+  pushing new w q' a some short fit = after new q' (pushed w (flow_at (map (state_of old) queues) flow))
+      (changed old new queues flow q q' are (owner-appended are.owner are.behind old new w q q' flow a queue-is) (behind-appended are.owner are.behind old new w q q' flow a queue-is) there (λ g n ne. others-stay-appended are.owner are.behind old new w q q' flow a queue-is g n ne) (record { chain = now.chain; last = now.last; counts = counts }))
+      ((λ i. record {
+        backlog = now.waiting i;
+        reserved = (a.queue_is i).reserved;
+        lost = (a.queue_is i).lost;
+        full = (a.queue_is i).full;
+        started = (a.queue_is i).started;
+        discarded = (a.queue_is i).discarded;
+      }) ∙ ap (pushed w) (sym read-state))
+    where
+      now : Appended are.owner are.behind old new w q q' flow a queue-is
+      now = appended are.owner are.behind old new w q q' flow a queue-is
+
+      counts : IsCounted (waiting_from new q'.front q'.len) q'.len q'.bytes
+      counts = subst (λ (ws : List Waiting). IsCounted ws q'.len q'.bytes) (sym now.waiting) (record {
+        many = let a1 = ap (λ (x : FlowQueue). x.len) a.queue_is in let a2 = queue-is.counts.many in let a3 = length-more (waiting_from old q.front q.len) w in omega arith;
+        counted = let a1 = ap (λ (x : FlowQueue). x.bytes) a.queue_is in let a2 = queue-is.counts.counted in let a3 = lengths-push (waiting_from old q.front q.len) w in omega arith;
+        bounded = let a1 = ap (λ (x : FlowQueue). x.bytes) a.queue_is in let a2 = fits w.len fit in omega arith;
+        short = AreShort-push (waiting_from old q.front q.len) w queue-is.counts.short some short;
+      })
+
+  -- The first packet is held, and no longer than all that wait.
+  pub first-held : 0 < q.len → ContainsKey old q.front
+  first-held = held-first are.owner are.behind old flow q queue-is
+
+  pub first-short : 0 < q.len → (stored_at old q.front).waiting.len ≤ q.bytes
+  first-short = short-first are.owner are.behind old flow q queue-is
+
+  -- The first packet starts.
+  pub popping : (new : Slab Stored) (first : Waiting) (q' q'' : FlowQueue) → Takes first old q new q' → SamePackets q' q'' → (q''.reserved ≡ q.reserved) × (q''.lost ≡ q.lost) × (q''.full ≡ q.full) × (q''.started ≡ q.started + 1) × (q''.discarded ≡ q.discarded) → After new q'' (popped (flow_at (map (state_of old) queues) flow))
+  popping new first q' q'' t same counts = after new q'' (popped (flow_at (map (state_of old) queues) flow))
+      (changed old new queues flow q q'' are are.owner are.behind there (λ g n ne. others-stay-taken are.owner are.behind old new first q q' flow t queue-is g n ne) (same-queue are.owner are.behind new flow q' q'' same (taken-queue are.owner are.behind old new first q q' flow t queue-is)))
+      ((λ i. record {
+        backlog = waiting_from new (same.0 i) (same.2 i);
+        reserved = counts.0 i;
+        lost = counts.1 i;
+        full = counts.2 i;
+        started = counts.3 i;
+        discarded = counts.4 i;
+      }) ∙ sym (ap (λ ws. popped_from ws (state_of old q)) (taken are.owner are.behind old new first q q' flow t queue-is).waiting) ∙ ap popped (sym read-state))
+
+  -- The front is the first of the packets that wait.
+  pub front : (new : Slab Stored) (first : Waiting) (q' : FlowQueue) → Takes first old q new q' → slice_get (flow_at (map (state_of old) queues) flow).backlog 0 ≡ Some first
+  front new first q' t = ap (λ (s : FlowState). slice_get s.backlog 0) read-state ∙ ap (λ (ws : List Waiting). slice_get ws 0) (taken are.owner are.behind old new first q q' flow t queue-is).waiting
+
+  -- The queue lies in the store.
+  pub lies-here : Lies old q
+  lies-here = record { owner = are.owner; behind = are.behind; flow = flow; is = queue-is }
+
+  -- All packets leave.
+  pub emptying : (new : Slab Stored) (q₁ q' : FlowQueue) → Shortens old q new q₁ → SamePackets q₁ q' → q₁.len ≡ 0 → (q'.reserved ≡ q.reserved) × (q'.lost ≡ q.lost) × (q'.full ≡ q.full) × (q'.started ≡ q.started) × (q'.discarded ≡ q.discarded + q.len) → After new q' (emptied (flow_at (map (state_of old) queues) flow))
+  emptying new q₁ q' s same none counts = after new q' (emptied (flow_at (map (state_of old) queues) flow))
+      (changed old new queues flow q q' are are.owner are.behind there (λ g n ne key stored held own lt. (left.others key stored held (λ e. ne (sym own ∙ e)), own, refl)) (same-queue are.owner are.behind new flow q₁ q' same left.is))
+      ((λ i. record {
+        backlog = waiting_from new q'.front ((same.2 ∙ none) i);
+        reserved = counts.0 i;
+        lost = counts.1 i;
+        full = counts.2 i;
+        started = counts.3 i;
+        discarded = (counts.4 ∙ ap (λ n. q.discarded + n) queue-is.counts.many) i;
+      }) ∙ ap emptied (sym read-state))
+    where
+      left : Leaves are.owner are.behind flow new q₁ old
+      left = s.leaves are.owner are.behind flow queue-is
+
+-- ---- A queue is added or taken out
+
+pub added : (store : Slab Stored) (queues : List FlowQueue) → AreStored store queues → AreStored store (queues ++ new_queue ∷ [])
+added store queues are = record { owner = are.owner; behind = are.behind; queues_are = λ g x e. by g x (get-more queues new_queue x g e) }
+  where
+    by : (g : ℕ) (x : FlowQueue) → (slice_get queues g ≡ Some x) ⊎ ((g ≡ length queues) × (x ≡ new_queue)) → IsQueue are.owner are.behind store g x
+    by g x (inl e) = are.queues_are g x e
+    by g x (inr e) = subst (IsQueue are.owner are.behind store g) (sym e.1) (record { chain = tt; last = λ n z. absurd (omega arith); counts = record { many = refl; counted = refl; bounded = omega arith; short = tt } })
+
+pub without-last : (store : Slab Stored) (queues : List FlowQueue) (q : FlowQueue) → AreStored store (queues ++ q ∷ []) → AreStored store queues
+without-last store queues q are = record { owner = are.owner; behind = are.behind; queues_are = λ g x e. are.queues_are g x (get-kept queues q x g e) }
+
+-- No queue is stored yet.
+pub none-stored : (store : Slab Stored) → AreStored store []
+none-stored store = record { owner = λ key. 0; behind = λ key. 0; queues_are = λ g x e. absurd cc }
+
+pub states_added : (store : Slab Stored) (queues : List FlowQueue) → map (state_of store) (queues ++ new_queue ∷ []) ≡ map (state_of store) queues ++ new_flow ∷ []
+states_added store [] = refl
+states_added store (q ∷ queues) = ap (λ (states : List FlowState). state_of store q ∷ states) (states_added store queues)

@@ -1,0 +1,8 @@
+use Rattle.std.proofs.Common.{subst}
+use Rattle.std.proofs.Common.{rules}
+use Rattle.dn_flows.specs.Store.{AreStored}
+use Rattle.dn_flows.proofs.Tables.{none-stored}
+use Rattle.dn_flows.proofs.flows.Flows.new.Goals as goal
+
+pub invariant_of-result : goal.invariant_of-result
+invariant_of-result c = (search rules, search rules, subst (AreStored c.new-3.result) (search rules) (none-stored c.new-3.result))
