@@ -13,25 +13,25 @@ use Rattle.dn_types.specs.Starts.{next_start, start_at}
 use Rattle.dn_types.specs.Trace.{Link, Event, arrived, started, links, with_link, pipe_of}
 use Rattle.dn_types.specs.declared.limit.Limit.TheVariants.{Slots}
 use Rattle.dn_types.specs.declared.packet.Packet.{Packet}
-use Rattle.dn_shaper.specs.declared.due.Due.{Due}
+use Rattle.dn_shaper.specs.declared.next_start.NextStart.{NextStart}
 use Rattle.dn_shaper.specs.declared.parts.Home.{Home}
 use Rattle.dn_shaper.specs.declared.parts.Parts.{Parts}
 use Rattle.dn_shaper.specs.Agreement.{AgreesWith, Agrees, GivesRates, link_names}
 use Rattle.dn_shaper.specs.Arriving.{ArrivesAt, Accepts, CanAccept, KeepsFlows}
-use Rattle.dn_shaper.specs.Due.{Holds, is_backlogged, backlogged}
+use Rattle.dn_shaper.specs.NextStarts.{Holds, one_backlogged, backlogged}
 use Rattle.dn_shaper.specs.Settling.{IsKept}
 use Rattle.dn_shaper.specs.Starting.{Within, IsReady, CanStart, StartsAt}
-use Rattle.dn_shaper.specs.Views.{LinkView, views_of, home, dues, due_of}
-use Rattle.dn_shaper.proofs.Arriving.{set-self, set-set, link-home, arrives-agree, next-alone, starts-at-once, arrives-dues, arrives-names, arrives-within}
+use Rattle.dn_shaper.specs.Views.{LinkView, views_of, home, next_starts, next_start_of}
+use Rattle.dn_shaper.proofs.Arriving.{set-self, set-set, link-home, arrives-agree, next-alone, starts-at-once, arrives-nexts, arrives-names, arrives-within}
 use Rattle.dn_shaper.proofs.Events.{length-set}
 use Rattle.dn_flows.proofs.Places.{get-set, sum-set, get-map, map-set-same, get-below}
-use Rattle.dn_shaper.proofs.Starting.{starts-agree, starts-within, starts-dues}
-use Rattle.dn_shaper.proofs.Accepting.{within-more, holds_pushed, backlogged-one, due-listed, due-some, due-none, in-table}
+use Rattle.dn_shaper.proofs.Starting.{starts-agree, starts-within, starts-nexts}
+use Rattle.dn_shaper.proofs.Accepting.{within-more, holds_pushed, backlogged-one, next-listed, next-some, next-none, in-table}
 
 pub same-view : (at : ℕ) (h : Home) (flow len weight : ℕ) (idle : Bool) (old mid : Parts) (s : ArrivesAt at h flow len weight idle old mid) (v : LinkView) → slice_get (views_of old) h.place ≡ Some v → s.view ≡ v
 same-view at h flow len weight idle old mid s v there = let both : Some s.view ≡ Some v = sym s.there ∙ there in cc
 
-module _ (settings : Settings) (at : ℕ) (h : Home) (flow len weight : ℕ) (idle : Bool) (old mid : Parts) (due : Heap Due) (kept : IsKept old due) (within : flow < length old.flows.keys) (ready : IsReady flow old) (few : (n : ℕ) × (n < 2 ^ 62) × Within n old) (can : CanAccept settings at flow old)
+module _ (settings : Settings) (at : ℕ) (h : Home) (flow len weight : ℕ) (idle : Bool) (old mid : Parts) (heap : Heap NextStart) (kept : IsKept old heap) (within : flow < length old.flows.keys) (ready : IsReady flow old) (few : (n : ℕ) × (n < 2 ^ 62) × Within n old) (can : CanAccept settings at flow old)
     (at_home : slice_get old.homes.items flow ≡ Some h) (s : ArrivesAt at h flow len weight idle old mid) where
   home-is : home old.flows.keys flow ≡ s.view.link
   home-is = link-home settings at h flow len weight idle old mid s can.0 can.1 can.2 within at_home
@@ -56,7 +56,7 @@ module _ (settings : Settings) (at : ℕ) (h : Home) (flow len weight : ℕ) (id
   mid-agrees = ([], arrived (accept l some_packet flow some_treatment (opening l at can.1)) ∷ opening l at can.1, arrived-at some_packet some_treatment can.0 can.1 can.2 refl refl can.3)
 
   pub mid-within : (n : ℕ) → Within n old → Within (n + 1) mid
-  mid-within n w = arrives-within at h flow len weight idle old mid s n (in-table settings at flow old due kept within ready few can) ready.line w
+  mid-within n w = arrives-within at h flow len weight idle old mid s n (in-table settings at flow old heap kept within ready few can) ready.line w
 
   pub mid-all : Within (2 ^ 62) mid
   mid-all = within-more (few.0 + 1) (2 ^ 62) mid (let a = few.1 in omega arith) (mid-within few.0 few.2)
@@ -70,8 +70,8 @@ module _ (settings : Settings) (at : ℕ) (h : Home) (flow len weight : ℕ) (id
   pub mid-keeps : KeepsFlows old mid
   mid-keeps = record { rule = s.rule; keys = s.keys; homes = s.homes; names = arrives-names at h flow len weight idle old mid s }
 
-  due-then : slice_get (dues (views_of old)) h.place ≡ Some (due_of s.view)
-  due-then = get-map due_of (views_of old) h.place s.view s.there
+  next-then : slice_get (next_starts (views_of old)) h.place ≡ Some (next_start_of s.view)
+  next-then = get-map next_start_of (views_of old) h.place s.view s.there
 
   left : (x y : Bool) → (x && y) ≡ true → (x ≡ true) × (y ≡ true)
   left true y e = (refl, e)
@@ -107,27 +107,27 @@ module _ (settings : Settings) (at : ℕ) (h : Home) (flow len weight : ℕ) (id
       link-mid : t.view.link ≡ l
       link-mid = ap (λ (v : LinkView). v.link) same_view ∙ s.joins.link
 
-      dues-same : dues (views_of new) ≡ dues (views_of old)
-      dues-same =
+      nexts-same : next_starts (views_of new) ≡ next_starts (views_of old)
+      nexts-same =
           let w = t.starts.waits in
           let v = ap {B = ℕ} (λ (x : LinkView). x.waits) same_view in
           let j = s.joins.waits in
           let z = was_idle.0 in
-          starts-dues h.place at bandwidth delay mid new t
-          ∙ ap (λ (d : List (Option ℕ)). set d h.place (due_of t.view')) (arrives-dues at h flow len weight idle old mid s)
-          ∙ set-set (dues (views_of old)) h.place (due_of s.view') (due_of t.view')
-          ∙ ap (λ (o : Option ℕ). set (dues (views_of old)) h.place o) (due-none t.view' (omega arith) ∙ sym (due-none s.view (omega arith)))
-          ∙ set-self (dues (views_of old)) h.place (due_of s.view) due-then
+          starts-nexts h.place at bandwidth delay mid new t
+          ∙ ap (λ (d : List (Option ℕ)). set d h.place (next_start_of t.view')) (arrives-nexts at h flow len weight idle old mid s)
+          ∙ set-set (next_starts (views_of old)) h.place (next_start_of s.view') (next_start_of t.view')
+          ∙ ap (λ (o : Option ℕ). set (next_starts (views_of old)) h.place o) (next-none t.view' (omega arith) ∙ sym (next-none s.view (omega arith)))
+          ∙ set-self (next_starts (views_of old)) h.place (next_start_of s.view) next-then
 
-      pub idle-kept : IsKept new due
+      pub idle-kept : IsKept new heap
       idle-kept = record {
         agrees =
             let m = mid-agrees in
             let r = starts-agree h.place at bandwidth delay mid new t settings m.0 m.1 rates-mid m.2 in
             (m.0, started (start_at settings t.view.link r.0 at) ∷ m.1, r.2);
         within = starts-within h.place at bandwidth delay mid new t (2 ^ 62) mid-all;
-        held = subst (λ (d : List (Option ℕ)). Holds d due.keys) (sym dues-same) kept.held;
-        counted = kept.counted ∙ ap backlogged (sym dues-same);
+        held = subst (λ (d : List (Option ℕ)). Holds d heap.keys) (sym nexts-same) kept.held;
+        counted = kept.counted ∙ ap backlogged (sym nexts-same);
         places = let a = ap (λ (vs : List LinkView). length vs) t.views_are ∙ length-set (views_of mid) h.place t.view' in let b = length-mid in let c = kept.places in omega arith;
       }
 
@@ -174,52 +174,52 @@ module _ (settings : Settings) (at : ℕ) (h : Home) (flow len weight : ℕ) (id
         (waits-accepts-at more trace packet how len_is weight_is made (ap (λ (x : Link). next_start settings at x trace) (sym home-is) ∙ none) a)
 
   -- It is the first that waits.
-  pub room-first : s.view.waits ≡ 0 → 0 < due.room
+  pub room-first : s.view.waits ≡ 0 → 0 < heap.room
   room-first zero_waits =
-      let one = backlogged-one (dues (views_of old)) h.place (due-then ∙ ap (λ (o : Option ℕ). Some o) (due-none s.view (omega arith))) in
+      let one = backlogged-one (next_starts (views_of old)) h.place (next-then ∙ ap (λ (o : Option ℕ). Some o) (next-none s.view (omega arith))) in
       let c = kept.counted in
       let p = kept.places in
-      let m = length-dues (views_of old) in
+      let m = length-nexts (views_of old) in
       omega arith
     where
-      length-dues : (vs : List LinkView) → length (dues vs) ≡ length vs
-      length-dues [] = refl
-      length-dues (v ∷ vs) = ap suc (length-dues vs)
+      length-nexts : (vs : List LinkView) → length (next_starts vs) ≡ length vs
+      length-nexts [] = refl
+      length-nexts (v ∷ vs) = ap suc (length-nexts vs)
 
-  pub first-kept : s.view.waits ≡ 0 → (due' : Heap Due) → IsPermutation (record { moment = s.view.value.free; place = h.place } ∷ due.keys) due'.keys → due'.room + 1 ≡ due.room → IsKept mid due'
-  first-kept zero_waits due' perm room =
-      let none : due_of s.view ≡ None = due-none s.view (omega arith) in
+  pub first-kept : s.view.waits ≡ 0 → (heap' : Heap NextStart) → IsPermutation (record { moment = s.view.value.free; place = h.place } ∷ heap.keys) heap'.keys → heap'.room + 1 ≡ heap.room → IsKept mid heap'
+  first-kept zero_waits heap' perm room =
+      let none : next_start_of s.view ≡ None = next-none s.view (omega arith) in
       let w = s.joins.waits in
-      let some : due_of s.view' ≡ Some s.view.value.free = due-some s.view' (omega arith) ∙ ap (λ x. Some x.free) s.joins.value in
-      let now : dues (views_of mid) ≡ set (dues (views_of old)) h.place (Some s.view.value.free) = arrives-dues at h flow len weight idle old mid s ∙ ap (λ (o : Option ℕ). set (dues (views_of old)) h.place o) some in
+      let some : next_start_of s.view' ≡ Some s.view.value.free = next-some s.view' (omega arith) ∙ ap (λ x. Some x.free) s.joins.value in
+      let now : next_starts (views_of mid) ≡ set (next_starts (views_of old)) h.place (Some s.view.value.free) = arrives-nexts at h flow len weight idle old mid s ∙ ap (λ (o : Option ℕ). set (next_starts (views_of old)) h.place o) some in
       record {
         agrees = mid-agrees;
         within = mid-all;
-        held = subst (λ (d : List (Option ℕ)). Holds d due'.keys) (sym now) (holds_pushed (dues (views_of old)) due.keys kept.held h.place s.view.value.free (get-below (dues (views_of old)) h.place (due_of s.view) due-then) (due-listed (dues (views_of old)) h.place None (due-then ∙ ap (λ (o : Option ℕ). Some o) none)) due'.keys perm);
+        held = subst (λ (d : List (Option ℕ)). Holds d heap'.keys) (sym now) (holds_pushed (next_starts (views_of old)) heap.keys kept.held h.place s.view.value.free (get-below (next_starts (views_of old)) h.place (next_start_of s.view) next-then) (next-listed (next_starts (views_of old)) h.place None (next-then ∙ ap (λ (o : Option ℕ). Some o) none)) heap'.keys perm);
         counted =
-            let a = length_permutation (record { moment = s.view.value.free; place = h.place } ∷ due.keys) due'.keys perm in
-            let b = sum-set is_backlogged (dues (views_of old)) h.place (due_of s.view) (Some s.view.value.free) due-then in
+            let a = length_permutation (record { moment = s.view.value.free; place = h.place } ∷ heap.keys) heap'.keys perm in
+            let b = sum-set one_backlogged (next_starts (views_of old)) h.place (next_start_of s.view) (Some s.view.value.free) next-then in
             let c = kept.counted in
-            let z = ap {B = ℕ} (λ (o : Option ℕ). is_backlogged o) none in
+            let z = ap {B = ℕ} (λ (o : Option ℕ). one_backlogged o) none in
             let n = ap {B = ℕ} (λ (d : List (Option ℕ)). backlogged d) now in
             omega arith;
         places =
-            let a = length_permutation (record { moment = s.view.value.free; place = h.place } ∷ due.keys) due'.keys perm in
+            let a = length_permutation (record { moment = s.view.value.free; place = h.place } ∷ heap.keys) heap'.keys perm in
             let b = length-mid in
             let c = kept.places in
             omega arith;
       }
 
   -- Others wait before it.
-  pub other-kept : 0 < s.view.waits → IsKept mid due
+  pub other-kept : 0 < s.view.waits → IsKept mid heap
   other-kept some =
       let w = s.joins.waits in
-      let same : due_of s.view' ≡ due_of s.view = due-some s.view' (omega arith) ∙ ap (λ x. Some x.free) s.joins.value ∙ sym (due-some s.view some) in
-      let now : dues (views_of mid) ≡ dues (views_of old) = arrives-dues at h flow len weight idle old mid s ∙ ap (λ (o : Option ℕ). set (dues (views_of old)) h.place o) same ∙ set-self (dues (views_of old)) h.place (due_of s.view) due-then in
+      let same : next_start_of s.view' ≡ next_start_of s.view = next-some s.view' (omega arith) ∙ ap (λ x. Some x.free) s.joins.value ∙ sym (next-some s.view some) in
+      let now : next_starts (views_of mid) ≡ next_starts (views_of old) = arrives-nexts at h flow len weight idle old mid s ∙ ap (λ (o : Option ℕ). set (next_starts (views_of old)) h.place o) same ∙ set-self (next_starts (views_of old)) h.place (next_start_of s.view) next-then in
       record {
         agrees = mid-agrees;
         within = mid-all;
-        held = subst (λ (d : List (Option ℕ)). Holds d due.keys) (sym now) kept.held;
+        held = subst (λ (d : List (Option ℕ)). Holds d heap.keys) (sym now) kept.held;
         counted = kept.counted ∙ ap backlogged (sym now);
         places = let b = length-mid in let c = kept.places in omega arith;
       }

@@ -12,16 +12,16 @@ use Rattle.dn_types.specs.SharedLinks.{waiting}
 use Rattle.dn_types.specs.Trace.{Link, own, shared, Accepted}
 use Rattle.dn_types.specs.Wf2q.{Stamped, total}
 use Rattle.dn_wf2q.specs.Schedule.{Flow, flow_at as slot_at, IsIdle}
-use Rattle.dn_shaper.specs.declared.due.Due.{Due}
+use Rattle.dn_shaper.specs.declared.next_start.NextStart.{NextStart}
 use Rattle.dn_shaper.specs.declared.parts.Home.{Home}
 use Rattle.dn_shaper.specs.declared.parts.Parts.{Parts}
 use Rattle.dn_shaper.specs.Agreement.{IsHomeOf, IsScheduleAt}
 use Rattle.dn_shaper.specs.Arriving.{CanJoin, CanAccept}
-use Rattle.dn_shaper.specs.Due.{due_at, standing, Holds, is_backlogged, backlogged}
+use Rattle.dn_shaper.specs.NextStarts.{next_at, standing, Holds, one_backlogged, backlogged}
 use Rattle.dn_shaper.specs.Settling.{IsKept}
 use Rattle.dn_shaper.specs.Starting.{Within, IsReady}
-use Rattle.dn_shaper.specs.Views.{LinkView, views_of, home, stamped_of, at_slot, due_of}
-use Rattle.dn_shaper.proofs.Dues.{same_place, other_place, pushed, none_standing}
+use Rattle.dn_shaper.specs.Views.{LinkView, views_of, home, stamped_of, at_slot, next_start_of}
+use Rattle.dn_shaper.proofs.NextStarts.{same_place, other_place, pushed, none_standing}
 use Rattle.dn_shaper.proofs.Heads.{slot_or}
 use Rattle.dn_flows.proofs.Places.{sum-le}
 use Rattle.dn_shaper.proofs.Waiting.{empty-all, total-same}
@@ -39,55 +39,55 @@ within-more n m p le w = record {
 
 -- ---- A heap with one key more
 
-module _ (due : List (Option ℕ)) (keys : List Due) (h : Holds due keys) (place m : ℕ) (inside : place < length due) (none : due_at due place ≡ None) (new : List Due) (perm : IsPermutation (record { moment = m; place = place } ∷ keys) new) where
+module _ (nexts : List (Option ℕ)) (keys : List NextStart) (h : Holds nexts keys) (place m : ℕ) (inside : place < length nexts) (none : next_at nexts place ≡ None) (new : List NextStart) (perm : IsPermutation (record { moment = m; place = place } ∷ keys) new) where
   none_there : standing place keys ≡ 0
   none_there = h.once place ∙ ap {B = ℕ} (λ (o : Option ℕ). cond (is_some o) 1 0) none
 
-  once_pushed : (p : ℕ) → standing p new ≡ cond (is_some (due_at (set due place (Some m)) p)) 1 0
+  once_pushed : (p : ℕ) → standing p new ≡ cond (is_some (next_at (set nexts place (Some m)) p)) 1 0
   once_pushed p = by (cases_eq p place)
     where
-      by : (p ≡ place) ⊎ (p ≡ place → ⊥) → standing p new ≡ cond (is_some (due_at (set due place (Some m)) p)) 1 0
+      by : (p ≡ place) ⊎ (p ≡ place → ⊥) → standing p new ≡ cond (is_some (next_at (set nexts place (Some m)) p)) 1 0
       by (inl e) =
-          let At : ℕ → Type 0 = λ n. standing n new ≡ cond (is_some (due_at (set due place (Some m)) n)) 1 0 in
+          let At : ℕ → Type 0 = λ n. standing n new ≡ cond (is_some (next_at (set nexts place (Some m)) n)) 1 0 in
           let one : standing place new ≡ 1 = let a = pushed place (record { moment = m; place = place }) keys new perm in let b = same_place place (record { moment = m; place = place }) refl in let z = none_there in omega (arith, a, b, z) in
-          subst At (sym e) (one ∙ sym (ap {B = ℕ} (λ (o : Option ℕ). cond (is_some o) 1 0) (get_or-set_same due place (Some m) None inside)))
+          subst At (sym e) (one ∙ sym (ap {B = ℕ} (λ (o : Option ℕ). cond (is_some o) 1 0) (get_or-set_same nexts place (Some m) None inside)))
       by (inr ne) =
           let a = pushed p (record { moment = m; place = place }) keys new perm in
           let b = other_place p (record { moment = m; place = place }) (λ e. ne (sym e)) in
           let z = h.once p in
-          let same = ap {B = ℕ} (λ (o : Option ℕ). cond (is_some o) 1 0) (get_or-set_other due place p (Some m) None ne) in
+          let same = ap {B = ℕ} (λ (o : Option ℕ). cond (is_some o) 1 0) (get_or-set_other nexts place p (Some m) None ne) in
           omega (arith, a, b, z, same)
 
-  pub holds_pushed : Holds (set due place (Some m)) new
+  pub holds_pushed : Holds (set nexts place (Some m)) new
   holds_pushed = record {
     once = once_pushed;
-    moments = All-permutation (λ x. due_at (set due place (Some m)) x.place ≡ Some x.moment) (record { moment = m; place = place } ∷ keys) new perm
-        (All-cons (λ x. due_at (set due place (Some m)) x.place ≡ Some x.moment) (record { moment = m; place = place }) keys (get_or-set_same due place (Some m) None inside)
-        (λ i d lt. get_or-set_other due place (slice_index_or keys i d).place (Some m) None (none_standing place keys none_there i d lt) ∙ h.moments i d lt));
+    moments = All-permutation (λ x. next_at (set nexts place (Some m)) x.place ≡ Some x.moment) (record { moment = m; place = place } ∷ keys) new perm
+        (All-cons (λ x. next_at (set nexts place (Some m)) x.place ≡ Some x.moment) (record { moment = m; place = place }) keys (get_or-set_same nexts place (Some m) None inside)
+        (λ i d lt. get_or-set_other nexts place (slice_index_or keys i d).place (Some m) None (none_standing place keys none_there i d lt) ∙ h.moments i d lt));
   }
 
 -- A list with one that has no backlog has fewer than all.
-backlogged-le : (due : List (Option ℕ)) → backlogged due ≤ length due
+backlogged-le : (nexts : List (Option ℕ)) → backlogged nexts ≤ length nexts
 backlogged-le [] = omega arith
-backlogged-le (o ∷ due) = let r = backlogged-le due in let c = sum_by-cons is_backlogged o due in let one = at_most o in omega arith
+backlogged-le (o ∷ nexts) = let r = backlogged-le nexts in let c = sum_by-cons one_backlogged o nexts in let one = at_most o in omega arith
   where
-    at_most : (o : Option ℕ) → is_backlogged o ≤ 1
+    at_most : (o : Option ℕ) → one_backlogged o ≤ 1
     at_most None = omega arith
     at_most (Some m) = omega arith
 
-pub backlogged-one : (due : List (Option ℕ)) (i : ℕ) → slice_get due i ≡ Some None → backlogged due + 1 ≤ length due
+pub backlogged-one : (nexts : List (Option ℕ)) (i : ℕ) → slice_get nexts i ≡ Some None → backlogged nexts + 1 ≤ length nexts
 backlogged-one [] i e = absurd cc
-backlogged-one (o ∷ due) zero e = let same : o ≡ None = cc in let z = ap {B = ℕ} (λ (x : Option ℕ). is_backlogged x) same in let c = sum_by-cons is_backlogged o due in let r = backlogged-le due in omega arith
-backlogged-one (o ∷ due) (suc i) e = let r = backlogged-one due i e in let c = sum_by-cons is_backlogged o due in let one = at_most o in omega arith
+backlogged-one (o ∷ nexts) zero e = let same : o ≡ None = cc in let z = ap {B = ℕ} (λ (x : Option ℕ). one_backlogged x) same in let c = sum_by-cons one_backlogged o nexts in let r = backlogged-le nexts in omega arith
+backlogged-one (o ∷ nexts) (suc i) e = let r = backlogged-one nexts i e in let c = sum_by-cons one_backlogged o nexts in let one = at_most o in omega arith
   where
-    at_most : (o : Option ℕ) → is_backlogged o ≤ 1
+    at_most : (o : Option ℕ) → one_backlogged o ≤ 1
     at_most None = omega arith
     at_most (Some m) = omega arith
 
-pub due-listed : (d : List (Option ℕ)) (i : ℕ) (o : Option ℕ) → slice_get d i ≡ Some o → due_at d i ≡ o
-due-listed [] i o e = absurd cc
-due-listed (x ∷ d) zero o e = let same : x ≡ o = cc in same
-due-listed (x ∷ d) (suc i) o e = due-listed d i o e
+pub next-listed : (d : List (Option ℕ)) (i : ℕ) (o : Option ℕ) → slice_get d i ≡ Some o → next_at d i ≡ o
+next-listed [] i o e = absurd cc
+next-listed (x ∷ d) zero o e = let same : x ≡ o = cc in same
+next-listed (x ∷ d) (suc i) o e = next-listed d i o e
 
 sure : (n : ℕ) → 0 < n → nat_lt 0 n ≡ true
 sure n h = grind (arith, nat_tests)
@@ -95,15 +95,15 @@ sure n h = grind (arith, nat_tests)
 never : (n : ℕ) → n ≤ 0 → nat_lt 0 n ≡ false
 never n h = grind (arith, nat_tests)
 
-pub due-some : (v : LinkView) → 0 < v.waits → due_of v ≡ Some v.value.free
-due-some v some = ap {B = Option ℕ} (λ b. cond b (Some v.value.free) None) (sure v.waits some)
+pub next-some : (v : LinkView) → 0 < v.waits → next_start_of v ≡ Some v.value.free
+next-some v some = ap {B = Option ℕ} (λ b. cond b (Some v.value.free) None) (sure v.waits some)
 
-pub due-none : (v : LinkView) → v.waits ≤ 0 → due_of v ≡ None
-due-none v none = ap {B = Option ℕ} (λ b. cond b (Some v.value.free) None) (never v.waits none)
+pub next-none : (v : LinkView) → v.waits ≤ 0 → next_start_of v ≡ None
+next-none v none = ap {B = Option ℕ} (λ b. cond b (Some v.value.free) None) (never v.waits none)
 
 -- ---- What accepting needs
 
-module _ (settings : Settings) (at flow : ℕ) (p : Parts) (due : Heap Due) (kept : IsKept p due) (within : flow < length p.flows.keys) (ready : IsReady flow p) (few : (n : ℕ) × (n < 2 ^ 62) × Within n p) (can : CanAccept settings at flow p) where
+module _ (settings : Settings) (at flow : ℕ) (p : Parts) (heap : Heap NextStart) (kept : IsKept p heap) (within : flow < length p.flows.keys) (ready : IsReady flow p) (few : (n : ℕ) × (n < 2 ^ 62) × Within n p) (can : CanAccept settings at flow p) where
   pub home-there : (h : Home) × (slice_get p.homes.items flow ≡ Some h) × IsHomeOf flow (home p.flows.keys flow) (views_of p) h
   home-there = can.2.homes_are flow within
 

@@ -23,7 +23,7 @@ use Rattle.dn_shaper.specs.declared.parts.Parts.{Parts}
 use Rattle.dn_shaper.specs.Agreement.{AgreesWith, IsAt, IsHomeOf, link_names}
 use Rattle.dn_shaper.specs.Arriving.{begun_flows, begun_time, Arrives, ArrivesOn, ArrivesAt}
 use Rattle.dn_shaper.specs.Starting.{IsFlowWithin, Within}
-use Rattle.dn_shaper.specs.Views.{LinkView, views_of, home, waiting_of, stamped_of, at_slot, dues, due_of}
+use Rattle.dn_shaper.specs.Views.{LinkView, views_of, home, waiting_of, stamped_of, at_slot, next_starts, next_start_of}
 use Rattle.dn_shaper.proofs.Arrived.{arrived-agrees}
 use Rattle.dn_shaper.proofs.Next.{home-here, next_exists}
 use Rattle.dn_shaper.proofs.Opened.{opened-agrees}
@@ -214,8 +214,8 @@ module _ (at : ℕ) (h : Home) (flow len weight : ℕ) (idle : Bool) (old new : 
       let one = s.joins.waits in
       omega arith
 
-  pub arrives-dues : dues (views_of new) ≡ set (dues (views_of old)) h.place (due_of s.view')
-  arrives-dues = ap (λ (vs : List LinkView). dues vs) s.views_are ∙ map-set due_of (views_of old) h.place s.view'
+  pub arrives-nexts : next_starts (views_of new) ≡ set (next_starts (views_of old)) h.place (next_start_of s.view')
+  arrives-nexts = ap (λ (vs : List LinkView). next_starts vs) s.views_are ∙ map-set next_start_of (views_of old) h.place s.view'
 
   pub arrives-names : link_names (views_of new) ≡ link_names (views_of old)
   arrives-names = ap (λ (vs : List LinkView). link_names vs) s.views_are ∙ map-set-same (λ (x : LinkView). x.link) (views_of old) h.place s.view s.view' s.there s.joins.link

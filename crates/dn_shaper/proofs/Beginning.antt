@@ -9,15 +9,15 @@ use Rattle.dn_types.specs.declared.flow_key.FlowKey.{FlowKey}
 use Rattle.dn_types.specs.declared.rule.Rule.{Rule}
 use Rattle.dn_types.specs.declared.target.Target.{Target}
 use Rattle.dn_flows.specs.Table.{FlowState, flow_at}
-use Rattle.dn_shaper.specs.declared.due.Due.{Due}
+use Rattle.dn_shaper.specs.declared.next_start.NextStart.{NextStart}
 use Rattle.dn_shaper.specs.declared.parts.Home.{Home}
 use Rattle.dn_shaper.specs.declared.state.State.{State}
 use Rattle.dn_shaper.specs.Agreement.{AgreesWith, IsAt, link_names}
-use Rattle.dn_shaper.specs.Due.{Holds, due_at, backlogged}
+use Rattle.dn_shaper.specs.NextStarts.{Holds, next_at, backlogged}
 use Rattle.dn_shaper.specs.Settings.{settings_of}
 use Rattle.dn_shaper.specs.Standing.{StandsAt, IsIndexed, IsSound}
 use Rattle.dn_shaper.specs.Starting.{IsFlowWithin, Within}
-use Rattle.dn_shaper.specs.Views.{LinkView, view_of, views_of, dues, waits_in_all}
+use Rattle.dn_shaper.specs.Views.{LinkView, view_of, views_of, next_starts, waits_in_all}
 
 nothing-agrees : (rule : Rule) → IsAt rule 0 [] [] [] [] [] [] []
 nothing-agrees rule = record {
@@ -37,7 +37,7 @@ nothing-agrees rule = record {
 }
 
 module _ (s : State) (accepted : s.parts.accepted ≡ 0) (keys : s.parts.flows.keys ≡ []) (flows : s.parts.flows.flows ≡ []) (homes : s.parts.homes.items ≡ []) (links : s.parts.links.items ≡ []) (waiting : s.parts.waiting ≡ 0)
-    (shared : s.shared ≡ []) (pending : s.parts.line.pending ≡ []) (pushed : s.parts.line.pushed ≡ 0) (empty : s.due.keys ≡ []) (moves : s.due.moves ≡ 0) (none : (t : Target) → settings_of s.configured t ≡ None) (now : s.now ≡ 0) (calls : s.calls ≡ 0) where
+    (shared : s.shared ≡ []) (pending : s.parts.line.pending ≡ []) (pushed : s.parts.line.pushed ≡ 0) (empty : s.heap.keys ≡ []) (moves : s.heap.moves ≡ 0) (none : (t : Target) → settings_of s.configured t ≡ None) (now : s.now ≡ 0) (calls : s.calls ≡ 0) where
   views : views_of s.parts ≡ []
   views = ap (map view_of) links
 
@@ -63,8 +63,8 @@ module _ (s : State) (accepted : s.parts.accepted ≡ 0) (keys : s.parts.flows.k
     accepted = omega arith;
   }
 
-  held : Holds (dues (views_of s.parts)) s.due.keys
-  held = subst (λ (x : List LinkView × List Due). Holds (dues x.0) x.1) (λ i. (sym views i, sym empty i)) (record { once = λ place. refl; moments = All-nil (λ k. due_at [] k.place ≡ Some k.moment) })
+  held : Holds (next_starts (views_of s.parts)) s.heap.keys
+  held = subst (λ (x : List LinkView × List NextStart). Holds (next_starts x.0) x.1) (λ i. (sym views i, sym empty i)) (record { once = λ place. refl; moments = All-nil (λ k. next_at [] k.place ≡ Some k.moment) })
 
   -- No place is noted of any pipe.
   unnoted : (pipe : ℕ) → lookup (nat_eq pipe) s.shared ≡ None
@@ -82,7 +82,7 @@ module _ (s : State) (accepted : s.parts.accepted ≡ 0) (keys : s.parts.flows.k
       agrees = ([], [], agrees);
       within = within-none (2 ^ 62);
       held = held;
-      counted = ap (λ (ks : List Due). length ks) empty ∙ sym (ap (λ (vs : List LinkView). backlogged (dues vs)) views);
+      counted = ap (λ (ks : List NextStart). length ks) empty ∙ sym (ap (λ (vs : List LinkView). backlogged (next_starts vs)) views);
       places = let e = ap (λ (vs : List LinkView). length vs) views in omega arith;
     };
     within = within-none s.calls;

@@ -14,7 +14,7 @@ use Rattle.dn_types.specs.declared.reply.Reply.{Reply}
 use Rattle.dn_types.specs.declared.reply.Reply.TheVariants.{Configured, NoSuchPipe, Deleted, PipeHasQueues, NoSuchQueue, Queued, Lost, Full, NoTarget, Advanced, Delivered, Status, Exhausted}
 use Rattle.dn_types.specs.declared.rule.Rule.{Rule}
 use Rattle.dn_types.specs.declared.target.Target.{Target}
-use Rattle.dn_shaper.specs.declared.due.Due.{Due}
+use Rattle.dn_shaper.specs.declared.next_start.NextStart.{NextStart}
 use Rattle.dn_shaper.specs.declared.parts.Parts.{Parts}
 use Rattle.dn_shaper.specs.declared.state.State.{State}
 use Rattle.dn_shaper.specs.Agreement.{AgreesWith, link_names}
@@ -35,16 +35,16 @@ pub record Obeys (command : Command) (reply : Reply) (old new : State) : Type 0 
   pub rule_is : new.parts.rule ≡ old.parts.rule
   pub keys_are : new.parts.flows.keys ≡ old.parts.flows.keys
   pub agrees : (more : List Link) (trace : List Event) → AgreesWith old.parts more trace → AgreesWith new.parts more (after_command reply command old.parts.flows.keys trace)
-  pub kept : IsKept new.parts new.due
+  pub kept : IsKept new.parts new.heap
   pub within : Within old.calls new.parts
-  pub moves : new.due.moves + new.parts.waiting ≤ old.due.moves + old.parts.waiting
+  pub moves : new.heap.moves + new.parts.waiting ≤ old.heap.moves + old.parts.waiting
   pub shared_are : new.shared ≡ old.shared
   pub names_are : link_names (views_of new.parts) ≡ link_names (views_of old.parts)
   pub now_is : new.now ≡ old.now
   pub calls_are : new.calls ≡ old.calls
 
 abbrev pub one-more : State → State
-one-more s = record { parts = s.parts; due = s.due; shared = s.shared; configured = s.configured; now = s.now; calls = s.calls + 1 }
+one-more s = record { parts = s.parts; heap = s.heap; shared = s.shared; configured = s.configured; now = s.now; calls = s.calls + 1 }
 
 untimed : (n : ℕ) → n ≡ max n 0
 untimed n = omega arith
@@ -85,7 +85,7 @@ module _ (command : Command) (reply : Reply) (old new : State)
 -- ---- The three ways to answer
 
 module _ (command : Command) (old : State) (sound : IsSound old) where
-  pub obeys-put : (configured : List (Target × Command)) → Puts command (Some command) (settings_of old.configured) (settings_of configured) → Obeys command Configured old (record { parts = old.parts; due = old.due; shared = old.shared; configured = configured; now = old.now; calls = old.calls })
+  pub obeys-put : (configured : List (Target × Command)) → Puts command (Some command) (settings_of old.configured) (settings_of configured) → Obeys command Configured old (record { parts = old.parts; heap = old.heap; shared = old.shared; configured = configured; now = old.now; calls = old.calls })
   obeys-put configured puts = record {
     settings_are = puts;
     rule_is = refl;
@@ -100,9 +100,9 @@ module _ (command : Command) (old : State) (sound : IsSound old) where
     calls_are = refl;
   }
 
-  pub obeys-delete : (configured : List (Target × Command)) (parts : Parts) (due : Heap Due) → Puts command None (settings_of old.configured) (settings_of configured) → KeepsFlows old.parts parts → DiscardsReached command old.parts parts → IsKept parts due → ((n : ℕ) → Within n old.parts → Within n parts) → due.moves + parts.waiting ≤ old.due.moves + old.parts.waiting
-      → Obeys command Deleted old (record { parts = parts; due = due; shared = old.shared; configured = configured; now = old.now; calls = old.calls })
-  obeys-delete configured parts due puts keeps discards kept within moves = record {
+  pub obeys-delete : (configured : List (Target × Command)) (parts : Parts) (heap : Heap NextStart) → Puts command None (settings_of old.configured) (settings_of configured) → KeepsFlows old.parts parts → DiscardsReached command old.parts parts → IsKept parts heap → ((n : ℕ) → Within n old.parts → Within n parts) → heap.moves + parts.waiting ≤ old.heap.moves + old.parts.waiting
+      → Obeys command Deleted old (record { parts = parts; heap = heap; shared = old.shared; configured = configured; now = old.now; calls = old.calls })
+  obeys-delete configured parts heap puts keeps discards kept within moves = record {
     settings_are = puts;
     rule_is = keeps.rule;
     keys_are = keeps.keys;

@@ -15,10 +15,10 @@ use Rattle.dn_shaper.specs.declared.parts.Parts.{Parts}
 use Rattle.dn_shaper.specs.Agreement.{Agrees, IsAt, IsHomeOf, link_names}
 use Rattle.dn_shaper.specs.Arriving.{KeepsFlows}
 use Rattle.dn_shaper.specs.Discarding.{DiscardsOn, DiscardsAt, Discards, OnlyEmpties}
-use Rattle.dn_shaper.specs.Due.{due_at}
+use Rattle.dn_shaper.specs.NextStarts.{next_at}
 use Rattle.dn_shaper.specs.Starting.{IsFlowWithin, Within}
-use Rattle.dn_shaper.specs.Views.{LinkView, views_of, home, dues, due_of, waits_in_all}
-use Rattle.dn_shaper.proofs.Accepting.{due-some, due-none, due-listed}
+use Rattle.dn_shaper.specs.Views.{LinkView, views_of, home, next_starts, next_start_of, waits_in_all}
+use Rattle.dn_shaper.proofs.Accepting.{next-some, next-none, next-listed}
 use Rattle.dn_shaper.proofs.Discarded.{discarded-agrees, length-waiting}
 use Rattle.dn_shaper.proofs.Next.{home-here}
 use Rattle.dn_flows.proofs.Places.{get-below, get-set, get-set-other, get-map, map-set, map-set-same, sum-set, sum-le}
@@ -109,29 +109,29 @@ module _ (h : Home) (flow : ℕ) (old new : Parts) (agrees : Agrees old) (bound 
           omega arith
       few_arrivals j v e (inr ne) = w.arrivals j v (sym (get-set-other (views_of old) h.place j s.view' ne) ∙ ap (λ (vs : List LinkView). slice_get vs j) (sym s.views_are) ∙ e)
 
-  discards-dues : dues (views_of new) ≡ set (dues (views_of old)) h.place (due_of s.view')
-  discards-dues = ap (λ (vs : List LinkView). dues vs) s.views_are ∙ map-set due_of (views_of old) h.place s.view'
+  discards-nexts : next_starts (views_of new) ≡ set (next_starts (views_of old)) h.place (next_start_of s.view')
+  discards-nexts = ap (λ (vs : List LinkView). next_starts vs) s.views_are ∙ map-set next_start_of (views_of old) h.place s.view'
 
-  due-then : slice_get (dues (views_of old)) h.place ≡ Some (due_of s.view)
-  due-then = get-map due_of (views_of old) h.place s.view s.there
+  next-then : slice_get (next_starts (views_of old)) h.place ≡ Some (next_start_of s.view)
+  next-then = get-map next_start_of (views_of old) h.place s.view s.there
 
   -- A link of which packets are left is free from the same moment.
-  still-due : (m : ℕ) → due_of s.view' ≡ Some m → due_of s.view ≡ Some m
-  still-due m e = by (cases_lt 0 s.view'.waits)
+  still-next : (m : ℕ) → next_start_of s.view' ≡ Some m → next_start_of s.view ≡ Some m
+  still-next m e = by (cases_lt 0 s.view'.waits)
     where
-      by : (0 < s.view'.waits) ⊎ (s.view'.waits ≤ 0) → due_of s.view ≡ Some m
-      by (inl some) = let w = s.leaves.waits in due-some s.view (omega arith) ∙ ap (λ x. Some x.free) (sym s.leaves.value) ∙ sym (due-some s.view' some) ∙ e
-      by (inr none) = let z : Some m ≡ None = sym e ∙ due-none s.view' none in let f : true ≡ false = ap is_some z in absurd cc
+      by : (0 < s.view'.waits) ⊎ (s.view'.waits ≤ 0) → next_start_of s.view ≡ Some m
+      by (inl some) = let w = s.leaves.waits in next-some s.view (omega arith) ∙ ap (λ x. Some x.free) (sym s.leaves.value) ∙ sym (next-some s.view' some) ∙ e
+      by (inr none) = let z : Some m ≡ None = sym e ∙ next-none s.view' none in let f : true ≡ false = ap is_some z in absurd cc
 
   pub discards-empties : OnlyEmpties old new
   discards-empties place m e = by (cases_eq place h.place)
     where
-      now : due_at (set (dues (views_of old)) h.place (due_of s.view')) place ≡ Some m
-      now = ap (λ (d : List (Option ℕ)). due_at d place) (sym discards-dues) ∙ e
+      now : next_at (set (next_starts (views_of old)) h.place (next_start_of s.view')) place ≡ Some m
+      now = ap (λ (d : List (Option ℕ)). next_at d place) (sym discards-nexts) ∙ e
 
-      by : (place ≡ h.place) ⊎ (place ≡ h.place → ⊥) → due_at (dues (views_of old)) place ≡ Some m
+      by : (place ≡ h.place) ⊎ (place ≡ h.place → ⊥) → next_at (next_starts (views_of old)) place ≡ Some m
       by (inl same) =
-          let listed = get-below (dues (views_of old)) h.place (due_of s.view) due-then in
-          let here = sym (get_or-set_same (dues (views_of old)) h.place (due_of s.view') None listed) ∙ ap (due_at (set (dues (views_of old)) h.place (due_of s.view'))) (sym same) ∙ now in
-          ap (due_at (dues (views_of old))) same ∙ due-listed (dues (views_of old)) h.place (due_of s.view) due-then ∙ still-due m here
-      by (inr ne) = sym (get_or-set_other (dues (views_of old)) h.place place (due_of s.view') None ne) ∙ now
+          let listed = get-below (next_starts (views_of old)) h.place (next_start_of s.view) next-then in
+          let here = sym (get_or-set_same (next_starts (views_of old)) h.place (next_start_of s.view') None listed) ∙ ap (next_at (set (next_starts (views_of old)) h.place (next_start_of s.view'))) (sym same) ∙ now in
+          ap (next_at (next_starts (views_of old))) same ∙ next-listed (next_starts (views_of old)) h.place (next_start_of s.view) next-then ∙ still-next m here
+      by (inr ne) = sym (get_or-set_other (next_starts (views_of old)) h.place place (next_start_of s.view') None ne) ∙ now

@@ -9,13 +9,13 @@ use Rattle.dn_types.specs.Trace.{Link, Accepted, Event, started, Start, links}
 use Rattle.dn_types.specs.Links.{free}
 use Rattle.dn_types.specs.SharedLinks.{next_packet}
 use Rattle.dn_types.specs.Starts.{next_start, sooner, first_start, start_at, settle}
-use Rattle.dn_shaper.specs.declared.due.Due.{Due}
-use Rattle.dn_shaper.specs.Due.{due_cmp, due_at, Holds}
-use Rattle.dn_shaper.proofs.Dues.{not_before, held_by, popped_due}
+use Rattle.dn_shaper.specs.declared.next_start.NextStart.{NextStart}
+use Rattle.dn_shaper.specs.NextStarts.{next_start_cmp, next_at, Holds}
+use Rattle.dn_shaper.proofs.NextStarts.{not_before, held_by, popped_next}
 
 -- The moment from which the link is free, where a packet waits for it.
-abbrev pub due_moment : List Event → Link → Option ℕ
-due_moment trace link = option_map (λ p. free link trace) (next_packet link trace)
+abbrev pub moment_of_next : List Event → Link → Option ℕ
+moment_of_next trace link = option_map (λ p. free link trace) (next_packet link trace)
 
 -- The first start is the next start of some link.
 first-of : (settings : Settings) (at : ℕ) (trace : List Event) (ls : List Link) (s : Start) → first_start settings at ls trace ≡ Some s → (j : ℕ) × (link : Link) × (slice_get ls j ≡ Some link) × (next_start settings at link trace ≡ Some s)
@@ -77,22 +77,22 @@ first-at settings at trace (l ∷ ls) (suc place) link s there is least = by_nex
         ] in
         ap (sooner (Some t)) rest ∙ ap (λ b. Some (cond b s t)) (sure s.moment t.moment strict)
 
--- ---- Links and due moments
+-- ---- Links and next starts
 
--- The link of a due moment.
-due_link : (trace : List Event) (ls : List Link) (place m : ℕ) → due_at (map (due_moment trace) ls) place ≡ Some m → (link : Link) × (slice_get ls place ≡ Some link) × (due_moment trace link ≡ Some m)
-due_link trace [] place m e = absurd cc
-due_link trace (l ∷ ls) zero m e = (l, refl, e)
-due_link trace (l ∷ ls) (suc place) m e = due_link trace ls place m e
+-- The link of a next start.
+next_link : (trace : List Event) (ls : List Link) (place m : ℕ) → next_at (map (moment_of_next trace) ls) place ≡ Some m → (link : Link) × (slice_get ls place ≡ Some link) × (moment_of_next trace link ≡ Some m)
+next_link trace [] place m e = absurd cc
+next_link trace (l ∷ ls) zero m e = (l, refl, e)
+next_link trace (l ∷ ls) (suc place) m e = next_link trace ls place m e
 
-link_due : (trace : List Event) (ls : List Link) (place : ℕ) (link : Link) → slice_get ls place ≡ Some link → due_at (map (due_moment trace) ls) place ≡ due_moment trace link
-link_due trace [] place link e = absurd cc
-link_due trace (l ∷ ls) zero link e = let same : l ≡ link = cc in ap (due_moment trace) same
-link_due trace (l ∷ ls) (suc place) link e = link_due trace ls place link e
+link_next : (trace : List Event) (ls : List Link) (place : ℕ) (link : Link) → slice_get ls place ≡ Some link → next_at (map (moment_of_next trace) ls) place ≡ moment_of_next trace link
+link_next trace [] place link e = absurd cc
+link_next trace (l ∷ ls) zero link e = let same : l ≡ link = cc in ap (moment_of_next trace) same
+link_next trace (l ∷ ls) (suc place) link e = link_next trace ls place link e
 
--- A next start is at the link's due moment, which is not after `at`.
-next_due : (settings : Settings) (at : ℕ) (trace : List Event) (link : Link) (s : Start) → next_start settings at link trace ≡ Some s → (due_moment trace link ≡ Some s.moment) × (s.moment ≤ at)
-next_due settings at trace link s e = by_test (nat_le (free link trace) at) refl (next_packet link trace) e
+-- A link's next start is at the moment that is held for it, which is not after `at`.
+moment_then : (settings : Settings) (at : ℕ) (trace : List Event) (link : Link) (s : Start) → next_start settings at link trace ≡ Some s → (moment_of_next trace link ≡ Some s.moment) × (s.moment ≤ at)
+moment_then settings at trace link s e = by_test (nat_le (free link trace) at) refl (next_packet link trace) e
   where
     low : nat_le (free link trace) at ≡ true → free link trace ≤ at
     low h = grind (arith, nat_tests)
@@ -115,29 +115,29 @@ first_none settings at trace ls h = go (first_start settings at ls trace) refl
     go None e = e
     go (Some s) e = absurd (h s e)
 
-module _ (settings : Settings) (at : ℕ) (trace : List Event) (ls : List Link) (due : List (Option ℕ)) (due_is : due ≡ map (due_moment trace) ls) (keys : List Due) (h : Holds due keys) where
-  -- The link of the popped key is due first.
-  pub link_popped : (rest : List Due) (k : Due) → IsPermutation keys (k ∷ rest) → (link : Link) × (slice_get ls k.place ≡ Some link) × (due_moment trace link ≡ Some k.moment)
-  link_popped rest k p = due_link trace ls k.place k.moment (sym (ap (λ (d : List (Option ℕ)). due_at d k.place) due_is) ∙ popped_due due keys rest k h p)
+module _ (settings : Settings) (at : ℕ) (trace : List Event) (ls : List Link) (nexts : List (Option ℕ)) (nexts_is : nexts ≡ map (moment_of_next trace) ls) (keys : List NextStart) (h : Holds nexts keys) where
+  -- The link of the popped key starts first.
+  pub link_popped : (rest : List NextStart) (k : NextStart) → IsPermutation keys (k ∷ rest) → (link : Link) × (slice_get ls k.place ≡ Some link) × (moment_of_next trace link ≡ Some k.moment)
+  link_popped rest k p = next_link trace ls k.place k.moment (sym (ap (λ (d : List (Option ℕ)). next_at d k.place) nexts_is) ∙ popped_next nexts keys rest k h p)
 
-  pub first_popped : (k : Due) (link : Link) (s : Start) → IsLeast due_cmp k keys → slice_get ls k.place ≡ Some link → next_start settings at link trace ≡ Some s → s.moment ≡ k.moment → first_start settings at ls trace ≡ Some s
+  pub first_popped : (k : NextStart) (link : Link) (s : Start) → IsLeast next_start_cmp k keys → slice_get ls k.place ≡ Some link → next_start settings at link trace ≡ Some s → s.moment ≡ k.moment → first_start settings at ls trace ≡ Some s
   first_popped k link s least there next moment_is =
       first-at settings at trace ls k.place link s there next (λ j other t is n.
-      let d = (next_due settings at trace other t n).0 in
-      let due_there = ap (λ (x : List (Option ℕ)). due_at x j) due_is ∙ link_due trace ls j other is ∙ d in
-      let r = held_by (λ m place. (k.moment ≤ m) × (m ≡ k.moment → k.place ≤ place)) due keys h (λ i x lt. not_before k (slice_index_or keys i x) (least i x lt)) j t.moment due_there in
+      let d = (moment_then settings at trace other t n).0 in
+      let next_there = ap (λ (x : List (Option ℕ)). next_at x j) nexts_is ∙ link_next trace ls j other is ∙ d in
+      let r = held_by (λ m place. (k.moment ≤ m) × (m ≡ k.moment → k.place ≤ place)) nexts keys h (λ i x lt. not_before k (slice_index_or keys i x) (least i x lt)) j t.moment next_there in
       let no_later = r.0 in
       let tie = r.1 in
       (omega arith, λ e. tie (e ∙ moment_is)))
 
-  -- No start is due where none of the keys is.
-  pub none_due : All (λ k. at < k.moment) keys → first_start settings at ls trace ≡ None
-  none_due late =
+  -- Nothing starts where none of the keys is as early.
+  pub none_next : All (λ k. at < k.moment) keys → first_start settings at ls trace ≡ None
+  none_next late =
       first_none settings at trace ls (λ s e.
       let f = first-of settings at trace ls s e in
-      let d = next_due settings at trace f.1 s f.3 in
-      let due_there = ap (λ (x : List (Option ℕ)). due_at x f.0) due_is ∙ link_due trace ls f.0 f.1 f.2 ∙ d.0 in
-      let after = held_by (λ m place. at < m) due keys h late f.0 s.moment due_there in
+      let d = moment_then settings at trace f.1 s f.3 in
+      let next_there = ap (λ (x : List (Option ℕ)). next_at x f.0) nexts_is ∙ link_next trace ls f.0 f.1 f.2 ∙ d.0 in
+      let after = held_by (λ m place. at < m) nexts keys h late f.0 s.moment next_there in
       let before = d.1 in
       absurd (omega arith))
 

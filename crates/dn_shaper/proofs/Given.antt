@@ -28,7 +28,7 @@ module _ (old new : State) (t : Table) (key : FlowKey) (one : IsOneMore key old.
       g : Given (length old.parts.flows.keys)
       g = given-at f e given
 
-      by : (o : Option ℕ) → place_for key old.shared ≡ o → Houses o key (length old.parts.flows.keys) g.home (views_of old.parts) (views_of new.parts) new.due old.shared new.shared → IsReady (length old.parts.flows.keys) new.parts
+      by : (o : Option ℕ) → place_for key old.shared ≡ o → Houses o key (length old.parts.flows.keys) g.home (views_of old.parts) (views_of new.parts) new.heap old.shared new.shared → IsReady (length old.parts.flows.keys) new.parts
       by (Some place) noted h = shared-ready old new t key one g a.as_many place noted h.0 h.1 sound.indexed a.as_many_homes
       by None noted h = opened-ready old new t key one g a.as_many noted h.0 h.1 sound.indexed a.as_many_homes
 
@@ -38,7 +38,7 @@ module _ (old new : State) (t : Table) (key : FlowKey) (one : IsOneMore key old.
       g : Given (length old.parts.flows.keys)
       g = given-at f e given
 
-      by : (o : Option ℕ) → place_for key old.shared ≡ o → Houses o key (length old.parts.flows.keys) g.home (views_of old.parts) (views_of new.parts) new.due old.shared new.shared → Prepares (length old.parts.flows.keys) old.parts new.parts
+      by : (o : Option ℕ) → place_for key old.shared ≡ o → Houses o key (length old.parts.flows.keys) g.home (views_of old.parts) (views_of new.parts) new.heap old.shared new.shared → Prepares (length old.parts.flows.keys) old.parts new.parts
       by (Some place) noted h = shared-prepares old new t key one g a.as_many place noted h.0 h.1 sound.indexed
       by None noted h = opened-prepares old new t key one g a.as_many noted h.0 h.1 sound.indexed
 
@@ -48,6 +48,6 @@ module _ (old new : State) (t : Table) (key : FlowKey) (one : IsOneMore key old.
       g : Given (length old.parts.flows.keys)
       g = given-at f e given
 
-      by : (o : Option ℕ) → place_for key old.shared ≡ o → Houses o key (length old.parts.flows.keys) g.home (views_of old.parts) (views_of new.parts) new.due old.shared new.shared → IsSound new
+      by : (o : Option ℕ) → place_for key old.shared ≡ o → Houses o key (length old.parts.flows.keys) g.home (views_of old.parts) (views_of new.parts) new.heap old.shared new.shared → IsSound new
       by (Some place) noted h = shared-sound old new t key one g a.as_many place noted h.0 h.1 sound.indexed trace a sound
       by None noted h = opened-sound old new t key one g a.as_many noted h.0 h.1 sound.indexed trace a sound

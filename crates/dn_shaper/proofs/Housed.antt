@@ -9,16 +9,16 @@ use Rattle.dn_flows.specs.Table.{FlowState, Table, new_flow, flow_at, with_place
 use Rattle.dn_flows.specs.declared.waiting.Waiting.{Waiting}
 use Rattle.dn_flows.proofs.Views.{flow_after_set}
 use Rattle.dn_wf2q.specs.Schedule.{room_at}
-use Rattle.dn_shaper.specs.declared.due.Due.{Due}
+use Rattle.dn_shaper.specs.declared.next_start.NextStart.{NextStart}
 use Rattle.dn_shaper.specs.declared.parts.Home.{Home}
 use Rattle.dn_shaper.specs.declared.state.State.{State}
 use Rattle.dn_shaper.specs.Agreement.{AgreesWith, IsAt, link_names}
-use Rattle.dn_shaper.specs.Due.{Holds, backlogged}
+use Rattle.dn_shaper.specs.NextStarts.{Holds, backlogged}
 use Rattle.dn_shaper.specs.Homing.{GivesHome}
 use Rattle.dn_shaper.specs.Making.{SameFlow}
 use Rattle.dn_shaper.specs.Standing.{IsIndexed, IsSound}
 use Rattle.dn_shaper.specs.Starting.{IsReady, Within}
-use Rattle.dn_shaper.specs.Views.{LinkView, views_of, dues, waits_in_all}
+use Rattle.dn_shaper.specs.Views.{LinkView, views_of, next_starts, waits_in_all}
 use Rattle.dn_shaper.proofs.Events.{length-set}
 use Rattle.dn_flows.proofs.Places.{eq-yes, get-last, length-more}
 use Rattle.dn_shaper.proofs.Preparing.{IsOneMore, flow-more, with_flows}
@@ -88,17 +88,17 @@ module _ (old new : State) (t : Table) (key : FlowKey) (one : IsOneMore key old.
       accepted = let a = w.accepted in let b = g.accepted in omega arith;
     }
 
-    pub sound-by : (agrees : (more : List Link) × (trace : List Event) × AgreesWith new.parts more trace) → ((n : ℕ) → Within n old.parts → Within n new.parts) → Holds (dues (views_of new.parts)) old.due.keys → backlogged (dues (views_of new.parts)) ≡ backlogged (dues (views_of old.parts)) → length (views_of new.parts) ≤ length old.due.keys + new.due.room → IsIndexed new (link_names (views_of new.parts)) → IsSound old → IsSound new
+    pub sound-by : (agrees : (more : List Link) × (trace : List Event) × AgreesWith new.parts more trace) → ((n : ℕ) → Within n old.parts → Within n new.parts) → Holds (next_starts (views_of new.parts)) old.heap.keys → backlogged (next_starts (views_of new.parts)) ≡ backlogged (next_starts (views_of old.parts)) → length (views_of new.parts) ≤ length old.heap.keys + new.heap.room → IsIndexed new (link_names (views_of new.parts)) → IsSound old → IsSound new
     sound-by agrees within held same_count places indexed s = record {
       kept = record {
         agrees = agrees;
         within = within (2 ^ 62) s.kept.within;
-        held = subst (λ (ks : List Due). Holds (dues (views_of new.parts)) ks) (sym g.due.keys) held;
-        counted = ap (λ (ks : List Due). length ks) g.due.keys ∙ s.kept.counted ∙ sym same_count;
-        places = let e = ap {B = ℕ} (λ (ks : List Due). length ks) g.due.keys in omega arith;
+        held = subst (λ (ks : List NextStart). Holds (next_starts (views_of new.parts)) ks) (sym g.heap.keys) held;
+        counted = ap (λ (ks : List NextStart). length ks) g.heap.keys ∙ s.kept.counted ∙ sym same_count;
+        places = let e = ap {B = ℕ} (λ (ks : List NextStart). length ks) g.heap.keys in omega arith;
       };
       within = subst (λ n. Within n new.parts) (sym g.keeps.calls) (within old.calls s.within);
-      moves = let a = s.moves in let b = g.due.moves in let c = g.waiting in let d = g.keeps.calls in omega arith;
+      moves = let a = s.moves in let b = g.heap.moves in let c = g.waiting in let d = g.keeps.calls in omega arith;
       early = let a = s.early in let b = g.keeps.now in omega arith;
       indexed = indexed;
     }

@@ -10,7 +10,6 @@ pub mod Counting
 pub mod Discarded
 pub mod Discarding
 pub mod Distinct
-pub mod Dues
 pub mod Emptied
 pub mod Events
 pub mod FirstStart
@@ -24,6 +23,7 @@ pub mod Made
 pub mod Needing
 pub mod NewHome
 pub mod Next
+pub mod NextStarts
 pub mod Noted
 pub mod Opened
 pub mod Ordered
@@ -32,8 +32,8 @@ pub mod Putting
 pub mod QueueCounts
 pub mod Quiet
 pub mod Reached
-pub mod Replying
 pub mod Recounting
+pub mod Replying
 pub mod Reserved
 pub mod Reserving
 pub mod Sending

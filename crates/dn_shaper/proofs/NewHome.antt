@@ -8,17 +8,17 @@ use Rattle.dn_types.specs.Trace.{Link, link_eq, Event, links, with_link}
 use Rattle.dn_types.specs.declared.flow_key.FlowKey.{FlowKey}
 use Rattle.dn_flows.specs.Table.{Table}
 use Rattle.dn_wf2q.specs.Schedule.{room_at}
-use Rattle.dn_shaper.specs.declared.due.Due.{Due}
+use Rattle.dn_shaper.specs.declared.next_start.NextStart.{NextStart}
 use Rattle.dn_shaper.specs.declared.state.State.{State}
 use Rattle.dn_shaper.specs.Agreement.{AgreesWith, link_names}
-use Rattle.dn_shaper.specs.Due.{Holds, due_at, backlogged, is_backlogged}
+use Rattle.dn_shaper.specs.NextStarts.{Holds, next_at, backlogged, one_backlogged}
 use Rattle.dn_shaper.specs.Homing.{GivesHome, Opens, NotesFor, place_for}
 use Rattle.dn_shaper.specs.Making.{HasRoom}
 use Rattle.dn_shaper.specs.Slots.{Ascends, top}
 use Rattle.dn_shaper.specs.Standing.{IsIndexed, IsSound}
 use Rattle.dn_shaper.specs.Starting.{IsReady, Within}
 use Rattle.dn_shaper.specs.Submitting.{IsMade}
-use Rattle.dn_shaper.specs.Views.{LinkView, views_of, home, home_by, dues, due_of, waits_in_all}
+use Rattle.dn_shaper.specs.Views.{LinkView, views_of, home, home_by, next_starts, next_start_of, waits_in_all}
 use Rattle.dn_shaper.proofs.Events.{append-none}
 use Rattle.dn_shaper.proofs.Indexed.{noted-more, unnoted-unknown}
 use Rattle.dn_shaper.proofs.Made.{linked-agrees}
@@ -28,20 +28,20 @@ use Rattle.dn_shaper.proofs.Housed.{keys-are, same-flows, many-flows, ready-by, 
 
 -- ---- The links with a backlog, and one more without
 
-due-more : (ds : List (Option ℕ)) (place : ℕ) → due_at (ds ++ None ∷ []) place ≡ due_at ds place
-due-more [] zero = refl
-due-more [] (suc place) = refl
-due-more (d ∷ ds) zero = refl
-due-more (d ∷ ds) (suc place) = due-more ds place
+next-more : (ds : List (Option ℕ)) (place : ℕ) → next_at (ds ++ None ∷ []) place ≡ next_at ds place
+next-more [] zero = refl
+next-more [] (suc place) = refl
+next-more (d ∷ ds) zero = refl
+next-more (d ∷ ds) (suc place) = next-more ds place
 
-holds-more : (ds : List (Option ℕ)) (keys : List Due) → Holds ds keys → Holds (ds ++ None ∷ []) keys
+holds-more : (ds : List (Option ℕ)) (keys : List NextStart) → Holds ds keys → Holds (ds ++ None ∷ []) keys
 holds-more ds keys h = record {
-  once = λ place. h.once place ∙ ap {B = ℕ} (λ (o : Option ℕ). cond (is_some o) 1 0) (sym (due-more ds place));
-  moments = λ i d lt. due-more ds (slice_index_or keys i d).place ∙ h.moments i d lt;
+  once = λ place. h.once place ∙ ap {B = ℕ} (λ (o : Option ℕ). cond (is_some o) 1 0) (sym (next-more ds place));
+  moments = λ i d lt. next-more ds (slice_index_or keys i d).place ∙ h.moments i d lt;
 }
 
-no-due : (v : LinkView) → v.waits ≡ 0 → due_of v ≡ None
-no-due v e = ap (λ n. cond (nat_lt 0 n) (Some v.value.free) None) e
+no-next : (v : LinkView) → v.waits ≡ 0 → next_start_of v ≡ None
+no-next v e = ap (λ n. cond (nat_lt 0 n) (Some v.value.free) None) e
 
 module _ (old new : State) (t : Table) (key : FlowKey) (one : IsOneMore key old.parts.flows t) (g : GivesHome key (length old.parts.flows.keys) (with_flows old t) new) (as_many : length old.parts.flows.flows ≡ length old.parts.flows.keys) where
   abbrev flow : ℕ
@@ -50,7 +50,7 @@ module _ (old new : State) (t : Table) (key : FlowKey) (one : IsOneMore key old.
   abbrev link : Link
   link = link_of key.target flow key.pipe
 
-  module _ (noted : place_for key old.shared ≡ None) (s : Opens link flow g.home (views_of old.parts) (views_of new.parts) new.due) (notes : NotesFor key.target key.pipe g.home.place old.shared new.shared) (index : IsIndexed old (link_names (views_of old.parts))) where
+  module _ (noted : place_for key old.shared ≡ None) (s : Opens link flow g.home (views_of old.parts) (views_of new.parts) new.heap) (notes : NotesFor key.target key.pipe g.home.place old.shared new.shared) (index : IsIndexed old (link_names (views_of old.parts))) where
     module _ (trace : List Event) (a : AgreesWith old.parts [] trace) where
       unknown : list_any (link_eq link) (link_names (views_of old.parts)) ≡ false
       unknown = unnoted-unknown old old.parts.links.items index key.target flow key.pipe (λ k v e. (a.views_are k v e).below) noted
@@ -108,11 +108,11 @@ module _ (old new : State) (t : Table) (key : FlowKey) (one : IsOneMore key old.
             let a = s.is_new.schedule.arrivals in
             omega arith
 
-    dues-more : dues (views_of new.parts) ≡ dues (views_of old.parts) ++ None ∷ []
-    dues-more = ap dues s.views_are ∙ map-append due_of (views_of old.parts) (s.view ∷ []) ∙ ap (λ (o : Option ℕ). dues (views_of old.parts) ++ o ∷ []) (no-due s.view s.is_new.waits)
+    nexts-more : next_starts (views_of new.parts) ≡ next_starts (views_of old.parts) ++ None ∷ []
+    nexts-more = ap next_starts s.views_are ∙ map-append next_start_of (views_of old.parts) (s.view ∷ []) ∙ ap (λ (o : Option ℕ). next_starts (views_of old.parts) ++ o ∷ []) (no-next s.view s.is_new.waits)
 
-    count-same : backlogged (dues (views_of new.parts)) ≡ backlogged (dues (views_of old.parts))
-    count-same = let m = sum-more is_backlogged (dues (views_of old.parts)) None in ap backlogged dues-more ∙ (omega arith)
+    count-same : backlogged (next_starts (views_of new.parts)) ≡ backlogged (next_starts (views_of old.parts))
+    count-same = let m = sum-more one_backlogged (next_starts (views_of old.parts)) None in ap backlogged nexts-more ∙ (omega arith)
 
     names-more : link_names (views_of new.parts) ≡ link_names (views_of old.parts) ++ link ∷ []
     names-more = ap link_names s.views_are ∙ map-append (λ (x : LinkView). x.link) (views_of old.parts) (s.view ∷ []) ∙ ap (λ (l : Link). link_names (views_of old.parts) ++ l ∷ []) s.is_new.link_is
@@ -120,6 +120,6 @@ module _ (old new : State) (t : Table) (key : FlowKey) (one : IsOneMore key old.
     pub opened-sound : (trace : List Event) → AgreesWith old.parts [] trace → IsSound old → IsSound new
     opened-sound trace a sound =
         sound-by old new t key one g as_many (link ∷ [], trace, opened-agrees trace a) (within-by old new t key one g as_many waits-more arrivals-more)
-        (subst (λ (ds : List (Option ℕ)). Holds ds old.due.keys) (sym dues-more) (holds-more (dues (views_of old.parts)) old.due.keys sound.kept.held)) count-same
+        (subst (λ (ds : List (Option ℕ)). Holds ds old.heap.keys) (sym nexts-more) (holds-more (next_starts (views_of old.parts)) old.heap.keys sound.kept.held)) count-same
         (let l = ap {B = ℕ} (λ (vs : List LinkView). length vs) s.views_are ∙ length-more (views_of old.parts) s.view in let r = s.room in omega arith)
         (subst (λ (ls : List Link). IsIndexed new ls) (sym names-more) (noted-more old new (link_names (views_of old.parts)) index key.target flow key.pipe g.home.place (s.place_is ∙ sym (length-map (views_of old.parts) (λ v. v.link))) noted notes)) sound

@@ -15,9 +15,9 @@ use Rattle.dn_flows.specs.Table.{FlowState, flow_at}
 use Rattle.dn_flows.specs.declared.waiting.Waiting.{Waiting}
 use Rattle.dn_wf2q.specs.Schedule.{heads_of}
 use Rattle.dn_shaper.specs.declared.parts.Home.{Home}
-use Rattle.dn_shaper.specs.Views.{LinkView, home, home_by, waiting_of, stamped_of, Sends, CanSend, due_of, dues}
+use Rattle.dn_shaper.specs.Views.{LinkView, home, home_by, waiting_of, stamped_of, Sends, CanSend, next_start_of, next_starts}
 use Rattle.dn_shaper.specs.Agreement.{IsAt, IsHomeOf, IsScheduleAt, link_names}
-use Rattle.dn_shaper.proofs.FirstStart.{due_moment}
+use Rattle.dn_shaper.proofs.FirstStart.{moment_of_next}
 use Rattle.dn_shaper.proofs.Heads.{none-agree, flow-picked, packet-picked, pick-flow, backlog-flow}
 use Rattle.dn_types.proofs.Picks.{pick-some, heads-none}
 use Rattle.dn_flows.proofs.Places.{get-map}
@@ -192,8 +192,8 @@ module _ (rule : Rule) (accepted : ℕ) (keys : List FlowKey) (homes : List Home
             let w = (a.views_are k v there).waits_are in
             absurd (omega arith)
 
-    due_is : due_of v ≡ due_moment trace v.link
-    due_is = by (cases_lt 0 v.waits)
+    nexts_is : next_start_of v ≡ moment_of_next trace v.link
+    nexts_is = by (cases_lt 0 v.waits)
       where
         sure : (n : ℕ) → 0 < n → nat_lt 0 n ≡ true
         sure n h = grind (arith, nat_tests)
@@ -201,7 +201,7 @@ module _ (rule : Rule) (accepted : ℕ) (keys : List FlowKey) (homes : List Home
         never : (n : ℕ) → n ≤ 0 → nat_lt 0 n ≡ false
         never n h = grind (arith, nat_tests)
 
-        by : (0 < v.waits) ⊎ (v.waits ≤ 0) → due_of v ≡ due_moment trace v.link
+        by : (0 < v.waits) ⊎ (v.waits ≤ 0) → next_start_of v ≡ moment_of_next trace v.link
         by (inl some) =
             let p = next_exists some in
             ap {B = Option ℕ} (λ b. cond b (Some v.value.free) None) (sure v.waits some) ∙ ap (λ m. Some m) (a.views_are k v there).free_is ∙ sym (ap (option_map (λ (p : Accepted). free v.link trace)) p.1)
@@ -220,10 +220,10 @@ module _ (rule : Rule) (accepted : ℕ) (keys : List FlowKey) (homes : List Home
           backlog-flow v.link flow trace p 0 e,
         )
 
-  dues_from : (vs : List LinkView) → ((k : ℕ) (v : LinkView) → slice_get vs k ≡ Some v → due_of v ≡ due_moment trace v.link) → map due_of vs ≡ map (due_moment trace) (map (λ v. v.link) vs)
-  dues_from [] h = refl
-  dues_from (v ∷ vs) h = λ i. h 0 v refl i ∷ dues_from vs (λ k w e. h (suc k) w e) i
+  nexts_from : (vs : List LinkView) → ((k : ℕ) (v : LinkView) → slice_get vs k ≡ Some v → next_start_of v ≡ moment_of_next trace v.link) → map next_start_of vs ≡ map (moment_of_next trace) (map (λ v. v.link) vs)
+  nexts_from [] h = refl
+  nexts_from (v ∷ vs) h = λ i. h 0 v refl i ∷ nexts_from vs (λ k w e. h (suc k) w e) i
 
-  -- The due moments are those of the trace.
-  pub dues-agree : dues views ≡ map (due_moment trace) (link_names views)
-  dues-agree = dues_from views (λ k v there. due_is k v there)
+  -- The next starts are those of the trace.
+  pub nexts-agree : next_starts views ≡ map (moment_of_next trace) (link_names views)
+  nexts-agree = nexts_from views (λ k v there. nexts_is k v there)

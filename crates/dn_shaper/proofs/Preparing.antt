@@ -11,18 +11,18 @@ use Rattle.dn_types.specs.Flows.{key_eq, flow_number, with_key}
 use Rattle.dn_types.specs.Trace.{Link, shared, link_eq, Event, links}
 use Rattle.dn_types.specs.declared.flow_key.FlowKey.{FlowKey}
 use Rattle.dn_flows.specs.Table.{FlowState, Table, new_flow, flow_at, is_known, flows_with}
-use Rattle.dn_shaper.specs.declared.due.Due.{Due}
+use Rattle.dn_shaper.specs.declared.next_start.NextStart.{NextStart}
 use Rattle.dn_shaper.specs.declared.parts.Parts.{Parts}
 use Rattle.dn_shaper.specs.declared.state.State.{State}
 use Rattle.dn_shaper.specs.Agreement.{AgreesWith, link_names}
-use Rattle.dn_shaper.specs.Due.{Holds}
-use Rattle.dn_shaper.specs.Homing.{KeepsDue, OnlyReserves, without_last}
+use Rattle.dn_shaper.specs.NextStarts.{Holds}
+use Rattle.dn_shaper.specs.Homing.{KeepsHeap, OnlyReserves, without_last}
 use Rattle.dn_shaper.specs.Making.{Prepares, Reserves, SameFlow}
 use Rattle.dn_shaper.specs.Settling.{IsKept}
 use Rattle.dn_shaper.specs.Standing.{IsSound}
 use Rattle.dn_shaper.specs.Starting.{Within}
 use Rattle.dn_shaper.specs.Submitting.{IsMade}
-use Rattle.dn_shaper.specs.Views.{LinkView, views_of, dues, home}
+use Rattle.dn_shaper.specs.Views.{LinkView, views_of, next_starts, home}
 use Rattle.dn_shaper.proofs.Events.{append-none}
 use Rattle.dn_flows.proofs.Places.{length-more}
 use Rattle.dn_shaper.proofs.Reserved.{reserved-names, reserves-agree, reserves-kept, reserves-within}
@@ -60,20 +60,20 @@ reserves-prepares old new flow r lt trace a =
 
 -- ---- Only room was made
 
-pub due-kept : (p : Parts) (due due' : Heap Due) → KeepsDue due due' → IsKept p due → IsKept p due'
-due-kept p due due' d k = record {
+pub heap-kept : (p : Parts) (heap heap' : Heap NextStart) → KeepsHeap heap heap' → IsKept p heap → IsKept p heap'
+heap-kept p heap heap' d k = record {
   agrees = k.agrees;
   within = k.within;
-  held = subst (λ (ks : List Due). Holds (dues (views_of p)) ks) (sym d.keys) k.held;
-  counted = ap (λ (ks : List Due). length ks) d.keys ∙ k.counted;
-  places = let a = k.places in let b = ap {B = ℕ} (λ (ks : List Due). length ks) d.keys in let c = d.room in omega arith;
+  held = subst (λ (ks : List NextStart). Holds (next_starts (views_of p)) ks) (sym d.keys) k.held;
+  counted = ap (λ (ks : List NextStart). length ks) d.keys ∙ k.counted;
+  places = let a = k.places in let b = ap {B = ℕ} (λ (ks : List NextStart). length ks) d.keys in let c = d.room in omega arith;
 }
 
 pub reserves-sound : (old new : State) → OnlyReserves old new → IsSound old → IsSound new
 reserves-sound old new o s = record {
-  kept = due-kept new.parts old.due new.due o.due (reserves-kept old.parts new.parts o.parts old.due s.kept);
+  kept = heap-kept new.parts old.heap new.heap o.heap (reserves-kept old.parts new.parts o.parts old.heap s.kept);
   within = subst (λ n. Within n new.parts) (sym o.keeps.calls) (reserves-within old.parts new.parts o.parts old.calls s.within);
-  moves = let a = s.moves in let b = o.due.moves in let c = o.parts.waiting in let d = o.keeps.calls in omega arith;
+  moves = let a = s.moves in let b = o.heap.moves in let c = o.parts.waiting in let d = o.keeps.calls in omega arith;
   early = let a = s.early in let b = o.keeps.now in omega arith;
   indexed =
       let names = reserved-names old.parts new.parts o.parts in
@@ -128,15 +128,15 @@ abbrev pub with_table : Parts → Table → Parts
 with_table p t = record { rule = p.rule; accepted = p.accepted; flows = t; homes = p.homes; links = p.links; waiting = p.waiting; line = p.line }
 
 abbrev pub with_flows : State → Table → State
-with_flows s t = record { parts = with_table s.parts t; due = s.due; shared = s.shared; configured = s.configured; now = s.now; calls = s.calls }
+with_flows s t = record { parts = with_table s.parts t; heap = s.heap; shared = s.shared; configured = s.configured; now = s.now; calls = s.calls }
 
 pub same-reserves : (old new : Parts) (t : Table) → t ≡ old.flows → Reserves (with_table old t) new → Reserves old new
 same-reserves old new t e r = subst (λ (x : Table). Reserves (with_table old x) new) e r
 
-pub only-parts : (old : State) (new : Parts) → Reserves old.parts new → OnlyReserves old (record { parts = new; due = old.due; shared = old.shared; configured = old.configured; now = old.now; calls = old.calls })
+pub only-parts : (old : State) (new : Parts) → Reserves old.parts new → OnlyReserves old (record { parts = new; heap = old.heap; shared = old.shared; configured = old.configured; now = old.now; calls = old.calls })
 only-parts old new r = record {
   parts = r;
-  due = record { keys = refl; moves = refl; room = omega arith };
+  heap = record { keys = refl; moves = refl; room = omega arith };
   shared = refl;
   keeps = record { rule = r.rule; configured = refl; now = refl; calls = refl };
 }
@@ -207,7 +207,7 @@ module _ (old mid : State) (o : OnlyReserves old mid) (t : Table) (keys : t.keys
       many = many-left;
       views = o.parts.views;
     };
-    due = o.due;
+    heap = o.heap;
     shared = o.shared;
     keeps = record { rule = o.keeps.rule; configured = o.keeps.configured; now = o.keeps.now; calls = o.keeps.calls };
   }
@@ -222,5 +222,5 @@ pub ok-of : {X E : Type 0} {A : Type 0} (r : Result X E) → is_err r ≡ false 
 ok-of (Ok x) e a = a
 ok-of (Err x) e a = absurd cc
 
-pub parts-sound : (old : State) (new : Parts) → Reserves old.parts new → IsSound old → IsSound (record { parts = new; due = old.due; shared = old.shared; configured = old.configured; now = old.now; calls = old.calls })
-parts-sound old new r s = reserves-sound old (record { parts = new; due = old.due; shared = old.shared; configured = old.configured; now = old.now; calls = old.calls }) (only-parts old new r) s
+pub parts-sound : (old : State) (new : Parts) → Reserves old.parts new → IsSound old → IsSound (record { parts = new; heap = old.heap; shared = old.shared; configured = old.configured; now = old.now; calls = old.calls })
+parts-sound old new r s = reserves-sound old (record { parts = new; heap = old.heap; shared = old.shared; configured = old.configured; now = old.now; calls = old.calls }) (only-parts old new r) s

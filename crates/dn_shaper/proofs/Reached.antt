@@ -7,16 +7,16 @@ use Rattle.dn_types.specs.Calls.{reaches, discard_reached}
 use Rattle.dn_types.specs.Trace.{Link, Event, discarded}
 use Rattle.dn_types.specs.declared.command.Command.{Command}
 use Rattle.dn_types.specs.declared.flow_key.FlowKey.{FlowKey}
-use Rattle.dn_shaper.specs.declared.due.Due.{Due}
+use Rattle.dn_shaper.specs.declared.next_start.NextStart.{NextStart}
 use Rattle.dn_shaper.specs.declared.parts.Parts.{Parts}
 use Rattle.dn_shaper.specs.Agreement.{Agrees, AgreesWith}
 use Rattle.dn_shaper.specs.Arriving.{KeepsFlows}
 use Rattle.dn_shaper.specs.Configuring.{DiscardsReached}
 use Rattle.dn_shaper.specs.Discarding.{Discards, OnlyEmpties}
-use Rattle.dn_shaper.specs.Due.{is_due}
+use Rattle.dn_shaper.specs.NextStarts.{is_backlogged}
 use Rattle.dn_shaper.specs.Settling.{IsKept}
 use Rattle.dn_shaper.specs.Starting.{Within}
-use Rattle.dn_shaper.specs.Views.{LinkView, dues, views_of}
+use Rattle.dn_shaper.specs.Views.{LinkView, next_starts, views_of}
 use Rattle.dn_shaper.proofs.Emptied.{holds-kept, counted-held}
 
 -- The flows below this one are done, and the rest would end at the same trace.
@@ -81,14 +81,14 @@ pub empties-more : (old mid new : Parts) → OnlyEmpties old mid → OnlyEmpties
 empties-more old mid new a b place moment e = a place moment (b place moment e)
 
 -- The emptied links left the heap together.
-pub emptied-kept : (command : Command) (old new : Parts) (due due' : Heap Due) → IsKept old due → DiscardsReached command old new → ((n : ℕ) → Within n old → Within n new) → KeepsFlows old new → OnlyEmpties old new → IsPermutation (filter (is_due (dues (views_of new))) due.keys) due'.keys → length due'.keys + due'.room ≡ length due.keys + due.room → IsKept new due'
-emptied-kept command old new due due' kept discards within keeps empties perm room =
-    let held = holds-kept (dues (views_of old)) (dues (views_of new)) due.keys due'.keys kept.held empties perm in
+pub emptied-kept : (command : Command) (old new : Parts) (heap heap' : Heap NextStart) → IsKept old heap → DiscardsReached command old new → ((n : ℕ) → Within n old → Within n new) → KeepsFlows old new → OnlyEmpties old new → IsPermutation (filter (is_backlogged (next_starts (views_of new))) heap.keys) heap'.keys → length heap'.keys + heap'.room ≡ length heap.keys + heap.room → IsKept new heap'
+emptied-kept command old new heap heap' kept discards within keeps empties perm room =
+    let held = holds-kept (next_starts (views_of old)) (next_starts (views_of new)) heap.keys heap'.keys kept.held empties perm in
     record {
       agrees = agrees-reached command old new kept.agrees discards;
       within = within (2 ^ 62) kept.within;
       held = held;
-      counted = counted-held due'.keys (dues (views_of new)) held;
+      counted = counted-held heap'.keys (next_starts (views_of new)) held;
       places =
           let many = sym (length-map (views_of new) (λ (v : LinkView). v.link)) ∙ ap (λ (ls : List Link). length ls) keeps.names ∙ length-map (views_of old) (λ (v : LinkView). v.link) in
           let p = kept.places in

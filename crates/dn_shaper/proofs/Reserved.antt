@@ -14,16 +14,16 @@ use Rattle.dn_types.specs.declared.flow_key.FlowKey.{FlowKey}
 use Rattle.dn_types.specs.declared.rule.Rule.{Rule}
 use Rattle.dn_flows.specs.declared.waiting.Waiting.{Waiting}
 use Rattle.dn_wf2q.specs.Schedule.{Flow}
-use Rattle.dn_shaper.specs.declared.due.Due.{Due}
+use Rattle.dn_shaper.specs.declared.next_start.NextStart.{NextStart}
 use Rattle.dn_shaper.specs.declared.parts.Home.{Home}
 use Rattle.dn_shaper.specs.declared.parts.Parts.{Parts}
 use Rattle.dn_shaper.specs.Agreement.{AgreesWith, AreDistinct, IsAt, IsHomeOf, IsLinkAt, link_names}
-use Rattle.dn_shaper.specs.Due.{Holds, backlogged}
+use Rattle.dn_shaper.specs.NextStarts.{Holds, backlogged}
 use Rattle.dn_shaper.specs.Making.{KeepsLink, KeepsAt, Reserves}
 use Rattle.dn_shaper.specs.Settling.{IsKept}
 use Rattle.dn_shaper.specs.Slots.{Ascends, top}
 use Rattle.dn_shaper.specs.Starting.{Within}
-use Rattle.dn_shaper.specs.Views.{LinkView, views_of, home, dues, due_of, waits_in_all}
+use Rattle.dn_shaper.specs.Views.{LinkView, views_of, home, next_starts, next_start_of, waits_in_all}
 
 -- ---- Lists of links that are the same but for room
 
@@ -64,8 +64,8 @@ module _ (old new : Parts) (r : Reserves old new) where
           let b = sum_by-cons (λ (x : LinkView). x.waits) w ws in
           omega arith
 
-  reserved-dues : dues (views_of new) ≡ dues (views_of old)
-  reserved-dues = same-map due_of (λ v w k. (λ i. cond (nat_lt 0 (k.waits i)) (Some (k.value i).free) None)) (views_of old) (views_of new) r.views
+  reserved-nexts : next_starts (views_of new) ≡ next_starts (views_of old)
+  reserved-nexts = same-map next_start_of (λ v w k. (λ i. cond (nat_lt 0 (k.waits i)) (Some (k.value i).free) None)) (views_of old) (views_of new) r.views
 
   reserved-link : (rule : Rule) (flows : ℕ) (trace : List Event) (v w : LinkView) → KeepsLink v w → IsLinkAt rule flows trace v → IsLinkAt rule flows trace w
   reserved-link rule flows trace v w k b = record {
@@ -145,12 +145,12 @@ module _ (old new : Parts) (r : Reserves old new) where
     accepted = let a = w.accepted in let b = r.accepted in omega arith;
   }
 
-  pub reserves-kept : (due : Heap Due) → IsKept old due → IsKept new due
-  reserves-kept due k = record {
+  pub reserves-kept : (heap : Heap NextStart) → IsKept old heap → IsKept new heap
+  reserves-kept heap k = record {
     agrees = let a = k.agrees in (a.0, a.1, reserves-agree a.0 a.1 a.2);
     within = reserves-within (2 ^ 62) k.within;
-    held = subst (λ (d : List (Option ℕ)). Holds d due.keys) (sym reserved-dues) k.held;
-    counted = k.counted ∙ ap backlogged (sym reserved-dues);
+    held = subst (λ (d : List (Option ℕ)). Holds d heap.keys) (sym reserved-nexts) k.held;
+    counted = k.counted ∙ ap backlogged (sym reserved-nexts);
     places = let a = k.places in let b = lengths in omega arith;
   }
     where

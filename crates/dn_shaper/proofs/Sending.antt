@@ -18,7 +18,7 @@ use Rattle.dn_types.specs.declared.target.Target.{Target}
 use Rattle.dn_types.specs.declared.target.Target.TheVariants.{Pipe as ToPipe, Queue as ToQueue}
 use Rattle.dn_types.proofs.Settled.{and-left, true_or_false}
 use Rattle.dn_types.proofs.Settling.{and-right}
-use Rattle.dn_shaper.specs.declared.due.Due.{Due}
+use Rattle.dn_shaper.specs.declared.next_start.NextStart.{NextStart}
 use Rattle.dn_shaper.specs.declared.parts.Parts.{Parts}
 use Rattle.dn_shaper.specs.declared.state.State.{State}
 use Rattle.dn_shaper.specs.Agreement.{AgreesWith, link_names}
@@ -160,8 +160,8 @@ still-stands old new stays reserves rule calls s = record {
   agrees = reserves-agree old.parts new.parts reserves [] (trace_of calls) s.agrees;
 }
 
-module _ (s : State) (parts : Parts) (due : Heap Due) (at : ℕ) (early : at ≤ 2 ^ 62) (sound : IsSound s) (kept : IsKept parts due) (names : link_names (views_of parts) ≡ link_names (views_of s.parts)) where
-  pub sound-then : Within (s.calls + 1) parts → due.moves + parts.waiting ≤ s.due.moves + s.parts.waiting + 2 → IsSound (counted_at at (record { parts = parts; due = due; shared = s.shared; configured = s.configured; now = s.now; calls = s.calls }))
+module _ (s : State) (parts : Parts) (heap : Heap NextStart) (at : ℕ) (early : at ≤ 2 ^ 62) (sound : IsSound s) (kept : IsKept parts heap) (names : link_names (views_of parts) ≡ link_names (views_of s.parts)) where
+  pub sound-then : Within (s.calls + 1) parts → heap.moves + parts.waiting ≤ s.heap.moves + s.parts.waiting + 2 → IsSound (counted_at at (record { parts = parts; heap = heap; shared = s.shared; configured = s.configured; now = s.now; calls = s.calls }))
   sound-then within moves = record {
     kept = kept;
     within = within;
@@ -174,5 +174,5 @@ module _ (s : State) (parts : Parts) (due : Heap Due) (at : ℕ) (early : at ≤
   }
 
   -- Starts count no packet.
-  pub sound-settled : ((n : ℕ) → Within n s.parts → Within n parts) → due.moves + parts.waiting ≤ s.due.moves + s.parts.waiting → IsSound (counted_at at (record { parts = parts; due = due; shared = s.shared; configured = s.configured; now = s.now; calls = s.calls }))
+  pub sound-settled : ((n : ℕ) → Within n s.parts → Within n parts) → heap.moves + parts.waiting ≤ s.heap.moves + s.parts.waiting → IsSound (counted_at at (record { parts = parts; heap = heap; shared = s.shared; configured = s.configured; now = s.now; calls = s.calls }))
   sound-settled within moves = sound-then (within-more s.calls (s.calls + 1) parts (omega arith) (within s.calls sound.within)) (omega (arith, moves))

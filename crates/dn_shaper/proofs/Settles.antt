@@ -12,31 +12,31 @@ use Rattle.dn_types.specs.SharedLinks.{next_packet}
 use Rattle.dn_types.specs.Starts.{next_start, first_start, start_at, settle, waiting_all, settled}
 use Rattle.dn_types.specs.Trace.{Link, link_eq, pipe_of, Accepted, Event, started, Start, links}
 use Rattle.dn_types.specs.declared.delivery.Delivery.{Delivery}
-use Rattle.dn_shaper.specs.declared.due.Due.{Due}
+use Rattle.dn_shaper.specs.declared.next_start.NextStart.{NextStart}
 use Rattle.dn_shaper.specs.declared.parts.Carries.{Carries}
 use Rattle.dn_shaper.specs.declared.parts.Carries.TheVariants.{Own, Shared}
 use Rattle.dn_shaper.specs.declared.parts.Parts.{Parts}
-use Rattle.dn_shaper.specs.Views.{LinkView, views_of, dues, due_of, carried_link}
+use Rattle.dn_shaper.specs.Views.{LinkView, views_of, next_starts, next_start_of, carried_link}
 use Rattle.dn_shaper.specs.Agreement.{GivesRates, AgreesWith, Agrees, AreDistinct, link_names}
-use Rattle.dn_shaper.specs.Due.{due_cmp, due_at, Holds, is_backlogged, backlogged}
+use Rattle.dn_shaper.specs.NextStarts.{next_start_cmp, next_at, Holds, one_backlogged, backlogged}
 use Rattle.dn_shaper.specs.Starting.{CanStart, StartsAt}
 use Rattle.dn_shaper.specs.Settling.{IsKept, OnlyStarts, StartsFirst, HasNoStart, SettlesAll}
-use Rattle.dn_shaper.proofs.Dues.{popped_due, holds_none, holds_some}
-use Rattle.dn_shaper.proofs.FirstStart.{due_moment, first_popped, none_due, first_start-more, settle-none, settle-some}
+use Rattle.dn_shaper.proofs.NextStarts.{popped_next, holds_none, holds_some}
+use Rattle.dn_shaper.proofs.FirstStart.{moment_of_next, first_popped, none_next, first_start-more, settle-none, settle-some}
 use Rattle.dn_shaper.proofs.Events.{length-set}
-use Rattle.dn_shaper.proofs.Next.{dues-agree}
+use Rattle.dn_shaper.proofs.Next.{nexts-agree}
 use Rattle.dn_flows.proofs.Places.{map-set-same, get-map, sum-set}
 use Rattle.dn_types.proofs.Settled.{none-unknown, waiting_all-first}
-use Rattle.dn_shaper.proofs.Starting.{starts-agree, starts-within, starts-ready, starts-dues, length-in_order}
+use Rattle.dn_shaper.proofs.Starting.{starts-agree, starts-within, starts-ready, starts-nexts, length-in_order}
 
 pub pipe-carried : (pipe : ℕ) (c : Carries) → pipe_of (carried_link pipe c) ≡ pipe
 pipe-carried pipe (Own flow) = refl
 pipe-carried pipe (Shared s) = refl
 
--- A due moment is that of a link with a backlog.
-due-view : (views : List LinkView) (i m : ℕ) → due_at (dues views) i ≡ Some m → (v : LinkView) × (slice_get views i ≡ Some v) × (0 < v.waits) × (v.value.free ≡ m)
-due-view [] i m e = absurd cc
-due-view (v ∷ views) zero m e = by (cases_lt 0 v.waits) e
+-- A next start is that of a link with a backlog.
+next-view : (views : List LinkView) (i m : ℕ) → next_at (next_starts views) i ≡ Some m → (v : LinkView) × (slice_get views i ≡ Some v) × (0 < v.waits) × (v.value.free ≡ m)
+next-view [] i m e = absurd cc
+next-view (v ∷ views) zero m e = by (cases_lt 0 v.waits) e
   where
     never : (n : ℕ) → n ≤ 0 → nat_lt 0 n ≡ false
     never n h = grind (arith, nat_tests)
@@ -44,14 +44,14 @@ due-view (v ∷ views) zero m e = by (cases_lt 0 v.waits) e
     sure : (n : ℕ) → 0 < n → nat_lt 0 n ≡ true
     sure n h = grind (arith, nat_tests)
 
-    by : (0 < v.waits) ⊎ (v.waits ≤ 0) → due_of v ≡ Some m → (w : LinkView) × (slice_get (v ∷ views) 0 ≡ Some w) × (0 < w.waits) × (w.value.free ≡ m)
+    by : (0 < v.waits) ⊎ (v.waits ≤ 0) → next_start_of v ≡ Some m → (w : LinkView) × (slice_get (v ∷ views) 0 ≡ Some w) × (0 < w.waits) × (w.value.free ≡ m)
     by (inl some) h = let is = sym (ap {B = Option ℕ} (λ b. cond b (Some v.value.free) None) (sure v.waits some)) ∙ h in (v, refl, some, cc)
     by (inr none) h = let is = sym (ap {B = Option ℕ} (λ b. cond b (Some v.value.free) None) (never v.waits none)) ∙ h in absurd cc
-due-view (v ∷ views) (suc i) m e = due-view views i m e
+next-view (v ∷ views) (suc i) m e = next-view views i m e
 
-pub can-start : (p : Parts) (due : Heap Due) → IsKept p due → (k : Due) (rest : List Due) → IsPermutation due.keys (k ∷ rest) → CanStart p k.place k.moment
-can-start p due kept k rest perm =
-    let v = due-view (views_of p) k.place k.moment (popped_due (dues (views_of p)) due.keys rest k kept.held perm) in
+pub can-start : (p : Parts) (heap : Heap NextStart) → IsKept p heap → (k : NextStart) (rest : List NextStart) → IsPermutation heap.keys (k ∷ rest) → CanStart p k.place k.moment
+can-start p heap kept k rest perm =
+    let v = next-view (views_of p) k.place k.moment (popped_next (next_starts (views_of p)) heap.keys rest k kept.held perm) in
     record { view = v.0; there = v.1; some = v.2; soon = let e = v.3 in omega arith }
 
 -- ---- Links that no packet was seen on
@@ -81,36 +81,36 @@ unseen ls more d i l e = none-any l ls (λ j m f.
     let lt = s.1 in
     d r.0 j l m r.1 s.0 (λ same. absurd (omega arith)))
 
-module _ (settings : Settings) (at : ℕ) (p : Parts) (due : Heap Due) (kept : IsKept p due) (more : List Link) (trace : List Event) (a : AgreesWith p more trace) where
+module _ (settings : Settings) (at : ℕ) (p : Parts) (heap : Heap NextStart) (kept : IsKept p heap) (more : List Link) (trace : List Event) (a : AgreesWith p more trace) where
   same_first : first_start settings at (link_names (views_of p)) trace ≡ first_start settings at (links trace) trace
   same_first =
       ap (λ (ls : List Link). first_start settings at ls trace) a.links_are
       ∙ first_start-more settings at trace (links trace) more (λ i l e. none-unknown settings at l trace (unseen (links trace) more (subst AreDistinct a.links_are a.distinct) i l e))
 
-  due_are : dues (views_of p) ≡ map (due_moment trace) (link_names (views_of p))
-  due_are = dues-agree p.rule p.accepted p.flows.keys p.homes.items (views_of p) p.flows.flows p.line.pending more trace a
+  nexts_are : next_starts (views_of p) ≡ map (moment_of_next trace) (link_names (views_of p))
+  nexts_are = nexts-agree p.rule p.accepted p.flows.keys p.homes.items (views_of p) p.flows.flows p.line.pending more trace a
 
-  pub no-first : All (λ k. at < k.moment) due.keys → first_start settings at (links trace) trace ≡ None
-  no-first late = sym same_first ∙ none_due settings at trace (link_names (views_of p)) (dues (views_of p)) due_are due.keys kept.held late
+  pub no-first : All (λ k. at < k.moment) heap.keys → first_start settings at (links trace) trace ≡ None
+  no-first late = sym same_first ∙ none_next settings at trace (link_names (views_of p)) (next_starts (views_of p)) nexts_are heap.keys kept.held late
 
-  pub first-is : (k : Due) (v : LinkView) (s : Start) → IsLeast due_cmp k due.keys → slice_get (views_of p) k.place ≡ Some v → next_start settings at v.link trace ≡ Some s → s.moment ≡ k.moment → first_start settings at (links trace) trace ≡ Some s
+  pub first-is : (k : NextStart) (v : LinkView) (s : Start) → IsLeast next_start_cmp k heap.keys → slice_get (views_of p) k.place ≡ Some v → next_start settings at v.link trace ≡ Some s → s.moment ≡ k.moment → first_start settings at (links trace) trace ≡ Some s
   first-is k v s least there next moment_is =
       sym same_first
-      ∙ first_popped settings at trace (link_names (views_of p)) (dues (views_of p)) due_are due.keys kept.held k v.link s least (get-map (λ (x : LinkView). x.link) (views_of p) k.place v there) next moment_is
+      ∙ first_popped settings at trace (link_names (views_of p)) (next_starts (views_of p)) nexts_are heap.keys kept.held k v.link s least (get-map (λ (x : LinkView). x.link) (views_of p) k.place v there) next moment_is
 
-pub none-starts : (settings : Settings) (at : ℕ) (p : Parts) (due : Heap Due) → IsKept p due → All (λ k. at < k.moment) due.keys → HasNoStart settings at p
-none-starts settings at p due kept late more trace a = no-first settings at p due kept more trace a late
+pub none-starts : (settings : Settings) (at : ℕ) (p : Parts) (heap : Heap NextStart) → IsKept p heap → All (λ k. at < k.moment) heap.keys → HasNoStart settings at p
+none-starts settings at p heap kept late more trace a = no-first settings at p heap kept more trace a late
 
-module _ (settings : Settings) (at : ℕ) (old : Parts) (due : Heap Due) (kept : IsKept old due) (k : Due) (rest : List Due) (perm : IsPermutation due.keys (k ∷ rest)) (bandwidth delay : ℕ) (new : Parts) (s : StartsAt k.place k.moment bandwidth delay old new) (rates : GivesRates settings (pipe_of s.view.link) bandwidth delay) where
+module _ (settings : Settings) (at : ℕ) (old : Parts) (heap : Heap NextStart) (kept : IsKept old heap) (k : NextStart) (rest : List NextStart) (perm : IsPermutation heap.keys (k ∷ rest)) (bandwidth delay : ℕ) (new : Parts) (s : StartsAt k.place k.moment bandwidth delay old new) (rates : GivesRates settings (pipe_of s.view.link) bandwidth delay) where
   -- The link that starts is the popped one, which is free at the key's moment.
   free-then : s.view.value.free ≡ k.moment
   free-then =
-      let v = due-view (views_of old) k.place k.moment (popped_due (dues (views_of old)) due.keys rest k kept.held perm) in
+      let v = next-view (views_of old) k.place k.moment (popped_next (next_starts (views_of old)) heap.keys rest k kept.held perm) in
       let both : Some s.view ≡ Some v.0 = sym s.there ∙ v.1 in
       let same : s.view ≡ v.0 = cc in
       ap (λ (x : LinkView). x.value.free) same ∙ v.3
 
-  pub first-starts : IsLeast due_cmp k due.keys → k.moment ≤ at → StartsFirst settings at old new
+  pub first-starts : IsLeast next_start_cmp k heap.keys → k.moment ≤ at → StartsFirst settings at old new
   first-starts least soon more trace a =
       let r = starts-agree k.place k.moment bandwidth delay old new s settings more trace rates a in
       let free_is : free s.view.link trace ≡ k.moment = sym (a.views_are k.place s.view s.there).free_is ∙ free-then in
@@ -119,7 +119,7 @@ module _ (settings : Settings) (at : ℕ) (old : Parts) (due : Heap Due) (kept :
       ap (λ b. cond b (option_map (λ (x : Accepted). start_at settings s.view.link x (free s.view.link trace)) (next_packet s.view.link trace)) None) (le-leb (free s.view.link trace) at in_time)
       ∙ ap (option_map (λ (x : Accepted). start_at settings s.view.link x (free s.view.link trace))) r.1
       ∙ ap (λ m. Some (start_at settings s.view.link r.0 m)) free_is in
-      (start_at settings s.view.link r.0 k.moment, first-is settings at old due kept more trace a k s.view (start_at settings s.view.link r.0 k.moment) least s.there next refl, r.2)
+      (start_at settings s.view.link r.0 k.moment, first-is settings at old heap kept more trace a k s.view (start_at settings s.view.link r.0 k.moment) least s.there next refl, r.2)
 
   pub agrees-new : Agrees new
   agrees-new = let a = kept.agrees in let r = starts-agree k.place k.moment bandwidth delay old new s settings a.0 a.1 rates a.2 in (a.0, started (start_at settings s.view.link r.0 k.moment) ∷ a.1, r.2)
@@ -128,32 +128,32 @@ module _ (settings : Settings) (at : ℕ) (old : Parts) (due : Heap Due) (kept :
   same_length = ap (λ (vs : List LinkView). length vs) s.views_are ∙ length-set (views_of old) k.place s.view'
 
   -- The count of links with a backlog, by whether the link still has one.
-  one-due : (o : Option ℕ) → due_of s.view' ≡ o → backlogged (dues (views_of new)) + 1 ≡ backlogged (dues (views_of old)) + is_backlogged o
-  one-due o e =
-      let was : slice_get (dues (views_of old)) k.place ≡ Some (Some k.moment) = listed_due (dues (views_of old)) k.place (popped_due (dues (views_of old)) due.keys rest k kept.held perm) in
-      let sum = sum-set is_backlogged (dues (views_of old)) k.place (Some k.moment) o was in
-      let now = ap (λ (d : List (Option ℕ)). backlogged d) (starts-dues k.place k.moment bandwidth delay old new s ∙ ap (λ (x : Option ℕ). set (dues (views_of old)) k.place x) e) in
+  one-next : (o : Option ℕ) → next_start_of s.view' ≡ o → backlogged (next_starts (views_of new)) + 1 ≡ backlogged (next_starts (views_of old)) + one_backlogged o
+  one-next o e =
+      let was : slice_get (next_starts (views_of old)) k.place ≡ Some (Some k.moment) = listed_next (next_starts (views_of old)) k.place (popped_next (next_starts (views_of old)) heap.keys rest k kept.held perm) in
+      let sum = sum-set one_backlogged (next_starts (views_of old)) k.place (Some k.moment) o was in
+      let now = ap (λ (d : List (Option ℕ)). backlogged d) (starts-nexts k.place k.moment bandwidth delay old new s ∙ ap (λ (x : Option ℕ). set (next_starts (views_of old)) k.place x) e) in
       omega arith
     where
-      listed_due : (d : List (Option ℕ)) (i : ℕ) → due_at d i ≡ Some k.moment → slice_get d i ≡ Some (Some k.moment)
-      listed_due [] i h = absurd cc
-      listed_due (x ∷ d) zero h = ap (λ y. Some y) h
-      listed_due (x ∷ d) (suc i) h = listed_due d i h
+      listed_next : (d : List (Option ℕ)) (i : ℕ) → next_at d i ≡ Some k.moment → slice_get d i ≡ Some (Some k.moment)
+      listed_next [] i h = absurd cc
+      listed_next (x ∷ d) zero h = ap (λ y. Some y) h
+      listed_next (x ∷ d) (suc i) h = listed_next d i h
 
-  pub kept-some : 0 < s.view'.waits → (due' : Heap Due) → IsPermutation (record { moment = s.view'.value.free; place = k.place } ∷ rest) due'.keys → due'.room ≡ due.room → IsKept new due'
-  kept-some some due' pushed room = record {
+  pub kept-some : 0 < s.view'.waits → (heap' : Heap NextStart) → IsPermutation (record { moment = s.view'.value.free; place = k.place } ∷ rest) heap'.keys → heap'.room ≡ heap.room → IsKept new heap'
+  kept-some some heap' pushed room = record {
     agrees = agrees-new;
     within = starts-within k.place k.moment bandwidth delay old new s (2 ^ 62) kept.within;
-    held = subst (λ (d : List (Option ℕ)). Holds d due'.keys) (sym (starts-dues k.place k.moment bandwidth delay old new s ∙ ap (λ (o : Option ℕ). set (dues (views_of old)) k.place o) due_some)) (holds_some (dues (views_of old)) due.keys rest k kept.held perm s.view'.value.free due'.keys pushed);
+    held = subst (λ (d : List (Option ℕ)). Holds d heap'.keys) (sym (starts-nexts k.place k.moment bandwidth delay old new s ∙ ap (λ (o : Option ℕ). set (next_starts (views_of old)) k.place o) next_some)) (holds_some (next_starts (views_of old)) heap.keys rest k kept.held perm s.view'.value.free heap'.keys pushed);
     counted =
-        let a = length_permutation due.keys (k ∷ rest) perm in
-        let b = length_permutation (record { moment = s.view'.value.free; place = k.place } ∷ rest) due'.keys pushed in
+        let a = length_permutation heap.keys (k ∷ rest) perm in
+        let b = length_permutation (record { moment = s.view'.value.free; place = k.place } ∷ rest) heap'.keys pushed in
         let c = kept.counted in
-        let d = one-due (Some s.view'.value.free) due_some in
+        let d = one-next (Some s.view'.value.free) next_some in
         omega arith;
     places =
-        let a = length_permutation due.keys (k ∷ rest) perm in
-        let b = length_permutation (record { moment = s.view'.value.free; place = k.place } ∷ rest) due'.keys pushed in
+        let a = length_permutation heap.keys (k ∷ rest) perm in
+        let b = length_permutation (record { moment = s.view'.value.free; place = k.place } ∷ rest) heap'.keys pushed in
         let c = kept.places in
         let d = same_length in
         omega arith;
@@ -162,23 +162,23 @@ module _ (settings : Settings) (at : ℕ) (old : Parts) (due : Heap Due) (kept :
       sure : (n : ℕ) → 0 < n → nat_lt 0 n ≡ true
       sure n h = grind (arith, nat_tests)
 
-      due_some : due_of s.view' ≡ Some s.view'.value.free
-      due_some = ap {B = Option ℕ} (λ b. cond b (Some s.view'.value.free) None) (sure s.view'.waits some)
+      next_some : next_start_of s.view' ≡ Some s.view'.value.free
+      next_some = ap {B = Option ℕ} (λ b. cond b (Some s.view'.value.free) None) (sure s.view'.waits some)
 
-  pub kept-none : s.view'.waits ≤ 0 → (due' : Heap Due) → due'.keys ≡ rest → due'.room ≡ due.room + 1 → IsKept new due'
-  kept-none none due' keys room = record {
+  pub kept-none : s.view'.waits ≤ 0 → (heap' : Heap NextStart) → heap'.keys ≡ rest → heap'.room ≡ heap.room + 1 → IsKept new heap'
+  kept-none none heap' keys room = record {
     agrees = agrees-new;
     within = starts-within k.place k.moment bandwidth delay old new s (2 ^ 62) kept.within;
-    held = subst (λ (x : List (Option ℕ) × List Due). Holds x.0 x.1) (λ i. (sym (starts-dues k.place k.moment bandwidth delay old new s ∙ ap (λ (o : Option ℕ). set (dues (views_of old)) k.place o) due_none) i, sym keys i)) (holds_none (dues (views_of old)) due.keys rest k kept.held perm);
+    held = subst (λ (x : List (Option ℕ) × List NextStart). Holds x.0 x.1) (λ i. (sym (starts-nexts k.place k.moment bandwidth delay old new s ∙ ap (λ (o : Option ℕ). set (next_starts (views_of old)) k.place o) next_none) i, sym keys i)) (holds_none (next_starts (views_of old)) heap.keys rest k kept.held perm);
     counted =
-        let a = length_permutation due.keys (k ∷ rest) perm in
-        let b = ap (λ (ks : List Due). length ks) keys in
+        let a = length_permutation heap.keys (k ∷ rest) perm in
+        let b = ap (λ (ks : List NextStart). length ks) keys in
         let c = kept.counted in
-        let d = one-due None due_none in
+        let d = one-next None next_none in
         omega arith;
     places =
-        let a = length_permutation due.keys (k ∷ rest) perm in
-        let b = ap (λ (ks : List Due). length ks) keys in
+        let a = length_permutation heap.keys (k ∷ rest) perm in
+        let b = ap (λ (ks : List NextStart). length ks) keys in
         let c = kept.places in
         let d = same_length in
         omega arith;
@@ -187,11 +187,11 @@ module _ (settings : Settings) (at : ℕ) (old : Parts) (due : Heap Due) (kept :
       never : (n : ℕ) → n ≤ 0 → nat_lt 0 n ≡ false
       never n h = grind (arith, nat_tests)
 
-      due_none : due_of s.view' ≡ None
-      due_none = ap {B = Option ℕ} (λ b. cond b (Some s.view'.value.free) None) (never s.view'.waits none)
+      next_none : next_start_of s.view' ≡ None
+      next_none = ap {B = Option ℕ} (λ b. cond b (Some s.view'.value.free) None) (never s.view'.waits none)
 
-  pub only-starts : (due' : Heap Due) → due'.moves + new.waiting ≤ due.moves + old.waiting → length due'.keys + due'.room ≡ length due.keys + due.room → OnlyStarts old due new due'
-  only-starts due' moves places = record {
+  pub only-starts : (heap' : Heap NextStart) → heap'.moves + new.waiting ≤ heap.moves + old.waiting → length heap'.keys + heap'.room ≡ length heap.keys + heap.room → OnlyStarts old heap new heap'
+  only-starts heap' moves places = record {
     rule = s.rule;
     accepted = s.accepted;
     keys = s.keys;
@@ -210,10 +210,10 @@ module _ (settings : Settings) (at : ℕ) (old : Parts) (due : Heap Due) (kept :
 
 -- ---- The loop
 
-pub only-none : (p : Parts) (due : Heap Due) → OnlyStarts p due p due
-only-none p due = record { rule = refl; accepted = refl; keys = refl; homes = refl; names = refl; moves = omega arith; places = refl; under_way = refl; within = λ n w. w; ready = λ flow r. r }
+pub only-none : (p : Parts) (heap : Heap NextStart) → OnlyStarts p heap p heap
+only-none p heap = record { rule = refl; accepted = refl; keys = refl; homes = refl; names = refl; moves = omega arith; places = refl; under_way = refl; within = λ n w. w; ready = λ flow r. r }
 
-pub only-more : (p q r : Parts) (d e f : Heap Due) → OnlyStarts p d q e → OnlyStarts q e r f → OnlyStarts p d r f
+pub only-more : (p q r : Parts) (d e f : Heap NextStart) → OnlyStarts p d q e → OnlyStarts q e r f → OnlyStarts p d r f
 only-more p q r d e f x y = record {
   rule = y.rule ∙ x.rule;
   accepted = y.accepted ∙ x.accepted;

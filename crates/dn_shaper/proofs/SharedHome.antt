@@ -11,12 +11,12 @@ use Rattle.dn_flows.specs.Table.{Table}
 use Rattle.dn_wf2q.specs.Schedule.{room_at}
 use Rattle.dn_shaper.specs.declared.state.State.{State}
 use Rattle.dn_shaper.specs.Agreement.{AgreesWith, link_names}
-use Rattle.dn_shaper.specs.Due.{Holds, backlogged}
+use Rattle.dn_shaper.specs.NextStarts.{Holds, backlogged}
 use Rattle.dn_shaper.specs.Homing.{GivesHome, Shares, place_for}
 use Rattle.dn_shaper.specs.Standing.{IsIndexed, IsSound}
 use Rattle.dn_shaper.specs.Starting.{IsReady, Within}
 use Rattle.dn_shaper.specs.Submitting.{IsMade}
-use Rattle.dn_shaper.specs.Views.{LinkView, views_of, dues, due_of, waits_in_all}
+use Rattle.dn_shaper.specs.Views.{LinkView, views_of, next_starts, next_start_of, waits_in_all}
 use Rattle.dn_shaper.proofs.Events.{length-set}
 use Rattle.dn_shaper.proofs.Indexed.{noted-found}
 use Rattle.dn_shaper.proofs.Made.{joined-agrees}
@@ -85,14 +85,14 @@ module _ (old new : State) (t : Table) (key : FlowKey) (one : IsOneMore key old.
             omega arith
         by (inr ne) = w.arrivals k v (sym (get-set-other (views_of old.parts) place k s.view' ne) ∙ ap (λ (vs : List LinkView). slice_get vs k) (sym s.views_are) ∙ e)
 
-    dues-same : dues (views_of new.parts) ≡ dues (views_of old.parts)
-    dues-same = ap dues s.views_are ∙ map-set-same due_of (views_of old.parts) place s.view s.view' s.there (λ i. cond (nat_lt 0 (s.takes.waits i)) (Some (s.takes.value i).free) None)
+    nexts-same : next_starts (views_of new.parts) ≡ next_starts (views_of old.parts)
+    nexts-same = ap next_starts s.views_are ∙ map-set-same next_start_of (views_of old.parts) place s.view s.view' s.there (λ i. cond (nat_lt 0 (s.takes.waits i)) (Some (s.takes.value i).free) None)
 
     pub shared-sound : (trace : List Event) → AgreesWith old.parts [] trace → IsSound old → IsSound new
     shared-sound trace a sound =
         sound-by old new t key one g as_many ([], trace, shared-agrees trace a) (within-by old new t key one g as_many waits-same arrivals-below)
-        (subst (λ (ds : List (Option ℕ)). Holds ds old.due.keys) (sym dues-same) sound.kept.held) (ap backlogged dues-same)
-        (let l = ap {B = ℕ} (λ (vs : List LinkView). length vs) s.views_are ∙ length-set (views_of old.parts) place s.view' in let p = sound.kept.places in let r = g.due.room in omega arith)
+        (subst (λ (ds : List (Option ℕ)). Holds ds old.heap.keys) (sym nexts-same) sound.kept.held) (ap backlogged nexts-same)
+        (let l = ap {B = ℕ} (λ (vs : List LinkView). length vs) s.views_are ∙ length-set (views_of old.parts) place s.view' in let p = sound.kept.places in let r = g.heap.room in omega arith)
         (record {
           found = λ pipe k e. ap (λ (ls : List Link). slice_get ls k) names-same ∙ index.found pipe k (ap (λ (es : List (ℕ × ℕ)). lookup (nat_eq pipe) es) (sym unnoted) ∙ e);
           missing = λ pipe e. ap (λ (ls : List Link). list_any (link_eq (shared pipe)) ls) names-same ∙ index.missing pipe (ap (λ (es : List (ℕ × ℕ)). lookup (nat_eq pipe) es) (sym unnoted) ∙ e);

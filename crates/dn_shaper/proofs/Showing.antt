@@ -44,7 +44,7 @@ told-is keys flows trace each flow (k ∷ ks) h =
     let here : home keys flow ≡ link_of k.target flow k.pipe = ap (home_by flow) key_at in
     λ i. status-is flow k trace (flow_at flows flow) (subst (λ (l : Link). IsFlowAt l flow trace (flow_at flows flow)) here (each flow)) i ∷ told-is keys flows trace each (flow + 1) ks (λ j x e. let next : j + (flow + 1) ≡ suc j + flow = omega arith in ap (slice_get keys) next ∙ h (suc j) x e) i
 
-pub shows : (old : State) (list : List FlowStatus) → list ≡ told_from 0 old.parts.flows.keys old.parts.flows.flows → Does Show old (record { parts = old.parts; due = old.due; shared = old.shared; configured = old.configured; now = old.now; calls = old.calls + 1 }) (Status list)
+pub shows : (old : State) (list : List FlowStatus) → list ≡ told_from 0 old.parts.flows.keys old.parts.flows.flows → Does Show old (record { parts = old.parts; heap = old.heap; shared = old.shared; configured = old.configured; now = old.now; calls = old.calls + 1 }) (Status list)
 shows old list is rule calls s = (
   ap Status (is ∙ told-is old.parts.flows.keys old.parts.flows.flows (trace_of calls) s.agrees.flows_are 0 old.parts.flows.keys (λ i k e. let same : i + 0 ≡ i = omega arith in ap (slice_get old.parts.flows.keys) same ∙ e) ∙ ap (λ (ks : List FlowKey). statuses_from 0 ks (trace_of calls)) s.keys_are),
   record { rule_is = s.rule_is; calls_are = let c = s.calls_are in omega arith; now_is = s.now_is ∙ now_same; settings_are = s.settings_are; keys_are = s.keys_are; agrees = s.agrees },
@@ -53,7 +53,7 @@ shows old list is rule calls s = (
     now_same : effective_moment calls ≡ effective_moment (Show ∷ calls)
     now_same = omega arith
 
-pub shows-sound : (old : State) → IsSound old → IsSound (record { parts = old.parts; due = old.due; shared = old.shared; configured = old.configured; now = old.now; calls = old.calls + 1 })
+pub shows-sound : (old : State) → IsSound old → IsSound (record { parts = old.parts; heap = old.heap; shared = old.shared; configured = old.configured; now = old.now; calls = old.calls + 1 })
 shows-sound old s = record { kept = s.kept; within = within-more old.calls (old.calls + 1) old.parts (omega arith) s.within; moves = let m = s.moves in omega arith; early = s.early; indexed = indexed-still old _ (link_names (views_of old.parts)) (link_names (views_of old.parts)) refl refl s.indexed }
 
 -- One flow more is told.

@@ -16,7 +16,7 @@ use Rattle.dn_types.specs.declared.call.Call.TheVariants.{Advance, Collect}
 use Rattle.dn_types.specs.declared.delivery.Delivery.{Delivery}
 use Rattle.dn_types.specs.declared.reply.Reply.TheVariants.{Advanced, Delivered}
 use Rattle.dn_types.specs.declared.rule.Rule.{Rule}
-use Rattle.dn_shaper.specs.declared.due.Due.{Due}
+use Rattle.dn_shaper.specs.declared.next_start.NextStart.{NextStart}
 use Rattle.dn_shaper.specs.declared.parts.Parts.{Parts}
 use Rattle.dn_shaper.specs.declared.state.State.{State}
 use Rattle.dn_shaper.specs.Agreement.{AgreesWith, link_names}
@@ -31,14 +31,14 @@ use Rattle.dn_shaper.proofs.Quiet.{collected-agrees}
 
 -- ---- A timed call settles first
 
-module _ (old : State) (parts : Parts) (due : Heap Due) (at moment : ℕ) (at_is : at ≡ max old.now moment) (settles : SettlesAll (settings_of old.configured) at old.parts parts) (only : OnlyStarts old.parts old.due parts due) where
+module _ (old : State) (parts : Parts) (heap : Heap NextStart) (at moment : ℕ) (at_is : at ≡ max old.now moment) (settles : SettlesAll (settings_of old.configured) at old.parts parts) (only : OnlyStarts old.parts old.heap parts heap) where
   now-is : (rule : Rule) (calls : List Call) → StandsAt rule old calls → at ≡ max (effective_moment calls) moment
   now-is rule calls s = at_is ∙ ap (λ n. max n moment) s.now_is
 
   settled-then : (rule : Rule) (calls : List Call) → StandsAt rule old calls → AgreesWith parts [] (settled (settings calls) (max (effective_moment calls) moment) (trace_of calls))
   settled-then rule calls s = subst (λ (x : Settings × ℕ). AgreesWith parts [] (settled x.0 x.1 (trace_of calls))) (λ i. (s.settings_are i, now-is rule calls s i)) (settles [] (trace_of calls) s.agrees)
 
-  pub advanced : Does (Advance moment) old (record { parts = parts; due = due; shared = old.shared; configured = old.configured; now = at; calls = old.calls + 1 }) (Advanced at)
+  pub advanced : Does (Advance moment) old (record { parts = parts; heap = heap; shared = old.shared; configured = old.configured; now = at; calls = old.calls + 1 }) (Advanced at)
   advanced rule calls s = (
     ap Advanced (now-is rule calls s),
     record {
@@ -51,14 +51,14 @@ module _ (old : State) (parts : Parts) (due : Heap Due) (at moment : ℕ) (at_is
     },
   )
 
-  module _ (sound : IsSound old) (kept : IsKept parts due) (early : moment ≤ 2 ^ 62) where
+  module _ (sound : IsSound old) (kept : IsKept parts heap) (early : moment ≤ 2 ^ 62) where
     at-early : at ≤ 2 ^ 62
     at-early = let e = sound.early in omega (arith, at_is, e, early)
 
-    moves-then : due.moves + parts.waiting ≤ 2 * (old.calls + 1)
+    moves-then : heap.moves + parts.waiting ≤ 2 * (old.calls + 1)
     moves-then = let a = only.moves in let b = sound.moves in omega arith
 
-    pub advanced-sound : IsSound (record { parts = parts; due = due; shared = old.shared; configured = old.configured; now = at; calls = old.calls + 1 })
+    pub advanced-sound : IsSound (record { parts = parts; heap = heap; shared = old.shared; configured = old.configured; now = at; calls = old.calls + 1 })
     advanced-sound = record {
       kept = kept;
       within = within-more old.calls (old.calls + 1) parts (omega arith) (only.within old.calls sound.within);
@@ -76,7 +76,7 @@ module _ (old : State) (parts : Parts) (due : Heap Due) (at moment : ℕ) (at_is
     after-agrees : (more : List Link) (trace : List Event) → AgreesWith parts more trace → AgreesWith after more (collected at ∷ trace)
     after-agrees more trace a = collected-agrees parts.rule parts.accepted parts.flows.keys parts.homes.items (views_of parts) parts.flows.flows parts.line.pending more trace a at line.pending rest
 
-    pub collects : (list : List Delivery) → list ≡ filter (λ d. nat_le d.due at) parts.line.pending → Does (Collect moment) old (record { parts = after; due = due; shared = old.shared; configured = old.configured; now = at; calls = old.calls + 1 }) (Delivered at list)
+    pub collects : (list : List Delivery) → list ≡ filter (λ d. nat_le d.due at) parts.line.pending → Does (Collect moment) old (record { parts = after; heap = heap; shared = old.shared; configured = old.configured; now = at; calls = old.calls + 1 }) (Delivered at list)
     collects list is rule calls s = (
       reply_is,
       record {
@@ -112,7 +112,7 @@ module _ (old : State) (parts : Parts) (due : Heap Due) (at moment : ℕ) (at_is
       accepted = w.accepted;
     }
 
-    pub collects-sound : IsSound old → IsKept parts due → moment ≤ 2 ^ 62 → IsSound (record { parts = after; due = due; shared = old.shared; configured = old.configured; now = at; calls = old.calls + 1 })
+    pub collects-sound : IsSound old → IsKept parts heap → moment ≤ 2 ^ 62 → IsSound (record { parts = after; heap = heap; shared = old.shared; configured = old.configured; now = at; calls = old.calls + 1 })
     collects-sound sound kept early = record {
       kept = record {
         agrees = let a = kept.agrees in (a.0, collected at ∷ a.1, after-agrees a.0 a.1 a.2);

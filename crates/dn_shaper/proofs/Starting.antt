@@ -17,7 +17,7 @@ use Rattle.dn_flows.proofs.Views.{flow_after_set, popped_backlog}
 use Rattle.dn_wf2q.specs.Schedule.{room_at}
 use Rattle.dn_shaper.specs.declared.parts.Home.{Home}
 use Rattle.dn_shaper.specs.declared.parts.Parts.{Parts}
-use Rattle.dn_shaper.specs.Views.{LinkView, views_of, waits_in_all, waiting_of, dues, due_of, CanSend}
+use Rattle.dn_shaper.specs.Views.{LinkView, views_of, waits_in_all, waiting_of, next_starts, next_start_of, CanSend}
 use Rattle.dn_shaper.specs.Agreement.{GivesRates, AgreesWith, Agrees, IsAt}
 use Rattle.dn_shaper.specs.Starting.{HasFront, IsFlowWithin, Within, IsReady, CanStart, StartsAt}
 use Rattle.dn_shaper.proofs.Next.{can_send, taken, front}
@@ -216,5 +216,5 @@ module _ (place moment bandwidth delay : ℕ) (old new : Parts) (s : StartsAt pl
               omega arith
           by (inr ne) = r.slot h v pipe home_before (sym (get-set-other (views_of old) place h.place s.view' ne) ∙ now_at) is
 
-  pub starts-dues : dues (views_of new) ≡ set (dues (views_of old)) place (due_of s.view')
-  starts-dues = ap (λ (vs : List LinkView). dues vs) s.views_are ∙ map-set due_of (views_of old) place s.view'
+  pub starts-nexts : next_starts (views_of new) ≡ set (next_starts (views_of old)) place (next_start_of s.view')
+  starts-nexts = ap (λ (vs : List LinkView). next_starts vs) s.views_are ∙ map-set next_start_of (views_of old) place s.view'

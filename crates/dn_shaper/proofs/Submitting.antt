@@ -16,7 +16,7 @@ use Rattle.dn_types.specs.declared.reply.Reply.TheVariants.{Queued, Lost as Repl
 use Rattle.dn_flows.specs.Table.{FlowState, flow_at, lengths, verdict_of}
 use Rattle.dn_flows.specs.declared.verdict.Verdict.TheVariants.{Take, Lost, Full}
 use Rattle.dn_flows.proofs.Views.{flow_after_set}
-use Rattle.dn_shaper.specs.declared.due.Due.{Due}
+use Rattle.dn_shaper.specs.declared.next_start.NextStart.{NextStart}
 use Rattle.dn_shaper.specs.declared.parts.Parts.{Parts}
 use Rattle.dn_shaper.specs.Agreement.{AgreesWith}
 use Rattle.dn_shaper.specs.Arriving.{Accepts, CanAccept}
@@ -42,7 +42,7 @@ pub length-lens : (q : List Accepted) → lengths (map waiting_of q) ≡ map (λ
 length-lens [] = refl
 length-lens (p ∷ q) = λ i. p.stamped.len ∷ length-lens q i
 
-module _ (settings : Settings) (at flow : ℕ) (old mid : Parts) (due due' : Heap Due) (settles : SettlesAll settings at old mid) (only : OnlyStarts old due mid due') where
+module _ (settings : Settings) (at flow : ℕ) (old mid : Parts) (heap heap' : Heap NextStart) (settles : SettlesAll settings at old mid) (only : OnlyStarts old heap mid heap') where
   pub made-settled : (trace : List Event) → IsMade flow old trace → IsMade flow mid (settled settings at trace)
   made-settled trace made = only.names ∙ made ∙ (λ i. with_link (home (sym only.keys i) flow) (sym (links-settled settings at trace) i))
 

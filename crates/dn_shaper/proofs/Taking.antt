@@ -47,7 +47,7 @@ takes-shared v schedule pipe slot flow is can picked some read = record {
 -- The link after the pick is in the block t, and before it in the block s, which holds d.
 module _ (pipe : ℕ) (value : LinkState) (waits : ℕ) where
   abbrev with_carries : Carries → LinkView
-  with_carries x = view_of (record { pipe = pipe; link = value; waiting = waits; carries = x })
+  with_carries x = view_of (record { pipe = pipe; times = value; waiting = waits; carries = x })
 
   abbrev seen : Schedule → List ℕ → LinkView
   seen schedule slots = record { link = shared pipe; value = value; waits = waits; schedule = schedule; slots = slots }

@@ -5,8 +5,8 @@ use Rattle.dn_flows.specs.Table.{flow_at, emptied}
 use Rattle.dn_wf2q.specs.Schedule.{after_discard}
 use Rattle.dn_shaper.specs.declared.parts.Home.{Home}
 use Rattle.dn_shaper.specs.declared.parts.Parts.{Parts}
-use Rattle.dn_shaper.specs.Due.{due_at}
-use Rattle.dn_shaper.specs.Views.{LinkView, views_of, dues}
+use Rattle.dn_shaper.specs.NextStarts.{next_at}
+use Rattle.dn_shaper.specs.Views.{LinkView, views_of, next_starts}
 use Rattle.dn_shaper.specs.Agreement.{AgreesWith}
 
 abbrev pub DiscardsOn : ℕ → LinkView → LinkView → Link → Type 0
@@ -42,4 +42,4 @@ Discards flow old new = (more : List Link) (trace : List Event) → AgreesWith o
 
 -- No link has a backlog that had none, and one that still has a backlog is free from the same moment.
 abbrev pub OnlyEmpties : Parts → Parts → Type 0
-OnlyEmpties old new = (place moment : ℕ) → due_at (dues (views_of new)) place ≡ Some moment → due_at (dues (views_of old)) place ≡ Some moment
+OnlyEmpties old new = (place moment : ℕ) → next_at (next_starts (views_of new)) place ≡ Some moment → next_at (next_starts (views_of old)) place ≡ Some moment

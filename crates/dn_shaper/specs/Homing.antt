@@ -9,7 +9,7 @@ use Rattle.dn_types.specs.declared.target.Target.{Target}
 use Rattle.dn_types.specs.declared.target.Target.TheVariants.{Pipe as ToPipe, Queue as ToQueue}
 use Rattle.dn_flows.specs.Table.{flow_at, with_place}
 use Rattle.dn_wf2q.specs.Schedule.{room_at}
-use Rattle.dn_shaper.specs.declared.due.Due.{Due}
+use Rattle.dn_shaper.specs.declared.next_start.NextStart.{NextStart}
 use Rattle.dn_shaper.specs.declared.parts.Home.{Home}
 use Rattle.dn_shaper.specs.declared.state.State.{State}
 use Rattle.dn_shaper.specs.Making.{HasRoom, KeepsAt, KeepsCalls, OnlyRoom, Reserves}
@@ -58,21 +58,21 @@ pub record Shares (flow place : ℕ) (h : Home) (old new : List LinkView) : Type
   pub slot_is : h.slot ≡ length view.slots
 
 -- The home is a new link at the end, and there is room for it among the links with a backlog.
-pub record Opens (link : Link) (flow : ℕ) (h : Home) (old new : List LinkView) (due : Heap Due) : Type 0 where
+pub record Opens (link : Link) (flow : ℕ) (h : Home) (old new : List LinkView) (heap : Heap NextStart) : Type 0 where
   pub view : LinkView
   pub views_are : new ≡ old ++ view ∷ []
   pub is_new : IsNewLink link flow view
   pub place_is : h.place ≡ length old
   pub slot_is : h.slot ≡ 0
-  pub room : length old + 1 ≤ due.room
+  pub room : length old + 1 ≤ heap.room
 
 -- A flow with the key gets a home, by the place of the link that is noted for it.
-abbrev pub Houses : Option ℕ → FlowKey → ℕ → Home → List LinkView → List LinkView → Heap Due → List (ℕ × ℕ) → List (ℕ × ℕ) → Type 0
-Houses (Some place) key flow h old new due noted noted' = Shares flow place h old new × (noted' ≡ noted)
-Houses None key flow h old new due noted noted' = Opens (link_of key.target flow key.pipe) flow h old new due × NotesFor key.target key.pipe h.place noted noted'
+abbrev pub Houses : Option ℕ → FlowKey → ℕ → Home → List LinkView → List LinkView → Heap NextStart → List (ℕ × ℕ) → List (ℕ × ℕ) → Type 0
+Houses (Some place) key flow h old new heap noted noted' = Shares flow place h old new × (noted' ≡ noted)
+Houses None key flow h old new heap noted noted' = Opens (link_of key.target flow key.pipe) flow h old new heap × NotesFor key.target key.pipe h.place noted noted'
 
 -- Only room is made among the links with a backlog.
-pub record KeepsDue (old new : Heap Due) : Type 0 where
+pub record KeepsHeap (old new : Heap NextStart) : Type 0 where
   pub keys : new.keys ≡ old.keys
   pub moves : new.moves ≡ old.moves
   pub room : old.room ≤ new.room
@@ -84,7 +84,7 @@ KeepsLinks old new = (place : ℕ) → KeepsAt (slice_get old place) (slice_get 
 -- The last flow, which had no home, has one and room for a packet. All else stays.
 pub record GivesHome (key : FlowKey) (flow : ℕ) (old new : State) : Type 0 where
   pub home : Home
-  pub houses : Houses (place_for key old.shared) key flow home (views_of old.parts) (views_of new.parts) new.due old.shared new.shared
+  pub houses : Houses (place_for key old.shared) key flow home (views_of old.parts) (views_of new.parts) new.heap old.shared new.shared
   pub homes : new.parts.homes.items ≡ old.parts.homes.items ++ home ∷ []
   pub flows : new.parts.flows.flows ≡ slice_set old.parts.flows.flows flow (with_place (flow_at old.parts.flows.flows flow))
   pub accepted : new.parts.accepted ≡ old.parts.accepted
@@ -94,7 +94,7 @@ pub record GivesHome (key : FlowKey) (flow : ℕ) (old new : State) : Type 0 whe
   pub pushed : new.parts.line.pushed ≡ old.parts.line.pushed
   pub room : old.parts.line.room ≤ new.parts.line.room
   pub line : old.parts.waiting + 1 ≤ new.parts.line.room
-  pub due : KeepsDue old.due new.due
+  pub heap : KeepsHeap old.heap new.heap
   pub keeps : KeepsCalls old new
 
 -- The shaper without its last flow.
@@ -112,6 +112,6 @@ without_last s =
 -- Only room is made, in all that is kept.
 pub record OnlyReserves (old new : State) : Type 0 where
   pub parts : Reserves old.parts new.parts
-  pub due : KeepsDue old.due new.due
+  pub heap : KeepsHeap old.heap new.heap
   pub shared : new.shared ≡ old.shared
   pub keeps : KeepsCalls old new

@@ -2,9 +2,9 @@ pub mod Agreement
 pub mod Arriving
 pub mod Configuring
 pub mod Discarding
-pub mod Due
 pub mod Homing
 pub mod Making
+pub mod NextStarts
 pub mod QueueCounts
 pub mod Sending
 pub mod Settings

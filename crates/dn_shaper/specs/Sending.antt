@@ -4,4 +4,4 @@ use Rattle.dn_shaper.specs.declared.state.State.{State}
 
 -- The state once the clock stands at the moment, and one call more is counted.
 abbrev pub counted_at : ℕ → State → State
-counted_at at s = record { parts = s.parts; due = s.due; shared = s.shared; configured = s.configured; now = at; calls = s.calls + 1 }
+counted_at at s = record { parts = s.parts; heap = s.heap; shared = s.shared; configured = s.configured; now = at; calls = s.calls + 1 }

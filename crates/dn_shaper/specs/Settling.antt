@@ -4,31 +4,31 @@ use Rattle.dn_heap.specs.Heap.{Heap}
 use Rattle.dn_types.specs.Configuration.{Settings}
 use Rattle.dn_types.specs.Starts.{first_start, settled}
 use Rattle.dn_types.specs.Trace.{Link, Event, started, Start, links}
-use Rattle.dn_shaper.specs.declared.due.Due.{Due}
+use Rattle.dn_shaper.specs.declared.next_start.NextStart.{NextStart}
 use Rattle.dn_shaper.specs.declared.parts.Parts.{Parts}
-use Rattle.dn_shaper.specs.Views.{views_of, dues}
+use Rattle.dn_shaper.specs.Views.{views_of, next_starts}
 use Rattle.dn_shaper.specs.Agreement.{AgreesWith, Agrees, link_names}
-use Rattle.dn_shaper.specs.Due.{Holds, backlogged}
+use Rattle.dn_shaper.specs.NextStarts.{Holds, backlogged}
 use Rattle.dn_shaper.specs.Starting.{Within, IsReady}
 
 -- The parts with the heap of the links that have a backlog: each of them stands in it once, with the moment from which it is
 -- free, and the heap has a place for each link.
-pub record IsKept (p : Parts) (due : Heap Due) : Type 0 where
+pub record IsKept (p : Parts) (heap : Heap NextStart) : Type 0 where
   pub agrees : Agrees p
   pub within : Within (2 ^ 62) p
-  pub held : Holds (dues (views_of p)) due.keys
-  pub counted : length due.keys ≡ backlogged (dues (views_of p))
-  pub places : length (views_of p) ≤ length due.keys + due.room
+  pub held : Holds (next_starts (views_of p)) heap.keys
+  pub counted : length heap.keys ≡ backlogged (next_starts (views_of p))
+  pub places : length (views_of p) ≤ length heap.keys + heap.room
 
 -- What starts leave as it is. Each takes one packet from those that wait, and one more is under way.
-pub record OnlyStarts (old : Parts) (due : Heap Due) (new : Parts) (due' : Heap Due) : Type 0 where
+pub record OnlyStarts (old : Parts) (heap : Heap NextStart) (new : Parts) (heap' : Heap NextStart) : Type 0 where
   pub rule : new.rule ≡ old.rule
   pub accepted : new.accepted ≡ old.accepted
   pub keys : new.flows.keys ≡ old.flows.keys
   pub homes : new.homes ≡ old.homes
   pub names : link_names (views_of new) ≡ link_names (views_of old)
-  pub moves : due'.moves + new.waiting ≤ due.moves + old.waiting
-  pub places : length due'.keys + due'.room ≡ length due.keys + due.room
+  pub moves : heap'.moves + new.waiting ≤ heap.moves + old.waiting
+  pub places : length heap'.keys + heap'.room ≡ length heap.keys + heap.room
   pub under_way : length new.line.pending + new.waiting ≡ length old.line.pending + old.waiting
   pub within : (n : ℕ) → Within n old → Within n new
   pub ready : (flow : ℕ) → IsReady flow old → IsReady flow new

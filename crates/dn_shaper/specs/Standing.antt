@@ -34,9 +34,9 @@ pub record IsIndexed (s : State) (names : List Link) : Type 0 where
 
 -- What a shaper keeps between calls: no count is above the count of calls, and the clock is below its limit.
 pub record IsSound (s : State) : Type 0 where
-  pub kept : IsKept s.parts s.due
+  pub kept : IsKept s.parts s.heap
   pub within : Within s.calls s.parts
-  pub moves : s.due.moves + s.parts.waiting ≤ 2 * s.calls
+  pub moves : s.heap.moves + s.parts.waiting ≤ 2 * s.calls
   pub early : s.now ≤ 2 ^ 62
   pub indexed : IsIndexed s (link_names (views_of s.parts))
 

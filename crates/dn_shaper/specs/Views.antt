@@ -38,7 +38,7 @@ carried_slots (Own flow) = flow ∷ []
 carried_slots (Shared s) = s.value.flows.items
 
 abbrev pub view_of : LinkParts → LinkView
-view_of s = record { link = carried_link s.pipe s.carries; value = s.link; waits = s.waiting; schedule = carried_schedule s.carries; slots = carried_slots s.carries }
+view_of s = record { link = carried_link s.pipe s.carries; value = s.times; waits = s.waiting; schedule = carried_schedule s.carries; slots = carried_slots s.carries }
 
 abbrev pub views_of : Parts → List LinkView
 views_of p = map view_of p.links.items
@@ -48,11 +48,11 @@ abbrev pub waits_in_all : List LinkView → ℕ
 waits_in_all views = sum_by (λ v. v.waits) views
 
 -- The moment from which the link is free, where a packet waits for it.
-abbrev pub due_of : LinkView → Option ℕ
-due_of v = cond (nat_lt 0 v.waits) (Some v.value.free) None
+abbrev pub next_start_of : LinkView → Option ℕ
+next_start_of v = cond (nat_lt 0 v.waits) (Some v.value.free) None
 
-abbrev pub dues : List LinkView → List (Option ℕ)
-dues views = map due_of views
+abbrev pub next_starts : List LinkView → List (Option ℕ)
+next_starts views = map next_start_of views
 
 -- The link of a flow, by its key. A flow without a key has none; the link that stands for it is no pipe's.
 abbrev pub home_by : ℕ → Option FlowKey → Link

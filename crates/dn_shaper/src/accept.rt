@@ -7,7 +7,7 @@ ghost use Rattle.dn_shaper.specs.Starting.{IsReady, Within};
 
 use crate::arrive::arrive;
 use crate::configured::Configured;
-use crate::due::Due;
+use crate::next_start::NextStart;
 use crate::parts::Parts;
 use crate::start::start_next;
 use dn_heap::MinHeap;
@@ -17,40 +17,40 @@ use dn_types::{Len, Weight};
 /// number. It starts at once where its link is idle.
 pub fn accept(
     parts: &mut Parts,
-    due: &mut MinHeap<Due>,
+    heap: &mut MinHeap<NextStart>,
     configured: &Configured,
     flow: usize,
     len: Len,
     weight: Weight,
     at: u64,
 ) -> u64
-    requires kept { IsKept parts.old due.old }
+    requires kept { IsKept parts.old heap.old }
     requires within { flow < length parts.old.flows.keys }
     requires ready { IsReady flow parts.old }
     requires bytes { sum (lengths (flow_at parts.old.flows.flows flow).backlog) + len < 2 ^ 32 }
     requires early { at ≤ 2 ^ 62 }
     requires few { (n : ℕ) × (n < 2 ^ 62) × Within n parts.old }
-    requires moves { due.old.moves + parts.old.waiting + 2 ≤ 2 ^ 63 }
+    requires moves { heap.old.moves + parts.old.waiting + 2 ≤ 2 ^ 63 }
     requires settled { CanAccept (settings_of configured.now) at flow parts.old }
     ensures number { result ≡ parts.old.accepted }
     ensures accepts { Accepts (settings_of configured.now) at flow len weight parts.old parts.new }
-    ensures kept { IsKept parts.new due.new }
+    ensures kept { IsKept parts.new heap.new }
     ensures within { (n : ℕ) → Within n parts.old → Within (n + 1) parts.new }
-    ensures moves { due.new.moves + parts.new.waiting ≤ due.old.moves + parts.old.waiting + 2 }
+    ensures moves { heap.new.moves + parts.new.waiting ≤ heap.old.moves + parts.old.waiting + 2 }
     ensures keeps { KeepsFlows parts.old parts.new }
 {
     let home = parts.homes[flow];
     let number = parts.accepted;
-    let state = &parts.links[home.place];
-    let free = state.link.free();
-    let waited = state.waiting;
-    let pipe = state.pipe;
+    let link = &parts.links[home.place];
+    let free = link.times.free();
+    let waited = link.waiting;
+    let pipe = link.pipe;
     let idle = arrive(parts, home, flow, len, weight, at);
     if idle {
         let rates = configured.rates(pipe);
         start_next(parts, home.place, at, &rates);
     } else if waited == 0 {
-        due.push_reserved(Due {
+        heap.push_reserved(NextStart {
             moment: free,
             place: home.place,
         });

@@ -10,28 +10,28 @@ use dn_flows::Waiting;
 use dn_types::{Len, Weight};
 
 /// Whether no packet waits for the link and it is free by the moment.
-fn is_idle(state: &LinkParts, at: u64) -> bool
-    ensures { result ≡ is_idle at (view_of state.now) }
+fn is_idle(link: &LinkParts, at: u64) -> bool
+    ensures { result ≡ is_idle at (view_of link.now) }
 {
-    state.waiting == 0 && state.link.free() <= at
+    link.waiting == 0 && link.times.free() <= at
 }
 
 /// A packet joins those that wait for the link. On a shared link a busy period begins with it where
 /// the link is idle, which is answered.
-fn join_link(state: &mut LinkParts, slot: usize, len: Len, weight: Weight, at: u64) -> bool
-    requires can { CanJoin slot (view_of state.old) (view_of state.old).link }
-    requires few { state.old.waiting < 2 ^ 62 }
-    ensures idle { result ≡ is_idle at (view_of state.old) }
-    ensures joins { Joins slot len weight result (view_of state.old) (view_of state.new) }
+fn join_link(link: &mut LinkParts, slot: usize, len: Len, weight: Weight, at: u64) -> bool
+    requires can { CanJoin slot (view_of link.old) (view_of link.old).link }
+    requires few { link.old.waiting < 2 ^ 62 }
+    ensures idle { result ≡ is_idle at (view_of link.old) }
+    ensures joins { Joins slot len weight result (view_of link.old) (view_of link.new) }
 {
-    let idle = is_idle(state, at);
-    if let Carries::Shared(shared) = &mut state.carries {
+    let idle = is_idle(link, at);
+    if let Carries::Shared(shared) = &mut link.carries {
         if idle {
             shared.sched.begin_busy();
         }
         shared.sched.arrive(slot, len, weight);
     }
-    state.waiting += 1;
+    link.waiting += 1;
     idle
 }
 
@@ -46,8 +46,8 @@ pub fn arrive(parts: &mut Parts, home: Home, flow: usize, len: Len, weight: Weig
     requires waiting { parts.old.waiting < 2 ^ 62 }
     ensures { ArrivesAt at home flow len weight result parts.old parts.new }
 {
-    let state = &mut parts.links[home.place];
-    let idle = join_link(state, home.slot, len, weight, at);
+    let link = &mut parts.links[home.place];
+    let idle = join_link(link, home.slot, len, weight, at);
     let packet = parts.accepted;
     parts.flows.push_reserved(flow, Waiting { packet, len });
     parts.accepted += 1;

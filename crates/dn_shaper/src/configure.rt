@@ -12,7 +12,7 @@ ghost use Rattle.dn_shaper.specs.Standing.{Does, IsSound, StillStands};
 ghost use Rattle.dn_shaper.specs.Starting.{Within};
 
 use crate::discard::{discard_flow, forget_emptied};
-use crate::due::Due;
+use crate::next_start::NextStart;
 use crate::parts::Parts;
 use crate::state::State;
 use dn_heap::MinHeap;
@@ -49,16 +49,16 @@ fn discard_flows(parts: &mut Parts, command: &Command)
 
 /// Discards the packets of all flows that the delete reaches. The links that this empties leave the
 /// heap together, so that a delete costs one pass over it and not one for each of them.
-fn discard_reached(parts: &mut Parts, due: &mut MinHeap<Due>, command: &Command)
-    requires kept { IsKept parts.old due.old }
+fn discard_reached(parts: &mut Parts, heap: &mut MinHeap<NextStart>, command: &Command)
+    requires kept { IsKept parts.old heap.old }
     ensures discards { DiscardsReached command.now parts.old parts.new }
-    ensures kept { IsKept parts.new due.new }
+    ensures kept { IsKept parts.new heap.new }
     ensures within { (n : ℕ) → Within n parts.old → Within n parts.new }
-    ensures moves { due.new.moves + parts.new.waiting ≤ due.old.moves + parts.old.waiting }
+    ensures moves { heap.new.moves + parts.new.waiting ≤ heap.old.moves + parts.old.waiting }
     ensures keeps { KeepsFlows parts.old parts.new }
 {
     discard_flows(parts, command);
-    forget_emptied(due, parts);
+    forget_emptied(heap, parts);
 }
 
 /// Answers a command: an accepted one changes what is in force, and an accepted delete discards the
@@ -78,7 +78,7 @@ pub fn configure(state: &mut State, command: &Command) -> Result<Reply, AllocErr
         Reply::Configured => state.configured.put(command)?,
         Reply::Deleted => {
             state.configured.remove(command);
-            discard_reached(&mut state.parts, &mut state.due, command);
+            discard_reached(&mut state.parts, &mut state.heap, command);
         }
         _ => {}
     }

@@ -3,23 +3,23 @@ ghost use Rattle.dn_flows.specs.Table.{flow_at};
 ghost use Rattle.dn_shaper.specs.Agreement.{Agrees};
 ghost use Rattle.dn_shaper.specs.Arriving.{KeepsFlows};
 ghost use Rattle.dn_shaper.specs.Discarding.{Discards, DiscardsAt, Leaves, OnlyEmpties};
-ghost use Rattle.dn_shaper.specs.Due.{due_at, is_due};
+ghost use Rattle.dn_shaper.specs.NextStarts.{next_at, is_backlogged};
 ghost use Rattle.dn_shaper.specs.Starting.{Within};
-ghost use Rattle.dn_shaper.specs.Views.{LinkView, dues, view_of, views_of};
+ghost use Rattle.dn_shaper.specs.Views.{LinkView, next_starts, view_of, views_of};
 
-use crate::due::Due;
+use crate::next_start::NextStart;
 use crate::parts::{Carries, Home, LinkParts, Parts};
 use dn_heap::MinHeap;
 
 /// The packets at the slot, so many, no longer wait for the link.
-fn leave_link(state: &mut LinkParts, slot: usize, count: usize)
-    requires { count ≤ state.old.waiting }
-    ensures { Leaves slot count (view_of state.old) (view_of state.new) }
+fn leave_link(link: &mut LinkParts, slot: usize, count: usize)
+    requires { count ≤ link.old.waiting }
+    ensures { Leaves slot count (view_of link.old) (view_of link.new) }
 {
-    if let Carries::Shared(shared) = &mut state.carries {
+    if let Carries::Shared(shared) = &mut link.carries {
         shared.sched.discard(slot);
     }
-    state.waiting -= count;
+    link.waiting -= count;
 }
 
 /// Discards the packets of the flow, which never start.
@@ -31,8 +31,8 @@ fn empty_flow(parts: &mut Parts, home: Home, flow: usize, count: usize)
     requires waiting { count ≤ parts.old.waiting }
     ensures { DiscardsAt home flow parts.old parts.new }
 {
-    let state = &mut parts.links[home.place];
-    leave_link(state, home.slot, count);
+    let link = &mut parts.links[home.place];
+    leave_link(link, home.slot, count);
     parts.flows.discard(flow);
     parts.waiting -= count;
 }
@@ -56,19 +56,19 @@ pub fn discard_flow(parts: &mut Parts, flow: usize)
 
 /// Whether a packet waits for the link at the place.
 fn has_backlog(parts: &Parts, place: usize) -> bool
-    ensures { result ≡ is_some (due_at (dues (views_of parts.now)) place) }
+    ensures { result ≡ is_some (next_at (next_starts (views_of parts.now)) place) }
 {
     match parts.links.get(place) {
-        Some(state) => state.waiting > 0,
+        Some(link) => link.waiting > 0,
         None => false,
     }
 }
 
 /// Lets go of each link for which no packet waits any more, in one pass over the heap.
-pub fn forget_emptied(due: &mut MinHeap<Due>, parts: &Parts)
-    ensures keys { IsPermutation (filter (is_due (dues (views_of parts.now))) due.old.keys) due.new.keys }
-    ensures room { length due.new.keys + due.new.room ≡ length due.old.keys + due.old.room }
-    ensures keeps_moves { due.new.moves ≡ due.old.moves }
+pub fn forget_emptied(heap: &mut MinHeap<NextStart>, parts: &Parts)
+    ensures keys { IsPermutation (filter (is_backlogged (next_starts (views_of parts.now))) heap.old.keys) heap.new.keys }
+    ensures room { length heap.new.keys + heap.new.room ≡ length heap.old.keys + heap.old.room }
+    ensures keeps_moves { heap.new.moves ≡ heap.old.moves }
 {
-    due.retain(|key| has_backlog(parts, key.place));
+    heap.retain(|key| has_backlog(parts, key.place));
 }

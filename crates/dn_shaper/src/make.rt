@@ -4,11 +4,11 @@ ghost use Rattle.dn_types.specs.Calls.{link_of};
 ghost use Rattle.dn_types.specs.Trace.{shared as shared_link};
 ghost use Rattle.dn_flows.specs.Table.{flow_at, IsUnused};
 ghost use Rattle.dn_shaper.specs.Agreement.{link_names};
-ghost use Rattle.dn_shaper.specs.Homing.{GivesHome, Houses, IsNewLink, KeepsDue, KeepsLinks, OnlyReserves, Opens, Shares, TakesSlot, NotesFor, place_for, without_last};
+ghost use Rattle.dn_shaper.specs.Homing.{GivesHome, Houses, IsNewLink, KeepsHeap, KeepsLinks, OnlyReserves, Opens, Shares, TakesSlot, NotesFor, place_for, without_last};
 ghost use Rattle.dn_shaper.specs.Making.{KeepsLink};
 ghost use Rattle.dn_shaper.specs.Views.{view_of, views_of};
 
-use crate::due::Due;
+use crate::next_start::NextStart;
 use crate::parts::{Carries, Home, LinkParts, SharedLink};
 use crate::shared_places::SharedPlaces;
 use crate::state::State;
@@ -18,13 +18,13 @@ use dn_types::{FlowKey, Target};
 use std::alloc::{AllocError, Global};
 
 /// A new flow takes the next slot of a shared link, with room for a packet.
-fn take_slot(state: &mut LinkParts, flow: usize) -> Result<usize, AllocError>
-    requires is_shared { (pipe : ℕ) × ((view_of state.old).link ≡ shared_link pipe) }
-    ensures slot { IfOk result (λ slot. slot ≡ length (view_of state.old).slots) }
-    ensures takes { OnOk result (TakesSlot flow (view_of state.old) (view_of state.new)) }
-    ensures refused { OnErr result (KeepsLink (view_of state.old) (view_of state.new)) }
+fn take_slot(link: &mut LinkParts, flow: usize) -> Result<usize, AllocError>
+    requires is_shared { (pipe : ℕ) × ((view_of link.old).link ≡ shared_link pipe) }
+    ensures slot { IfOk result (λ slot. slot ≡ length (view_of link.old).slots) }
+    ensures takes { OnOk result (TakesSlot flow (view_of link.old) (view_of link.new)) }
+    ensures refused { OnErr result (KeepsLink (view_of link.old) (view_of link.new)) }
 {
-    match &mut state.carries {
+    match &mut link.carries {
         Carries::Own(_) => unreachable!(),
         Carries::Shared(shared) => shared.take_slot(flow),
     }
@@ -55,7 +55,7 @@ fn new_link(alloc: Global, key: &FlowKey, flow: usize) -> Result<LinkParts, Allo
     };
     Ok(LinkParts {
         pipe: key.pipe,
-        link: Link::new(),
+        times: Link::new(),
         waiting: 0,
         carries,
     })
@@ -64,21 +64,21 @@ fn new_link(alloc: Global, key: &FlowKey, flow: usize) -> Result<LinkParts, Allo
 /// A new flow gets its home on a link that is made for it at the end.
 fn make_link(
     links: &mut Vec<LinkParts>,
-    due: &mut MinHeap<Due>,
+    heap: &mut MinHeap<NextStart>,
     shared: &mut SharedPlaces,
     alloc: Global,
     key: &FlowKey,
     flow: usize,
 ) -> Result<Home, AllocError>
-    ensures opens { IfOk result (λ home. Opens (link_of key.now.target flow key.now.pipe) flow home (map view_of links.old.items) (map view_of links.new.items) due.new) }
+    ensures opens { IfOk result (λ home. Opens (link_of key.now.target flow key.now.pipe) flow home (map view_of links.old.items) (map view_of links.new.items) heap.new) }
     ensures notes { IfOk result (λ home. NotesFor key.now.target key.now.pipe home.place shared.old shared.new) }
-    ensures due { KeepsDue due.old due.new }
+    ensures heap { KeepsHeap heap.old heap.new }
     ensures refused { OnErr result (links.new.items ≡ links.old.items) }
     ensures unnoted { OnErr result (shared.new ≡ shared.old) }
 {
     let place = links.len();
     links.reserve(1)?;
-    due.reserve(place + 1)?;
+    heap.reserve(place + 1)?;
     let link = new_link(alloc, key, flow)?;
     shared.note(key, place)?;
     links.push_reserved(link);
@@ -89,21 +89,21 @@ fn make_link(
 /// on one that is made.
 fn find_home(
     links: &mut Vec<LinkParts>,
-    due: &mut MinHeap<Due>,
+    heap: &mut MinHeap<NextStart>,
     shared: &mut SharedPlaces,
     alloc: Global,
     key: &FlowKey,
     flow: usize,
 ) -> Result<Home, AllocError>
     requires noted { (place : ℕ) → place_for key.now shared.old ≡ Some place → slice_get (link_names (map view_of links.old.items)) place ≡ Some (shared_link key.now.pipe) }
-    ensures houses { IfOk result (λ home. Houses (place_for key.now shared.old) key.now flow home (map view_of links.old.items) (map view_of links.new.items) due.new shared.old shared.new) }
-    ensures due { KeepsDue due.old due.new }
+    ensures houses { IfOk result (λ home. Houses (place_for key.now shared.old) key.now flow home (map view_of links.old.items) (map view_of links.new.items) heap.new shared.old shared.new) }
+    ensures heap { KeepsHeap heap.old heap.new }
     ensures refused { OnErr result (KeepsLinks (map view_of links.old.items) (map view_of links.new.items)) }
     ensures unnoted { OnErr result (shared.new ≡ shared.old) }
 {
     match shared.place_for(key) {
         Some(place) => share_link(links, place, flow),
-        None => make_link(links, due, shared, alloc, key, flow),
+        None => make_link(links, heap, shared, alloc, key, flow),
     }
 }
 
@@ -120,7 +120,7 @@ fn make_home(state: &mut State, alloc: Global, key: &FlowKey, flow: usize) -> Re
     state.parts.homes.reserve(1)?;
     let home = find_home(
         &mut state.parts.links,
-        &mut state.due,
+        &mut state.heap,
         &mut state.shared,
         alloc,
         key,

@@ -64,7 +64,8 @@ pub enum Carries {
 #[derive(Drop)]
 pub struct LinkParts {
     pub pipe: Number,
-    pub link: Link,
+    /// From when it is free, and when its last packet was due.
+    pub times: Link,
     pub waiting: usize,
     pub carries: Carries,
 }

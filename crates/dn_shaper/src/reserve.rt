@@ -8,11 +8,11 @@ use crate::parts::{Carries, LinkParts, Parts};
 use std::alloc::AllocError;
 
 /// Makes room for one more packet at the slot of a link. A link of one flow needs none.
-fn reserve_at(state: &mut LinkParts, slot: usize) -> Result<(), AllocError>
-    ensures ok { OnOk result (HasRoom slot (view_of state.new) (view_of state.new).link) }
-    ensures keeps { KeepsLink (view_of state.old) (view_of state.new) }
+fn reserve_at(link: &mut LinkParts, slot: usize) -> Result<(), AllocError>
+    ensures ok { OnOk result (HasRoom slot (view_of link.new) (view_of link.new).link) }
+    ensures keeps { KeepsLink (view_of link.old) (view_of link.new) }
 {
-    match &mut state.carries {
+    match &mut link.carries {
         Carries::Own(_) => Ok(()),
         Carries::Shared(shared) => shared.sched.reserve_flow(slot),
     }

@@ -3,49 +3,49 @@ ghost use Rattle.dn_shaper.specs.Settings.{settings_of};
 ghost use Rattle.dn_shaper.specs.Settling.{IsKept, OnlyStarts, StartsFirst, HasNoStart, SettlesAll};
 
 use crate::configured::Configured;
-use crate::due::Due;
+use crate::next_start::NextStart;
 use crate::parts::Parts;
 use crate::start::start_next;
 use dn_heap::MinHeap;
 
 /// Starts the packet that is next in time, where it starts by the moment.
-fn settle_one(parts: &mut Parts, due: &mut MinHeap<Due>, configured: &Configured, at: u64) -> bool
-    requires kept { IsKept parts.old due.old }
+fn settle_one(parts: &mut Parts, heap: &mut MinHeap<NextStart>, configured: &Configured, at: u64) -> bool
+    requires kept { IsKept parts.old heap.old }
     requires early { at ≤ 2 ^ 62 }
-    requires moves { due.old.moves + parts.old.waiting ≤ 2 ^ 63 }
-    ensures kept { IsKept parts.new due.new }
-    ensures only { OnlyStarts parts.old due.old parts.new due.new }
+    requires moves { heap.old.moves + parts.old.waiting ≤ 2 ^ 63 }
+    ensures kept { IsKept parts.new heap.new }
+    ensures only { OnlyStarts parts.old heap.old parts.new heap.new }
     ensures fewer { result ≡ true → parts.new.waiting + 1 ≡ parts.old.waiting }
     ensures one { result ≡ true → StartsFirst (settings_of configured.now) at parts.old parts.new }
     ensures none { result ≡ false → HasNoStart (settings_of configured.now) at parts.new }
     ensures same { result ≡ false → parts.new ≡ parts.old }
 {
-    let Some(&top) = due.peek() else {
+    let Some(&top) = heap.peek() else {
         return false;
     };
     if at < top.moment {
         return false;
     }
-    let Due { moment, place } = due.pop().unwrap();
+    let NextStart { moment, place } = heap.pop().unwrap();
     let rates = configured.rates(parts.links[place].pipe);
     start_next(parts, place, moment, &rates);
-    let state = &parts.links[place];
-    if state.waiting > 0 {
-        let moment = state.link.free();
-        due.push_reserved(Due { moment, place });
+    let link = &parts.links[place];
+    if link.waiting > 0 {
+        let moment = link.times.free();
+        heap.push_reserved(NextStart { moment, place });
     }
     true
 }
 
 /// Starts all packets that start up to the moment, in order of time. It costs the starts that are
 /// due, and not the links that there are.
-pub fn settle(parts: &mut Parts, due: &mut MinHeap<Due>, configured: &Configured, at: u64)
-    requires kept { IsKept parts.old due.old }
+pub fn settle(parts: &mut Parts, heap: &mut MinHeap<NextStart>, configured: &Configured, at: u64)
+    requires kept { IsKept parts.old heap.old }
     requires early { at ≤ 2 ^ 62 }
-    requires moves { due.old.moves + parts.old.waiting ≤ 2 ^ 63 }
-    ensures kept { IsKept parts.new due.new }
-    ensures only { OnlyStarts parts.old due.old parts.new due.new }
+    requires moves { heap.old.moves + parts.old.waiting ≤ 2 ^ 63 }
+    ensures kept { IsKept parts.new heap.new }
+    ensures only { OnlyStarts parts.old heap.old parts.new heap.new }
     ensures settled { SettlesAll (settings_of configured.now) at parts.old parts.new }
 {
-    while settle_one(parts, due, configured, at) {}
+    while settle_one(parts, heap, configured, at) {}
 }

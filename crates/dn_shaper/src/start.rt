@@ -18,12 +18,12 @@ pub struct Rates {
 }
 
 /// The flow whose packet the link sends next. On a shared link that is the scheduler's pick.
-fn next_flow(state: &mut LinkParts) -> usize
-    requires { CanSend (view_of state.old) (view_of state.old).link }
-    ensures takes { TakesNext result (view_of state.old) (view_of state.new) }
-    ensures keeps { KeepsSchedule (view_of state.old) (view_of state.new) }
+fn next_flow(link: &mut LinkParts) -> usize
+    requires { CanSend (view_of link.old) (view_of link.old).link }
+    ensures takes { TakesNext result (view_of link.old) (view_of link.new) }
+    ensures keeps { KeepsSchedule (view_of link.old) (view_of link.new) }
 {
-    match &mut state.carries {
+    match &mut link.carries {
         Carries::Own(flow) => *flow,
         Carries::Shared(shared) => {
             let slot = shared.sched.pick().unwrap();
@@ -70,27 +70,27 @@ fn start_one(
     rule: Rule,
     rates: &Rates,
     moment: u64,
-    state: &mut LinkParts,
+    link: &mut LinkParts,
     flows: &mut Flows,
     line: &mut DelayLine,
 )
-    requires some { 0 < state.old.waiting }
-    requires sends { CanSend (view_of state.old) (view_of state.old).link }
-    requires front { HasFront (view_of state.old) flows.old.flows }
-    requires free { state.old.link.free ≤ moment }
+    requires some { 0 < link.old.waiting }
+    requires sends { CanSend (view_of link.old) (view_of link.old).link }
+    requires front { HasFront (view_of link.old) flows.old.flows }
+    requires free { link.old.times.free ≤ moment }
     requires early { moment ≤ 2 ^ 62 }
     requires room { 0 < line.old.room }
     requires pushed { line.old.pushed < 2 ^ 62 }
-    ensures starts { Starts rule rates.now.bandwidth rates.now.delay moment (view_of state.old) flows.old.flows line.old.pending (view_of state.new) flows.new.flows line.new.pending }
-    ensures keeps { KeepsSchedule (view_of state.old) (view_of state.new) }
+    ensures starts { Starts rule rates.now.bandwidth rates.now.delay moment (view_of link.old) flows.old.flows line.old.pending (view_of link.new) flows.new.flows line.new.pending }
+    ensures keeps { KeepsSchedule (view_of link.old) (view_of link.new) }
     ensures keys { flows.new.keys ≡ flows.old.keys }
     ensures room { line.new.room + 1 ≡ line.old.room }
     ensures pushed { line.new.pushed ≡ line.old.pushed + 1 }
 {
-    let flow = next_flow(state);
+    let flow = next_flow(link);
     let packet = flows.pop_front(flow).unwrap();
-    send(rule, rates, &mut state.link, flow, packet, moment, line);
-    state.waiting -= 1;
+    send(rule, rates, &mut link.times, flow, packet, moment, line);
+    link.waiting -= 1;
 }
 
 /// The next packet of the link at the place is sent at the moment.
@@ -101,12 +101,12 @@ pub fn start_next(parts: &mut Parts, place: usize, moment: u64, rates: &Rates)
     requires early { moment ≤ 2 ^ 62 }
     ensures starts { StartsAt place moment rates.now.bandwidth rates.now.delay parts.old parts.new }
 {
-    let state = &mut parts.links[place];
+    let link = &mut parts.links[place];
     start_one(
         parts.rule,
         rates,
         moment,
-        state,
+        link,
         &mut parts.flows,
         &mut parts.line,
     );

@@ -2,7 +2,7 @@ ghost use Rattle.std.specs.Prelude.{[]};
 ghost use Rattle.dn_shaper.specs.Standing.{IsSound, StandsAt};
 
 use crate::configured::Configured;
-use crate::due::Due;
+use crate::next_start::NextStart;
 use crate::parts::Parts;
 use crate::shared_places::SharedPlaces;
 use dn_flows::Flows;
@@ -16,7 +16,7 @@ use std::alloc::Global;
 #[derive(Drop)]
 pub struct State {
     pub parts: Parts,
-    pub due: MinHeap<Due>,
+    pub heap: MinHeap<NextStart>,
     pub shared: SharedPlaces,
     pub configured: Configured,
     pub now: u64,
@@ -38,7 +38,7 @@ pub fn new_state(alloc: Global, rule: Rule) -> State
             waiting: 0,
             line: DelayLine::new(alloc),
         },
-        due: MinHeap::new(alloc),
+        heap: MinHeap::new(alloc),
         shared: SharedPlaces::new(alloc),
         configured: Configured::new(alloc),
         now: 0,

@@ -6,11 +6,11 @@ ghost use Rattle.dn_shaper.specs.Settling.{IsKept};
 ghost use Rattle.dn_shaper.specs.Starting.{IsReady, Within};
 ghost use Rattle.dn_shaper.specs.Submitting.{CanSee, Sees, Answers, treatment_of};
 ghost use Rattle.dn_heap.specs.Heap.{Heap as HeapValue};
-ghost use Rattle.dn_shaper.specs.declared.due.Due.{Due as DueValue};
+ghost use Rattle.dn_shaper.specs.declared.next_start.NextStart.{NextStart as NextStartValue};
 
 use crate::accept::accept;
 use crate::configured::Configured;
-use crate::due::Due;
+use crate::next_start::NextStart;
 use crate::parts::Parts;
 use crate::settle::settle;
 use crate::treatment::Treatment;
@@ -24,7 +24,7 @@ fn lose(parts: &mut Parts, flow: usize)
     requires few { (n : ℕ) × (n < 2 ^ 62) × Within n parts.old }
     requires seen { CanSee flow parts.old }
     ensures sees { Sees flow lost parts.old parts.new }
-    ensures kept { (due : HeapValue DueValue) → IsKept parts.old due → IsKept parts.new due }
+    ensures kept { (heap : HeapValue NextStartValue) → IsKept parts.old heap → IsKept parts.new heap }
     ensures within { (n : ℕ) → Within n parts.old → Within (n + 1) parts.new }
     ensures keeps { KeepsFlows parts.old parts.new }
     ensures waiting { parts.new.waiting ≡ parts.old.waiting }
@@ -38,7 +38,7 @@ fn refuse(parts: &mut Parts, flow: usize)
     requires few { (n : ℕ) × (n < 2 ^ 62) × Within n parts.old }
     requires seen { CanSee flow parts.old }
     ensures sees { Sees flow refused parts.old parts.new }
-    ensures kept { (due : HeapValue DueValue) → IsKept parts.old due → IsKept parts.new due }
+    ensures kept { (heap : HeapValue NextStartValue) → IsKept parts.old heap → IsKept parts.new heap }
     ensures within { (n : ℕ) → Within n parts.old → Within (n + 1) parts.new }
     ensures keeps { KeepsFlows parts.old parts.new }
     ensures waiting { parts.new.waiting ≡ parts.old.waiting }
@@ -49,27 +49,27 @@ fn refuse(parts: &mut Parts, flow: usize)
 /// Settles, and then loses, refuses or accepts a packet of the flow in the room that was reserved.
 pub fn submit(
     parts: &mut Parts,
-    due: &mut MinHeap<Due>,
+    heap: &mut MinHeap<NextStart>,
     configured: &Configured,
     flow: usize,
     packet: &Packet,
     how: &Treatment,
     at: u64,
 ) -> Reply
-    requires kept { IsKept parts.old due.old }
+    requires kept { IsKept parts.old heap.old }
     requires within { flow < length parts.old.flows.keys }
     requires ready { IsReady flow parts.old }
     requires early { at ≤ 2 ^ 62 }
     requires few { (n : ℕ) × (n < 2 ^ 62) × Within n parts.old }
-    requires moves { due.old.moves + parts.old.waiting + 2 ≤ 2 ^ 63 }
+    requires moves { heap.old.moves + parts.old.waiting + 2 ≤ 2 ^ 63 }
     requires seen { CanSee flow parts.old }
     ensures answers { Answers (settings_of configured.now) at flow packet.now (treatment_of how.now) parts.old parts.new result }
-    ensures kept { IsKept parts.new due.new }
+    ensures kept { IsKept parts.new heap.new }
     ensures within { (n : ℕ) → Within n parts.old → Within (n + 1) parts.new }
-    ensures moves { due.new.moves + parts.new.waiting ≤ due.old.moves + parts.old.waiting + 2 }
+    ensures moves { heap.new.moves + parts.new.waiting ≤ heap.old.moves + parts.old.waiting + 2 }
     ensures keeps { KeepsFlows parts.old parts.new }
 {
-    settle(parts, due, configured, at);
+    settle(parts, heap, configured, at);
     match parts.flows.verdict(flow, packet, &how.drops) {
         Verdict::Lost => {
             lose(parts, flow);
@@ -80,7 +80,7 @@ pub fn submit(
             Reply::Full { at, flow }
         }
         Verdict::Take => {
-            let packet = accept(parts, due, configured, flow, packet.len, how.weight, at);
+            let packet = accept(parts, heap, configured, flow, packet.len, how.weight, at);
             Reply::Queued { at, flow, packet }
         }
     }

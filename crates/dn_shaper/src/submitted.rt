@@ -39,14 +39,14 @@ fn send_packet(
 {
     match state.configured.treatment(*target) {
         None => {
-            settle(&mut state.parts, &mut state.due, &state.configured, at);
+            settle(&mut state.parts, &mut state.heap, &state.configured, at);
             Ok(Reply::NoTarget { at })
         }
         Some(how) => {
             let flow = prepare(state, alloc, how.key(*target, packet))?;
             let reply = submit(
                 &mut state.parts,
-                &mut state.due,
+                &mut state.heap,
                 &state.configured,
                 flow,
                 packet,

@@ -16,7 +16,7 @@ pub fn advance(state: &mut State, moment: Moment) -> Reply
     ensures sound { IsSound state.new }
 {
     let at = state.now.max(moment.get());
-    settle(&mut state.parts, &mut state.due, &state.configured, at);
+    settle(&mut state.parts, &mut state.heap, &state.configured, at);
     state.now = at;
     state.calls += 1;
     Reply::Advanced { at }
@@ -33,7 +33,7 @@ pub fn collect(state: &mut State, alloc: Global, moment: Moment) -> Result<Reply
 {
     let at = state.now.max(moment.get());
     let mut list = Vec::with_capacity(alloc, state.parts.line.len() + state.parts.waiting)?;
-    settle(&mut state.parts, &mut state.due, &state.configured, at);
+    settle(&mut state.parts, &mut state.heap, &state.configured, at);
     give(&mut state.parts.line, at, &mut list);
     list.shrink_to_fit();
     state.now = at;

@@ -6,13 +6,13 @@ use Rattle.dn_shaper.proofs.arrive.arrive.Goals as goal
 
 pub returns : goal.returns
 returns c =
-    let v = viewed view_of c.args.parts.now.links.items c.args.home.place c.index_mut-state.result.now c.requires.can.0 c.requires.can.1 c.index_mut-state.ensures.value in
+    let v = viewed view_of c.args.parts.now.links.items c.args.home.place c.index_mut-link.result.now c.requires.can.0 c.requires.can.1 c.index_mut-link.ensures.value in
     record {
-      view = view_of c.index_mut-state.result.now;
-      view' = view_of c.join_link-idle.new.state;
-      there = get-map view_of c.args.parts.now.links.items c.args.home.place c.index_mut-state.result.now v.0;
+      view = view_of c.index_mut-link.result.now;
+      view' = view_of c.join_link-idle.new.link;
+      there = get-map view_of c.args.parts.now.links.items c.args.home.place c.index_mut-link.result.now v.0;
       idle_is = c.join_link-idle.ensures.idle;
-      views_are = map-set view_of c.args.parts.now.links.items c.args.home.place c.join_link-idle.new.state;
+      views_are = map-set view_of c.args.parts.now.links.items c.args.home.place c.join_link-idle.new.link;
       joins = c.join_link-idle.ensures.joins;
       flows_are = c.push_reserved.ensures.flows;
       rule = refl;

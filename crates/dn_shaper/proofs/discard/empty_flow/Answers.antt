@@ -7,15 +7,15 @@ use Rattle.dn_shaper.proofs.discard.empty_flow.Goals as goal
 
 pub returns : goal.returns
 returns c =
-    let v = viewed view_of c.args.parts.now.links.items c.args.home.place c.index_mut-state.result.now c.requires.at.0 c.requires.at.1 c.index_mut-state.ensures.value in
+    let v = viewed view_of c.args.parts.now.links.items c.args.home.place c.index_mut-link.result.now c.requires.at.0 c.requires.at.1 c.index_mut-link.ensures.value in
     let all = c.requires.all in
     let enough = c.requires.waiting in
     record {
-      view = view_of c.index_mut-state.result.now;
-      view' = view_of c.leave_link.new.state;
-      there = get-map view_of c.args.parts.now.links.items c.args.home.place c.index_mut-state.result.now v.0;
-      views_are = map-set view_of c.args.parts.now.links.items c.args.home.place c.leave_link.new.state;
-      leaves = subst (λ (n : ℕ). Leaves c.args.home.slot n (view_of c.index_mut-state.result.now) (view_of c.leave_link.new.state)) all c.leave_link.ensures;
+      view = view_of c.index_mut-link.result.now;
+      view' = view_of c.leave_link.new.link;
+      there = get-map view_of c.args.parts.now.links.items c.args.home.place c.index_mut-link.result.now v.0;
+      views_are = map-set view_of c.args.parts.now.links.items c.args.home.place c.leave_link.new.link;
+      leaves = subst (λ (n : ℕ). Leaves c.args.home.slot n (view_of c.index_mut-link.result.now) (view_of c.leave_link.new.link)) all c.leave_link.ensures;
       flows_are = c.discard.ensures.flows;
       rule = refl;
       accepted = refl;

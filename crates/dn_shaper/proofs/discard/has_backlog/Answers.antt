@@ -8,5 +8,5 @@ use Rattle.dn_shaper.proofs.discard.has_backlog.Goals as goal
 pub returns-in-Some : goal.returns-in-Some
 returns-in-Some c =
     let found = c.in-Some.ensures.lookup in
-    let there = get-read c.deref.result.now c.args.place c.in-Some.state.now found.3.0 found.1 in
-    backlog-told c.args.parts.now.links.items c.args.place c.in-Some.state.now (subst (λ (ls : List LinkParts). slice_get ls c.args.place ≡ Some c.in-Some.state.now) c.deref.ensures.value there)
+    let there = get-read c.deref.result.now c.args.place c.in-Some.link.now found.3.0 found.1 in
+    backlog-told c.args.parts.now.links.items c.args.place c.in-Some.link.now (subst (λ (ls : List LinkParts). slice_get ls c.args.place ≡ Some c.in-Some.link.now) c.deref.ensures.value there)

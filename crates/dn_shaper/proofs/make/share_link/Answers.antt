@@ -15,9 +15,9 @@ take_slot-requires c = record { is_shared = (c.requires.is_shared.0, read-name c
 pub returns-clause-shares : goal.returns-clause-shares
 returns-clause-shares c = record {
   view = view_of c.index_mut.result.now;
-  view' = view_of c.take_slot.new.state;
+  view' = view_of c.take_slot.new.link;
   there = read-view c.args.links.now.items c.args.place (shared c.requires.is_shared.0) c.index_mut.result.now c.requires.is_shared.1 c.index_mut.ensures.value;
-  views_are = map-set view_of c.args.links.now.items c.args.place c.take_slot.new.state;
+  views_are = map-set view_of c.args.links.now.items c.args.place c.take_slot.new.link;
   takes = c.in_ok-slot.ensures.takes;
   place_is = refl;
   slot_is = c.in_ok-slot.ensures.slot;
@@ -25,6 +25,6 @@ returns-clause-shares c = record {
 
 pub returns-in_err-slot-clause-refused : goal.returns-in_err-slot-clause-refused
 returns-in_err-slot-clause-refused c = on-err c.from_residual.result (λ place.
-    subst (λ (vs : List LinkView). KeepsAt (slice_get (map view_of c.args.links.now.items) place) (slice_get vs place)) (sym (map-set view_of c.args.links.now.items c.args.place c.take_slot.new.state))
-    (link-reserved (map view_of c.args.links.now.items) c.args.place (view_of c.index_mut.result.now) (view_of c.take_slot.new.state)
+    subst (λ (vs : List LinkView). KeepsAt (slice_get (map view_of c.args.links.now.items) place) (slice_get vs place)) (sym (map-set view_of c.args.links.now.items c.args.place c.take_slot.new.link))
+    (link-reserved (map view_of c.args.links.now.items) c.args.place (view_of c.index_mut.result.now) (view_of c.take_slot.new.link)
     (read-view c.args.links.now.items c.args.place (shared c.requires.is_shared.0) c.index_mut.result.now c.requires.is_shared.1 c.index_mut.ensures.value) c.in_err-slot.ensures.refused place))

@@ -51,7 +51,7 @@ returns-clause-only c =
       room = omega arith;
       flows = λ g. subst (λ (fs : List FlowState). SameFlow (flow_at c.args.parts.now.flows.flows g) (flow_at fs g)) (sym c.in_ok-reserve_place.ensures.reserved) (place-reserved c.args.parts.now.flows.flows c.args.flow g inside);
       many = ap (λ (fs : List FlowState). length fs) c.in_ok-reserve_place.ensures.reserved ∙ length-set c.args.parts.now.flows.flows c.args.flow (with_place (flow_at c.args.parts.now.flows.flows c.args.flow));
-      views = λ place. subst (λ (vs : List LinkView). KeepsAt (slice_get (views_of c.args.parts.now) place) (slice_get vs place)) (sym (map-set view_of c.args.parts.now.links.items c.index-home.result.now.place c.reserve_at.new.state)) (link-reserved (views_of c.args.parts.now) c.index-home.result.now.place (view_of c.index_mut.result.now) (view_of c.reserve_at.new.state) there c.reserve_at.ensures.keeps place);
+      views = λ place. subst (λ (vs : List LinkView). KeepsAt (slice_get (views_of c.args.parts.now) place) (slice_get vs place)) (sym (map-set view_of c.args.parts.now.links.items c.index-home.result.now.place c.reserve_at.new.link)) (link-reserved (views_of c.args.parts.now) c.index-home.result.now.place (view_of c.index_mut.result.now) (view_of c.reserve_at.new.link) there c.reserve_at.ensures.keeps place);
     }
 
 pub returns-clause-ready : goal.returns-clause-ready
@@ -73,7 +73,7 @@ returns-clause-ready c =
       slot = λ h w pipe at e is_shared.
           let found : Some c.index-home.result.now ≡ Some h = sym at_home ∙ at in
           let h_is : c.index-home.result.now ≡ h = cc in
-          let read = ap (λ (vs : List LinkView). slice_get vs c.index-home.result.now.place) (sym (map-set view_of c.args.parts.now.links.items c.index-home.result.now.place c.reserve_at.new.state)) ∙ ap (λ (x : Home). slice_get (views_of (record { rule = c.args.parts.now.rule; accepted = c.args.parts.now.accepted; flows = c.reserve_place.new.self; homes = c.args.parts.now.homes; links = with_item c.args.parts.now.links c.index-home.result.now.place c.reserve_at.new.state; waiting = c.args.parts.now.waiting; line = c.reserve.new.self })) x.place) h_is ∙ e in
-          subst (λ (x : Home). 0 < room_at w.schedule.room x.slot) h_is (slot-ready (views_of c.args.parts.now) c.index-home.result.now.place c.index-home.result.now.slot (view_of c.index_mut.result.now) (view_of c.reserve_at.new.state) there has w pipe read is_shared);
+          let read = ap (λ (vs : List LinkView). slice_get vs c.index-home.result.now.place) (sym (map-set view_of c.args.parts.now.links.items c.index-home.result.now.place c.reserve_at.new.link)) ∙ ap (λ (x : Home). slice_get (views_of (record { rule = c.args.parts.now.rule; accepted = c.args.parts.now.accepted; flows = c.reserve_place.new.self; homes = c.args.parts.now.homes; links = with_item c.args.parts.now.links c.index-home.result.now.place c.reserve_at.new.link; waiting = c.args.parts.now.waiting; line = c.reserve.new.self })) x.place) h_is ∙ e in
+          subst (λ (x : Home). 0 < room_at w.schedule.room x.slot) h_is (slot-ready (views_of c.args.parts.now) c.index-home.result.now.place c.index-home.result.now.slot (view_of c.index_mut.result.now) (view_of c.reserve_at.new.link) there has w pipe read is_shared);
       line = omega arith;
     }) c.reserve_at.ensures.ok

@@ -7,17 +7,17 @@ use Rattle.dn_shaper.proofs.Settles.{only-none, only-more, reaches-start, reache
 use Rattle.dn_shaper.proofs.settle.settle.Goals as goal
 
 pub loop-init : goal.loop-init
-loop-init c = record { kept = c.requires.kept; only = only-none c.args.parts.now c.args.due.now; reached = reaches-start (settings_of c.args.configured.now) c.args.at c.args.parts.now }
+loop-init c = record { kept = c.requires.kept; only = only-none c.args.parts.now c.args.heap.now; reached = reaches-start (settings_of c.args.configured.now) c.args.at c.args.parts.now }
 
 pub loop-preserved : goal.loop-preserved
 loop-preserved c = record {
   kept = c.settle_one.ensures.kept;
-  only = only-more c.args.parts.now c.loop.parts c.settle_one.new.parts c.args.due.now c.loop.due c.settle_one.new.due c.loop.invariant.only c.settle_one.ensures.only;
+  only = only-more c.args.parts.now c.loop.parts c.settle_one.new.parts c.args.heap.now c.loop.heap c.settle_one.new.heap c.loop.invariant.only c.settle_one.ensures.only;
   reached = reaches-one (settings_of c.args.configured.now) c.args.at c.args.parts.now c.loop.parts c.settle_one.new.parts c.loop.invariant.reached (c.settle_one.ensures.one c.loop-test.true);
 }
 
 pub returns-clause-only : goal.returns-clause-only
-returns-clause-only c = only-more c.args.parts.now c.loop.parts c.settle_one.new.parts c.args.due.now c.loop.due c.settle_one.new.due c.loop.invariant.only c.settle_one.ensures.only
+returns-clause-only c = only-more c.args.parts.now c.loop.parts c.settle_one.new.parts c.args.heap.now c.loop.heap c.settle_one.new.heap c.loop.invariant.only c.settle_one.ensures.only
 
 pub returns-clause-settled : goal.returns-clause-settled
 returns-clause-settled c =

@@ -5,8 +5,8 @@ use Rattle.dn_shaper.proofs.settle.settle.Given as goal
 
 abbrev pub invariant-loop : goal.invariant-loop
 invariant-loop l = record {
-  kept : IsKept l.parts l.due;
-  only : OnlyStarts l.initial.parts l.initial.due l.parts l.due;
+  kept : IsKept l.parts l.heap;
+  only : OnlyStarts l.initial.parts l.initial.heap l.parts l.heap;
   reached : Reaches (settings_of l.configured) l.at l.initial.parts l.parts;
 }
 

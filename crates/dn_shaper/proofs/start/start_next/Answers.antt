@@ -8,24 +8,24 @@ use Rattle.dn_shaper.proofs.start.start_next.Goals as goal
 
 pub start_one-requires-clause-sends : goal.start_one-requires-clause-sends
 start_one-requires-clause-sends c =
-    let v = viewed view_of c.args.parts.now.links.items c.args.place c.index_mut-state.result.now c.requires.can.view c.requires.can.there c.index_mut-state.ensures.value in
+    let v = viewed view_of c.args.parts.now.links.items c.args.place c.index_mut-link.result.now c.requires.can.view c.requires.can.there c.index_mut-link.ensures.value in
     subst (λ (v : LinkView). CanSend v v.link) (sym v.1) (sends-at c.args.parts.now c.requires.agrees c.requires.within c.args.place c.args.moment c.requires.can)
 
 pub start_one-requires-clause-front : goal.start_one-requires-clause-front
 start_one-requires-clause-front c =
-    let v = viewed view_of c.args.parts.now.links.items c.args.place c.index_mut-state.result.now c.requires.can.view c.requires.can.there c.index_mut-state.ensures.value in
+    let v = viewed view_of c.args.parts.now.links.items c.args.place c.index_mut-link.result.now c.requires.can.view c.requires.can.there c.index_mut-link.ensures.value in
     subst (λ (v : LinkView). HasFront v c.args.parts.now.flows.flows) (sym v.1) (front-at c.args.parts.now c.requires.agrees c.requires.within c.args.place c.args.moment c.requires.can)
 
 pub start_one-requires-clause-some : goal.start_one-requires-clause-some
 start_one-requires-clause-some c =
-    let v = viewed view_of c.args.parts.now.links.items c.args.place c.index_mut-state.result.now c.requires.can.view c.requires.can.there c.index_mut-state.ensures.value in
+    let v = viewed view_of c.args.parts.now.links.items c.args.place c.index_mut-link.result.now c.requires.can.view c.requires.can.there c.index_mut-link.ensures.value in
     let e = ap {B = ℕ} (λ (x : LinkView). x.waits) v.1 in
     let some = c.requires.can.some in
     omega arith
 
 pub start_one-requires-clause-free : goal.start_one-requires-clause-free
 start_one-requires-clause-free c =
-    let v = viewed view_of c.args.parts.now.links.items c.args.place c.index_mut-state.result.now c.requires.can.view c.requires.can.there c.index_mut-state.ensures.value in
+    let v = viewed view_of c.args.parts.now.links.items c.args.place c.index_mut-link.result.now c.requires.can.view c.requires.can.there c.index_mut-link.ensures.value in
     let e = ap {B = ℕ} (λ (x : LinkView). x.value.free) v.1 in
     let soon = c.requires.can.soon in
     omega arith
@@ -41,14 +41,14 @@ overflow_sub-parts c = waiting-at c.args.parts.now c.requires.agrees c.requires.
 
 pub returns : goal.returns
 returns c =
-    let v = viewed view_of c.args.parts.now.links.items c.args.place c.index_mut-state.result.now c.requires.can.view c.requires.can.there c.index_mut-state.ensures.value in
+    let v = viewed view_of c.args.parts.now.links.items c.args.place c.index_mut-link.result.now c.requires.can.view c.requires.can.there c.index_mut-link.ensures.value in
     let some = waiting-at c.args.parts.now c.requires.agrees c.requires.within c.args.place c.args.moment c.requires.can in
     record {
       starts = record {
-        view = view_of c.index_mut-state.result.now;
-        view' = view_of c.start_one.new.state;
-        there = get-map view_of c.args.parts.now.links.items c.args.place c.index_mut-state.result.now v.0;
-        views_are = map-set view_of c.args.parts.now.links.items c.args.place c.start_one.new.state;
+        view = view_of c.index_mut-link.result.now;
+        view' = view_of c.start_one.new.link;
+        there = get-map view_of c.args.parts.now.links.items c.args.place c.index_mut-link.result.now v.0;
+        views_are = map-set view_of c.args.parts.now.links.items c.args.place c.start_one.new.link;
         starts = c.start_one.ensures.starts;
         keeps = c.start_one.ensures.keeps;
         rule = refl;

@@ -31,7 +31,7 @@ within-all c =
     within-more (few.0 + 1) (2 ^ 62) _ (omega arith) (noted-within few.0 c.args.flow (one_full (flow_at p.flows.flows c.args.flow)) p (record { rule = p.rule; accepted = p.accepted; flows = c.note_full.new.self; homes = p.homes; links = p.links; waiting = p.waiting; line = p.line }) (omega arith) c.note_full.ensures.flows (omega arith, omega arith, omega arith) refl refl refl refl few.2)
 
 pub returns-clause-kept : goal.returns-clause-kept
-returns-clause-kept c = λ due kept. record {
+returns-clause-kept c = λ heap kept. record {
   agrees = let s = c.requires.seen in ([], refused (home c.args.parts.now.flows.keys c.args.flow) c.args.flow ∷ s.1, returns-clause-sees c s.0 s.1 s.2 s.3);
   within = within-all c;
   held = kept.held;

@@ -12,11 +12,11 @@ pub returns-in_err-flow-in-Some-clause-refused : goal.returns-in_err-flow-in-Som
 returns-in_err-flow-in-Some-clause-refused c = on_err_always c.from_residual.result _ (still-stands c.args.state.now c.prepare.new.state c.prepare.ensures.keeps c.in_err-flow-in-Some.ensures.refused)
 
 pub returns-in-None-clause-sound : goal.returns-in-None-clause-sound
-returns-in-None-clause-sound c = sound-settled c.args.state.now c.settle.new.parts c.settle.new.due c.args.at c.requires.early c.requires.sound c.settle.ensures.kept c.settle.ensures.only.names c.settle.ensures.only.within c.settle.ensures.only.moves
+returns-in-None-clause-sound c = sound-settled c.args.state.now c.settle.new.parts c.settle.new.heap c.args.at c.requires.early c.requires.sound c.settle.ensures.kept c.settle.ensures.only.names c.settle.ensures.only.within c.settle.ensures.only.moves
 
 pub returns-in_ok-flow-in-Some-clause-does : goal.returns-in_ok-flow-in-Some-clause-does
 returns-in_ok-flow-in-Some-clause-does c =
-    let new : State = record { parts = c.submit-reply.new.parts; due = c.submit-reply.new.due; shared = c.prepare.new.state.shared; configured = c.prepare.new.state.configured; now = c.prepare.new.state.now; calls = c.prepare.new.state.calls } in
+    let new : State = record { parts = c.submit-reply.new.parts; heap = c.submit-reply.new.heap; shared = c.prepare.new.state.shared; configured = c.prepare.new.state.configured; now = c.prepare.new.state.now; calls = c.prepare.new.state.calls } in
     let made = c.in_ok-flow-in-Some.ensures in
     submits-does c.args.state.now new c.args.target.now c.args.packet.now c.args.at c.submit-reply.result c.prepare.ensures.keeps.configured c.prepare.ensures.keeps.calls
     (submits-some c.args.target.now c.args.packet.now (treatment_of c.in-Some.how) c.args.at c.in_ok-flow-in-Some.flow c.args.state.now c.prepare.new.state c.submit-reply.new.parts c.submit-reply.result
@@ -28,5 +28,5 @@ returns-in_ok-flow-in-Some-clause-does c =
 pub returns-in_ok-flow-in-Some-clause-sound : goal.returns-in_ok-flow-in-Some-clause-sound
 returns-in_ok-flow-in-Some-clause-sound c =
     let s = c.prepare.new.state in
-    sound-then s c.submit-reply.new.parts c.submit-reply.new.due c.args.at c.requires.early c.prepare.ensures.sound c.submit-reply.ensures.kept c.submit-reply.ensures.keeps.names
+    sound-then s c.submit-reply.new.parts c.submit-reply.new.heap c.args.at c.requires.early c.prepare.ensures.sound c.submit-reply.ensures.kept c.submit-reply.ensures.keeps.names
     (c.submit-reply.ensures.within s.calls c.prepare.ensures.sound.within) c.submit-reply.ensures.moves

@@ -2,7 +2,7 @@
 use Rattle.std.proofs.Common.{◌∙◌}
 use Rattle.std.specs.Ordering.{nat_cmp}
 use Rattle.dn_shaper.proofs.Ordered.{ordered}
-use Rattle.dn_shaper.proofs.due.DueOrd.cmp.Goals as goal
+use Rattle.dn_shaper.proofs.next_start.NextStartOrd.cmp.Goals as goal
 
 pub returns : goal.returns
 returns c =

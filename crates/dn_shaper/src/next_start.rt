@@ -3,19 +3,19 @@ ghost use Rattle.std.specs.Ordering.{as_partial_cmp};
 ghost use Rattle.std.specs.Cmp.{partial_order_from_own_ties};
 ghost use Rattle.std.specs.Cmp.Rules.{comparing};
 ghost use Rattle.std.proofs.Common.{rules};
-ghost use Rattle.dn_shaper.specs.Due.{due_cmp};
+ghost use Rattle.dn_shaper.specs.NextStarts.{next_start_cmp};
 
 use std::cmp::Ordering;
 
-/// When a link with a backlog is free, and the link's place. The links stand in a heap of these, by
-/// moment and then by place.
+/// The next start of a link with a backlog: the moment from which the link is free, and the link's
+/// place. The links stand in a heap of these, by moment and then by place.
 #[derive(Clone, Copy, Debug, PartialEq, Eq)]
-pub struct Due {
+pub struct NextStart {
     pub moment: u64,
     pub place: usize,
 }
 
-impl Due {
+impl NextStart {
     /// Both in one number, so that two are compared without a branch for each field, which a processor
     /// can't foresee in a heap of many links.
     fn key(&self) -> u128
@@ -26,18 +26,18 @@ impl Due {
     }
 }
 
-impl PartialOrd for Due {
-    ghost partial_cmp = { as_partial_cmp due_cmp };
+impl PartialOrd for NextStart {
+    ghost partial_cmp = { as_partial_cmp next_start_cmp };
 
     ghost laws = { partial_order_from_own_ties (Prim.search (comparing, rules)) (Prim.search (comparing, rules)) };
 
-    fn partial_cmp(&self, other: &Due) -> Option<Ordering> {
+    fn partial_cmp(&self, other: &NextStart) -> Option<Ordering> {
         Some(self.cmp(other))
     }
 }
 
-impl Ord for Due {
-    ghost cmp = { due_cmp };
+impl Ord for NextStart {
+    ghost cmp = { next_start_cmp };
 
     ghost total = { Prim.search (comparing, rules) };
 
@@ -45,7 +45,7 @@ impl Ord for Due {
 
     ghost matches_eq = { Prim.search (comparing, rules) };
 
-    fn cmp(&self, other: &Due) -> Ordering {
+    fn cmp(&self, other: &NextStart) -> Ordering {
         self.key().cmp(&other.key())
     }
 }
