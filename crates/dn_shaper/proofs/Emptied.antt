@@ -23,7 +23,7 @@ is_some-cond false m = refl
 pub backlog-told : (links : List LinkParts) (place : ℕ) (s : LinkParts) → slice_get links place ≡ Some s → nat_lt 0 s.waiting ≡ is_some (next_at (next_starts (map view_of links)) place)
 backlog-told links place s e =
     let there = get-map next_start_of (map view_of links) place (view_of s) (get-map view_of links place s e) in
-    is_some-cond (nat_lt 0 s.waiting) s.link.free ∙ ap (λ (o : Option ℕ). is_some o) (sym (next-listed (next_starts (map view_of links)) place (next_start_of (view_of s)) there))
+    is_some-cond (nat_lt 0 s.waiting) s.times.free ∙ ap (λ (o : Option ℕ). is_some o) (sym (next-listed (next_starts (map view_of links)) place (next_start_of (view_of s)) there))
 
 module _ (nexts : List (Option ℕ)) (place : ℕ) where
   step-in : (b : Bool) (k : NextStart) (ks : List NextStart) → is_backlogged nexts k ≡ b → standing place (filter (is_backlogged nexts) (k ∷ ks)) ≡ standing place (cond b (k ∷ filter (is_backlogged nexts) ks) (filter (is_backlogged nexts) ks))
