@@ -1,8 +1,16 @@
-pub mod Inputs
+pub mod AuditSteps
 pub mod Commands
 pub mod Deliveries
+pub mod HistoryBack
+pub mod HistoryExample
+pub mod HistoryReading
+pub mod HistorySteps
+pub mod Inputs
 pub mod LineSteps
+pub mod LongerHistories
 pub mod Orders
 pub mod ReplaySteps
 pub mod Rows
 pub mod Runs
+pub mod SameReplies
+pub mod TextSteps

@@ -1,17 +1,18 @@
--- One entry more of a history, and one line more of a report.
+-- One entry more of a history, and the lines of a report.
 use Rattle.std.proofs.Common.{◌≡◌, ◌≢◌, ◌∙◌, sym, ap, refl, ℕ, suc, ◌+◌, ◌<◌, ◌≤◌, nat_eq, arith, take, drop, length, get_or, Option, List, [], ◌∷◌, ◌++◌, Bool, true, false, inl, inr, append_assoc, add-one, drop-cons}
 use Rattle.std.specs.Prelude.{◌&&◌, option_to_list, filter, map}
 use Rattle.std.proofs.lemmas.Bool.{cases_Bool}
 use Rattle.std.proofs.lemmas.Bool.Decides.{nat_tests}
-use Rattle.std.proofs.lemmas.List.{append-nil, take_more, drop_all, map_push, map-append, get_or-set_same, get_or-set_other}
+use Rattle.std.proofs.lemmas.List.{append-nil, take_more, drop_all, map-append, get_or-set_same, get_or-set_other}
 use Rattle.std.proofs.lemmas.List.Elements.{filter-append}
 use Rattle.std.proofs.lemmas.List.Sums.{count_by_more_yes, count_by_more_no}
 use Rattle.dn_types.specs.declared.delivery.Delivery.{Delivery}
 use Rattle.dn_types.specs.declared.entry.Entry.{Entry}
-use Rattle.dn_records.specs.Records.{Fields, line_of, text_of}
+use Rattle.dn_records.specs.Records.{line_of, text_of}
 use Rattle.dn_replay.specs.Report.{due_and_packet, entry_line, in_order, is_other, is_out, is_submit, line_fields, lines_after, lines_of, report, report_header, row_number, submits_by}
 use Rattle.dn_replay.specs.Tables.{counts_after}
 use Rattle.dn_replay.specs.declared.line.Line.{Line}
+use Rattle.dn_replay.proofs.TextSteps.{text-append}
 
 same : (a b : ℕ) → nat_eq a b ≡ true → a ≡ b
 same a b e = grind (arith, nat_tests)
@@ -68,29 +69,6 @@ unfolding lines_after
 all test n given entries i front total le so_far =
     let whole = rw (drop_all i entries le) at so_far in
     sym (append-nil front) ∙ whole
-
--- The text of records and of further ones.
-pub text-append : (front back : List Fields) → text_of (front ++ back) ≡ text_of front ++ text_of back
-unfolding text_of
-text-append [] back = refl
-text-append (first ∷ front) back = rw (text-append front back) (sym (append_assoc (line_of first) (text_of front) (text_of back)))
-
-text-push : (front : List Fields) (last : Fields) → text_of (front ++ last ∷ []) ≡ text_of front ++ line_of last
-unfolding text_of
-text-push front last = text-append front (last ∷ []) ∙ ap (λ (t : List ℕ). text_of front ++ t) (append-nil (line_of last))
-
--- The text of one line more.
-pub text-more : (start : List ℕ) (lines : List Line) (i : ℕ) (d : Line) → i < length lines
-    → (start ++ text_of (map line_fields (take i lines))) ++ line_of (line_fields (get_or lines i d)) ≡ start ++ text_of (map line_fields (take (i + 1) lines))
-text-more start lines i d lt =
-    let more : map line_fields (take (i + 1) lines) ≡ map line_fields (take i lines) ++ line_fields (get_or lines i d) ∷ [] =
-    ap (map line_fields) (take_more lines i d lt) ∙ map_push line_fields (take i lines) (get_or lines i d) in
-    append_assoc start _ _ ∙ ap (λ (t : List ℕ). start ++ t) (sym (text-push (map line_fields (take i lines)) (line_fields (get_or lines i d))) ∙ ap text_of (sym more))
-
--- The text of no line.
-pub text-none : (start : List ℕ) → start ≡ start ++ text_of []
-unfolding text_of
-text-none start = sym (append-nil start)
 
 -- The header, the lines of delivered packets and the others are the report.
 pub report_is : (n : ℕ) (history : List Entry) (outs others : List Line) → outs ≡ in_order due_and_packet (filter is_out (lines_of n history)) → others ≡ in_order row_number (filter is_other (lines_of n history))

@@ -2,7 +2,7 @@
 use Rattle.std.proofs.Common.{◌≡◌, ◌∙◌, ℕ, ◌<◌, Bool, true, false, List, [], ◌∷◌, ◌++◌, Option, Some, None, Result, Ok, Err, refl, sym, ap, All, arith}
 use Rattle.std.specs.Io.KnownBytes.{Keeps}
 use Rattle.std.proofs.lemmas.List.Elements.{All-nil, All-push}
-use Rattle.dn_types.specs.History.{IsLawful, IsLawfulAfter}
+use Rattle.dn_types.specs.History.{IsLawful, calls_of as calls_of_history}
 use Rattle.dn_types.specs.Replies.{reply}
 use Rattle.dn_types.specs.declared.call.Call.{Call}
 use Rattle.dn_types.specs.declared.entry.Entry.{Entry}
@@ -18,6 +18,7 @@ use Rattle.dn_replay.specs.declared.replay_fault.ReplayFault.TheVariants.{BadRow
 use Rattle.dn_replay.specs.declared.row.Row.{Row}
 use Rattle.dn_replay.specs.declared.source.Source.{Source}
 use Rattle.dn_replay.specs.declared.source.Source.TheVariants.{Input}
+use Rattle.dn_replay.proofs.LongerHistories.{calls-more, lawful_more}
 
 pub keeps : (known : Option (List ℕ)) → Keeps known known
 keeps None = tt
@@ -31,32 +32,17 @@ by_one (c ∷ calls) =
     let zero_below : 0 < 1 = omega arith in
     All-push (λ (e : Entry). e.caller < 1) (history_of calls) (entry_after calls c) (by_one calls) zero_below
 
--- The calls before these entries, and theirs.
-made_after : List Call → List Entry → List Call
-made_after calls [] = calls
-made_after calls (e ∷ entries) = made_after (e.call ∷ calls) entries
-
-made_after-push : (calls : List Call) (entries : List Entry) (e : Entry) → made_after calls (entries ++ e ∷ []) ≡ e.call ∷ made_after calls entries
-unfolding made_after
-made_after-push calls [] e = refl
-made_after-push calls (first ∷ entries) e = made_after-push (first.call ∷ calls) entries e
-
-made : (calls : List Call) → made_after [] (history_of calls) ≡ calls
-unfolding made_after history_of
+made : (calls : List Call) → calls_of_history (history_of calls) ≡ calls
+unfolding history_of
 made [] = refl
-made (c ∷ calls) = made_after-push [] (history_of calls) (entry_after calls c) ∙ ap (λ (before : List Call). c ∷ before) (made calls)
-
-lawful-push : (calls : List Call) (entries : List Entry) (e : Entry) → IsLawfulAfter Ordered calls entries → e.reply ≡ reply Ordered (made_after calls entries) e.call → IsLawfulAfter Ordered calls (entries ++ e ∷ [])
-unfolding made_after
-lawful-push calls [] e lawful is = (is, tt)
-lawful-push calls (first ∷ entries) e lawful is = (lawful.0, lawful-push (first.call ∷ calls) entries e lawful.1 is)
+made (c ∷ calls) = calls-more (history_of calls) (entry_after calls c) ∙ ap (λ (before : List Call). c ∷ before) (made calls)
 
 -- The history of a run is lawful.
 pub lawful : (calls : List Call) → IsLawful Ordered (history_of calls)
 unfolding history_of
 lawful [] = tt
 lawful (c ∷ calls) =
-    lawful-push [] (history_of calls) (entry_after calls c) (lawful calls) (ap (λ (before : List Call). reply Ordered before c) (sym (made calls)))
+    lawful_more Ordered (history_of calls) (entry_after calls c) (lawful calls) (ap (λ (before : List Call). reply Ordered before c) (sym (made calls)))
 
 -- An input may have held some text.
 pub some_text : (known : Option (List ℕ)) → (text : List ℕ) × IsTextOf known text

@@ -1,6 +1,12 @@
+pub mod Audit
 pub mod ConfigFile
 pub mod Configuring
+pub mod EntryRecords
 pub mod Faults
+pub mod Fields
+pub mod HistoryFile
+pub mod HistoryRecords
+pub mod HistoryText
 pub mod PacketFile
 pub mod Reading
 pub mod Replays

@@ -1,7 +1,7 @@
 ghost use Rattle.std.specs.Prelude.{◌≡◌, ◌≤◌, ◌<◌, IfOk};
 ghost use Rattle.csv.specs.Records.{fields_of};
 ghost use Rattle.dn_text.specs.Addresses.{address_of};
-ghost use Rattle.dn_replay.specs.PacketFile.{at_place, column, is_name, number_at};
+ghost use Rattle.dn_replay.specs.Fields.{at_place, column, is_form, is_name, number_at};
 
 use csv::ByteRecord;
 use dn_text::{read_address, read_number};
@@ -48,4 +48,12 @@ pub(crate) fn is_name(fields: &ByteRecord, place: usize, name: &[u8]) -> bool
     ensures { result ≡ is_name place (fields_of fields.now) name.now }
 {
     column(fields, place) == name
+}
+
+/// Whether a record has this name at the place, and this many fields.
+pub(crate) fn is_form(fields: &ByteRecord, place: usize, name: &[u8], count: usize) -> bool
+    requires { 1 ≤ place }
+    ensures { result ≡ is_form place name.now count (fields_of fields.now) }
+{
+    is_name(fields, place, name) && fields.len() == count
 }

@@ -23,8 +23,8 @@ pub enum ReplayFault {
     /// the header is bad both are 0.
     #[error("packet row {row}, field {field}: bad")]
     BadRow { row: u64, field: u64 },
-    /// A record of a history file isn't of the history form. Records are numbered from 1.
-    /// No call gives it yet.
+    /// A record of a history file isn't of the history form or is missing, or stands behind the end.
+    /// Records are numbered from 1, and a missing one has the number that it would have.
     #[error("history record {0}: bad")]
     BadRecord(u64),
     /// An input is longer than its limit.

@@ -2,7 +2,6 @@ ghost use Rattle.std.specs.Prelude.{◌≡◌, ◌<◌, [], ◌∷◌, ◌++◌,
 ghost use Rattle.std.specs.Io.KnownBytes.{Appends};
 ghost use Rattle.dn_types.specs.declared.entry.Entry.{Entry};
 ghost use Rattle.dn_records.specs.Records.{line_of, text_of};
-ghost use Rattle.dn_records.specs.Writing.{bytes_of};
 ghost use Rattle.dn_replay.specs.Report.{line_fields, report, report_header};
 ghost use Rattle.dn_replay.specs.Writing.{IsUnwritten};
 ghost use Rattle.dn_replay.specs.declared.line.Line.TheVariants.{Held, NoTarget};
@@ -10,20 +9,15 @@ ghost use Rattle.dn_replay.specs.declared.source.Source.TheVariants.{Report};
 
 use crate::line::Line;
 use crate::lines::lines_of_history;
+use crate::output::{number, write_text};
 use crate::replay_fault::ReplayFault;
 use crate::source::Source;
-use dn_records::{Field, Outlet, RecordWriter, write_whole};
+use dn_records::{Field, Outlet, RecordWriter};
 use dn_types::Entry;
 use std::alloc::{AllocError, Global};
 
 // Room for a line. A text with longer lines grows.
 const LINE_LEN: usize = 64;
-
-fn number<'a>(value: u64) -> Field<'a>
-    ensures { bytes_of result ≡ decimal value }
-{
-    Field::Number(u128::from(value))
-}
 
 /// Adds the line of names.
 fn write_header(writer: &mut RecordWriter) -> Result<(), AllocError>
@@ -155,20 +149,6 @@ pub(crate) fn report_text(alloc: Global, n: usize, entries: &[Entry]) -> Result<
     write_lines(&mut writer, lines.outs.as_slice())?;
     write_lines(&mut writer, lines.others.as_slice())?;
     Ok(writer.into_text())
-}
-
-/// Writes a text whole, under the name `source`.
-fn write_text<O: Outlet>(out: &mut O, source: Source, text: &[u8]) -> Result<(), ReplayFault>
-    requires { O.has_failed out.old ≡ false }
-    ensures ok { OnOk result (Appends (O.contents out.old) (O.contents out.new) text.now) }
-    ensures sound { OnOk result (O.has_failed out.new ≡ false) }
-    ensures err { IfErr result (λ fault. IsUnwritten source text.now
-        (O.contents out.old) (O.contents out.new) (O.has_failed out.new) fault) }
-{
-    match write_whole(out, text) {
-        Ok(()) => Ok(()),
-        Err(_) => Err(ReplayFault::Write(source)),
-    }
 }
 
 /// Writes the report of a history with n callers. The text is built whole before it is written.

@@ -12,7 +12,7 @@ pub enum Source {
     Config,
     /// A packet file.
     Packets,
-    /// A history file. No call reads one yet.
+    /// A history file.
     History,
     /// A report.
     Report,

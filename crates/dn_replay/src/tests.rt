@@ -1,7 +1,11 @@
+mod audit;
 mod broken;
 mod example;
 mod fakes;
 mod files;
+mod histories;
+mod history;
+mod history_files;
 mod memory;
 mod replays;
 mod reports;

@@ -9,7 +9,12 @@ use crate::start::start_next;
 use dn_heap::MinHeap;
 
 /// Starts the packet that is next in time, where it starts by the moment.
-fn settle_one(parts: &mut Parts, heap: &mut MinHeap<NextStart>, configured: &Configured, at: u64) -> bool
+fn settle_one(
+    parts: &mut Parts,
+    heap: &mut MinHeap<NextStart>,
+    configured: &Configured,
+    at: u64,
+) -> bool
     requires kept { IsKept parts.old heap.old }
     requires early { at ≤ 2 ^ 62 }
     requires moves { heap.old.moves + parts.old.waiting ≤ 2 ^ 63 }

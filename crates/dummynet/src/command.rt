@@ -14,6 +14,12 @@ pub fn command<'a>(alloc: Global) -> Result<Command<'a>, Error> {
             Arg::new(alloc, "packets")
                 .value_name("PACKETS")
                 .required(true),
+        )?
+        .arg(
+            Arg::new(alloc, "history")
+                .long("history")
+                .value_name("FILE")
+                .help("Writes the calls and their replies to FILE, after the report"),
         )?;
     let all = Command::new(alloc, "dummynet")
         .about("Emulates pipes and queues. Without arguments it replays one joined input")

@@ -7,7 +7,7 @@ use clap::error::ErrorKind;
 use clap::{ArgMatches, Error};
 use command::command;
 use dn_records::{FromReader, FromWriter};
-use dn_replay::{ReplayFault, Source, replay, replay_joined};
+use dn_replay::{ReplayFault, Source, replay, replay_joined, write_history};
 use std::process::ExitCode;
 use std::rt::{Env, Files};
 use std::{env, fs, io};
@@ -23,11 +23,13 @@ fn replay_input<R: Input + Print + AllocGlobal>(rt: &R) -> Result<(), ReplayFaul
     Ok(())
 }
 
-/// From two files to standard output. Both are opened before either is read.
+/// From two files to standard output. Both are opened before either is read. Where a third file is asked
+/// for, it is made, or emptied if it is there, after the report was written, and gets the history.
 fn replay_files<R: Files + Print + AllocGlobal>(
     rt: &R,
     config: &str,
     packets: &str,
+    history: Option<&str>,
 ) -> Result<(), ReplayFault> {
     let Ok(config) = fs::open(rt, config) else {
         return Err(ReplayFault::Read(Source::Config));
@@ -38,8 +40,14 @@ fn replay_files<R: Files + Print + AllocGlobal>(
     let mut config = FromReader::new(config);
     let mut packets = FromReader::new(packets);
     let mut out = FromWriter::new(io::writer(rt));
-    let _history = replay(rt.alloc(), &mut config, &mut packets, &mut out)?;
-    Ok(())
+    let entries = replay(rt.alloc(), &mut config, &mut packets, &mut out)?;
+    let Some(path) = history else {
+        return Ok(());
+    };
+    let Ok(file) = fs::create(rt, path) else {
+        return Err(ReplayFault::Write(Source::History));
+    };
+    write_history(rt.alloc(), &entries, &mut FromWriter::new(file))
 }
 
 fn run<R: Input + Files + Print + AllocGlobal>(
@@ -50,7 +58,7 @@ fn run<R: Input + Files + Print + AllocGlobal>(
         Some((_, found)) => {
             let config = found.get_str("config").unwrap_or("");
             let packets = found.get_str("packets").unwrap_or("");
-            replay_files(rt, config, packets)
+            replay_files(rt, config, packets, found.get_str("history"))
         }
         None => replay_input(rt),
     }

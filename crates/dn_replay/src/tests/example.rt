@@ -1,4 +1,8 @@
-use crate::{FromReader, FromWriter, read_config, read_packets, replay, write_report};
+use crate::{
+    FromReader, FromWriter, Verdict, audit, read_config, read_packets, replay, write_history,
+    write_report,
+};
+use dn_types::Rule;
 use std::test::Fail;
 
 #[test]
@@ -8,6 +12,7 @@ fn the_example_of_the_readme(rt: HostRuntime) -> Result<(), Fail> {
     let packets = b"moment,target,number,src,dst,proto,sport,dport,len,word\n\
         0,pipe,1,10.0.0.1,10.0.0.2,17,1000,2000,1000,0\n"
         .as_slice();
+    let mut file = Vec::new(alloc);
     let mut output = Vec::new(alloc);
     let mut out = FromWriter::new(&mut output);
     let history = replay(
@@ -17,11 +22,15 @@ fn the_example_of_the_readme(rt: HostRuntime) -> Result<(), Fail> {
         &mut out,
     )?;
     write_report(alloc, 1, &history, &mut out)?;
+    write_history(alloc, &history, &mut FromWriter::new(&mut file))?;
+    let verdict = audit(alloc, Rule::Ordered, &history)?;
+    assert!(rt; verdict == Verdict::Lawful);
     let rows = read_packets(alloc, &mut FromReader::new(packets))?;
     let commands = read_config(alloc, &mut FromReader::new(config))?;
     assert!(rt; history.len() == commands.len() + rows.len() + 1);
     let report = "event,row,flow,packet,at,start,due\nout,1,0,0,0,0,1000000\n";
     let twice = report.repeat(alloc, 2)?;
     assert!(rt; output.as_slice() == twice.as_bytes());
+    assert!(rt; file.starts_with(b"dummynet-history,3\n") && file.ends_with(b"\nend,3\n"));
     Ok(())
 }

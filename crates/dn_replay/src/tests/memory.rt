@@ -1,6 +1,11 @@
 use super::broken::{FULL_QUEUE, REPORT};
-use crate::{FromReader, FromWriter, ReplayFault, replay, replay_joined};
+use super::histories::one_caller;
+use super::history::ONE_CALLER;
+use crate::{
+    FromReader, FromWriter, ReplayFault, Verdict, audit, replay, replay_joined, write_history,
+};
 use dn_text::split_joined;
+use dn_types::Rule;
 use std::alloc::Global;
 use std::test::Fail;
 
@@ -20,21 +25,21 @@ fn replay_two(alloc: Global, written: &mut Vec<u8>) -> Result<usize, ReplayFault
     replay(alloc, &mut config, &mut packets, &mut out).map(|entries| entries.len())
 }
 
-// An empty output with room for a report, so that a replay grows nothing of it.
-fn output(alloc: Global) -> Result<Vec<u8>, Fail> {
+// An empty output with room for a text, so that writing the text grows nothing of it.
+fn output(alloc: Global, text: &str) -> Result<Vec<u8>, Fail> {
     let mut written = Vec::new(alloc);
-    if written.reserve(REPORT.len()).is_err() {
-        written.reserve(REPORT.len())?;
+    if written.reserve(text.len()).is_err() {
+        written.reserve(text.len())?;
     }
     Ok(written)
 }
 
-// Run with each growth refused in turn, these tests pass for every one: a replay that is refused memory has written
+// Run with each growth refused in turn, these tests pass for every one: a call that is refused memory has written
 // nothing, and made again it answers what it would have.
 #[test]
 fn a_refused_replay_of_one_input_is_made_again(rt: HostRuntime) -> Result<(), Fail> {
     let alloc = rt.alloc();
-    let mut written = output(alloc)?;
+    let mut written = output(alloc, REPORT)?;
     let mut answer = replay_one(alloc, &mut written);
     if answer == Err(ReplayFault::OutOfMemory) {
         assert!(rt; written.is_empty());
@@ -48,7 +53,7 @@ fn a_refused_replay_of_one_input_is_made_again(rt: HostRuntime) -> Result<(), Fa
 #[test]
 fn a_refused_replay_of_two_inputs_is_made_again(rt: HostRuntime) -> Result<(), Fail> {
     let alloc = rt.alloc();
-    let mut written = output(alloc)?;
+    let mut written = output(alloc, REPORT)?;
     let mut answer = replay_two(alloc, &mut written);
     if answer == Err(ReplayFault::OutOfMemory) {
         assert!(rt; written.is_empty());
@@ -56,5 +61,32 @@ fn a_refused_replay_of_two_inputs_is_made_again(rt: HostRuntime) -> Result<(), F
     }
     assert!(rt; answer == Ok(6));
     assert!(rt; written.as_slice() == REPORT.as_bytes());
+    Ok(())
+}
+
+#[test]
+fn a_refused_history_is_written_again(rt: HostRuntime) -> Result<(), Fail> {
+    let alloc = rt.alloc();
+    let mut written = output(alloc, ONE_CALLER)?;
+    let entries = one_caller(alloc)?;
+    let mut answer = write_history(alloc, &entries, &mut FromWriter::new(&mut written));
+    if answer == Err(ReplayFault::OutOfMemory) {
+        assert!(rt; written.is_empty());
+        answer = write_history(alloc, &entries, &mut FromWriter::new(&mut written));
+    }
+    assert!(rt; answer == Ok(()));
+    assert!(rt; written.as_slice() == ONE_CALLER.as_bytes());
+    Ok(())
+}
+
+#[test]
+fn a_refused_audit_is_made_again(rt: HostRuntime) -> Result<(), Fail> {
+    let alloc = rt.alloc();
+    let entries = entries(alloc)?;
+    let mut verdict = audit(alloc, Rule::Ordered, &entries);
+    if verdict.is_err() {
+        verdict = audit(alloc, Rule::Ordered, &entries);
+    }
+    assert!(rt; verdict == Ok(Verdict::Lawful));
     Ok(())
 }

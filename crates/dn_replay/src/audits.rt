@@ -1,0 +1,24 @@
+ghost use Rattle.std.specs.Prelude.{IfOk, OnErr};
+ghost use Rattle.dn_replay.specs.Audit.{CanWantMemory, IsVerdict};
+
+use crate::verdict::Verdict;
+use dn_shaper::Shaper;
+use dn_types::{Entry, Rule};
+use std::alloc::{AllocError, Global};
+
+/// Asks a new shaper the calls of a history, oldest first, and compares each reply with the entry's.
+/// The first that differs is the answer. It doesn't matter which caller made a call. Err says that memory was
+/// refused for a call.
+pub fn audit(alloc: Global, rule: Rule, entries: &[Entry]) -> Result<Verdict, AllocError>
+    ensures ok { IfOk result (λ verdict. IsVerdict rule entries.now verdict) }
+    ensures err { OnErr result (CanWantMemory rule entries.now) }
+{
+    let mut shaper = Shaper::with_rule(alloc, rule);
+    for (index, entry) in entries.iter().enumerate() {
+        let reply = shaper.apply(&entry.call)?;
+        if reply != entry.reply {
+            return Ok(Verdict::Differs(index));
+        }
+    }
+    Ok(Verdict::Lawful)
+}

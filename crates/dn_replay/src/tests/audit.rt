@@ -1,0 +1,95 @@
+use super::histories::{entry, moment, number, one_caller, submit};
+use crate::{Verdict, audit};
+use dn_config::parse_line;
+use dn_types::{Call, Deliveries, Delivery, Entry, Reply, Rule, Target};
+use std::alloc::Global;
+use std::test::Fail;
+
+fn queued(at: u64, packet: u64) -> Reply {
+    Reply::Queued {
+        at,
+        flow: 0,
+        packet,
+    }
+}
+
+// The history of one caller, with this reply in the place of its own.
+fn changed(alloc: Global, place: usize, reply: Reply) -> Result<Vec<Entry>, Fail> {
+    let mut history = one_caller(alloc)?;
+    if let Some(entry) = history.get_mut(place) {
+        entry.reply = reply;
+    }
+    Ok(history)
+}
+
+#[test]
+fn one_caller_history(rt: HostRuntime) -> Result<(), Fail> {
+    let alloc = rt.alloc();
+    let history = one_caller(alloc)?;
+    assert!(rt; audit(alloc, Rule::Ordered, history.as_slice()) == Ok(Verdict::Lawful));
+    for (place, reply) in [
+        (1, queued(0, 1)),
+        (1, queued(u64::MAX, 0)),
+        (0, Reply::Exhausted),
+    ] {
+        let history = changed(alloc, place, reply)?;
+        let verdict = audit(alloc, Rule::Ordered, history.as_slice());
+        assert!(rt; verdict == Ok(Verdict::Differs(place)));
+    }
+    Ok(())
+}
+
+fn configure(line: &str) -> Result<Call, Fail> {
+    let command = parse_line(line).ok().flatten().ok_or("a command")?;
+    Ok(Call::Configure(command))
+}
+
+// A packet of 1,000 bytes to pipe 1, which takes 1 ms at 8 Mbit/s.
+fn packet(at: u64) -> Result<Call, Fail> {
+    submit(Target::Pipe(number(1)?), moment(at)?)
+}
+
+// The second packet overtakes the first, which has a delay of 50 ms.
+fn overtaking(alloc: Global) -> Result<Vec<Entry>, Fail> {
+    let delivery = Delivery {
+        due: 3_000_000,
+        packet: 1,
+        flow: 0,
+        start: 2_000_000,
+    };
+    let given = Reply::Delivered {
+        at: 3_000_000,
+        list: Deliveries::from_vec(Vec::from_slice(alloc, &[delivery])?),
+    };
+    let slow = configure("pipe 1 config bw 8Mbit/s delay 50")?;
+    let fast = configure("pipe 1 config bw 8Mbit/s")?;
+    let mut entries = Vec::new(alloc);
+    entries.push(entry(slow, Reply::Configured))?;
+    entries.push(entry(packet(0)?, queued(0, 0)))?;
+    entries.push(entry(fast, Reply::Configured))?;
+    entries.push(entry(packet(2_000_000)?, queued(2_000_000, 1)))?;
+    entries.push(entry(Call::Collect(moment(3_000_000)?), given))?;
+    Ok(entries)
+}
+
+#[test]
+fn rules_of_old_files(rt: HostRuntime) -> Result<(), Fail> {
+    let alloc = rt.alloc();
+    let history = overtaking(alloc)?;
+    assert!(rt; audit(alloc, Rule::Free, history.as_slice()) == Ok(Verdict::Lawful));
+    assert!(rt; audit(alloc, Rule::Ordered, history.as_slice()) == Ok(Verdict::Differs(4)));
+    Ok(())
+}
+
+#[test]
+fn the_empty_history_is_lawful(rt: HostRuntime) {
+    for rule in [Rule::Free, Rule::Ordered] {
+        assert!(rt; audit(rt.alloc(), rule, &[]) == Ok(Verdict::Lawful));
+    }
+}
+
+#[test]
+fn statuses_of_verdicts(rt: HostRuntime) {
+    assert!(rt; Verdict::Lawful.status() == 0);
+    assert!(rt; Verdict::Differs(4).status() == 1);
+}

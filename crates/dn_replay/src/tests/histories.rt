@@ -1,0 +1,172 @@
+use dn_types::{
+    Bandwidth, Call, Command, Delay, Deliveries, Delivery, Entry, FiveTuple, FlowKey, FlowStatus,
+    Len, Limit, Loss, Mask, Moment, Number, Packet, Reply, Statuses, Target,
+};
+use std::alloc::Global;
+use std::test::Fail;
+
+pub const NO_BITS: Mask = Mask {
+    src: 0,
+    dst: 0,
+    proto: 0,
+    sport: 0,
+    dport: 0,
+};
+
+pub fn number(value: u32) -> Result<Number, Fail> {
+    Ok(Number::new(value).ok_or("a number")?)
+}
+
+// The command of `pipe 1 config bw 8Mbit/s`.
+pub fn pipe_one() -> Option<Command> {
+    Some(Command::Pipe {
+        number: Number::new(1)?,
+        bw: Bandwidth::new(8_000_000)?,
+        delay: Delay::new(0)?,
+        limit: Limit::slots(50)?,
+        loss: Loss::new(0)?,
+        buckets: None,
+        mask: NO_BITS,
+    })
+}
+
+// A Submit of the packet of 1,000 bytes that the worked examples send.
+pub fn submit(target: Target, moment: Moment) -> Result<Call, Fail> {
+    let packet = Packet {
+        tuple: FiveTuple {
+            src: 0x0a00_0001,
+            dst: 0x0a00_0002,
+            proto: 17,
+            sport: 1000,
+            dport: 2000,
+        },
+        len: Len::new(1000).ok_or("a length")?,
+        word: 0,
+    };
+    Ok(Call::Submit {
+        target,
+        packet,
+        moment,
+    })
+}
+
+pub fn moment(value: u64) -> Result<Moment, Fail> {
+    Ok(Moment::new(value).ok_or("a moment")?)
+}
+
+// The state of pipe 1's one flow, whose one packet has started.
+fn one_started() -> Result<FlowStatus, Fail> {
+    Ok(FlowStatus {
+        flow: 0,
+        key: FlowKey {
+            target: Target::Pipe(number(1)?),
+            pipe: number(1)?,
+            mask: NO_BITS,
+            tuple: FiveTuple {
+                src: 0,
+                dst: 0,
+                proto: 0,
+                sport: 0,
+                dport: 0,
+            },
+        },
+        queued: 0,
+        bytes: 0,
+        lost: 0,
+        full: 0,
+        started: 1,
+        discarded: 0,
+    })
+}
+
+// A state with a value of its own in each field.
+pub fn flow_state() -> Result<FlowStatus, Fail> {
+    Ok(FlowStatus {
+        flow: 1,
+        key: FlowKey {
+            target: Target::Queue(number(3)?),
+            pipe: number(4)?,
+            mask: Mask {
+                src: 0xffff_ff00,
+                dst: 0x0000_00ff,
+                proto: 255,
+                sport: 65_535,
+                dport: 1,
+            },
+            tuple: FiveTuple {
+                src: 0x0a00_0000,
+                dst: 9,
+                proto: 6,
+                sport: 40_000,
+                dport: 1,
+            },
+        },
+        queued: 5,
+        bytes: 6,
+        lost: 7,
+        full: 8,
+        started: 9,
+        discarded: 10,
+    })
+}
+
+// What is refused memory in these three is tried once more, so that a call under test is made all the same.
+fn delivered(alloc: Global) -> Result<Reply, Fail> {
+    let mut items = Vec::new(alloc);
+    if items.reserve(1).is_err() {
+        items.reserve(1)?;
+    }
+    items.push(Delivery {
+        due: 1_000_000,
+        packet: 0,
+        flow: 0,
+        start: 0,
+    })?;
+    Ok(Reply::Delivered {
+        at: 1_000_000,
+        list: Deliveries::from_vec(items),
+    })
+}
+
+fn status(alloc: Global) -> Result<Reply, Fail> {
+    // The prover asks that a body that moves a state into a list names the types in it.
+    let _key: Option<FlowKey> = None;
+    let _target: Option<Target> = None;
+    let mut items = Vec::new(alloc);
+    if items.reserve(1).is_err() {
+        items.reserve(1)?;
+    }
+    items.push(one_started()?)?;
+    Ok(Reply::Status {
+        list: Statuses::from_vec(items),
+    })
+}
+
+pub fn entry(call: Call, reply: Reply) -> Entry {
+    Entry {
+        caller: 0,
+        call,
+        reply,
+    }
+}
+
+// The history of one caller that configures pipe 1, submits a packet, collects it and asks for the flows.
+pub fn one_caller(alloc: Global) -> Result<Vec<Entry>, Fail> {
+    let queued = Reply::Queued {
+        at: 0,
+        flow: 0,
+        packet: 0,
+    };
+    let pipe = Call::Configure(pipe_one().ok_or("the values are in range")?);
+    let packet = submit(Target::Pipe(number(1)?), moment(0)?)?;
+    let collect = Call::Collect(moment(1_000_000)?);
+    let mut entries = Vec::new(alloc);
+    if entries.reserve(4).is_err() {
+        entries.reserve(4)?;
+    }
+    entries.push(entry(pipe, Reply::Configured))?;
+    entries.push(entry(packet, queued))?;
+    entries.push(entry(collect, delivered(alloc)?))?;
+    entries.push(entry(Call::Show, status(alloc)?))?;
+    Ok(entries)
+}

@@ -1,0 +1,208 @@
+use super::fakes::FailingReader;
+use super::histories::one_caller;
+use crate::{FromReader, Inlet, ReplayFault, Source, read_history};
+use dn_types::{Deliveries, Delivery, Entry, FlowKey, FlowStatus, Reply, Rule, Statuses, Target};
+use std::alloc::Global;
+use std::test::Fail;
+
+// The file of one caller's history, record by record.
+const RECORDS: [&str; 12] = [
+    "dummynet-history,3\n",
+    "c,0,configure,pipe 1 config bw 8000000bit/s\n",
+    "r,configured\n",
+    "c,0,submit,pipe,1,10.0.0.1,10.0.0.2,17,1000,2000,1000,0,0\n",
+    "r,queued,0,0,0\n",
+    "c,0,collect,1000000\n",
+    "r,delivered,1000000,1\n",
+    "d,0,0,0,1000000\n",
+    "c,0,show\n",
+    "r,status,1\n",
+    "f,0,pipe,1,1,0.0.0.0,0.0.0.0,0,0,0,0.0.0.0,0.0.0.0,0,0,0,0,0,0,0,1,0\n",
+    "end,4\n",
+];
+
+// The rule and the count of the entries of a history file.
+fn read(alloc: Global, text: &[u8]) -> Result<(Rule, usize), ReplayFault> {
+    let mut input = FromReader::new(text);
+    let (rule, entries) = read_history(alloc, &mut input)?;
+    Ok((rule, entries.len()))
+}
+
+// The file with another record in the place of the one with this number.
+fn text_with(alloc: Global, number: usize, other: &str) -> Result<String, Fail> {
+    let mut text = String::new(alloc);
+    for (i, record) in RECORDS.iter().enumerate() {
+        text.push_str(if i + 1 == number { other } else { *record })?;
+    }
+    Ok(text)
+}
+
+#[test]
+fn one_callers_history_is_read(rt: HostRuntime) -> Result<(), Fail> {
+    let alloc = rt.alloc();
+    let text = text_with(alloc, 0, "")?;
+    let mut input = FromReader::new(text.as_bytes());
+    let (rule, entries) = read_history(alloc, &mut input)?;
+    let expected = one_caller(alloc)?;
+    assert!(rt; !input.failed());
+    assert!(rt; rule == Rule::Ordered);
+    assert!(rt; entries.as_slice() == expected.as_slice());
+    Ok(())
+}
+
+// Whether a record that is cut after so many bytes is a record of its own.
+fn is_whole(number: usize, record: &str, cut: usize) -> bool {
+    match number {
+        // A shorter bandwidth, or none.
+        2 => cut == 27 || cut == 28 || (32..=38).contains(&cut) || cut == 43,
+        // An earlier moment.
+        6 => (13..=19).contains(&cut),
+        8 => (9..=15).contains(&cut),
+        _ => cut.saturating_add(1) == record.len(),
+    }
+}
+
+// Whether the file is refused as it should be after each byte of the record with this number, which is added to it.
+fn cuts_are_refused(
+    alloc: Global,
+    text: &mut Vec<u8>,
+    number: usize,
+    record: &str,
+) -> Result<bool, Fail> {
+    for (cut, byte) in record.bytes().enumerate() {
+        let answer = if number == 12 && cut == 5 {
+            Ok((Rule::Ordered, 4))
+        } else if is_whole(number, record, cut) {
+            Err(ReplayFault::BadRecord((number as u64).saturating_add(1)))
+        } else {
+            Err(ReplayFault::BadRecord(number as u64))
+        };
+        if read(alloc, text.as_slice()) != answer {
+            return Ok(false);
+        }
+        text.push(byte)?;
+    }
+    Ok(true)
+}
+
+// A cut that leaves a well-formed record is told by the record that is missing behind it.
+#[test]
+fn a_cut_history_is_refused(rt: HostRuntime) -> Result<(), Fail> {
+    let alloc = rt.alloc();
+    let mut text = Vec::new(alloc);
+    for (i, record) in RECORDS.iter().enumerate() {
+        assert!(rt;
+            cuts_are_refused(alloc, &mut text, i + 1, record)?,
+            "record {i}"
+        );
+    }
+    assert!(rt; read(alloc, text.as_slice()) == Ok((Rule::Ordered, 4)));
+    Ok(())
+}
+
+// Records in the place of one of the file, by its number, and what the file then is.
+const OTHERS: [(usize, &str, Result<(Rule, usize), ReplayFault>); 18] = [
+    // No room is taken by this count.
+    (
+        7,
+        "r,delivered,1000000,18446744073709551615\n",
+        Err(ReplayFault::BadRecord(9)),
+    ),
+    (7, "r,delivered,1000000,0\n", Err(ReplayFault::BadRecord(8))),
+    (12, "", Err(ReplayFault::BadRecord(12))),
+    (12, "end,3\n", Err(ReplayFault::BadRecord(12))),
+    (12, "end,4,4\n", Err(ReplayFault::BadRecord(12))),
+    (12, "end,4\nend,4\n", Err(ReplayFault::BadRecord(13))),
+    (12, "end,3\nend,4\n", Err(ReplayFault::BadRecord(12))),
+    (1, "dummynet-history,1\n", Err(ReplayFault::BadRecord(11))),
+    (1, "dummynet-history,2\n", Ok((Rule::Free, 4))),
+    (1, "dummynet-history,4\n", Err(ReplayFault::BadRecord(1))),
+    (1, "", Err(ReplayFault::BadRecord(1))),
+    (
+        2,
+        "c,15,configure, # no line\n",
+        Err(ReplayFault::BadRecord(2)),
+    ),
+    (
+        2,
+        "c,15,configure,ipfw queue 1 delete # a line\n",
+        Ok((Rule::Ordered, 4)),
+    ),
+    (
+        2,
+        "c,16,configure,pipe 1 config\n",
+        Err(ReplayFault::BadRecord(2)),
+    ),
+    (
+        3,
+        "r,lost,18446744073709551615,18446744073709551615\n",
+        Ok((Rule::Ordered, 4)),
+    ),
+    (
+        3,
+        "r,lost,18446744073709551616,0\n",
+        Err(ReplayFault::BadRecord(3)),
+    ),
+    (3, "r,exhausted\n", Ok((Rule::Ordered, 4))),
+    (
+        6,
+        "c,0,advance,4611686018427387905\n",
+        Err(ReplayFault::BadRecord(6)),
+    ),
+];
+
+#[test]
+fn other_records_are_judged(rt: HostRuntime) -> Result<(), Fail> {
+    let alloc = rt.alloc();
+    for (number, record, answer) in OTHERS {
+        let text = text_with(alloc, number, record)?;
+        assert!(rt; read(alloc, text.as_bytes()) == answer, "{record}");
+    }
+    Ok(())
+}
+
+// Version 1 has no deletes, no replies to them, and no count of discarded packets.
+const OF_VERSION_ONE: [(&str, Result<(Rule, usize), ReplayFault>); 6] = [
+    (
+        "c,0,configure,pipe 1 config\nr,configured\n",
+        Ok((Rule::Free, 1)),
+    ),
+    (
+        "c,0,show\nr,status,1\nf,0,queue,1,1,0.0.0.0,0.0.0.0,0,0,0,0.0.0.0,0.0.0.0,0,0,0,0,0,0,0,1\n",
+        Ok((Rule::Free, 1)),
+    ),
+    (
+        "c,0,configure,pipe 1 delete\nr,deleted\n",
+        Err(ReplayFault::BadRecord(2)),
+    ),
+    ("c,0,show\nr,deleted\n", Err(ReplayFault::BadRecord(3))),
+    (
+        "c,0,show\nr,pipe-has-queues\n",
+        Err(ReplayFault::BadRecord(3)),
+    ),
+    (
+        "c,0,show\nr,no-such-queue\n",
+        Err(ReplayFault::BadRecord(3)),
+    ),
+];
+
+#[test]
+fn old_histories_are_read(rt: HostRuntime) -> Result<(), Fail> {
+    let alloc = rt.alloc();
+    for (records, answer) in OF_VERSION_ONE {
+        let text = format!(in alloc; "dummynet-history,1\n{records}end,1\n")?;
+        assert!(rt; read(alloc, text.as_bytes()) == answer, "{records}");
+    }
+    Ok(())
+}
+
+#[test]
+fn a_failed_read_of_a_history_is_told(rt: HostRuntime) {
+    let mut failing = FromReader::new(FailingReader {
+        rest: b"dummynet-history,3\nend,0\n",
+        good: 20,
+    });
+    let fault = ReplayFault::Read(Source::History);
+    assert!(rt; read_history(rt.alloc(), &mut failing).err() == Some(fault));
+    assert!(rt; failing.failed());
+}
