@@ -6,10 +6,12 @@ A case NAME is these files of FOLDER, which has to be empty:
   NAME.args     the command line, one word a line
   NAME.stdin    what it reads from standard input (absent: nothing)
   NAME.data/    files that lie where it runs (absent: none)
+  NAME.made/    files that it has to make, or to write anew (absent: none)
   NAME.stdout, NAME.stderr, NAME.status    what it has to write, and its status
 Where NAME.stdout is absent the streams aren't compared (help and usage, whose text the program has from a library).
 The fixed cases are the same for every SEED. COUNT random ones follow, of four kinds in turn: joined inputs, two files,
-faulty configurations and faulty packet files. `tools/run_cases.py` runs a program over them.
+faulty configurations and faulty packet files, and then a quarter as many that ask for the history. `tools/run_cases.py` runs a
+program over them.
 """
 
 from __future__ import annotations
@@ -64,6 +66,8 @@ class Cases:
             self.write(f"{name}.stdout", done.stdout)
             self.write(f"{name}.stderr", done.stderr)
         self.write(f"{name}.status", f"{done.status}\n".encode())
+        for file, data in done.files.items():
+            self.write(f"{name}.made/{file}", data)
         self.counts[name.split("-")[0], done.status] += 1
 
     def write(self, name: str, data: bytes) -> None:
@@ -190,6 +194,18 @@ def packets_case(rng: Random, cases: Cases, name: str, style: Style) -> None:
     add_either(rng, cases, name, config, data)
 
 
+def history_case(rng: Random, cases: Cases, name: str, style: Style) -> None:
+    """A replay that writes its history: to a new file, over an older one, or to a folder that isn't there."""
+    config, packets = replay_input(rng, style)
+    files = {"config": config, "packets": packets}
+    if rng.random() < 0.2:
+        files["packets"] = packets.replace(b"moment", b"moments")
+    if rng.random() < 0.4:
+        files["history"] = b"dummynet-history,3\nend,0\n" * rng.choice((1, 1000))
+    file = "no/history" if rng.random() < 0.1 else "history"
+    cases.add(name, ["replay", "config", "packets", "--history", file], None, files)
+
+
 KINDS = (("joined", joined_case), ("replay", replay_case), ("config", config_case), ("packets", packets_case))
 
 
@@ -209,6 +225,8 @@ def main(seed: str, count: str, folder: str) -> None:
     for i in range(int(count)):
         kind, make = KINDS[i % len(KINDS)]
         make(rng, cases, f"{kind}-{i:05}", rng.choice(STYLES))
+    for i in range(int(count) // 4):
+        history_case(rng, cases, f"history-{i:05}", rng.choice(STYLES))
     for (kind, status), number in sorted(cases.counts.items()):
         print(f"{kind:8} status {status}: {number}")
     print(f"{cases.counts.total()} cases in {folder}")

@@ -33,6 +33,11 @@ def first_difference(want: bytes, got: bytes) -> str:
     return f"want {len(want)} bytes ending {shortened(want[-80:])}, got {len(got)} bytes ending {shortened(got[-80:])}"
 
 
+def files_in(folder: Path) -> dict[str, bytes]:
+    """The files of a folder, which may not be there."""
+    return {f.name: f.read_bytes() for f in folder.iterdir() if f.is_file()} if folder.is_dir() else {}
+
+
 def faults_of(program: list[str], folder: Path, name: str) -> list[str]:
     """What is wrong with this case's run."""
     words = (folder / f"{name}.args").read_text().split("\n")[:-1]
@@ -40,13 +45,15 @@ def faults_of(program: list[str], folder: Path, name: str) -> list[str]:
     with TemporaryDirectory() as place:
         if (folder / f"{name}.data").is_dir():
             copytree(folder / f"{name}.data", place, dirs_exist_ok=True)
-        before = sorted(os.listdir(place))
+        wanted = files_in(Path(place)) | files_in(folder / f"{name}.made")
         try:
             done = subprocess.run(program + words, input=stdin.read_bytes() if stdin.exists() else b"", capture_output=True,
                                   cwd=place, timeout=SECONDS)
         except subprocess.TimeoutExpired:
             return [f"no end within {SECONDS} s"]
-        faults = [] if sorted(os.listdir(place)) == before else ["files: other ones after the run"]
+        found = files_in(Path(place))
+        faults = [f"file {f}: {first_difference(wanted.get(f, b''), found.get(f, b''))}"
+                  for f in sorted(wanted.keys() | found.keys()) if wanted.get(f) != found.get(f)]
     status = int((folder / f"{name}.status").read_text())
     if done.returncode != status:
         faults.append(f"status: want {status}, got {done.returncode} (standard error {shortened(done.stderr)})")

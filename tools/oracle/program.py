@@ -1,30 +1,32 @@
 """The program `dummynet` by the definitions, slow on purpose.
 
     python3 tools/oracle/program.py < JOINED
-    python3 tools/oracle/program.py replay CONFIG PACKETS
+    python3 tools/oracle/program.py replay CONFIG PACKETS [--history FILE]
 """
 
 from __future__ import annotations
 
 import sys
-from dataclasses import dataclass
+from dataclasses import dataclass, field
 from pathlib import Path
-from typing import BinaryIO, Callable
+from typing import BinaryIO, Callable, Optional
 
 from definitions import Dummynet
 from files import LIMITS, ReplayFault, read_line, read_packets, refused_line, report, split_joined, split_lines
-from model import MAX_MOMENT, Collect, Configure, Configured, Deleted, Entry, Submit
+from history import history_text
+from model import MAX_MOMENT, ORDERED, Collect, Configure, Configured, Deleted, Entry, Submit
 
 USAGE = 2
 
 
 @dataclass(frozen=True)
 class Outcome:
-    """What the program writes, and its status. The text of a usage fault is left to the program."""
+    """What the program writes, its status, and the files that it makes. The text of a usage fault is left to the program."""
 
     stdout: bytes
     stderr: bytes
     status: int
+    files: dict[str, bytes] = field(default_factory=dict)
 
 
 def read_whole(file: BinaryIO, source: str) -> bytes:
@@ -78,20 +80,35 @@ def replay_files(config: Path, packets: Path) -> list[Entry]:
         return replay_over(read_whole(first, "config"), lambda: read_whole(second, "packets"))
 
 
+def reported(history: list[Entry], folder: Path, file: Optional[str]) -> Outcome:
+    """The report, and then the file of the history, where one is asked for. Its folder may not be there."""
+    text = report(history).encode()
+    if file is None:
+        return Outcome(text, b"", 0)
+    if not (folder / file).parent.is_dir():
+        return Outcome(text, b"cannot write history\n", 6)
+    calls = [(e.caller, e.call) for e in history]
+    return Outcome(text, b"", 0, {file: history_text(ORDERED, calls, [e.reply for e in history]).encode()})
+
+
 def outcome(words: list[str], stdin: BinaryIO, folder: Path) -> Outcome:
     """What the program does with this command line, in this folder."""
-    replays = len(words) == 3 and words[0] == "replay" and not any(w.startswith("-") for w in words)
+    file = words[4] if len(words) == 5 and words[3] == "--history" else None
+    paths = words[1:3] if words[:1] == ["replay"] and (len(words) == 3 or file is not None) else []
+    replays = len(paths) == 2 and not any(w.startswith("-") for w in [*paths, file or ""])
     if words and not replays:
         return Outcome(b"", b"", 0 if "--help" in words else USAGE)
     try:
-        history = replay_files(folder / words[1], folder / words[2]) if replays else replay_joined(stdin)
+        history = replay_files(folder / paths[0], folder / paths[1]) if replays else replay_joined(stdin)
     except ReplayFault as fault:
         return Outcome(b"", f"{fault.line}\n".encode(), fault.status)
-    return Outcome(report(history).encode(), b"", 0)
+    return reported(history, folder, file)
 
 
 if __name__ == "__main__":
     done = outcome(sys.argv[1:], sys.stdin.buffer, Path())
     sys.stdout.buffer.write(done.stdout)
     sys.stderr.buffer.write(done.stderr)
+    for name, data in done.files.items():
+        Path(name).write_bytes(data)
     sys.exit(done.status)
