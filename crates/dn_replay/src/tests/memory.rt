@@ -2,7 +2,8 @@ use super::broken::{FULL_QUEUE, REPORT};
 use super::histories::one_caller;
 use super::history::ONE_CALLER;
 use crate::{
-    FromReader, FromWriter, ReplayFault, Verdict, audit, replay, replay_joined, write_history,
+    FromReader, FromWriter, ReplayFault, Verdict, audit, read_history, replay, replay_joined,
+    write_history,
 };
 use dn_text::split_joined;
 use dn_types::Rule;
@@ -80,9 +81,23 @@ fn a_refused_history_is_written_again(rt: HostRuntime) -> Result<(), Fail> {
 }
 
 #[test]
+fn a_refused_history_is_read_again(rt: HostRuntime) -> Result<(), Fail> {
+    let alloc = rt.alloc();
+    let expected = one_caller(alloc)?;
+    let mut history = read_history(alloc, &mut FromReader::new(ONE_CALLER.as_bytes()));
+    if matches!(history, Err(ReplayFault::OutOfMemory)) {
+        history = read_history(alloc, &mut FromReader::new(ONE_CALLER.as_bytes()));
+    }
+    let (rule, entries) = history?;
+    assert!(rt; rule == Rule::Ordered);
+    assert!(rt; entries.as_slice() == expected.as_slice());
+    Ok(())
+}
+
+#[test]
 fn a_refused_audit_is_made_again(rt: HostRuntime) -> Result<(), Fail> {
     let alloc = rt.alloc();
-    let entries = entries(alloc)?;
+    let entries = one_caller(alloc)?;
     let mut verdict = audit(alloc, Rule::Ordered, &entries);
     if verdict.is_err() {
         verdict = audit(alloc, Rule::Ordered, &entries);
