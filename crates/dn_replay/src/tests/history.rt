@@ -71,56 +71,51 @@ fn an_empty_history(rt: HostRuntime) {
     assert!(rt; written.as_slice() == b"dummynet-history,3\nend,0\n".as_slice());
 }
 
-// The commands of a pipe and of a queue with options, and the two deletes.
-fn commands() -> Option<[(Command, &'static str); 5]> {
+// The commands of a pipe without and with options, and of a queue, and the two deletes.
+fn commands() -> Option<[Command; 5]> {
     Some([
-        (
-            pipe_one()?,
-            "c,15,configure,pipe 1 config bw 8000000bit/s\n",
-        ),
-        (
-            Command::Pipe {
-                number: Number::new(65_535)?,
-                bw: Bandwidth::new(1_000_000_000_000)?,
-                delay: Delay::new(3_600_000)?,
-                limit: Limit::kbytes(1024)?,
-                loss: Loss::new(1 << 30)?,
-                buckets: Some(Buckets::new(64)?),
-                mask: Mask {
-                    dst: 255,
-                    ..NO_BITS
-                },
+        pipe_one()?,
+        Command::Pipe {
+            number: Number::new(65_535)?,
+            bw: Bandwidth::new(1_000_000_000_000)?,
+            delay: Delay::new(3_600_000)?,
+            limit: Limit::kbytes(1024)?,
+            loss: Loss::new(1 << 30)?,
+            buckets: Some(Buckets::new(64)?),
+            mask: Mask {
+                dst: 255,
+                ..NO_BITS
             },
-            "c,15,configure,pipe 65535 config bw 1000000000000bit/s delay 3600000 queue 1024Kbytes \
-             plr 0.500000000000000000 buckets 64 mask dst-ip 0x000000ff\n",
-        ),
-        (
-            Command::Queue {
-                number: Number::new(2)?,
-                pipe: Number::new(1)?,
-                weight: Weight::new(100)?,
-                limit: Limit::slots(50)?,
-                loss: Loss::new(0)?,
-                buckets: None,
-                mask: NO_BITS,
-            },
-            "c,15,configure,queue 2 config pipe 1 weight 100\n",
-        ),
-        (
-            Command::DeletePipe(Number::new(7)?),
-            "c,15,configure,pipe delete 7\n",
-        ),
-        (
-            Command::DeleteQueue(Number::new(65_535)?),
-            "c,15,configure,queue delete 65535\n",
-        ),
+        },
+        Command::Queue {
+            number: Number::new(2)?,
+            pipe: Number::new(1)?,
+            weight: Weight::new(100)?,
+            limit: Limit::slots(50)?,
+            loss: Loss::new(0)?,
+            buckets: None,
+            mask: NO_BITS,
+        },
+        Command::DeletePipe(Number::new(7)?),
+        Command::DeleteQueue(Number::new(65_535)?),
     ])
 }
 
 #[test]
 fn commands_stand_as_canonical_text(rt: HostRuntime) -> Result<(), Fail> {
     let alloc = rt.alloc();
-    for (command, line) in commands().ok_or("the values are in range")? {
+    let [pipe, options, queue, no_pipe, no_queue] = commands().ok_or("the values are in range")?;
+    for (command, line) in [
+        (pipe, "c,15,configure,pipe 1 config bw 8000000bit/s\n"),
+        (
+            options,
+            "c,15,configure,pipe 65535 config bw 1000000000000bit/s delay 3600000 queue 1024Kbytes \
+             plr 0.500000000000000000 buckets 64 mask dst-ip 0x000000ff\n",
+        ),
+        (queue, "c,15,configure,queue 2 config pipe 1 weight 100\n"),
+        (no_pipe, "c,15,configure,pipe delete 7\n"),
+        (no_queue, "c,15,configure,queue delete 65535\n"),
+    ] {
         assert!(rt; writes_call(alloc, 15, Call::Configure(command), line)?);
     }
     Ok(())
@@ -277,7 +272,7 @@ fn of_each_kind(alloc: Global) -> Result<Vec<Entry>, Fail> {
 fn what_is_written_is_read(rt: HostRuntime) -> Result<(), Fail> {
     let alloc = rt.alloc();
     let mut entries = of_each_kind(alloc)?;
-    for (command, _) in commands().ok_or("the values are in range")? {
+    for command in commands().ok_or("the values are in range")? {
         entries.push(entry(Call::Configure(command), Reply::Configured))?;
     }
     let mut text = Vec::new(alloc);
