@@ -9,11 +9,11 @@ use Rattle.dn_types.specs.Replies.{reply}
 use Rattle.dn_types.specs.declared.call.Call.{Call}
 use Rattle.dn_types.specs.declared.entry.Entry.{Entry}
 use Rattle.dn_types.specs.declared.rule.Rule.{Rule}
+use Rattle.dn_types.proofs.Histories.{calls_of-more, lawful-more}
 use Rattle.dn_shaper.specs.Shaper.{CanNeedMemory, StandsAfter}
 use Rattle.dn_shaper.specs.declared.state.State.{State}
 use Rattle.dn_replay.specs.Audit.{calls_before, CanWantMemory, IsLawfulUpTo, IsVerdict}
 use Rattle.dn_replay.specs.declared.verdict.Verdict.TheVariants.{Differs}
-use Rattle.dn_replay.proofs.LongerHistories.{calls-more, lawful_more}
 
 -- The i-th entry.
 module _ (history : List Entry) (i : ℕ) (e : Entry) (within : i < length history) (there : e ≡ get_or history i e) where
@@ -25,10 +25,10 @@ module _ (history : List Entry) (i : ℕ) (e : Entry) (within : i < length histo
     up-to = record { there = slice_get_read history (length history) i e refl within there; lawful = lawful }
 
     pub stands-next : (shaper : State) → StandsAfter rule shaper (e.call ∷ calls_before history i) → StandsAfter rule shaper (calls_before history (i + 1))
-    stands-next shaper stands = subst (λ (cs : List Call). StandsAfter rule shaper cs) (sym (ap calls_of one-more ∙ calls-more (take i history) e)) stands
+    stands-next shaper stands = subst (λ (cs : List Call). StandsAfter rule shaper cs) (sym (ap calls_of one-more ∙ calls_of-more (take i history) e)) stands
 
     pub lawful-next : e.reply ≡ reply rule (calls_before history i) e.call → IsLawful rule (take (i + 1) history)
-    lawful-next is = subst (λ (front : List Entry). IsLawful rule front) (sym one-more) (lawful_more rule (take i history) e lawful is)
+    lawful-next is = subst (λ (front : List Entry). IsLawful rule front) (sym one-more) (lawful-more rule (take i history) e lawful is)
 
     pub differs : e.reply ≢ reply rule (calls_before history i) e.call → IsVerdict rule history (Differs i)
     differs other = (e, up-to, other)

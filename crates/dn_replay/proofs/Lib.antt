@@ -7,7 +7,6 @@ pub mod HistoryReading
 pub mod HistorySteps
 pub mod Inputs
 pub mod LineSteps
-pub mod LongerHistories
 pub mod Orders
 pub mod ReplaySteps
 pub mod Rows

@@ -18,7 +18,7 @@ use Rattle.dn_replay.specs.declared.replay_fault.ReplayFault.TheVariants.{BadRow
 use Rattle.dn_replay.specs.declared.row.Row.{Row}
 use Rattle.dn_replay.specs.declared.source.Source.{Source}
 use Rattle.dn_replay.specs.declared.source.Source.TheVariants.{Input}
-use Rattle.dn_replay.proofs.LongerHistories.{calls-more, lawful_more}
+use Rattle.dn_types.proofs.Histories.{calls_of-more, lawful-more}
 
 pub keeps : (known : Option (List ℕ)) → Keeps known known
 keeps None = tt
@@ -35,14 +35,14 @@ by_one (c ∷ calls) =
 made : (calls : List Call) → calls_of_history (history_of calls) ≡ calls
 unfolding history_of
 made [] = refl
-made (c ∷ calls) = calls-more (history_of calls) (entry_after calls c) ∙ ap (λ (before : List Call). c ∷ before) (made calls)
+made (c ∷ calls) = calls_of-more (history_of calls) (entry_after calls c) ∙ ap (λ (before : List Call). c ∷ before) (made calls)
 
 -- The history of a run is lawful.
 pub lawful : (calls : List Call) → IsLawful Ordered (history_of calls)
 unfolding history_of
 lawful [] = tt
 lawful (c ∷ calls) =
-    lawful_more Ordered (history_of calls) (entry_after calls c) (lawful calls) (ap (λ (before : List Call). reply Ordered before c) (sym (made calls)))
+    lawful-more Ordered (history_of calls) (entry_after calls c) (lawful calls) (ap (λ (before : List Call). reply Ordered before c) (sym (made calls)))
 
 -- An input may have held some text.
 pub some_text : (known : Option (List ℕ)) → (text : List ℕ) × IsTextOf known text

@@ -1,34 +1,11 @@
 -- Laws of histories: what one entry more does.
-use Rattle.std.proofs.Common.{◌≡◌, ◌≢◌, ℕ, ◌<◌, List, [], ◌∷◌, ◌++◌, refl, sym, ap, ◌∙◌, append_assoc, append-nil, map, reverse, eqb, eq-eqb, ne_eqb, cond, Bool}
-use Rattle.std.proofs.lemmas.List.{map-append, reverse-append}
+use Rattle.std.proofs.Common.{◌≡◌, ◌≢◌, ℕ, ◌<◌, List, [], ◌∷◌, ◌++◌, refl, sym, ap, ◌∙◌, append_assoc, append-nil, eqb, eq-eqb, ne_eqb, cond, Bool}
 use Rattle.std.proofs.lemmas.List.Elements.{All-append, All-nil, All-cons, filter-append}
-use Rattle.dn_types.specs.History.{IsLawfulAfter, IsLawful, calls_of, own_entries}
-use Rattle.dn_types.specs.Replies.{reply}
+use Rattle.dn_types.specs.History.{own_entries}
 use Rattle.dn_types.specs.declared.call.Call.{Call}
 use Rattle.dn_types.specs.declared.entry.Entry.{Entry}
 use Rattle.dn_types.specs.declared.reply.Reply.{Reply}
-use Rattle.dn_types.specs.declared.rule.Rule.{Rule}
-use Rattle.dn_types.specs.declared.rule.Rule.TheVariants.{Ordered}
 use Rattle.dn_service.specs.Histories.{entry_of, StartsWith, AreBelow}
-
-abbrev calls_in : List Entry → List Call
-calls_in = map (λ e. e.call)
-
--- The calls of a history with one entry more, newest first.
-pub calls_of-more : (history : List Entry) (e : Entry) → calls_of (history ++ e ∷ []) ≡ e.call ∷ calls_of history
-calls_of-more history e = ap reverse (map-append (λ (x : Entry). x.call) history (e ∷ [])) ∙ reverse-append (calls_in history) (e.call ∷ [])
-
-lawful_after : (rule : Rule) (calls : List Call) (history : List Entry) (e : Entry) → IsLawfulAfter rule calls history → e.reply ≡ reply rule (calls_of history ++ calls) e.call → IsLawfulAfter rule calls (history ++ e ∷ [])
-lawful_after rule calls [] e lawful is = (is, tt)
-lawful_after rule calls (x ∷ xs) e lawful is = (
-  lawful.0,
-  lawful_after rule (x.call ∷ calls) xs e lawful.1
-      (is ∙ ap (λ l. reply rule l e.call) (ap (λ l. l ++ calls) (reverse-append (x.call ∷ []) (calls_in xs)) ∙ append_assoc (calls_of xs) (x.call ∷ []) calls)),
-)
-
--- A lawful history stays so with one entry more whose reply is the one after its calls.
-pub lawful_more : (history : List Entry) (e : Entry) → IsLawful Ordered history → e.reply ≡ reply Ordered (calls_of history) e.call → IsLawful Ordered (history ++ e ∷ [])
-lawful_more history e lawful is = lawful_after Ordered [] history e lawful (is ∙ ap (λ l. reply Ordered l e.call) (sym (append-nil (calls_of history))))
 
 -- An entry of the caller is added to its own entries.
 pub own-more : (k : ℕ) (history : List Entry) (e : Entry) → e.caller ≡ k → own_entries k (history ++ e ∷ []) ≡ own_entries k history ++ e ∷ []

@@ -1,9 +1,10 @@
-use super::PACKET_HEADER as HEADER;
 use crate::{ReplayFault, Source, read_config, read_packets};
 use dn_records::{FromReader, Inlet};
 use dn_types::{Command, Number};
 use std::io;
 use std::test::Fail;
+
+const HEADER: &str = "moment,target,number,src,dst,proto,sport,dport,len,word\n";
 
 // The answers are those of the page on packet files.
 #[test]

@@ -1,10 +1,11 @@
 ghost use Rattle.std.specs.Prelude.{◌≡◌};
 
-use super::REPORT_HEADER;
 use crate::write_report;
 use dn_records::FromWriter;
 use dn_types::{Call, Entry, FiveTuple, Len, Moment, Number, Packet, Reply, Target};
 use std::test::Fail;
+
+const REPORT_HEADER: &str = "event,row,flow,packet,at,start,due\n";
 
 fn submit() -> Option<Call> {
     let tuple = FiveTuple {

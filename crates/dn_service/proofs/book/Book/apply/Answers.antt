@@ -4,11 +4,12 @@ use Rattle.dn_types.specs.History.{IsLawful, calls_of}
 use Rattle.dn_types.specs.declared.call.Call.{Call}
 use Rattle.dn_types.specs.declared.entry.Entry.{Entry}
 use Rattle.dn_types.specs.declared.rule.Rule.TheVariants.{Ordered}
+use Rattle.dn_types.proofs.Histories.{lawful-more, calls_of-more}
 use Rattle.dn_shaper.specs.Shaper.{StandsAfter}
 use Rattle.dn_service.specs.Histories.{entry_of}
 use Rattle.dn_service.specs.Rooms.{HasRoom}
 use Rattle.dn_service.specs.declared.book.Pages.{Pages}
-use Rattle.dn_service.proofs.HistoryLaws.{lawful_more, calls_of-more, noted}
+use Rattle.dn_service.proofs.HistoryLaws.{noted}
 use Rattle.dn_service.proofs.Replying.{room_for}
 use Rattle.dn_service.proofs.book.Book.apply.Goals as goal
 
@@ -34,7 +35,7 @@ invariant_of-self-2 c =
     let e : Entry = entry_of c.args.caller c.args.call c.in_ok-reply.reply in
     let now : c.push_reserved.new.self.items ≡ was ++ e ∷ [] = noted _ _ _ _ _ _ _ c.push_reserved.ensures.items c.reserve.ensures.items c.copy_of-copy.ensures in
     let told = c.in_ok-reply.ensures.ok Ordered (calls_of was) kept.1 in (
-      subst (IsLawful Ordered) (sym now) (lawful_more was e kept.0 told.0),
+      subst (IsLawful Ordered) (sym now) (lawful-more Ordered was e kept.0 told.0),
       subst (StandsAfter Ordered c.apply.new.self) (sym (calls_of-more was e) ∙ ap calls_of (sym now)) told.1,
     )
 
@@ -45,7 +46,7 @@ returns-clause-lawful c =
     let was : List Entry = pages.history.items in
     let e : Entry = entry_of c.args.caller c.args.call c.in_ok-reply.reply in
     let now : c.push_reserved.new.self.items ≡ was ++ e ∷ [] = noted _ _ _ _ _ _ _ c.push_reserved.ensures.items c.reserve.ensures.items c.copy_of-copy.ensures in
-    subst (IsLawful Ordered) (sym now) (lawful_more was e kept.0 (c.in_ok-reply.ensures.ok Ordered (calls_of was) kept.1).0)
+    subst (IsLawful Ordered) (sym now) (lawful-more Ordered was e kept.0 (c.in_ok-reply.ensures.ok Ordered (calls_of was) kept.1).0)
 
 -- a refused call has left the shaper after the same calls
 pub invariant_of-self-in_err-reply : goal.invariant_of-self-in_err-reply

@@ -1,6 +1,6 @@
-use super::fakes::FailingReader;
-use super::histories::one_caller;
-use crate::{FromReader, Inlet, ReplayFault, Source, read_history};
+use crate::fakes::FailingReader;
+use crate::histories::one_caller;
+use dn_replay::{FromReader, Inlet, ReplayFault, Source, read_history};
 use dn_types::{Deliveries, Delivery, Entry, FlowKey, FlowStatus, Reply, Rule, Statuses, Target};
 use std::alloc::Global;
 use std::test::Fail;

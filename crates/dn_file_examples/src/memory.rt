@@ -1,7 +1,7 @@
-use super::broken::{FULL_QUEUE, REPORT};
-use super::histories::one_caller;
-use super::history::ONE_CALLER;
-use crate::{
+use crate::broken::{FULL_QUEUE, REPORT};
+use crate::histories::one_caller;
+use crate::history::ONE_CALLER;
+use dn_replay::{
     FromReader, FromWriter, ReplayFault, Verdict, audit, read_history, replay, replay_joined,
     write_history,
 };

@@ -1,6 +1,6 @@
-use super::histories::{entry, moment, number, one_caller, submit};
-use crate::{Verdict, audit};
+use crate::histories::{entry, moment, number, one_caller, submit};
 use dn_config::parse_line;
+use dn_replay::{Verdict, audit};
 use dn_types::{Call, Deliveries, Delivery, Entry, Reply, Rule, Target};
 use std::alloc::Global;
 use std::test::Fail;

@@ -1,6 +1,6 @@
-use super::fakes::{Sink, WhenFull};
-use super::histories::{NO_BITS, entry, flow_state, number, one_caller, pipe_one, submit};
-use crate::{FromReader, FromWriter, Outlet, ReplayFault, Source, read_history, write_history};
+use crate::fakes::{Sink, WhenFull};
+use crate::histories::{NO_BITS, entry, flow_state, number, one_caller, pipe_one, submit};
+use dn_replay::{FromReader, FromWriter, Outlet, ReplayFault, Source, read_history, write_history};
 use dn_types::{
     Bandwidth, Buckets, Call, Command, Delay, Deliveries, Delivery, Entry, FlowKey, Limit, Loss,
     Mask, Moment, Number, Reply, Rule, Statuses, Target, Weight,

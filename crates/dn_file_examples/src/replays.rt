@@ -1,6 +1,6 @@
-use super::{PACKET_HEADER, REPORT_HEADER};
-use crate::{ReplayFault, read_config, read_packets, replay, replay_joined};
+use crate::headers::{PACKET_HEADER, REPORT_HEADER};
 use dn_records::{FromReader, FromWriter};
+use dn_replay::{ReplayFault, read_config, read_packets, replay, replay_joined};
 use std::alloc::Global;
 use std::test::Fail;
 

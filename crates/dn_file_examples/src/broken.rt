@@ -1,9 +1,9 @@
-use super::PACKET_HEADER;
-use super::fakes::{FailingReader, Sink, WhenFull};
-use super::replays::{replay_files, replay_text};
-use crate::{ReplayFault, Source, read_config, replay, replay_joined};
+use crate::fakes::{FailingReader, Sink, WhenFull};
+use crate::headers::PACKET_HEADER;
+use crate::replays::{replay_files, replay_text};
 use dn_config::LineFault;
 use dn_records::{FromReader, FromWriter, Inlet, Outlet};
+use dn_replay::{ReplayFault, Source, read_config, replay, replay_joined};
 use std::io;
 use std::test::Fail;
 

@@ -1,0 +1,21 @@
+//! Worked examples of files: replays, broken input, histories, audits and refused growths.
+#![tactic(auto)]
+
+#[cfg(test)]
+mod audit;
+#[cfg(test)]
+mod broken;
+#[cfg(test)]
+mod fakes;
+#[cfg(test)]
+mod headers;
+#[cfg(test)]
+mod histories;
+#[cfg(test)]
+mod history;
+#[cfg(test)]
+mod history_files;
+#[cfg(test)]
+mod memory;
+#[cfg(test)]
+mod replays;
