@@ -1,15 +1,15 @@
 -- The words of a spaced text are the words that it was made of.
 use Rattle.std.proofs.Common.{◌≡◌, refl, ◌∙◌, ap, ℕ, Bool, true, false, List, [], ◌∷◌, ◌++◌, append-nil, one-add}
-use Rattle.std.specs.Prelude.{◌&&◌, not}
+use Rattle.std.specs.Prelude.{◌&&◌, nat_lt, not}
 use Rattle.std.specs.List.{slice_split, onto_first, before_first, list_all}
 use Rattle.std.proofs.lemmas.Bool.{and_parts}
 use Rattle.dn_text.specs.Words.{is_separator, is_nonempty, words_of}
 use Rattle.dn_config.specs.Words.{is_hash, words}
 use Rattle.dn_config.specs.Text.{behind_spaces, spaced}
 
--- a byte that a word may have
+-- a byte that a word may have: of ASCII, no separator, and not the one that begins a comment
 abbrev pub is_plain_byte : ℕ → Bool
-is_plain_byte b = not (is_separator b) && not (is_hash b)
+is_plain_byte b = nat_lt b 128 && (not (is_separator b) && not (is_hash b))
 
 abbrev pub is_plain : List ℕ → Bool
 is_plain w = is_nonempty w && list_all is_plain_byte w
@@ -19,7 +19,7 @@ all_plain [] = true
 all_plain (w ∷ ws) = is_plain w && all_plain ws
 
 plain_byte : (b : ℕ) → is_plain_byte b ≡ true → (is_separator b ≡ false) × (is_hash b ≡ false)
-plain_byte b h = two (is_separator b) (is_hash b) h
+plain_byte b h = two (is_separator b) (is_hash b) (and_parts (nat_lt b 128) (not (is_separator b) && not (is_hash b)) h).1
   where
     two : (x y : Bool) → not x && not y ≡ true → (x ≡ false) × (y ≡ false)
     two true true e = absurd (cc)

@@ -9,5 +9,6 @@ pub mod Plain
 pub mod OptionsBack
 pub mod MaskBack
 pub mod CommandsBack
+pub mod TextBytes
 pub mod LineExamples
 pub mod TextExamples

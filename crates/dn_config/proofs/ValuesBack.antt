@@ -1,22 +1,22 @@
 -- The values that a canonical text writes, read back.
 use Rattle.std.proofs.Common.{◌≡◌, refl, sym, ◌∙◌, ap, ℕ, zero, suc, ◌+◌, ◌*◌, ◌/◌, ◌%◌, ◌^◌, ◌<◌, ◌≤◌, Bool, true, false, cond, List, [], ◌∷◌, ◌++◌, length, take, drop, arith, add-one, one-add, length-append, append-nil}
-use Rattle.std.specs.Prelude.{Some, None, Ok, ◌&&◌, nat_lt, slice_index, decimal, codes, ◌==◌}
+use Rattle.std.specs.Prelude.{Some, Ok, nat_lt, slice_index, decimal, codes, ◌==◌}
 use Rattle.std.specs.List.{prefix_len, list_all}
 use Rattle.std.specs.Char.{digit_char, digit_value, is_ascii_digit}
-use Rattle.std.specs.Str.Parse.{digits_value, AllDigits}
+use Rattle.std.specs.Str.Parse.{digits_value}
 use Rattle.std.proofs.lemmas.Int.Digits.{digits_value_push}
 use Rattle.std.proofs.lemmas.Str.{digit_value-digit_char}
-use Rattle.std.proofs.lemmas.Bool.{eqb-true, eqb-false, lt-ltb, and_from, and_parts, ne_eqb}
+use Rattle.std.proofs.lemmas.Bool.{eqb-true, eqb-false, lt-ltb, and_parts}
 use Rattle.std.proofs.lemmas.Bool.Decides.{nat_tests}
-use Rattle.std.proofs.lemmas.Str.Parse.{digit_from_value}
-use Rattle.dn_text.specs.Numbers.{numeral_of, number_of, number_within, within, all_digits, digits, unit}
+use Rattle.dn_text.specs.Numbers.{numeral_of, number_within, within, all_digits, digits, unit}
 use Rattle.dn_config.specs.Values.{placed, number_at, weight_at, buckets_at, delay_at, bandwidth_at, rate_of, limit_at, limited, loss_at, bits_of, bits_at, kept, behind_point, rate_parts_of}
 use Rattle.dn_types.specs.declared.limit.Limit.{Limit}
 use Rattle.dn_types.specs.declared.limit.Limit.TheVariants.{Slots, Kbytes}
 use Rattle.dn_config.specs.Commands.{IsLimit}
 use Rattle.dn_text.proofs.Capping.{ok_within}
+use Rattle.dn_text.proofs.NumbersBack.{ascii_digits, number_back}
 use Rattle.std.specs.Char.{is_ascii_alphabetic}
-use Rattle.std.proofs.lemmas.Fmt.{decimal_is_IsNumeral, first_decimal, decimal_digit}
+use Rattle.std.proofs.lemmas.Fmt.{decimal_is_IsNumeral}
 use Rattle.std.proofs.Math.Nat.{div-lt_iff_lt-mul, pow-suc, pow-zero, mod-lt}
 use Rattle.std.proofs.lemmas.Nat.{div-add-mod'}
 use Rattle.dn_config.specs.Text.{padded, rate_up, limit_text, loss_text}
@@ -42,41 +42,7 @@ value-padded radix (suc k) n p h l =
     digits_value_push radix (padded radix k (n / radix)) (digit_char (n % radix))
     ∙ rw (value-padded radix k (n / radix) p h (div_below radix k n p l), digit_value-digit_char (n % radix) below) (div-add-mod' n radix)
 
--- a number is printed as a number of that value
-test_digits : (ds : List ℕ) → AllDigits 10 ds → all_digits 10 ds ≡ true
-test_digits [] h = refl
-test_digits (d ∷ ds) h = and_from (nat_lt (digit_value d) 10) (all_digits 10 ds) (lt-ltb _ _ h.0) (test_digits ds h.1)
-
-numeral_back : (ds : List ℕ) (n : ℕ) → 0 < length ds → AllDigits 10 ds → digits_value 10 ds ≡ n → numeral_of 10 ds ≡ Some n
-unfolding numeral_of
-numeral_back ds n l h e = let some : nat_lt 0 (length ds) ≡ true = lt-ltb _ _ l in rw (some, test_digits ds h) (ap Some e)
-
-no_zero : (ds : List ℕ) (n : ℕ) → numeral_of 10 ds ≡ Some n → 48 < slice_index ds 0 → number_of ds ≡ Some n
-unfolding number_of
-no_zero ds n e l = let other : slice_index ds 0 == 48 ≡ false = ne_eqb _ _ (λ h. absurd (omega arith)) in rw other (and_false (nat_lt 1 (length ds)) e)
-  where
-    and_false : (b : Bool) → numeral_of 10 ds ≡ Some n → cond (b && false) None (numeral_of 10 ds) ≡ Some n
-    and_false true h = h
-    and_false false h = h
-
-pub number_back : (n : ℕ) → n < 2 ^ 64 → number_of (decimal n) ≡ Some n
-unfolding number_of numeral_of
-number_back zero l = rw (decimal_digit 0 (omega arith)) refl
-number_back (suc n) l =
-    let is = decimal_is_IsNumeral (suc n) l in
-    no_zero (decimal (suc n)) (suc n) (numeral_back (decimal (suc n)) (suc n) is.0.0 is.0.1 is.1) (first_decimal (suc n) (omega arith) l)
-
 -- digits before a unit that begins with no digit
-pub ascii_digits : (ds : List ℕ) → AllDigits 10 ds → list_all is_ascii_digit ds ≡ true
-ascii_digits [] h = refl
-ascii_digits (d ∷ ds) h =
-    let range = digit_from_value d h.0 in
-    let first : is_ascii_digit d ≡ true = in_range_test d range.0 range.1 in
-    and_from (is_ascii_digit d) (list_all is_ascii_digit ds) first (ascii_digits ds h.1)
-  where
-    in_range_test : (d : ℕ) → 48 ≤ d → d ≤ 57 → is_ascii_digit d ≡ true
-    in_range_test d a b = grind (arith, nat_tests)
-
 pub digits_front : (ds u : List ℕ) → list_all is_ascii_digit ds ≡ true → prefix_len is_ascii_digit u ≡ 0 → prefix_len is_ascii_digit (ds ++ u) ≡ length ds
 digits_front [] u h e = e
 digits_front (d ∷ ds) u h e =

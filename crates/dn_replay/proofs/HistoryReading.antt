@@ -8,7 +8,8 @@ use Rattle.csv.specs.declared.parser.State.{State}
 use Rattle.csv.specs.declared.parser.State.TheVariants.{StartRecord}
 use Rattle.dn_types.specs.declared.entry.Entry.{Entry}
 use Rattle.dn_records.specs.Records.{Fields, Takes, records_of}
-use Rattle.dn_replay.specs.HistoryFile.{Rest, before, entries_from, entry_from, item_from, items_from, next_record, nothing_in}
+use Rattle.dn_replay.specs.HistoryFile.{before, entries_from, entry_from, nothing_in}
+use Rattle.dn_replay.specs.RecordsLeft.{Rest, item_from, items_from, next_record}
 use Rattle.dn_replay.specs.Reading.{◌>>=◌, IsFaultOf}
 use Rattle.dn_replay.specs.declared.history_version.HistoryVersion.{HistoryVersion}
 use Rattle.dn_replay.specs.declared.replay_fault.ReplayFault.{ReplayFault}

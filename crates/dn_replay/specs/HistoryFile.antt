@@ -10,34 +10,14 @@ use Rattle.dn_types.specs.declared.rule.Rule.{Rule}
 use Rattle.dn_records.specs.Records.{Fields, records_of}
 use Rattle.dn_replay.specs.ConfigFile.{command_at}
 use Rattle.dn_replay.specs.Fields.{column}
-use Rattle.dn_replay.specs.HistoryRecords.{caller_of, delivery_of, has_deletes, is_call, is_delete, is_end, is_reply, long_at, plain_call, plain_reply, rule_of, status_of, told_count, two_of, version_of}
+use Rattle.dn_replay.specs.HistoryItems.{delivery_of, status_of}
+use Rattle.dn_replay.specs.HistoryRecords.{caller_of, has_deletes, is_call, is_delete, is_end, is_reply, long_at, plain_call, plain_reply, rule_of, told_count, two_of, version_of}
 use Rattle.dn_replay.specs.Reading.{◌>>=◌, within}
+use Rattle.dn_replay.specs.RecordsLeft.{Read, Rest, in_record, items_from, next_record}
 use Rattle.dn_replay.specs.declared.history_version.HistoryVersion.{HistoryVersion}
 use Rattle.dn_replay.specs.declared.replay_fault.ReplayFault.{ReplayFault}
 use Rattle.dn_replay.specs.declared.replay_fault.ReplayFault.TheVariants.{BadRecord, OutOfMemory}
 use Rattle.dn_replay.specs.declared.source.Source.TheVariants.{History}
-
--- The records that are left, and the number of the first of them, where the first of the file has number 1.
-pub record Rest : Type 0 where
-  pub number : ℕ
-  pub records : List Fields
-
--- What is read off the front of the records, and the records behind it.
-abbrev pub Read : Type 0 → Type 0
-Read A = Result (A × Rest) ReplayFault
-
-abbrev pub first_of : ℕ → List Fields → Read Fields
-first_of number [] = Err (BadRecord number)
-first_of number (fields ∷ records) = Ok (fields, record { number = number + 1; records = records })
-
--- The next record. One that is missing has the number that it would have.
-unfoldable pub next_record : Rest → Read Fields
-next_record rest = first_of rest.number rest.records
-
--- What the record with this number says. Of a bad one the number is told.
-abbrev pub in_record : {A : Type 0} → ℕ → Result A ℕ → Result A ReplayFault
-in_record number (Ok value) = Ok value
-in_record number (Err place) = Err (BadRecord number)
 
 -- The command of a configuration's text: any line that asks for something, and no delete where the version has none. Want
 -- of memory, which no line has of its own, stays.
@@ -52,21 +32,6 @@ call_of version number fields =
     cond (is_call (codes "configure") 4 fields)
     (command_by version number (command_at 1 (column 4 fields)) >>= λ command. Ok (Configure command))
     (in_record number (plain_call fields))
-
--- The next record as an item of a list.
-unfoldable pub item_from : {A : Type 0} → (Fields → Result A ℕ) → Rest → Read A
-item_from item rest = do
-  first ← next_record rest
-  value ← in_record rest.number (item first.0)
-  Ok (value, first.1)
-
--- As many items as the reply says.
-unfoldable pub items_from : {A : Type 0} → (Fields → Result A ℕ) → ℕ → Rest → Read (List A)
-items_from item zero rest = Ok ([], rest)
-items_from item (suc count) rest = do
-  first ← item_from item rest
-  more ← items_from item count first.1
-  Ok (first.0 ∷ more.0, more.1)
 
 -- The rest of a reply with deliveries.
 unfoldable pub delivered_from : ℕ → Fields → Rest → Read Reply

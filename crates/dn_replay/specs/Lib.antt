@@ -5,10 +5,13 @@ pub mod EntryRecords
 pub mod Faults
 pub mod Fields
 pub mod HistoryFile
+pub mod HistoryItems
 pub mod HistoryRecords
 pub mod HistoryText
 pub mod PacketFile
+pub mod Ranges
 pub mod Reading
+pub mod RecordsLeft
 pub mod Replays
 pub mod Report
 pub mod Runs

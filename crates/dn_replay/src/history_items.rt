@@ -1,6 +1,6 @@
 ghost use Rattle.std.specs.Prelude.{◌≡◌, ◌≤◌, ◌<◌, length, Ok, IfOk, IfErr};
-ghost use Rattle.dn_replay.specs.HistoryFile.{in_record, item_from, items_from};
-ghost use Rattle.dn_replay.specs.HistoryRecords.{delivery_of, status_of};
+ghost use Rattle.dn_replay.specs.RecordsLeft.{in_record, item_from, items_from};
+ghost use Rattle.dn_replay.specs.HistoryItems.{delivery_of, status_of};
 ghost use Rattle.dn_replay.specs.Reading.{IsFaultOf};
 
 use crate::history_version::HistoryVersion;
@@ -22,7 +22,7 @@ pub(crate) fn in_record<T>(number: u64, said: Result<T, u64>) -> Result<T, Repla
 }
 
 /// The delivery of the next record.
-#[tactic(auto, unfolding(crate::specs::HistoryFile::item_from))]
+#[tactic(auto, unfolding(crate::specs::RecordsLeft::item_from))]
 fn next_delivery(
     records: &mut NumberedRecords<'_>,
     fields: &mut ByteRecord,
@@ -39,7 +39,7 @@ fn next_delivery(
 }
 
 /// The state of a flow of the next record.
-#[tactic(auto, unfolding(crate::specs::HistoryFile::item_from))]
+#[tactic(auto, unfolding(crate::specs::RecordsLeft::item_from))]
 fn next_status(
     version: HistoryVersion,
     records: &mut NumberedRecords<'_>,

@@ -1,6 +1,9 @@
-ghost use Rattle.std.specs.Prelude.{◌≡◌, ◌++◌, false, flat_map, OnOk, IfOk, IfErr};
+ghost use Rattle.std.specs.Prelude.{◌≡◌, ◌<◌, ◌++◌, Ok, false, flat_map, OnOk, IfOk, IfErr};
 ghost use Rattle.std.specs.Io.KnownBytes.{Appends};
+ghost use Rattle.std.specs.List.{All};
+ghost use Rattle.dn_types.specs.declared.rule.Rule.TheVariants.{Ordered};
 ghost use Rattle.dn_records.specs.Records.{line_of, text_of};
+ghost use Rattle.dn_replay.specs.HistoryFile.{history_in};
 ghost use Rattle.dn_replay.specs.HistoryText.{end_record, entry_records, history_header, history_text};
 ghost use Rattle.dn_replay.specs.Writing.{IsUnwritten};
 ghost use Rattle.dn_replay.specs.declared.source.Source.TheVariants.{History};
@@ -8,6 +11,7 @@ ghost use Rattle.dn_replay.specs.declared.source.Source.TheVariants.{History};
 use crate::call_records::write_call;
 use crate::item_records::write_items;
 use crate::output::{number, write_text};
+use crate::ranges::entries_in_range;
 use crate::replay_fault::ReplayFault;
 use crate::reply_records::write_reply;
 use crate::source::Source;
@@ -84,7 +88,12 @@ pub fn write_history<O: Outlet>(
     // Before a failed write a part of the file was written, and before a want of memory nothing.
     ensures err { IfErr result (λ fault. IsUnwritten History (history_text entries.now)
         (O.contents out.old) (O.contents out.new) (O.has_failed out.new) fault) }
+
+    // The file is read as these entries, where each is by one of 16 callers.
+    ensures reads_back { All (λ entry. entry.caller < 16) entries.now
+        → history_in (history_text entries.now) ≡ Ok (Ordered, entries.now) }
 {
+    entries_in_range(entries);
     match history_text(alloc, entries) {
         Ok(text) => write_text(out, Source::History, text.as_slice()),
         Err(_) => Err(ReplayFault::OutOfMemory),

@@ -1,6 +1,6 @@
 ghost use Rattle.std.specs.Prelude.{◌≡◌, ◌≤◌};
 ghost use Rattle.csv.specs.Records.{fields_of};
-ghost use Rattle.dn_replay.specs.HistoryRecords.{delivery_of, discarded_of, key_of, mask_at, status_of, status_width};
+ghost use Rattle.dn_replay.specs.HistoryItems.{delivery_of, discarded_of, key_of, mask_at, status_of, status_width};
 
 use crate::fields::is_form;
 use crate::history_version::HistoryVersion;
@@ -10,7 +10,7 @@ use csv::ByteRecord;
 use dn_types::{Delivery, FlowKey, FlowStatus, Mask};
 
 /// The delivery of an item record, or the place of the first bad field.
-#[tactic(auto, unfolding(crate::specs::HistoryRecords::delivery_of))]
+#[tactic(auto, unfolding(crate::specs::HistoryItems::delivery_of))]
 pub(crate) fn read_delivery(fields: &ByteRecord) -> Result<Delivery, u64>
     ensures { result ≡ delivery_of (fields_of fields.now) }
 {
@@ -26,7 +26,7 @@ pub(crate) fn read_delivery(fields: &ByteRecord) -> Result<Delivery, u64>
 }
 
 /// The mask in five fields from the place on, or the place of the first bad one.
-#[tactic(auto, unfolding(crate::specs::HistoryRecords::mask_at))]
+#[tactic(auto, unfolding(crate::specs::HistoryItems::mask_at))]
 fn mask_at(fields: &ByteRecord, place: usize) -> Result<Mask, u64>
     requires { (1 ≤ place) × (place ≤ 100) }
     ensures { result ≡ mask_at place (fields_of fields.now) }
@@ -42,7 +42,7 @@ fn mask_at(fields: &ByteRecord, place: usize) -> Result<Mask, u64>
 }
 
 /// The key of a flow, or the place of the first bad field.
-#[tactic(auto, unfolding(crate::specs::HistoryRecords::key_of))]
+#[tactic(auto, unfolding(crate::specs::HistoryItems::key_of))]
 fn read_key(fields: &ByteRecord) -> Result<FlowKey, u64>
     ensures { result ≡ key_of (fields_of fields.now) }
 {
@@ -75,7 +75,7 @@ fn read_discarded(version: HistoryVersion, fields: &ByteRecord) -> Result<u64, u
 }
 
 /// The state of a flow in an item record, or the place of the first bad field.
-#[tactic(auto, unfolding(crate::specs::HistoryRecords::status_of))]
+#[tactic(auto, unfolding(crate::specs::HistoryItems::status_of))]
 pub(crate) fn read_status(version: HistoryVersion, fields: &ByteRecord) -> Result<FlowStatus, u64>
     ensures { result ≡ status_of version (fields_of fields.now) }
 {

@@ -22,6 +22,7 @@ mod numbered_records;
 mod output;
 mod packet_fields;
 mod packets;
+mod ranges;
 mod replay_fault;
 mod replays;
 mod reply_fields;

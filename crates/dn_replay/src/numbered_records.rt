@@ -1,7 +1,8 @@
 ghost use Rattle.std.specs.Prelude.{◌≡◌, ◌<◌, ◌≤◌, length, Ok, None, IfOk, OnOk, IfErr};
 ghost use Rattle.csv.specs.Records.{fields_of};
 ghost use Rattle.dn_records.specs.Records.{records_of};
-ghost use Rattle.dn_replay.specs.HistoryFile.{next_record, nothing_in};
+ghost use Rattle.dn_replay.specs.HistoryFile.{nothing_in};
+ghost use Rattle.dn_replay.specs.RecordsLeft.{next_record};
 ghost use Rattle.dn_replay.specs.Reading.{IsFaultOf};
 
 use crate::replay_fault::ReplayFault;
@@ -19,7 +20,7 @@ pub(crate) struct NumberedRecords<'a> {
 
 impl<'a> Model for NumberedRecords<'a> {
     ghost use Rattle.std.specs.Prelude.{◌+◌, ◌<◌, ◌^◌, length};
-    ghost use Rattle.dn_replay.specs.HistoryFile.{Rest};
+    ghost use Rattle.dn_replay.specs.RecordsLeft.{Rest};
 
     ghost Value = { Rest };
 

@@ -1,4 +1,5 @@
 pub mod Capping
+pub mod NumbersBack
 pub mod Prefixes
 pub mod WordCuts
 pub mod LineCuts

@@ -1,7 +1,7 @@
 use Rattle.std.proofs.Common.{◌≡◌, true, arith}
 use Rattle.std.specs.Result.{is_ok}
-use Rattle.dn_replay.specs.HistoryFile.{items_from}
-use Rattle.dn_replay.specs.HistoryRecords.{delivery_of}
+use Rattle.dn_replay.specs.RecordsLeft.{items_from}
+use Rattle.dn_replay.specs.HistoryItems.{delivery_of}
 use Rattle.dn_replay.proofs.HistoryReading.{all_read, bad_item, one_more}
 use Rattle.dn_replay.proofs.history_items.read_deliveries.Goals as goal
 

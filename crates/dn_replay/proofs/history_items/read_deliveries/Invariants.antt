@@ -1,6 +1,6 @@
 use Rattle.std.proofs.Common.{◌≡◌, ◌≤◌, length}
-use Rattle.dn_replay.specs.HistoryFile.{items_from}
-use Rattle.dn_replay.specs.HistoryRecords.{delivery_of}
+use Rattle.dn_replay.specs.RecordsLeft.{items_from}
+use Rattle.dn_replay.specs.HistoryItems.{delivery_of}
 use Rattle.dn_replay.proofs.HistoryReading.{with_front}
 use Rattle.dn_replay.proofs.history_items.read_deliveries.Given as goal
 
