@@ -2,7 +2,7 @@
 
     python3 tools/limit_checks.py PROGRAM
 
-Files of up to 64 MiB are made in the folder for temporary files, and removed. PROGRAM may have several words. A line is
+Files of up to 256 MiB are made in the folder for temporary files, and removed. PROGRAM may have several words. A line is
 printed for each difference, and the last line is 'N passed, M failed'.
 """
 
@@ -23,6 +23,7 @@ from files import LIMITS, PACKET_HEADER, REPORT_HEADER  # noqa: E402
 HEADER = PACKET_HEADER.encode() + b"\n"
 CONFIG = ["replay", "file", "empty"]
 PACKETS = ["replay", "empty", "file"]
+AUDIT = ["audit", "file"]
 Outcome = tuple[bytes, bytes, int]
 EMPTY_REPORT: Outcome = (f"{REPORT_HEADER}\n".encode(), b"", 0)
 BAD_RECORD: Outcome = (b"", b"packet row 1, field 0: bad\n", 4)
@@ -46,8 +47,10 @@ FILLED = (
     Filled("joined input of one comment", "input", [], b"#", b"x", EMPTY_REPORT),
     Filled("packet file of one quoted field", "packets", PACKETS, HEADER + b'"', b"x", BAD_RECORD),
     Filled("packet file of one record of commas", "packets", PACKETS, HEADER, b",", BAD_RECORD),
+    Filled("history of empty lines", "history", AUDIT, b"dummynet-history,3\nend,0\n", b"\n", (b"lawful 0\n", b"", 0)),
 )
-ENDLESS = (("input", []), ("config", ["replay", "/dev/zero", "empty"]), ("packets", ["replay", "empty", "/dev/zero"]))
+ENDLESS = (("input", []), ("config", ["replay", "/dev/zero", "empty"]), ("packets", ["replay", "empty", "/dev/zero"]),
+           ("history", ["audit", "/dev/zero"]))
 
 
 def too_long(source: str) -> Outcome:

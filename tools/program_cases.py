@@ -10,8 +10,8 @@ A case NAME is these files of FOLDER, which has to be empty:
   NAME.stdout, NAME.stderr, NAME.status    what it has to write, and its status
 Where NAME.stdout is absent the streams aren't compared (help and usage, whose text the program has from a library).
 The fixed cases are the same for every SEED. COUNT random ones follow, of four kinds in turn: joined inputs, two files,
-faulty configurations and faulty packet files, and then a quarter as many that ask for the history. `tools/run_cases.py` runs a
-program over them.
+faulty configurations and faulty packet files, then a quarter as many that ask for the history, and half as many audits of
+histories. `tools/run_cases.py` runs a program over them.
 """
 
 from __future__ import annotations
@@ -28,11 +28,12 @@ sys.path.insert(0, str(Path(__file__).parent / "oracle"))
 
 from broken import bad_line, damaged_record, random_words_line  # noqa: E402
 from files import PACKET_HEADER  # noqa: E402
-from fixed_cases import ENDLESS, JOINED, REPLAYS, USAGES  # noqa: E402
+from fixed_cases import AUDITS, ENDLESS, JOINED, REPLAYS, USAGES  # noqa: E402
 from history import tuple_text  # noqa: E402
 from model import Command, DeletePipe, DeleteQueue, Queue, Row  # noqa: E402
 from printing import command_text  # noqa: E402
 from program import outcome  # noqa: E402
+from random_histories import random_history  # noqa: E402
 from scenarios import STYLES, Style, first_commands, random_rows  # noqa: E402
 from spelling import spell  # noqa: E402
 
@@ -206,6 +207,10 @@ def history_case(rng: Random, cases: Cases, name: str, style: Style) -> None:
     cases.add(name, ["replay", "config", "packets", "--history", file], None, files)
 
 
+def audit_case(rng: Random, cases: Cases, name: str, style: Style) -> None:
+    cases.add(name, ["audit", "history"], None, {"history": random_history(rng, style)})
+
+
 KINDS = (("joined", joined_case), ("replay", replay_case), ("config", config_case), ("packets", packets_case))
 
 
@@ -214,6 +219,10 @@ def add_fixed(cases: Cases) -> None:
         cases.add(f"fixed-{name}", [], text.encode())
     for name, (words, files) in {**REPLAYS, **ENDLESS}.items():
         cases.add(f"fixed-{name}", ["replay", *words], None, files)
+    for name, text in AUDITS.items():
+        cases.add(f"fixed-audit-{name}", ["audit", "h"], None, {"h": text.encode()})
+    cases.add("fixed-audit-missing", ["audit", "none"])
+    cases.add("fixed-audit-folder", ["audit", "."])
     for i, words in enumerate(USAGES):
         cases.add(f"fixed-usage-{i:02}", list(words), None, {"c": b"", "p": b""})
 
@@ -227,6 +236,8 @@ def main(seed: str, count: str, folder: str) -> None:
         make(rng, cases, f"{kind}-{i:05}", rng.choice(STYLES))
     for i in range(int(count) // 4):
         history_case(rng, cases, f"history-{i:05}", rng.choice(STYLES))
+    for i in range(int(count) // 2):
+        audit_case(rng, cases, f"audit-{i:05}", rng.choice(STYLES))
     for (kind, status), number in sorted(cases.counts.items()):
         print(f"{kind:8} status {status}: {number}")
     print(f"{cases.counts.total()} cases in {folder}")

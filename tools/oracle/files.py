@@ -13,7 +13,7 @@ from model import (
 
 PACKET_HEADER = "moment,target,number,src,dst,proto,sport,dport,len,word"
 REPORT_HEADER = "event,row,flow,packet,at,start,due"
-LIMITS = {"config": 1_048_576, "packets": 67_108_864, "input": 67_108_864}
+LIMITS = {"config": 1_048_576, "packets": 67_108_864, "input": 67_108_864, "history": 268_435_456}
 REFUSALS = {NoSuchPipe: "no such pipe", PipeHasQueues: "pipe has queues", NoSuchQueue: "no such queue"}
 
 

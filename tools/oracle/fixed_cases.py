@@ -119,5 +119,53 @@ ENDLESS = {
     "bad-config-before-endless-packets": (("c", "/dev/zero"), {"c": b"bad"}),
 }
 
+
+def configured(line: str) -> str:
+    """The records of a line that is accepted."""
+    return f"c,0,configure,{line}\nr,configured\n"
+
+
+def queued(moment: int, packet: int) -> str:
+    """The records of a packet to pipe 1 that is queued when it is sent."""
+    return f"c,0,submit,pipe,1,10.0.0.1,10.0.0.2,17,1000,2000,1000,0,{moment}\nr,queued,{moment},0,{packet}\n"
+
+
+def delivered(moment: int, items: str) -> str:
+    """The records of a Collect that gives one packet."""
+    return f"c,0,collect,{moment}\nr,delivered,{moment},1\nd,{items}\n"
+
+
+STATUS = "c,0,show\nr,status,1\nf,0,pipe,1,1,0.0.0.0,0.0.0.0,0,0,0,0.0.0.0,0.0.0.0,0,0,0,0,0,0,0,1,0\n"
+ONE_CALLER = ("dummynet-history,3\n" + configured("pipe 1 config bw 8000000bit/s") + queued(0, 0)
+              + delivered(1_000_000, "0,0,0,1000000") + STATUS + "end,4\n")
+
+# The packets of a link overtake each other, as in histories of versions 1 and 2 alone.
+OVERTAKING = (configured("pipe 1 config bw 8Mbit/s delay 50") + queued(0, 0) + configured("pipe 1 config bw 8Mbit/s")
+              + queued(2_000_000, 1) + delivered(3_000_000, "1,0,2000000,3000000") + "end,5\n")
+
+# Name and history file.
+AUDITS = {
+    "one-caller": ONE_CALLER,
+    "one-caller-version-2": ONE_CALLER.replace("history,3", "history,2"),
+    "one-caller-version-1": ONE_CALLER.replace("history,3", "history,1").replace(",1,0\nend", ",1\nend"),
+    "discarded-in-version-1": ONE_CALLER.replace("history,3", "history,1"),
+    "no-discarded-in-version-3": ONE_CALLER.replace(",1,0\nend", ",1\nend"),
+    **{f"overtaking-version-{v}": f"dummynet-history,{v}\n{OVERTAKING}" for v in (1, 2, 3)},
+    "other-packet": ONE_CALLER.replace("r,queued,0,0,0", "r,queued,0,0,1"),
+    "last-moment": ONE_CALLER.replace("r,queued,0,", f"r,queued,{2**64 - 1},"),
+    "moment-too-great": ONE_CALLER.replace("r,queued,0,", f"r,queued,{2**64},"),
+    "exhausted": ONE_CALLER.replace("r,configured", "r,exhausted"),
+    "exhausted-alone": "dummynet-history,3\nc,0,show\nr,exhausted\nend,1\n",
+    "great-count": ONE_CALLER.replace("r,delivered,1000000,1\n", f"r,delivered,1000000,{2**64 - 1}\n"),
+    "no-end": ONE_CALLER.replace("end,4\n", ""),
+    "two-ends": ONE_CALLER + "end,4\n",
+    "empty-lines-after-end": ONE_CALLER + "\n\n",
+    "other-count": ONE_CALLER.replace("end,4", "end,5"),
+    "long-count": ONE_CALLER.replace("end,4", "end," + "4" * 5000),
+    "no-entries": "dummynet-history,3\nend,0\n",
+    "no-record": "",
+}
+
 # Command lines that give nothing to do.
-USAGES = (("replay",), ("replay", "c"), ("replay", "c", "p", "q"), ("nothing",), ("--nothing",), ("--help",), ("replay", "--help"))
+USAGES = (("replay",), ("replay", "c"), ("replay", "c", "p", "q"), ("nothing",), ("--nothing",), ("--help",), ("replay", "--help"),
+          ("audit",), ("audit", "c", "p"), ("audit", "--history", "c"), ("audit", "--help"))

@@ -41,28 +41,31 @@ def call_text(caller: int, c: Call) -> str:
     return f"c,{caller},show"
 
 
-def status_text(f: FlowStatus) -> str:
+def status_text(f: FlowStatus, version: int) -> str:
+    """The record of a flow. Version 1 doesn't tell how many packets were discarded."""
     k = f.key
-    return (f"f,{f.flow},{k.target.kind},{k.target.number},{k.pipe},{tuple_text(k.mask)},{tuple_text(k.tuple)},"
-            f"{f.queued},{f.bytes},{f.lost},{f.full},{f.started},{f.discarded}")
+    text = (f"f,{f.flow},{k.target.kind},{k.target.number},{k.pipe},{tuple_text(k.mask)},{tuple_text(k.tuple)},"
+            f"{f.queued},{f.bytes},{f.lost},{f.full},{f.started}")
+    return text if version == 1 else f"{text},{f.discarded}"
 
 
-def reply_lines(r: Reply) -> list[str]:
+def reply_lines(r: Reply, version: int) -> list[str]:
     """The record of a reply, and those of its items."""
     if type(r) in BARE_REPLIES:
         return [f"r,{BARE_REPLIES[type(r)]}"]
     if isinstance(r, Delivered):
         return [f"r,delivered,{r.at},{len(r.list)}"] + [f"d,{d.packet},{d.flow},{d.start},{d.due}" for d in r.list]
     if isinstance(r, Status):
-        return [f"r,status,{len(r.list)}"] + [status_text(f) for f in r.list]
+        return [f"r,status,{len(r.list)}"] + [status_text(f, version) for f in r.list]
     numbers = [str(getattr(r, name)) for name in ("at", "flow", "packet") if hasattr(r, name)]
     return [",".join(["r", NUMBERED_REPLIES[type(r)], *numbers])]
 
 
 def history_text(rule: str, calls: Iterable[tuple[int, Call]], replies: Iterable[Reply]) -> str:
     """A history of calls, each with its caller and its reply."""
-    lines, count = [f"dummynet-history,{2 if rule == FREE else 3}"], 0
+    version = 2 if rule == FREE else 3
+    lines, count = [f"dummynet-history,{version}"], 0
     for (caller, call), reply in zip(calls, replies):
-        lines += [call_text(caller, call), *reply_lines(reply)]
+        lines += [call_text(caller, call), *reply_lines(reply, version)]
         count += 1
     return "".join(line + "\n" for line in [*lines, f"end,{count}"])

@@ -2,6 +2,7 @@
 
     python3 tools/oracle/program.py < JOINED
     python3 tools/oracle/program.py replay CONFIG PACKETS [--history FILE]
+    python3 tools/oracle/program.py audit HISTORY
 """
 
 from __future__ import annotations
@@ -14,6 +15,7 @@ from typing import BinaryIO, Callable, Optional
 from definitions import Dummynet
 from files import LIMITS, ReplayFault, read_line, read_packets, refused_line, report, split_joined, split_lines
 from history import history_text
+from history_reader import audit_line
 from model import MAX_MOMENT, ORDERED, Collect, Configure, Configured, Deleted, Entry, Submit
 
 USAGE = 2
@@ -91,18 +93,31 @@ def reported(history: list[Entry], folder: Path, file: Optional[str]) -> Outcome
     return Outcome(text, b"", 0, {file: history_text(ORDERED, calls, [e.reply for e in history]).encode()})
 
 
-def outcome(words: list[str], stdin: BinaryIO, folder: Path) -> Outcome:
-    """What the program does with this command line, in this folder."""
+def audited(path: Path) -> Outcome:
+    """The verdict on the history in a file."""
+    with open_for_reading(path, "history") as file:
+        line, status = audit_line(read_whole(file, "history"))
+    return Outcome(f"{line}\n".encode(), b"", status)
+
+
+def replayed(words: list[str], stdin: BinaryIO, folder: Path) -> Outcome:
+    """The report of a replay, where the words ask for one."""
     file = words[4] if len(words) == 5 and words[3] == "--history" else None
     paths = words[1:3] if words[:1] == ["replay"] and (len(words) == 3 or file is not None) else []
     replays = len(paths) == 2 and not any(w.startswith("-") for w in [*paths, file or ""])
     if words and not replays:
         return Outcome(b"", b"", 0 if "--help" in words else USAGE)
+    history = replay_files(folder / paths[0], folder / paths[1]) if replays else replay_joined(stdin)
+    return reported(history, folder, file)
+
+
+def outcome(words: list[str], stdin: BinaryIO, folder: Path) -> Outcome:
+    """What the program does with this command line, in this folder."""
+    audits = words[:1] == ["audit"] and len(words) == 2 and not words[1].startswith("-")
     try:
-        history = replay_files(folder / paths[0], folder / paths[1]) if replays else replay_joined(stdin)
+        return audited(folder / words[1]) if audits else replayed(words, stdin, folder)
     except ReplayFault as fault:
         return Outcome(b"", f"{fault.line}\n".encode(), fault.status)
-    return reported(history, folder, file)
 
 
 if __name__ == "__main__":

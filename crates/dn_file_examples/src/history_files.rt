@@ -29,7 +29,7 @@ fn read(alloc: Global, text: &[u8]) -> Result<(Rule, usize), ReplayFault> {
 }
 
 // The file with another record in the place of the one with this number.
-fn text_with(alloc: Global, number: usize, other: &str) -> Result<String, Fail> {
+pub fn text_with(alloc: Global, number: usize, other: &str) -> Result<String, Fail> {
     let mut text = String::new(alloc);
     for (i, record) in RECORDS.iter().enumerate() {
         text.push_str(if i + 1 == number { other } else { *record })?;

@@ -8,6 +8,8 @@ mod broken;
 #[cfg(test)]
 mod fakes;
 #[cfg(test)]
+mod file_audits;
+#[cfg(test)]
 mod headers;
 #[cfg(test)]
 mod histories;

@@ -2,8 +2,8 @@ use crate::broken::{FULL_QUEUE, REPORT};
 use crate::histories::one_caller;
 use crate::history::ONE_CALLER;
 use dn_replay::{
-    FromReader, FromWriter, ReplayFault, Verdict, audit, read_history, replay, replay_joined,
-    write_history,
+    FromReader, FromWriter, ReplayFault, Verdict, audit, audit_file, read_history, replay,
+    replay_joined, write_history,
 };
 use dn_text::split_joined;
 use dn_types::Rule;
@@ -24,6 +24,12 @@ fn replay_two(alloc: Global, written: &mut Vec<u8>) -> Result<usize, ReplayFault
     let mut packets = FromReader::new(packets);
     let mut out = FromWriter::new(written);
     replay(alloc, &mut config, &mut packets, &mut out).map(|entries| entries.len())
+}
+
+// The verdict on the file of one caller's history. What it writes is added to `written`.
+fn audit_one(alloc: Global, written: &mut Vec<u8>) -> Result<Verdict, ReplayFault> {
+    let mut file = FromReader::new(ONE_CALLER.as_bytes());
+    audit_file(alloc, &mut file, &mut FromWriter::new(written))
 }
 
 // An empty output with room for a text, so that writing the text grows nothing of it.
@@ -103,5 +109,20 @@ fn a_refused_audit_is_made_again(rt: HostRuntime) -> Result<(), Fail> {
         verdict = audit(alloc, Rule::Ordered, &entries);
     }
     assert!(rt; verdict == Ok(Verdict::Lawful));
+    Ok(())
+}
+
+#[test]
+fn a_refused_audit_of_a_file_is_made_again(rt: HostRuntime) -> Result<(), Fail> {
+    let alloc = rt.alloc();
+    let line = "lawful 4\n";
+    let mut written = output(alloc, line)?;
+    let mut answer = audit_one(alloc, &mut written);
+    if answer == Err(ReplayFault::OutOfMemory) {
+        assert!(rt; written.is_empty());
+        answer = audit_one(alloc, &mut written);
+    }
+    assert!(rt; answer == Ok(Verdict::Lawful));
+    assert!(rt; written.as_slice() == line.as_bytes());
     Ok(())
 }

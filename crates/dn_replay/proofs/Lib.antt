@@ -4,8 +4,10 @@ pub mod Commands
 pub mod Deliveries
 pub mod EntriesBack
 pub mod FieldsBack
+pub mod FileAuditSteps
 pub mod HistoryBack
 pub mod HistoryExample
+pub mod HistoryFaults
 pub mod HistoryReading
 pub mod HistorySteps
 pub mod HistoryWitness

@@ -4,6 +4,7 @@ pub mod Configuring
 pub mod EntryRecords
 pub mod Faults
 pub mod Fields
+pub mod FileAudit
 pub mod HistoryFile
 pub mod HistoryItems
 pub mod HistoryRecords

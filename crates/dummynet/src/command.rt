@@ -21,8 +21,16 @@ pub fn command<'a>(alloc: Global) -> Result<Command<'a>, Error> {
                 .value_name("FILE")
                 .help("Writes the calls and their replies to FILE, after the report"),
         )?;
+    let audit = Command::new(alloc, "audit")
+        .about("Tells whether a history is lawful, or the first entry that differs")
+        .arg(
+            Arg::new(alloc, "history")
+                .value_name("HISTORY")
+                .required(true),
+        )?;
     let all = Command::new(alloc, "dummynet")
         .about("Emulates pipes and queues. Without arguments it replays one joined input")
-        .subcommand(replay)?;
+        .subcommand(replay)?
+        .subcommand(audit)?;
     Ok(all)
 }

@@ -1,4 +1,4 @@
-//! The program: replays a joined input, or a packet file through a configuration.
+//! The program: replays a joined input, or a packet file through a configuration, and audits histories.
 #![tactic(auto)]
 
 mod command;
@@ -7,10 +7,13 @@ use clap::error::ErrorKind;
 use clap::{ArgMatches, Error};
 use command::command;
 use dn_records::{FromReader, FromWriter};
-use dn_replay::{ReplayFault, Source, replay, replay_joined, write_history};
+use dn_replay::{ReplayFault, Source, audit_file, replay, replay_joined, write_history};
 use std::process::ExitCode;
 use std::rt::{Env, Files};
 use std::{env, fs, io};
+
+// The status of a replay that was made.
+const DONE: u8 = 0;
 
 // The status of a command line that isn't understood.
 const USAGE: u8 = 2;
@@ -50,24 +53,41 @@ fn replay_files<R: Files + Print + AllocGlobal>(
     write_history(rt.alloc(), &entries, &mut FromWriter::new(file))
 }
 
+/// Audits the history in a file, and writes its verdict to standard output. Answers the verdict's status.
+fn audit_history<R: Files + Print + AllocGlobal>(rt: &R, path: &str) -> Result<u8, ReplayFault> {
+    let Ok(file) = fs::open(rt, path) else {
+        return Err(ReplayFault::Read(Source::History));
+    };
+    let mut history = FromReader::new(file);
+    let mut out = FromWriter::new(io::writer(rt));
+    let verdict = audit_file(rt.alloc(), &mut history, &mut out)?;
+    Ok(verdict.status())
+}
+
+/// Does what the words ask for, and answers the status of what was done.
 fn run<R: Input + Files + Print + AllocGlobal>(
     rt: &R,
     matches: &ArgMatches<'_>,
-) -> Result<(), ReplayFault> {
+) -> Result<u8, ReplayFault> {
     match matches.subcommand() {
+        Some(("audit", found)) => audit_history(rt, found.get_str("history").unwrap_or("")),
         Some((_, found)) => {
             let config = found.get_str("config").unwrap_or("");
             let packets = found.get_str("packets").unwrap_or("");
-            replay_files(rt, config, packets, found.get_str("history"))
+            replay_files(rt, config, packets, found.get_str("history"))?;
+            Ok(DONE)
         }
-        None => replay_input(rt),
+        None => {
+            replay_input(rt)?;
+            Ok(DONE)
+        }
     }
 }
 
 /// The status of an outcome, with one line on standard error for a fault.
-fn status_of(rt: &impl Eprint, outcome: Result<(), ReplayFault>) -> u8 {
+fn status_of(rt: &impl Eprint, outcome: Result<u8, ReplayFault>) -> u8 {
     match outcome {
-        Ok(()) => 0,
+        Ok(status) => status,
         Err(fault) => {
             let _ = eprintln!(rt; "{fault}");
             fault.status()

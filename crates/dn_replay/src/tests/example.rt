@@ -1,6 +1,6 @@
 use crate::{
-    FromReader, FromWriter, Verdict, audit, read_config, read_packets, replay, write_history,
-    write_report,
+    FromReader, FromWriter, Verdict, audit, audit_file, read_config, read_packets, replay,
+    write_history, write_report,
 };
 use dn_types::Rule;
 use std::test::Fail;
@@ -25,12 +25,14 @@ fn the_example_of_the_readme(rt: HostRuntime) -> Result<(), Fail> {
     write_history(alloc, &history, &mut FromWriter::new(&mut file))?;
     let verdict = audit(alloc, Rule::Ordered, &history)?;
     assert!(rt; verdict == Verdict::Lawful);
+    let same = audit_file(alloc, &mut FromReader::new(file.as_slice()), &mut out)?;
+    assert!(rt; same == verdict);
     let rows = read_packets(alloc, &mut FromReader::new(packets))?;
     let commands = read_config(alloc, &mut FromReader::new(config))?;
     assert!(rt; history.len() == commands.len() + rows.len() + 1);
     let report = "event,row,flow,packet,at,start,due\nout,1,0,0,0,0,1000000\n";
-    let twice = report.repeat(alloc, 2)?;
-    assert!(rt; output.as_slice() == twice.as_bytes());
+    let written = format!(in alloc; "{report}{report}lawful 3\n")?;
+    assert!(rt; output.as_slice() == written.as_bytes());
     assert!(rt; file.starts_with(b"dummynet-history,3\n") && file.ends_with(b"\nend,3\n"));
     Ok(())
 }

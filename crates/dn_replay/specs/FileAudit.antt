@@ -1,0 +1,47 @@
+-- The audit of a history file: the verdict on the history in it by its own rule, and the line that tells the verdict.
+use Rattle.std.specs.Prelude.{◌≡◌, ℕ, Bool, false, List, ◌++◌, length, codes, decimal, Option, ⊤}
+use Rattle.std.specs.Io.KnownBytes.{Appends}
+use Rattle.dn_types.specs.declared.entry.Entry.{Entry}
+use Rattle.dn_types.specs.declared.rule.Rule.{Rule}
+use Rattle.dn_replay.specs.Audit.{IsVerdict}
+use Rattle.dn_replay.specs.HistoryFile.{history_file}
+use Rattle.dn_replay.specs.Reading.{IsRefusal, ReadsAs}
+use Rattle.dn_replay.specs.Replays.{IsUntouched}
+use Rattle.dn_replay.specs.Writing.{IsUnwritten}
+use Rattle.dn_replay.specs.declared.replay_fault.ReplayFault.{ReplayFault}
+use Rattle.dn_replay.specs.declared.replay_fault.ReplayFault.TheVariants.{BadRecord, OutOfMemory, Read, TooLong, Write}
+use Rattle.dn_replay.specs.declared.source.Source.TheVariants.{History, Report}
+use Rattle.dn_replay.specs.declared.verdict.Verdict.{Verdict}
+use Rattle.dn_replay.specs.declared.verdict.Verdict.TheVariants.{Lawful, Differs}
+
+-- The line of a verdict on a history of this many entries. It ends in a line feed.
+abbrev pub verdict_line : ℕ → Verdict → List ℕ
+verdict_line entries Lawful = codes "lawful " ++ decimal entries ++ codes "\n"
+verdict_line entries (Differs i) = codes "differs " ++ decimal i ++ codes "\n"
+
+-- What a file may have held is read as a history with this verdict by the rule of the file, and this is the verdict's line.
+abbrev pub IsTold : Option (List ℕ) → Verdict → List ℕ → Type 0
+IsTold known verdict line = (history : Rule × List Entry) × ReadsAs history_file known history × IsVerdict history.0 history.1 verdict × (line ≡ verdict_line (length history.1) verdict)
+
+-- A file was audited, and the line of its verdict was written.
+abbrev pub IsAudited : Option (List ℕ) → Verdict → Option (List ℕ) → Option (List ℕ) → Type 0
+IsAudited known verdict old new = (line : List ℕ) × IsTold known verdict line × Appends old new line
+
+-- Why a file has no verdict, by its bytes and by whether a read of it failed. Before a failed write a part of the verdict's
+-- line was written. Any other fault is one of reading, or a want of memory, and nothing was written.
+abbrev pub IsUnaudited : Option (List ℕ) → Bool → Option (List ℕ) → Option (List ℕ) → Bool → ReplayFault → Type 0
+IsUnaudited known read_failed old new failed (Write what) = (read_failed ≡ false) × ((verdict : Verdict) × (line : List ℕ) × IsTold known verdict line × IsUnwritten Report line old new failed (Write what))
+IsUnaudited known read_failed old new failed fault = IsRefusal History history_file known read_failed fault × IsUntouched old new failed
+
+-- The faults that a history file has of its own, or for want of memory: it is too long, or a record is bad.
+abbrev pub IsFileFault : ReplayFault → Type 0
+IsFileFault (TooLong what) = what ≡ History
+IsFileFault (BadRecord number) = ⊤
+IsFileFault OutOfMemory = ⊤
+IsFileFault fault = ⊥
+
+-- The faults of an audit of a file. No other comes.
+abbrev pub IsAuditFault : ReplayFault → Type 0
+IsAuditFault (Read what) = what ≡ History
+IsAuditFault (Write what) = what ≡ Report
+IsAuditFault fault = IsFileFault fault
