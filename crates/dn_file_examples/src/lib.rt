@@ -1,4 +1,4 @@
-//! Worked examples of files: replays, broken input, histories, audits and refused growths.
+//! Worked examples of files: replays by one caller and by several, broken input, histories, audits and refused growths.
 #![tactic(auto)]
 
 #[cfg(test)]
@@ -6,9 +6,13 @@ mod audit;
 #[cfg(test)]
 mod broken;
 #[cfg(test)]
+mod callers;
+#[cfg(test)]
 mod fakes;
 #[cfg(test)]
 mod file_audits;
+#[cfg(test)]
+mod gates;
 #[cfg(test)]
 mod headers;
 #[cfg(test)]

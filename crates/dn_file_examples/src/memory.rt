@@ -1,8 +1,10 @@
 use crate::broken::{FULL_QUEUE, REPORT};
+use crate::callers::{PIPE, TWO_ROWS, replay_by};
+use crate::headers::REPORT_HEADER;
 use crate::histories::one_caller;
 use crate::history::ONE_CALLER;
 use dn_replay::{
-    FromReader, FromWriter, ReplayFault, Verdict, audit, audit_file, read_history, replay,
+    FromReader, FromWriter, NoGate, ReplayFault, Verdict, audit, audit_file, read_history, replay,
     replay_joined, write_history,
 };
 use dn_text::split_joined;
@@ -68,6 +70,19 @@ fn a_refused_replay_of_two_inputs_is_made_again(rt: HostRuntime) -> Result<(), F
     }
     assert!(rt; answer == Ok(6));
     assert!(rt; written.as_slice() == REPORT.as_bytes());
+    Ok(())
+}
+
+#[test]
+fn a_refused_replay_by_callers_is_made_again(rt: HostRuntime) -> Result<(), Fail> {
+    let mut written = output(rt.alloc(), REPORT)?;
+    let mut history = replay_by(&rt, &mut written, 2, PIPE, TWO_ROWS, &NoGate);
+    if matches!(history, Err(ReplayFault::OutOfMemory)) {
+        assert!(rt; written.is_empty());
+        history = replay_by(&rt, &mut written, 2, PIPE, TWO_ROWS, &NoGate);
+    }
+    assert!(rt; history?.len() == 4);
+    assert!(rt; written.len() == REPORT_HEADER.len() + 2 * "out,1,0,0,0,0,0\n".len());
     Ok(())
 }
 

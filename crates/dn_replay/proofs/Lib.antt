@@ -1,6 +1,9 @@
 pub mod AuditSteps
+pub mod CallerRows
 pub mod CallsBack
 pub mod Commands
+pub mod CrewSteps
+pub mod Crews
 pub mod Deliveries
 pub mod EntriesBack
 pub mod FieldsBack
@@ -15,6 +18,7 @@ pub mod Inputs
 pub mod ItemsBack
 pub mod LineSteps
 pub mod Orders
+pub mod OwnFaults
 pub mod ReplaySteps
 pub mod RepliesBack
 pub mod Rows

@@ -32,7 +32,7 @@ by_one (c ∷ calls) =
     let zero_below : 0 < 1 = omega arith in
     All-push (λ (e : Entry). e.caller < 1) (history_of calls) (entry_after calls c) (by_one calls) zero_below
 
-made : (calls : List Call) → calls_of_history (history_of calls) ≡ calls
+pub made : (calls : List Call) → calls_of_history (history_of calls) ≡ calls
 unfolding history_of
 made [] = refl
 made (c ∷ calls) = calls_of-more (history_of calls) (entry_after calls c) ∙ ap (λ (before : List Call). c ∷ before) (made calls)

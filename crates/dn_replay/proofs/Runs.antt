@@ -26,7 +26,7 @@ pub nothing : [] ≡ history_of []
 unfolding history_of
 nothing = refl
 
-submitted-append : (calls : List Call) (front : List Row) (row : Row) → submitted calls (front ++ row ∷ []) ≡ submit row ∷ submitted calls front
+pub submitted-append : (calls : List Call) (front : List Row) (row : Row) → submitted calls (front ++ row ∷ []) ≡ submit row ∷ submitted calls front
 unfolding submitted
 submitted-append calls [] row = refl
 submitted-append calls (first ∷ front) row = submitted-append (submit first ∷ calls) front row

@@ -1,6 +1,8 @@
 pub mod Audit
 pub mod ConfigFile
 pub mod Configuring
+pub mod CrewReplays
+pub mod Crews
 pub mod EntryRecords
 pub mod Faults
 pub mod Fields

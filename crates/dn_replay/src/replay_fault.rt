@@ -39,7 +39,7 @@ pub enum ReplayFault {
     /// Memory was refused.
     #[error("out of memory")]
     OutOfMemory,
-    /// There can be 1 to 16 callers. No call gives it yet.
+    /// There can be 1 to 16 callers.
     #[error("bad count of callers")]
     BadCount,
     /// The line deletes a pipe that a configured queue names.

@@ -48,7 +48,7 @@ fn finish<O: Outlet>(
 }
 
 /// A run that has made the commands of a configuration.
-fn configured_input<I: Inlet>(alloc: Global, config: &mut I) -> Result<Run, ReplayFault>
+pub(crate) fn configured_input<I: Inlet>(alloc: Global, config: &mut I) -> Result<Run, ReplayFault>
     requires { I.has_failed config.old ≡ false }
     ensures ok { IfOk result (λ run. (calls : List Call) × ReadsAs config_calls (I.remaining config.old) calls × HasMade run calls) }
     ensures sound { IfOk result (λ _. I.has_failed config.new ≡ false) }

@@ -114,11 +114,7 @@ impl Run {
         ensures { OnOk result ((calls : List Call) → HasMade self.old calls → HasMade self.new (submitted calls rows.now)) }
     {
         for row in rows {
-            self.make(Call::Submit {
-                target: row.target,
-                packet: row.packet,
-                moment: row.moment,
-            })?;
+            self.make(row.submit())?;
         }
         Ok(())
     }

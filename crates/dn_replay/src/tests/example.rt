@@ -1,6 +1,6 @@
 use crate::{
-    FromReader, FromWriter, Verdict, audit, audit_file, read_config, read_packets, replay,
-    write_history, write_report,
+    FromReader, FromWriter, NoGate, Verdict, audit, audit_file, read_config, read_packets, replay,
+    replay_callers, write_history, write_report,
 };
 use dn_types::Rule;
 use std::test::Fail;
@@ -30,8 +30,18 @@ fn the_example_of_the_readme(rt: HostRuntime) -> Result<(), Fail> {
     let rows = read_packets(alloc, &mut FromReader::new(packets))?;
     let commands = read_config(alloc, &mut FromReader::new(config))?;
     assert!(rt; history.len() == commands.len() + rows.len() + 1);
+    let shared = replay_callers(
+        &rt,
+        alloc,
+        3,
+        &mut FromReader::new(config),
+        &mut FromReader::new(packets),
+        &mut out,
+        &NoGate,
+    )?;
+    assert!(rt; shared.len() == history.len());
     let report = "event,row,flow,packet,at,start,due\nout,1,0,0,0,0,1000000\n";
-    let written = format!(in alloc; "{report}{report}lawful 3\n")?;
+    let written = format!(in alloc; "{report}{report}lawful 3\n{report}")?;
     assert!(rt; output.as_slice() == written.as_bytes());
     assert!(rt; file.starts_with(b"dummynet-history,3\n") && file.ends_with(b"\nend,3\n"));
     Ok(())

@@ -10,4 +10,4 @@ loop-row-init c = λ calls made. rw (← no-row calls) made
 pub loop-row-preserved : goal.loop-row-preserved
 loop-row-preserved c = λ calls made.
     subst (λ (all : List Call). HasMade c.make.new.self all) (row-more calls c.args.rows.now c.loop-row.row-index c.row-item.result c.loop-row-test.true c.row-item.is)
-    (c.in_ok-make.ensures (submitted calls (take c.loop-row.row-index c.args.rows.now)) (c.loop-row.invariant calls made))
+    (rw c.submit.ensures at (c.in_ok-make.ensures (submitted calls (take c.loop-row.row-index c.args.rows.now)) (c.loop-row.invariant calls made)))
