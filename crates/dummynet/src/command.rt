@@ -1,3 +1,4 @@
+use clap::builder::ValueParser;
 use clap::{Arg, Command, Error};
 use std::alloc::Global;
 
@@ -14,6 +15,13 @@ pub fn command<'a>(alloc: Global) -> Result<Command<'a>, Error> {
             Arg::new(alloc, "packets")
                 .value_name("PACKETS")
                 .required(true),
+        )?
+        .arg(
+            Arg::new(alloc, "callers")
+                .long("callers")
+                .value_name("N")
+                .value_parser(ValueParser::unsigned(1, 16))
+                .help("Replays by N callers in threads of their own, 1 to 16"),
         )?
         .arg(
             Arg::new(alloc, "history")

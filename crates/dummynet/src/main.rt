@@ -7,9 +7,13 @@ use clap::error::ErrorKind;
 use clap::{ArgMatches, Error};
 use command::command;
 use dn_records::{FromReader, FromWriter};
-use dn_replay::{ReplayFault, Source, audit_file, replay, replay_joined, write_history};
+use dn_replay::{
+    NoGate, ReplayFault, Source, audit_file, replay, replay_callers, replay_joined, write_history,
+};
 use std::process::ExitCode;
 use std::rt::{Env, Files};
+use std::sync::Wait;
+use std::thread::Threads;
 use std::{env, fs, io};
 
 // The status of a replay that was made.
@@ -26,31 +30,34 @@ fn replay_input<R: Input + Print + AllocGlobal>(rt: &R) -> Result<(), ReplayFaul
     Ok(())
 }
 
-/// From two files to standard output. Both are opened before either is read. Where a third file is asked
-/// for, it is made, or emptied if it is there, after the report was written, and gets the history.
-fn replay_files<R: Files + Print + AllocGlobal>(
+/// From two files to standard output, by one caller or by as many as are asked for. Both files are opened
+/// before either is read. Where a third file is asked for, it is made, or emptied if it is there, after the
+/// report was written, and gets the history.
+fn replay_files<R: Files + Print + AllocGlobal + Threads + Wait + Sync>(
     rt: &R,
-    config: &str,
-    packets: &str,
-    history: Option<&str>,
+    found: &ArgMatches<'_>,
 ) -> Result<(), ReplayFault> {
-    let Ok(config) = fs::open(rt, config) else {
+    let Ok(config) = fs::open(rt, found.get_str("config").unwrap_or("")) else {
         return Err(ReplayFault::Read(Source::Config));
     };
-    let Ok(packets) = fs::open(rt, packets) else {
+    let Ok(packets) = fs::open(rt, found.get_str("packets").unwrap_or("")) else {
         return Err(ReplayFault::Read(Source::Packets));
     };
     let mut config = FromReader::new(config);
     let mut packets = FromReader::new(packets);
     let mut out = FromWriter::new(io::writer(rt));
-    let entries = replay(rt.alloc(), &mut config, &mut packets, &mut out)?;
-    let Some(path) = history else {
+    let alloc = rt.alloc();
+    let entries = match found.get_one::<usize>("callers") {
+        Some(n) => replay_callers(rt, alloc, n, &mut config, &mut packets, &mut out, &NoGate)?,
+        None => replay(alloc, &mut config, &mut packets, &mut out)?,
+    };
+    let Some(path) = found.get_str("history") else {
         return Ok(());
     };
     let Ok(file) = fs::create(rt, path) else {
         return Err(ReplayFault::Write(Source::History));
     };
-    write_history(rt.alloc(), &entries, &mut FromWriter::new(file))
+    write_history(alloc, &entries, &mut FromWriter::new(file))
 }
 
 /// Audits the history in a file, and writes its verdict to standard output. Answers the verdict's status.
@@ -65,16 +72,14 @@ fn audit_history<R: Files + Print + AllocGlobal>(rt: &R, path: &str) -> Result<u
 }
 
 /// Does what the words ask for, and answers the status of what was done.
-fn run<R: Input + Files + Print + AllocGlobal>(
+fn run<R: Input + Files + Print + AllocGlobal + Threads + Wait + Sync>(
     rt: &R,
     matches: &ArgMatches<'_>,
 ) -> Result<u8, ReplayFault> {
     match matches.subcommand() {
         Some(("audit", found)) => audit_history(rt, found.get_str("history").unwrap_or("")),
         Some((_, found)) => {
-            let config = found.get_str("config").unwrap_or("");
-            let packets = found.get_str("packets").unwrap_or("");
-            replay_files(rt, config, packets, found.get_str("history"))?;
+            replay_files(rt, found)?;
             Ok(DONE)
         }
         None => {
@@ -115,7 +120,10 @@ fn status_without_words(rt: &impl Eprint, error: &io::Error) -> u8 {
 }
 
 /// Does what the command line says, and answers the status.
-fn done<R: Env + Input + Files + Print + Eprint + AllocGlobal>(rt: &R) -> u8 {
+fn done<R>(rt: &R) -> u8
+where
+    R: Env + Input + Files + Print + Eprint + AllocGlobal + Threads + Wait + Sync,
+{
     let alloc = rt.alloc();
     let args = match env::args(rt) {
         Ok(args) => args,
