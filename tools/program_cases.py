@@ -10,8 +10,8 @@ A case NAME is these files of FOLDER, which has to be empty:
   NAME.stdout, NAME.stderr, NAME.status    what it has to write, and its status
 Where NAME.stdout is absent the streams aren't compared (help and usage, whose text the program has from a library).
 The fixed cases are the same for every SEED. COUNT random ones follow, of four kinds in turn: joined inputs, two files,
-faulty configurations and faulty packet files, then a quarter as many that ask for the history, and half as many audits of
-histories. `tools/run_cases.py` runs a program over them.
+faulty configurations and faulty packet files, then a quarter as many that ask for the history, half of these by a service of
+one caller, and half as many audits of histories. `tools/run_cases.py` runs a program over them.
 """
 
 from __future__ import annotations
@@ -204,7 +204,8 @@ def history_case(rng: Random, cases: Cases, name: str, style: Style) -> None:
     if rng.random() < 0.4:
         files["history"] = b"dummynet-history,3\nend,0\n" * rng.choice((1, 1000))
     file = "no/history" if rng.random() < 0.1 else "history"
-    cases.add(name, ["replay", "config", "packets", "--history", file], None, files)
+    callers = ["--callers", "1"] if rng.random() < 0.5 else []
+    cases.add(name, ["replay", *callers, "config", "packets", "--history", file], None, files)
 
 
 def audit_case(rng: Random, cases: Cases, name: str, style: Style) -> None:

@@ -1,7 +1,7 @@
 """The program `dummynet` by the definitions, slow on purpose.
 
     python3 tools/oracle/program.py < JOINED
-    python3 tools/oracle/program.py replay CONFIG PACKETS [--history FILE]
+    python3 tools/oracle/program.py replay CONFIG PACKETS [--callers N] [--history FILE]
     python3 tools/oracle/program.py audit HISTORY
 """
 
@@ -19,6 +19,7 @@ from history_reader import audit_line
 from model import MAX_MOMENT, ORDERED, Collect, Configure, Configured, Deleted, Entry, Submit
 
 USAGE = 2
+MAX_CALLERS = 16
 
 
 @dataclass(frozen=True)
@@ -100,15 +101,33 @@ def audited(path: Path) -> Outcome:
     return Outcome(f"{line}\n".encode(), b"", status)
 
 
+def asked(words: list[str]) -> Optional[tuple[list[str], Optional[str]]]:
+    """The two files of a replay and the file of its history, or None where the words ask for no replay."""
+    options: dict[str, Optional[str]] = {"--callers": "1", "--history": None}
+    paths: list[str] = []
+    rest = iter(words[1:])
+    for word in rest:
+        value = next(rest, "-") if word in options else word
+        if value.startswith("-"):
+            return None
+        if word in options:
+            options[word] = value
+        else:
+            paths.append(word)
+    callers = options["--callers"]
+    is_count = callers is not None and callers.isascii() and callers.isdigit() and 1 <= int(callers) <= MAX_CALLERS
+    return (paths, options["--history"]) if words[:1] == ["replay"] and len(paths) == 2 and is_count else None
+
+
 def replayed(words: list[str], stdin: BinaryIO, folder: Path) -> Outcome:
-    """The report of a replay, where the words ask for one."""
-    file = words[4] if len(words) == 5 and words[3] == "--history" else None
-    paths = words[1:3] if words[:1] == ["replay"] and (len(words) == 3 or file is not None) else []
-    replays = len(paths) == 2 and not any(w.startswith("-") for w in [*paths, file or ""])
-    if words and not replays:
+    """The report of a replay, where the words ask for one. Several callers are replayed as one is: what they do in turn is theirs."""
+    replay = asked(words)
+    if words and replay is None:
         return Outcome(b"", b"", 0 if "--help" in words else USAGE)
-    history = replay_files(folder / paths[0], folder / paths[1]) if replays else replay_joined(stdin)
-    return reported(history, folder, file)
+    if replay is None:
+        return reported(replay_joined(stdin), folder, None)
+    (config, packets), file = replay
+    return reported(replay_files(folder / config, folder / packets), folder, file)
 
 
 def outcome(words: list[str], stdin: BinaryIO, folder: Path) -> Outcome:
