@@ -129,7 +129,7 @@ fn one_caller_replays_alone(rt: HostRuntime) -> Result<(), Fail> {
     Ok(())
 }
 
-// The rows that a caller submitted, by their words, as a decimal number.
+// The words of the rows that a caller submitted, as the digits of a number.
 fn rows_of(entries: &[Entry], caller: usize) -> u32 {
     let mut rows = 0u32;
     for entry in entries {
@@ -145,7 +145,7 @@ fn rows_of(entries: &[Entry], caller: usize) -> u32 {
 #[test]
 fn rows_fall_to_callers_in_turn(rt: HostRuntime) -> Result<(), Fail> {
     let alloc = rt.alloc();
-    for (n, rows) in [(2, [1357, 246, 0]), (3, [147, 25, 36])] {
+    for (n, last, rows) in [(2, 0, [1357, 246, 0]), (3, 1, [147, 25, 36])] {
         let gate = Count {
             before: AtomicU64::new(0),
             after: AtomicU64::new(0),
@@ -158,7 +158,7 @@ fn rows_fall_to_callers_in_turn(rt: HostRuntime) -> Result<(), Fail> {
         }
         assert!(rt; gate.before.load(Ordering::SeqCst) == 7);
         assert!(rt; gate.after.load(Ordering::SeqCst) == 7);
-        assert!(rt; gate.last.load(Ordering::SeqCst) == (n as u64 - 2));
+        assert!(rt; gate.last.load(Ordering::SeqCst) == last);
         let text = String::from_utf8(written)?;
         for row in 1..=7 {
             let line = format!(in alloc; "\nout,{row},0,")?;

@@ -82,7 +82,8 @@ fn a_refused_replay_by_callers_is_made_again(rt: HostRuntime) -> Result<(), Fail
         history = replay_by(&rt, &mut written, 2, PIPE, TWO_ROWS, &NoGate);
     }
     assert!(rt; history?.len() == 4);
-    assert!(rt; written.len() == REPORT_HEADER.len() + 2 * "out,1,0,0,0,0,0\n".len());
+    assert!(rt; written.starts_with(REPORT_HEADER.as_bytes()));
+    assert!(rt; written.ends_with(b",0,1,0,0,0\n"));
     Ok(())
 }
 

@@ -1,5 +1,5 @@
 -- No fault of an input is a bad count of callers.
-use Rattle.std.proofs.Common.{◌≡◌, ℕ, ◌+◌, Bool, true, false, cond, List, [], ◌∷◌, length, nat_le, ◌==◌, Option, Some, None, Result, Ok, Err, sym}
+use Rattle.std.proofs.Common.{◌≡◌, ℕ, ◌+◌, true, false, cond, List, [], ◌∷◌, length, nat_le, Option, Some, None, Result, Ok, Err}
 use Rattle.std.specs.Prelude.{⊤, IfErr}
 use Rattle.std.specs.Str.{is_utf8}
 use Rattle.dn_types.specs.Replies.{reply}

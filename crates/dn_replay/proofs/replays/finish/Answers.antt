@@ -1,6 +1,5 @@
-use Rattle.std.proofs.Common.{◌∙◌, ◌≡◌, Err}
-use Rattle.std.proofs.lemmas.Result.{err_from_is_err_and}
-use Rattle.dn_replay.specs.Runs.{history_of, replayed}
+use Rattle.std.proofs.Common.{◌∙◌}
+use Rattle.dn_replay.specs.Runs.{replayed}
 use Rattle.dn_replay.proofs.ReplaySteps.{by_one, lawful}
 use Rattle.dn_replay.proofs.replays.finish.Goals as goal
 
