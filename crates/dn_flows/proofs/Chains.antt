@@ -158,7 +158,7 @@ shortens-none store q = record {
   leaves = λ owner behind flow is. record { is = is; others = λ key stored held ne. held };
   len = refl;
   capacity = refl;
-  counts = (refl, refl, refl, refl, refl);
+  counts = (refl, refl);
 }
 
 pub shortens-more : (old mid new : Slab Stored) (first : Waiting) (q q₁ q' : FlowQueue) → Shortens old q mid q₁ → Takes first mid q₁ new q' → slab_len new + 1 ≡ slab_len mid → new.capacity ≡ mid.capacity → Shortens old q new q'
@@ -173,10 +173,7 @@ shortens-more old mid new first q q₁ q' s t len capacity = record {
   capacity = capacity ∙ s.capacity;
   counts = (
     ap (λ (x : FlowQueue). x.reserved) t.queue_is.2 ∙ s.counts.0,
-    ap (λ (x : FlowQueue). x.lost) t.queue_is.2 ∙ s.counts.1,
-    ap (λ (x : FlowQueue). x.full) t.queue_is.2 ∙ s.counts.2,
-    ap (λ (x : FlowQueue). x.started) t.queue_is.2 ∙ s.counts.3,
-    ap (λ (x : FlowQueue). x.discarded) t.queue_is.2 ∙ s.counts.4,
+    ap (λ (x : FlowQueue). x.started) t.queue_is.2 ∙ s.counts.1,
   );
 }
 

@@ -1,5 +1,5 @@
 -- The table of flows after one queue changed, or one was added or taken out.
-use Rattle.std.proofs.Common.{◌≡◌, ◌∙◌, ◌+◌, ◌⊎◌, ℕ, zero, suc, ◌<◌, ◌≤◌, ◌^◌, List, [], ◌∷◌, ◌++◌, map, set, get_or, length, length-set, Bool, true, false, cond, refl, ap, sym, subst, arith, inl, inr}
+use Rattle.std.proofs.Common.{◌≡◌, ◌∙◌, ◌+◌, ◌-◌, ◌⊎◌, ℕ, zero, suc, ◌<◌, ◌≤◌, ◌^◌, List, [], ◌∷◌, ◌++◌, map, set, take, get_or, length, length-set, Bool, true, false, cond, refl, ap, sym, subst, arith, inl, inr}
 use Rattle.std.specs.Prelude.{Option, Some, None, slice_get, slice_index_or, sum}
 use Rattle.std.proofs.lemmas.Bool.{cases_eq}
 use Rattle.std.proofs.lemmas.List.{length-map}
@@ -7,12 +7,14 @@ use Rattle.std.proofs.lemmas.List.Sums.{sum_by-cons}
 use Rattle.slab.specs.Slab.{Slab, ContainsKey}
 use Rattle.dn_flows.specs.declared.flow_queue.FlowQueue.{FlowQueue}
 use Rattle.dn_flows.specs.declared.stored.Stored.{Stored}
+use Rattle.dn_flows.specs.declared.unsent.Unsent.{Unsent}
 use Rattle.dn_flows.specs.declared.waiting.Waiting.{Waiting}
-use Rattle.dn_flows.specs.Store.{IsCounted, IsQueue, AreStored, Appends, Takes, Lies, Shortens, Leaves, state_of, stored_at, waiting_from, new_queue, reserved_one, reservations}
+use Rattle.dn_flows.specs.Store.{IsCounted, IsQueue, AreStored, Appends, Takes, Lies, Shortens, Leaves, all_with_unsent, state_of, stored_at, with_unsent, waiting_from, new_queue, reserved_one, reservations}
 use Rattle.dn_flows.specs.Table.{FlowState, flow_at, new_flow, lengths, pushed, popped, popped_from, emptied}
 use Rattle.dn_flows.proofs.Appended.{Appended, appended, owner-appended, behind-appended, others-stay-appended}
 use Rattle.dn_flows.proofs.Bytes.{lengths-push, AreShort-push, no_more_than_bytes}
 use Rattle.dn_flows.proofs.Chains.{Stay, Same, stays, same-queue, SamePackets, taken, taken-queue, others-stay-taken, held-first, short-first}
+use Rattle.dn_flows.proofs.Counted.{Keeps, kept, carried, start-leaves, length_unsent, read-counts, both-set}
 use Rattle.dn_flows.proofs.Places.{get-set, get-set-other, get-read, get-more, get-kept, length-more, sum-set}
 
 -- ---- Lists
@@ -58,7 +60,7 @@ stay-queue owner behind owner' behind' old new flow q is stay = (
     last = λ n e. same.keys n (omega arith) ∙ is.last n e;
     counts = subst (λ (ws : List Waiting). IsCounted ws q.len q.bytes) (sym same.waiting) is.counts;
   },
-  λ i. record { backlog = same.waiting i; reserved = q.reserved; lost = q.lost; full = q.full; started = q.started; discarded = q.discarded },
+  λ i. record { backlog = same.waiting i; reserved = q.reserved; lost = 0; full = 0; started = q.started; discarded = 0 },
 )
   where
     same : Same owner behind owner' behind' old new flow q.front q.len
@@ -84,18 +86,28 @@ changed old new queues flow q q' are owner' behind' there stay is = record {
         let before = sym (get-set-other queues flow g q' ne) ∙ e in
         (stay-queue are.owner are.behind owner' behind' old new g x (are.queues_are g x before) (stay g x.len ne)).0
 
+-- There are as many flows as queues.
+pub as-many-flows : (store : Slab Stored) (queues : List FlowQueue) (unsent : List Unsent) → length (all_with_unsent (map (state_of store) queues) unsent) ≡ length queues
+as-many-flows store queues unsent = length_unsent (map (state_of store) queues) unsent ∙ length-map queues (state_of store)
+
 -- ---- A call on the flow with a queue
 
-module _ (old : Slab Stored) (queues : List FlowQueue) (flow : ℕ) (q : FlowQueue) (are : AreStored old queues) (within : flow < length (map (state_of old) queues)) (read : q ≡ get_or queues flow q) where
+module _ (old : Slab Stored) (queues : List FlowQueue) (unsent : List Unsent) (flow : ℕ) (q : FlowQueue) (are : AreStored old queues) (within : flow < length (all_with_unsent (map (state_of old) queues) unsent)) (read : q ≡ get_or queues flow q) where
+  abbrev seen : List FlowState
+  seen = all_with_unsent (map (state_of old) queues) unsent
+
   there : slice_get queues flow ≡ Some q
-  there = get-read queues flow q (let e = length-map queues (state_of old) in omega arith) read
+  there = get-read queues flow q (let e = as-many-flows old queues unsent in omega arith) read
 
   pub queue-is : IsQueue are.owner are.behind old flow q
   queue-is = are.queues_are flow q there
 
-  -- What callers see of the flow.
+  -- What callers see of the flow, but for the counts beside its queue.
   pub read-state : flow_at (map (state_of old) queues) flow ≡ state_of old q
   read-state = flow-read old queues flow q there
+
+  pub reads : Keeps (flow_at seen flow) (state_of old q)
+  reads = subst (Keeps (flow_at seen flow)) read-state (kept (map (state_of old) queues) unsent flow)
 
   -- There are fewer packets than a queue may have bytes.
   pub few : q.len < 2 ^ 32
@@ -107,10 +119,10 @@ module _ (old : Slab Stored) (queues : List FlowQueue) (flow : ℕ) (q : FlowQue
       omega arith
 
   -- The bytes that wait are those that the queue counts.
-  pub fits : (n : ℕ) → sum (lengths (flow_at (map (state_of old) queues) flow).backlog) + n < 2 ^ 32 → q.bytes + n < 2 ^ 32
+  pub fits : (n : ℕ) → sum (lengths (flow_at seen flow).backlog) + n < 2 ^ 32 → q.bytes + n < 2 ^ 32
   fits n lt =
       let counted = queue-is.counts.counted in
-      let same = ap (λ (s : FlowState). sum (lengths s.backlog)) read-state in
+      let same = ap (λ (ws : List Waiting). sum (lengths ws)) reads.backlog in
       omega arith
 
   -- How many places are reserved after the call.
@@ -149,14 +161,21 @@ module _ (old : Slab Stored) (queues : List FlowQueue) (flow : ℕ) (q : FlowQue
   -- The table after the call, by which the flow stands for `s`.
   pub record After (new : Slab Stored) (q' : FlowQueue) (s : FlowState) : Type 0 where
     pub stored : AreStored new (set queues flow q')
-    pub states : map (state_of new) (set queues flow q') ≡ set (map (state_of old) queues) flow s
+    pub states : all_with_unsent (map (state_of new) (set queues flow q')) unsent ≡ set seen flow s
 
-  after : (new : Slab Stored) (q' : FlowQueue) (s : FlowState) → Changed old new queues flow q' → state_of new q' ≡ s → After new q' s
-  after new q' s c e = record { stored = c.stored; states = c.states ∙ ap (set (map (state_of old) queues) flow) e }
+  -- A change that leaves the counts beside the queue.
+  abbrev pub Leaving : (FlowState → FlowState) → Type 0
+  Leaving f = (u : Unsent) (s : FlowState) → f (with_unsent u s) ≡ with_unsent u (f s)
+
+  after : (new : Slab Stored) (q' : FlowQueue) (f : FlowState → FlowState) → Leaving f → Changed old new queues flow q' → state_of new q' ≡ f (state_of old q) → After new q' (f (flow_at seen flow))
+  after new q' f leaves c e = record {
+    stored = c.stored;
+    states = ap (λ (states : List FlowState). all_with_unsent states unsent) (c.states ∙ ap (set (map (state_of old) queues) flow) (e ∙ ap f (sym read-state))) ∙ carried f leaves (map (state_of old) queues) unsent flow;
+  }
 
   -- No packet moves, though the store may get room.
-  pub counting : (new : Slab Stored) (q' : FlowQueue) (s : FlowState) → new.slots ≡ old.slots → SamePackets q q' → state_of old q' ≡ s → After new q' s
-  counting new q' s slots same e = after new q' s (changed old new queues flow q q' are are.owner are.behind there (λ g n ne. stay g n) now.0) (now.1 ∙ e)
+  pub counting : (new : Slab Stored) (q' : FlowQueue) (f : FlowState → FlowState) → Leaving f → new.slots ≡ old.slots → SamePackets q q' → state_of old q' ≡ f (state_of old q) → After new q' (f (flow_at seen flow))
+  counting new q' f leaves slots same e = after new q' f leaves (changed old new queues flow q q' are are.owner are.behind there (λ g n ne. stay g n) now.0) (now.1 ∙ e)
     where
       stay : (g n : ℕ) → Stay are.owner are.behind are.owner are.behind old new g n
       stay g n key stored held own lt = (ap (λ (all : List (Option Stored)). slice_index_or all key None) slots ∙ held, own, refl)
@@ -165,17 +184,17 @@ module _ (old : Slab Stored) (queues : List FlowQueue) (flow : ℕ) (q : FlowQue
       now = stay-queue are.owner are.behind are.owner are.behind old new flow q' (same-queue are.owner are.behind old flow q q' same queue-is) (stay flow q'.len)
 
   -- A packet joins.
-  pub pushing : (new : Slab Stored) (w : Waiting) (q' : FlowQueue) → Appends w old q new q' → 1 ≤ w.len → w.len ≤ 65535 → sum (lengths (flow_at (map (state_of old) queues) flow).backlog) + w.len < 2 ^ 32 → After new q' (pushed w (flow_at (map (state_of old) queues) flow))
-  pushing new w q' a some short fit = after new q' (pushed w (flow_at (map (state_of old) queues) flow))
+  pub pushing : (new : Slab Stored) (w : Waiting) (q' : FlowQueue) → Appends w old q new q' → 1 ≤ w.len → w.len ≤ 65535 → sum (lengths (flow_at seen flow).backlog) + w.len < 2 ^ 32 → After new q' (pushed w (flow_at seen flow))
+  pushing new w q' a some short fit = after new q' (pushed w) (λ u s. refl)
       (changed old new queues flow q q' are (owner-appended are.owner are.behind old new w q q' flow a queue-is) (behind-appended are.owner are.behind old new w q q' flow a queue-is) there (λ g n ne. others-stay-appended are.owner are.behind old new w q q' flow a queue-is g n ne) (record { chain = now.chain; last = now.last; counts = counts }))
       ((λ i. record {
         backlog = now.waiting i;
         reserved = (a.queue_is i).reserved;
-        lost = (a.queue_is i).lost;
-        full = (a.queue_is i).full;
+        lost = 0;
+        full = 0;
         started = (a.queue_is i).started;
-        discarded = (a.queue_is i).discarded;
-      }) ∙ ap (pushed w) (sym read-state))
+        discarded = 0;
+      }))
     where
       now : Appended are.owner are.behind old new w q q' flow a queue-is
       now = appended are.owner are.behind old new w q q' flow a queue-is
@@ -196,41 +215,60 @@ module _ (old : Slab Stored) (queues : List FlowQueue) (flow : ℕ) (q : FlowQue
   first-short = short-first are.owner are.behind old flow q queue-is
 
   -- The first packet starts.
-  pub popping : (new : Slab Stored) (first : Waiting) (q' q'' : FlowQueue) → Takes first old q new q' → SamePackets q' q'' → (q''.reserved ≡ q.reserved) × (q''.lost ≡ q.lost) × (q''.full ≡ q.full) × (q''.started ≡ q.started + 1) × (q''.discarded ≡ q.discarded) → After new q'' (popped (flow_at (map (state_of old) queues) flow))
-  popping new first q' q'' t same counts = after new q'' (popped (flow_at (map (state_of old) queues) flow))
+  pub popping : (new : Slab Stored) (first : Waiting) (q' q'' : FlowQueue) → Takes first old q new q' → SamePackets q' q'' → (q''.reserved ≡ q.reserved) × (q''.started ≡ q.started + 1) → After new q'' (popped (flow_at seen flow))
+  popping new first q' q'' t same counts = after new q'' popped start-leaves
       (changed old new queues flow q q'' are are.owner are.behind there (λ g n ne. others-stay-taken are.owner are.behind old new first q q' flow t queue-is g n ne) (same-queue are.owner are.behind new flow q' q'' same (taken-queue are.owner are.behind old new first q q' flow t queue-is)))
       ((λ i. record {
         backlog = waiting_from new (same.0 i) (same.2 i);
         reserved = counts.0 i;
-        lost = counts.1 i;
-        full = counts.2 i;
-        started = counts.3 i;
-        discarded = counts.4 i;
-      }) ∙ sym (ap (λ ws. popped_from ws (state_of old q)) (taken are.owner are.behind old new first q q' flow t queue-is).waiting) ∙ ap popped (sym read-state))
+        lost = 0;
+        full = 0;
+        started = counts.1 i;
+        discarded = 0;
+      }) ∙ sym (ap (λ ws. popped_from ws (state_of old q)) (taken are.owner are.behind old new first q q' flow t queue-is).waiting))
+
+  -- Where none waits nothing changes.
+  pub resting : (new : Slab Stored) (q' : FlowQueue) → new ≡ old → q' ≡ q → q.len ≡ 0 → After new q' (popped (flow_at seen flow))
+  resting new q' store same none = counting new q' popped start-leaves (ap (λ (s : Slab Stored). s.slots) store) (ap (λ (x : FlowQueue). x.front) same, ap (λ (x : FlowQueue). x.back) same, ap (λ (x : FlowQueue). x.len) same, ap (λ (x : FlowQueue). x.bytes) same) (ap (state_of old) same ∙ sym (ap (λ n. popped_from (waiting_from old q.front n) (state_of old q)) none))
+
+  pub none-waits : q.len ≡ 0 → slice_get (flow_at seen flow).backlog 0 ≡ None
+  none-waits none = ap (λ (ws : List Waiting). slice_get ws 0) (reads.backlog ∙ ap (waiting_from old q.front) none)
 
   -- The front is the first of the packets that wait.
-  pub front : (new : Slab Stored) (first : Waiting) (q' : FlowQueue) → Takes first old q new q' → slice_get (flow_at (map (state_of old) queues) flow).backlog 0 ≡ Some first
-  front new first q' t = ap (λ (s : FlowState). slice_get s.backlog 0) read-state ∙ ap (λ (ws : List Waiting). slice_get ws 0) (taken are.owner are.behind old new first q q' flow t queue-is).waiting
+  pub front : (new : Slab Stored) (first : Waiting) (q' : FlowQueue) → Takes first old q new q' → slice_get (flow_at seen flow).backlog 0 ≡ Some first
+  front new first q' t = ap (λ (ws : List Waiting). slice_get ws 0) (reads.backlog ∙ (taken are.owner are.behind old new first q q' flow t queue-is).waiting)
 
   -- The queue lies in the store.
   pub lies-here : Lies old q
   lies-here = record { owner = are.owner; behind = are.behind; flow = flow; is = queue-is }
 
-  -- All packets leave.
-  pub emptying : (new : Slab Stored) (q₁ q' : FlowQueue) → Shortens old q new q₁ → SamePackets q₁ q' → q₁.len ≡ 0 → (q'.reserved ≡ q.reserved) × (q'.lost ≡ q.lost) × (q'.full ≡ q.full) × (q'.started ≡ q.started) × (q'.discarded ≡ q.discarded + q.len) → After new q' (emptied (flow_at (map (state_of old) queues) flow))
-  emptying new q₁ q' s same none counts = after new q' (emptied (flow_at (map (state_of old) queues) flow))
-      (changed old new queues flow q q' are are.owner are.behind there (λ g n ne key stored held own lt. (left.others key stored held (λ e. ne (sym own ∙ e)), own, refl)) (same-queue are.owner are.behind new flow q₁ q' same left.is))
-      ((λ i. record {
-        backlog = waiting_from new q'.front ((same.2 ∙ none) i);
-        reserved = counts.0 i;
-        lost = counts.1 i;
-        full = counts.2 i;
-        started = counts.3 i;
-        discarded = (counts.4 ∙ ap (λ n. q.discarded + n) queue-is.counts.many) i;
-      }) ∙ ap emptied (sym read-state))
+  -- All packets leave, and are counted beside the queue.
+  pub emptying : (new : Slab Stored) (q' : FlowQueue) (u : Unsent) → Shortens old q new q' → q'.len ≡ 0 → length unsent ≡ length queues → u ≡ get_or unsent flow u → AreStored new (set queues flow q') × (all_with_unsent (map (state_of new) (set queues flow q')) (set unsent flow (record u { discarded = u.discarded + q.len })) ≡ set seen flow (emptied (flow_at seen flow)))
+  emptying new q' u s none same is = (
+    there-after.stored,
+    ap (λ (states : List FlowState). all_with_unsent states (set unsent flow counted)) there-after.states
+        ∙ both-set (map (state_of old) queues) unsent flow counted (state_of new q') as-many
+        ∙ ap (set seen flow) ((λ i. record {
+          backlog = waiting_from new q'.front (none i);
+          reserved = s.counts.0 i;
+          lost = u.lost;
+          full = u.full;
+          started = s.counts.1 i;
+          discarded = u.discarded + queue-is.counts.many i;
+        }) ∙ ap (λ (t : FlowState). emptied (with_unsent u t)) (sym read-state) ∙ ap emptied (sym (read-counts (map (state_of old) queues) unsent flow u as-many within is))),
+  )
     where
-      left : Leaves are.owner are.behind flow new q₁ old
+      counted : Unsent
+      counted = record u { discarded = u.discarded + q.len }
+
+      as-many : length unsent ≡ length (map (state_of old) queues)
+      as-many = same ∙ sym (length-map queues (state_of old))
+
+      left : Leaves are.owner are.behind flow new q' old
       left = s.leaves are.owner are.behind flow queue-is
+
+      there-after : Changed old new queues flow q'
+      there-after = changed old new queues flow q q' are are.owner are.behind there (λ g n ne key stored held own lt. (left.others key stored held (λ e. ne (sym own ∙ e)), own, refl)) left.is
 
 -- ---- A queue is added or taken out
 
@@ -251,3 +289,25 @@ none-stored store = record { owner = λ key. 0; behind = λ key. 0; queues_are =
 pub states_added : (store : Slab Stored) (queues : List FlowQueue) → map (state_of store) (queues ++ new_queue ∷ []) ≡ map (state_of store) queues ++ new_flow ∷ []
 states_added store [] = refl
 states_added store (q ∷ queues) = ap (λ (states : List FlowState). state_of store q ∷ states) (states_added store queues)
+
+no-counts : (store : Slab Stored) (queues : List FlowQueue) (n : ℕ) → map (state_of store) (take n queues) ≡ take n (map (state_of store) queues)
+no-counts store [] zero = refl
+no-counts store [] (suc n) = refl
+no-counts store (q ∷ queues) zero = refl
+no-counts store (q ∷ queues) (suc n) = λ i. state_of store q ∷ no-counts store queues n i
+
+states-less : (store : Slab Stored) (queues : List FlowQueue) (unsent : List Unsent) (n : ℕ) → all_with_unsent (map (state_of store) (take n queues)) (take n unsent) ≡ take n (all_with_unsent (map (state_of store) queues) unsent)
+states-less store [] unsent zero = refl
+states-less store [] unsent (suc n) = refl
+states-less store (q ∷ queues) unsent zero = refl
+states-less store (q ∷ queues) [] (suc n) = λ i. state_of store q ∷ no-counts store queues n i
+states-less store (q ∷ queues) (u ∷ unsent) (suc n) = λ i. with_unsent u (state_of store q) ∷ states-less store queues unsent n i
+
+-- The last flow is taken out.
+pub last-out : (store : Slab Stored) (queues queues' : List FlowQueue) (unsent unsent' : List Unsent) → queues' ≡ take (length queues - 1) queues → unsent' ≡ take (length unsent - 1) unsent → length unsent ≡ length queues → all_with_unsent (map (state_of store) queues') unsent' ≡ take (length (all_with_unsent (map (state_of store) queues) unsent) - 1) (all_with_unsent (map (state_of store) queues) unsent)
+last-out store queues queues' unsent unsent' fewer-queues fewer-counts same =
+    let many = as-many-flows store queues unsent in
+    let last = length (all_with_unsent (map (state_of store) queues) unsent) - 1 in
+    let by-queues : length queues - 1 ≡ last = omega arith in
+    let by-counts : length unsent - 1 ≡ last = omega arith in
+    (λ i. all_with_unsent (map (state_of store) ((fewer-queues ∙ ap (λ n. take n queues) by-queues) i)) ((fewer-counts ∙ ap (λ n. take n unsent) by-counts) i)) ∙ states-less store queues unsent last

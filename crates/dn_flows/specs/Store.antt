@@ -5,6 +5,7 @@ use Rattle.std.specs.List.{sum_by}
 use Rattle.slab.specs.Slab.{Slab, HasRoomFor, get, slab_len}
 use Rattle.dn_flows.specs.declared.flow_queue.FlowQueue.{FlowQueue}
 use Rattle.dn_flows.specs.declared.stored.Stored.{Stored}
+use Rattle.dn_flows.specs.declared.unsent.Unsent.{Unsent}
 use Rattle.dn_flows.specs.declared.waiting.Waiting.{Waiting}
 use Rattle.dn_flows.specs.Table.{FlowState, lengths}
 
@@ -38,13 +39,22 @@ abbrev pub key_after : Slab Stored → ℕ → ℕ → ℕ
 key_after store key zero = key
 key_after store key (suc n) = key_after store ((stored_at store key).next) n
 
--- The queue without a packet and with no count.
+-- The queue without a packet, and none of whose packets started.
 abbrev pub new_queue : FlowQueue
-new_queue = record { front = 0; back = 0; len = 0; bytes = 0; reserved = false; lost = 0; full = 0; started = 0; discarded = 0 }
+new_queue = record { front = 0; back = 0; len = 0; bytes = 0; reserved = false; started = 0 }
 
--- What callers see of the flow with the queue.
+-- What callers see of the flow with the queue, but for the counts of packets that are never sent.
 abbrev pub state_of : Slab Stored → FlowQueue → FlowState
-state_of store q = record { backlog = waiting_from store q.front q.len; reserved = q.reserved; lost = q.lost; full = q.full; started = q.started; discarded = q.discarded }
+state_of store q = record { backlog = waiting_from store q.front q.len; reserved = q.reserved; lost = 0; full = 0; started = q.started; discarded = 0 }
+
+-- What callers see of a flow with these counts, and of all flows by the counts that lie beside them.
+abbrev pub with_unsent : Unsent → FlowState → FlowState
+with_unsent u s = record { backlog = s.backlog; reserved = s.reserved; lost = u.lost; full = u.full; started = s.started; discarded = u.discarded }
+
+abbrev pub all_with_unsent : List FlowState → List Unsent → List FlowState
+all_with_unsent [] unsent = []
+all_with_unsent (s ∷ states) [] = s ∷ states
+all_with_unsent (s ∷ states) (u ∷ unsent) = with_unsent u s ∷ all_with_unsent states unsent
 
 -- So many packets from a key on are the flow's own, by labels that only the proof knows: each packet has one owner, and a
 -- count of the packets behind it. So no packet is in two queues, or twice in one.
@@ -115,4 +125,4 @@ pub record Shortens (old : Slab Stored) (q : FlowQueue) (new : Slab Stored) (q' 
   pub leaves : (owner behind : ℕ → ℕ) (flow : ℕ) → IsQueue owner behind old flow q → Leaves owner behind flow new q' old
   pub len : slab_len new + q.len ≡ slab_len old + q'.len
   pub capacity : new.capacity ≡ old.capacity
-  pub counts : (q'.reserved ≡ q.reserved) × (q'.lost ≡ q.lost) × (q'.full ≡ q.full) × (q'.started ≡ q.started) × (q'.discarded ≡ q.discarded)
+  pub counts : (q'.reserved ≡ q.reserved) × (q'.started ≡ q.started)

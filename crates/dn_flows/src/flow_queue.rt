@@ -12,8 +12,8 @@ use crate::waiting::Waiting;
 use dn_types::{Limit, Packet};
 use slab::Slab;
 
-/// The queue of one flow, and the counts of the flow's packets. The packets themselves lie in the
-/// store of all queues.
+/// The queue of one flow, and the count of its packets that started. The packets themselves lie in
+/// the store of all queues.
 #[derive(Drop)]
 pub struct FlowQueue {
     /// Where the first packet lies, if there is one.
@@ -27,10 +27,6 @@ pub struct FlowQueue {
     /// push itself uses it up.
     pub reserved: bool,
     pub started: u64,
-    // No packet that is sent changes what follows, so that what it does change lies side by side.
-    pub lost: u64,
-    pub full: u64,
-    pub discarded: u64,
 }
 
 impl FlowQueue {
@@ -45,9 +41,6 @@ impl FlowQueue {
             bytes: 0,
             reserved: false,
             started: 0,
-            lost: 0,
-            full: 0,
-            discarded: 0,
         }
     }
 

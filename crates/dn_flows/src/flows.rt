@@ -6,6 +6,7 @@ use crate::drop_rule::DropRule;
 use crate::flow_queue::FlowQueue;
 use crate::stored::Stored;
 use crate::table_key::TableKey;
+use crate::unsent::Unsent;
 use crate::verdict::Verdict;
 use crate::waiting::Waiting;
 use dn_types::{FlowKey, FlowStatus, Packet};
@@ -24,6 +25,8 @@ use std::marker::Model;
 pub struct Flows {
     keys: IndexSet<TableKey>,
     queues: Vec<FlowQueue>,
+    /// The other counts of each flow, in the order of the queues.
+    unsent: Vec<Unsent>,
     packets: Slab<Stored>,
     /// The count of flows with a reserved place. The store has room for a packet of each.
     reserved: usize,
@@ -31,14 +34,14 @@ pub struct Flows {
 
 impl Model for Flows {
     ghost use Rattle.std.specs.Prelude.{◌≡◌, length, map};
-    ghost use Rattle.dn_flows.specs.Store.{AreStored, HasReserved, state_of};
+    ghost use Rattle.dn_flows.specs.Store.{AreStored, HasReserved, all_with_unsent, state_of};
     ghost use Rattle.dn_flows.specs.Table.{Table};
 
     ghost Value = { Table };
 
-    ghost view = { λ a. record { keys = a.keys.keys; flows = map (state_of a.packets) a.queues.items } };
+    ghost view = { λ a. record { keys = a.keys.keys; flows = all_with_unsent (map (state_of a.packets) a.queues.items) a.unsent.items } };
 
-    ghost invariant = { λ a. (length a.keys.keys ≡ length a.queues.items) × HasReserved a.packets a.queues.items a.reserved × AreStored a.packets a.queues.items };
+    ghost invariant = { λ a. (length a.keys.keys ≡ length a.queues.items) × HasReserved a.packets a.queues.items a.reserved × AreStored a.packets a.queues.items × (length a.unsent.items ≡ length a.queues.items) };
 }
 
 impl Flows {
@@ -50,6 +53,7 @@ impl Flows {
         Flows {
             keys: IndexSet::new(alloc),
             queues: Vec::new(alloc),
+            unsent: Vec::new(alloc),
             packets: Slab::new(alloc),
             reserved: 0,
         }
@@ -77,13 +81,19 @@ impl Flows {
         if let Some(flow) = self.keys.get_index_of(&key) {
             return Ok(flow);
         }
-        // The place of the queue comes first, so that nothing can fail once the key is in.
+        // The places beside the key come first, so that nothing can fail once the key is in.
         self.queues.reserve(1)?;
+        self.unsent.reserve(1)?;
         let Ok((flow, _)) = self.keys.insert_full(key) else {
             return Err(AllocError);
         };
         let queue = FlowQueue::new();
         self.queues.push_reserved(queue);
+        self.unsent.push_reserved(Unsent {
+            lost: 0,
+            full: 0,
+            discarded: 0,
+        });
         Ok(flow)
     }
 
@@ -95,6 +105,7 @@ impl Flows {
         ensures flows { self.new.flows ≡ take (length self.old.flows - 1) self.old.flows }
     {
         let _ = self.keys.pop();
+        let _ = self.unsent.pop();
         if let Some(queue) = self.queues.pop()
             && queue.reserved
         {
@@ -118,16 +129,17 @@ impl Flows {
         ensures bytes { result.bytes < 2 ^ 32 }
     {
         let queue = &self.queues[flow];
+        let unsent = &self.unsent[flow];
         let key = self.key(flow);
         FlowStatus {
             flow,
             key,
             queued: queue.len as u64,
             bytes: u64::from(queue.bytes),
-            lost: queue.lost,
-            full: queue.full,
+            lost: unsent.lost,
+            full: unsent.full,
             started: queue.started,
-            discarded: queue.discarded,
+            discarded: unsent.discarded,
         }
     }
 
@@ -193,8 +205,8 @@ impl Flows {
         ensures flows { self.new.flows ≡ slice_set self.old.flows flow (one_lost (flow_at self.old.flows flow)) }
         ensures keys { self.new.keys ≡ self.old.keys }
     {
-        let queue = &mut self.queues[flow];
-        queue.lost += 1;
+        let unsent = &mut self.unsent[flow];
+        unsent.lost += 1;
     }
 
     /// Counts a packet of the flow that was refused by its full queue.
@@ -204,8 +216,8 @@ impl Flows {
         ensures flows { self.new.flows ≡ slice_set self.old.flows flow (one_full (flow_at self.old.flows flow)) }
         ensures keys { self.new.keys ≡ self.old.keys }
     {
-        let queue = &mut self.queues[flow];
-        queue.full += 1;
+        let unsent = &mut self.unsent[flow];
+        unsent.full += 1;
     }
 
     /// Empties the flow's queue, as a delete does, and counts its packets as discarded.
@@ -218,6 +230,7 @@ impl Flows {
         let queue = &mut self.queues[flow];
         let count = queue.len as u64;
         queue.clear(&mut self.packets);
-        queue.discarded += count;
+        let unsent = &mut self.unsent[flow];
+        unsent.discarded += count;
     }
 }

@@ -8,6 +8,7 @@ mod stored;
 mod table_key;
 #[cfg(test)]
 mod tests;
+mod unsent;
 mod verdict;
 mod waiting;
 

@@ -5,4 +5,4 @@ use Rattle.dn_flows.proofs.Tables.{none-stored}
 use Rattle.dn_flows.proofs.flows.Flows.new.Goals as goal
 
 pub invariant_of-result : goal.invariant_of-result
-invariant_of-result c = (search rules, search rules, subst (AreStored c.new-3.result) (search rules) (none-stored c.new-3.result))
+invariant_of-result c = (search rules, search rules, subst (AreStored c.new-4.result) (search rules) (none-stored c.new-4.result), search rules)

@@ -1,17 +1,22 @@
-use Rattle.std.proofs.Common.{◌∙◌, ◌+◌, refl, sym, ap, length-set}
-use Rattle.std.proofs.Common.{map}
+use Rattle.std.proofs.Common.{◌∙◌, ◌+◌, map, refl, sym, ap, arith}
+use Rattle.std.proofs.lemmas.Grind.{common_steps}
+use Rattle.std.proofs.lemmas.List.{length-map}
 use Rattle.dn_flows.specs.Store.{state_of}
-use Rattle.dn_flows.specs.Table.{flow_at, one_full}
-use Rattle.dn_flows.proofs.Tables.{counting, read-state, same-reserved}
+use Rattle.dn_flows.specs.Table.{FlowState, one_full}
+use Rattle.dn_flows.proofs.Counted.{within-unsent, read-counts, noted}
 use Rattle.dn_flows.proofs.flows.Flows.note_full.Goals as goal
 
--- only a count changes, and the flow's packets stay
-pub invariant_of-self : goal.invariant_of-self
-invariant_of-self c = (
-  c.self.invariant.0 ∙ sym (length-set c.self.inside.queues.items c.args.flow _),
-  (c.self.invariant.1.0 ∙ sym (same-reserved c.self.inside.packets c.self.inside.queues.items c.args.flow c.index_mut-queue.result.now c.self.invariant.2 (rw (← c.self.view_is) at c.requires.within) c.index_mut-queue.ensures.value (record { front = c.index_mut-queue.result.now.front; back = c.index_mut-queue.result.now.back; len = c.index_mut-queue.result.now.len; bytes = c.index_mut-queue.result.now.bytes; reserved = c.index_mut-queue.result.now.reserved; lost = c.index_mut-queue.result.now.lost; full = c.index_mut-queue.result.now.full + 1; started = c.index_mut-queue.result.now.started; discarded = c.index_mut-queue.result.now.discarded }) refl), c.self.invariant.1.1),
-  (counting c.self.inside.packets c.self.inside.queues.items c.args.flow c.index_mut-queue.result.now c.self.invariant.2 (rw (← c.self.view_is) at c.requires.within) c.index_mut-queue.ensures.value c.self.inside.packets (record { front = c.index_mut-queue.result.now.front; back = c.index_mut-queue.result.now.back; len = c.index_mut-queue.result.now.len; bytes = c.index_mut-queue.result.now.bytes; reserved = c.index_mut-queue.result.now.reserved; lost = c.index_mut-queue.result.now.lost; full = c.index_mut-queue.result.now.full + 1; started = c.index_mut-queue.result.now.started; discarded = c.index_mut-queue.result.now.discarded }) (one_full (flow_at (map (state_of c.self.inside.packets) c.self.inside.queues.items) c.args.flow)) refl (refl, refl, refl, refl) (ap one_full (sym (read-state c.self.inside.packets c.self.inside.queues.items c.args.flow c.index_mut-queue.result.now c.self.invariant.2 (rw (← c.self.view_is) at c.requires.within) c.index_mut-queue.ensures.value)))).stored,
-)
+pub index_mut-unsent-requires : goal.index_mut-unsent-requires
+index_mut-unsent-requires c =
+    let within = within-unsent (map (state_of c.self.inside.packets) c.self.inside.queues.items) c.self.inside.unsent.items c.args.flow (c.self.invariant.3 ∙ sym (length-map c.self.inside.queues.items (state_of c.self.inside.packets))) (rw (← c.self.view_is) at c.requires.within) in
+    grind (arith, common_steps)
 
+pub overflow_add-unsent : goal.overflow_add-unsent
+overflow_add-unsent c =
+    let count = rw (← c.self.view_is) at c.requires.count in
+    let same = ap (λ (s : FlowState). s.full) (read-counts (map (state_of c.self.inside.packets) c.self.inside.queues.items) c.self.inside.unsent.items c.args.flow c.index_mut-unsent.result.now (c.self.invariant.3 ∙ sym (length-map c.self.inside.queues.items (state_of c.self.inside.packets))) (rw (← c.self.view_is) at c.requires.within) c.index_mut-unsent.ensures.value) in
+    omega arith
+
+-- one count changes, and no queue does
 pub returns-clause-flows : goal.returns-clause-flows
-returns-clause-flows c = rw (← c.self.view_is) (counting c.self.inside.packets c.self.inside.queues.items c.args.flow c.index_mut-queue.result.now c.self.invariant.2 (rw (← c.self.view_is) at c.requires.within) c.index_mut-queue.ensures.value c.self.inside.packets (record { front = c.index_mut-queue.result.now.front; back = c.index_mut-queue.result.now.back; len = c.index_mut-queue.result.now.len; bytes = c.index_mut-queue.result.now.bytes; reserved = c.index_mut-queue.result.now.reserved; lost = c.index_mut-queue.result.now.lost; full = c.index_mut-queue.result.now.full + 1; started = c.index_mut-queue.result.now.started; discarded = c.index_mut-queue.result.now.discarded }) (one_full (flow_at (map (state_of c.self.inside.packets) c.self.inside.queues.items) c.args.flow)) refl (refl, refl, refl, refl) (ap one_full (sym (read-state c.self.inside.packets c.self.inside.queues.items c.args.flow c.index_mut-queue.result.now c.self.invariant.2 (rw (← c.self.view_is) at c.requires.within) c.index_mut-queue.ensures.value)))).states
+returns-clause-flows c = rw (← c.self.view_is) (noted (map (state_of c.self.inside.packets) c.self.inside.queues.items) c.self.inside.unsent.items c.args.flow c.index_mut-unsent.result.now (c.self.invariant.3 ∙ sym (length-map c.self.inside.queues.items (state_of c.self.inside.packets))) (rw (← c.self.view_is) at c.requires.within) c.index_mut-unsent.ensures.value one_full (record c.index_mut-unsent.result.now { full = c.index_mut-unsent.result.now.full + 1 }) refl)

@@ -1,27 +1,23 @@
-use Rattle.std.proofs.Common.{◌≡◌, ◌∙◌, ◌+◌, refl, sym, ap, length-set, arith}
+use Rattle.std.proofs.Common.{◌≡◌, ◌∙◌, ◌+◌, refl, sym, ap, length-set, arith, rules}
+use Rattle.std.specs.Prelude.{None}
 use Rattle.slab.specs.Slab.{Slab}
 use Rattle.dn_flows.specs.declared.flow_queue.FlowQueue.{FlowQueue}
 use Rattle.dn_flows.specs.declared.stored.Stored.{Stored}
 use Rattle.dn_flows.specs.declared.waiting.Waiting.{Waiting}
 use Rattle.dn_flows.specs.Store.{Takes}
-use Rattle.dn_flows.proofs.Tables.{first-held, first-short, popping, front, same-reserved}
+use Rattle.dn_flows.proofs.Tables.{as-many-flows, first-held, first-short, popping, front, none-waits, reads, resting, same-reserved}
+use Rattle.std.proofs.lemmas.Grind.{common_steps}
 use Rattle.dn_flows.proofs.flows.Flows.pop_front.Goals as goal
 
 -- the start is counted, and nothing else
-counts-after : {old new : Slab Stored} {first : Waiting} {q q' : FlowQueue} → Takes first old q new q' → (q'.reserved ≡ q.reserved) × (q'.lost ≡ q.lost) × (q'.full ≡ q.full) × (q'.started + 1 ≡ q.started + 1) × (q'.discarded ≡ q.discarded)
-counts-after t = (
-  ap (λ (x : FlowQueue). x.reserved) t.queue_is.2,
-  ap (λ (x : FlowQueue). x.lost) t.queue_is.2,
-  ap (λ (x : FlowQueue). x.full) t.queue_is.2,
-  ap (λ (x : FlowQueue). x.started + 1) t.queue_is.2,
-  ap (λ (x : FlowQueue). x.discarded) t.queue_is.2,
-)
+counts-after : {old new : Slab Stored} {first : Waiting} {q q' : FlowQueue} → Takes first old q new q' → (q'.reserved ≡ q.reserved) × (q'.started + 1 ≡ q.started + 1)
+counts-after t = (ap (λ (x : FlowQueue). x.reserved) t.queue_is.2, ap (λ (x : FlowQueue). x.started + 1) t.queue_is.2)
 
 pub pop_front-requires-clause-held : goal.pop_front-requires-clause-held
-pop_front-requires-clause-held c = first-held c.self.inside.packets c.self.inside.queues.items c.args.flow c.index_mut-queue.result.now c.self.invariant.2 (rw (← c.self.view_is) at c.requires.within) c.index_mut-queue.ensures.value
+pop_front-requires-clause-held c = first-held c.self.inside.packets c.self.inside.queues.items c.self.inside.unsent.items c.args.flow c.index_mut-queue.result.now c.self.invariant.2 (rw (← c.self.view_is) at c.requires.within) c.index_mut-queue.ensures.value
 
 pub pop_front-requires-clause-bytes : goal.pop_front-requires-clause-bytes
-pop_front-requires-clause-bytes c = first-short c.self.inside.packets c.self.inside.queues.items c.args.flow c.index_mut-queue.result.now c.self.invariant.2 (rw (← c.self.view_is) at c.requires.within) c.index_mut-queue.ensures.value
+pop_front-requires-clause-bytes c = first-short c.self.inside.packets c.self.inside.queues.items c.self.inside.unsent.items c.args.flow c.index_mut-queue.result.now c.self.invariant.2 (rw (← c.self.view_is) at c.requires.within) c.index_mut-queue.ensures.value
 
 -- the first packet leaves the flow's chain
 pub invariant_of-self-2 : goal.invariant_of-self-2
@@ -30,12 +26,35 @@ invariant_of-self-2 c =
     let len = c.in_ok-first.ensures.len in
     let capacity = c.in_ok-first.ensures.capacity in (
       c.self.invariant.0 ∙ sym (length-set c.self.inside.queues.items c.args.flow _),
-      (c.self.invariant.1.0 ∙ sym (same-reserved c.self.inside.packets c.self.inside.queues.items c.args.flow c.index_mut-queue.result.now c.self.invariant.2 (rw (← c.self.view_is) at c.requires.within) c.index_mut-queue.ensures.value (record { front = c.pop_front.new.self.front; back = c.pop_front.new.self.back; len = c.pop_front.new.self.len; bytes = c.pop_front.new.self.bytes; reserved = c.pop_front.new.self.reserved; lost = c.pop_front.new.self.lost; full = c.pop_front.new.self.full; started = c.pop_front.new.self.started + 1; discarded = c.pop_front.new.self.discarded }) (counts-after c.in_ok-first.ensures.takes).0), omega arith),
-      (popping c.self.inside.packets c.self.inside.queues.items c.args.flow c.index_mut-queue.result.now c.self.invariant.2 (rw (← c.self.view_is) at c.requires.within) c.index_mut-queue.ensures.value c.pop_front.new.store c.in_ok-first.first c.pop_front.new.self (record { front = c.pop_front.new.self.front; back = c.pop_front.new.self.back; len = c.pop_front.new.self.len; bytes = c.pop_front.new.self.bytes; reserved = c.pop_front.new.self.reserved; lost = c.pop_front.new.self.lost; full = c.pop_front.new.self.full; started = c.pop_front.new.self.started + 1; discarded = c.pop_front.new.self.discarded }) c.in_ok-first.ensures.takes (refl, refl, refl, refl) (counts-after c.in_ok-first.ensures.takes)).stored,
+      (c.self.invariant.1.0 ∙ sym (same-reserved c.self.inside.packets c.self.inside.queues.items c.self.inside.unsent.items c.args.flow c.index_mut-queue.result.now c.self.invariant.2 (rw (← c.self.view_is) at c.requires.within) c.index_mut-queue.ensures.value (record { front = c.pop_front.new.self.front; back = c.pop_front.new.self.back; len = c.pop_front.new.self.len; bytes = c.pop_front.new.self.bytes; reserved = c.pop_front.new.self.reserved; started = c.pop_front.new.self.started + 1 }) (counts-after c.in_ok-first.ensures.takes).0), omega arith),
+      (popping c.self.inside.packets c.self.inside.queues.items c.self.inside.unsent.items c.args.flow c.index_mut-queue.result.now c.self.invariant.2 (rw (← c.self.view_is) at c.requires.within) c.index_mut-queue.ensures.value c.pop_front.new.store c.in_ok-first.first c.pop_front.new.self (record { front = c.pop_front.new.self.front; back = c.pop_front.new.self.back; len = c.pop_front.new.self.len; bytes = c.pop_front.new.self.bytes; reserved = c.pop_front.new.self.reserved; started = c.pop_front.new.self.started + 1 }) c.in_ok-first.ensures.takes (refl, refl, refl, refl) (counts-after c.in_ok-first.ensures.takes)).stored,
+      c.self.invariant.3 ∙ sym (length-set c.self.inside.queues.items c.args.flow _),
     )
 
 pub returns-clause-front : goal.returns-clause-front
-returns-clause-front c = rw (← c.self.view_is) (sym (front c.self.inside.packets c.self.inside.queues.items c.args.flow c.index_mut-queue.result.now c.self.invariant.2 (rw (← c.self.view_is) at c.requires.within) c.index_mut-queue.ensures.value c.pop_front.new.store c.in_ok-first.first c.pop_front.new.self c.in_ok-first.ensures.takes))
+returns-clause-front c = rw (← c.self.view_is) (sym (front c.self.inside.packets c.self.inside.queues.items c.self.inside.unsent.items c.args.flow c.index_mut-queue.result.now c.self.invariant.2 (rw (← c.self.view_is) at c.requires.within) c.index_mut-queue.ensures.value c.pop_front.new.store c.in_ok-first.first c.pop_front.new.self c.in_ok-first.ensures.takes))
 
 pub returns-clause-flows : goal.returns-clause-flows
-returns-clause-flows c = rw (← c.self.view_is) (popping c.self.inside.packets c.self.inside.queues.items c.args.flow c.index_mut-queue.result.now c.self.invariant.2 (rw (← c.self.view_is) at c.requires.within) c.index_mut-queue.ensures.value c.pop_front.new.store c.in_ok-first.first c.pop_front.new.self (record { front = c.pop_front.new.self.front; back = c.pop_front.new.self.back; len = c.pop_front.new.self.len; bytes = c.pop_front.new.self.bytes; reserved = c.pop_front.new.self.reserved; lost = c.pop_front.new.self.lost; full = c.pop_front.new.self.full; started = c.pop_front.new.self.started + 1; discarded = c.pop_front.new.self.discarded }) c.in_ok-first.ensures.takes (refl, refl, refl, refl) (counts-after c.in_ok-first.ensures.takes)).states
+returns-clause-flows c = rw (← c.self.view_is) (popping c.self.inside.packets c.self.inside.queues.items c.self.inside.unsent.items c.args.flow c.index_mut-queue.result.now c.self.invariant.2 (rw (← c.self.view_is) at c.requires.within) c.index_mut-queue.ensures.value c.pop_front.new.store c.in_ok-first.first c.pop_front.new.self (record { front = c.pop_front.new.self.front; back = c.pop_front.new.self.back; len = c.pop_front.new.self.len; bytes = c.pop_front.new.self.bytes; reserved = c.pop_front.new.self.reserved; started = c.pop_front.new.self.started + 1 }) c.in_ok-first.ensures.takes (refl, refl, refl, refl) (counts-after c.in_ok-first.ensures.takes)).states
+
+pub index_mut-queue-requires : goal.index_mut-queue-requires
+index_mut-queue-requires c =
+    let many = as-many-flows c.self.inside.packets c.self.inside.queues.items c.self.inside.unsent.items in
+    let within = rw (← c.self.view_is) at c.requires.within in
+    grind (arith, common_steps)
+
+pub overflow_add-queue : goal.overflow_add-queue
+overflow_add-queue c =
+    let count = rw (← c.self.view_is) at c.requires.count in
+    let before = (reads c.self.inside.packets c.self.inside.queues.items c.self.inside.unsent.items c.args.flow c.index_mut-queue.result.now c.self.invariant.2 (rw (← c.self.view_is) at c.requires.within) c.index_mut-queue.ensures.value).started in
+    let after = ap (λ (x : FlowQueue). x.started) c.in_ok-first.ensures.takes.queue_is.2 in
+    omega arith
+
+-- no packet waits
+pub returns-in_err-first-clause-front : goal.returns-in_err-first-clause-front
+returns-in_err-first-clause-front c =
+    let none : c.from_residual.result ≡ None = search rules in
+    rw (← c.self.view_is) (none ∙ sym (none-waits c.self.inside.packets c.self.inside.queues.items c.self.inside.unsent.items c.args.flow c.index_mut-queue.result.now c.self.invariant.2 (rw (← c.self.view_is) at c.requires.within) c.index_mut-queue.ensures.value c.in_err-first.ensures.none))
+
+pub returns-in_err-first-clause-flows : goal.returns-in_err-first-clause-flows
+returns-in_err-first-clause-flows c = rw (← c.self.view_is) (resting c.self.inside.packets c.self.inside.queues.items c.self.inside.unsent.items c.args.flow c.index_mut-queue.result.now c.self.invariant.2 (rw (← c.self.view_is) at c.requires.within) c.index_mut-queue.ensures.value c.pop_front.new.store c.pop_front.new.self c.in_err-first.ensures.keeps_store c.in_err-first.ensures.keeps_queue c.in_err-first.ensures.none).states
