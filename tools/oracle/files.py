@@ -2,6 +2,7 @@
 
 from __future__ import annotations
 
+from collections import Counter
 from typing import Iterable, Optional
 
 from config_lines import LineFault, parse_line, read_number
@@ -146,18 +147,22 @@ def other_line(row: int, r: Reply) -> str:
     return f"none,{row},,,{r.at},,"
 
 
-def report(history: Iterable[Entry]) -> str:
-    """The packets that left in the order in which they did, and then the others by row."""
+def report(history: Iterable[Entry], callers: int = 1) -> str:
+    """The packets that left in the order in which they did, and then the others by row. The j-th Submit of caller k is row k + j * callers + 1, with j from 0."""
     history = list(history)
     out: dict[int, Delivery] = {d.packet: d for e in history if isinstance(e.reply, Delivered) for d in e.reply.list}
-    replies = [e.reply for e in history if isinstance(e.call, Submit)]
+    submits: Counter[int] = Counter()
     out_lines: list[tuple[int, int, str]] = []
-    other_lines: list[str] = []
-    for row, r in enumerate(replies, 1):
+    other_lines: list[tuple[int, str]] = []
+    for e in history:
+        if not isinstance(e.call, Submit):
+            continue
+        row, r = e.caller + submits[e.caller] * callers + 1, e.reply
+        submits[e.caller] += 1
         if isinstance(r, Queued) and r.packet in out:
             d = out[r.packet]
             out_lines.append((d.due, d.packet, f"out,{row},{r.flow},{r.packet},{r.at},{d.start},{d.due}"))
         else:
-            other_lines.append(other_line(row, r))
-    lines = [REPORT_HEADER] + [line for _, _, line in sorted(out_lines)] + other_lines
+            other_lines.append((row, other_line(row, r)))
+    lines = [REPORT_HEADER] + [line for _, _, line in sorted(out_lines)] + [line for _, line in sorted(other_lines)]
     return "".join(line + "\n" for line in lines)

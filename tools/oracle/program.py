@@ -16,10 +16,9 @@ from definitions import Dummynet
 from files import LIMITS, ReplayFault, read_line, read_packets, refused_line, report, split_joined, split_lines
 from history import history_text
 from history_reader import audit_line
-from model import MAX_MOMENT, ORDERED, Collect, Configure, Configured, Deleted, Entry, Submit
+from model import MAX_CALLERS, MAX_MOMENT, ORDERED, Collect, Configure, Configured, Deleted, Entry, Submit
 
 USAGE = 2
-MAX_CALLERS = 16
 
 
 @dataclass(frozen=True)
