@@ -2,4 +2,5 @@ pub mod Lines
 pub mod NextRecord
 pub mod ReadBack
 pub mod RecordSteps
+pub mod TextSteps
 pub mod Witnesses

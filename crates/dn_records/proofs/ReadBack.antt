@@ -1,5 +1,5 @@
 -- The records of a text that was written are the records that were written.
-use Rattle.std.proofs.Common.{◌≡◌, ℕ, ◌+◌, ◌≤◌, List, [], ◌∷◌, ◌++◌, length, ap, refl, arith, suc, zero, length-append, append_assoc, append-nil, sym}
+use Rattle.std.proofs.Common.{◌≡◌, ℕ, ◌+◌, ◌≤◌, List, [], ◌∷◌, ◌++◌, length, ap, refl, arith, suc, zero, length-append}
 use Rattle.csv.specs.Machine.{next_record}
 use Rattle.csv.specs.Reading.{default_config, records_from}
 use Rattle.csv.specs.Writing.{default_writer, row_body}
@@ -35,9 +35,3 @@ pub read-back : (rows : List Fields) → AllFilled rows → HasNoMark (text_of r
 read-back rows filled plain =
     let le = count-le rows in
     rw plain (turns (length (text_of rows) + 1) rows filled (omega arith))
-
--- one record more
-pub text-append : (rows : List Fields) (last : Fields) → text_of (rows ++ last ∷ []) ≡ text_of rows ++ line_of last
-unfolding text_of
-text-append [] last = append-nil _
-text-append (first ∷ rows) last = rw (text-append rows last) (sym (append_assoc (line_of first) (text_of rows) (line_of last)))

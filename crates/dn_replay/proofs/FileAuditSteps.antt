@@ -3,13 +3,14 @@ use Rattle.std.proofs.Common.{◌≡◌, ◌∙◌, ap, ℕ, Bool, false, length
 use Rattle.dn_types.specs.declared.entry.Entry.{Entry}
 use Rattle.dn_types.specs.declared.rule.Rule.{Rule}
 use Rattle.dn_replay.specs.Audit.{IsVerdict}
-use Rattle.dn_replay.specs.FileAudit.{IsTold, IsUnaudited, verdict_line}
-use Rattle.dn_replay.specs.HistoryFile.{history_file}
-use Rattle.dn_replay.specs.Reading.{IsRefusal, ReadsAs}
-use Rattle.dn_replay.specs.Writing.{IsUnwritten}
-use Rattle.dn_replay.specs.declared.replay_fault.ReplayFault.{ReplayFault}
-use Rattle.dn_replay.specs.declared.replay_fault.ReplayFault.TheVariants.{BadRow, Read, Write, TooLong, OutOfMemory, Config, ConfigText, NoSuchPipe, BadRecord, BadCount, PipeHasQueues, NoSuchQueue}
-use Rattle.dn_replay.specs.declared.source.Source.TheVariants.{History, Report}
+use Rattle.dn_replay.specs.FileAudit.{IsAuditFault, IsTold, IsUnaudited, verdict_line}
+use Rattle.dn_files.specs.HistoryFaults.{IsHistoryFault}
+use Rattle.dn_files.specs.HistoryFile.{history_file}
+use Rattle.dn_files.specs.Reading.{IsRefusal, ReadsAs}
+use Rattle.dn_files.specs.Writing.{IsUnwritten}
+use Rattle.dn_files.specs.declared.replay_fault.ReplayFault.{ReplayFault}
+use Rattle.dn_files.specs.declared.replay_fault.ReplayFault.TheVariants.{BadRow, Read, Write, TooLong, OutOfMemory, Config, ConfigText, NoSuchPipe, BadRecord, BadCount, PipeHasQueues, NoSuchQueue}
+use Rattle.dn_files.specs.declared.source.Source.TheVariants.{History, Report}
 use Rattle.dn_replay.specs.declared.verdict.Verdict.{Verdict}
 use Rattle.dn_replay.proofs.ReplaySteps.{keeps}
 
@@ -49,3 +50,33 @@ untold known old new read_failed failed verdict line (NoSuchQueue l) sound told 
 pub told : (known : Option (List ℕ)) (rule : Rule) (entries : List Entry) (verdict : Verdict) (count : ℕ) (line bytes : List ℕ)
     → ReadsAs history_file known (rule, entries) → IsVerdict rule entries verdict → count ≡ length entries → line ≡ verdict_line count verdict → bytes ≡ line → IsTold known verdict bytes
 told known rule entries verdict count line bytes reads found counted is same = ((rule, entries), reads, found, same ∙ is ∙ ap (λ (n : ℕ). verdict_line n verdict) counted)
+
+-- Why a history file isn't read, as a fault of its audit.
+pub of_reading : (fault : ReplayFault) → IsHistoryFault fault → IsAuditFault fault
+of_reading (Read what) h = h
+of_reading (TooLong what) h = h
+of_reading (BadRecord number) h = tt
+of_reading OutOfMemory h = tt
+of_reading (Write what) h = absurd h
+of_reading (Config line f) h = absurd h
+of_reading (ConfigText line) h = absurd h
+of_reading (NoSuchPipe line) h = absurd h
+of_reading (BadRow row field) h = absurd h
+of_reading BadCount h = absurd h
+of_reading (PipeHasQueues line) h = absurd h
+of_reading (NoSuchQueue line) h = absurd h
+
+-- Why the line of a verdict isn't written.
+pub of_writing : (text : List ℕ) (old new : Option (List ℕ)) (failed : Bool) (fault : ReplayFault) → IsUnwritten Report text old new failed fault → IsAuditFault fault
+of_writing text old new failed (Write what) h = h.0
+of_writing text old new failed OutOfMemory h = tt
+of_writing text old new failed (Read what) h = absurd h
+of_writing text old new failed (Config line f) h = absurd h
+of_writing text old new failed (ConfigText line) h = absurd h
+of_writing text old new failed (NoSuchPipe line) h = absurd h
+of_writing text old new failed (BadRow row field) h = absurd h
+of_writing text old new failed (BadRecord number) h = absurd h
+of_writing text old new failed (TooLong what) h = absurd h
+of_writing text old new failed BadCount h = absurd h
+of_writing text old new failed (PipeHasQueues line) h = absurd h
+of_writing text old new failed (NoSuchQueue line) h = absurd h

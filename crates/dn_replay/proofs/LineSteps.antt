@@ -12,7 +12,7 @@ use Rattle.dn_records.specs.Records.{line_of, text_of}
 use Rattle.dn_replay.specs.Report.{due_and_packet, entry_line, in_order, is_other, is_out, is_submit, line_fields, lines_after, lines_of, report, report_header, row_number, submits_by}
 use Rattle.dn_replay.specs.Tables.{counts_after}
 use Rattle.dn_replay.specs.declared.line.Line.{Line}
-use Rattle.dn_replay.proofs.TextSteps.{text-append}
+use Rattle.dn_records.proofs.TextSteps.{text-append}
 
 same : (a b : ℕ) → nat_eq a b ≡ true → a ≡ b
 same a b e = grind (arith, nat_tests)

@@ -14,16 +14,16 @@ use Rattle.dn_config.specs.Positions.{position_of}
 use Rattle.dn_config.specs.declared.fault.LineFault.{LineFault}
 use Rattle.dn_records.specs.Records.{Fields, records_of}
 use Rattle.dn_text.specs.Lines.{lines_of}
-use Rattle.dn_replay.specs.ConfigFile.{command_at, config_limit, fault_at, said_at}
+use Rattle.dn_files.specs.ConfigFile.{command_at, config_limit, fault_at, said_at}
 use Rattle.dn_replay.specs.Configuring.{applied, configured_by, configured_from, refusal, unless}
-use Rattle.dn_replay.specs.PacketFile.{is_header, packet_file, packet_limit, row_at, row_of, rows_below, rows_from, rows_of}
-use Rattle.dn_replay.specs.Reading.{◌>>=◌, within}
+use Rattle.dn_files.specs.PacketFile.{is_header, packet_file, packet_limit, row_at, row_of, rows_below, rows_from, rows_of}
+use Rattle.dn_files.specs.Reading.{◌>>=◌, within}
 use Rattle.dn_replay.specs.Replays.{config_calls}
-use Rattle.dn_replay.specs.declared.replay_fault.ReplayFault.{ReplayFault}
-use Rattle.dn_replay.specs.declared.replay_fault.ReplayFault.TheVariants.{BadCount, BadRow, ConfigText, TooLong}
-use Rattle.dn_replay.specs.declared.row.Row.{Row}
-use Rattle.dn_replay.specs.declared.source.Source.{Source}
-use Rattle.dn_replay.specs.declared.source.Source.TheVariants.{Config, Packets}
+use Rattle.dn_files.specs.declared.replay_fault.ReplayFault.{ReplayFault}
+use Rattle.dn_files.specs.declared.replay_fault.ReplayFault.TheVariants.{BadCount, BadRow, ConfigText, TooLong}
+use Rattle.dn_files.specs.declared.row.Row.{Row}
+use Rattle.dn_files.specs.declared.source.Source.{Source}
+use Rattle.dn_files.specs.declared.source.Source.TheVariants.{Config, Packets}
 
 abbrev IsOther : ReplayFault → Type 0
 IsOther BadCount = ⊥

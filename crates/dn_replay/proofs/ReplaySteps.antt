@@ -9,15 +9,15 @@ use Rattle.dn_types.specs.declared.entry.Entry.{Entry}
 use Rattle.dn_types.specs.declared.rule.Rule.TheVariants.{Ordered}
 use Rattle.dn_text.specs.Joined.{joined_parts}
 use Rattle.dn_replay.specs.Configuring.{configured_by}
-use Rattle.dn_replay.specs.PacketFile.{packet_file, packet_limit, rows_of}
-use Rattle.dn_replay.specs.Reading.{within, IsFaultOf, IsRefusal, IsRefusedFor, IsTextOf, ReadsAs}
+use Rattle.dn_files.specs.PacketFile.{packet_file, packet_limit, rows_of}
+use Rattle.dn_files.specs.Reading.{within, IsFaultOf, IsRefusal, IsRefusedFor, IsTextOf, ReadsAs}
 use Rattle.dn_replay.specs.Replays.{AskFor, calls_of, calls_of_joined, config_calls, IsUnreplayed, IsUnreported}
 use Rattle.dn_replay.specs.Runs.{entry_after, history_of, replayed}
-use Rattle.dn_replay.specs.declared.replay_fault.ReplayFault.{ReplayFault}
-use Rattle.dn_replay.specs.declared.replay_fault.ReplayFault.TheVariants.{BadRow, Read, Write, TooLong, OutOfMemory, Config, ConfigText, NoSuchPipe, BadRecord, BadCount, PipeHasQueues, NoSuchQueue}
-use Rattle.dn_replay.specs.declared.row.Row.{Row}
-use Rattle.dn_replay.specs.declared.source.Source.{Source}
-use Rattle.dn_replay.specs.declared.source.Source.TheVariants.{Input}
+use Rattle.dn_files.specs.declared.replay_fault.ReplayFault.{ReplayFault}
+use Rattle.dn_files.specs.declared.replay_fault.ReplayFault.TheVariants.{BadRow, Read, Write, TooLong, OutOfMemory, Config, ConfigText, NoSuchPipe, BadRecord, BadCount, PipeHasQueues, NoSuchQueue}
+use Rattle.dn_files.specs.declared.row.Row.{Row}
+use Rattle.dn_files.specs.declared.source.Source.{Source}
+use Rattle.dn_files.specs.declared.source.Source.TheVariants.{Input}
 use Rattle.dn_types.proofs.Histories.{calls_of-more, lawful-more}
 
 pub keeps : (known : Option (List ℕ)) → Keeps known known

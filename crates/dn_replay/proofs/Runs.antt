@@ -8,13 +8,13 @@ use Rattle.dn_types.specs.declared.reply.Reply.{Reply}
 use Rattle.dn_types.specs.declared.rule.Rule.TheVariants.{Ordered}
 use Rattle.dn_types.specs.declared.call.Call.TheVariants.{Configure}
 use Rattle.dn_types.specs.declared.command.Command.{Command}
-use Rattle.dn_replay.specs.ConfigFile.{command_at}
+use Rattle.dn_files.specs.ConfigFile.{command_at}
 use Rattle.dn_replay.specs.Configuring.{applied, configured_from, refusal}
-use Rattle.dn_replay.specs.Reading.{IsFaultOf}
+use Rattle.dn_files.specs.Reading.{IsFaultOf}
 use Rattle.dn_replay.specs.Runs.{history_of, submit, submitted}
-use Rattle.dn_replay.specs.declared.replay_fault.ReplayFault.{ReplayFault}
-use Rattle.dn_replay.proofs.Inputs.{carried}
-use Rattle.dn_replay.specs.declared.row.Row.{Row}
+use Rattle.dn_files.specs.declared.replay_fault.ReplayFault.{ReplayFault}
+use Rattle.dn_files.proofs.Inputs.{carried}
+use Rattle.dn_files.specs.declared.row.Row.{Row}
 
 -- One call more.
 pub grown : (calls : List Call) (call : Call) (items : List Entry) (r : Reply) → items ≡ history_of calls → r ≡ reply Ordered calls call

@@ -8,10 +8,10 @@ use Rattle.dn_types.specs.declared.reply.Reply.{Reply}
 use Rattle.dn_types.specs.declared.reply.Reply.TheVariants as r
 use Rattle.dn_types.specs.declared.rule.Rule.TheVariants.{Ordered}
 use Rattle.dn_text.specs.Lines.{lines_of}
-use Rattle.dn_replay.specs.ConfigFile.{command_at}
-use Rattle.dn_replay.specs.Reading.{◌>>=◌}
-use Rattle.dn_replay.specs.declared.replay_fault.ReplayFault.{ReplayFault}
-use Rattle.dn_replay.specs.declared.replay_fault.ReplayFault.TheVariants.{NoSuchPipe, PipeHasQueues, NoSuchQueue}
+use Rattle.dn_files.specs.ConfigFile.{command_at}
+use Rattle.dn_files.specs.Reading.{◌>>=◌}
+use Rattle.dn_files.specs.declared.replay_fault.ReplayFault.{ReplayFault}
+use Rattle.dn_files.specs.declared.replay_fault.ReplayFault.TheVariants.{NoSuchPipe, PipeHasQueues, NoSuchQueue}
 
 -- Why the command of a line is refused, by its reply.
 abbrev pub refusal : ℕ → Reply → Option ReplayFault

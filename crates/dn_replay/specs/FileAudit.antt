@@ -1,16 +1,17 @@
 -- The audit of a history file: the verdict on the history in it by its own rule, and the line that tells the verdict.
-use Rattle.std.specs.Prelude.{◌≡◌, ℕ, Bool, false, List, ◌++◌, length, codes, decimal, Option, ⊤}
+use Rattle.std.specs.Prelude.{◌≡◌, ℕ, Bool, false, List, ◌++◌, length, codes, decimal, Option}
 use Rattle.std.specs.Io.KnownBytes.{Appends}
 use Rattle.dn_types.specs.declared.entry.Entry.{Entry}
 use Rattle.dn_types.specs.declared.rule.Rule.{Rule}
 use Rattle.dn_replay.specs.Audit.{IsVerdict}
-use Rattle.dn_replay.specs.HistoryFile.{history_file}
-use Rattle.dn_replay.specs.Reading.{IsRefusal, ReadsAs}
+use Rattle.dn_files.specs.HistoryFaults.{IsHistoryFault}
+use Rattle.dn_files.specs.HistoryFile.{history_file}
+use Rattle.dn_files.specs.Reading.{IsRefusal, ReadsAs}
 use Rattle.dn_replay.specs.Replays.{IsUntouched}
-use Rattle.dn_replay.specs.Writing.{IsUnwritten}
-use Rattle.dn_replay.specs.declared.replay_fault.ReplayFault.{ReplayFault}
-use Rattle.dn_replay.specs.declared.replay_fault.ReplayFault.TheVariants.{BadRecord, OutOfMemory, Read, TooLong, Write}
-use Rattle.dn_replay.specs.declared.source.Source.TheVariants.{History, Report}
+use Rattle.dn_files.specs.Writing.{IsUnwritten}
+use Rattle.dn_files.specs.declared.replay_fault.ReplayFault.{ReplayFault}
+use Rattle.dn_files.specs.declared.replay_fault.ReplayFault.TheVariants.{Write}
+use Rattle.dn_files.specs.declared.source.Source.TheVariants.{History, Report}
 use Rattle.dn_replay.specs.declared.verdict.Verdict.{Verdict}
 use Rattle.dn_replay.specs.declared.verdict.Verdict.TheVariants.{Lawful, Differs}
 
@@ -33,15 +34,7 @@ abbrev pub IsUnaudited : Option (List ℕ) → Bool → Option (List ℕ) → Op
 IsUnaudited known read_failed old new failed (Write what) = (read_failed ≡ false) × ((verdict : Verdict) × (line : List ℕ) × IsTold known verdict line × IsUnwritten Report line old new failed (Write what))
 IsUnaudited known read_failed old new failed fault = IsRefusal History history_file known read_failed fault × IsUntouched old new failed
 
--- The faults that a history file has of its own, or for want of memory: it is too long, or a record is bad.
-abbrev pub IsFileFault : ReplayFault → Type 0
-IsFileFault (TooLong what) = what ≡ History
-IsFileFault (BadRecord number) = ⊤
-IsFileFault OutOfMemory = ⊤
-IsFileFault fault = ⊥
-
--- The faults of an audit of a file. No other comes.
+-- The faults of an audit of a file: those of its reading, and of the writing of the line. No other comes.
 abbrev pub IsAuditFault : ReplayFault → Type 0
-IsAuditFault (Read what) = what ≡ History
 IsAuditFault (Write what) = what ≡ Report
-IsAuditFault fault = IsFileFault fault
+IsAuditFault fault = IsHistoryFault fault

@@ -4,17 +4,17 @@ use Rattle.std.specs.Io.KnownBytes.{Appends, Keeps}
 use Rattle.dn_types.specs.declared.call.Call.{Call}
 use Rattle.dn_types.specs.declared.entry.Entry.{Entry}
 use Rattle.dn_text.specs.Joined.{joined_parts}
-use Rattle.dn_replay.specs.ConfigFile.{config_limit}
+use Rattle.dn_files.specs.ConfigFile.{config_limit}
 use Rattle.dn_replay.specs.Configuring.{configured_by}
-use Rattle.dn_replay.specs.PacketFile.{packet_file, packet_limit, rows_of}
-use Rattle.dn_replay.specs.Reading.{◌>>=◌, within, IsTextOf, ReadsAs}
+use Rattle.dn_files.specs.PacketFile.{packet_file, packet_limit, rows_of}
+use Rattle.dn_files.specs.Reading.{◌>>=◌, within, IsTextOf, ReadsAs}
 use Rattle.dn_replay.specs.Report.{report}
 use Rattle.dn_replay.specs.Runs.{history_of, replayed}
-use Rattle.dn_replay.specs.Writing.{IsUnwritten}
-use Rattle.dn_replay.specs.declared.replay_fault.ReplayFault.{ReplayFault}
-use Rattle.dn_replay.specs.declared.replay_fault.ReplayFault.TheVariants.{Read, Write, OutOfMemory}
-use Rattle.dn_replay.specs.declared.source.Source.{Source}
-use Rattle.dn_replay.specs.declared.source.Source.TheVariants.{Input, Config, Packets, Report}
+use Rattle.dn_files.specs.Writing.{IsUnwritten}
+use Rattle.dn_files.specs.declared.replay_fault.ReplayFault.{ReplayFault}
+use Rattle.dn_files.specs.declared.replay_fault.ReplayFault.TheVariants.{Read, Write, OutOfMemory}
+use Rattle.dn_files.specs.declared.source.Source.{Source}
+use Rattle.dn_files.specs.declared.source.Source.TheVariants.{Input, Config, Packets, Report}
 
 -- The calls of a configuration.
 abbrev pub config_calls : List ℕ → Result (List Call) ReplayFault

@@ -1,12 +1,11 @@
 ghost use Rattle.std.specs.Prelude.{◌≡◌, List, Ok, IfOk, IfErr};
 ghost use Rattle.dn_types.specs.declared.call.Call.{Call};
 ghost use Rattle.dn_replay.specs.Configuring.{configured_by};
-ghost use Rattle.dn_replay.specs.Reading.{IsFaultOf};
+ghost use Rattle.dn_files.specs.Reading.{IsFaultOf};
 ghost use Rattle.dn_replay.specs.Runs.{HasMade};
 
-use crate::config::command_at;
-use crate::replay_fault::ReplayFault;
 use crate::run::Run;
+use dn_files::{ReplayFault, command_at};
 use dn_text::Lines;
 use std::alloc::Global;
 

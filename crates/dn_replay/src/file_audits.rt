@@ -2,11 +2,8 @@ ghost use Rattle.std.specs.Prelude.{◌≡◌, false, string_bytes, IfOk, IfErr}
 ghost use Rattle.dn_replay.specs.FileAudit.{IsAuditFault, IsAudited, IsUnaudited, verdict_line};
 
 use crate::audits::audit;
-use crate::history_reader::read_history;
-use crate::output::write_text;
-use crate::replay_fault::ReplayFault;
-use crate::source::Source;
 use crate::verdict::Verdict;
+use dn_files::{ReplayFault, Source, read_history, write_text};
 use dn_records::{Inlet, Outlet};
 use std::alloc::{AllocError, Global};
 

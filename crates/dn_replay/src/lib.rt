@@ -1,60 +1,32 @@
-//! Packet files, reports, replays and histories: from the text of a configuration and of packets to the report of what became of each.
+//! Replays, reports and audits: from a configuration and packets to the report of what became of each, and from a history to a verdict.
 #![tactic(auto)]
 
 mod audits;
-mod call_fields;
-mod call_records;
-mod config;
+mod caller_replays;
+mod callers;
 mod configuration;
-mod crew;
-mod crew_replays;
 mod delivered;
-mod fields;
 mod file_audits;
 mod gate;
-mod history_entries;
-mod history_items;
-mod history_reader;
-mod history_version;
-mod history_writer;
-mod input;
-mod item_fields;
-mod item_records;
 mod line;
 mod lines;
 mod no_gate;
-mod numbered_records;
-mod output;
-mod packet_fields;
-mod packets;
-mod ranges;
-mod replay_fault;
 mod replays;
-mod reply_fields;
-mod reply_records;
 mod report;
-mod row;
-mod row_fields;
 mod run;
-mod source;
-mod target_fields;
 #[cfg(test)]
 mod tests;
 mod verdict;
 
 pub use audits::audit;
-pub use config::read_config;
-pub use crew_replays::replay_callers;
+pub use caller_replays::replay_callers;
+pub use dn_files::{
+    ReplayFault, Row, Source, read_config, read_history, read_packets, write_history,
+};
 pub use dn_records::{FromReader, FromWriter, Inlet, Outlet};
 pub use file_audits::audit_file;
 pub use gate::Gate;
-pub use history_reader::read_history;
-pub use history_writer::write_history;
 pub use no_gate::NoGate;
-pub use packets::read_packets;
-pub use replay_fault::ReplayFault;
 pub use replays::{replay, replay_joined};
 pub use report::write_report;
-pub use row::Row;
-pub use source::Source;
 pub use verdict::Verdict;

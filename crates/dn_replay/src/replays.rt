@@ -2,20 +2,17 @@ ghost use Rattle.std.specs.Prelude.{◌≡◌, ◌<◌, All, List, false, None, 
 ghost use Rattle.dn_types.specs.History.{IsLawful};
 ghost use Rattle.dn_types.specs.declared.call.Call.{Call};
 ghost use Rattle.dn_types.specs.declared.rule.Rule.TheVariants.{Ordered};
-ghost use Rattle.dn_replay.specs.Reading.{IsRefusal, ReadsAs};
+ghost use Rattle.dn_files.specs.Reading.{IsRefusal, ReadsAs};
 ghost use Rattle.dn_replay.specs.Replays.{AskFor, AsksFor, config_calls, EitherFailed, InputFailed, IsReplayed, IsReported, IsUnreplayed, IsUnreported};
 ghost use Rattle.dn_replay.specs.Runs.{HasMade, replayed};
-ghost use Rattle.dn_replay.specs.declared.source.Source.TheVariants.{Config};
+ghost use Rattle.dn_files.specs.declared.source.Source.TheVariants.{Config};
 
-use crate::config::CONFIG_LIMIT;
 use crate::configuration::configured;
-use crate::input::read_input;
-use crate::packets::{PACKET_LIMIT, read_packets, rows_of_text};
-use crate::replay_fault::ReplayFault;
 use crate::report::write_report;
-use crate::row::Row;
 use crate::run::Run;
-use crate::source::Source;
+use dn_files::{
+    CONFIG_LIMIT, PACKET_LIMIT, ReplayFault, Row, Source, read_input, read_packets, rows_of_text,
+};
 use dn_records::{Inlet, Outlet};
 use dn_text::split_joined;
 use dn_types::Entry;

@@ -3,15 +3,13 @@ ghost use Rattle.std.specs.Io.KnownBytes.{Appends};
 ghost use Rattle.dn_types.specs.declared.entry.Entry.{Entry};
 ghost use Rattle.dn_records.specs.Records.{line_of, text_of};
 ghost use Rattle.dn_replay.specs.Report.{line_fields, report, report_header};
-ghost use Rattle.dn_replay.specs.Writing.{IsUnwritten};
+ghost use Rattle.dn_files.specs.Writing.{IsUnwritten};
 ghost use Rattle.dn_replay.specs.declared.line.Line.TheVariants.{Held, NoTarget};
-ghost use Rattle.dn_replay.specs.declared.source.Source.TheVariants.{Report};
+ghost use Rattle.dn_files.specs.declared.source.Source.TheVariants.{Report};
 
 use crate::line::Line;
 use crate::lines::lines_of_history;
-use crate::output::{number, write_text};
-use crate::replay_fault::ReplayFault;
-use crate::source::Source;
+use dn_files::{ReplayFault, Source, number, write_text};
 use dn_records::{Field, Outlet, RecordWriter};
 use dn_types::Entry;
 use std::alloc::{AllocError, Global};

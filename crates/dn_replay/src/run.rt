@@ -2,12 +2,11 @@ ghost use Rattle.std.specs.Prelude.{◌≡◌, List, [], ◌∷◌, Some, None, 
 ghost use Rattle.dn_types.specs.declared.call.Call.{Call};
 ghost use Rattle.dn_types.specs.declared.call.Call.TheVariants.{Configure};
 ghost use Rattle.dn_replay.specs.Configuring.{applied, refusal};
-ghost use Rattle.dn_replay.specs.Reading.{IsFaultOf};
-ghost use Rattle.dn_replay.specs.Runs.{HasMade, replayed, submitted};
+ghost use Rattle.dn_files.specs.Reading.{IsFaultOf};
+ghost use Rattle.dn_replay.specs.Runs.{HasMade, replayed, submit, submitted};
 ghost use Rattle.std.specs.Prelude.{IfErr, Ok};
 
-use crate::replay_fault::ReplayFault;
-use crate::row::Row;
+use dn_files::{ReplayFault, Row};
 use dn_shaper::Shaper;
 use dn_types::{Call, Command, Entry, Moment, Reply};
 use std::alloc::{AllocError, Global};
@@ -17,6 +16,17 @@ use std::alloc::{AllocError, Global};
 pub(crate) struct Run {
     pub(crate) shaper: Shaper,
     pub(crate) history: Vec<Entry>,
+}
+
+/// The Submit of a row's packet.
+pub(crate) fn submit(row: &Row) -> Call
+    ensures { result ≡ submit row.now }
+{
+    Call::Submit {
+        target: row.target,
+        packet: row.packet,
+        moment: row.moment,
+    }
 }
 
 /// Why the command of a line is refused, by its reply.
@@ -114,7 +124,7 @@ impl Run {
         ensures { OnOk result ((calls : List Call) → HasMade self.old calls → HasMade self.new (submitted calls rows.now)) }
     {
         for row in rows {
-            self.make(row.submit())?;
+            self.make(submit(row))?;
         }
         Ok(())
     }

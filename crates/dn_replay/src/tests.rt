@@ -1,3 +1,2 @@
 mod example;
-mod files;
 mod reports;

@@ -1,7 +1,6 @@
 use Rattle.std.proofs.Common.{◌≡◌, length, rules}
 use Rattle.std.proofs.lemmas.Result.{err_from_is_err_and}
-use Rattle.dn_replay.proofs.FileAuditSteps.{told, untold}
-use Rattle.dn_replay.proofs.HistoryFaults.{of_reading, of_writing}
+use Rattle.dn_replay.proofs.FileAuditSteps.{of_reading, of_writing, told, untold}
 use Rattle.dn_replay.proofs.file_audits.audit_file.Goals as goal
 
 -- The line of the verdict was written.
@@ -30,7 +29,7 @@ returns-clause-err g c =
 pub returns-in_err-rule-clause-faults : goal.returns-in_err-rule-clause-faults
 returns-in_err-rule-clause-faults g c =
     let p = err_from_is_err_and c.from_residual.result c.from_residual.ensures.1 in
-    rw (p.1, p.2) (of_reading (g.I.Inlet.remaining c.args.history.now) (g.I.Inlet.has_failed c.read_history.new.input) _ c.in_err-rule.ensures.err)
+    rw (p.1, p.2) (of_reading _ c.in_err-rule.ensures.faults)
 
 pub returns-clause-faults : goal.returns-clause-faults
 returns-clause-faults g c =

@@ -1,8 +1,8 @@
 use Rattle.std.proofs.lemmas.Result.{err_from_is_err_and, IfErr-weaker, IfOk-weaker}
-use Rattle.dn_replay.specs.PacketFile.{packet_file}
+use Rattle.dn_files.specs.PacketFile.{packet_file}
 use Rattle.dn_replay.specs.Replays.{AskFor, config_calls, EitherFailed}
 use Rattle.dn_replay.specs.Runs.{replayed}
-use Rattle.dn_replay.specs.declared.source.Source.TheVariants.{Config, Packets}
+use Rattle.dn_files.specs.declared.source.Source.TheVariants.{Config, Packets}
 use Rattle.dn_replay.proofs.ReplaySteps.{asks, config_fault, packet_fault, refused_input, unreported}
 use Rattle.dn_replay.proofs.replays.replay.Goals as goal
 

@@ -2,11 +2,11 @@ use Rattle.std.proofs.Common.{refl}
 use Rattle.std.proofs.lemmas.Result.{err_from_is_err_and, IfErr-weaker, IfOk-weaker}
 use Rattle.dn_text.specs.Joined.{joined_parts}
 use Rattle.dn_replay.specs.Configuring.{configured_by}
-use Rattle.dn_replay.specs.PacketFile.{packet_limit, rows_of}
-use Rattle.dn_replay.specs.Reading.{within}
+use Rattle.dn_files.specs.PacketFile.{packet_limit, rows_of}
+use Rattle.dn_files.specs.Reading.{within}
 use Rattle.dn_replay.specs.Replays.{AsksFor, InputFailed}
 use Rattle.dn_replay.specs.Runs.{replayed}
-use Rattle.dn_replay.specs.declared.source.Source.TheVariants.{Input}
+use Rattle.dn_files.specs.declared.source.Source.TheVariants.{Input}
 use Rattle.dn_replay.proofs.ReplaySteps.{faulty_text, joined_asks, joined_config_fault, joined_input_fault, joined_packet_fault, refused_input, unreported}
 use Rattle.dn_replay.proofs.replays.replay_joined.Goals as goal
 

@@ -1,6 +1,6 @@
 use Rattle.std.proofs.Common.{◌∙◌}
 use Rattle.dn_replay.specs.Report.{line_fields}
-use Rattle.dn_replay.proofs.TextSteps.{text-more, text-none}
+use Rattle.dn_records.proofs.TextSteps.{text-more, text-none}
 use Rattle.dn_replay.proofs.report.write_lines.Goals as goal
 
 pub loop-line-init : goal.loop-line-init

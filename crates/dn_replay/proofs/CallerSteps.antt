@@ -1,0 +1,78 @@
+-- A replay by several callers, and why there is none, step by step.
+use Rattle.std.proofs.Common.{◌≡◌, ◌∙◌, ap, subst, ℕ, Bool, true, false, List, Option, Some, None, Result, Err}
+use Rattle.dn_types.specs.History.{calls_of}
+use Rattle.dn_types.specs.declared.call.Call.{Call}
+use Rattle.dn_types.specs.declared.entry.Entry.{Entry}
+use Rattle.dn_replay.specs.CallerReplays.{IsCount, IsHistoryOfCallers, IsReplayOfCallers, IsUnreplayedByCallers, IsUnopened}
+use Rattle.dn_files.specs.PacketFile.{packet_file}
+use Rattle.dn_files.specs.Reading.{IsRefusal, IsRefusedFor, ReadsAs}
+use Rattle.dn_replay.specs.Replays.{AskFor, config_calls}
+use Rattle.dn_replay.specs.Report.{report}
+use Rattle.dn_replay.specs.Runs.{history_of}
+use Rattle.dn_files.specs.Writing.{IsUnwritten}
+use Rattle.dn_files.specs.declared.replay_fault.ReplayFault.{ReplayFault}
+use Rattle.dn_files.specs.declared.replay_fault.ReplayFault.TheVariants.{BadRow, Read, Write, TooLong, OutOfMemory, Config, ConfigText, NoSuchPipe, BadRecord, BadCount, PipeHasQueues, NoSuchQueue}
+use Rattle.dn_files.specs.declared.row.Row.{Row}
+use Rattle.dn_files.specs.declared.source.Source.{Source}
+use Rattle.dn_files.specs.declared.source.Source.TheVariants.{Report}
+use Rattle.dn_replay.proofs.ReplaySteps.{keeps, made, refused_input}
+
+-- The callers' history is one of what two inputs were read as, where the commands are those of the configuration's run.
+pub callers_replay : (n : ℕ) (config packets : Option (List ℕ)) (calls : List Call) (rows : List Row) (commands entries : List Entry) → ReadsAs config_calls config calls → ReadsAs packet_file packets rows
+    → commands ≡ history_of calls → IsHistoryOfCallers n (calls_of commands) rows entries → IsReplayOfCallers n config packets entries
+callers_replay n config packets calls rows commands entries config_reads packets_read is history = record {
+  calls = calls;
+  rows = rows;
+  config_reads = config_reads;
+  packets_read = packets_read;
+  history = subst (λ (l : List Call). IsHistoryOfCallers n l rows entries) (ap calls_of is ∙ made calls) history;
+}
+
+module _ (n : ℕ) (Unread : Type 0) (ReadFailed : Option Source → Type 0) (config packets : Option (List ℕ)) where
+  -- There are no callers.
+  pub unopened : (known : Option (List ℕ)) (failed : Bool) (fault : ReplayFault) → Unread → ReadFailed None → failed ≡ false → IsUnopened n fault → IsUnreplayedByCallers n Unread ReadFailed config packets known known failed fault
+  unopened known failed BadCount unread sound whole h = (h, unread, sound, (whole, keeps known))
+  unopened known failed OutOfMemory unread sound whole h = (h, (sound, (whole, keeps known)))
+  unopened known failed (Write what) unread sound whole h = absurd h
+  unopened known failed (Read what) unread sound whole h = absurd h
+  unopened known failed (Config l f) unread sound whole h = absurd h
+  unopened known failed (ConfigText l) unread sound whole h = absurd h
+  unopened known failed (NoSuchPipe l) unread sound whole h = absurd h
+  unopened known failed (BadRow r f) unread sound whole h = absurd h
+  unopened known failed (BadRecord r) unread sound whole h = absurd h
+  unopened known failed (TooLong s) unread sound whole h = absurd h
+  unopened known failed (PipeHasQueues l) unread sound whole h = absurd h
+  unopened known failed (NoSuchQueue l) unread sound whole h = absurd h
+
+  -- An input is refused, for a fault that is no bad count.
+  pub callers_refused : {A : Type 0} (source : Source) (read : List ℕ → Result A ReplayFault) (input known : Option (List ℕ)) (input_failed failed : Bool) (fault : ReplayFault)
+      → IsCount n → ((text : List ℕ) → read text ≡ Err BadCount → ⊥) → failed ≡ false → ((f : ReplayFault) → IsRefusedFor read input f → AskFor config packets (Err f)) → (input_failed ≡ false → ReadFailed None) → (input_failed ≡ true → ReadFailed (Some source))
+      → IsRefusal source read input input_failed fault → IsUnreplayedByCallers n Unread ReadFailed config packets known known failed fault
+  callers_refused source read input known input_failed failed BadCount count never whole asked sound reads h = absurd (never h.1.0 h.1.2)
+  callers_refused source read input known input_failed failed (Write what) count never whole asked sound reads h = absurd h
+  callers_refused source read input known input_failed failed OutOfMemory count never whole asked sound reads h = (count, refused_input ReadFailed (AskFor config packets) source read input known input_failed failed OutOfMemory whole asked sound reads h)
+  callers_refused source read input known input_failed failed (Read what) count never whole asked sound reads h = (count, refused_input ReadFailed (AskFor config packets) source read input known input_failed failed (Read what) whole asked sound reads h)
+  callers_refused source read input known input_failed failed (Config l f) count never whole asked sound reads h = (count, refused_input ReadFailed (AskFor config packets) source read input known input_failed failed (Config l f) whole asked sound reads h)
+  callers_refused source read input known input_failed failed (ConfigText l) count never whole asked sound reads h = (count, refused_input ReadFailed (AskFor config packets) source read input known input_failed failed (ConfigText l) whole asked sound reads h)
+  callers_refused source read input known input_failed failed (NoSuchPipe l) count never whole asked sound reads h = (count, refused_input ReadFailed (AskFor config packets) source read input known input_failed failed (NoSuchPipe l) whole asked sound reads h)
+  callers_refused source read input known input_failed failed (BadRow r f) count never whole asked sound reads h = (count, refused_input ReadFailed (AskFor config packets) source read input known input_failed failed (BadRow r f) whole asked sound reads h)
+  callers_refused source read input known input_failed failed (BadRecord r) count never whole asked sound reads h = (count, refused_input ReadFailed (AskFor config packets) source read input known input_failed failed (BadRecord r) whole asked sound reads h)
+  callers_refused source read input known input_failed failed (TooLong s) count never whole asked sound reads h = (count, refused_input ReadFailed (AskFor config packets) source read input known input_failed failed (TooLong s) whole asked sound reads h)
+  callers_refused source read input known input_failed failed (PipeHasQueues l) count never whole asked sound reads h = (count, refused_input ReadFailed (AskFor config packets) source read input known input_failed failed (PipeHasQueues l) whole asked sound reads h)
+  callers_refused source read input known input_failed failed (NoSuchQueue l) count never whole asked sound reads h = (count, refused_input ReadFailed (AskFor config packets) source read input known input_failed failed (NoSuchQueue l) whole asked sound reads h)
+
+  -- The report of the callers' history wasn't written.
+  pub callers_unreported : (entries : List Entry) (old new : Option (List ℕ)) (failed : Bool) (fault : ReplayFault) → IsCount n → ReadFailed None → IsReplayOfCallers n config packets entries
+      → IsUnwritten Report (report n entries) old new failed fault → IsUnreplayedByCallers n Unread ReadFailed config packets old new failed fault
+  callers_unreported entries old new failed (Write what) count sound replay h = (count, sound, (entries, replay, h))
+  callers_unreported entries old new failed OutOfMemory count sound replay h = (count, (sound, h))
+  callers_unreported entries old new failed BadCount count sound replay h = absurd h
+  callers_unreported entries old new failed (Read what) count sound replay h = absurd h
+  callers_unreported entries old new failed (Config l f) count sound replay h = absurd h
+  callers_unreported entries old new failed (ConfigText l) count sound replay h = absurd h
+  callers_unreported entries old new failed (NoSuchPipe l) count sound replay h = absurd h
+  callers_unreported entries old new failed (BadRow r f) count sound replay h = absurd h
+  callers_unreported entries old new failed (BadRecord r) count sound replay h = absurd h
+  callers_unreported entries old new failed (TooLong s) count sound replay h = absurd h
+  callers_unreported entries old new failed (PipeHasQueues l) count sound replay h = absurd h
+  callers_unreported entries old new failed (NoSuchQueue l) count sound replay h = absurd h
