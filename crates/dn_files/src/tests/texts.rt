@@ -13,7 +13,7 @@ fn a_text_is_read_up_to_its_limit(rt: HostRuntime) -> Result<(), Fail> {
     let alloc = rt.alloc();
     let mut input = FromReader::new(b"abc".as_slice());
     let text = read_input(alloc, &mut input, 3, Source::Packets)?;
-    assert!(rt; text.as_slice() == b"abc");
+    assert!(rt; text.as_slice() == b"abc".as_slice());
     let mut longer = FromReader::new(b"abcd".as_slice());
     let outcome = read_input(alloc, &mut longer, 3, Source::Packets);
     assert!(rt; outcome.err() == Some(ReplayFault::TooLong(Source::Packets)));
@@ -28,7 +28,7 @@ fn a_text_is_written(rt: HostRuntime) -> Result<(), Fail> {
         Source::Report,
         b"lawful 3\n",
     )?;
-    assert!(rt; output.as_slice() == b"lawful 3\n");
+    assert!(rt; output.as_slice() == b"lawful 3\n".as_slice());
     Ok(())
 }
 
@@ -36,7 +36,7 @@ fn a_text_is_written(rt: HostRuntime) -> Result<(), Fail> {
 fn a_number_is_written_in_digits(rt: HostRuntime) -> Result<(), Fail> {
     let mut writer = RecordWriter::new(rt.alloc());
     writer.write(&[number(0), number(u64::MAX)])?;
-    assert!(rt; writer.into_text().as_slice() == b"0,18446744073709551615\n");
+    assert!(rt; writer.into_text().as_slice() == b"0,18446744073709551615\n".as_slice());
     Ok(())
 }
 
@@ -82,7 +82,7 @@ fn a_history_is_written_and_read_back(rt: HostRuntime) -> Result<(), Fail> {
     let mut file = Vec::new(alloc);
     write_history(alloc, &entries, &mut FromWriter::new(&mut file))?;
     let text = b"dummynet-history,3\nc,0,advance,9\nr,advanced,9\nc,15,show\nr,exhausted\nend,2\n";
-    assert!(rt; file.as_slice() == text);
+    assert!(rt; file.as_slice() == text.as_slice());
     let (rule, back) = read_history(alloc, &mut FromReader::new(file.as_slice()))?;
     assert!(rt; rule == Rule::Ordered);
     assert!(rt; back.as_slice() == entries.as_slice());
