@@ -1,5 +1,5 @@
 -- The report of a history: a header, and a line for each Submit that says what became of its packet.
-use Rattle.std.specs.Prelude.{ℕ, ◌+◌, ◌*◌, ◌^◌, ◌&&◌, Bool, true, false, cond, nat_eq, nat_lt, List, [], ◌∷◌, ◌++◌, map, find, Option, None, Some, option_to_list, codes, decimal, not}
+use Rattle.std.specs.Prelude.{ℕ, ◌+◌, ◌*◌, ◌&&◌, Bool, true, false, cond, nat_eq, nat_lt, List, [], ◌∷◌, ◌++◌, map, find, Option, None, Some, option_to_list, codes, decimal, not}
 use Rattle.std.specs.List.{count_by, filter}
 use Rattle.dn_types.specs.declared.call.Call.{Call}
 use Rattle.dn_types.specs.declared.call.Call.TheVariants.{Submit}
@@ -66,10 +66,14 @@ is_out _ = false
 abbrev pub is_other : Line → Bool
 is_other l = not (is_out l)
 
--- The place of an `out` line among them: by its due moment and then by its packet number, which is below 2^64.
-abbrev pub due_and_packet : Line → ℕ
-due_and_packet (line.Out row flow packet at start due) = due * 2 ^ 64 + packet
-due_and_packet _ = 0
+-- When the packet of an `out` line is due, and its number. Other lines are never asked.
+abbrev pub due_of : Line → ℕ
+due_of (line.Out row flow packet at start due) = due
+due_of _ = 0
+
+abbrev pub packet_of : Line → ℕ
+packet_of (line.Out row flow packet at start due) = packet
+packet_of _ = 0
 
 -- The row of a line.
 abbrev pub row_number : Line → ℕ
@@ -89,9 +93,13 @@ unfoldable pub in_order : {X : Type 0} → (X → ℕ) → List X → List X
 in_order place [] = []
 in_order place (x ∷ xs) = with_placed place x (in_order place xs)
 
+-- The `out` lines by their due moments, and those of one due moment by packet number.
+abbrev pub outs_in_order : List Line → List Line
+outs_in_order outs = in_order due_of (in_order packet_of outs)
+
 -- The lines of a report: the `out` lines in the order of their deliveries, and then the others by row.
 abbrev pub report_lines : ℕ → List Entry → List Line
-report_lines n history = in_order due_and_packet (filter is_out (lines_of n history)) ++ in_order row_number (filter is_other (lines_of n history))
+report_lines n history = outs_in_order (filter is_out (lines_of n history)) ++ in_order row_number (filter is_other (lines_of n history))
 
 -- The fields of a line. What doesn't apply is empty.
 abbrev pub line_fields : Line → Fields

@@ -1,5 +1,5 @@
 ghost use Rattle.std.specs.Prelude.{◌≡◌};
-ghost use Rattle.dn_replay.specs.Report.{due_and_packet, is_out, row_number};
+ghost use Rattle.dn_replay.specs.Report.{due_of, is_out, packet_of, row_number};
 
 /// A line of a report: what became of the packet of one row. `at` is the effective moment of its
 /// Submit; moments are in nanoseconds.
@@ -47,12 +47,22 @@ impl Line {
         matches!(self, Line::Out { .. })
     }
 
-    /// The place of an `out` line among them.
-    pub(crate) fn due_and_packet(&self) -> u128
-        ensures { result ≡ due_and_packet self.now }
+    /// When the packet of an `out` line is due.
+    pub(crate) fn due(&self) -> u64
+        ensures { result ≡ due_of self.now }
     {
         match self {
-            Line::Out { packet, due, .. } => u128::from(*due) * (1 << 64) + u128::from(*packet),
+            Line::Out { due, .. } => *due,
+            _ => 0,
+        }
+    }
+
+    /// The packet number of an `out` line.
+    pub(crate) fn packet(&self) -> u64
+        ensures { result ≡ packet_of self.now }
+    {
+        match self {
+            Line::Out { packet, .. } => *packet,
             _ => 0,
         }
     }

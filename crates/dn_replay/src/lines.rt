@@ -1,6 +1,6 @@
 ghost use Rattle.std.specs.Prelude.{◌≡◌, ◌<◌, ◌+◌, ◌^◌, ◌++◌, All, Some, length, filter, option_to_list, slice_index, OnOk, IfOk};
 ghost use Rattle.dn_types.specs.declared.entry.Entry.{Entry};
-ghost use Rattle.dn_replay.specs.Report.{deliveries, due_and_packet, entry_line, in_order, is_other, is_out, is_submit, lines_of, queued_line, delivery_of, reply_line, row_number};
+ghost use Rattle.dn_replay.specs.Report.{deliveries, entry_line, in_order, is_other, is_out, is_submit, lines_of, outs_in_order, queued_line, delivery_of, reply_line, row_number};
 ghost use Rattle.dn_replay.specs.Tables.{IsTableOf, counts_after};
 
 use crate::delivered::{delivery_of, delivery_table};
@@ -34,10 +34,12 @@ impl Lines {
 
     /// Brings the lines into the order of a report.
     pub(crate) fn sort(&mut self) -> Result<(), AllocError>
-        ensures outs { OnOk result (self.new.outs.items ≡ in_order due_and_packet self.old.outs.items) }
+        ensures outs { OnOk result (self.new.outs.items ≡ outs_in_order self.old.outs.items) }
         ensures others { OnOk result (self.new.others.items ≡ in_order row_number self.old.others.items) }
     {
-        self.outs.sort_by_key(|line| line.due_and_packet())?;
+        // The sorts are stable. In the history of one caller the first finds the packets in order.
+        self.outs.sort_by_key(|line| line.packet())?;
+        self.outs.sort_by_key(|line| line.due())?;
         self.others.sort_by_key(|line| line.row())?;
         Ok(())
     }
