@@ -23,7 +23,7 @@ HEAP = "heap_of_links"
 # The functions of dn_shaper that call a function of a crate below, by file.
 CALLERS = {
     f"{HEAP} min_heap": {
-        "new": ["state::new_state"],
+        "with_run": ["state::new_state"],
         "reserve": ["make::make_link"],
         "push_reserved": ["accept::accept", "settle::settle_one"],
         "peek": ["settle::settle_one"],

@@ -33,7 +33,9 @@ fn line_fault(number: usize, fault: LineFault) -> ReplayFault
     }
 }
 
-/// The command of the line with this number, or None for a line that asks for nothing.
+/// The command of the line with this number, from 1 on, or None for a line that asks for nothing.
+/// ConfigText says that the line is no UTF-8, and Config that it is no line of the configuration, and
+/// where and why.
 pub fn command_at(number: usize, line: &[u8]) -> Result<Option<Command>, ReplayFault>
     ensures value { result ≡ command_at number line.now }
     ensures err { IfErr result (λ fault. IsFaultOf {A = Option Command} (Err fault) fault) }

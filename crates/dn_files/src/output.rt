@@ -7,14 +7,15 @@ use crate::replay_fault::ReplayFault;
 use crate::source::Source;
 use dn_records::{Field, Outlet, write_whole};
 
-/// A field with a number in it.
+/// A field with a number in it, which is written in decimal digits.
 pub fn number<'a>(value: u64) -> Field<'a>
     ensures { bytes_of result ≡ decimal value }
 {
     Field::Number(u128::from(value))
 }
 
-/// Writes a text whole, under the name `source`.
+/// Writes a text whole, under the name `source`. Write says that a write failed: what was written is
+/// then a part of the text from its front.
 pub fn write_text<O: Outlet>(out: &mut O, source: Source, text: &[u8]) -> Result<(), ReplayFault>
     requires { O.has_failed out.old ≡ false }
     ensures ok { OnOk result (Appends (O.contents out.old) (O.contents out.new) text.now) }

@@ -61,7 +61,8 @@ fn rows_below(
     }
 }
 
-/// The rows of a packet file's text.
+/// The rows of a packet file's text. BadRow names the first bad row, from 1 on and 0 for the header, and
+/// its first bad field, and OutOfMemory says that a growth was refused.
 pub fn rows_of_text(alloc: Global, text: &[u8]) -> Result<Vec<Row>, ReplayFault>
     ensures ok { IfOk result (λ rows. rows_of text.now ≡ Ok rows.items) }
     ensures err { IfErr result (λ fault. IsFaultOf (rows_of text.now) fault) }

@@ -4,6 +4,7 @@
 mod keep;
 mod min_heap;
 mod remove;
+mod run;
 #[cfg(test)]
 mod tests;
 

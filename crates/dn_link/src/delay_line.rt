@@ -30,7 +30,7 @@ impl DelayLine {
         ensures pushed { result.pushed ≡ 0 }
     {
         DelayLine {
-            heap: MinHeap::new(alloc),
+            heap: MinHeap::with_run(alloc),
         }
     }
 

@@ -38,7 +38,7 @@ pub fn new_state(alloc: Global, rule: Rule) -> State
             waiting: 0,
             line: DelayLine::new(alloc),
         },
-        heap: MinHeap::new(alloc),
+        heap: MinHeap::with_run(alloc),
         shared: SharedPlaces::new(alloc),
         configured: Configured::new(alloc),
         now: 0,

@@ -87,7 +87,7 @@ fn tell(rt: &HostRuntime, name: &str, size: u64, count: u64, start: &Instant) ->
 }
 
 fn measure_heap(rt: &HostRuntime, keys: u64, times: u64) -> io::Result<()> {
-    let mut heap = MinHeap::new(rt.alloc());
+    let mut heap = MinHeap::with_run(rt.alloc());
     fill(&mut heap, keys);
     let start = Instant::now(rt)?;
     let taken = turn(&mut heap, times);

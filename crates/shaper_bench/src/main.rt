@@ -253,25 +253,41 @@ fn tell_delete(rt: &HostRuntime, load: &Load, run: &Run) -> io::Result<()> {
     Ok(())
 }
 
-/// The count of rounds that the program is asked for.
-fn rounds(rt: &HostRuntime) -> io::Result<u64> {
+/// What the program is asked for: the count of rounds, and the place of the one load to measure.
+fn arguments(rt: &HostRuntime) -> io::Result<(u64, Option<usize>)> {
     let mut args = std::env::args(rt)?;
     let _program = args.next();
-    match args.next() {
-        Some(text) => Ok(text.as_str().parse::<u64>().unwrap_or(2)),
-        None => Ok(2),
+    let rounds = match args.next() {
+        Some(text) => text.as_str().parse::<u64>().unwrap_or(2),
+        None => 2,
+    };
+    let load = match args.next() {
+        Some(text) => text.as_str().parse::<usize>().ok(),
+        None => None,
+    };
+    Ok((rounds, load))
+}
+
+/// Measures each load, the Collects of one packet, and the deletes.
+fn measure_all(rt: &HostRuntime, rounds: u64) -> io::Result<()> {
+    for load in LOADS {
+        measure(rt, &load, rounds)?;
     }
+    measure_collect(rt, rounds)?;
+    for flows in [1_000u32, 4_000, 16_384] {
+        measure_delete(rt, "links", 0, flows)?;
+        measure_delete(rt, "flows of one link", 1, flows)?;
+    }
+    Ok(())
 }
 
 fn main(rt: HostRuntime) -> io::Result<()> {
-    let rounds = rounds(&rt)?;
-    for load in LOADS {
-        measure(&rt, &load, rounds)?;
+    let (rounds, load) = arguments(&rt)?;
+    match load {
+        Some(load) => match LOADS.get(load) {
+            Some(load) => measure(&rt, load, rounds),
+            None => Ok(()),
+        },
+        None => measure_all(&rt, rounds),
     }
-    measure_collect(&rt, rounds)?;
-    for flows in [1_000u32, 4_000, 16_384] {
-        measure_delete(&rt, "links", 0, flows)?;
-        measure_delete(&rt, "flows of one link", 1, flows)?;
-    }
-    Ok(())
 }

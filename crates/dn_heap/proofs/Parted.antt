@@ -1,0 +1,37 @@
+-- What a heap and its run hold together, where a key joins or leaves one of the two.
+use Rattle.std.proofs.Common.{◌≡◌, ◌<◌, Bool, Option, Some, None, List, [], ◌∷◌, ◌++◌, map, length, slice_index_or, ap, sym, subst, IfSome, IsPermutation, Contains, arith}
+use Rattle.std.specs.Prelude.{filter}
+use Rattle.std.specs.Option.{option_to_list}
+use Rattle.std.specs.declared.cmp.Reverse.{Reverse}
+use Rattle.std.proofs.lemmas.List.{append_assoc}
+use Rattle.std.proofs.lemmas.List.Elements.{filter-append}
+use Rattle.std.proofs.lemmas.List.Sorted.{IsPermutation-refl, IsPermutation-sym, IsPermutation-trans, IsPermutation-append, IsPermutation-middle, IsPermutation-push_more}
+
+module _ {K : Type 0} where
+  pub joins_heap : (key : K) (hs hs' rs : List K) → IsPermutation (key ∷ hs) hs' → IsPermutation (key ∷ (hs ++ rs)) (hs' ++ rs)
+  joins_heap key hs hs' rs p = IsPermutation-append (key ∷ hs) hs' rs rs p (IsPermutation-refl rs)
+
+  pub joins_run : (key : K) (hs rs : List K) → IsPermutation (key ∷ (hs ++ rs)) (hs ++ (rs ++ key ∷ []))
+  joins_run key hs rs =
+      let all = hs ++ rs in
+      let pushed = IsPermutation-push_more all all (key ∷ all) key (IsPermutation-refl all) (IsPermutation-refl (key ∷ all)) in
+      IsPermutation-sym (hs ++ (rs ++ key ∷ [])) (key ∷ all) (subst (λ l. IsPermutation l (key ∷ all)) (append_assoc hs rs (key ∷ [])) pushed)
+
+  pub leaves_heap : (key : K) (hs hs' rs : List K) → IsPermutation hs (key ∷ hs') → IsPermutation (hs ++ rs) (key ∷ (hs' ++ rs))
+  leaves_heap key hs hs' rs p = IsPermutation-append hs (key ∷ hs') rs rs p (IsPermutation-refl rs)
+
+  pub leaves_run : (key : K) (hs rs rs' : List K) → IsPermutation rs (key ∷ rs') → IsPermutation (hs ++ rs) (key ∷ (hs ++ rs'))
+  leaves_run key hs rs rs' p =
+      IsPermutation-trans (hs ++ rs) (hs ++ key ∷ rs') (key ∷ (hs ++ rs')) (IsPermutation-append hs hs rs (key ∷ rs') (IsPermutation-refl hs) p) (IsPermutation-middle hs key rs')
+
+  pub popped : (hs rs rs' : List K) (first : Option K) → rs ≡ option_to_list first ++ rs' → IfSome first (λ key. IsPermutation (hs ++ rs) (key ∷ (hs ++ rs')))
+  popped hs rs rs' None e = tt
+  popped hs rs rs' (Some key) e = leaves_run key hs rs rs' (subst (λ l. IsPermutation l (key ∷ rs')) (sym e) (IsPermutation-refl (key ∷ rs')))
+
+  pub kept : (test : K → Bool) (hs rs hs' rs' : List K) → IsPermutation (filter test hs) hs' → rs' ≡ filter test rs → IsPermutation (filter test (hs ++ rs)) (hs' ++ rs')
+  kept test hs rs hs' rs' p e =
+      rw (filter-append test hs rs, e) (IsPermutation-append (filter test hs) hs' (filter test rs) (filter test rs) p (IsPermutation-refl (filter test rs)))
+
+  pub top_held : (hs : List (Reverse K)) (rs : List K) (top : Reverse K) → 0 < length hs → top ≡ slice_index_or hs 0 top → Contains (map (λ r. r.0) hs ++ rs) top.0
+  top_held [] rs top some e = absurd (omega arith)
+  top_held (x ∷ hs) rs top some e = (0, omega arith, ap (λ (r : Reverse K). r.0) (sym e))
