@@ -21,14 +21,11 @@ pub keys_permuted : {K : Type 0} (xs ys : List (Reverse K)) → IsPermutation xs
 keys_permuted xs ys h = IsPermutation-map (λ r. r.0) xs ys h
 
 -- no element passes where the test of the whole list says so
-pub none_of_list : {K : Type 0} (p : K → Bool) (xs : List K) → list_any p xs ≡ false → All (λ k. p k ≡ false) xs
-none_of_list p [] h = All-nil (λ k. p k ≡ false)
-none_of_list p (x ∷ xs) h =
-    let e : (p x ≡ false) × (list_any p xs ≡ false) = or_parts _ _ h in
-    All-cons (λ k. p k ≡ false) x xs e.0 (none_of_list p xs e.1)
-
 pub none_passes : {K : Type 0} (p : K → Bool) (xs : List (Reverse K)) → list_any (λ r. p r.0) xs ≡ false → All (λ k. p k ≡ false) (keys_of xs)
-none_passes p xs h = All-map (λ k. p k ≡ false) (λ r. r.0) xs (none_of_list (λ r. p r.0) xs h)
+none_passes p [] h = All-nil (λ k. p k ≡ false)
+none_passes p (x ∷ xs) h =
+    let e : (p x.0 ≡ false) × (list_any (λ r. p r.0) xs ≡ false) = or_parts _ _ h in
+    All-cons (λ k. p k ≡ false) x.0 (keys_of xs) e.0 (none_passes p xs e.1)
 
 kept_or_not : {K : Type 0} (b : Bool) (x : Reverse K) (xs : List (Reverse K)) (ys : List K) → keys_of xs ≡ ys → keys_of (cond b (x ∷ xs) xs) ≡ cond b (x.0 ∷ ys) ys
 kept_or_not {K} true x xs ys e = ap (λ (l : List K). x.0 ∷ l) e

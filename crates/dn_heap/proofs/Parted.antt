@@ -1,8 +1,7 @@
 -- What a heap and its run hold together, where a key joins or leaves one of the two.
-use Rattle.std.proofs.Common.{◌≡◌, ◌<◌, Bool, Option, Some, None, List, [], ◌∷◌, ◌++◌, map, length, slice_index_or, ap, sym, subst, IfSome, IsPermutation, Contains, arith}
+use Rattle.std.proofs.Common.{◌≡◌, Bool, Option, Some, None, List, [], ◌∷◌, ◌++◌, sym, subst, IfSome, IsPermutation}
 use Rattle.std.specs.Prelude.{filter}
 use Rattle.std.specs.Option.{option_to_list}
-use Rattle.std.specs.declared.cmp.Reverse.{Reverse}
 use Rattle.std.proofs.lemmas.List.{append_assoc}
 use Rattle.std.proofs.lemmas.List.Elements.{filter-append}
 use Rattle.std.proofs.lemmas.List.Sorted.{IsPermutation-refl, IsPermutation-sym, IsPermutation-trans, IsPermutation-append, IsPermutation-middle, IsPermutation-push_more}
@@ -31,7 +30,3 @@ module _ {K : Type 0} where
   pub kept : (test : K → Bool) (hs rs hs' rs' : List K) → IsPermutation (filter test hs) hs' → rs' ≡ filter test rs → IsPermutation (filter test (hs ++ rs)) (hs' ++ rs')
   kept test hs rs hs' rs' p e =
       rw (filter-append test hs rs, e) (IsPermutation-append (filter test hs) hs' (filter test rs) (filter test rs) p (IsPermutation-refl (filter test rs)))
-
-  pub top_held : (hs : List (Reverse K)) (rs : List K) (top : Reverse K) → 0 < length hs → top ≡ slice_index_or hs 0 top → Contains (map (λ r. r.0) hs ++ rs) top.0
-  top_held [] rs top some e = absurd (omega arith)
-  top_held (x ∷ hs) rs top some e = (0, omega arith, ap (λ (r : Reverse K). r.0) (sym e))

@@ -1,15 +1,19 @@
 -- What keeps a run in ascending order, and which key of a heap and its run is a least one.
-use Rattle.std.proofs.Common.{◌≡◌, ℕ, zero, suc, drop, ◌+◌, ◌<◌, Bool, true, false, List, [], ◌∷◌, ◌++◌, map, length, get_or, refl, ap, sym, subst, All, arith}
+use Rattle.std.proofs.Common.{◌≡◌, ℕ, zero, suc, drop, ◌+◌, ◌<◌, Bool, true, false, List, [], ◌∷◌, ◌++◌, length, get_or, refl, sym, subst, All, Contains, arith}
 use Rattle.std.specs.Cmp.{IsTotalOrder, IsStrictWeakOrder}
 use Rattle.std.specs.List.{items_where_true}
 use Rattle.std.specs.declared.cmp.Ordering.{Ordering}
-use Rattle.std.specs.declared.cmp.Reverse.{Reverse}
-use Rattle.std.specs.Ordering.{is_lt}
-use Rattle.std.proofs.lemmas.List.{length-map}
-use Rattle.std.proofs.lemmas.List.Elements.{All-nil, All-cons, All-head, All-tail, All-push, All-append, All-get_or, All-weaker}
+use Rattle.std.specs.declared.cmp.Ordering.TheVariants.{Less, Equal, Greater}
+use Rattle.std.specs.Ordering.{is_ge, is_lt}
+use Rattle.std.proofs.lemmas.List.Elements.{All-nil, All-cons, All-head, All-tail, All-push, All-append, All-contains, All-get_or, All-weaker}
 use Rattle.std.proofs.lemmas.List.Sorted.{ranks_by}
 use Rattle.dn_heap.specs.Heap.{IsLeast}
 use Rattle.dn_heap.specs.Run.{IsAscending, Leads}
+
+pub at_least : (o : Ordering) → is_ge o ≡ true → is_lt o ≡ false
+at_least Less e = absurd (let z : false ≡ true = e in cc)
+at_least Equal e = refl
+at_least Greater e = refl
 
 module _ {K : Type 0} {cmp : K → K → Ordering} (order : IsTotalOrder cmp) where
   strict : IsStrictWeakOrder (λ x y. is_lt (cmp x y))
@@ -40,14 +44,6 @@ module _ {K : Type 0} {cmp : K → K → Ordering} (order : IsTotalOrder cmp) wh
   under : (xs : List K) (least other : K) → is_lt (cmp least other) ≡ false → IsLeast cmp least xs → IsLeast cmp other xs
   under xs least other h l = All-weaker (λ k. is_lt (cmp k least) ≡ false) (λ k. is_lt (cmp k other) ≡ false) (λ k e. strict.chain k least other e h) xs l
 
-  first_leads : (xs ys : List K) (first : K) → 0 < length xs → first ≡ get_or xs 0 first → IsLeast cmp first ys → Leads cmp xs ys
-  first_leads [] ys first some e l = absurd (omega arith)
-  first_leads (x ∷ xs) ys first some e l = subst (λ k. IsLeast cmp k ys) e l
-
-  first_of_keys : (xs : List (Reverse K)) (top : Reverse K) → top ≡ get_or xs 0 top → top.0 ≡ get_or (map (λ r. r.0) xs) 0 top.0
-  first_of_keys [] top e = refl
-  first_of_keys (x ∷ xs) top e = ap (λ r. r.0) e
-
   first_is_least : (xs : List K) (first : K) → first ≡ get_or xs 0 first → IsAscending cmp xs → IsLeast cmp first xs
   first_is_least [] first e ascending = All-nil (λ k. is_lt (cmp k first) ≡ false)
   first_is_least (x ∷ xs) first e ascending = subst (λ k. IsLeast cmp k (x ∷ xs)) (sym e) (All-cons (λ k. is_lt (cmp k x) ≡ false) x xs (itself x) ascending.0)
@@ -74,29 +70,22 @@ module _ {K : Type 0} {cmp : K → K → Ordering} (order : IsTotalOrder cmp) wh
   rest [] ascending = tt
   rest (x ∷ xs) ascending = ascending.1
 
-  -- The first of the run leads, where it is less than the heap's top.
-  pub run_leads : (xs ys : List K) (first top : K) → 0 < length xs → first ≡ get_or xs 0 first → is_lt (cmp first top) ≡ true → IsLeast cmp top ys → Leads cmp xs ys
-  run_leads xs ys first top some e less l = first_leads xs ys first some e (under ys top first (strict.one_way first top less) l)
+  -- The run leads, where its first key is less than a least key of the heap.
+  pub run_leads : (rs hs : List K) (first top : K) → 0 < length rs → first ≡ get_or rs 0 first → is_lt (cmp first top) ≡ true → IsLeast cmp top hs → Leads cmp rs hs
+  run_leads [] hs first top some e less l = absurd (omega arith)
+  run_leads (x ∷ rs) hs first top some e less l =
+      λ key least. under hs first key (subst (λ k. is_lt (cmp k key) ≡ false) (sym e) (All-head (λ k. is_lt (cmp k key) ≡ false) x rs least)) (under hs top first (strict.one_way first top less) l)
 
-  -- The heap's top leads, where the first of the run is not less.
-  pub heap_leads : (xs : List (Reverse K)) (ys : List K) (top : Reverse K) (first : K) → 0 < length xs → top ≡ get_or xs 0 top → first ≡ get_or ys 0 first → is_lt (cmp first top.0) ≡ false → IsAscending cmp ys → Leads cmp (map (λ r. r.0) xs) ys
-  heap_leads xs ys top first some e f not_less ascending =
-      first_leads (map (λ r. r.0) xs) ys top.0 (omega (arith, length-map xs (λ r. r.0))) (first_of_keys xs top e) (under ys first top.0 not_less (first_is_least ys first f ascending))
+  -- The heap leads, where the first key of the run is not less than a key of the heap.
+  pub heap_leads : (rs hs : List K) (first top : K) → first ≡ get_or rs 0 first → is_lt (cmp first top) ≡ false → Contains hs top → IsAscending cmp rs → Leads cmp hs rs
+  heap_leads rs hs first top e not_less held ascending =
+      λ key least. under rs first key (strict.chain first top key not_less (All-contains (λ k. is_lt (cmp k key) ≡ false) hs top least held)) (first_is_least rs first e ascending)
 
-  -- Where there are no others, these lead.
-  pub none_leads : (xs ys : List K) → ys ≡ [] → Leads cmp xs ys
-  none_leads [] ys e = e
-  none_leads (x ∷ xs) ys e = subst (λ l. IsLeast cmp x l) (sym e) (All-nil (λ k. is_lt (cmp k x) ≡ false))
+  -- What is least of the ones that lead is least of all.
+  pub first_of_all : (hs rs : List K) (first : K) → first ≡ get_or rs 0 first → IsAscending cmp rs → Leads cmp rs hs → IsLeast cmp first (hs ++ rs)
+  first_of_all hs rs first e ascending leads =
+      let least = first_is_least rs first e ascending in
+      All-append (λ k. is_lt (cmp k first) ≡ false) hs rs (leads first least) least
 
-  led : (xs ys : List K) (first : K) → 0 < length xs → first ≡ get_or xs 0 first → Leads cmp xs ys → IsLeast cmp first ys
-  led [] ys first some e l = absurd (omega arith)
-  led (x ∷ xs) ys first some e l = subst (λ k. IsLeast cmp k ys) (sym e) l
-
-  -- The first of the run is a least key of all, where it leads.
-  pub first_of_all : (hs rs : List K) (first : K) → 0 < length rs → first ≡ get_or rs 0 first → IsAscending cmp rs → Leads cmp rs hs → IsLeast cmp first (hs ++ rs)
-  first_of_all hs rs first some e ascending l = All-append (λ k. is_lt (cmp k first) ≡ false) hs rs (led rs hs first some e l) (first_is_least rs first e ascending)
-
-  -- The heap's top is a least key of all, where it leads.
-  pub top_of_all : (hs : List (Reverse K)) (rs : List K) (top : Reverse K) → 0 < length hs → top ≡ get_or hs 0 top → IsLeast cmp top.0 (map (λ r. r.0) hs) → Leads cmp (map (λ r. r.0) hs) rs → IsLeast cmp top.0 (map (λ r. r.0) hs ++ rs)
-  top_of_all hs rs top some e l leads =
-      All-append (λ k. is_lt (cmp k top.0) ≡ false) (map (λ r. r.0) hs) rs l (led (map (λ r. r.0) hs) rs top.0 (omega (arith, length-map hs (λ r. r.0))) (first_of_keys hs top e) leads)
+  pub top_of_all : (hs rs : List K) (top : K) → IsLeast cmp top hs → Leads cmp hs rs → IsLeast cmp top (hs ++ rs)
+  top_of_all hs rs top least leads = All-append (λ k. is_lt (cmp k top) ≡ false) hs rs least (leads top least)

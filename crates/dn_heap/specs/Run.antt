@@ -1,5 +1,5 @@
 -- The run of a heap as a list of keys in ascending order.
-use Rattle.std.specs.Prelude.{◌≡◌, List, [], ◌∷◌}
+use Rattle.std.specs.Prelude.{List, [], ◌∷◌}
 use Rattle.std.specs.declared.cmp.Ordering.{Ordering}
 use Rattle.dn_heap.specs.Heap.{IsLeast}
 
@@ -8,7 +8,6 @@ abbrev pub IsAscending : {K : Type 0} → (K → K → Ordering) → List K → 
 IsAscending cmp [] = Unit {0}
 IsAscending cmp (key ∷ keys) = IsLeast cmp key keys × IsAscending cmp keys
 
--- No key of the others is less than the first of these. Where these are none, there are no others.
+-- What is a least key of these is one of the others too.
 abbrev pub Leads : {K : Type 0} → (K → K → Ordering) → List K → List K → Type 0
-Leads cmp [] others = others ≡ []
-Leads cmp (key ∷ keys) others = IsLeast cmp key others
+Leads {K} cmp keys others = (key : K) → IsLeast cmp key keys → IsLeast cmp key others

@@ -4,45 +4,33 @@ ghost use Rattle.std.specs.Fn.{FnReturnsAt};
 ghost use Rattle.std.specs.Ordering.{is_eq};
 
 use crate::keep::keep_where;
-use crate::remove::{holds, remove_one, remove_one_of_run, run_holds};
-use crate::run::{can_join, leads};
+use crate::remove::{holds, remove_one};
 use std::alloc::{AllocError, Global};
 use std::cmp::Reverse;
-use std::collections::{BinaryHeap, VecDeque};
+use std::collections::BinaryHeap;
 use std::marker::Model;
 
 /// A heap with the least key on top. Memory is taken by `reserve` alone: it makes room, each push
 /// uses one place of the room, and a key that leaves gives its place back.
 ///
 /// Keys that compare as equal are kept side by side, and leave in no promised order.
-///
-/// A heap made by `with_run` has a run beside the library's heap: a key that is not less than those of
-/// the run joins it at its end, and leaves it at its front. So keys that come in order, as the moments
-/// do of packets of one size, cost no sift there.
 #[derive(Drop)]
 pub struct MinHeap<K: Ord> {
     heap: BinaryHeap<Reverse<K>>,
-    /// Whether keys may join the run. Where they come in no order, looking at the run costs more than
-    /// it spares.
-    has_run: bool,
-    /// In ascending order.
-    run: VecDeque<K>,
     room: usize,
     moves: u64,
 }
 
 impl<K: Ord> Model for MinHeap<K> {
-    ghost use Rattle.std.specs.Prelude.{◌≡◌, ◌+◌, ◌≤◌, ◌++◌, map, true};
+    ghost use Rattle.std.specs.Prelude.{◌+◌, ◌≤◌, map};
     ghost use Rattle.std.specs.BinaryHeap.{IsHeap, heap_items, heap_len, heap_capacity};
-    ghost use Rattle.std.specs.VecDeque.{deque_capacity, deque_len};
     ghost use Rattle.dn_heap.specs.Heap.{Heap};
-    ghost use Rattle.dn_heap.specs.Run.{IsAscending};
 
     ghost Value = { Heap K };
 
-    ghost view = { λ h. record { keys = map (λ r. r.0) (heap_items h.heap) ++ h.run.items; room = h.room; moves = h.moves } };
+    ghost view = { λ h. record { keys = map (λ r. r.0) (heap_items h.heap); room = h.room; moves = h.moves } };
 
-    ghost invariant = { λ h. (heap_len h.heap + deque_len h.run + h.room ≤ heap_capacity h.heap) × IsHeap (λ x y. K.cmp y.0 x.0) (heap_items h.heap) × (h.has_run ≡ true → heap_len h.heap + deque_len h.run + h.room ≤ deque_capacity h.run) × IsAscending K.cmp h.run.items };
+    ghost invariant = { λ h. (heap_len h.heap + h.room ≤ heap_capacity h.heap) × IsHeap (λ x y. K.cmp y.0 x.0) (heap_items h.heap) };
 }
 
 impl<K: Ord> MinHeap<K> {
@@ -54,23 +42,6 @@ impl<K: Ord> MinHeap<K> {
     {
         MinHeap {
             heap: BinaryHeap::new(alloc),
-            has_run: false,
-            run: VecDeque::new(alloc),
-            room: 0,
-            moves: 0,
-        }
-    }
-
-    /// The same, for keys that mostly come in order. A place in its room takes the memory of two keys.
-    pub fn with_run(alloc: Global) -> Self
-        ensures empty { result.keys ≡ [] }
-        ensures no_room { result.room ≡ 0 }
-        ensures no_moves { result.moves ≡ 0 }
-    {
-        MinHeap {
-            heap: BinaryHeap::new(alloc),
-            has_run: true,
-            run: VecDeque::new(alloc),
             room: 0,
             moves: 0,
         }
@@ -88,11 +59,7 @@ impl<K: Ord> MinHeap<K> {
         if n <= self.room {
             return Ok(());
         }
-        // Each of the pushes may go to either.
-        self.heap.reserve(n.saturating_add(self.run.len()))?;
-        if self.has_run {
-            self.run.reserve(n.saturating_add(self.heap.len()))?;
-        }
+        self.heap.reserve(n)?;
         self.room = n;
         Ok(())
     }
@@ -115,11 +82,7 @@ impl<K: Ord> MinHeap<K> {
     {
         self.room -= 1;
         self.moves += 1;
-        if can_join(self.has_run, &self.run, &key) {
-            self.run.push_back_reserved(key);
-        } else {
-            self.heap.push(Reverse(key)).unwrap();
-        }
+        self.heap.push(Reverse(key)).unwrap();
     }
 
     /// A least key, which stays in.
@@ -128,9 +91,6 @@ impl<K: Ord> MinHeap<K> {
         ensures held { IfSome result (λ key. Contains self.now.keys key.now) }
         ensures least { IfSome result (λ key. IsLeast K.cmp key.now self.now.keys) }
     {
-        if leads(&self.run, &self.heap) {
-            return self.run.front();
-        }
         match self.heap.peek() {
             Some(Reverse(key)) => Some(key),
             None => None,
@@ -146,10 +106,6 @@ impl<K: Ord> MinHeap<K> {
         ensures keeps_moves { self.new.moves ≡ self.old.moves }
         ensures none { IfNone result (self.new ≡ self.old) }
     {
-        if leads(&self.run, &self.heap) {
-            self.room += 1;
-            return self.run.pop_front();
-        }
         let Some(Reverse(top)) = self.heap.pop() else {
             return None;
         };
@@ -168,11 +124,6 @@ impl<K: Ord> MinHeap<K> {
         ensures absent { result ≡ false → All (λ k. is_eq (K.cmp k key.now) ≡ false) self.old.keys }
         ensures unchanged { result ≡ false → self.new ≡ self.old }
     {
-        if run_holds(&self.run, key) {
-            remove_one_of_run(&mut self.run, key);
-            self.room += 1;
-            return true;
-        }
         if !holds(&self.heap, key) {
             return false;
         }
@@ -191,23 +142,38 @@ impl<K: Ord> MinHeap<K> {
         ensures room { length self.new.keys + self.new.room ≡ length self.old.keys + self.old.room }
         ensures keeps_moves { self.new.moves ≡ self.old.moves }
     {
-        let before = self.len();
-        keep_where(&mut self.heap, &mut self.run, keep);
-        self.room += before - (self.heap.len() + self.run.len());
+        self.let_go(keep);
+    }
+
+    /// What `retain` does. It answers how many keys it let go of.
+    pub(crate) fn let_go<F: Fn(&K) -> bool>(&mut self, keep: F) -> usize
+    where
+        K: Drop,
+        requires { F.IsAlwaysCallable keep }
+        ensures kept { (test : K → Bool) → ((key : K) (answer : Bool) → FnReturnsAt F.Fn keep key answer → answer ≡ test key) → IsPermutation (filter test self.old.keys) self.new.keys }
+        ensures len { length self.new.keys + result ≡ length self.old.keys }
+        ensures room { self.new.room ≡ self.old.room + result }
+        ensures keeps_moves { self.new.moves ≡ self.old.moves }
+    {
+        let before = self.heap.len();
+        keep_where(&mut self.heap, keep);
+        let gone = before - self.heap.len();
+        self.room += gone;
+        gone
     }
 
     /// How many keys are in.
     pub fn len(&self) -> usize
         ensures value { result ≡ length self.now.keys }
     {
-        self.heap.len() + self.run.len()
+        self.heap.len()
     }
 
     /// Whether no key is in.
     pub fn is_empty(&self) -> bool
         ensures value { result ≡ (length self.now.keys == 0) }
     {
-        self.heap.is_empty() && self.run.is_empty()
+        self.heap.is_empty()
     }
 
     /// How many pushes there have been.

@@ -1,13 +1,11 @@
-//! The removal of one key from the library's heap or from the run, which have no call for it.
+//! The removal of one key from the library's heap, which has no call for it.
 ghost use Rattle.std.specs.Prelude.{◌≡◌, ◌+◌, ◌∷◌, true, IsPermutation};
 ghost use Rattle.std.specs.BinaryHeap.{IsHeap, heap_capacity, heap_items, heap_len};
 ghost use Rattle.std.specs.List.{list_any};
 ghost use Rattle.std.specs.Ordering.{is_eq};
-ghost use Rattle.std.specs.VecDeque.{deque_capacity, deque_len};
-ghost use Rattle.dn_heap.specs.Run.{IsAscending};
 
 use std::cmp::Reverse;
-use std::collections::{BinaryHeap, VecDeque};
+use std::collections::BinaryHeap;
 
 pub(crate) fn holds<K: Ord>(heap: &BinaryHeap<Reverse<K>>, key: &K) -> bool
     ensures value { result ≡ list_any (λ r. is_eq (K.cmp r.0 key.now)) (heap_items heap.now) }
@@ -26,31 +24,6 @@ pub(crate) fn remove_one<K: Ord + Drop>(heap: &mut BinaryHeap<Reverse<K>>, key: 
     let mut removed = false;
     heap.retain(|held| {
         if !removed && held.0.cmp(key).is_eq() {
-            removed = true;
-            false
-        } else {
-            true
-        }
-    });
-}
-
-pub(crate) fn run_holds<K: Ord>(run: &VecDeque<K>, key: &K) -> bool
-    ensures value { result ≡ list_any (λ k. is_eq (K.cmp k key.now)) run.now.items }
-{
-    run.iter().any(|held| held.cmp(key).is_eq())
-}
-
-pub(crate) fn remove_one_of_run<K: Ord + Drop>(run: &mut VecDeque<K>, key: &K)
-    requires held { list_any (λ k. is_eq (K.cmp k key.now)) run.old.items ≡ true }
-    requires in_order { IsAscending K.cmp run.old.items }
-    ensures removed { (k : _) × (is_eq (K.cmp k key.now) ≡ true) × IsPermutation run.old.items (k ∷ run.new.items) }
-    ensures ascending { IsAscending K.cmp run.new.items }
-    ensures len { deque_len run.new + 1 ≡ deque_len run.old }
-    ensures capacity { deque_capacity run.new ≡ deque_capacity run.old }
-{
-    let mut removed = false;
-    run.retain(|held| {
-        if !removed && held.cmp(key).is_eq() {
             removed = true;
             false
         } else {

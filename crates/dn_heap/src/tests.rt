@@ -1,4 +1,4 @@
-use crate::MinHeap;
+use crate::{MinHeap, RunHeap};
 use std::alloc::{AllocError, Global};
 use std::test::Fail;
 
@@ -68,58 +68,6 @@ fn takes_one_of_equal_keys(rt: HostRuntime) -> Result<(), Fail> {
     Ok(())
 }
 
-/// Keys that come in order and keys that come out of it leave in one order.
-#[test]
-fn keys_in_and_out_of_order(rt: HostRuntime) -> Result<(), Fail> {
-    let mut heap: MinHeap<u32> = MinHeap::with_run(rt.alloc());
-    if heap.reserve(7).is_err() {
-        assert_eq!(rt; (heap.len(), heap.room(), heap.moves()), (0, 0, 0));
-        heap.reserve(7)?;
-    }
-    heap.push_reserved(10);
-    heap.push_reserved(20);
-    heap.push_reserved(15);
-    heap.push_reserved(30);
-    heap.push_reserved(5);
-    heap.push_reserved(20);
-    assert_eq!(rt; heap.peek(), Some(&5));
-    assert!(rt; heap.take_out(&15));
-    assert!(rt; heap.take_out(&20));
-    assert!(rt; !heap.take_out(&15));
-    assert_eq!(rt; (heap.len(), heap.room(), heap.moves()), (4, 3, 6));
-    assert_eq!(rt; heap.pop(), Some(5));
-    assert_eq!(rt; heap.pop(), Some(10));
-    assert_eq!(rt; heap.peek(), Some(&20));
-    heap.push_reserved(25);
-    assert_eq!(rt; heap.pop(), Some(20));
-    assert_eq!(rt; heap.pop(), Some(25));
-    assert_eq!(rt; heap.pop(), Some(30));
-    assert_eq!(rt; heap.pop(), None);
-    assert_eq!(rt; (heap.moves(), heap.room()), (7, 7));
-    Ok(())
-}
-
-#[test]
-fn retains_in_and_out_of_order(rt: HostRuntime) -> Result<(), Fail> {
-    let mut heap: MinHeap<u32> = MinHeap::with_run(rt.alloc());
-    if heap.reserve(5).is_err() {
-        heap.reserve(5)?;
-    }
-    heap.push_reserved(2);
-    heap.push_reserved(6);
-    heap.push_reserved(4);
-    heap.push_reserved(8);
-    heap.push_reserved(6);
-    heap.retain(|key| *key != 6);
-    assert_eq!(rt; (heap.len(), heap.room(), heap.peek()), (3, 2, Some(&2)));
-    heap.retain(|key| *key != 2);
-    assert_eq!(rt; (heap.len(), heap.room(), heap.moves()), (2, 3, 5));
-    assert_eq!(rt; heap.pop(), Some(4));
-    assert_eq!(rt; heap.pop(), Some(8));
-    assert!(rt; heap.is_empty());
-    Ok(())
-}
-
 #[test]
 fn retains_what_passes(rt: HostRuntime) -> Result<(), Fail> {
     let mut heap: MinHeap<u32> = MinHeap::new(rt.alloc());
@@ -157,5 +105,63 @@ fn retains_all_or_none(rt: HostRuntime) -> Result<(), Fail> {
     assert_eq!(rt; (heap.len(), heap.room(), heap.peek()), (2, 0, Some(&1)));
     heap.retain(|_| false);
     assert_eq!(rt; (heap.len(), heap.room(), heap.peek()), (0, 2, None));
+    Ok(())
+}
+
+/// Keys that come in order and keys that come out of it leave in one order.
+#[test]
+fn keys_in_and_out_of_order(rt: HostRuntime) -> Result<(), Fail> {
+    let mut heap: RunHeap<u32> = RunHeap::new(rt.alloc());
+    if heap.reserve(4).is_err() {
+        assert_eq!(rt; (heap.len(), heap.room(), heap.moves()), (0, 0, 0));
+        heap.reserve(4)?;
+    }
+    heap.push_reserved(10);
+    heap.push_reserved(20);
+    heap.push_reserved(15);
+    heap.push_reserved(30);
+    if heap.reserve(3).is_err() {
+        assert_eq!(rt; (heap.len(), heap.room(), heap.moves()), (4, 0, 4));
+        assert_eq!(rt; heap.peek(), Some(&10));
+        heap.reserve(3)?;
+    }
+    heap.push_reserved(5);
+    heap.push_reserved(20);
+    assert_eq!(rt; heap.peek(), Some(&5));
+    assert_eq!(rt; (heap.len(), heap.room(), heap.moves()), (6, 1, 6));
+    assert_eq!(rt; heap.pop(), Some(5));
+    assert_eq!(rt; heap.pop(), Some(10));
+    assert_eq!(rt; heap.pop(), Some(15));
+    assert_eq!(rt; heap.peek(), Some(&20));
+    heap.push_reserved(25);
+    assert_eq!(rt; heap.pop(), Some(20));
+    assert_eq!(rt; heap.pop(), Some(20));
+    assert_eq!(rt; heap.pop(), Some(25));
+    assert_eq!(rt; heap.pop(), Some(30));
+    assert_eq!(rt; heap.pop(), None);
+    assert_eq!(rt; (heap.moves(), heap.room()), (7, 7));
+    Ok(())
+}
+
+#[test]
+fn retains_in_and_out_of_order(rt: HostRuntime) -> Result<(), Fail> {
+    let mut heap: RunHeap<u32> = RunHeap::new(rt.alloc());
+    if heap.reserve(5).is_err() {
+        assert_eq!(rt; (heap.len(), heap.room(), heap.moves()), (0, 0, 0));
+        heap.reserve(5)?;
+    }
+    heap.push_reserved(2);
+    heap.push_reserved(6);
+    heap.push_reserved(4);
+    heap.push_reserved(8);
+    heap.push_reserved(6);
+    // One of the equal keys is in the run, the other in the heap beside it.
+    heap.retain(|key| *key != 6);
+    assert_eq!(rt; (heap.len(), heap.room(), heap.peek()), (3, 2, Some(&2)));
+    heap.retain(|key| *key != 2);
+    assert_eq!(rt; (heap.len(), heap.room(), heap.moves()), (2, 3, 5));
+    assert_eq!(rt; heap.pop(), Some(4));
+    assert_eq!(rt; heap.pop(), Some(8));
+    assert_eq!(rt; (heap.pop(), heap.room()), (None, 5));
     Ok(())
 }

@@ -2,7 +2,7 @@ ghost use Rattle.std.specs.Prelude.{◌≡◌, ◌+◌, ◌<◌, ◌≤◌, ◌^
 ghost use Rattle.dn_types.specs.Deliveries.{in_order};
 ghost use Rattle.dn_link.specs.Line.{all_in_order, due_first, after_due};
 
-use dn_heap::MinHeap;
+use dn_heap::RunHeap;
 use dn_types::Delivery;
 use std::alloc::{AllocError, Global};
 use std::marker::Model;
@@ -11,7 +11,7 @@ use std::marker::Model;
 /// list in the order in which they are given, by due moment and then by packet number.
 #[derive(Drop)]
 pub struct DelayLine {
-    heap: MinHeap<Delivery>,
+    heap: RunHeap<Delivery>,
 }
 
 impl Model for DelayLine {
@@ -30,7 +30,7 @@ impl DelayLine {
         ensures pushed { result.pushed ≡ 0 }
     {
         DelayLine {
-            heap: MinHeap::with_run(alloc),
+            heap: RunHeap::new(alloc),
         }
     }
 
@@ -98,7 +98,7 @@ impl DelayLine {
 
 /// Whether the first of the packets is due.
 #[tactic(auto, using(crate::proofs::InOrder::first_is_due))]
-fn is_due(heap: &MinHeap<Delivery>, at: u64) -> bool
+fn is_due(heap: &RunHeap<Delivery>, at: u64) -> bool
     ensures { result ≡ is_some (due_first at (all_in_order heap.now.keys)) }
 {
     match heap.peek() {

@@ -10,14 +10,14 @@ use crate::configured::Configured;
 use crate::next_start::NextStart;
 use crate::parts::Parts;
 use crate::start::start_next;
-use dn_heap::MinHeap;
+use dn_heap::RunHeap;
 use dn_types::{Len, Weight};
 
 /// Accepts a packet of the flow after a settling, in the room that was reserved, and answers its
 /// number. It starts at once where its link is idle.
 pub fn accept(
     parts: &mut Parts,
-    heap: &mut MinHeap<NextStart>,
+    heap: &mut RunHeap<NextStart>,
     configured: &Configured,
     flow: usize,
     len: Len,

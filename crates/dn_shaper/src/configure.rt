@@ -15,7 +15,7 @@ use crate::discard::{discard_flow, forget_emptied};
 use crate::next_start::NextStart;
 use crate::parts::Parts;
 use crate::state::State;
-use dn_heap::MinHeap;
+use dn_heap::RunHeap;
 use dn_types::{Command, FlowKey, Reply, Target};
 use std::alloc::AllocError;
 
@@ -49,7 +49,7 @@ fn discard_flows(parts: &mut Parts, command: &Command)
 
 /// Discards the packets of all flows that the delete reaches. The links that this empties leave the
 /// heap together, so that a delete costs one pass over it and not one for each of them.
-fn discard_reached(parts: &mut Parts, heap: &mut MinHeap<NextStart>, command: &Command)
+fn discard_reached(parts: &mut Parts, heap: &mut RunHeap<NextStart>, command: &Command)
     requires kept { IsKept parts.old heap.old }
     ensures discards { DiscardsReached command.now parts.old parts.new }
     ensures kept { IsKept parts.new heap.new }

@@ -9,7 +9,7 @@ ghost use Rattle.dn_shaper.specs.Views.{LinkView, next_starts, view_of, views_of
 
 use crate::next_start::NextStart;
 use crate::parts::{Carries, Home, LinkParts, Parts};
-use dn_heap::MinHeap;
+use dn_heap::RunHeap;
 
 /// The packets at the slot, so many, no longer wait for the link.
 fn leave_link(link: &mut LinkParts, slot: usize, count: usize)
@@ -65,7 +65,7 @@ fn has_backlog(parts: &Parts, place: usize) -> bool
 }
 
 /// Lets go of each link for which no packet waits any more, in one pass over the heap.
-pub fn forget_emptied(heap: &mut MinHeap<NextStart>, parts: &Parts)
+pub fn forget_emptied(heap: &mut RunHeap<NextStart>, parts: &Parts)
     ensures keys { IsPermutation (filter (is_backlogged (next_starts (views_of parts.now))) heap.old.keys) heap.new.keys }
     ensures room { length heap.new.keys + heap.new.room ≡ length heap.old.keys + heap.old.room }
     ensures keeps_moves { heap.new.moves ≡ heap.old.moves }

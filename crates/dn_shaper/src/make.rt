@@ -12,7 +12,7 @@ use crate::next_start::NextStart;
 use crate::parts::{Carries, Home, LinkParts, SharedLink};
 use crate::shared_places::SharedPlaces;
 use crate::state::State;
-use dn_heap::MinHeap;
+use dn_heap::RunHeap;
 use dn_link::Link;
 use dn_types::{FlowKey, Target};
 use std::alloc::{AllocError, Global};
@@ -64,7 +64,7 @@ fn new_link(alloc: Global, key: &FlowKey, flow: usize) -> Result<LinkParts, Allo
 /// A new flow gets its home on a link that is made for it at the end.
 fn make_link(
     links: &mut Vec<LinkParts>,
-    heap: &mut MinHeap<NextStart>,
+    heap: &mut RunHeap<NextStart>,
     shared: &mut SharedPlaces,
     alloc: Global,
     key: &FlowKey,
@@ -89,7 +89,7 @@ fn make_link(
 /// on one that is made.
 fn find_home(
     links: &mut Vec<LinkParts>,
-    heap: &mut MinHeap<NextStart>,
+    heap: &mut RunHeap<NextStart>,
     shared: &mut SharedPlaces,
     alloc: Global,
     key: &FlowKey,

@@ -6,12 +6,12 @@ use crate::configured::Configured;
 use crate::next_start::NextStart;
 use crate::parts::Parts;
 use crate::start::start_next;
-use dn_heap::MinHeap;
+use dn_heap::RunHeap;
 
 /// Starts the packet that is next in time, where it starts by the moment.
 fn settle_one(
     parts: &mut Parts,
-    heap: &mut MinHeap<NextStart>,
+    heap: &mut RunHeap<NextStart>,
     configured: &Configured,
     at: u64,
 ) -> bool
@@ -44,7 +44,7 @@ fn settle_one(
 
 /// Starts all packets that start up to the moment, in order of time. It costs the starts that are
 /// due, and not the links that there are.
-pub fn settle(parts: &mut Parts, heap: &mut MinHeap<NextStart>, configured: &Configured, at: u64)
+pub fn settle(parts: &mut Parts, heap: &mut RunHeap<NextStart>, configured: &Configured, at: u64)
     requires kept { IsKept parts.old heap.old }
     requires early { at ≤ 2 ^ 62 }
     requires moves { heap.old.moves + parts.old.waiting ≤ 2 ^ 63 }

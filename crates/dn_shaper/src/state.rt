@@ -6,7 +6,7 @@ use crate::next_start::NextStart;
 use crate::parts::Parts;
 use crate::shared_places::SharedPlaces;
 use dn_flows::Flows;
-use dn_heap::MinHeap;
+use dn_heap::RunHeap;
 use dn_link::DelayLine;
 use dn_types::Rule;
 use std::alloc::Global;
@@ -16,7 +16,7 @@ use std::alloc::Global;
 #[derive(Drop)]
 pub struct State {
     pub parts: Parts,
-    pub heap: MinHeap<NextStart>,
+    pub heap: RunHeap<NextStart>,
     pub shared: SharedPlaces,
     pub configured: Configured,
     pub now: u64,
@@ -38,7 +38,7 @@ pub fn new_state(alloc: Global, rule: Rule) -> State
             waiting: 0,
             line: DelayLine::new(alloc),
         },
-        heap: MinHeap::with_run(alloc),
+        heap: RunHeap::new(alloc),
         shared: SharedPlaces::new(alloc),
         configured: Configured::new(alloc),
         now: 0,

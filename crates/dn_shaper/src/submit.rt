@@ -15,7 +15,7 @@ use crate::parts::Parts;
 use crate::settle::settle;
 use crate::treatment::Treatment;
 use dn_flows::Verdict;
-use dn_heap::MinHeap;
+use dn_heap::RunHeap;
 use dn_types::{Packet, Reply};
 
 /// A packet of the flow is lost by the loss rate.
@@ -49,7 +49,7 @@ fn refuse(parts: &mut Parts, flow: usize)
 /// Settles, and then loses, refuses or accepts a packet of the flow in the room that was reserved.
 pub fn submit(
     parts: &mut Parts,
-    heap: &mut MinHeap<NextStart>,
+    heap: &mut RunHeap<NextStart>,
     configured: &Configured,
     flow: usize,
     packet: &Packet,

@@ -2,7 +2,7 @@
 //! to standard output, and the times to standard error.
 #![tactic(auto)]
 
-use dn_heap::MinHeap;
+use dn_heap::RunHeap;
 use dn_link::DelayLine;
 use dn_types::Delivery;
 use std::io;
@@ -15,14 +15,14 @@ fn next(seed: u64) -> u64 {
 }
 
 /// Puts a key of the size of a link's into the heap.
-fn put(heap: &mut MinHeap<u128>, key: u128) {
+fn put(heap: &mut RunHeap<u128>, key: u128) {
     if heap.reserve(1).is_ok() && heap.moves() < 1 << 62 {
         heap.push_reserved(key);
     }
 }
 
 /// So many keys from the seed on.
-fn fill(heap: &mut MinHeap<u128>, keys: u64) {
+fn fill(heap: &mut RunHeap<u128>, keys: u64) {
     let mut seed = 1;
     for _ in 0..keys {
         seed = next(seed);
@@ -32,7 +32,7 @@ fn fill(heap: &mut MinHeap<u128>, keys: u64) {
 
 /// Takes the least key out and puts a later one in, so many times, as a settling does. It answers
 /// how many were taken out.
-fn turn(heap: &mut MinHeap<u128>, times: u64) -> u64 {
+fn turn(heap: &mut RunHeap<u128>, times: u64) -> u64 {
     let mut taken = 0u64;
     let mut seed = 1;
     for _ in 0..times {
@@ -87,7 +87,7 @@ fn tell(rt: &HostRuntime, name: &str, size: u64, count: u64, start: &Instant) ->
 }
 
 fn measure_heap(rt: &HostRuntime, keys: u64, times: u64) -> io::Result<()> {
-    let mut heap = MinHeap::with_run(rt.alloc());
+    let mut heap = RunHeap::new(rt.alloc());
     fill(&mut heap, keys);
     let start = Instant::now(rt)?;
     let taken = turn(&mut heap, times);

@@ -1,6 +1,5 @@
 use Rattle.std.proofs.Common.{rules, sym}
 use Rattle.std.proofs.lemmas.Fn.{filter_same}
-use Rattle.dn_heap.proofs.Runs.{thinned}
 use Rattle.dn_heap.proofs.keep.keep_where.Goals as goal
 
 pub returns-clause-kept : goal.returns-clause-kept
@@ -8,10 +7,3 @@ returns-clause-kept g c = λ test says.
     let r = c.retain.ensures.filtered in
     let kept = filter_same _ (λ x. test x.0) _ (λ x b f k. (says x.0 b (search rules), search rules)) _ _ r.1 in
     rw (sym kept) r.2
-
-pub returns-clause-kept_in_run : goal.returns-clause-kept_in_run
-returns-clause-kept_in_run g c = λ test says.
-    filter_same _ test _ (λ x b f k. (says x b (search rules), search rules)) _ _ c.retain-2.ensures.filtered
-
-pub returns-clause-ascending : goal.returns-clause-ascending
-returns-clause-ascending g c = let r = c.retain-2.ensures.filtered in rw r.4 (thinned g.met.K.Ord.total r.0 _ c.requires.in_order)

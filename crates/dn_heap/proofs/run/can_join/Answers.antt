@@ -1,6 +1,13 @@
-use Rattle.std.proofs.Common.{rules, arith, refl}
-use Rattle.dn_heap.proofs.Runs.{none_greater}
+use Rattle.std.proofs.Common.{arith, refl, sym, ap, ◌∙◌}
+use Rattle.std.specs.Ordering.{is_lt}
+use Rattle.dn_heap.proofs.Runs.{at_least, none_greater}
 use Rattle.dn_heap.proofs.run.can_join.Goals as goal
 
-pub returns-in-Some-clause-in_order : goal.returns-in-Some-clause-in_order
-returns-in-Some-clause-in_order g c = λ e. none_greater g.met.K.Ord.total _ _ _ _ (omega (arith, c.in-Some.ensures.variant.0 refl, c.args.run.now.ok.0)) c.in-Some.ensures.lookup (search rules) c.requires
+pub returns-in-Some : goal.returns-in-Some
+returns-in-Some g c =
+    let last = c.in-Some.ensures in
+    record {
+      in_order = λ e.
+          let not_less = ap is_lt (sym c.cmp.ensures) ∙ at_least _ (sym c.is_ge.ensures ∙ e) in
+          none_greater g.met.K.Ord.total _ _ _ _ (omega (arith, last.variant.0 refl, c.args.run.now.ok.0)) last.lookup not_less c.requires;
+    }

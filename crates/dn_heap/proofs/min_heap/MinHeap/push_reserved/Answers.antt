@@ -1,26 +1,7 @@
-use Rattle.std.proofs.Common.{arith, refl, sym, subst}
-use Rattle.dn_heap.specs.Run.{IsAscending}
 use Rattle.dn_heap.proofs.Keys.{keys_permuted}
-use Rattle.dn_heap.proofs.Parted.{joins_heap, joins_run}
-use Rattle.dn_heap.proofs.Runs.{joined}
 use Rattle.dn_heap.proofs.min_heap.MinHeap.push_reserved.Goals as goal
 
-pub invariant_of-self : goal.invariant_of-self
-invariant_of-self g c =
-    let before = c.self.invariant in
-    let some = rw (← c.self.view_is) at c.requires.reserved in
-    let pushed = c.push_back_reserved.ensures in
-    let ascending = joined g.met.K.Ord.total c.self.inside.run.items c.args.key before.3 (c.if-can_join.ensures.in_order refl) in (
-      omega (arith, before.0, pushed.len, some),
-      before.1,
-      λ e. omega (arith, before.2 e, pushed.len, pushed.capacity, some),
-      subst (IsAscending g.K.Ord.cmp) (sym pushed.items) ascending,
-    )
-
-pub returns-then-can_join-clause-keys : goal.returns-then-can_join-clause-keys
-returns-then-can_join-clause-keys g c = rw (← c.self.view_is, c.push_back_reserved.ensures.items) (joins_run c.args.key _ _)
-
-pub returns-else-can_join-clause-keys : goal.returns-else-can_join-clause-keys
-returns-else-can_join-clause-keys g c =
+pub returns-clause-keys : goal.returns-clause-keys
+returns-clause-keys g c =
     let permuted = rw c.unwrap.ensures at c.push.ensures.permutation in
-    rw (← c.self.view_is) (joins_heap c.args.key _ _ _ (keys_permuted _ _ permuted))
+    rw (← c.self.view_is) (keys_permuted _ _ permuted)
