@@ -22,8 +22,8 @@ import sys
 HEAP = "heap_of_links"
 # The functions of dn_shaper that call a function of a crate below, by file.
 CALLERS = {
-    f"{HEAP} min_heap": {
-        "with_run": ["state::new_state"],
+    f"{HEAP} run_heap": {
+        "new": ["state::new_state"],
         "reserve": ["make::make_link"],
         "push_reserved": ["accept::accept", "settle::settle_one"],
         "peek": ["settle::settle_one"],
