@@ -95,6 +95,9 @@ def clauses(copy):
         for place, line in enumerate(path.read_text().split("\n")):
             if match := FUNCTION.match(line):
                 function, number = match[1], 0
+            elif line.strip() == "{":
+                # What a body says of its closures is no clause of the function.
+                function = ""
             match = CLAUSE.match(line)
             if match and function in functions:
                 yield number, Clause(path, function, match[2] or "ensures", place, functions[function])

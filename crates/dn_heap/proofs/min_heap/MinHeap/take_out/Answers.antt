@@ -1,4 +1,4 @@
-use Rattle.std.proofs.Common.{sym, arith}
+use Rattle.std.proofs.Common.{refl, sym, arith}
 use Rattle.std.specs.Ordering.{is_eq}
 use Rattle.dn_heap.proofs.Keys.{keys_permuted, none_passes}
 use Rattle.dn_heap.proofs.min_heap.MinHeap.take_out.Goals as goal
@@ -11,3 +11,6 @@ invariant_of-self g c = (omega (arith, c.remove_one.ensures.len, c.remove_one.en
 
 pub returns-clause-taken : goal.returns-clause-taken
 returns-clause-taken g c = λ e. let t = c.remove_one.ensures.removed in rw (← c.self.view_is) (t.0.0, t.1, keys_permuted _ _ t.2)
+
+pub returns-clause-keeps_moves : goal.returns-clause-keeps_moves
+returns-clause-keeps_moves g c = rw (← c.self.view_is) refl
