@@ -19,7 +19,7 @@ module _ {K : Type 0} where
   pub leaves_heap : (key : K) (hs hs' rs : List K) → IsPermutation hs (key ∷ hs') → IsPermutation (hs ++ rs) (key ∷ (hs' ++ rs))
   leaves_heap key hs hs' rs p = IsPermutation-append hs (key ∷ hs') rs rs p (IsPermutation-refl rs)
 
-  pub leaves_run : (key : K) (hs rs rs' : List K) → IsPermutation rs (key ∷ rs') → IsPermutation (hs ++ rs) (key ∷ (hs ++ rs'))
+  leaves_run : (key : K) (hs rs rs' : List K) → IsPermutation rs (key ∷ rs') → IsPermutation (hs ++ rs) (key ∷ (hs ++ rs'))
   leaves_run key hs rs rs' p =
       IsPermutation-trans (hs ++ rs) (hs ++ key ∷ rs') (key ∷ (hs ++ rs')) (IsPermutation-append hs hs rs (key ∷ rs') (IsPermutation-refl hs) p) (IsPermutation-middle hs key rs')
 

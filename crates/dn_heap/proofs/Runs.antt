@@ -1,5 +1,5 @@
 -- What keeps a run in ascending order, and which key of a heap and its run is a least one.
-use Rattle.std.proofs.Common.{◌≡◌, ℕ, zero, suc, drop, ◌+◌, ◌<◌, Bool, true, false, List, [], ◌∷◌, ◌++◌, length, get_or, refl, sym, subst, All, Contains, arith}
+use Rattle.std.proofs.Common.{◌≡◌, ℕ, zero, suc, ◌+◌, ◌<◌, Bool, true, false, List, [], ◌∷◌, ◌++◌, length, get_or, refl, sym, subst, All, Contains, arith}
 use Rattle.std.specs.Cmp.{IsTotalOrder, IsStrictWeakOrder}
 use Rattle.std.specs.List.{items_where_true}
 use Rattle.std.specs.declared.cmp.Ordering.{Ordering}
@@ -66,10 +66,6 @@ module _ {K : Type 0} {cmp : K → K → Ordering} (order : IsTotalOrder cmp) wh
   thinned (true ∷ bs) (x ∷ xs) ascending = (All_where_true (λ k. is_lt (cmp k x) ≡ false) bs xs ascending.0, thinned bs xs ascending.1)
   thinned (false ∷ bs) (x ∷ xs) ascending = thinned bs xs ascending.1
 
-  pub rest : (xs : List K) → IsAscending cmp xs → IsAscending cmp (drop 1 xs)
-  rest [] ascending = tt
-  rest (x ∷ xs) ascending = ascending.1
-
   -- The run leads, where its first key is less than a least key of the heap.
   pub run_leads : (rs hs : List K) (first top : K) → 0 < length rs → first ≡ get_or rs 0 first → is_lt (cmp first top) ≡ true → IsLeast cmp top hs → Leads cmp rs hs
   run_leads [] hs first top some e less l = absurd (omega arith)
@@ -81,7 +77,7 @@ module _ {K : Type 0} {cmp : K → K → Ordering} (order : IsTotalOrder cmp) wh
   heap_leads rs hs first top e not_less held ascending =
       λ key least. under rs first key (strict.chain first top key not_less (All-contains (λ k. is_lt (cmp k key) ≡ false) hs top least held)) (first_is_least rs first e ascending)
 
-  -- What is least of the ones that lead is least of all.
+  -- What is least of the keys that lead is least of all.
   pub first_of_all : (hs rs : List K) (first : K) → first ≡ get_or rs 0 first → IsAscending cmp rs → Leads cmp rs hs → IsLeast cmp first (hs ++ rs)
   first_of_all hs rs first e ascending leads =
       let least = first_is_least rs first e ascending in
