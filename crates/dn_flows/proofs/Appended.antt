@@ -2,15 +2,14 @@
 use Rattle.std.proofs.Common.{◌≡◌, ◌≢◌, ◌∙◌, ◌⊎◌, ℕ, zero, suc, ◌+◌, cond, nat_eq, List, [], ◌∷◌, ◌++◌, refl, ap, sym, subst, arith, inl, inr}
 use Rattle.std.specs.Prelude.{Some}
 use Rattle.std.specs.Option.{option_map}
-use Rattle.slab.specs.Slab.{Slab, get}
+use Rattle.dn_flows.specs.Packets.{Packets, StoredPacket, get, with_next}
 use Rattle.dn_flows.specs.declared.flow_queue.FlowQueue.{FlowQueue}
-use Rattle.dn_flows.specs.declared.stored.Stored.{Stored}
 use Rattle.dn_flows.specs.declared.waiting.Waiting.{Waiting}
 use Rattle.dn_flows.proofs.Places.{eq-yes, eq-no}
-use Rattle.dn_flows.specs.Store.{IsChain, IsQueue, Appends, stored_or, waiting_from, key_after, with_next}
+use Rattle.dn_flows.specs.Store.{IsChain, IsQueue, Appends, stored_or, waiting_from, key_after}
 use Rattle.dn_flows.proofs.Chains.{Stay, chain-end, not-free}
 
-module _ (owner behind : ℕ → ℕ) (old new : Slab Stored) (w : Waiting) (q q' : FlowQueue) (flow : ℕ) (a : Appends w old q new q') (is : IsQueue owner behind old flow q) where
+module _ (owner behind : ℕ → ℕ) (old new : Packets) (w : Waiting) (q q' : FlowQueue) (flow : ℕ) (a : Appends w old q new q') (is : IsQueue owner behind old flow q) where
   -- The packet is the flow's own, and each of the flow's others has one more behind it.
   abbrev pub owner-appended : ℕ → ℕ
   owner-appended key = cond (nat_eq key a.key) flow (owner key)
@@ -44,13 +43,13 @@ module _ (owner behind : ℕ → ℕ) (old new : Slab Stored) (w : Waiting) (q q
     last : key_after new key (suc n) ≡ a.key
 
   single : IsChain owner-appended behind-appended new flow a.key 1 × (waiting_from new a.key 1 ≡ w ∷ [])
-  single = ((record { waiting = w; next = a.next }, a.put, owner-of-new, behind-of-new, tt), ap (λ (s : Stored). s.waiting ∷ []) (ap stored_or a.put))
+  single = ((record { waiting = w; next = a.next }, a.put, owner-of-new, behind-of-new, tt), ap (λ (s : StoredPacket). s.waiting ∷ []) (ap stored_or a.put))
 
   longer : (key n m : ℕ) → q.len ≡ suc m → IsChain owner behind old flow key (suc n) → key_after old key n ≡ q.back → Longer key n
   longer key zero m some c at_back = record {
     chain = (record { waiting = (c.0).waiting; next = a.key }, now, owner-of-other key fresh ∙ c.2, behind-of-own key fresh c.2 ∙ ap suc c.3, single.0);
-    waiting = ap (λ (s : Stored). s.waiting ∷ waiting_from new s.next 1) (ap stored_or now) ∙ ap (λ (ws : List Waiting). (c.0).waiting ∷ ws) single.1 ∙ sym (ap (λ (s : Stored). s.waiting ∷ w ∷ []) (ap stored_or c.1));
-    last = ap (λ (s : Stored). s.next) (ap stored_or now);
+    waiting = ap (λ (s : StoredPacket). s.waiting ∷ waiting_from new s.next 1) (ap stored_or now) ∙ ap (λ (ws : List Waiting). (c.0).waiting ∷ ws) single.1 ∙ sym (ap (λ (s : StoredPacket). s.waiting ∷ w ∷ []) (ap stored_or c.1));
+    last = ap (λ (s : StoredPacket). s.next) (ap stored_or now);
   }
     where
       fresh : key ≡ a.key → ⊥
@@ -64,7 +63,7 @@ module _ (owner behind : ℕ → ℕ) (old new : Slab Stored) (w : Waiting) (q q
       fresh = not-free old a.key key c.0 a.free c.1
 
       before : key_after old (c.0).next n ≡ q.back
-      before = sym (ap (λ (s : Stored). key_after old s.next n) (ap stored_or c.1)) ∙ at_back
+      before = sym (ap (λ (s : StoredPacket). key_after old s.next n) (ap stored_or c.1)) ∙ at_back
 
       not_last : key ≡ q.back → ⊥
       not_last e =
@@ -79,8 +78,8 @@ module _ (owner behind : ℕ → ℕ) (old new : Slab Stored) (w : Waiting) (q q
       step : (key_after old (c.0).next n ≡ q.back → Longer (c.0).next n) → Longer key (suc n)
       step next = record {
         chain = (c.0, now, owner-of-other key fresh ∙ c.2, behind-of-own key fresh c.2 ∙ ap suc c.3, rest.chain);
-        waiting = ap (λ (s : Stored). s.waiting ∷ waiting_from new s.next (suc (suc n))) (ap stored_or now) ∙ ap (λ (ws : List Waiting). (c.0).waiting ∷ ws) rest.waiting ∙ sym (ap (λ (s : Stored). s.waiting ∷ waiting_from old s.next (suc n) ++ w ∷ []) (ap stored_or c.1));
-        last = ap (λ (s : Stored). key_after new s.next (suc n)) (ap stored_or now) ∙ rest.last;
+        waiting = ap (λ (s : StoredPacket). s.waiting ∷ waiting_from new s.next (suc (suc n))) (ap stored_or now) ∙ ap (λ (ws : List Waiting). (c.0).waiting ∷ ws) rest.waiting ∙ sym (ap (λ (s : StoredPacket). s.waiting ∷ waiting_from old s.next (suc n) ++ w ∷ []) (ap stored_or c.1));
+        last = ap (λ (s : StoredPacket). key_after new s.next (suc n)) (ap stored_or now) ∙ rest.last;
       }
         where
           rest : Longer (c.0).next n

@@ -1,24 +1,23 @@
 -- The queues in the store: what a change of the store leaves of a chain of packets.
 use Rattle.std.proofs.Common.{◌≡◌, ◌∙◌, ℕ, zero, suc, ◌+◌, ◌<◌, ◌≤◌, true, false, List, ◌∷◌, refl, ap, sym, subst, arith}
 use Rattle.std.specs.Prelude.{Some, None, is_some, sum}
-use Rattle.slab.specs.Slab.{Slab, ContainsKey, get, slab_len}
+use Rattle.dn_flows.specs.Packets.{Packets, StoredPacket, ContainsKey, get}
 use Rattle.dn_flows.specs.declared.flow_queue.FlowQueue.{FlowQueue}
-use Rattle.dn_flows.specs.declared.stored.Stored.{Stored}
 use Rattle.dn_flows.specs.declared.waiting.Waiting.{Waiting}
 use Rattle.dn_flows.specs.Table.{lengths}
 use Rattle.dn_flows.proofs.Bytes.{lengths-cons}
 use Rattle.dn_flows.specs.Store.{IsChain, IsCounted, IsQueue, Takes, Lies, Shortens, stored_or, stored_at, waiting_from, key_after}
 
 -- A key with a packet isn't free.
-pub not-free : (store : Slab Stored) (key other : ℕ) (stored : Stored) → get store key ≡ None → get store other ≡ Some stored → other ≡ key → ⊥
+pub not-free : (store : Packets) (key other : ℕ) (stored : StoredPacket) → get store key ≡ None → get store other ≡ Some stored → other ≡ key → ⊥
 not-free store key other stored free held same =
     let z : false ≡ true = ap is_some (sym free ∙ ap (get store) (sym same) ∙ held) in
     absurd cc
 
-module _ (owner behind owner' behind' : ℕ → ℕ) (old new : Slab Stored) (flow : ℕ) where
+module _ (owner behind owner' behind' : ℕ → ℕ) (old new : Packets) (flow : ℕ) where
   -- The flow's packets with fewer than n behind them lie where they lay.
   abbrev pub Stay : ℕ → Type 0
-  Stay n = (key : ℕ) (stored : Stored) → get old key ≡ Some stored → owner key ≡ flow → behind key < n → (get new key ≡ Some stored) × (owner' key ≡ flow) × (behind' key ≡ behind key)
+  Stay n = (key : ℕ) (stored : StoredPacket) → get old key ≡ Some stored → owner key ≡ flow → behind key < n → (get new key ≡ Some stored) × (owner' key ≡ flow) × (behind' key ≡ behind key)
 
   -- The chain from a key on is as it was.
   pub record Same (key n : ℕ) : Type 0 where
@@ -42,29 +41,29 @@ module _ (owner behind owner' behind' : ℕ → ℕ) (old new : Slab Stored) (fl
       step : Same (c.0).next n → Same key (suc n)
       step rest = record {
         chain = (c.0, now.0, now.1, now.2 ∙ c.3, rest.chain);
-        waiting = ap (λ (s : Stored). s.waiting ∷ waiting_from new s.next n) read_new ∙ ap (λ (ws : List Waiting). (c.0).waiting ∷ ws) rest.waiting ∙ sym (ap (λ (s : Stored). s.waiting ∷ waiting_from old s.next n) read_old);
+        waiting = ap (λ (s : StoredPacket). s.waiting ∷ waiting_from new s.next n) read_new ∙ ap (λ (ws : List Waiting). (c.0).waiting ∷ ws) rest.waiting ∙ sym (ap (λ (s : StoredPacket). s.waiting ∷ waiting_from old s.next n) read_old);
         keys = keys;
       }
         where
           keys : (m : ℕ) → m < suc n → key_after new key m ≡ key_after old key m
           keys zero lt = refl
-          keys (suc m) lt = ap (λ (s : Stored). key_after new s.next m) read_new ∙ rest.keys m (omega arith) ∙ sym (ap (λ (s : Stored). key_after old s.next m) read_old)
+          keys (suc m) lt = ap (λ (s : StoredPacket). key_after new s.next m) read_new ∙ rest.keys m (omega arith) ∙ sym (ap (λ (s : StoredPacket). key_after old s.next m) read_old)
 
 -- The last packet of a chain is the flow's own, and none is behind it.
-pub record IsEnd (owner behind : ℕ → ℕ) (store : Slab Stored) (flow last : ℕ) : Type 0 where
+pub record IsEnd (owner behind : ℕ → ℕ) (store : Packets) (flow last : ℕ) : Type 0 where
   pub own : owner last ≡ flow
   pub none_behind : behind last ≡ 0
-  pub stored : Stored
+  pub stored : StoredPacket
   pub held : get store last ≡ Some stored
 
-pub chain-end : (owner behind : ℕ → ℕ) (store : Slab Stored) (flow key n : ℕ) → IsChain owner behind store flow key (suc n) → IsEnd owner behind store flow (key_after store key n)
+pub chain-end : (owner behind : ℕ → ℕ) (store : Packets) (flow key n : ℕ) → IsChain owner behind store flow key (suc n) → IsEnd owner behind store flow (key_after store key n)
 chain-end owner behind store flow key zero c = record { own = c.2; none_behind = c.3; stored = c.0; held = c.1 }
 chain-end owner behind store flow key (suc n) c =
-    subst (IsEnd owner behind store flow) (sym (ap (λ (s : Stored). key_after store s.next n) (ap stored_or c.1))) (chain-end owner behind store flow (c.0).next n c.4)
+    subst (IsEnd owner behind store flow) (sym (ap (λ (s : StoredPacket). key_after store s.next n) (ap stored_or c.1))) (chain-end owner behind store flow (c.0).next n c.4)
 
 -- ---- The first packet leaves a queue
 
-module _ (owner behind : ℕ → ℕ) (old new : Slab Stored) (first : Waiting) (q q' : FlowQueue) (flow : ℕ) (t : Takes first old q new q') (is : IsQueue owner behind old flow q) where
+module _ (owner behind : ℕ → ℕ) (old new : Packets) (first : Waiting) (q q' : FlowQueue) (flow : ℕ) (t : Takes first old q new q') (is : IsQueue owner behind old flow q) where
   -- The queue after its first packet left.
   pub record Taken : Type 0 where
     pub chain : IsChain owner behind new flow q'.front q'.len
@@ -86,7 +85,7 @@ module _ (owner behind : ℕ → ℕ) (old new : Slab Stored) (first : Waiting) 
       ap stored_or both
 
   next_is : q'.front ≡ (parts.0).next
-  next_is = ap (λ (x : FlowQueue). x.front) t.queue_is.2 ∙ sym (ap (λ (s : Stored). s.next) front_is)
+  next_is = ap (λ (x : FlowQueue). x.front) t.queue_is.2 ∙ sym (ap (λ (s : StoredPacket). s.next) front_is)
 
   own_stay : Stay owner behind owner behind old new flow q'.len
   own_stay key stored held own lt = (t.others key (λ e. let a = ap behind e in let b = parts.3 in absurd (omega arith)) ∙ held, own, refl)
@@ -97,8 +96,8 @@ module _ (owner behind : ℕ → ℕ) (old new : Slab Stored) (first : Waiting) 
   pub taken : Taken
   taken = record {
     chain = subst (λ k. IsChain owner behind new flow k q'.len) (sym next_is) rest.chain;
-    waiting = ap (λ n. waiting_from old q.front n) many ∙ ap (λ (s : Stored). s.waiting ∷ waiting_from old s.next q'.len) (ap stored_or parts.1) ∙ (λ i. (front_is i).waiting ∷ (sym rest.waiting ∙ ap (λ k. waiting_from new k q'.len) (sym next_is)) i);
-    last = λ n e. ap (λ k. key_after new k n) next_is ∙ rest.keys n (omega arith) ∙ sym (ap (λ (s : Stored). key_after old s.next n) (ap stored_or parts.1)) ∙ is.last (suc n) (many ∙ ap suc e) ∙ sym (ap (λ (x : FlowQueue). x.back) t.queue_is.2);
+    waiting = ap (λ n. waiting_from old q.front n) many ∙ ap (λ (s : StoredPacket). s.waiting ∷ waiting_from old s.next q'.len) (ap stored_or parts.1) ∙ (λ i. (front_is i).waiting ∷ (sym rest.waiting ∙ ap (λ k. waiting_from new k q'.len) (sym next_is)) i);
+    last = λ n e. ap (λ k. key_after new k n) next_is ∙ rest.keys n (omega arith) ∙ sym (ap (λ (s : StoredPacket). key_after old s.next n) (ap stored_or parts.1)) ∙ is.last (suc n) (many ∙ ap suc e) ∙ sym (ap (λ (x : FlowQueue). x.back) t.queue_is.2);
   }
 
   -- Any other flow's packets stay.
@@ -122,13 +121,22 @@ module _ (owner behind : ℕ → ℕ) (old new : Slab Stored) (first : Waiting) 
 
 -- ---- The first packet of a queue
 
-module _ (owner behind : ℕ → ℕ) (store : Slab Stored) (flow : ℕ) (q : FlowQueue) (is : IsQueue owner behind store flow q) where
+module _ (owner behind : ℕ → ℕ) (store : Packets) (flow : ℕ) (q : FlowQueue) (is : IsQueue owner behind store flow q) where
   pub held-first : 0 < q.len → ContainsKey store q.front
   held-first some = by q.len refl
     where
       by : (n : ℕ) → q.len ≡ n → ContainsKey store q.front
       by zero none = absurd (omega arith)
       by (suc n) e = let c = subst (λ n. IsChain owner behind store flow q.front n) e is.chain in ap is_some c.1
+
+  pub held-last : 0 < q.len → ContainsKey store q.back
+  held-last some = by q.len refl
+    where
+      by : (n : ℕ) → q.len ≡ n → ContainsKey store q.back
+      by zero none = absurd (omega arith)
+      by (suc n) e =
+          let end = chain-end owner behind store flow q.front n (subst (λ n. IsChain owner behind store flow q.front n) e is.chain) in
+          subst (ContainsKey store) (is.last n e) (ap is_some end.held)
 
   pub short-first : 0 < q.len → (stored_at store q.front).waiting.len ≤ q.bytes
   short-first some = by q.len refl
@@ -144,7 +152,7 @@ module _ (owner behind : ℕ → ℕ) (store : Slab Stored) (flow : ℕ) (q : Fl
 abbrev pub SamePackets : FlowQueue → FlowQueue → Type 0
 SamePackets q q' = (q'.front ≡ q.front) × (q'.back ≡ q.back) × (q'.len ≡ q.len) × (q'.bytes ≡ q.bytes)
 
-pub same-queue : (owner behind : ℕ → ℕ) (store : Slab Stored) (flow : ℕ) (q q' : FlowQueue) → SamePackets q q' → IsQueue owner behind store flow q → IsQueue owner behind store flow q'
+pub same-queue : (owner behind : ℕ → ℕ) (store : Packets) (flow : ℕ) (q q' : FlowQueue) → SamePackets q q' → IsQueue owner behind store flow q → IsQueue owner behind store flow q'
 same-queue owner behind store flow q q' same is = record {
   chain = subst (λ (k : ℕ × ℕ). IsChain owner behind store flow k.0 k.1) (λ i. (sym same.0 i, sym same.2 i)) is.chain;
   last = λ n e. ap (λ k. key_after store k n) same.0 ∙ is.last n (sym same.2 ∙ e) ∙ sym same.1;
@@ -153,7 +161,7 @@ same-queue owner behind store flow q q' same is = record {
 
 -- ---- Packets leave a queue, one by one
 
-pub shortens-none : (store : Slab Stored) (q : FlowQueue) → Shortens store q store q
+pub shortens-none : (store : Packets) (q : FlowQueue) → Shortens store q store q
 shortens-none store q = record {
   leaves = λ owner behind flow is. record { is = is; others = λ key stored held ne. held };
   len = refl;
@@ -161,7 +169,7 @@ shortens-none store q = record {
   counts = (refl, refl);
 }
 
-pub shortens-more : (old mid new : Slab Stored) (first : Waiting) (q q₁ q' : FlowQueue) → Shortens old q mid q₁ → Takes first mid q₁ new q' → slab_len new + 1 ≡ slab_len mid → new.capacity ≡ mid.capacity → Shortens old q new q'
+pub shortens-more : (old mid new : Packets) (first : Waiting) (q q₁ q' : FlowQueue) → Shortens old q mid q₁ → Takes first mid q₁ new q' → new.len + 1 ≡ mid.len → new.capacity ≡ mid.capacity → Shortens old q new q'
 shortens-more old mid new first q q₁ q' s t len capacity = record {
   leaves = λ owner behind flow is.
       let left = s.leaves owner behind flow is in
@@ -177,5 +185,5 @@ shortens-more old mid new first q q₁ q' s t len capacity = record {
   );
 }
 
-pub lies-taken : (mid new : Slab Stored) (first : Waiting) (q₁ q' : FlowQueue) → Lies mid q₁ → Takes first mid q₁ new q' → Lies new q'
+pub lies-taken : (mid new : Packets) (first : Waiting) (q₁ q' : FlowQueue) → Lies mid q₁ → Takes first mid q₁ new q' → Lies new q'
 lies-taken mid new first q₁ q' l t = record { owner = l.owner; behind = l.behind; flow = l.flow; is = taken-queue l.owner l.behind mid new first q₁ q' l.flow t l.is }

@@ -1,19 +1,18 @@
 -- The table of flows after one queue changed, or one was added or taken out.
 use Rattle.std.proofs.Common.{◌≡◌, ◌∙◌, ◌+◌, ◌-◌, ◌⊎◌, ℕ, zero, suc, ◌<◌, ◌≤◌, ◌^◌, List, [], ◌∷◌, ◌++◌, map, set, take, get_or, length, length-set, Bool, true, false, cond, refl, ap, sym, subst, arith, inl, inr}
-use Rattle.std.specs.Prelude.{Option, Some, None, slice_get, slice_index_or, sum}
+use Rattle.std.specs.Prelude.{Some, None, slice_get, sum}
 use Rattle.std.proofs.lemmas.Bool.{cases_eq}
 use Rattle.std.proofs.lemmas.List.{length-map}
 use Rattle.std.proofs.lemmas.List.Sums.{sum_by-cons}
-use Rattle.slab.specs.Slab.{Slab, ContainsKey}
+use Rattle.dn_flows.specs.Packets.{Packets, ContainsKey, get}
 use Rattle.dn_flows.specs.declared.flow_queue.FlowQueue.{FlowQueue}
-use Rattle.dn_flows.specs.declared.stored.Stored.{Stored}
 use Rattle.dn_flows.specs.declared.unsent.Unsent.{Unsent}
 use Rattle.dn_flows.specs.declared.waiting.Waiting.{Waiting}
 use Rattle.dn_flows.specs.Store.{IsCounted, IsQueue, AreStored, Appends, Takes, Lies, Shortens, Leaves, all_with_unsent, state_of, stored_at, with_unsent, waiting_from, new_queue, reserved_one, reservations}
 use Rattle.dn_flows.specs.Table.{FlowState, flow_at, new_flow, lengths, pushed, popped, popped_from, emptied}
 use Rattle.dn_flows.proofs.Appended.{Appended, appended, owner-appended, behind-appended, others-stay-appended}
 use Rattle.dn_flows.proofs.Bytes.{lengths-push, AreShort-push, no_more_than_bytes}
-use Rattle.dn_flows.proofs.Chains.{Stay, Same, stays, same-queue, SamePackets, taken, taken-queue, others-stay-taken, held-first, short-first}
+use Rattle.dn_flows.proofs.Chains.{Stay, Same, stays, same-queue, SamePackets, taken, taken-queue, others-stay-taken, held-first, held-last, short-first}
 use Rattle.dn_flows.proofs.Counted.{Keeps, kept, carried, start-leaves, length_unsent, read-counts, both-set}
 use Rattle.dn_flows.proofs.Places.{get-set, get-set-other, get-read, get-more, get-kept, length-more, sum-set}
 
@@ -45,7 +44,7 @@ at-most-one-each (q ∷ queues) =
 
 -- ---- The flow with a queue
 
-pub flow-read : (store : Slab Stored) (queues : List FlowQueue) (flow : ℕ) (q : FlowQueue) → slice_get queues flow ≡ Some q → flow_at (map (state_of store) queues) flow ≡ state_of store q
+pub flow-read : (store : Packets) (queues : List FlowQueue) (flow : ℕ) (q : FlowQueue) → slice_get queues flow ≡ Some q → flow_at (map (state_of store) queues) flow ≡ state_of store q
 flow-read store [] flow q e = absurd cc
 flow-read store (z ∷ queues) zero q e = let same : z ≡ q = cc in ap (state_of store) same
 flow-read store (z ∷ queues) (suc flow) q e = flow-read store queues flow q e
@@ -53,7 +52,7 @@ flow-read store (z ∷ queues) (suc flow) q e = flow-read store queues flow q e
 -- ---- One queue changes
 
 -- A queue whose packets stay is the flow's queue still, and stands for what it stood for.
-stay-queue : (owner behind owner' behind' : ℕ → ℕ) (old new : Slab Stored) (flow : ℕ) (q : FlowQueue) → IsQueue owner behind old flow q → Stay owner behind owner' behind' old new flow q.len → IsQueue owner' behind' new flow q × (state_of new q ≡ state_of old q)
+stay-queue : (owner behind owner' behind' : ℕ → ℕ) (old new : Packets) (flow : ℕ) (q : FlowQueue) → IsQueue owner behind old flow q → Stay owner behind owner' behind' old new flow q.len → IsQueue owner' behind' new flow q × (state_of new q ≡ state_of old q)
 stay-queue owner behind owner' behind' old new flow q is stay = (
   record {
     chain = same.chain;
@@ -67,11 +66,11 @@ stay-queue owner behind owner' behind' old new flow q is stay = (
     same = stays owner behind owner' behind' old new flow q.front q.len is.chain stay
 
 -- The table after the flow's queue changed, which may have changed the store.
-pub record Changed (old new : Slab Stored) (queues : List FlowQueue) (flow : ℕ) (q' : FlowQueue) : Type 0 where
+pub record Changed (old new : Packets) (queues : List FlowQueue) (flow : ℕ) (q' : FlowQueue) : Type 0 where
   pub stored : AreStored new (set queues flow q')
   pub states : map (state_of new) (set queues flow q') ≡ set (map (state_of old) queues) flow (state_of new q')
 
-changed : (old new : Slab Stored) (queues : List FlowQueue) (flow : ℕ) (q q' : FlowQueue) (are : AreStored old queues) (owner' behind' : ℕ → ℕ) → slice_get queues flow ≡ Some q → ((g n : ℕ) → (g ≡ flow → ⊥) → Stay are.owner are.behind owner' behind' old new g n) → IsQueue owner' behind' new flow q' → Changed old new queues flow q'
+changed : (old new : Packets) (queues : List FlowQueue) (flow : ℕ) (q q' : FlowQueue) (are : AreStored old queues) (owner' behind' : ℕ → ℕ) → slice_get queues flow ≡ Some q → ((g n : ℕ) → (g ≡ flow → ⊥) → Stay are.owner are.behind owner' behind' old new g n) → IsQueue owner' behind' new flow q' → Changed old new queues flow q'
 changed old new queues flow q q' are owner' behind' there stay is = record {
   stored = record { owner = owner'; behind = behind'; queues_are = λ g x e. by g x e (cases_eq g flow) };
   states = map-set-but (state_of old) (state_of new) queues flow q' (λ g x e ne. (stay-queue are.owner are.behind owner' behind' old new g x (are.queues_are g x e) (stay g x.len ne)).1);
@@ -87,12 +86,12 @@ changed old new queues flow q q' are owner' behind' there stay is = record {
         (stay-queue are.owner are.behind owner' behind' old new g x (are.queues_are g x before) (stay g x.len ne)).0
 
 -- There are as many flows as queues.
-pub as-many-flows : (store : Slab Stored) (queues : List FlowQueue) (unsent : List Unsent) → length (all_with_unsent (map (state_of store) queues) unsent) ≡ length queues
+pub as-many-flows : (store : Packets) (queues : List FlowQueue) (unsent : List Unsent) → length (all_with_unsent (map (state_of store) queues) unsent) ≡ length queues
 as-many-flows store queues unsent = length_unsent (map (state_of store) queues) unsent ∙ length-map queues (state_of store)
 
 -- ---- A call on the flow with a queue
 
-module _ (old : Slab Stored) (queues : List FlowQueue) (unsent : List Unsent) (flow : ℕ) (q : FlowQueue) (are : AreStored old queues) (within : flow < length (all_with_unsent (map (state_of old) queues) unsent)) (read : q ≡ get_or queues flow q) where
+module _ (old : Packets) (queues : List FlowQueue) (unsent : List Unsent) (flow : ℕ) (q : FlowQueue) (are : AreStored old queues) (within : flow < length (all_with_unsent (map (state_of old) queues) unsent)) (read : q ≡ get_or queues flow q) where
   abbrev seen : List FlowState
   seen = all_with_unsent (map (state_of old) queues) unsent
 
@@ -159,7 +158,7 @@ module _ (old : Slab Stored) (queues : List FlowQueue) (unsent : List Unsent) (f
       omega arith
 
   -- The table after the call, by which the flow stands for `s`.
-  pub record After (new : Slab Stored) (q' : FlowQueue) (s : FlowState) : Type 0 where
+  pub record After (new : Packets) (q' : FlowQueue) (s : FlowState) : Type 0 where
     pub stored : AreStored new (set queues flow q')
     pub states : all_with_unsent (map (state_of new) (set queues flow q')) unsent ≡ set seen flow s
 
@@ -167,24 +166,24 @@ module _ (old : Slab Stored) (queues : List FlowQueue) (unsent : List Unsent) (f
   abbrev pub Leaving : (FlowState → FlowState) → Type 0
   Leaving f = (u : Unsent) (s : FlowState) → f (with_unsent u s) ≡ with_unsent u (f s)
 
-  after : (new : Slab Stored) (q' : FlowQueue) (f : FlowState → FlowState) → Leaving f → Changed old new queues flow q' → state_of new q' ≡ f (state_of old q) → After new q' (f (flow_at seen flow))
+  after : (new : Packets) (q' : FlowQueue) (f : FlowState → FlowState) → Leaving f → Changed old new queues flow q' → state_of new q' ≡ f (state_of old q) → After new q' (f (flow_at seen flow))
   after new q' f leaves c e = record {
     stored = c.stored;
     states = ap (λ (states : List FlowState). all_with_unsent states unsent) (c.states ∙ ap (set (map (state_of old) queues) flow) (e ∙ ap f (sym read-state))) ∙ carried f leaves (map (state_of old) queues) unsent flow;
   }
 
   -- No packet moves, though the store may get room.
-  pub counting : (new : Slab Stored) (q' : FlowQueue) (f : FlowState → FlowState) → Leaving f → new.slots ≡ old.slots → SamePackets q q' → state_of old q' ≡ f (state_of old q) → After new q' (f (flow_at seen flow))
-  counting new q' f leaves slots same e = after new q' f leaves (changed old new queues flow q q' are are.owner are.behind there (λ g n ne. stay g n) now.0) (now.1 ∙ e)
+  pub counting : (new : Packets) (q' : FlowQueue) (f : FlowState → FlowState) → Leaving f → ((key : ℕ) → get new key ≡ get old key) → SamePackets q q' → state_of old q' ≡ f (state_of old q) → After new q' (f (flow_at seen flow))
+  counting new q' f leaves same-packets same e = after new q' f leaves (changed old new queues flow q q' are are.owner are.behind there (λ g n ne. stay g n) now.0) (now.1 ∙ e)
     where
       stay : (g n : ℕ) → Stay are.owner are.behind are.owner are.behind old new g n
-      stay g n key stored held own lt = (ap (λ (all : List (Option Stored)). slice_index_or all key None) slots ∙ held, own, refl)
+      stay g n key stored held own lt = (same-packets key ∙ held, own, refl)
 
       now : IsQueue are.owner are.behind new flow q' × (state_of new q' ≡ state_of old q')
       now = stay-queue are.owner are.behind are.owner are.behind old new flow q' (same-queue are.owner are.behind old flow q q' same queue-is) (stay flow q'.len)
 
   -- A packet joins.
-  pub pushing : (new : Slab Stored) (w : Waiting) (q' : FlowQueue) → Appends w old q new q' → 1 ≤ w.len → w.len ≤ 65535 → sum (lengths (flow_at seen flow).backlog) + w.len < 2 ^ 32 → After new q' (pushed w (flow_at seen flow))
+  pub pushing : (new : Packets) (w : Waiting) (q' : FlowQueue) → Appends w old q new q' → 1 ≤ w.len → w.len ≤ 65535 → sum (lengths (flow_at seen flow).backlog) + w.len < 2 ^ 32 → After new q' (pushed w (flow_at seen flow))
   pushing new w q' a some short fit = after new q' (pushed w) (λ u s. refl)
       (changed old new queues flow q q' are (owner-appended are.owner are.behind old new w q q' flow a queue-is) (behind-appended are.owner are.behind old new w q q' flow a queue-is) there (λ g n ne. others-stay-appended are.owner are.behind old new w q q' flow a queue-is g n ne) (record { chain = now.chain; last = now.last; counts = counts }))
       ((λ i. record {
@@ -211,11 +210,15 @@ module _ (old : Slab Stored) (queues : List FlowQueue) (unsent : List Unsent) (f
   pub first-held : 0 < q.len → ContainsKey old q.front
   first-held = held-first are.owner are.behind old flow q queue-is
 
+  -- So is the last one.
+  pub last-held : 0 < q.len → ContainsKey old q.back
+  last-held = held-last are.owner are.behind old flow q queue-is
+
   pub first-short : 0 < q.len → (stored_at old q.front).waiting.len ≤ q.bytes
   first-short = short-first are.owner are.behind old flow q queue-is
 
   -- The first packet starts.
-  pub popping : (new : Slab Stored) (first : Waiting) (q' q'' : FlowQueue) → Takes first old q new q' → SamePackets q' q'' → (q''.reserved ≡ q.reserved) × (q''.started ≡ q.started + 1) → After new q'' (popped (flow_at seen flow))
+  pub popping : (new : Packets) (first : Waiting) (q' q'' : FlowQueue) → Takes first old q new q' → SamePackets q' q'' → (q''.reserved ≡ q.reserved) × (q''.started ≡ q.started + 1) → After new q'' (popped (flow_at seen flow))
   popping new first q' q'' t same counts = after new q'' popped start-leaves
       (changed old new queues flow q q'' are are.owner are.behind there (λ g n ne. others-stay-taken are.owner are.behind old new first q q' flow t queue-is g n ne) (same-queue are.owner are.behind new flow q' q'' same (taken-queue are.owner are.behind old new first q q' flow t queue-is)))
       ((λ i. record {
@@ -228,14 +231,14 @@ module _ (old : Slab Stored) (queues : List FlowQueue) (unsent : List Unsent) (f
       }) ∙ sym (ap (λ ws. popped_from ws (state_of old q)) (taken are.owner are.behind old new first q q' flow t queue-is).waiting))
 
   -- Where none waits nothing changes.
-  pub resting : (new : Slab Stored) (q' : FlowQueue) → new ≡ old → q' ≡ q → q.len ≡ 0 → After new q' (popped (flow_at seen flow))
-  resting new q' store same none = counting new q' popped start-leaves (ap (λ (s : Slab Stored). s.slots) store) (ap (λ (x : FlowQueue). x.front) same, ap (λ (x : FlowQueue). x.back) same, ap (λ (x : FlowQueue). x.len) same, ap (λ (x : FlowQueue). x.bytes) same) (ap (state_of old) same ∙ sym (ap (λ n. popped_from (waiting_from old q.front n) (state_of old q)) none))
+  pub resting : (new : Packets) (q' : FlowQueue) → new ≡ old → q' ≡ q → q.len ≡ 0 → After new q' (popped (flow_at seen flow))
+  resting new q' store same none = counting new q' popped start-leaves (λ key. ap (λ (s : Packets). get s key) store) (ap (λ (x : FlowQueue). x.front) same, ap (λ (x : FlowQueue). x.back) same, ap (λ (x : FlowQueue). x.len) same, ap (λ (x : FlowQueue). x.bytes) same) (ap (state_of old) same ∙ sym (ap (λ n. popped_from (waiting_from old q.front n) (state_of old q)) none))
 
   pub none-waits : q.len ≡ 0 → slice_get (flow_at seen flow).backlog 0 ≡ None
   none-waits none = ap (λ (ws : List Waiting). slice_get ws 0) (reads.backlog ∙ ap (waiting_from old q.front) none)
 
   -- The front is the first of the packets that wait.
-  pub front : (new : Slab Stored) (first : Waiting) (q' : FlowQueue) → Takes first old q new q' → slice_get (flow_at seen flow).backlog 0 ≡ Some first
+  pub front : (new : Packets) (first : Waiting) (q' : FlowQueue) → Takes first old q new q' → slice_get (flow_at seen flow).backlog 0 ≡ Some first
   front new first q' t = ap (λ (ws : List Waiting). slice_get ws 0) (reads.backlog ∙ (taken are.owner are.behind old new first q q' flow t queue-is).waiting)
 
   -- The queue lies in the store.
@@ -243,7 +246,7 @@ module _ (old : Slab Stored) (queues : List FlowQueue) (unsent : List Unsent) (f
   lies-here = record { owner = are.owner; behind = are.behind; flow = flow; is = queue-is }
 
   -- All packets leave, and are counted beside the queue.
-  pub emptying : (new : Slab Stored) (q' : FlowQueue) (u : Unsent) → Shortens old q new q' → q'.len ≡ 0 → length unsent ≡ length queues → u ≡ get_or unsent flow u → AreStored new (set queues flow q') × (all_with_unsent (map (state_of new) (set queues flow q')) (set unsent flow (record u { discarded = u.discarded + q.len })) ≡ set seen flow (emptied (flow_at seen flow)))
+  pub emptying : (new : Packets) (q' : FlowQueue) (u : Unsent) → Shortens old q new q' → q'.len ≡ 0 → length unsent ≡ length queues → u ≡ get_or unsent flow u → AreStored new (set queues flow q') × (all_with_unsent (map (state_of new) (set queues flow q')) (set unsent flow (record u { discarded = u.discarded + q.len })) ≡ set seen flow (emptied (flow_at seen flow)))
   emptying new q' u s none same is = (
     there-after.stored,
     ap (λ (states : List FlowState). all_with_unsent states (set unsent flow counted)) there-after.states
@@ -272,31 +275,31 @@ module _ (old : Slab Stored) (queues : List FlowQueue) (unsent : List Unsent) (f
 
 -- ---- A queue is added or taken out
 
-pub added : (store : Slab Stored) (queues : List FlowQueue) → AreStored store queues → AreStored store (queues ++ new_queue ∷ [])
+pub added : (store : Packets) (queues : List FlowQueue) → AreStored store queues → AreStored store (queues ++ new_queue ∷ [])
 added store queues are = record { owner = are.owner; behind = are.behind; queues_are = λ g x e. by g x (get-more queues new_queue x g e) }
   where
     by : (g : ℕ) (x : FlowQueue) → (slice_get queues g ≡ Some x) ⊎ ((g ≡ length queues) × (x ≡ new_queue)) → IsQueue are.owner are.behind store g x
     by g x (inl e) = are.queues_are g x e
     by g x (inr e) = subst (IsQueue are.owner are.behind store g) (sym e.1) (record { chain = tt; last = λ n z. absurd (omega arith); counts = record { many = refl; counted = refl; bounded = omega arith; short = tt } })
 
-pub without-last : (store : Slab Stored) (queues : List FlowQueue) (q : FlowQueue) → AreStored store (queues ++ q ∷ []) → AreStored store queues
+pub without-last : (store : Packets) (queues : List FlowQueue) (q : FlowQueue) → AreStored store (queues ++ q ∷ []) → AreStored store queues
 without-last store queues q are = record { owner = are.owner; behind = are.behind; queues_are = λ g x e. are.queues_are g x (get-kept queues q x g e) }
 
 -- No queue is stored yet.
-pub none-stored : (store : Slab Stored) → AreStored store []
+pub none-stored : (store : Packets) → AreStored store []
 none-stored store = record { owner = λ key. 0; behind = λ key. 0; queues_are = λ g x e. absurd cc }
 
-pub states_added : (store : Slab Stored) (queues : List FlowQueue) → map (state_of store) (queues ++ new_queue ∷ []) ≡ map (state_of store) queues ++ new_flow ∷ []
+pub states_added : (store : Packets) (queues : List FlowQueue) → map (state_of store) (queues ++ new_queue ∷ []) ≡ map (state_of store) queues ++ new_flow ∷ []
 states_added store [] = refl
 states_added store (q ∷ queues) = ap (λ (states : List FlowState). state_of store q ∷ states) (states_added store queues)
 
-no-counts : (store : Slab Stored) (queues : List FlowQueue) (n : ℕ) → map (state_of store) (take n queues) ≡ take n (map (state_of store) queues)
+no-counts : (store : Packets) (queues : List FlowQueue) (n : ℕ) → map (state_of store) (take n queues) ≡ take n (map (state_of store) queues)
 no-counts store [] zero = refl
 no-counts store [] (suc n) = refl
 no-counts store (q ∷ queues) zero = refl
 no-counts store (q ∷ queues) (suc n) = λ i. state_of store q ∷ no-counts store queues n i
 
-states-less : (store : Slab Stored) (queues : List FlowQueue) (unsent : List Unsent) (n : ℕ) → all_with_unsent (map (state_of store) (take n queues)) (take n unsent) ≡ take n (all_with_unsent (map (state_of store) queues) unsent)
+states-less : (store : Packets) (queues : List FlowQueue) (unsent : List Unsent) (n : ℕ) → all_with_unsent (map (state_of store) (take n queues)) (take n unsent) ≡ take n (all_with_unsent (map (state_of store) queues) unsent)
 states-less store [] unsent zero = refl
 states-less store [] unsent (suc n) = refl
 states-less store (q ∷ queues) unsent zero = refl
@@ -304,7 +307,7 @@ states-less store (q ∷ queues) [] (suc n) = λ i. state_of store q ∷ no-coun
 states-less store (q ∷ queues) (u ∷ unsent) (suc n) = λ i. with_unsent u (state_of store q) ∷ states-less store queues unsent n i
 
 -- The last flow is taken out.
-pub last-out : (store : Slab Stored) (queues queues' : List FlowQueue) (unsent unsent' : List Unsent) → queues' ≡ take (length queues - 1) queues → unsent' ≡ take (length unsent - 1) unsent → length unsent ≡ length queues → all_with_unsent (map (state_of store) queues') unsent' ≡ take (length (all_with_unsent (map (state_of store) queues) unsent) - 1) (all_with_unsent (map (state_of store) queues) unsent)
+pub last-out : (store : Packets) (queues queues' : List FlowQueue) (unsent unsent' : List Unsent) → queues' ≡ take (length queues - 1) queues → unsent' ≡ take (length unsent - 1) unsent → length unsent ≡ length queues → all_with_unsent (map (state_of store) queues') unsent' ≡ take (length (all_with_unsent (map (state_of store) queues) unsent) - 1) (all_with_unsent (map (state_of store) queues) unsent)
 last-out store queues queues' unsent unsent' fewer-queues fewer-counts same =
     let many = as-many-flows store queues unsent in
     let last = length (all_with_unsent (map (state_of store) queues) unsent) - 1 in

@@ -1,3 +1,4 @@
 pub mod KeyWords
 pub mod Store
 pub mod Table
+pub mod Packets

@@ -2,9 +2,8 @@
 use Rattle.std.specs.Prelude.{ℕ, zero, suc, ◌≡◌, ◌≢◌, ◌⊎◌, false, cond, nat_eq, ◌+◌, ◌<◌, ◌≤◌, ◌^◌, ⊤, List, [], ◌∷◌, Option, Some, None, length, sum, slice_get}
 use Rattle.std.specs.Option.{option_map}
 use Rattle.std.specs.List.{sum_by}
-use Rattle.slab.specs.Slab.{Slab, HasRoomFor, get, slab_len}
+use Rattle.dn_flows.specs.Packets.{Packets, StoredPacket, HasRoomFor, get, with_next}
 use Rattle.dn_flows.specs.declared.flow_queue.FlowQueue.{FlowQueue}
-use Rattle.dn_flows.specs.declared.stored.Stored.{Stored}
 use Rattle.dn_flows.specs.declared.unsent.Unsent.{Unsent}
 use Rattle.dn_flows.specs.declared.waiting.Waiting.{Waiting}
 use Rattle.dn_flows.specs.Table.{FlowState, lengths}
@@ -22,20 +21,20 @@ pub record IsCounted (backlog : List Waiting) (len bytes : ℕ) : Type 0 where
   pub short : AreShort backlog
 
 -- The packet under a key, and what it names as the next. Where the store has none, any will do.
-abbrev pub stored_or : Option Stored → Stored
+abbrev pub stored_or : Option StoredPacket → StoredPacket
 stored_or None = record { waiting = record { packet = 0; len = 1 }; next = 0 }
 stored_or (Some stored) = stored
 
-abbrev pub stored_at : Slab Stored → ℕ → Stored
+abbrev pub stored_at : Packets → ℕ → StoredPacket
 stored_at store key = stored_or (get store key)
 
 -- So many packets from a key on, each behind the one before.
-abbrev pub waiting_from : Slab Stored → ℕ → ℕ → List Waiting
+abbrev pub waiting_from : Packets → ℕ → ℕ → List Waiting
 waiting_from store key zero = []
 waiting_from store key (suc n) = (stored_at store key).waiting ∷ waiting_from store ((stored_at store key).next) n
 
 -- The key that so many steps lead to.
-abbrev pub key_after : Slab Stored → ℕ → ℕ → ℕ
+abbrev pub key_after : Packets → ℕ → ℕ → ℕ
 key_after store key zero = key
 key_after store key (suc n) = key_after store ((stored_at store key).next) n
 
@@ -44,7 +43,7 @@ abbrev pub new_queue : FlowQueue
 new_queue = record { front = 0; back = 0; len = 0; bytes = 0; reserved = false; started = 0 }
 
 -- What callers see of the flow with the queue, but for the counts of packets that are never sent.
-abbrev pub state_of : Slab Stored → FlowQueue → FlowState
+abbrev pub state_of : Packets → FlowQueue → FlowState
 state_of store q = record { backlog = waiting_from store q.front q.len; reserved = q.reserved; lost = 0; full = 0; started = q.started; discarded = 0 }
 
 -- What callers see of a flow with these counts, and of all flows by the counts that lie beside them.
@@ -58,18 +57,18 @@ all_with_unsent (s ∷ states) (u ∷ unsent) = with_unsent u s ∷ all_with_uns
 
 -- So many packets from a key on are the flow's own, by labels that only the proof knows: each packet has one owner, and a
 -- count of the packets behind it. So no packet is in two queues, or twice in one.
-abbrev pub IsChain : (ℕ → ℕ) → (ℕ → ℕ) → Slab Stored → ℕ → ℕ → ℕ → Type 0
+abbrev pub IsChain : (ℕ → ℕ) → (ℕ → ℕ) → Packets → ℕ → ℕ → ℕ → Type 0
 IsChain owner behind store flow key zero = ⊤
-IsChain owner behind store flow key (suc n) = (stored : Stored) × (get store key ≡ Some stored) × (owner key ≡ flow) × (behind key ≡ n) × IsChain owner behind store flow stored.next n
+IsChain owner behind store flow key (suc n) = (stored : StoredPacket) × (get store key ≡ Some stored) × (owner key ≡ flow) × (behind key ≡ n) × IsChain owner behind store flow stored.next n
 
 -- The queue of a flow goes from its front to its back, and counts its packets and their bytes.
-pub record IsQueue (owner behind : ℕ → ℕ) (store : Slab Stored) (flow : ℕ) (q : FlowQueue) : Type 0 where
+pub record IsQueue (owner behind : ℕ → ℕ) (store : Packets) (flow : ℕ) (q : FlowQueue) : Type 0 where
   pub chain : IsChain owner behind store flow q.front q.len
   pub last : (n : ℕ) → q.len ≡ suc n → key_after store q.front n ≡ q.back
   pub counts : IsCounted (waiting_from store q.front q.len) q.len q.bytes
 
 -- The queues of all flows lie in the store.
-pub record AreStored (store : Slab Stored) (queues : List FlowQueue) : Type 0 where
+pub record AreStored (store : Packets) (queues : List FlowQueue) : Type 0 where
   pub owner : ℕ → ℕ
   pub behind : ℕ → ℕ
   pub queues_are : (flow : ℕ) (q : FlowQueue) → slice_get queues flow ≡ Some q → IsQueue owner behind store flow q
@@ -81,17 +80,13 @@ reserved_one q = cond q.reserved 1 0
 abbrev pub reservations : List FlowQueue → ℕ
 reservations queues = sum_by reserved_one queues
 
-abbrev pub HasReserved : Slab Stored → List FlowQueue → ℕ → Type 0
+abbrev pub HasReserved : Packets → List FlowQueue → ℕ → Type 0
 HasReserved store queues reserved = (reserved ≡ reservations queues) × HasRoomFor store reserved
 
 -- ---- What the calls on a queue do to the store
 
--- The packet names another as the one behind it.
-abbrev pub with_next : ℕ → Stored → Stored
-with_next next stored = record { waiting = stored.waiting; next = next }
-
 -- A packet joins the end of a queue: it lies under a key that was free, and the packet before it names that key.
-pub record Appends (w : Waiting) (old : Slab Stored) (q : FlowQueue) (new : Slab Stored) (q' : FlowQueue) : Type 0 where
+pub record Appends (w : Waiting) (old : Packets) (q : FlowQueue) (new : Packets) (q' : FlowQueue) : Type 0 where
   pub key : ℕ
   pub next : ℕ
   pub free : get old key ≡ None
@@ -101,7 +96,7 @@ pub record Appends (w : Waiting) (old : Slab Stored) (q : FlowQueue) (new : Slab
   pub queue_is : q' ≡ record q { front = cond (nat_eq q.len 0) key q.front; back = key; len = q.len + 1; bytes = q.bytes + w.len; reserved = false }
 
 -- The first packet of a queue leaves the store.
-pub record Takes (first : Waiting) (old : Slab Stored) (q : FlowQueue) (new : Slab Stored) (q' : FlowQueue) : Type 0 where
+pub record Takes (first : Waiting) (old : Packets) (q : FlowQueue) (new : Packets) (q' : FlowQueue) : Type 0 where
   pub next : ℕ
   pub some : 0 < q.len
   pub front : get old q.front ≡ Some (record { waiting = first; next = next })
@@ -109,20 +104,20 @@ pub record Takes (first : Waiting) (old : Slab Stored) (q : FlowQueue) (new : Sl
   pub queue_is : (q'.len + 1 ≡ q.len) × (q'.bytes + first.len ≡ q.bytes) × (q' ≡ record q { front = next; len = q'.len; bytes = q'.bytes })
 
 -- A queue lies in the store, whatever else does.
-pub record Lies (store : Slab Stored) (q : FlowQueue) : Type 0 where
+pub record Lies (store : Packets) (q : FlowQueue) : Type 0 where
   pub owner : ℕ → ℕ
   pub behind : ℕ → ℕ
   pub flow : ℕ
   pub is : IsQueue owner behind store flow q
 
 -- Only packets of the flow left the store, and its queue lies there with what is left.
-pub record Leaves (owner behind : ℕ → ℕ) (flow : ℕ) (new : Slab Stored) (q' : FlowQueue) (old : Slab Stored) : Type 0 where
+pub record Leaves (owner behind : ℕ → ℕ) (flow : ℕ) (new : Packets) (q' : FlowQueue) (old : Packets) : Type 0 where
   pub is : IsQueue owner behind new flow q'
-  pub others : (key : ℕ) (stored : Stored) → get old key ≡ Some stored → (owner key ≡ flow → ⊥) → get new key ≡ Some stored
+  pub others : (key : ℕ) (stored : StoredPacket) → get old key ≡ Some stored → (owner key ≡ flow → ⊥) → get new key ≡ Some stored
 
 -- Some packets of a queue left the store, and all else that the queue keeps stays.
-pub record Shortens (old : Slab Stored) (q : FlowQueue) (new : Slab Stored) (q' : FlowQueue) : Type 0 where
+pub record Shortens (old : Packets) (q : FlowQueue) (new : Packets) (q' : FlowQueue) : Type 0 where
   pub leaves : (owner behind : ℕ → ℕ) (flow : ℕ) → IsQueue owner behind old flow q → Leaves owner behind flow new q' old
-  pub len : slab_len new + q.len ≡ slab_len old + q'.len
+  pub len : new.len + q.len ≡ old.len + q'.len
   pub capacity : new.capacity ≡ old.capacity
   pub counts : (q'.reserved ≡ q.reserved) × (q'.started ≡ q.started)

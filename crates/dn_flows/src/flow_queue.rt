@@ -1,25 +1,25 @@
 ghost use Rattle.std.specs.Prelude.{◌≡◌, ◌+◌, ◌≤◌, ◌<◌, ◌^◌, List, sum, false, IfSome, IfNone, OnSome};
 ghost use Rattle.dn_types.specs.Drops.{is_full};
-ghost use Rattle.slab.specs.Slab.{ContainsKey, HasRoomFor, slab_len};
+ghost use Rattle.dn_flows.specs.Packets.{ContainsKey, HasRoomFor};
 ghost use Rattle.dn_flows.specs.Store.{Appends, IsCounted, Lies, Shortens, Takes, new_queue, stored_at};
 ghost use Rattle.dn_flows.specs.Table.{lengths, verdict_of};
 ghost use Rattle.dn_flows.specs.declared.waiting.Waiting.{Waiting as WaitingValue};
 
 use crate::drop_rule::DropRule;
-use crate::stored::{Stored, name_next};
+use crate::packet_store::PacketStore;
+use crate::stored::Stored;
 use crate::verdict::Verdict;
 use crate::waiting::Waiting;
 use dn_types::{Limit, Packet};
-use slab::Slab;
 
 /// The queue of one flow, and the count of its packets that started. The packets themselves lie in
 /// the store of all queues.
 #[derive(Drop)]
 pub struct FlowQueue {
     /// Where the first packet lies, if there is one.
-    pub front: usize,
+    pub front: u32,
     /// Where the last packet lies, if there is one.
-    pub back: usize,
+    pub back: u32,
     pub len: usize,
     /// The sum of the packets' lengths, which is below 2^32.
     pub bytes: u32,
@@ -72,20 +72,21 @@ impl FlowQueue {
     }
 
     /// Puts a packet at the end, in room that the store has.
-    pub fn push_back(&mut self, store: &mut Slab<Stored>, waiting: Waiting)
+    pub fn push_back(&mut self, store: &mut PacketStore, waiting: Waiting)
         requires room { HasRoomFor store.old 1 }
         requires few { self.old.len < 2 ^ 32 }
+        requires held { 0 < self.old.len → ContainsKey store.old self.old.back }
         requires bytes { self.old.bytes + waiting.len < 2 ^ 32 }
         ensures appends { Appends waiting store.old self.old store.new self.new }
-        ensures len { slab_len store.new ≡ slab_len store.old + 1 }
+        ensures len { store.new.len ≡ store.old.len + 1 }
         ensures capacity { store.new.capacity ≡ store.old.capacity }
     {
         let bytes = u32::from(waiting.len.get());
-        let key = store.insert_reserved(Stored { waiting, next: 0 });
+        let key = store.insert_reserved(Stored::new(waiting));
         if self.len == 0 {
             self.front = key;
         } else {
-            name_next(store, self.back, key);
+            store.name_next(self.back, key);
         }
         self.back = key;
         self.len += 1;
@@ -94,11 +95,11 @@ impl FlowQueue {
     }
 
     /// Takes the first packet out, if there is one.
-    pub fn pop_front(&mut self, store: &mut Slab<Stored>) -> Option<Waiting>
+    pub fn pop_front(&mut self, store: &mut PacketStore) -> Option<Waiting>
         requires held { 0 < self.old.len → ContainsKey store.old self.old.front }
         requires bytes { 0 < self.old.len → (stored_at store.old self.old.front).waiting.len ≤ self.old.bytes }
         ensures takes { IfSome result (λ first. Takes first store.old self.old store.new self.new) }
-        ensures len { OnSome result (slab_len store.new + 1 ≡ slab_len store.old) }
+        ensures len { OnSome result (store.new.len + 1 ≡ store.old.len) }
         ensures capacity { store.new.capacity ≡ store.old.capacity }
         ensures none { IfNone result (self.old.len ≡ 0) }
         ensures keeps_store { IfNone result (store.new ≡ store.old) }
@@ -107,15 +108,16 @@ impl FlowQueue {
         if self.len == 0 {
             return None;
         }
-        let Stored { waiting, next } = store.remove(self.front);
-        self.front = next;
+        let first = store.remove(self.front);
+        let waiting = first.waiting();
+        self.front = first.next();
         self.len -= 1;
         self.bytes -= u32::from(waiting.len.get());
         Some(waiting)
     }
 
     /// Takes all packets out.
-    pub fn clear(&mut self, store: &mut Slab<Stored>)
+    pub fn clear(&mut self, store: &mut PacketStore)
         requires { Lies store.old self.old }
         ensures shortens { Shortens store.old self.old store.new self.new }
         ensures none { self.new.len ≡ 0 }

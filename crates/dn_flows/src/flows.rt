@@ -4,14 +4,13 @@ ghost use Rattle.dn_flows.specs.Table.{flow_at, is_known, flows_with, IsUnused, 
 
 use crate::drop_rule::DropRule;
 use crate::flow_queue::FlowQueue;
-use crate::stored::Stored;
+use crate::packet_store::PacketStore;
 use crate::table_key::TableKey;
 use crate::unsent::Unsent;
 use crate::verdict::Verdict;
 use crate::waiting::Waiting;
 use dn_types::{FlowKey, FlowStatus, Packet};
 use indexmap::IndexSet;
-use slab::Slab;
 use std::alloc::{AllocError, Global};
 use std::marker::Model;
 
@@ -27,7 +26,7 @@ pub struct Flows {
     queues: Vec<FlowQueue>,
     /// The other counts of each flow, in the order of the queues.
     unsent: Vec<Unsent>,
-    packets: Slab<Stored>,
+    packets: PacketStore,
     /// The count of flows with a reserved place. The store has room for a packet of each.
     reserved: usize,
 }
@@ -54,7 +53,7 @@ impl Flows {
             keys: IndexSet::new(alloc),
             queues: Vec::new(alloc),
             unsent: Vec::new(alloc),
-            packets: Slab::new(alloc),
+            packets: PacketStore::new(alloc),
             reserved: 0,
         }
     }

@@ -4,6 +4,7 @@
 mod drop_rule;
 mod flow_queue;
 mod flows;
+mod packet_store;
 mod stored;
 mod table_key;
 #[cfg(test)]

@@ -1,27 +1,63 @@
-ghost use Rattle.std.specs.Prelude.{◌≡◌, ◌≢◌, ℕ};
-ghost use Rattle.std.specs.Option.{option_map};
-ghost use Rattle.slab.specs.Slab.{get, slab_len};
-ghost use Rattle.dn_flows.specs.Store.{with_next};
+ghost use Rattle.std.specs.Prelude.{◌≡◌};
+ghost use Rattle.dn_flows.specs.Packets.{with_next};
 
 use crate::waiting::Waiting;
-use slab::Slab;
+use dn_types::Len;
+use std::marker::Model;
 
 /// A packet in the store of all queues, with the key of the packet behind it in its queue. What the
 /// last packet of a queue names is never read.
+///
+/// It takes 16 bytes, so that a line of a cache holds four.
 #[derive(Clone, Copy)]
 pub struct Stored {
-    pub waiting: Waiting,
-    pub next: usize,
+    packet: u64,
+    next: u32,
+    len: Len,
 }
 
-/// The packet under the key, if there is one, names another as the next.
-pub fn name_next(store: &mut Slab<Stored>, key: usize, next: usize)
-    ensures named { get store.new key ≡ option_map (with_next next) (get store.old key) }
-    ensures others { (other : ℕ) → other ≢ key → get store.new other ≡ get store.old other }
-    ensures len { slab_len store.new ≡ slab_len store.old }
-    ensures capacity { store.new.capacity ≡ store.old.capacity }
-{
-    if let Some(stored) = store.get_mut(key) {
-        stored.next = next;
+impl Model for Stored {
+    ghost use Rattle.dn_flows.specs.Packets.{StoredPacket};
+
+    ghost Value = { StoredPacket };
+
+    ghost view = { λ a. record { waiting = record { packet = a.packet; len = a.len }; next = a.next } };
+
+    ghost inverse = { λ s. record { packet = s.waiting.packet; next = s.next; len = s.waiting.len } };
+}
+
+impl Stored {
+    /// The packet, which names no other yet.
+    pub fn new(waiting: Waiting) -> Stored
+        ensures { result ≡ record { waiting = waiting; next = 0 } }
+    {
+        Stored {
+            packet: waiting.packet,
+            next: 0,
+            len: waiting.len,
+        }
+    }
+
+    pub fn waiting(&self) -> Waiting
+        ensures { result ≡ self.now.waiting }
+    {
+        Waiting {
+            packet: self.packet,
+            len: self.len,
+        }
+    }
+
+    /// The key of the packet behind it.
+    pub fn next(&self) -> u32
+        ensures { result ≡ self.now.next }
+    {
+        self.next
+    }
+
+    /// Names the packet under the key as the one behind it.
+    pub fn name_next(&mut self, key: u32)
+        ensures { self.new ≡ with_next key self.old }
+    {
+        self.next = key;
     }
 }

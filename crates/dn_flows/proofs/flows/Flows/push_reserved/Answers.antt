@@ -1,6 +1,6 @@
 use Rattle.std.proofs.Common.{◌∙◌, false, refl, sym, ap, length-set, arith}
 use Rattle.dn_flows.specs.declared.flow_queue.FlowQueue.{FlowQueue}
-use Rattle.dn_flows.proofs.Tables.{as-many-flows, few, fits, reads, one-less, pushing}
+use Rattle.dn_flows.proofs.Tables.{as-many-flows, few, fits, last-held, reads, one-less, pushing}
 use Rattle.std.proofs.lemmas.Grind.{common_steps}
 use Rattle.dn_flows.proofs.flows.Flows.push_reserved.Goals as goal
 
@@ -18,6 +18,9 @@ push_back-requires-clause-few c = few c.self.inside.packets c.self.inside.queues
 
 pub push_back-requires-clause-bytes : goal.push_back-requires-clause-bytes
 push_back-requires-clause-bytes c = fits c.self.inside.packets c.self.inside.queues.items c.self.inside.unsent.items c.args.flow c.index_mut-queue.result.now c.self.invariant.2 (rw (← c.self.view_is) at c.requires.within) c.index_mut-queue.ensures.value c.args.waiting.len (rw (← c.self.view_is) at c.requires.bytes)
+
+pub push_back-requires-clause-held : goal.push_back-requires-clause-held
+push_back-requires-clause-held c = last-held c.self.inside.packets c.self.inside.queues.items c.self.inside.unsent.items c.args.flow c.index_mut-queue.result.now c.self.invariant.2 (rw (← c.self.view_is) at c.requires.within) c.index_mut-queue.ensures.value
 
 pub overflow_sub-self : goal.overflow_sub-self
 overflow_sub-self c =

@@ -1,6 +1,5 @@
 use Rattle.std.proofs.Common.{◌≡◌, ◌∙◌, true, false, refl, sym, ap, length-set, arith}
-use Rattle.slab.specs.Slab.{Slab, slab_len}
-use Rattle.dn_flows.specs.declared.stored.Stored.{Stored}
+use Rattle.dn_flows.specs.Packets.{Packets, get}
 use Rattle.dn_flows.specs.Store.{waiting_from}
 use Rattle.dn_flows.specs.Table.{with_place}
 use Rattle.dn_flows.proofs.Tables.{as-many-flows, counting, same-reserved, one-more, few-reserved, reads}
@@ -26,11 +25,11 @@ overflow_add-self c =
 pub invariant_of-self-in_err-reserve : goal.invariant_of-self-in_err-reserve
 invariant_of-self-in_err-reserve c =
     let room = c.self.invariant.1.1 in
-    let rest = ap (λ (s : Slab Stored). slab_len s) c.reserve.ensures.rest_kept in
+    let rest = ap (λ (s : Packets). s.len) c.reserve.ensures.rest_kept in
     let capacity = c.reserve.ensures.capacity in (
       c.self.invariant.0 ∙ sym (length-set c.self.inside.queues.items c.args.flow _),
       (c.self.invariant.1.0 ∙ sym (same-reserved c.self.inside.packets c.self.inside.queues.items c.self.inside.unsent.items c.args.flow c.index_mut-queue.result.now c.self.invariant.2 (rw (← c.self.view_is) at c.requires) c.index_mut-queue.ensures.value c.index_mut-queue.result.now refl), omega arith),
-      (counting c.self.inside.packets c.self.inside.queues.items c.self.inside.unsent.items c.args.flow c.index_mut-queue.result.now c.self.invariant.2 (rw (← c.self.view_is) at c.requires) c.index_mut-queue.ensures.value c.reserve.new.self c.index_mut-queue.result.now (λ s. s) (λ u s. refl) (ap (λ (s : Slab Stored). s.slots) c.reserve.ensures.rest_kept) (refl, refl, refl, refl) refl).stored,
+      (counting c.self.inside.packets c.self.inside.queues.items c.self.inside.unsent.items c.args.flow c.index_mut-queue.result.now c.self.invariant.2 (rw (← c.self.view_is) at c.requires) c.index_mut-queue.ensures.value c.reserve.new.self c.index_mut-queue.result.now (λ s. s) (λ u s. refl) (λ key. ap (λ (s : Packets). get s key) c.reserve.ensures.rest_kept) (refl, refl, refl, refl) refl).stored,
       c.self.invariant.3 ∙ sym (length-set c.self.inside.queues.items c.args.flow _),
     )
 
@@ -42,12 +41,12 @@ invariant_of-self-2 c =
     let room = c.in_ok-reserve.ensures.room in (
       c.self.invariant.0 ∙ sym (length-set c.self.inside.queues.items c.args.flow _),
       (omega arith, omega arith),
-      (counting c.self.inside.packets c.self.inside.queues.items c.self.inside.unsent.items c.args.flow c.index_mut-queue.result.now c.self.invariant.2 (rw (← c.self.view_is) at c.requires) c.index_mut-queue.ensures.value c.reserve.new.self (record { front = c.index_mut-queue.result.now.front; back = c.index_mut-queue.result.now.back; len = c.index_mut-queue.result.now.len; bytes = c.index_mut-queue.result.now.bytes; reserved = true; started = c.index_mut-queue.result.now.started }) with_place (λ u s. refl) (ap (λ (s : Slab Stored). s.slots) c.reserve.ensures.rest_kept) (refl, refl, refl, refl) refl).stored,
+      (counting c.self.inside.packets c.self.inside.queues.items c.self.inside.unsent.items c.args.flow c.index_mut-queue.result.now c.self.invariant.2 (rw (← c.self.view_is) at c.requires) c.index_mut-queue.ensures.value c.reserve.new.self (record { front = c.index_mut-queue.result.now.front; back = c.index_mut-queue.result.now.back; len = c.index_mut-queue.result.now.len; bytes = c.index_mut-queue.result.now.bytes; reserved = true; started = c.index_mut-queue.result.now.started }) with_place (λ u s. refl) (λ key. ap (λ (s : Packets). get s key) c.reserve.ensures.rest_kept) (refl, refl, refl, refl) refl).stored,
       c.self.invariant.3 ∙ sym (length-set c.self.inside.queues.items c.args.flow _),
     )
 
 pub returns-clause-reserved : goal.returns-clause-reserved
-returns-clause-reserved c = rw (← c.self.view_is) (counting c.self.inside.packets c.self.inside.queues.items c.self.inside.unsent.items c.args.flow c.index_mut-queue.result.now c.self.invariant.2 (rw (← c.self.view_is) at c.requires) c.index_mut-queue.ensures.value c.reserve.new.self (record { front = c.index_mut-queue.result.now.front; back = c.index_mut-queue.result.now.back; len = c.index_mut-queue.result.now.len; bytes = c.index_mut-queue.result.now.bytes; reserved = true; started = c.index_mut-queue.result.now.started }) with_place (λ u s. refl) (ap (λ (s : Slab Stored). s.slots) c.reserve.ensures.rest_kept) (refl, refl, refl, refl) refl).states
+returns-clause-reserved c = rw (← c.self.view_is) (counting c.self.inside.packets c.self.inside.queues.items c.self.inside.unsent.items c.args.flow c.index_mut-queue.result.now c.self.invariant.2 (rw (← c.self.view_is) at c.requires) c.index_mut-queue.ensures.value c.reserve.new.self (record { front = c.index_mut-queue.result.now.front; back = c.index_mut-queue.result.now.back; len = c.index_mut-queue.result.now.len; bytes = c.index_mut-queue.result.now.bytes; reserved = true; started = c.index_mut-queue.result.now.started }) with_place (λ u s. refl) (λ key. ap (λ (s : Packets). get s key) c.reserve.ensures.rest_kept) (refl, refl, refl, refl) refl).states
 
 pub index_mut-queue-requires : goal.index_mut-queue-requires
 index_mut-queue-requires c =
@@ -57,7 +56,7 @@ index_mut-queue-requires c =
 
 -- the flow had a place
 pub returns-then-queue-clause-reserved : goal.returns-then-queue-clause-reserved
-returns-then-queue-clause-reserved c = rw (← c.self.view_is) (counting c.self.inside.packets c.self.inside.queues.items c.self.inside.unsent.items c.args.flow c.index_mut-queue.result.now c.self.invariant.2 (rw (← c.self.view_is) at c.requires) c.index_mut-queue.ensures.value c.self.inside.packets c.index_mut-queue.result.now with_place (λ u s. refl) refl (refl, refl, refl, refl) (λ i. record { backlog = waiting_from c.self.inside.packets c.index_mut-queue.result.now.front c.index_mut-queue.result.now.len; reserved = c.if-queue.true i; lost = 0; full = 0; started = c.index_mut-queue.result.now.started; discarded = 0 })).states
+returns-then-queue-clause-reserved c = rw (← c.self.view_is) (counting c.self.inside.packets c.self.inside.queues.items c.self.inside.unsent.items c.args.flow c.index_mut-queue.result.now c.self.invariant.2 (rw (← c.self.view_is) at c.requires) c.index_mut-queue.ensures.value c.self.inside.packets c.index_mut-queue.result.now with_place (λ u s. refl) (λ key. refl) (refl, refl, refl, refl) (λ i. record { backlog = waiting_from c.self.inside.packets c.index_mut-queue.result.now.front c.index_mut-queue.result.now.len; reserved = c.if-queue.true i; lost = 0; full = 0; started = c.index_mut-queue.result.now.started; discarded = 0 })).states
 
 -- the flow had none
 pub returns-in_err-reserve-clause-succeeds : goal.returns-in_err-reserve-clause-succeeds
