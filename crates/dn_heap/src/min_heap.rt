@@ -139,27 +139,13 @@ impl<K: Ord> MinHeap<K> {
         K: Drop,
         requires { F.IsAlwaysCallable keep }
         ensures kept { (test : K → Bool) → ((key : K) (answer : Bool) → FnReturnsAt F.Fn keep key answer → answer ≡ test key) → IsPermutation (filter test self.old.keys) self.new.keys }
+        ensures fewer { length self.new.keys ≤ length self.old.keys }
         ensures room { length self.new.keys + self.new.room ≡ length self.old.keys + self.old.room }
-        ensures keeps_moves { self.new.moves ≡ self.old.moves }
-    {
-        self.let_go(keep);
-    }
-
-    /// What `retain` does. It answers how many keys it let go of.
-    pub(crate) fn let_go<F: Fn(&K) -> bool>(&mut self, keep: F) -> usize
-    where
-        K: Drop,
-        requires { F.IsAlwaysCallable keep }
-        ensures kept { (test : K → Bool) → ((key : K) (answer : Bool) → FnReturnsAt F.Fn keep key answer → answer ≡ test key) → IsPermutation (filter test self.old.keys) self.new.keys }
-        ensures len { length self.new.keys + result ≡ length self.old.keys }
-        ensures room { self.new.room ≡ self.old.room + result }
         ensures keeps_moves { self.new.moves ≡ self.old.moves }
     {
         let before = self.heap.len();
         keep_where(&mut self.heap, keep);
-        let gone = before - self.heap.len();
-        self.room += gone;
-        gone
+        self.room += before - self.heap.len();
     }
 
     /// How many keys are in.

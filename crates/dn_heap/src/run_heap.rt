@@ -140,15 +140,15 @@ impl<K: Ord> RunHeap<K> {
         ensures room { length self.new.keys + self.new.room ≡ length self.old.keys + self.old.room }
         ensures keeps_moves { self.new.moves ≡ self.old.moves }
     {
-        let before = self.run.len();
-        let gone = self.heap.let_go(
+        let before = self.heap.len() + self.run.len();
+        self.heap.retain(
             |held|
                 requires { F.IsAlwaysCallable keep }
                 ensures { FnReturnsAt F.Fn keep held.now result }
             { keep(held) },
         );
         keep_in_run(&mut self.run, keep);
-        self.room += gone + (before - self.run.len());
+        self.room += before - (self.heap.len() + self.run.len());
     }
 
     /// How many keys are in.
