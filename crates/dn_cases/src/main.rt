@@ -10,11 +10,17 @@ use crate::cases::Cases;
 use std::io;
 use std::io::{BufRead, BufReader};
 
-fn main(rt: HostRuntime) -> io::Result<()> {
+// Reads the histories of the standard input.
+fn read_lines(rt: &HostRuntime, cases: &mut Cases) -> io::Result<()> {
     let alloc = rt.alloc();
-    let mut cases = Cases::new(alloc);
     for line in BufReader::new(alloc, rt.reader())?.lines(alloc) {
         cases.line(line?.as_str())?;
     }
+    Ok(())
+}
+
+fn main(rt: HostRuntime) -> io::Result<()> {
+    let mut cases = Cases::new(rt.alloc());
+    read_lines(&rt, &mut cases)?;
     cases.report(&rt)
 }

@@ -1,56 +1,45 @@
+//! Tests. A test's function makes the table and no more, since what owns a table is dear to prove.
+mod given;
+
 use crate::{DropRule, Flows, Verdict, Waiting};
-use dn_types::{FiveTuple, FlowKey, Len, Limit, Loss, Mask, Number, Packet, Target};
+use dn_types::{Len, Limit, Loss};
+use given::{at_most, counts, discard, is_told, key, note_both, packet, pop, push, verdict};
 use std::alloc::AllocError;
+use std::process::Abort;
 use std::test::Fail;
 
-/// UDP from 10.0.0.1 to 10.0.0.`last`.
-fn tuple(last: u8) -> FiveTuple {
-    FiveTuple {
-        src: 0x0a00_0001,
-        dst: 0x0a00_0000 + u32::from(last),
-        proto: 17,
-        sport: 1_000,
-        dport: 2_000,
+/// Makes a flow with room for a packet in an empty table, and takes it out again.
+fn made_and_forgotten(flows: &mut Flows) -> Result<Option<usize>, AllocError> {
+    if flows.len() != 0 {
+        return Ok(None);
     }
+    let flow = flows.find_or_make(key(1))?;
+    flows.reserve_place(flow)?;
+    flows.forget_last();
+    Ok(Some(flow))
 }
 
-/// The key of that packet at pipe 1, whose mask keeps the last number of the destination.
-fn key(last: u8) -> FlowKey {
-    let number = Number::new(1).unwrap();
-    let mask = Mask {
-        src: 0,
-        dst: 0xff,
-        proto: 0,
-        sport: 0,
-        dport: 0,
-    };
-    FlowKey {
-        target: Target::Pipe(number),
-        pipe: number,
-        mask,
-        tuple: mask.apply(&tuple(last)),
-    }
+/// The flows to which three packets fall.
+fn three_made(flows: &mut Flows) -> Result<[usize; 3], AllocError> {
+    let first = flows.find_or_make(key(2))?;
+    let second = flows.find_or_make(key(1))?;
+    let third = flows.find_or_make(key(2))?;
+    Ok([first, second, third])
 }
 
-fn packet(len: Len, word: u32) -> Packet {
-    Packet {
-        tuple: tuple(2),
-        len,
-        word,
-    }
+fn check_parts<R: Abort>(rt: &R, flows: &mut Flows) -> Result<(), AllocError> {
+    assert_eq!(rt; made_and_forgotten(flows)?, Some(0));
+    assert_eq!(rt; flows.len(), 0);
+    assert_eq!(rt; three_made(flows)?, [0, 1, 0]);
+    assert_eq!(rt; flows.len(), 2);
+    assert!(rt; is_told(flows, 1, &key(1)));
+    Ok(())
 }
 
 #[test]
 fn parts_by_themselves(rt: HostRuntime) -> Result<(), Fail> {
     let mut flows = Flows::new(rt.alloc());
-    assert_eq!(rt; flows.find_or_make(key(1))?, 0);
-    flows.reserve_place(0)?;
-    flows.forget_last();
-    assert_eq!(rt; flows.len(), 0);
-    assert_eq!(rt; flows.find_or_make(key(2))?, 0);
-    assert_eq!(rt; flows.find_or_make(key(1))?, 1);
-    assert_eq!(rt; flows.find_or_make(key(2))?, 0);
-    assert_eq!(rt; (flows.len(), flows.key(1)), (2, key(1)));
+    check_parts(&rt, &mut flows)?;
     Ok(())
 }
 
@@ -81,138 +70,155 @@ fn loss_by_word(rt: HostRuntime) -> Result<(), Fail> {
     Ok(())
 }
 
+fn check_byte_limit<R: Abort>(rt: &R, flows: &mut Flows) -> Result<(), AllocError> {
+    let flow = flows.find_or_make(key(2))?;
+    let slots = at_most(Limit::slots(1).unwrap());
+    let bytes = at_most(Limit::kbytes(1).unwrap());
+    assert_eq!(rt; verdict(flows, flow, &slots), Some(Verdict::Take));
+    for (packet, len, by_bytes) in [
+        (0, Len::new(1_024).unwrap(), Verdict::Take),
+        (1, Len::new(1).unwrap(), Verdict::Full),
+    ] {
+        push(flows, flow, Waiting { packet, len })?;
+        assert_eq!(rt; verdict(flows, flow, &slots), Some(Verdict::Full));
+        assert_eq!(rt; verdict(flows, flow, &bytes), Some(by_bytes));
+    }
+    assert_eq!(rt; counts(flows, flow), Some([2, 1_025, 0, 0, 0, 0]));
+    Ok(())
+}
+
 // 1,024 bytes are not above a limit of 1 Kbyte, and 1,025 are. One packet fills a queue of one slot.
 #[test]
 fn a_byte_limit(rt: HostRuntime) -> Result<(), Fail> {
     let mut flows = Flows::new(rt.alloc());
-    let flow = flows.find_or_make(key(2))?;
-    let loss = Loss::new(0).unwrap();
-    let bytes = DropRule {
-        limit: Limit::kbytes(1).unwrap(),
-        loss,
-    };
-    let slots = DropRule {
-        limit: Limit::slots(1).unwrap(),
-        loss,
-    };
-    let one = Len::new(1).unwrap();
-    let kbyte = Len::new(1_024).unwrap();
-    let probe = packet(one, 0);
-    assert_eq!(rt; flows.verdict(flow, &probe, &slots), Verdict::Take);
-    flows.reserve_place(flow)?;
-    flows.push_reserved(
-        flow,
-        Waiting {
-            packet: 0,
-            len: kbyte,
-        },
-    );
-    assert_eq!(rt; flows.verdict(flow, &probe, &slots), Verdict::Full);
-    assert_eq!(rt; flows.verdict(flow, &probe, &bytes), Verdict::Take);
-    flows.reserve_place(flow)?;
-    flows.push_reserved(
-        flow,
-        Waiting {
-            packet: 1,
-            len: one,
-        },
-    );
-    assert_eq!(rt; flows.verdict(flow, &probe, &bytes), Verdict::Full);
-    assert_eq!(rt; flows.status(flow).bytes, 1_025);
+    check_byte_limit(&rt, &mut flows)?;
     Ok(())
 }
 
-/// Puts a packet of 100 bytes into the flow's queue, where that takes it.
-fn push(flows: &mut Flows, flow: usize, number: u64, rule: &DropRule) -> Result<(), AllocError> {
-    if flow >= flows.len() {
-        return Ok(());
-    }
-    flows.reserve_place(flow)?;
-    let sent = packet(Len::new(100).unwrap(), 0);
-    if let Verdict::Take = flows.verdict(flow, &sent, rule) {
-        flows.push_reserved(
-            flow,
-            Waiting {
-                packet: number,
-                len: sent.len,
-            },
-        );
+/// What happens at a flow: a packet of 100 bytes comes, the first one starts, which has this number, or all that wait
+/// are discarded.
+#[derive(Clone, Copy)]
+enum Step {
+    Comes(u64),
+    Starts(Option<u64>),
+    Discards,
+}
+
+fn take_step<R: Abort>(
+    rt: &R,
+    flows: &mut Flows,
+    flow: usize,
+    step: Step,
+) -> Result<(), AllocError> {
+    match step {
+        Step::Comes(packet) => {
+            let len = Len::new(100).unwrap();
+            push(flows, flow, Waiting { packet, len })?;
+        }
+        Step::Starts(number) => {
+            assert_eq!(rt; pop(flows, flow).map(|first| first.packet), number);
+        }
+        Step::Discards => discard(flows, flow),
     }
     Ok(())
 }
 
-/// The number of the flow's first packet, which starts.
-fn pop(flows: &mut Flows, flow: usize) -> Option<u64> {
-    if flow >= flows.len() || flows.status(flow).started > 100 {
-        return None;
+/// Takes steps at the flows of two keys, each told by its place.
+fn take_steps<R: Abort>(
+    rt: &R,
+    flows: &mut Flows,
+    steps: &[(usize, Step)],
+) -> Result<(), AllocError> {
+    for (flow, step) in steps {
+        take_step(rt, flows, *flow, *step)?;
     }
-    let first = flows.pop_front(flow)?;
-    Some(first.packet)
-}
-
-/// Empties the flow's queue.
-fn discard(flows: &mut Flows, flow: usize) {
-    if flow >= flows.len() {
-        return;
-    }
-    let status = flows.status(flow);
-    if status.queued < 100 && status.discarded < 100 {
-        flows.discard(flow);
-    }
+    Ok(())
 }
 
 // The packets of two flows lie in one store, and take the places of those that left.
 #[test]
 fn two_queues_in_one_store(rt: HostRuntime) -> Result<(), Fail> {
     let mut flows = Flows::new(rt.alloc());
-    let rule = DropRule {
-        limit: Limit::slots(100).unwrap(),
-        loss: Loss::new(0).unwrap(),
-    };
-    let one = flows.find_or_make(key(1))?;
-    let two = flows.find_or_make(key(2))?;
-    push(&mut flows, one, 0, &rule)?;
-    push(&mut flows, two, 1, &rule)?;
-    push(&mut flows, one, 2, &rule)?;
-    push(&mut flows, two, 3, &rule)?;
-    assert_eq!(rt; pop(&mut flows, one), Some(0));
-    push(&mut flows, two, 4, &rule)?;
-    assert_eq!(rt; pop(&mut flows, two), Some(1));
-    push(&mut flows, one, 5, &rule)?;
-    discard(&mut flows, two);
-    push(&mut flows, two, 6, &rule)?;
-    assert_eq!(rt; pop(&mut flows, one), Some(2));
-    assert_eq!(rt; pop(&mut flows, one), Some(5));
-    assert_eq!(rt; pop(&mut flows, one), None);
-    assert_eq!(rt; pop(&mut flows, two), Some(6));
-    assert_eq!(rt; pop(&mut flows, two), None);
+    assert_eq!(rt; three_made(&mut flows)?, [0, 1, 0]);
+    let steps = [
+        (0, Step::Comes(0)),
+        (1, Step::Comes(1)),
+        (0, Step::Comes(2)),
+        (1, Step::Comes(3)),
+        (0, Step::Starts(Some(0))),
+        (1, Step::Comes(4)),
+        (1, Step::Starts(Some(1))),
+        (0, Step::Comes(5)),
+        (1, Step::Discards),
+        (1, Step::Comes(6)),
+        (0, Step::Starts(Some(2))),
+        (0, Step::Starts(Some(5))),
+        (0, Step::Starts(None)),
+        (1, Step::Starts(Some(6))),
+        (1, Step::Starts(None)),
+    ];
+    take_steps(&rt, &mut flows, steps.as_slice())?;
+    Ok(())
+}
+
+/// Two packets of 1,000 bytes come, and the first starts, which is answered.
+fn one_started(flows: &mut Flows, flow: usize) -> Result<Option<Waiting>, AllocError> {
+    let len = Len::new(1_000).unwrap();
+    push(flows, flow, Waiting { packet: 7, len })?;
+    push(flows, flow, Waiting { packet: 8, len })?;
+    Ok(pop(flows, flow))
+}
+
+fn check_status<R: Abort>(rt: &R, flows: &mut Flows) -> Result<(), AllocError> {
+    let flow = flows.find_or_make(key(2))?;
+    let len = Len::new(1_000).unwrap();
+    let first = one_started(flows, flow)?;
+    assert_eq!(rt; first, Some(Waiting { packet: 7, len }));
+    assert_eq!(rt; counts(flows, flow), Some([1, 1_000, 0, 0, 1, 0]));
+    note_both(flows, flow);
+    discard(flows, flow);
+    assert_eq!(rt; counts(flows, flow), Some([0, 0, 1, 1, 1, 1]));
+    assert!(rt; flow == 0 && is_told(flows, flow, &key(2)));
     Ok(())
 }
 
 #[test]
 fn a_status(rt: HostRuntime) -> Result<(), Fail> {
     let mut flows = Flows::new(rt.alloc());
-    let flow = flows.find_or_make(key(2))?;
-    let len = Len::new(1_000).unwrap();
-    flows.reserve_place(flow)?;
-    flows.push_reserved(flow, Waiting { packet: 7, len });
-    assert_eq!(rt; flows.pop_front(flow), Some(Waiting { packet: 7, len }));
-    assert_eq!(rt; flows.pop_front(flow), None);
-    flows.reserve_place(flow)?;
-    flows.push_reserved(flow, Waiting { packet: 8, len });
+    check_status(&rt, &mut flows)?;
+    Ok(())
+}
+
+/// Makes a flow, again where memory was refused, which left none.
+fn made_again<R: Abort>(rt: &R, flows: &mut Flows) -> Result<usize, AllocError> {
+    if let Ok(flow) = flows.find_or_make(key(1)) {
+        return Ok(flow);
+    }
+    assert_eq!(rt; flows.len(), 0);
+    flows.find_or_make(key(1))
+}
+
+/// Reserves a place, again where memory was refused, which changed nothing.
+fn reserved_again<R: Abort>(rt: &R, flows: &mut Flows, flow: usize) -> Result<(), AllocError> {
+    if flow >= flows.len() {
+        return Ok(());
+    }
     let before = flows.status(flow);
-    assert_eq!(rt;
-        (before.queued, before.bytes, before.started),
-        (1, 1_000, 1)
-    );
-    flows.note_lost(flow);
-    flows.note_full(flow);
-    flows.discard(flow);
-    let status = flows.status(flow);
-    assert_eq!(rt; (status.flow, status.key), (0, key(2)));
-    assert_eq!(rt; (status.queued, status.bytes), (0, 0));
-    assert_eq!(rt; (status.lost, status.full), (1, 1));
-    assert_eq!(rt; (status.started, status.discarded), (1, 1));
+    if flows.reserve_place(flow).is_ok() {
+        return Ok(());
+    }
+    assert_eq!(rt; flows.status(flow), before);
+    flows.reserve_place(flow)
+}
+
+fn check_refused_growth<R: Abort>(rt: &R, flows: &mut Flows) -> Result<(), AllocError> {
+    assert_eq!(rt; made_again(rt, flows)?, 0);
+    reserved_again(rt, flows, 0)?;
+    // A known key and a place that is reserved take no memory.
+    let flow = flows.find_or_make(key(1))?;
+    assert_eq!(rt; (flow, flows.reserve_place(flow)), (0, Ok(())));
+    assert_eq!(rt; flows.len(), 1);
+    assert!(rt; is_told(flows, 0, &key(1)));
     Ok(())
 }
 
@@ -220,18 +226,6 @@ fn a_status(rt: HostRuntime) -> Result<(), Fail> {
 #[test]
 fn a_refused_growth_changes_nothing(rt: HostRuntime) -> Result<(), Fail> {
     let mut flows = Flows::new(rt.alloc());
-    if flows.find_or_make(key(1)).is_err() {
-        assert_eq!(rt; flows.len(), 0);
-        assert_eq!(rt; flows.find_or_make(key(1))?, 0);
-    }
-    let before = flows.status(0);
-    if flows.reserve_place(0).is_err() {
-        assert_eq!(rt; flows.status(0), before);
-        flows.reserve_place(0)?;
-    }
-    // A known key and a place that is reserved take no memory.
-    assert_eq!(rt; flows.find_or_make(key(1)), Ok(0));
-    assert_eq!(rt; flows.reserve_place(0), Ok(()));
-    assert_eq!(rt; (flows.len(), flows.key(0)), (1, key(1)));
+    check_refused_growth(&rt, &mut flows)?;
     Ok(())
 }

@@ -1,5 +1,6 @@
 use crate::{MinHeap, RunHeap};
 use std::alloc::{AllocError, Global};
+use std::process::Abort;
 use std::test::Fail;
 
 /// The lines of the README's sample.
@@ -108,60 +109,78 @@ fn retains_all_or_none(rt: HostRuntime) -> Result<(), Fail> {
     Ok(())
 }
 
+/// What a heap tells of itself: its least key, its length, its room and its moves.
+fn told(heap: &RunHeap<u32>) -> (Option<u32>, usize, usize, u64) {
+    let least = heap.peek().copied();
+    (least, heap.len(), heap.room(), heap.moves())
+}
+
+/// Makes room for `n` pushes, again where memory was refused, which changed nothing.
+fn reserved_again<R: Abort>(rt: &R, heap: &mut RunHeap<u32>, n: usize) -> Result<(), AllocError> {
+    let before = told(heap);
+    if heap.reserve(n).is_ok() {
+        return Ok(());
+    }
+    assert_eq!(rt; told(heap), before);
+    heap.reserve(n)
+}
+
+/// Pushes the keys, as far as there is room.
+fn push_all(heap: &mut RunHeap<u32>, keys: &[u32]) {
+    for key in keys {
+        if heap.room() > 0 && heap.moves() < 100 {
+            heap.push_reserved(*key);
+        }
+    }
+}
+
+/// These keys leave next.
+fn check_pops<R: Abort>(rt: &R, heap: &mut RunHeap<u32>, keys: &[u32]) {
+    for key in keys {
+        assert_eq!(rt; heap.pop(), Some(*key));
+    }
+}
+
+fn check_keys<R: Abort>(rt: &R, heap: &mut RunHeap<u32>) -> Result<(), AllocError> {
+    reserved_again(rt, heap, 4)?;
+    push_all(heap, [10, 20, 15, 30].as_slice());
+    reserved_again(rt, heap, 3)?;
+    push_all(heap, [5, 20].as_slice());
+    assert_eq!(rt; told(heap), (Some(5), 6, 1, 6));
+    check_pops(rt, heap, [5, 10, 15].as_slice());
+    assert_eq!(rt; told(heap), (Some(20), 3, 4, 6));
+    push_all(heap, [25].as_slice());
+    check_pops(rt, heap, [20, 20, 25, 30].as_slice());
+    assert_eq!(rt; heap.pop(), None);
+    assert_eq!(rt; told(heap), (None, 0, 7, 7));
+    Ok(())
+}
+
 /// Keys that come in order and keys that come out of it leave in one order.
 #[test]
 fn keys_in_and_out_of_order(rt: HostRuntime) -> Result<(), Fail> {
-    let mut heap: RunHeap<u32> = RunHeap::new(rt.alloc());
-    if heap.reserve(4).is_err() {
-        assert_eq!(rt; (heap.len(), heap.room(), heap.moves()), (0, 0, 0));
-        heap.reserve(4)?;
-    }
-    heap.push_reserved(10);
-    heap.push_reserved(20);
-    heap.push_reserved(15);
-    heap.push_reserved(30);
-    if heap.reserve(3).is_err() {
-        assert_eq!(rt; (heap.len(), heap.room(), heap.moves()), (4, 0, 4));
-        assert_eq!(rt; heap.peek(), Some(&10));
-        heap.reserve(3)?;
-    }
-    heap.push_reserved(5);
-    heap.push_reserved(20);
-    assert_eq!(rt; heap.peek(), Some(&5));
-    assert_eq!(rt; (heap.len(), heap.room(), heap.moves()), (6, 1, 6));
-    assert_eq!(rt; heap.pop(), Some(5));
-    assert_eq!(rt; heap.pop(), Some(10));
-    assert_eq!(rt; heap.pop(), Some(15));
-    assert_eq!(rt; heap.peek(), Some(&20));
-    heap.push_reserved(25);
-    assert_eq!(rt; heap.pop(), Some(20));
-    assert_eq!(rt; heap.pop(), Some(20));
-    assert_eq!(rt; heap.pop(), Some(25));
-    assert_eq!(rt; heap.pop(), Some(30));
+    let mut heap = RunHeap::new(rt.alloc());
+    check_keys(&rt, &mut heap)?;
+    Ok(())
+}
+
+fn check_retained<R: Abort>(rt: &R, heap: &mut RunHeap<u32>) -> Result<(), AllocError> {
+    reserved_again(rt, heap, 5)?;
+    push_all(heap, [2, 6, 4, 8, 6].as_slice());
+    // One of the equal keys is in the run, the other in the heap beside it.
+    heap.retain(|key| *key != 6);
+    assert_eq!(rt; told(heap), (Some(2), 3, 2, 5));
+    heap.retain(|key| *key != 2);
+    assert_eq!(rt; told(heap), (Some(4), 2, 3, 5));
+    check_pops(rt, heap, [4, 8].as_slice());
     assert_eq!(rt; heap.pop(), None);
-    assert_eq!(rt; (heap.moves(), heap.room()), (7, 7));
+    assert_eq!(rt; told(heap), (None, 0, 5, 5));
     Ok(())
 }
 
 #[test]
 fn retains_in_and_out_of_order(rt: HostRuntime) -> Result<(), Fail> {
-    let mut heap: RunHeap<u32> = RunHeap::new(rt.alloc());
-    if heap.reserve(5).is_err() {
-        assert_eq!(rt; (heap.len(), heap.room(), heap.moves()), (0, 0, 0));
-        heap.reserve(5)?;
-    }
-    heap.push_reserved(2);
-    heap.push_reserved(6);
-    heap.push_reserved(4);
-    heap.push_reserved(8);
-    heap.push_reserved(6);
-    // One of the equal keys is in the run, the other in the heap beside it.
-    heap.retain(|key| *key != 6);
-    assert_eq!(rt; (heap.len(), heap.room(), heap.peek()), (3, 2, Some(&2)));
-    heap.retain(|key| *key != 2);
-    assert_eq!(rt; (heap.len(), heap.room(), heap.moves()), (2, 3, 5));
-    assert_eq!(rt; heap.pop(), Some(4));
-    assert_eq!(rt; heap.pop(), Some(8));
-    assert_eq!(rt; (heap.pop(), heap.room()), (None, 5));
+    let mut heap = RunHeap::new(rt.alloc());
+    check_retained(&rt, &mut heap)?;
     Ok(())
 }

@@ -2,10 +2,11 @@
 #![tactic(auto)]
 
 mod load;
+mod run;
 
 use dn_shaper::Shaper;
-use dn_types::{Call, Moment, Reply};
-use load::{Load, delete, next, packet, pipe, queue};
+use load::{Load, delete};
+use run::{Run, apply, collect, configure, submit};
 use std::io;
 use std::time::Instant;
 
@@ -54,70 +55,15 @@ const LOADS: [Load; 5] = [
     },
 ];
 
-/// What a run came to: the packets that were accepted, the deliveries, and the times in ns.
-#[derive(Clone, Copy)]
-struct Run {
-    queued: u64,
-    delivered: u64,
-    submitting: u128,
-    collecting: u128,
-}
-
-impl Run {
-    fn new() -> Run {
-        Run {
-            queued: 0,
-            delivered: 0,
-            submitting: 0,
-            collecting: 0,
-        }
-    }
-}
-
-/// Applies a call and counts what it was answered.
-fn apply(shaper: &mut Shaper, call: Option<Call>, run: &mut Run) {
-    let Some(call) = call else {
-        return;
-    };
-    match shaper.apply(&call) {
-        Ok(Reply::Queued { .. }) => run.queued = run.queued.wrapping_add(1),
-        Ok(Reply::Delivered { list, .. }) => {
-            run.delivered = run.delivered.wrapping_add(list.as_slice().len() as u64);
-        }
-        _ => {}
-    }
-}
-
-/// Configures the pipe and its queues.
-fn configure(shaper: &mut Shaper, load: &Load, run: &mut Run) {
-    apply(shaper, pipe(load), run);
-    for number in 1..load.queues.wrapping_add(1) {
-        apply(shaper, queue(number), run);
-    }
-}
-
-/// Submits so many packets, one at each interval from the moment on, and answers the next seed.
-fn submit(
-    shaper: &mut Shaper,
-    load: &Load,
-    packets: u64,
-    from: u64,
-    seed: u64,
-    run: &mut Run,
-) -> u64 {
-    let mut seed = seed;
-    for i in 0..packets {
-        seed = next(seed);
-        let moment = from.wrapping_add(i.wrapping_mul(load.interval));
-        apply(shaper, packet(load, seed, moment), run);
-    }
-    seed
-}
-
-/// Collects what is due at the moment.
-fn collect(shaper: &mut Shaper, moment: u64, run: &mut Run) {
-    apply(shaper, Moment::new(moment).map(Call::Collect), run);
-}
+/// One packet under way for each Collect of 1,000.
+const COLLECTS: Load = Load {
+    name: "a Collect of one packet, 1,000 under way",
+    queues: 0,
+    flows: 1,
+    bandwidth: 0,
+    delay: 1,
+    interval: 1_000,
+};
 
 /// Adds the time since the start, in ns.
 fn add_time(rt: &HostRuntime, start: &Instant, nanos: &mut u128) -> io::Result<()> {
@@ -168,17 +114,28 @@ fn tell(rt: &HostRuntime, name: &str, rounds: u64, run: &Run) -> io::Result<()> 
 }
 
 /// Submits packets in rounds of 1,000, each followed by a Collect.
-fn measure(rt: &HostRuntime, load: &Load, rounds: u64) -> io::Result<()> {
-    let mut shaper = Shaper::new(rt.alloc());
+fn measure_rounds(
+    rt: &HostRuntime,
+    shaper: &mut Shaper,
+    load: &Load,
+    rounds: u64,
+) -> io::Result<Run> {
     let mut run = Run::new();
-    configure(&mut shaper, load, &mut run);
+    configure(shaper, load, &mut run);
     let mut seed = 1;
     let mut moment = 0u64;
     for _ in 0..rounds {
-        seed = submit_timed(rt, &mut shaper, load, moment, seed, &mut run)?;
+        seed = submit_timed(rt, shaper, load, moment, seed, &mut run)?;
         moment = moment.wrapping_add(load.interval.wrapping_mul(1_000));
-        collect_timed(rt, &mut shaper, moment, &mut run)?;
+        collect_timed(rt, shaper, moment, &mut run)?;
     }
+    Ok(run)
+}
+
+/// Measures so many rounds of a load on a shaper of its own.
+fn measure(rt: &HostRuntime, load: &Load, rounds: u64) -> io::Result<()> {
+    let mut shaper = Shaper::new(rt.alloc());
+    let run = measure_rounds(rt, &mut shaper, load, rounds)?;
     tell(rt, load.name, rounds, &run)
 }
 
@@ -199,25 +156,40 @@ fn collect_each(
 }
 
 /// So many rounds of 1,000 Collects that give one packet of 1,000 under way.
-fn measure_collect(rt: &HostRuntime, rounds: u64) -> io::Result<()> {
-    let load = Load {
-        name: "a Collect of one packet, 1,000 under way",
-        queues: 0,
-        flows: 1,
-        bandwidth: 0,
-        delay: 1,
-        interval: 1_000,
-    };
-    let mut shaper = Shaper::new(rt.alloc());
+fn collect_rounds(
+    rt: &HostRuntime,
+    shaper: &mut Shaper,
+    load: &Load,
+    rounds: u64,
+) -> io::Result<Run> {
     let mut run = Run::new();
-    configure(&mut shaper, &load, &mut run);
-    submit(&mut shaper, &load, 1_000, 0, 1, &mut run);
+    configure(shaper, load, &mut run);
+    submit(shaper, load, 1_000, 0, 1, &mut run);
     let mut from = 1_000_000u64;
     for _ in 0..rounds {
-        collect_each(rt, &mut shaper, &load, from, &mut run)?;
+        collect_each(rt, shaper, load, from, &mut run)?;
         from = from.wrapping_add(1_000_000);
     }
-    tell(rt, load.name, rounds, &run)
+    Ok(run)
+}
+
+/// Measures those Collects on a shaper of its own.
+fn measure_collect(rt: &HostRuntime, rounds: u64) -> io::Result<()> {
+    let mut shaper = Shaper::new(rt.alloc());
+    let run = collect_rounds(rt, &mut shaper, &COLLECTS, rounds)?;
+    tell(rt, COLLECTS.name, rounds, &run)
+}
+
+/// A delete where packets wait, four times as many as there are flows.
+fn delete_timed(rt: &HostRuntime, shaper: &mut Shaper, load: &Load) -> io::Result<Run> {
+    let mut run = Run::new();
+    configure(shaper, load, &mut run);
+    let packets = u64::from(load.flows).wrapping_mul(4);
+    submit(shaper, load, packets, 0, 1, &mut run);
+    let start = Instant::now(rt)?;
+    apply(shaper, delete(load), &mut run);
+    add_time(rt, &start, &mut run.submitting)?;
+    Ok(run)
 }
 
 /// Tells how long a delete takes that reaches so many flows, most with waiting packets: of a pipe,
@@ -232,13 +204,7 @@ fn measure_delete(rt: &HostRuntime, name: &'static str, queues: u32, flows: u32)
         interval: 0,
     };
     let mut shaper = Shaper::new(rt.alloc());
-    let mut run = Run::new();
-    configure(&mut shaper, &load, &mut run);
-    let packets = u64::from(flows).wrapping_mul(4);
-    submit(&mut shaper, &load, packets, 0, 1, &mut run);
-    let start = Instant::now(rt)?;
-    apply(&mut shaper, delete(&load), &mut run);
-    add_time(rt, &start, &mut run.submitting)?;
+    let run = delete_timed(rt, &mut shaper, &load)?;
     tell_delete(rt, &load, &run)
 }
 
