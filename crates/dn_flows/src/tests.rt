@@ -123,7 +123,7 @@ fn take_step<R: Abort>(
     Ok(())
 }
 
-/// Takes steps at the flows of two keys, each told by its place.
+/// Takes each step at its flow.
 fn take_steps<R: Abort>(
     rt: &R,
     flows: &mut Flows,
@@ -154,6 +154,8 @@ fn two_queues_in_one_store(rt: HostRuntime) -> Result<(), Fail> {
         (0, Step::Starts(Some(2))),
         (0, Step::Starts(Some(5))),
         (0, Step::Starts(None)),
+        (0, Step::Comes(7)),
+        (0, Step::Starts(Some(7))),
         (1, Step::Starts(Some(6))),
         (1, Step::Starts(None)),
     ];

@@ -1,10 +1,10 @@
-//! What the tests make of a table, one call each. Where there is no such flow, each does nothing.
+//! What the tests are given: keys, packets and rules, and calls of a table, which do nothing where there is no such flow.
 use crate::{DropRule, Flows, Verdict, Waiting};
 use dn_types::{FiveTuple, FlowKey, Len, Limit, Loss, Mask, Number, Packet, Target};
 use std::alloc::AllocError;
 
 /// UDP from 10.0.0.1 to 10.0.0.`last`.
-pub(crate) fn tuple(last: u8) -> FiveTuple {
+fn tuple(last: u8) -> FiveTuple {
     FiveTuple {
         src: 0x0a00_0001,
         dst: 0x0a00_0000 + u32::from(last),
@@ -63,6 +63,7 @@ pub(crate) fn push(flows: &mut Flows, flow: usize, waiting: Waiting) -> Result<(
     }
     flows.reserve_place(flow)?;
     let rule = at_most(Limit::slots(100).unwrap());
+    // The verdict says of the length of the packet that it judged that it fits.
     let sent = packet(waiting.len, 0);
     if let Verdict::Take = flows.verdict(flow, &sent, &rule) {
         flows.push_reserved(
