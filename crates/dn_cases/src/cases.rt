@@ -3,8 +3,8 @@ use crate::write_reply::reply_text;
 use dn_shaper::Shaper;
 use dn_types::Rule;
 use std::alloc::{AllocError, Global};
-use std::io;
 use std::io::Print;
+use std::{io, mem};
 
 /// A call with the records of its reply by the history, and by the shaper.
 #[derive(Drop)]
@@ -41,10 +41,12 @@ impl Cases {
         }
     }
 
-    // A history begins.
+    // A history begins. The shaper of the one before is dropped by a call, whose proof has one step and not
+    // one for each field.
     fn begin(&mut self, rule: Rule) {
         self.histories = self.histories.wrapping_add(1);
-        self.shaper = Shaper::with_rule(self.alloc, rule);
+        let shaper = Shaper::with_rule(self.alloc, rule);
+        drop(mem::replace(&mut self.shaper, shaper));
     }
 
     // Compares the replies to the last call.

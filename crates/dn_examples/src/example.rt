@@ -41,17 +41,35 @@ fn push_replies(
     Ok(())
 }
 
+// The replies to the calls, by the rule Free.
+fn run_free(alloc: Global, calls: &[Call]) -> Result<Vec<Reply>, AllocError> {
+    let mut shaper = Shaper::with_rule(alloc, Rule::Free);
+    let mut replies = Vec::new(alloc);
+    let pushed = push_replies(&mut shaper, &mut replies, calls);
+    // The proof of a drop by a call has one step, where that of a drop at the end has one for each field.
+    drop(shaper);
+    pushed?;
+    Ok(replies)
+}
+
 // The replies to the calls, by a shaper of the rule.
 fn replies_by(alloc: Global, rule: Rule, calls: &[Call]) -> Result<Vec<Reply>, AllocError> {
     match rule {
         Rule::Ordered => run(alloc, calls),
-        Rule::Free => {
-            let mut shaper = Shaper::with_rule(alloc, rule);
-            let mut replies = Vec::new(alloc);
-            push_replies(&mut shaper, &mut replies, calls)?;
-            Ok(replies)
-        }
+        Rule::Free => run_free(alloc, calls),
     }
+}
+
+/// The reply to the call at a place is the one that its step wants.
+pub fn is_wanted(
+    rt: &impl Abort,
+    alloc: Global,
+    place: usize,
+    reply: &Reply,
+    step: &Step<'_>,
+) -> Result<(), Fail> {
+    assert_eq!(rt; *reply, step.wanted.reply(alloc)?, "call {place}");
+    Ok(())
 }
 
 // Each reply is the one that its step wants, and there are as many.
@@ -61,7 +79,7 @@ fn compare<R: Abort + AllocGlobal>(
     steps: &[Step<'_>],
 ) -> Result<(), Fail> {
     for (place, (reply, step)) in replies.iter().zip(steps).enumerate() {
-        assert_eq!(rt; *reply, step.wanted.reply(rt.alloc())?, "call {place}");
+        is_wanted(rt, rt.alloc(), place, reply, step)?;
     }
     assert_eq!(rt; replies.len(), steps.len());
     Ok(())

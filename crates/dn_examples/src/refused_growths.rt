@@ -21,6 +21,21 @@ fn second(waiting: (u64, u64), started: u64, discarded: u64) -> Flow {
     status(1, queue_key(2, 1), waiting, started, discarded)
 }
 
+// A configuration line that is taken, and the flows after it.
+fn configured<'a>(text: &'a str, flows: &'a [Flow]) -> ShownStep<'a> {
+    shown(config(text), flows)
+}
+
+// A packet that queue 1 takes at 0, and the flows after it.
+fn to_first(packet: u64, flows: &[Flow]) -> ShownStep<'_> {
+    shown(to_queue(1, 0, queued(0, 0, packet)), flows)
+}
+
+// A packet that queue 2 takes at 0, and the flows after it.
+fn to_second(packet: u64, flows: &[Flow]) -> ShownStep<'_> {
+    shown(to_queue(2, 0, queued(0, 1, packet)), flows)
+}
+
 #[test]
 fn shares_by_weight(rt: HostRuntime) -> Result<(), Fail> {
     let a = first((1, 1_000), 1);
@@ -34,23 +49,14 @@ fn shares_by_weight(rt: HostRuntime) -> Result<(), Fail> {
     holds_when_refused(
         &rt,
         &[
-            shown(config("pipe 1 config bw 8Mbit/s"), &[]),
-            shown(config("queue 1 config pipe 1 weight 1"), &[]),
-            shown(config("queue 2 config pipe 1 weight 3"), &[]),
-            shown(to_queue(1, 0, queued(0, 0, 0)), &[first((0, 0), 1)]),
-            shown(to_queue(1, 0, queued(0, 0, 1)), &[a]),
-            shown(
-                to_queue(2, 0, queued(0, 1, 2)),
-                &[a, second((1, 1_000), 0, 0)],
-            ),
-            shown(
-                to_queue(2, 0, queued(0, 1, 3)),
-                &[a, second((2, 2_000), 0, 0)],
-            ),
-            shown(
-                to_queue(2, 0, queued(0, 1, 4)),
-                &[a, second((3, 3_000), 0, 0)],
-            ),
+            configured("pipe 1 config bw 8Mbit/s", &[]),
+            configured("queue 1 config pipe 1 weight 1", &[]),
+            configured("queue 2 config pipe 1 weight 3", &[]),
+            to_first(0, &[first((0, 0), 1)]),
+            to_first(1, &[a]),
+            to_second(2, &[a, second((1, 1_000), 0, 0)]),
+            to_second(3, &[a, second((2, 2_000), 0, 0)]),
+            to_second(4, &[a, second((3, 3_000), 0, 0)]),
             shown(
                 collect(10_000_000, &given),
                 &[first((0, 0), 2), second((0, 0), 3, 0)],
@@ -69,9 +75,9 @@ fn a_link_keeps_its_order(rt: HostRuntime) -> Result<(), Fail> {
     holds_when_refused(
         &rt,
         &[
-            shown(config("pipe 1 config bw 8Mbit/s delay 50"), &[]),
+            configured("pipe 1 config bw 8Mbit/s delay 50", &[]),
             shown(to_pipe(1, 0, queued(0, 0, 0)), &one),
-            shown(config("pipe 1 config bw 8Mbit/s"), &one),
+            configured("pipe 1 config bw 8Mbit/s", &one),
             shown(to_pipe(1, late, queued(late, 0, 1)), &two),
             shown(collect(3_000_000, &[]), &two),
             shown(collect(51_000_000, &both), &two),
@@ -113,14 +119,14 @@ fn flows_by_mask(rt: HostRuntime) -> Result<(), Fail> {
     holds_when_refused(
         &rt,
         &[
-            shown(config(by_last_byte), &[]),
+            configured(by_last_byte, &[]),
             to_address(0x0a00_0001, 0, queued(0, 0, 0), &[masked(0, 1, 1)]),
             to_address(0x0a01_0001, 0, queued(0, 0, 1), &[waiting]),
             to_address(0x0a00_0002, 0, queued(0, 1, 2), &[waiting, b]),
             shown(collect(at, &given), &[a, b]),
-            shown(config(losing), &[a, b]),
+            configured(losing, &[a, b]),
             to_address(0x0a00_0003, at, lost(at, 2), &[a, b, lost_one]),
-            shown(config(by_last_byte), &[a, b, lost_one]),
+            configured(by_last_byte, &[a, b, lost_one]),
             to_address(0x0a00_0004, at, queued(at, 3, 3), &[a, b, lost_one, d]),
             to_address(0x0a00_0003, at, queued(at, 2, 4), &[a, b, c, d]),
         ],
@@ -143,22 +149,19 @@ fn a_deleted_queue(rt: HostRuntime) -> Result<(), Fail> {
     holds_when_refused(
         &rt,
         &[
-            shown(config("pipe 1 config bw 8Mbit/s"), &[]),
-            shown(config("queue 1 config pipe 1"), &[]),
-            shown(config("queue 2 config pipe 1"), &[]),
-            shown(to_queue(1, 0, queued(0, 0, 0)), &[first((0, 0), 1)]),
-            shown(to_queue(1, 0, queued(0, 0, 1)), &[a]),
-            shown(
-                to_queue(2, 0, queued(0, 1, 2)),
-                &[a, second((1, 1_000), 0, 0)],
-            ),
-            shown(to_queue(2, 0, queued(0, 1, 3)), &[a, b]),
+            configured("pipe 1 config bw 8Mbit/s", &[]),
+            configured("queue 1 config pipe 1", &[]),
+            configured("queue 2 config pipe 1", &[]),
+            to_first(0, &[first((0, 0), 1)]),
+            to_first(1, &[a]),
+            to_second(2, &[a, second((1, 1_000), 0, 0)]),
+            to_second(3, &[a, b]),
             shown(line("pipe 1 delete", Wanted::PipeHasQueues), &[a, b]),
             shown(line("queue 2 delete", Wanted::Deleted), &[a, discarded]),
             shown(to_queue(2, 0, Wanted::NoTarget { at: 0 }), &[a, discarded]),
-            shown(config("queue 2 config pipe 1"), &[a, discarded]),
-            shown(to_queue(2, 0, queued(0, 1, 4)), &[a, again]),
-            shown(to_queue(1, 0, queued(0, 0, 5)), &[longer, again]),
+            configured("queue 2 config pipe 1", &[a, discarded]),
+            to_second(4, &[a, again]),
+            to_first(5, &[longer, again]),
             shown(
                 collect(4_000_000, &given),
                 &[first((0, 0), 3), second((0, 0), 1, 2)],

@@ -1,3 +1,4 @@
+use crate::example::is_wanted;
 use crate::shown_step::ShownStep;
 use crate::step::Step;
 use dn_shaper::Shaper;
@@ -29,19 +30,37 @@ impl Trial {
         }
     }
 
-    // The reply to a call. Where it is refused, no call is counted.
+    // A Show is answered as the last one was.
+    fn is_as_shown(&mut self, rt: &impl Abort) -> Result<(), Fail> {
+        let reply = self.shaper.apply(&Call::Show)?;
+        assert_eq!(rt; reply, self.shown);
+        Ok(())
+    }
+
+    // A call that was refused is not counted and has changed nothing that is shown.
+    fn is_as_before(
+        &mut self,
+        rt: &(impl Abort + Print),
+        call: &Call,
+        calls: u64,
+    ) -> Result<(), Fail> {
+        println!(rt; "a growth was refused")?;
+        assert_eq!(rt; self.shaper.calls(), calls);
+        // A Show that is refused comes after a call that was answered.
+        if *call == Call::Show {
+            return Ok(());
+        }
+        self.is_as_shown(rt)
+    }
+
+    // The reply to a call. Where it is refused, it is made again.
     fn answer(&mut self, rt: &(impl Abort + Print), call: &Call) -> Result<Reply, Fail> {
         let calls = self.shaper.calls();
-        let Ok(reply) = self.shaper.apply(call) else {
-            println!(rt; "a growth was refused")?;
-            assert_eq!(rt; self.shaper.calls(), calls);
-            // A Show that is refused comes after a call that was answered.
-            if *call != Call::Show {
-                assert_eq!(rt; self.shaper.apply(&Call::Show)?, self.shown);
-            }
-            return Ok(self.shaper.apply(call)?);
-        };
-        Ok(reply)
+        if let Ok(reply) = self.shaper.apply(call) {
+            return Ok(reply);
+        }
+        self.is_as_before(rt, call, calls)?;
+        Ok(self.shaper.apply(call)?)
     }
 
     // The reply to a step, which is the one that it wants.
@@ -52,7 +71,7 @@ impl Trial {
         step: &Step<'_>,
     ) -> Result<Reply, Fail> {
         let reply = self.answer(rt, &step.asked.call()?)?;
-        assert_eq!(rt; reply, step.wanted.reply(self.alloc)?, "call {place}");
+        is_wanted(rt, self.alloc, place, &reply, step)?;
         Ok(reply)
     }
 
@@ -84,5 +103,8 @@ pub fn holds_when_refused<R: Abort + Print + AllocGlobal>(
     steps: &[ShownStep<'_>],
 ) -> Result<(), Fail> {
     let mut trial = Trial::new(rt.alloc());
-    trial.steps(rt, steps)
+    let held = trial.steps(rt, steps);
+    // The proof of a drop by a call has one step, where that of a drop at the end has one for each field.
+    drop(trial);
+    held
 }

@@ -13,29 +13,28 @@ fn queued(at: u64, packet: u64) -> Reply {
     }
 }
 
-// The history of one caller, with this reply in the place of its own.
-fn changed(alloc: Global, place: usize, reply: Reply) -> Result<Vec<Entry>, Fail> {
-    let mut history = one_caller(alloc)?;
+// Puts this reply into the place of an entry's own.
+fn change(history: &mut [Entry], place: usize, reply: Reply) {
     if let Some(entry) = history.get_mut(place) {
         entry.reply = reply;
     }
-    Ok(history)
+}
+
+// Whether the history of one caller differs in a place where this reply stands for its own.
+fn differs(alloc: Global, place: usize, reply: Reply) -> Result<bool, Fail> {
+    let mut history = one_caller(alloc)?;
+    change(&mut history, place, reply);
+    Ok(audit(alloc, Rule::Ordered, history.as_slice()) == Ok(Verdict::Differs(place)))
 }
 
 #[test]
 fn one_caller_history(rt: HostRuntime) -> Result<(), Fail> {
     let alloc = rt.alloc();
-    let history = one_caller(alloc)?;
-    assert!(rt; audit(alloc, Rule::Ordered, history.as_slice()) == Ok(Verdict::Lawful));
-    for (place, reply) in [
-        (1, queued(0, 1)),
-        (1, queued(u64::MAX, 0)),
-        (0, Reply::Exhausted),
-    ] {
-        let history = changed(alloc, place, reply)?;
-        let verdict = audit(alloc, Rule::Ordered, history.as_slice());
-        assert!(rt; verdict == Ok(Verdict::Differs(place)));
-    }
+    let verdict = audit(alloc, Rule::Ordered, one_caller(alloc)?.as_slice());
+    assert!(rt; verdict == Ok(Verdict::Lawful));
+    assert!(rt; differs(alloc, 1, queued(0, 1))?);
+    assert!(rt; differs(alloc, 1, queued(u64::MAX, 0))?);
+    assert!(rt; differs(alloc, 0, Reply::Exhausted)?);
     Ok(())
 }
 
@@ -57,19 +56,23 @@ fn overtaking(alloc: Global) -> Result<Vec<Entry>, Fail> {
         flow: 0,
         start: 2_000_000,
     };
+    let slow = configure("pipe 1 config bw 8Mbit/s delay 50")?;
+    let fast = configure("pipe 1 config bw 8Mbit/s")?;
+    let first = packet(0)?;
+    let second = packet(2_000_000)?;
+    let collect = Call::Collect(moment(3_000_000)?);
     let given = Reply::Delivered {
         at: 3_000_000,
         list: Deliveries::from_vec(Vec::from_slice(alloc, &[delivery])?),
     };
-    let slow = configure("pipe 1 config bw 8Mbit/s delay 50")?;
-    let fast = configure("pipe 1 config bw 8Mbit/s")?;
-    let mut entries = Vec::new(alloc);
-    entries.push(entry(slow, Reply::Configured))?;
-    entries.push(entry(packet(0)?, queued(0, 0)))?;
-    entries.push(entry(fast, Reply::Configured))?;
-    entries.push(entry(packet(2_000_000)?, queued(2_000_000, 1)))?;
-    entries.push(entry(Call::Collect(moment(3_000_000)?), given))?;
-    Ok(entries)
+    let entries = [
+        entry(slow, Reply::Configured),
+        entry(first, queued(0, 0)),
+        entry(fast, Reply::Configured),
+        entry(second, queued(2_000_000, 1)),
+        entry(collect, given),
+    ];
+    Ok(Vec::from_array(alloc, entries)?)
 }
 
 #[test]

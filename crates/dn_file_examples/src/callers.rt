@@ -43,6 +43,18 @@ pub fn replay_by<G: Gate + Sync, R: Threads + Wait + Sync>(
     replay_callers(rt, alloc, n, &mut config, &mut packets, &mut out, gate)
 }
 
+// Whether a report has a line for each of so many rows that came out.
+fn has_rows(alloc: Global, report: &[u8], rows: u64) -> Result<bool, Fail> {
+    let text = str::from_utf8(report)?;
+    for row in 1..=rows {
+        let line = format!(in alloc; "\nout,{row},0,")?;
+        if !text.contains(line.as_str()) {
+            return Ok(false);
+        }
+    }
+    Ok(true)
+}
+
 // Both callers are there before either submits, which one thread could not bring about.
 #[test]
 fn callers_overlap(rt: HostRuntime) -> Result<(), Fail> {
@@ -52,12 +64,28 @@ fn callers_overlap(rt: HostRuntime) -> Result<(), Fail> {
         seen: AtomicU64::new(0),
     };
     let mut written = Vec::new(rt.alloc());
-    let entries = replay_by(&rt, &mut written, 2, PIPE, TWO_ROWS, &gate)?;
+    let calls = replay_by(&rt, &mut written, 2, PIPE, TWO_ROWS, &gate)?.len();
     assert!(rt; gate.seen.load(Ordering::SeqCst) == 2);
-    assert!(rt; entries.len() == 4);
-    let text = String::from_utf8(written)?;
-    assert!(rt; text.contains("\nout,1,0,") && text.contains("\nout,2,0,"));
+    assert!(rt; calls == 4);
+    assert!(rt; has_rows(rt.alloc(), written.as_slice(), 2)?);
     Ok(())
+}
+
+// Whether the calls are a Configure, a Submit by caller 1, one by caller 0 and a Collect.
+fn is_one_first(entries: &[Entry]) -> bool {
+    let [configure, first, second, collect] = entries else {
+        return false;
+    };
+    [
+        configure.caller,
+        first.caller,
+        second.caller,
+        collect.caller,
+    ] == [0, 1, 0, 0]
+        && matches!(configure.call, Call::Configure(_))
+        && matches!(first.call, Call::Submit { .. })
+        && matches!(second.call, Call::Submit { .. })
+        && matches!(collect.call, Call::Collect(_))
 }
 
 // The second row is submitted first, so its packet is the first.
@@ -69,13 +97,9 @@ fn a_gate_chooses_the_order(rt: HostRuntime) -> Result<(), Fail> {
     };
     let mut written = Vec::new(alloc);
     let entries = replay_by(&rt, &mut written, 2, PIPE, TWO_ROWS, &gate)?;
+    assert!(rt; is_one_first(&entries));
     let report = format!(in alloc; "{REPORT_HEADER}out,2,0,0,0,0,0\nout,1,0,1,0,0,0\n")?;
     assert!(rt; written.as_slice() == report.as_bytes());
-    assert!(rt; entries.len() == 4);
-    assert!(rt; entries[0].caller == 0 && matches!(entries[0].call, Call::Configure(_)));
-    assert!(rt; entries[1].caller == 1 && matches!(entries[1].call, Call::Submit { .. }));
-    assert!(rt; entries[2].caller == 0 && matches!(entries[2].call, Call::Submit { .. }));
-    assert!(rt; entries[3].caller == 0 && matches!(entries[3].call, Call::Collect(_)));
     Ok(())
 }
 
@@ -91,10 +115,25 @@ fn bad_counts_of_callers(rt: HostRuntime) {
     }
 }
 
+// Whether a replay by two callers is refused for the fault of a replay by one, and writes nothing.
+fn has_same_fault<R: Threads + Wait + Sync>(
+    rt: &R,
+    alloc: Global,
+    config: &str,
+    packets: &str,
+) -> bool {
+    let mut written = Vec::new(alloc);
+    match replay_by(rt, &mut written, 2, config, packets, &NoGate) {
+        Ok(_) => false,
+        Err(fault) => {
+            written.is_empty() && replay_files(alloc, config, packets).answer == Err(fault)
+        }
+    }
+}
+
 // The faults of the inputs are those of a replay by one caller.
 #[test]
-fn faults_of_a_replay_by_callers(rt: HostRuntime) -> Result<(), Fail> {
-    let alloc = rt.alloc();
+fn faults_of_a_replay_by_callers(rt: HostRuntime) {
     for (config, packets) in [
         ("queue 1 config pipe 3\n", "0\n"),
         ("link 1\n", TWO_ROWS),
@@ -102,28 +141,31 @@ fn faults_of_a_replay_by_callers(rt: HostRuntime) -> Result<(), Fail> {
         (PIPE, "moment\n"),
         (PIPE, "0\n"),
     ] {
-        let mut written = Vec::new(alloc);
-        let answer = replay_by(&rt, &mut written, 2, config, packets, &NoGate);
-        let alone = replay_files(alloc, config, packets);
-        assert!(rt; answer.is_err() && answer.err() == alone.answer.err());
-        assert!(rt; written.is_empty());
+        assert!(rt; has_same_fault(&rt, rt.alloc(), config, packets));
     }
-    Ok(())
+}
+
+// Whether a replay by one caller has the history of a replay alone. Their reports are added to these two.
+fn has_same_history<R: Threads + Wait + Sync>(
+    rt: &R,
+    written: &mut Vec<u8>,
+    alone: &mut Vec<u8>,
+) -> Result<bool, ReplayFault> {
+    let alloc: Global = *alone.allocator();
+    let entries = replay_by(rt, written, 1, PIPE, SEVEN_ROWS, &NoGate)?;
+    let mut config = FromReader::new(PIPE.as_bytes());
+    let mut packets = FromReader::new(SEVEN_ROWS.as_bytes());
+    let mut out = FromWriter::new(alone);
+    let history = replay(alloc, &mut config, &mut packets, &mut out)?;
+    Ok(entries.as_slice() == history.as_slice())
 }
 
 #[test]
 fn one_caller_replays_alone(rt: HostRuntime) -> Result<(), Fail> {
     let alloc = rt.alloc();
     let mut written = Vec::new(alloc);
-    let entries = replay_by(&rt, &mut written, 1, PIPE, SEVEN_ROWS, &NoGate)?;
     let mut alone = Vec::new(alloc);
-    let history = replay(
-        alloc,
-        &mut FromReader::new(PIPE.as_bytes()),
-        &mut FromReader::new(SEVEN_ROWS.as_bytes()),
-        &mut FromWriter::new(&mut alone),
-    )?;
-    assert!(rt; entries.as_slice() == history.as_slice());
+    assert!(rt; has_same_history(&rt, &mut written, &mut alone)?);
     assert!(rt; written.as_slice() == alone.as_slice());
     assert!(rt; alone.len() > REPORT_HEADER.len());
     Ok(())
@@ -142,28 +184,44 @@ fn rows_of(entries: &[Entry], caller: usize) -> u32 {
     rows
 }
 
+// The rows of callers 0, 1 and 2 in a replay by n callers, whose report is added to `written`.
+fn rows_by<R: Threads + Wait + Sync>(
+    rt: &R,
+    written: &mut Vec<u8>,
+    n: usize,
+    gate: &Count,
+) -> Result<[u32; 3], ReplayFault> {
+    let entries = replay_by(rt, written, n, PIPE, SEVEN_ROWS, gate)?;
+    Ok([
+        rows_of(&entries, 0),
+        rows_of(&entries, 1),
+        rows_of(&entries, 2),
+    ])
+}
+
+// Whether these rows fall to n callers, caller 2 has this last turn, and each row comes out.
+fn rows_fall<R: Threads + Wait + Sync>(
+    rt: &R,
+    alloc: Global,
+    n: usize,
+    last: u64,
+    rows: [u32; 3],
+) -> Result<bool, Fail> {
+    let gate = Count {
+        before: AtomicU64::new(0),
+        after: AtomicU64::new(0),
+        last: AtomicU64::new(0),
+    };
+    let mut written = Vec::new(alloc);
+    let fallen = rows_by(rt, &mut written, n, &gate)?;
+    let came_out = has_rows(alloc, written.as_slice(), 7)?;
+    Ok(fallen == rows && gate.counts() == [7, 7, last] && came_out)
+}
+
 #[test]
 fn rows_fall_to_callers_in_turn(rt: HostRuntime) -> Result<(), Fail> {
     let alloc = rt.alloc();
-    for (n, last, rows) in [(2, 0, [1357, 246, 0]), (3, 1, [147, 25, 36])] {
-        let gate = Count {
-            before: AtomicU64::new(0),
-            after: AtomicU64::new(0),
-            last: AtomicU64::new(0),
-        };
-        let mut written = Vec::new(alloc);
-        let entries = replay_by(&rt, &mut written, n, PIPE, SEVEN_ROWS, &gate)?;
-        for caller in 0..3 {
-            assert!(rt; rows_of(&entries, caller) == rows[caller]);
-        }
-        assert!(rt; gate.before.load(Ordering::SeqCst) == 7);
-        assert!(rt; gate.after.load(Ordering::SeqCst) == 7);
-        assert!(rt; gate.last.load(Ordering::SeqCst) == last);
-        let text = String::from_utf8(written)?;
-        for row in 1..=7 {
-            let line = format!(in alloc; "\nout,{row},0,")?;
-            assert!(rt; text.contains(line.as_str()));
-        }
-    }
+    assert!(rt; rows_fall(&rt, alloc, 2, 0, [1357, 246, 0])?);
+    assert!(rt; rows_fall(&rt, alloc, 3, 1, [147, 25, 36])?);
     Ok(())
 }

@@ -1,3 +1,4 @@
+use std::alloc::Global;
 use std::io;
 use std::io::{ErrorKind, Read, Write};
 
@@ -34,6 +35,16 @@ pub struct Sink {
     pub held: Vec<u8>,
     pub room: usize,
     pub when_full: WhenFull,
+}
+
+impl Sink {
+    pub fn new(alloc: Global, room: usize, when_full: WhenFull) -> Sink {
+        Sink {
+            held: Vec::new(alloc),
+            room,
+            when_full,
+        }
+    }
 }
 
 impl Write for Sink {

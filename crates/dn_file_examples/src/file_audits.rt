@@ -13,6 +13,14 @@ fn audits(alloc: Global, file: &str, answer: Result<Verdict, ReplayFault>, line:
     found == answer && written.as_slice() == line.as_bytes()
 }
 
+// Whether the file with this record in the place of its own differs at this entry.
+fn differs(alloc: Global, number: usize, record: &str, place: usize) -> Result<bool, Fail> {
+    let file = text_with(alloc, number, record)?;
+    let line = format!(in alloc; "differs {place}\n")?;
+    let answer = Ok(Verdict::Differs(place));
+    Ok(audits(alloc, file.as_str(), answer, line.as_str()))
+}
+
 #[test]
 fn files_of_one_caller(rt: HostRuntime) -> Result<(), Fail> {
     let alloc = rt.alloc();
@@ -22,13 +30,7 @@ fn files_of_one_caller(rt: HostRuntime) -> Result<(), Fail> {
         (5, "r,queued,18446744073709551615,0,0\n", 1),
         (3, "r,exhausted\n", 0),
     ] {
-        let file = text_with(alloc, number, record)?;
-        let line = format!(in alloc; "differs {place}\n")?;
-        let answer = Ok(Verdict::Differs(place));
-        assert!(rt;
-            audits(alloc, file.as_str(), answer, line.as_str()),
-            "{record}"
-        );
+        assert!(rt; differs(alloc, number, record, place)?, "{record}");
     }
     let empty = "dummynet-history,3\nend,0\n";
     assert!(rt; audits(alloc, empty, Ok(Verdict::Lawful), "lawful 0\n"));
@@ -74,22 +76,33 @@ fn a_file_without_its_last_record_has_no_verdict(rt: HostRuntime) -> Result<(), 
     Ok(())
 }
 
+// Whether a file that fails after so many of its bytes is told as failed, and nothing is written.
+fn read_fails(alloc: Global, good: usize) -> bool {
+    let mut written = Vec::new(alloc);
+    let mut input = FromReader::new(FailingReader {
+        rest: ONE_CALLER.as_bytes(),
+        good,
+    });
+    let answer = audit_file(alloc, &mut input, &mut FromWriter::new(&mut written));
+    answer == Err(ReplayFault::Read(Source::History)) && input.failed() && written.is_empty()
+}
+
 #[test]
 fn a_failed_read_has_no_verdict(rt: HostRuntime) {
-    let alloc = rt.alloc();
     for good in [0, 20, ONE_CALLER.len()] {
-        let mut written = Vec::new(alloc);
-        let mut input = FromReader::new(FailingReader {
-            rest: ONE_CALLER.as_bytes(),
-            good,
-        });
-        let answer = audit_file(alloc, &mut input, &mut FromWriter::new(&mut written));
-        assert!(rt;
-            answer == Err(ReplayFault::Read(Source::History)),
-            "{good} bytes"
-        );
-        assert!(rt; input.failed() && written.is_empty(), "{good} bytes");
+        assert!(rt; read_fails(rt.alloc(), good), "{good} bytes");
     }
+}
+
+// Whether an output that is full after so many bytes of the line is told as failed, and has exactly those.
+fn write_fails(alloc: Global, line: &[u8], room: usize, when_full: WhenFull) -> bool {
+    let mut sink = Sink::new(alloc, room, when_full);
+    let mut out = FromWriter::new(&mut sink);
+    let mut input = FromReader::new(ONE_CALLER.as_bytes());
+    let answer = audit_file(alloc, &mut input, &mut out);
+    out.failed()
+        && answer == Err(ReplayFault::Write(Source::Report))
+        && Some(sink.held.as_slice()) == line.get(..room)
 }
 
 // An output that fails, or takes nothing, after each number of the line's bytes: exactly those were written.
@@ -98,25 +111,13 @@ fn a_failed_write_of_a_verdict_is_told(rt: HostRuntime) {
     let alloc = rt.alloc();
     let line = b"lawful 4\n".as_slice();
     for room in 0..line.len() {
-        for when_full in [WhenFull::Fails, WhenFull::TakesNothing] {
-            let mut sink = Sink {
-                held: Vec::new(alloc),
-                room,
-                when_full,
-            };
-            let mut out = FromWriter::new(&mut sink);
-            let mut input = FromReader::new(ONE_CALLER.as_bytes());
-            let answer = audit_file(alloc, &mut input, &mut out);
-            let failed = out.failed();
-            assert!(rt;
-                answer == Err(ReplayFault::Write(Source::Report)),
-                "room {room}"
-            );
-            assert!(rt; failed, "room {room}");
-            assert!(rt;
-                Some(sink.held.as_slice()) == line.get(..room),
-                "room {room}"
-            );
-        }
+        assert!(rt;
+            write_fails(alloc, line, room, WhenFull::Fails),
+            "room {room}"
+        );
+        assert!(rt;
+            write_fails(alloc, line, room, WhenFull::TakesNothing),
+            "room {room}"
+        );
     }
 }

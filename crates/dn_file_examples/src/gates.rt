@@ -71,6 +71,17 @@ pub struct Count {
     pub last: AtomicU64,
 }
 
+impl Count {
+    // The calls before and after a row, and the last turn of caller 2.
+    pub fn counts(&self) -> [u64; 3] {
+        [
+            self.before.load(Ordering::SeqCst),
+            self.after.load(Ordering::SeqCst),
+            self.last.load(Ordering::SeqCst),
+        ]
+    }
+}
+
 impl Gate for Count {
     fn before(&self, caller: usize, turn: usize) {
         self.before.fetch_add(1, Ordering::SeqCst);

@@ -2,7 +2,7 @@ use dn_types::{
     Bandwidth, Call, Command, Delay, Deliveries, Delivery, Entry, FiveTuple, FlowKey, FlowStatus,
     Len, Limit, Loss, Mask, Moment, Number, Packet, Reply, Statuses, Target,
 };
-use std::alloc::Global;
+use std::alloc::{AllocError, Global};
 use std::test::Fail;
 
 pub const NO_BITS: Mask = Mask {
@@ -110,18 +110,26 @@ pub fn flow_state() -> Result<FlowStatus, Fail> {
     })
 }
 
-// What is refused memory in these three is tried once more, so that a call under test is made all the same.
-fn delivered(alloc: Global) -> Result<Reply, Fail> {
-    let mut items = Vec::new(alloc);
-    if items.reserve(1).is_err() {
-        items.reserve(1)?;
+// A list of these. What is refused memory is tried twice more, so that a call under test is made all the same.
+fn list_of<T: Drop, const N: usize>(alloc: Global, items: [T; N]) -> Result<Vec<T>, AllocError> {
+    let items = match Vec::from_array(alloc, items) {
+        Ok(list) => return Ok(list),
+        Err(refused) => refused.value,
+    };
+    match Vec::from_array(alloc, items) {
+        Ok(list) => Ok(list),
+        Err(refused) => Ok(Vec::from_array(alloc, refused.value)?),
     }
-    items.push(Delivery {
+}
+
+fn delivered(alloc: Global) -> Result<Reply, AllocError> {
+    let delivery = Delivery {
         due: 1_000_000,
         packet: 0,
         flow: 0,
         start: 0,
-    })?;
+    };
+    let items = list_of(alloc, [delivery])?;
     Ok(Reply::Delivered {
         at: 1_000_000,
         list: Deliveries::from_vec(items),
@@ -132,11 +140,7 @@ fn status(alloc: Global) -> Result<Reply, Fail> {
     // The prover asks that a body that moves a state into a list names the types in it.
     let _key: Option<FlowKey> = None;
     let _target: Option<Target> = None;
-    let mut items = Vec::new(alloc);
-    if items.reserve(1).is_err() {
-        items.reserve(1)?;
-    }
-    items.push(one_started()?)?;
+    let items = list_of(alloc, [one_started()?])?;
     Ok(Reply::Status {
         list: Statuses::from_vec(items),
     })
@@ -160,13 +164,13 @@ pub fn one_caller(alloc: Global) -> Result<Vec<Entry>, Fail> {
     let pipe = Call::Configure(pipe_one().ok_or("the values are in range")?);
     let packet = submit(Target::Pipe(number(1)?), moment(0)?)?;
     let collect = Call::Collect(moment(1_000_000)?);
-    let mut entries = Vec::new(alloc);
-    if entries.reserve(4).is_err() {
-        entries.reserve(4)?;
-    }
-    entries.push(entry(pipe, Reply::Configured))?;
-    entries.push(entry(packet, queued))?;
-    entries.push(entry(collect, delivered(alloc)?))?;
-    entries.push(entry(Call::Show, status(alloc)?))?;
-    Ok(entries)
+    let delivered = delivered(alloc)?;
+    let status = status(alloc)?;
+    let entries = [
+        entry(pipe, Reply::Configured),
+        entry(packet, queued),
+        entry(collect, delivered),
+        entry(Call::Show, status),
+    ];
+    Ok(list_of(alloc, entries)?)
 }

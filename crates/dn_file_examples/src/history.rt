@@ -2,10 +2,10 @@ use crate::fakes::{Sink, WhenFull};
 use crate::histories::{NO_BITS, entry, flow_state, number, one_caller, pipe_one, submit};
 use dn_replay::{FromReader, FromWriter, Outlet, ReplayFault, Source, read_history, write_history};
 use dn_types::{
-    Bandwidth, Buckets, Call, Command, Delay, Deliveries, Delivery, Entry, FlowKey, Limit, Loss,
-    Mask, Moment, Number, Reply, Rule, Statuses, Target, Weight,
+    Bandwidth, Buckets, Call, Command, Delay, Deliveries, Delivery, Entry, FlowKey, FlowStatus,
+    Limit, Loss, Mask, Moment, Number, Reply, Rule, Statuses, Target, Weight,
 };
-use std::alloc::Global;
+use std::alloc::{AllocError, Global};
 use std::test::Fail;
 
 pub const ONE_CALLER: &str = "dummynet-history,3\n\
@@ -43,12 +43,7 @@ fn writes_call(alloc: Global, caller: usize, call: Call, line: &str) -> Result<b
 // The same of a reply to a Show by caller 0.
 fn writes_reply(alloc: Global, reply: Reply, reply_lines: &str) -> Result<bool, Fail> {
     let lines = format!(in alloc; "c,0,show\n{reply_lines}")?;
-    let entry = Entry {
-        caller: 0,
-        call: Call::Show,
-        reply,
-    };
-    writes(alloc, entry, lines.as_str())
+    writes(alloc, entry(Call::Show, reply), lines.as_str())
 }
 
 #[test]
@@ -101,22 +96,22 @@ fn commands() -> Option<[Command; 5]> {
     ])
 }
 
+// The lines of these commands, in their order.
+static COMMAND_LINES: [&str; 5] = [
+    "c,15,configure,pipe 1 config bw 8000000bit/s\n",
+    "c,15,configure,pipe 65535 config bw 1000000000000bit/s delay 3600000 queue 1024Kbytes \
+     plr 0.500000000000000000 buckets 64 mask dst-ip 0x000000ff\n",
+    "c,15,configure,queue 2 config pipe 1 weight 100\n",
+    "c,15,configure,pipe delete 7\n",
+    "c,15,configure,queue delete 65535\n",
+];
+
 #[test]
 fn commands_stand_as_canonical_text(rt: HostRuntime) -> Result<(), Fail> {
-    let alloc = rt.alloc();
-    let [pipe, options, queue, no_pipe, no_queue] = commands().ok_or("the values are in range")?;
-    for (command, line) in [
-        (pipe, "c,15,configure,pipe 1 config bw 8000000bit/s\n"),
-        (
-            options,
-            "c,15,configure,pipe 65535 config bw 1000000000000bit/s delay 3600000 queue 1024Kbytes \
-             plr 0.500000000000000000 buckets 64 mask dst-ip 0x000000ff\n",
-        ),
-        (queue, "c,15,configure,queue 2 config pipe 1 weight 100\n"),
-        (no_pipe, "c,15,configure,pipe delete 7\n"),
-        (no_queue, "c,15,configure,queue delete 65535\n"),
-    ] {
-        assert!(rt; writes_call(alloc, 15, Call::Configure(command), line)?);
+    let commands = commands().ok_or("the values are in range")?;
+    for (command, line) in commands.iter().zip(COMMAND_LINES.iter()) {
+        let call = Call::Configure(*command);
+        assert!(rt; writes_call(rt.alloc(), 15, call, line)?);
     }
     Ok(())
 }
@@ -173,6 +168,21 @@ fn replies_without_a_list(rt: HostRuntime) -> Result<(), Fail> {
     Ok(())
 }
 
+// The same of a reply with these packets.
+fn writes_delivered(alloc: Global, at: u64, items: &[Delivery], lines: &str) -> Result<bool, Fail> {
+    let list = Deliveries::from_vec(Vec::from_slice(alloc, items)?);
+    writes_reply(alloc, Reply::Delivered { at, list }, lines)
+}
+
+// The same of a reply with these states.
+fn writes_status(alloc: Global, items: &[FlowStatus], lines: &str) -> Result<bool, Fail> {
+    // The prover asks that a body that moves a state into a list names the types in it.
+    let _key: Option<FlowKey> = None;
+    let _target: Option<Target> = None;
+    let list = Statuses::from_vec(Vec::from_slice(alloc, items)?);
+    writes_reply(alloc, Reply::Status { list }, lines)
+}
+
 // A list has its count and then a line an item.
 #[test]
 fn replies_with_a_list(rt: HostRuntime) -> Result<(), Fail> {
@@ -187,21 +197,15 @@ fn replies_with_a_list(rt: HostRuntime) -> Result<(), Fail> {
         due: u64::MAX,
         ..first
     };
-    let list = Deliveries::from_vec(Vec::from_slice(alloc, &[first, second])?);
     let lines = "r,delivered,9,2\nd,1,2,3,4\nd,1,2,3,18446744073709551615\n";
-    assert!(rt; writes_reply(alloc, Reply::Delivered { at: 9, list }, lines)?);
-    let list = Deliveries::from_vec(Vec::new(alloc));
-    assert!(rt; writes_reply(alloc, Reply::Delivered { at: 0, list }, "r,delivered,0,0\n")?);
-    let list = Statuses::from_vec(Vec::new(alloc));
-    assert!(rt; writes_reply(alloc, Reply::Status { list }, "r,status,0\n")?);
-    // The prover asks that a body that moves a state into a list names the types in it.
-    let _key: Option<FlowKey> = None;
-    let _target: Option<Target> = None;
-    let list = Statuses::from_vec(Vec::from_slice(alloc, &[flow_state()?, flow_state()?])?);
+    assert!(rt; writes_delivered(alloc, 9, &[first, second], lines)?);
+    assert!(rt; writes_delivered(alloc, 0, &[], "r,delivered,0,0\n")?);
+    assert!(rt; writes_status(alloc, &[], "r,status,0\n")?);
+    let state = flow_state()?;
     let lines = "r,status,2\n\
          f,1,queue,3,4,255.255.255.0,0.0.0.255,255,65535,1,10.0.0.0,0.0.0.9,6,40000,1,5,6,7,8,9,10\n\
          f,1,queue,3,4,255.255.255.0,0.0.0.255,255,65535,1,10.0.0.0,0.0.0.9,6,40000,1,5,6,7,8,9,10\n";
-    assert!(rt; writes_reply(alloc, Reply::Status { list }, lines)?);
+    assert!(rt; writes_status(alloc, &[state, state], lines)?);
     Ok(())
 }
 
@@ -209,15 +213,21 @@ fn replies_with_a_list(rt: HostRuntime) -> Result<(), Fail> {
 fn a_history_is_written_byte_by_byte(rt: HostRuntime) -> Result<(), Fail> {
     let alloc = rt.alloc();
     let entries = one_caller(alloc)?;
-    let mut sink = Sink {
-        held: Vec::new(alloc),
-        room: ONE_CALLER.len(),
-        when_full: WhenFull::Fails,
-    };
+    let mut sink = Sink::new(alloc, ONE_CALLER.len(), WhenFull::Fails);
     let outcome = write_history(alloc, &entries, &mut FromWriter::new(&mut sink));
     assert!(rt; outcome == Ok(()));
     assert!(rt; sink.held.as_slice() == ONE_CALLER.as_bytes());
     Ok(())
+}
+
+// Whether an output that is full after so many bytes of this history is told as failed, and has exactly those.
+fn write_fails(alloc: Global, entries: &[Entry], room: usize, when_full: WhenFull) -> bool {
+    let mut sink = Sink::new(alloc, room, when_full);
+    let mut out = FromWriter::new(&mut sink);
+    let outcome = write_history(alloc, entries, &mut out);
+    out.failed()
+        && outcome == Err(ReplayFault::Write(Source::History))
+        && Some(sink.held.as_slice()) == ONE_CALLER.as_bytes().get(..room)
 }
 
 // An output that fails, or takes nothing, after each number of the file's bytes: exactly those were written.
@@ -226,25 +236,14 @@ fn a_failed_write_of_a_history_is_told(rt: HostRuntime) -> Result<(), Fail> {
     let alloc = rt.alloc();
     let entries = one_caller(alloc)?;
     for room in 0..ONE_CALLER.len() {
-        for when_full in [WhenFull::Fails, WhenFull::TakesNothing] {
-            let mut sink = Sink {
-                held: Vec::new(alloc),
-                room,
-                when_full,
-            };
-            let mut out = FromWriter::new(&mut sink);
-            let outcome = write_history(alloc, &entries, &mut out);
-            let failed = out.failed();
-            assert!(rt;
-                outcome == Err(ReplayFault::Write(Source::History)),
-                "room {room}"
-            );
-            assert!(rt; failed, "room {room}");
-            assert!(rt;
-                Some(sink.held.as_slice()) == ONE_CALLER.as_bytes().get(..room),
-                "room {room}"
-            );
-        }
+        assert!(rt;
+            write_fails(alloc, &entries, room, WhenFull::Fails),
+            "room {room}"
+        );
+        assert!(rt;
+            write_fails(alloc, &entries, room, WhenFull::TakesNothing),
+            "room {room}"
+        );
     }
     Ok(())
 }
@@ -268,17 +267,27 @@ fn of_each_kind(alloc: Global) -> Result<Vec<Entry>, Fail> {
     Ok(entries)
 }
 
+// Adds a Configure of each of these commands.
+fn push_commands(entries: &mut Vec<Entry>, commands: &[Command]) -> Result<(), AllocError> {
+    for command in commands {
+        entries.push(entry(Call::Configure(*command), Reply::Configured))?;
+    }
+    Ok(())
+}
+
+// Whether a history that is written is read as these entries, by the rule Ordered.
+fn is_read_back(alloc: Global, entries: &[Entry]) -> Result<bool, ReplayFault> {
+    let mut text = Vec::new(alloc);
+    write_history(alloc, entries, &mut FromWriter::new(&mut text))?;
+    let (rule, read) = read_history(alloc, &mut FromReader::new(text.as_slice()))?;
+    Ok(rule == Rule::Ordered && read.as_slice() == entries)
+}
+
 #[test]
 fn what_is_written_is_read(rt: HostRuntime) -> Result<(), Fail> {
-    let alloc = rt.alloc();
-    let mut entries = of_each_kind(alloc)?;
-    for command in commands().ok_or("the values are in range")? {
-        entries.push(entry(Call::Configure(command), Reply::Configured))?;
-    }
-    let mut text = Vec::new(alloc);
-    write_history(alloc, &entries, &mut FromWriter::new(&mut text))?;
-    let (rule, read) = read_history(alloc, &mut FromReader::new(text.as_slice()))?;
-    assert!(rt; rule == Rule::Ordered);
-    assert!(rt; read.as_slice() == entries.as_slice());
+    let commands = commands().ok_or("the values are in range")?;
+    let mut entries = of_each_kind(rt.alloc())?;
+    push_commands(&mut entries, &commands)?;
+    assert!(rt; is_read_back(rt.alloc(), &entries)?);
     Ok(())
 }

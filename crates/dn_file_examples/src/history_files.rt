@@ -37,16 +37,19 @@ pub fn text_with(alloc: Global, number: usize, other: &str) -> Result<String, Fa
     Ok(text)
 }
 
+// Whether a history file is read as these entries, by the rule Ordered, and no read fails.
+pub fn is_read_as(alloc: Global, text: &[u8], expected: &[Entry]) -> Result<bool, ReplayFault> {
+    let mut input = FromReader::new(text);
+    let (rule, entries) = read_history(alloc, &mut input)?;
+    Ok(!input.failed() && rule == Rule::Ordered && entries.as_slice() == expected)
+}
+
 #[test]
 fn one_callers_history_is_read(rt: HostRuntime) -> Result<(), Fail> {
     let alloc = rt.alloc();
     let text = text_with(alloc, 0, "")?;
-    let mut input = FromReader::new(text.as_bytes());
-    let (rule, entries) = read_history(alloc, &mut input)?;
     let expected = one_caller(alloc)?;
-    assert!(rt; !input.failed());
-    assert!(rt; rule == Rule::Ordered);
-    assert!(rt; entries.as_slice() == expected.as_slice());
+    assert!(rt; is_read_as(alloc, text.as_bytes(), &expected)?);
     Ok(())
 }
 
@@ -101,7 +104,7 @@ fn a_cut_history_is_refused(rt: HostRuntime) -> Result<(), Fail> {
 }
 
 // Records in the place of one of the file, by its number, and what the file then is.
-const OTHERS: [(usize, &str, Result<(Rule, usize), ReplayFault>); 18] = [
+static OTHERS: [(usize, &str, Result<(Rule, usize), ReplayFault>); 18] = [
     // No room is taken by this count.
     (
         7,
@@ -154,15 +157,15 @@ const OTHERS: [(usize, &str, Result<(Rule, usize), ReplayFault>); 18] = [
 #[test]
 fn other_records_are_judged(rt: HostRuntime) -> Result<(), Fail> {
     let alloc = rt.alloc();
-    for (number, record, answer) in OTHERS {
-        let text = text_with(alloc, number, record)?;
-        assert!(rt; read(alloc, text.as_bytes()) == answer, "{record}");
+    for (number, record, answer) in OTHERS.iter() {
+        let text = text_with(alloc, *number, record)?;
+        assert!(rt; read(alloc, text.as_bytes()) == *answer, "{record}");
     }
     Ok(())
 }
 
 // Version 1 has no deletes, no replies to them, and no count of discarded packets.
-const OF_VERSION_ONE: [(&str, Result<(Rule, usize), ReplayFault>); 6] = [
+static OF_VERSION_ONE: [(&str, Result<(Rule, usize), ReplayFault>); 6] = [
     (
         "c,0,configure,pipe 1 config\nr,configured\n",
         Ok((Rule::Free, 1)),
@@ -189,9 +192,9 @@ const OF_VERSION_ONE: [(&str, Result<(Rule, usize), ReplayFault>); 6] = [
 #[test]
 fn old_histories_are_read(rt: HostRuntime) -> Result<(), Fail> {
     let alloc = rt.alloc();
-    for (records, answer) in OF_VERSION_ONE {
+    for (records, answer) in OF_VERSION_ONE.iter() {
         let text = format!(in alloc; "dummynet-history,1\n{records}end,1\n")?;
-        assert!(rt; read(alloc, text.as_bytes()) == answer, "{records}");
+        assert!(rt; read(alloc, text.as_bytes()) == *answer, "{records}");
     }
     Ok(())
 }

@@ -1,7 +1,8 @@
 use crate::headers::{PACKET_HEADER, REPORT_HEADER};
 use dn_records::{FromReader, FromWriter};
 use dn_replay::{ReplayFault, read_config, read_packets, replay, replay_joined};
-use std::alloc::Global;
+use std::alloc::{AllocError, Global};
+use std::io::Read;
 use std::test::Fail;
 
 // What a replay answers, by the count of its entries, and what it writes.
@@ -11,9 +12,25 @@ pub struct Outcome {
     pub written: Vec<u8>,
 }
 
-pub fn replay_files(alloc: Global, config: &str, packets: &str) -> Outcome {
-    let mut config = FromReader::new(config.as_bytes());
-    let mut packets = FromReader::new(packets.as_bytes());
+impl Outcome {
+    // Whether so many calls were made and this report was written.
+    fn is_report(&self, calls: usize, report: &str) -> bool {
+        self.answer == Ok(calls) && self.written.as_slice() == report.as_bytes()
+    }
+
+    // Whether the replay was refused for this fault, and wrote nothing.
+    pub fn is_refused(&self, fault: ReplayFault) -> bool {
+        self.answer == Err(fault) && self.written.is_empty()
+    }
+}
+
+pub fn replay_readers<C: Read + Drop, P: Read + Drop>(
+    alloc: Global,
+    config: C,
+    packets: P,
+) -> Outcome {
+    let mut config = FromReader::new(config);
+    let mut packets = FromReader::new(packets);
     let mut written = Vec::new(alloc);
     let mut out = FromWriter::new(&mut written);
     let history = replay(alloc, &mut config, &mut packets, &mut out);
@@ -21,8 +38,12 @@ pub fn replay_files(alloc: Global, config: &str, packets: &str) -> Outcome {
     Outcome { answer, written }
 }
 
-pub fn replay_text(alloc: Global, text: &str) -> Outcome {
-    let mut input = FromReader::new(text.as_bytes());
+pub fn replay_files(alloc: Global, config: &str, packets: &str) -> Outcome {
+    replay_readers(alloc, config.as_bytes(), packets.as_bytes())
+}
+
+pub fn replay_joined_reader<I: Read + Drop>(alloc: Global, input: I) -> Outcome {
+    let mut input = FromReader::new(input);
     let mut written = Vec::new(alloc);
     let mut out = FromWriter::new(&mut written);
     let history = replay_joined(alloc, &mut input, &mut out);
@@ -30,53 +51,50 @@ pub fn replay_text(alloc: Global, text: &str) -> Outcome {
     Outcome { answer, written }
 }
 
-// Whether a configuration and the packets below a header give these lines of a report, after so many calls, from
-// two files and from one joined input.
+pub fn replay_text(alloc: Global, text: &str) -> Outcome {
+    replay_joined_reader(alloc, text.as_bytes())
+}
+
+// The outcomes of a configuration and of the packets below a header: from two files, and from one joined input.
+fn both_ways(alloc: Global, config: &str, rows: &str) -> Result<(Outcome, Outcome), AllocError> {
+    let packets = format!(in alloc; "{PACKET_HEADER}{rows}")?;
+    let text = format!(in alloc; "{config}--\n{packets}")?;
+    let files = replay_files(alloc, config, packets.as_str());
+    let joined = replay_text(alloc, text.as_str());
+    Ok((files, joined))
+}
+
+// Whether they give these lines of a report, after so many calls, both ways.
 fn reports(
     alloc: Global,
     config: &str,
     rows: &str,
     calls: usize,
     lines: &str,
-) -> Result<bool, Fail> {
-    let packets = format!(in alloc; "{PACKET_HEADER}{rows}")?;
-    let text = format!(in alloc; "{config}--\n{packets}")?;
+) -> Result<bool, AllocError> {
     let report = format!(in alloc; "{REPORT_HEADER}{lines}")?;
-    let files = replay_files(alloc, config, packets.as_str());
-    let joined = replay_text(alloc, text.as_str());
-    Ok(
-        files.answer == Ok(calls)
-            && files.written.as_slice() == report.as_bytes()
-            && joined.answer == Ok(calls)
-            && joined.written.as_slice() == report.as_bytes(),
-    )
+    let (files, joined) = both_ways(alloc, config, rows)?;
+    Ok(files.is_report(calls, report.as_str()) && joined.is_report(calls, report.as_str()))
 }
 
 // Whether they are refused for this fault, both ways, and nothing is written.
-fn refuses(alloc: Global, config: &str, rows: &str, fault: ReplayFault) -> Result<bool, Fail> {
-    let packets = format!(in alloc; "{PACKET_HEADER}{rows}")?;
-    let text = format!(in alloc; "{config}--\n{packets}")?;
-    let files = replay_files(alloc, config, packets.as_str());
-    let joined = replay_text(alloc, text.as_str());
-    Ok(
-        files.answer == Err(fault)
-            && files.written.is_empty()
-            && joined.answer == Err(fault)
-            && joined.written.is_empty(),
-    )
+fn refuses(
+    alloc: Global,
+    config: &str,
+    rows: &str,
+    fault: ReplayFault,
+) -> Result<bool, AllocError> {
+    let (files, joined) = both_ways(alloc, config, rows)?;
+    Ok(files.is_refused(fault) && joined.is_refused(fault))
 }
 
 #[test]
 fn empty_packet_file(rt: HostRuntime) -> Result<(), Fail> {
     let alloc = rt.alloc();
     assert!(rt; reports(alloc, "", "", 1, "")?);
-    for outcome in [
-        replay_files(alloc, "", ""),
-        replay_text(alloc, ""),
-        replay_text(alloc, "--\n"),
-    ] {
-        assert!(rt; outcome.answer == Ok(1));
-        assert!(rt; outcome.written.as_slice() == REPORT_HEADER.as_bytes());
+    assert!(rt; replay_files(alloc, "", "").is_report(1, REPORT_HEADER));
+    for text in ["", "--\n"] {
+        assert!(rt; replay_text(alloc, text).is_report(1, REPORT_HEADER));
     }
     Ok(())
 }
@@ -118,6 +136,24 @@ fn a_full_queue(rt: HostRuntime) -> Result<(), Fail> {
     Ok(())
 }
 
+// The count of the packets that are read below a header.
+fn count_packets(alloc: Global, rows: &str) -> Result<usize, ReplayFault> {
+    let Ok(text) = format!(in alloc; "{PACKET_HEADER}{rows}") else {
+        return Err(ReplayFault::OutOfMemory);
+    };
+    let mut file = FromReader::new(text.as_bytes());
+    Ok(read_packets(alloc, &mut file)?.len())
+}
+
+// A row at the last moment.
+static LAST_ROW: &str = "4611686018427387904,pipe,1,10.0.0.1,10.0.0.2,17,1000,2000,1000,0\n";
+
+// A row after it.
+static LATE_ROW: &str = "4611686018427387905,pipe,1,10.0.0.1,10.0.0.2,17,1000,2000,1000,0\n";
+
+// A row to a queue that isn't configured.
+static LOST_ROW: &str = "5,queue,9,10.0.0.1,10.0.0.2,17,1000,2000,1000,0\n";
+
 // A row with too few fields, one after the last moment, one at it, which is held where it has a delay, and one to a
 // queue that isn't configured.
 #[test]
@@ -125,25 +161,14 @@ fn packet_rows(rt: HostRuntime) -> Result<(), Fail> {
     let alloc = rt.alloc();
     let short = ReplayFault::BadRow { row: 1, field: 0 };
     let late = ReplayFault::BadRow { row: 1, field: 1 };
-    let last = "4611686018427387904,pipe,1,10.0.0.1,10.0.0.2,17,1000,2000,1000,0\n";
     let out = "out,1,0,0,4611686018427387904,4611686018427387904,4611686018427387904\n";
     let held = "held,1,0,0,4611686018427387904,,\n";
-    let nowhere = "5,queue,9,10.0.0.1,10.0.0.2,17,1000,2000,1000,0\n";
     assert!(rt; refuses(alloc, "pipe 1 config\n", "0,pipe,1,10.0.0.1,10.0\n", short)?);
-    assert!(rt;
-        refuses(
-            alloc,
-            "pipe 1 config\n",
-            "4611686018427387905,pipe,1,10.0.0.1,10.0.0.2,17,1000,2000,1000,0\n",
-            late
-        )?
-    );
-    assert!(rt; reports(alloc, "pipe 1 config\n", last, 3, out)?);
-    assert!(rt; reports(alloc, "pipe 1 config delay 1\n", last, 3, held)?);
-    assert!(rt; reports(alloc, "pipe 1 config\n", nowhere, 3, "none,1,,,5,,\n")?);
-    let text = format!(in alloc; "{PACKET_HEADER}{nowhere}")?;
-    let mut file = FromReader::new(text.as_bytes());
-    assert!(rt; read_packets(alloc, &mut file).map(|rows| rows.len()) == Ok(1));
+    assert!(rt; refuses(alloc, "pipe 1 config\n", LATE_ROW, late)?);
+    assert!(rt; reports(alloc, "pipe 1 config\n", LAST_ROW, 3, out)?);
+    assert!(rt; reports(alloc, "pipe 1 config delay 1\n", LAST_ROW, 3, held)?);
+    assert!(rt; reports(alloc, "pipe 1 config\n", LOST_ROW, 3, "none,1,,,5,,\n")?);
+    assert!(rt; count_packets(alloc, LOST_ROW) == Ok(1));
     Ok(())
 }
 

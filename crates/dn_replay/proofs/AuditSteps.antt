@@ -43,3 +43,7 @@ all-lawful rule history i none lawful = subst (λ (front : List Entry). IsLawful
 pub on_err : {T E P : Type 0} (r : Result T E) → P → OnErr r P
 on_err (Ok x) p = tt
 on_err (Err e) p = p
+
+pub err-weaker : {T E P Q : Type 0} (r : Result T E) → (P → Q) → OnErr r P → OnErr r Q
+err-weaker (Ok x) less p = tt
+err-weaker (Err e) less p = less p

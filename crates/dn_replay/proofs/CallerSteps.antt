@@ -1,12 +1,12 @@
 -- A replay by several callers, and why there is none, step by step.
-use Rattle.std.proofs.Common.{◌≡◌, ◌∙◌, ap, subst, ℕ, Bool, true, false, List, Option, Some, None, Result, Err}
+use Rattle.std.proofs.Common.{◌≡◌, ◌∙◌, ap, subst, ℕ, Bool, false, List, Option, None}
 use Rattle.dn_types.specs.History.{calls_of}
 use Rattle.dn_types.specs.declared.call.Call.{Call}
 use Rattle.dn_types.specs.declared.entry.Entry.{Entry}
 use Rattle.dn_replay.specs.CallerReplays.{IsCount, IsHistoryOfCallers, IsReplayOfCallers, IsUnreplayedByCallers, IsUnopened}
 use Rattle.dn_files.specs.PacketFile.{packet_file}
-use Rattle.dn_files.specs.Reading.{IsRefusal, IsRefusedFor, ReadsAs}
-use Rattle.dn_replay.specs.Replays.{AskFor, config_calls}
+use Rattle.dn_files.specs.Reading.{ReadsAs}
+use Rattle.dn_replay.specs.Replays.{AskFor, config_calls, IsUnread}
 use Rattle.dn_replay.specs.Report.{report}
 use Rattle.dn_replay.specs.Runs.{history_of}
 use Rattle.dn_files.specs.Writing.{IsUnwritten}
@@ -15,7 +15,8 @@ use Rattle.dn_files.specs.declared.replay_fault.ReplayFault.TheVariants.{BadRow,
 use Rattle.dn_files.specs.declared.row.Row.{Row}
 use Rattle.dn_files.specs.declared.source.Source.{Source}
 use Rattle.dn_files.specs.declared.source.Source.TheVariants.{Report}
-use Rattle.dn_replay.proofs.ReplaySteps.{keeps, made, refused_input}
+use Rattle.dn_replay.proofs.OwnFaults.{no_count_asked}
+use Rattle.dn_replay.proofs.ReplaySteps.{keeps, made, unreplayed}
 
 -- The callers' history is one of what two inputs were read as, where the commands are those of the configuration's run.
 pub callers_replay : (n : ℕ) (config packets : Option (List ℕ)) (calls : List Call) (rows : List Row) (commands entries : List Entry) → ReadsAs config_calls config calls → ReadsAs packet_file packets rows
@@ -44,22 +45,21 @@ module _ (n : ℕ) (Unread : Type 0) (ReadFailed : Option Source → Type 0) (co
   unopened known failed (PipeHasQueues l) unread sound whole h = absurd h
   unopened known failed (NoSuchQueue l) unread sound whole h = absurd h
 
-  -- An input is refused, for a fault that is no bad count.
-  pub callers_refused : {A : Type 0} (source : Source) (read : List ℕ → Result A ReplayFault) (input known : Option (List ℕ)) (input_failed failed : Bool) (fault : ReplayFault)
-      → IsCount n → ((text : List ℕ) → read text ≡ Err BadCount → ⊥) → failed ≡ false → ((f : ReplayFault) → IsRefusedFor read input f → AskFor config packets (Err f)) → (input_failed ≡ false → ReadFailed None) → (input_failed ≡ true → ReadFailed (Some source))
-      → IsRefusal source read input input_failed fault → IsUnreplayedByCallers n Unread ReadFailed config packets known known failed fault
-  callers_refused source read input known input_failed failed BadCount count never whole asked sound reads h = absurd (never h.1.0 h.1.2)
-  callers_refused source read input known input_failed failed (Write what) count never whole asked sound reads h = absurd h
-  callers_refused source read input known input_failed failed OutOfMemory count never whole asked sound reads h = (count, refused_input ReadFailed (AskFor config packets) source read input known input_failed failed OutOfMemory whole asked sound reads h)
-  callers_refused source read input known input_failed failed (Read what) count never whole asked sound reads h = (count, refused_input ReadFailed (AskFor config packets) source read input known input_failed failed (Read what) whole asked sound reads h)
-  callers_refused source read input known input_failed failed (Config l f) count never whole asked sound reads h = (count, refused_input ReadFailed (AskFor config packets) source read input known input_failed failed (Config l f) whole asked sound reads h)
-  callers_refused source read input known input_failed failed (ConfigText l) count never whole asked sound reads h = (count, refused_input ReadFailed (AskFor config packets) source read input known input_failed failed (ConfigText l) whole asked sound reads h)
-  callers_refused source read input known input_failed failed (NoSuchPipe l) count never whole asked sound reads h = (count, refused_input ReadFailed (AskFor config packets) source read input known input_failed failed (NoSuchPipe l) whole asked sound reads h)
-  callers_refused source read input known input_failed failed (BadRow r f) count never whole asked sound reads h = (count, refused_input ReadFailed (AskFor config packets) source read input known input_failed failed (BadRow r f) whole asked sound reads h)
-  callers_refused source read input known input_failed failed (BadRecord r) count never whole asked sound reads h = (count, refused_input ReadFailed (AskFor config packets) source read input known input_failed failed (BadRecord r) whole asked sound reads h)
-  callers_refused source read input known input_failed failed (TooLong s) count never whole asked sound reads h = (count, refused_input ReadFailed (AskFor config packets) source read input known input_failed failed (TooLong s) whole asked sound reads h)
-  callers_refused source read input known input_failed failed (PipeHasQueues l) count never whole asked sound reads h = (count, refused_input ReadFailed (AskFor config packets) source read input known input_failed failed (PipeHasQueues l) whole asked sound reads h)
-  callers_refused source read input known input_failed failed (NoSuchQueue l) count never whole asked sound reads h = (count, refused_input ReadFailed (AskFor config packets) source read input known input_failed failed (NoSuchQueue l) whole asked sound reads h)
+  -- The inputs aren't read, for a fault that is no bad count.
+  pub callers_unread : (known : Option (List ℕ)) (failed : Bool) (fault : ReplayFault)
+      → IsCount n → failed ≡ false → IsUnread ReadFailed (AskFor config packets) fault → IsUnreplayedByCallers n Unread ReadFailed config packets known known failed fault
+  callers_unread known failed BadCount count whole h = absurd (no_count_asked config packets h.1)
+  callers_unread known failed (Write what) count whole h = absurd h
+  callers_unread known failed OutOfMemory count whole h = (count, unreplayed ReadFailed (AskFor config packets) known failed OutOfMemory whole h)
+  callers_unread known failed (Read what) count whole h = (count, unreplayed ReadFailed (AskFor config packets) known failed (Read what) whole h)
+  callers_unread known failed (Config l f) count whole h = (count, unreplayed ReadFailed (AskFor config packets) known failed (Config l f) whole h)
+  callers_unread known failed (ConfigText l) count whole h = (count, unreplayed ReadFailed (AskFor config packets) known failed (ConfigText l) whole h)
+  callers_unread known failed (NoSuchPipe l) count whole h = (count, unreplayed ReadFailed (AskFor config packets) known failed (NoSuchPipe l) whole h)
+  callers_unread known failed (BadRow r f) count whole h = (count, unreplayed ReadFailed (AskFor config packets) known failed (BadRow r f) whole h)
+  callers_unread known failed (BadRecord n) count whole h = (count, unreplayed ReadFailed (AskFor config packets) known failed (BadRecord n) whole h)
+  callers_unread known failed (TooLong s) count whole h = (count, unreplayed ReadFailed (AskFor config packets) known failed (TooLong s) whole h)
+  callers_unread known failed (PipeHasQueues l) count whole h = (count, unreplayed ReadFailed (AskFor config packets) known failed (PipeHasQueues l) whole h)
+  callers_unread known failed (NoSuchQueue l) count whole h = (count, unreplayed ReadFailed (AskFor config packets) known failed (NoSuchQueue l) whole h)
 
   -- The report of the callers' history wasn't written.
   pub callers_unreported : (entries : List Entry) (old new : Option (List ℕ)) (failed : Bool) (fault : ReplayFault) → IsCount n → ReadFailed None → IsReplayOfCallers n config packets entries

@@ -18,7 +18,8 @@ use Rattle.dn_files.specs.ConfigFile.{command_at, config_limit, fault_at, said_a
 use Rattle.dn_replay.specs.Configuring.{applied, configured_by, configured_from, refusal, unless}
 use Rattle.dn_files.specs.PacketFile.{is_header, packet_file, packet_limit, row_at, row_of, rows_below, rows_from, rows_of}
 use Rattle.dn_files.specs.Reading.{◌>>=◌, within}
-use Rattle.dn_replay.specs.Replays.{config_calls}
+use Rattle.dn_replay.specs.Replays.{AskFor, calls_of, config_calls}
+use Rattle.dn_replay.specs.Runs.{replayed}
 use Rattle.dn_files.specs.declared.replay_fault.ReplayFault.{ReplayFault}
 use Rattle.dn_files.specs.declared.replay_fault.ReplayFault.TheVariants.{BadCount, BadRow, ConfigText, TooLong}
 use Rattle.dn_files.specs.declared.row.Row.{Row}
@@ -102,8 +103,17 @@ in_records (first ∷ rest) = elim (is_header first) as (λ b. IfErr (cond {A = 
 no_count : {A : Type 0} (read : Result A ReplayFault) → IfErr read IsOther → read ≡ Err BadCount → ⊥
 no_count read other is = rw is at other
 
-pub config_has_no_count : (text : List ℕ) → config_calls text ≡ Err BadCount → ⊥
-config_has_no_count text = no_count (config_calls text) (chained (within config_limit Config text) configured_by (limited config_limit Config text) (λ whole. in_lines [] 1 (lines_of whole)))
+in_config : (text : List ℕ) → IfErr (config_calls text) IsOther
+in_config text = chained (within config_limit Config text) configured_by (limited config_limit Config text) (λ whole. in_lines [] 1 (lines_of whole))
 
-pub packets_have_no_count : (text : List ℕ) → packet_file text ≡ Err BadCount → ⊥
-packets_have_no_count text = no_count (packet_file text) (chained (within packet_limit Packets text) rows_of (limited packet_limit Packets text) (λ whole. in_records (records_of whole)))
+in_packets : (text : List ℕ) → IfErr (packet_file text) IsOther
+in_packets text = chained (within packet_limit Packets text) rows_of (limited packet_limit Packets text) (λ whole. in_records (records_of whole))
+
+in_both : (config packets : List ℕ) → IfErr (calls_of config packets) IsOther
+unfolding calls_of
+in_both config packets =
+    chained (config_calls config) (λ calls. packet_file packets >>= λ rows. Ok (replayed calls rows)) (in_config config)
+    (λ calls. chained (packet_file packets) (λ rows. Ok (replayed calls rows)) (in_packets packets) (λ rows. tt))
+
+pub no_count_asked : (config packets : Option (List ℕ)) → AskFor config packets (Err BadCount) → ⊥
+no_count_asked config packets (c, p, of_config, of_packets, asked) = no_count (calls_of c p) (in_both c p) asked

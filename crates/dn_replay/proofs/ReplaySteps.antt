@@ -11,7 +11,7 @@ use Rattle.dn_text.specs.Joined.{joined_parts}
 use Rattle.dn_replay.specs.Configuring.{configured_by}
 use Rattle.dn_files.specs.PacketFile.{packet_file, packet_limit, rows_of}
 use Rattle.dn_files.specs.Reading.{within, IsFaultOf, IsRefusal, IsRefusedFor, IsTextOf, ReadsAs}
-use Rattle.dn_replay.specs.Replays.{AskFor, calls_of, calls_of_joined, config_calls, IsUnreplayed, IsUnreported}
+use Rattle.dn_replay.specs.Replays.{AskFor, calls_of, calls_of_joined, config_calls, IsReplayed, IsUnread, IsUnreplayed, IsUnreported}
 use Rattle.dn_replay.specs.Runs.{entry_after, history_of, replayed}
 use Rattle.dn_files.specs.declared.replay_fault.ReplayFault.{ReplayFault}
 use Rattle.dn_files.specs.declared.replay_fault.ReplayFault.TheVariants.{BadRow, Read, Write, TooLong, OutOfMemory, Config, ConfigText, NoSuchPipe, BadRecord, BadCount, PipeHasQueues, NoSuchQueue}
@@ -44,6 +44,14 @@ lawful [] = tt
 lawful (c ∷ calls) =
     lawful-more Ordered (history_of calls) (entry_after calls c) (lawful calls) (ap (λ (before : List Call). reply Ordered before c) (sym (made calls)))
 
+-- The history of a replay is one of caller 0, and it is lawful.
+module _ (Asked : Result (List Call) ReplayFault → Type 0) (entries : List Entry) (old new : Option (List ℕ)) (replay : IsReplayed Asked entries old new) where
+  pub one_replays : All (λ e. e.caller < 1) entries
+  one_replays = let (calls, asked, reported) = replay in rw reported.0 (by_one calls)
+
+  pub lawful_replay : IsLawful Ordered entries
+  lawful_replay = let (calls, asked, reported) = replay in rw reported.0 (lawful calls)
+
 -- An input may have held some text.
 pub some_text : (known : Option (List ℕ)) → (text : List ℕ) × IsTextOf known text
 some_text None = ([], tt)
@@ -66,37 +74,53 @@ unreported ReadFailed Asked calls old new failed (PipeHasQueues l) sound asked h
 unreported ReadFailed Asked calls old new failed (NoSuchQueue l) sound asked h = absurd h
 
 -- A text has a fault of its own.
-pub faulty_text : {A : Type 0} (ReadFailed : Option Source → Type 0) (Asked : Result (List Call) ReplayFault → Type 0) (read : Result A ReplayFault) (known : Option (List ℕ)) (failed : Bool) (fault : ReplayFault)
-    → ReadFailed None → failed ≡ false → ((f : ReplayFault) → read ≡ Err f → Asked (Err f)) → IsFaultOf read fault → IsUnreplayed ReadFailed Asked known known failed fault
-faulty_text ReadFailed Asked read known failed (Write what) sound whole asked h = absurd h
-faulty_text ReadFailed Asked read known failed OutOfMemory sound whole asked h = (sound, (whole, keeps known))
-faulty_text ReadFailed Asked read known failed (Read what) sound whole asked h = absurd h
-faulty_text ReadFailed Asked read known failed (Config l f) sound whole asked h = (sound, asked (Config l f) h, (whole, keeps known))
-faulty_text ReadFailed Asked read known failed (ConfigText l) sound whole asked h = (sound, asked (ConfigText l) h, (whole, keeps known))
-faulty_text ReadFailed Asked read known failed (NoSuchPipe l) sound whole asked h = (sound, asked (NoSuchPipe l) h, (whole, keeps known))
-faulty_text ReadFailed Asked read known failed (BadRow r f) sound whole asked h = (sound, asked (BadRow r f) h, (whole, keeps known))
-faulty_text ReadFailed Asked read known failed (BadRecord n) sound whole asked h = (sound, asked (BadRecord n) h, (whole, keeps known))
-faulty_text ReadFailed Asked read known failed (TooLong s) sound whole asked h = (sound, asked (TooLong s) h, (whole, keeps known))
-faulty_text ReadFailed Asked read known failed BadCount sound whole asked h = (sound, asked BadCount h, (whole, keeps known))
-faulty_text ReadFailed Asked read known failed (PipeHasQueues l) sound whole asked h = (sound, asked (PipeHasQueues l) h, (whole, keeps known))
-faulty_text ReadFailed Asked read known failed (NoSuchQueue l) sound whole asked h = (sound, asked (NoSuchQueue l) h, (whole, keeps known))
+pub unread_text : {A : Type 0} (ReadFailed : Option Source → Type 0) (Asked : Result (List Call) ReplayFault → Type 0) (read : Result A ReplayFault) (fault : ReplayFault)
+    → ReadFailed None → ((f : ReplayFault) → read ≡ Err f → Asked (Err f)) → IsFaultOf read fault → IsUnread ReadFailed Asked fault
+unread_text ReadFailed Asked read (Write what) sound asked h = absurd h
+unread_text ReadFailed Asked read OutOfMemory sound asked h = sound
+unread_text ReadFailed Asked read (Read what) sound asked h = absurd h
+unread_text ReadFailed Asked read (Config l f) sound asked h = (sound, asked (Config l f) h)
+unread_text ReadFailed Asked read (ConfigText l) sound asked h = (sound, asked (ConfigText l) h)
+unread_text ReadFailed Asked read (NoSuchPipe l) sound asked h = (sound, asked (NoSuchPipe l) h)
+unread_text ReadFailed Asked read (BadRow r f) sound asked h = (sound, asked (BadRow r f) h)
+unread_text ReadFailed Asked read (BadRecord n) sound asked h = (sound, asked (BadRecord n) h)
+unread_text ReadFailed Asked read (TooLong s) sound asked h = (sound, asked (TooLong s) h)
+unread_text ReadFailed Asked read BadCount sound asked h = (sound, asked BadCount h)
+unread_text ReadFailed Asked read (PipeHasQueues l) sound asked h = (sound, asked (PipeHasQueues l) h)
+unread_text ReadFailed Asked read (NoSuchQueue l) sound asked h = (sound, asked (NoSuchQueue l) h)
 
 -- An input is refused.
-pub refused_input : {A : Type 0} (ReadFailed : Option Source → Type 0) (Asked : Result (List Call) ReplayFault → Type 0) (source : Source) (read : List ℕ → Result A ReplayFault) (input known : Option (List ℕ)) (input_failed failed : Bool) (fault : ReplayFault)
-    → failed ≡ false → ((f : ReplayFault) → IsRefusedFor read input f → Asked (Err f)) → (input_failed ≡ false → ReadFailed None) → (input_failed ≡ true → ReadFailed (Some source))
-    → IsRefusal source read input input_failed fault → IsUnreplayed ReadFailed Asked known known failed fault
-refused_input ReadFailed Asked source read input known input_failed failed (Write what) whole asked sound reads h = absurd h
-refused_input ReadFailed Asked source read input known input_failed failed OutOfMemory whole asked sound reads h = (sound h, (whole, keeps known))
-refused_input ReadFailed Asked source read input known input_failed failed (Read what) whole asked sound reads h = (rw h.0 (reads h.1), (whole, keeps known))
-refused_input ReadFailed Asked source read input known input_failed failed (Config l f) whole asked sound reads h = (sound h.0, asked (Config l f) h.1, (whole, keeps known))
-refused_input ReadFailed Asked source read input known input_failed failed (ConfigText l) whole asked sound reads h = (sound h.0, asked (ConfigText l) h.1, (whole, keeps known))
-refused_input ReadFailed Asked source read input known input_failed failed (NoSuchPipe l) whole asked sound reads h = (sound h.0, asked (NoSuchPipe l) h.1, (whole, keeps known))
-refused_input ReadFailed Asked source read input known input_failed failed (BadRow r f) whole asked sound reads h = (sound h.0, asked (BadRow r f) h.1, (whole, keeps known))
-refused_input ReadFailed Asked source read input known input_failed failed (BadRecord n) whole asked sound reads h = (sound h.0, asked (BadRecord n) h.1, (whole, keeps known))
-refused_input ReadFailed Asked source read input known input_failed failed (TooLong s) whole asked sound reads h = (sound h.0, asked (TooLong s) h.1, (whole, keeps known))
-refused_input ReadFailed Asked source read input known input_failed failed BadCount whole asked sound reads h = (sound h.0, asked BadCount h.1, (whole, keeps known))
-refused_input ReadFailed Asked source read input known input_failed failed (PipeHasQueues l) whole asked sound reads h = (sound h.0, asked (PipeHasQueues l) h.1, (whole, keeps known))
-refused_input ReadFailed Asked source read input known input_failed failed (NoSuchQueue l) whole asked sound reads h = (sound h.0, asked (NoSuchQueue l) h.1, (whole, keeps known))
+pub unread_input : {A : Type 0} (ReadFailed : Option Source → Type 0) (Asked : Result (List Call) ReplayFault → Type 0) (source : Source) (read : List ℕ → Result A ReplayFault) (input : Option (List ℕ)) (input_failed : Bool) (fault : ReplayFault)
+    → ((f : ReplayFault) → IsRefusedFor read input f → Asked (Err f)) → (input_failed ≡ false → ReadFailed None) → (input_failed ≡ true → ReadFailed (Some source))
+    → IsRefusal source read input input_failed fault → IsUnread ReadFailed Asked fault
+unread_input ReadFailed Asked source read input input_failed (Write what) asked sound reads h = absurd h
+unread_input ReadFailed Asked source read input input_failed OutOfMemory asked sound reads h = sound h
+unread_input ReadFailed Asked source read input input_failed (Read what) asked sound reads h = rw h.0 (reads h.1)
+unread_input ReadFailed Asked source read input input_failed (Config l f) asked sound reads h = (sound h.0, asked (Config l f) h.1)
+unread_input ReadFailed Asked source read input input_failed (ConfigText l) asked sound reads h = (sound h.0, asked (ConfigText l) h.1)
+unread_input ReadFailed Asked source read input input_failed (NoSuchPipe l) asked sound reads h = (sound h.0, asked (NoSuchPipe l) h.1)
+unread_input ReadFailed Asked source read input input_failed (BadRow r f) asked sound reads h = (sound h.0, asked (BadRow r f) h.1)
+unread_input ReadFailed Asked source read input input_failed (BadRecord n) asked sound reads h = (sound h.0, asked (BadRecord n) h.1)
+unread_input ReadFailed Asked source read input input_failed (TooLong s) asked sound reads h = (sound h.0, asked (TooLong s) h.1)
+unread_input ReadFailed Asked source read input input_failed BadCount asked sound reads h = (sound h.0, asked BadCount h.1)
+unread_input ReadFailed Asked source read input input_failed (PipeHasQueues l) asked sound reads h = (sound h.0, asked (PipeHasQueues l) h.1)
+unread_input ReadFailed Asked source read input input_failed (NoSuchQueue l) asked sound reads h = (sound h.0, asked (NoSuchQueue l) h.1)
+
+-- What isn't read isn't replayed, and nothing is written.
+pub unreplayed : (ReadFailed : Option Source → Type 0) (Asked : Result (List Call) ReplayFault → Type 0) (known : Option (List ℕ)) (failed : Bool) (fault : ReplayFault)
+    → failed ≡ false → IsUnread ReadFailed Asked fault → IsUnreplayed ReadFailed Asked known known failed fault
+unreplayed ReadFailed Asked known failed (Write what) whole h = absurd h
+unreplayed ReadFailed Asked known failed OutOfMemory whole h = (h, (whole, keeps known))
+unreplayed ReadFailed Asked known failed (Read what) whole h = (h, (whole, keeps known))
+unreplayed ReadFailed Asked known failed (Config l f) whole h = (h.0, h.1, (whole, keeps known))
+unreplayed ReadFailed Asked known failed (ConfigText l) whole h = (h.0, h.1, (whole, keeps known))
+unreplayed ReadFailed Asked known failed (NoSuchPipe l) whole h = (h.0, h.1, (whole, keeps known))
+unreplayed ReadFailed Asked known failed (BadRow r f) whole h = (h.0, h.1, (whole, keeps known))
+unreplayed ReadFailed Asked known failed (BadRecord n) whole h = (h.0, h.1, (whole, keeps known))
+unreplayed ReadFailed Asked known failed (TooLong s) whole h = (h.0, h.1, (whole, keeps known))
+unreplayed ReadFailed Asked known failed BadCount whole h = (h.0, h.1, (whole, keeps known))
+unreplayed ReadFailed Asked known failed (PipeHasQueues l) whole h = (h.0, h.1, (whole, keeps known))
+unreplayed ReadFailed Asked known failed (NoSuchQueue l) whole h = (h.0, h.1, (whole, keeps known))
 
 -- What two inputs ask for.
 pub asks : (config packets : Option (List ℕ)) (calls : List Call) (rows : List Row) → ReadsAs config_calls config calls → ReadsAs packet_file packets rows → AskFor config packets (Ok (replayed calls rows))

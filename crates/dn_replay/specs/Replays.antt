@@ -55,6 +55,13 @@ abbrev pub InputFailed : Bool → Option Source → Type 0
 InputFailed failed None = failed ≡ false
 InputFailed failed (Some what) = (what ≡ Input) × (failed ≡ true)
 
+-- Why the inputs weren't read. Each fault but a failed read comes only where no read failed.
+abbrev pub IsUnread : (Option Source → Type 0) → (Result (List Call) ReplayFault → Type 0) → ReplayFault → Type 0
+IsUnread ReadFailed Asked (Read what) = ReadFailed (Some what)
+IsUnread ReadFailed Asked (Write what) = ⊥
+IsUnread ReadFailed Asked OutOfMemory = ReadFailed None
+IsUnread ReadFailed Asked fault = ReadFailed None × Asked (Err fault)
+
 -- The entries are the history of the calls, and their report was written.
 abbrev pub IsReported : List Call → List Entry → Option (List ℕ) → Option (List ℕ) → Type 0
 IsReported calls entries old new = (entries ≡ history_of calls) × Appends old new (report 1 (history_of calls))

@@ -1,14 +1,19 @@
-ghost use Rattle.std.specs.Prelude.{◌≡◌, ◌<◌, ◌≤◌, List, false, None, IfOk, IfErr};
+ghost use Rattle.std.specs.Prelude.{◌≡◌, ◌<◌, ◌≤◌, List, [], false, None, IfOk, IfErr};
 ghost use Rattle.dn_types.specs.History.{calls_of};
+ghost use Rattle.dn_types.specs.declared.call.Call.{Call};
+ghost use Rattle.dn_files.specs.PacketFile.{packet_file};
+ghost use Rattle.dn_files.specs.Reading.{ReadsAs};
 ghost use Rattle.dn_service.specs.Callers.{new_callers};
 ghost use Rattle.dn_replay.specs.CallerReplays.{AreUnread, IsCount, IsHistoryOfCallers, IsReplayedByCallers, IsUnreplayedByCallers, IsUnopened};
-ghost use Rattle.dn_replay.specs.Replays.{EitherFailed};
+ghost use Rattle.dn_replay.specs.Replays.{AskFor, config_calls, EitherFailed, IsUnread};
+ghost use Rattle.dn_replay.specs.Runs.{HasMade, history_of};
 
 use crate::callers::run_callers;
 use crate::gate::Gate;
-use crate::replays::configured_input;
+use crate::inputs::read_inputs;
 use crate::report::write_report;
-use dn_files::{ReplayFault, Row, read_packets};
+use crate::run::Run;
+use dn_files::{ReplayFault, Row};
 use dn_records::{Inlet, Outlet};
 use dn_service::{Caller, OpenFault, Service};
 use dn_types::Entry;
@@ -27,6 +32,29 @@ fn open(alloc: Global, n: usize) -> Result<(Service, Vec<Caller>), ReplayFault>
         Err(OpenFault::BadCount) => Err(ReplayFault::BadCount),
         Err(OpenFault::OutOfMemory) => Err(ReplayFault::OutOfMemory),
     }
+}
+
+/// The history of the commands of a configuration, which a run before its first call makes, and the rows of
+/// a packet file.
+fn commands_and_rows<C: Inlet, P: Inlet>(
+    alloc: Global,
+    run: &mut Run,
+    config: &mut C,
+    packets: &mut P,
+) -> Result<(Vec<Entry>, Vec<Row>), ReplayFault>
+    requires made { HasMade run.old [] }
+    requires config { C.has_failed config.old ≡ false }
+    requires packets { P.has_failed packets.old ≡ false }
+    ensures ok { IfOk result (λ both. (calls : List Call) × ReadsAs config_calls (C.remaining config.old) calls
+        × ReadsAs packet_file (P.remaining packets.old) both.1.items × (both.0.items ≡ history_of calls)) }
+    ensures inputs { IfOk result (λ _. EitherFailed (C.remaining config.old)
+        (C.has_failed config.new) (P.has_failed packets.new) None) }
+    ensures err { IfErr result (λ fault.
+        IsUnread (EitherFailed (C.remaining config.old) (C.has_failed config.new) (P.has_failed packets.new))
+        (AskFor (C.remaining config.old) (P.remaining packets.old)) fault) }
+{
+    let rows = read_inputs(alloc, run, config, packets)?;
+    Ok((run.take_history(alloc), rows))
 }
 
 /// The history that the callers leave when they have made their calls.
@@ -85,9 +113,11 @@ pub fn replay_callers<C: Inlet, P: Inlet, O: Outlet, G: Gate + Sync, R: Threads 
         (O.contents out.old) (O.contents out.new) (O.has_failed out.new) fault) }
 {
     let opened = open(alloc, n)?;
-    let run = configured_input(alloc, config)?;
-    let rows = read_packets(alloc, packets)?;
-    let commands = run.into_history();
+    let mut run = Run::new(alloc);
+    let read = commands_and_rows(alloc, &mut run, config, packets);
+    // The proof of a drop by a call has one step, where that of a drop at each exit has one for each field.
+    drop(run);
+    let (commands, rows) = read?;
     let Ok(entries) = history(rt, opened, n, commands.as_slice(), rows.as_slice(), gate) else {
         return Err(ReplayFault::OutOfMemory);
     };

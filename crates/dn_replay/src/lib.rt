@@ -8,6 +8,7 @@ mod configuration;
 mod delivered;
 mod file_audits;
 mod gate;
+mod inputs;
 mod line;
 mod lines;
 mod no_gate;

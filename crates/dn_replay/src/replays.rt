@@ -1,59 +1,66 @@
-ghost use Rattle.std.specs.Prelude.{◌≡◌, ◌<◌, All, List, false, None, Ok, IfOk, IfErr};
+ghost use Rattle.std.specs.Prelude.{◌≡◌, ◌<◌, All, List, [], false, None, IfOk, IfErr};
 ghost use Rattle.dn_types.specs.History.{IsLawful};
 ghost use Rattle.dn_types.specs.declared.call.Call.{Call};
 ghost use Rattle.dn_types.specs.declared.rule.Rule.TheVariants.{Ordered};
-ghost use Rattle.dn_files.specs.Reading.{IsRefusal, ReadsAs};
-ghost use Rattle.dn_replay.specs.Replays.{AskFor, AsksFor, config_calls, EitherFailed, InputFailed, IsReplayed, IsReported, IsUnreplayed, IsUnreported};
+ghost use Rattle.dn_replay.specs.Replays.{AskFor, AsksFor, EitherFailed, InputFailed, IsReplayed, IsReported, IsUnreplayed, IsUnreported};
 ghost use Rattle.dn_replay.specs.Runs.{HasMade, replayed};
-ghost use Rattle.dn_files.specs.declared.source.Source.TheVariants.{Config};
 
-use crate::configuration::configured;
+use crate::inputs::{read_inputs, read_joined};
 use crate::report::write_report;
 use crate::run::Run;
-use dn_files::{
-    CONFIG_LIMIT, PACKET_LIMIT, ReplayFault, Row, Source, read_input, read_packets, rows_of_text,
-};
+use dn_files::{ReplayFault, Row};
 use dn_records::{Inlet, Outlet};
-use dn_text::split_joined;
 use dn_types::Entry;
 use std::alloc::Global;
 
 /// Makes the calls of the rows after those of the configuration, and writes the report of all.
 fn finish<O: Outlet>(
     alloc: Global,
-    run: Run,
+    run: &mut Run,
     rows: &[Row],
     out: &mut O,
 ) -> Result<Vec<Entry>, ReplayFault>
-    requires made { (calls : List Call) × HasMade run calls }
+    requires made { (calls : List Call) × HasMade run.old calls }
     requires sound { O.has_failed out.old ≡ false }
-    ensures ok { IfOk result (λ entries. (calls : List Call) → HasMade run calls →
+    ensures ok { IfOk result (λ entries. (calls : List Call) → HasMade run.old calls →
         IsReported (replayed calls rows.now) entries.items (O.contents out.old) (O.contents out.new)) }
-    ensures lawful { IfOk result (λ entries. IsLawful Ordered entries.items) }
-    ensures callers { IfOk result (λ entries. All (λ e. e.caller < 1) entries.items) }
     ensures sound { IfOk result (λ _. O.has_failed out.new ≡ false) }
-    ensures err { IfErr result (λ fault. (calls : List Call) → HasMade run calls →
+    ensures err { IfErr result (λ fault. (calls : List Call) → HasMade run.old calls →
         IsUnreported (replayed calls rows.now) (O.contents out.old) (O.contents out.new) (O.has_failed out.new) fault) }
 {
-    let mut whole = run;
-    let Ok(()) = whole.finish(rows) else {
+    let Ok(()) = run.finish(rows) else {
         return Err(ReplayFault::OutOfMemory);
     };
-    let history = whole.into_history();
+    let history = run.take_history(alloc);
     write_report(alloc, 1, history.as_slice(), out)?;
     Ok(history)
 }
 
-/// A run that has made the commands of a configuration.
-pub(crate) fn configured_input<I: Inlet>(alloc: Global, config: &mut I) -> Result<Run, ReplayFault>
-    requires { I.has_failed config.old ≡ false }
-    ensures ok { IfOk result (λ run. (calls : List Call) × ReadsAs config_calls (I.remaining config.old) calls × HasMade run calls) }
-    ensures sound { IfOk result (λ _. I.has_failed config.new ≡ false) }
+/// A replay by a run before its first call.
+fn replay_by<C: Inlet, P: Inlet, O: Outlet>(
+    alloc: Global,
+    run: &mut Run,
+    config: &mut C,
+    packets: &mut P,
+    out: &mut O,
+) -> Result<Vec<Entry>, ReplayFault>
+    requires made { HasMade run.old [] }
+    requires config { C.has_failed config.old ≡ false }
+    requires packets { P.has_failed packets.old ≡ false }
+    requires out { O.has_failed out.old ≡ false }
+    ensures ok { IfOk result (λ entries.
+        IsReplayed (AskFor (C.remaining config.old) (P.remaining packets.old)) entries.items
+        (O.contents out.old) (O.contents out.new)) }
+    ensures inputs { IfOk result (λ _. EitherFailed (C.remaining config.old)
+        (C.has_failed config.new) (P.has_failed packets.new) None) }
+    ensures sound { IfOk result (λ _. O.has_failed out.new ≡ false) }
     ensures err { IfErr result (λ fault.
-        IsRefusal Config config_calls (I.remaining config.old) (I.has_failed config.new) fault) }
+        IsUnreplayed (EitherFailed (C.remaining config.old) (C.has_failed config.new) (P.has_failed packets.new))
+        (AskFor (C.remaining config.old) (P.remaining packets.old))
+        (O.contents out.old) (O.contents out.new) (O.has_failed out.new) fault) }
 {
-    let text = read_input(alloc, config, CONFIG_LIMIT, Source::Config)?;
-    configured(alloc, text.as_slice())
+    let rows = read_inputs(alloc, run, config, packets)?;
+    finish(alloc, run, rows.as_slice(), out)
 }
 
 /// Replays a packet file through a configuration for one caller: it makes the command of each
@@ -85,8 +92,32 @@ pub fn replay<C: Inlet, P: Inlet, O: Outlet>(
         (AskFor (C.remaining config.old) (P.remaining packets.old))
         (O.contents out.old) (O.contents out.new) (O.has_failed out.new) fault) }
 {
-    let run = configured_input(alloc, config)?;
-    let rows = read_packets(alloc, packets)?;
+    let mut run = Run::new(alloc);
+    let history = replay_by(alloc, &mut run, config, packets, out);
+    // The proof of a drop by a call has one step, where that of a drop at the end has one for each field.
+    drop(run);
+    history
+}
+
+/// A replay of one joined input by a run before its first call.
+fn replay_joined_by<I: Inlet, O: Outlet>(
+    alloc: Global,
+    run: &mut Run,
+    input: &mut I,
+    out: &mut O,
+) -> Result<Vec<Entry>, ReplayFault>
+    requires made { HasMade run.old [] }
+    requires input { I.has_failed input.old ≡ false }
+    requires out { O.has_failed out.old ≡ false }
+    ensures ok { IfOk result (λ entries. IsReplayed (AsksFor (I.remaining input.old)) entries.items
+        (O.contents out.old) (O.contents out.new)) }
+    ensures inputs { IfOk result (λ _. InputFailed (I.has_failed input.new) None) }
+    ensures sound { IfOk result (λ _. O.has_failed out.new ≡ false) }
+    ensures err { IfErr result (λ fault.
+        IsUnreplayed (InputFailed (I.has_failed input.new)) (AsksFor (I.remaining input.old))
+        (O.contents out.old) (O.contents out.new) (O.has_failed out.new) fault) }
+{
+    let rows = read_joined(alloc, run, input)?;
     finish(alloc, run, rows.as_slice(), out)
 }
 
@@ -109,9 +140,8 @@ pub fn replay_joined<I: Inlet, O: Outlet>(
         IsUnreplayed (InputFailed (I.has_failed input.new)) (AsksFor (I.remaining input.old))
         (O.contents out.old) (O.contents out.new) (O.has_failed out.new) fault) }
 {
-    let text = read_input(alloc, input, PACKET_LIMIT, Source::Input)?;
-    let (config, packets) = split_joined(text.as_slice());
-    let run = configured(alloc, config)?;
-    let rows = rows_of_text(alloc, packets)?;
-    finish(alloc, run, rows.as_slice(), out)
+    let mut run = Run::new(alloc);
+    let history = replay_joined_by(alloc, &mut run, input, out);
+    drop(run);
+    history
 }

@@ -10,6 +10,7 @@ use dn_files::{ReplayFault, Row};
 use dn_shaper::Shaper;
 use dn_types::{Call, Command, Entry, Moment, Reply};
 use std::alloc::{AllocError, Global};
+use std::mem;
 
 /// The calls of one caller to a shaper of its own, and their history.
 #[derive(Drop)]
@@ -137,10 +138,10 @@ impl Run {
         self.make(Call::Collect(Moment::new(1 << 62).unwrap()))
     }
 
-    /// The history so far.
-    pub(crate) fn into_history(self) -> Vec<Entry>
-        ensures { result.items ≡ self.history.items }
+    /// The history so far, which leaves the run none.
+    pub(crate) fn take_history(&mut self, alloc: Global) -> Vec<Entry>
+        ensures { result.items ≡ self.old.history.items }
     {
-        self.history
+        mem::replace(&mut self.history, Vec::new(alloc))
     }
 }

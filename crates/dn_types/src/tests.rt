@@ -1,79 +1,135 @@
 use super::*;
-use std::alloc::Global;
+use std::alloc::{AllocError, Global};
+use std::process::Abort;
 use std::test::Fail;
 
 // The bounds are those that README.md gives.
-#[test]
-fn range_types_at_their_bounds(rt: HostRuntime) {
-    for (value, want) in [
+fn check_moments(rt: &impl Abort) {
+    static BOUNDS: [(u64, Option<u64>); 3] = [
         (0, Some(0)),
         (1 << 62, Some(1 << 62)),
         ((1 << 62) + 1, None),
-    ] {
-        assert_eq!(rt; Moment::new(value).map(Moment::get), want);
+    ];
+    for (value, want) in BOUNDS.iter() {
+        assert_eq!(rt; Moment::new(*value).map(Moment::get), *want);
     }
-    for (value, want) in [(0, None), (1, Some(1)), (65_535, Some(65_535))] {
-        assert_eq!(rt; Len::new(value).map(Len::get), want);
+}
+
+fn check_lengths(rt: &impl Abort) {
+    static BOUNDS: [(u16, Option<u16>); 3] = [(0, None), (1, Some(1)), (65_535, Some(65_535))];
+    for (value, want) in BOUNDS.iter() {
+        assert_eq!(rt; Len::new(*value).map(Len::get), *want);
     }
-    for (value, want) in [
+}
+
+fn check_numbers(rt: &impl Abort) {
+    static BOUNDS: [(u32, Option<u32>); 4] = [
         (0, None),
         (1, Some(1)),
         (65_535, Some(65_535)),
         (65_536, None),
-    ] {
-        assert_eq!(rt; Number::new(value).map(Number::get), want);
+    ];
+    for (value, want) in BOUNDS.iter() {
+        assert_eq!(rt; Number::new(*value).map(Number::get), *want);
     }
-    for (value, want) in [
+}
+
+fn check_bandwidths(rt: &impl Abort) {
+    static BOUNDS: [(u64, Option<u64>); 3] = [
         (0, Some(0)),
         (1_000_000_000_000, Some(1_000_000_000_000)),
         (1_000_000_000_001, None),
-    ] {
-        assert_eq!(rt; Bandwidth::new(value).map(Bandwidth::get), want);
+    ];
+    for (value, want) in BOUNDS.iter() {
+        assert_eq!(rt; Bandwidth::new(*value).map(Bandwidth::get), *want);
     }
-    for (value, want) in [
+}
+
+fn check_delays(rt: &impl Abort) {
+    static BOUNDS: [(u32, Option<u32>); 3] = [
         (0, Some(0)),
         (3_600_000, Some(3_600_000)),
         (3_600_001, None),
-    ] {
-        assert_eq!(rt; Delay::new(value).map(Delay::get), want);
+    ];
+    for (value, want) in BOUNDS.iter() {
+        assert_eq!(rt; Delay::new(*value).map(Delay::get), *want);
     }
-    for (value, want) in [
+}
+
+fn check_losses(rt: &impl Abort) {
+    static BOUNDS: [(u32, Option<u32>); 3] = [
         (0, Some(0)),
         (1 << 31, Some(1 << 31)),
         ((1 << 31) + 1, None),
-    ] {
-        assert_eq!(rt; Loss::new(value).map(Loss::get), want);
+    ];
+    for (value, want) in BOUNDS.iter() {
+        assert_eq!(rt; Loss::new(*value).map(Loss::get), *want);
     }
-    for (value, want) in [(0, None), (1, Some(1)), (100, Some(100)), (101, None)] {
-        assert_eq!(rt; Weight::new(value).map(Weight::get), want);
+}
+
+fn check_weights(rt: &impl Abort) {
+    static BOUNDS: [(u8, Option<u8>); 4] = [(0, None), (1, Some(1)), (100, Some(100)), (101, None)];
+    for (value, want) in BOUNDS.iter() {
+        assert_eq!(rt; Weight::new(*value).map(Weight::get), *want);
     }
-    for (value, want) in [
+}
+
+fn check_buckets(rt: &impl Abort) {
+    static BOUNDS: [(u32, Option<u32>); 4] = [
         (15, None),
         (16, Some(16)),
         (65_536, Some(65_536)),
         (65_537, None),
-    ] {
-        assert_eq!(rt; Buckets::new(value).map(Buckets::get), want);
+    ];
+    for (value, want) in BOUNDS.iter() {
+        assert_eq!(rt; Buckets::new(*value).map(Buckets::get), *want);
+    }
+}
+
+#[test]
+fn range_types_at_their_bounds(rt: HostRuntime) {
+    check_moments(&rt);
+    check_lengths(&rt);
+    check_numbers(&rt);
+    check_bandwidths(&rt);
+    check_delays(&rt);
+    check_losses(&rt);
+    check_weights(&rt);
+    check_buckets(&rt);
+}
+
+fn check_slots(rt: &impl Abort) {
+    static BOUNDS: [(u16, Option<u16>); 4] = [
+        (0, None),
+        (1, Some(1)),
+        (10_000, Some(10_000)),
+        (10_001, None),
+    ];
+    for (count, want) in BOUNDS.iter() {
+        assert_eq!(rt; SlotCount::new(*count).map(SlotCount::get), *want);
+        assert_eq!(rt; Limit::slots(*count).and_then(Limit::as_slots), *want);
+        assert_eq!(rt; Limit::slots(*count).and_then(Limit::as_kbytes), None);
+    }
+}
+
+fn check_kbytes(rt: &impl Abort) {
+    static BOUNDS: [(u16, Option<u16>); 4] = [
+        (0, None),
+        (1, Some(1)),
+        (1024, Some(1024)),
+        (1025, None),
+    ];
+    for (count, want) in BOUNDS.iter() {
+        assert_eq!(rt; KbyteCount::new(*count).map(KbyteCount::get), *want);
+        assert_eq!(rt; Limit::kbytes(*count).and_then(Limit::as_kbytes), *want);
+        assert_eq!(rt; Limit::kbytes(*count).and_then(Limit::as_slots), None);
     }
 }
 
 #[test]
 fn limits_at_their_bounds(rt: HostRuntime) {
-    for (count, want) in [
-        (0, None),
-        (1, Some(1)),
-        (10_000, Some(10_000)),
-        (10_001, None),
-    ] {
-        assert_eq!(rt; SlotCount::new(count).map(SlotCount::get), want);
-        assert_eq!(rt; Limit::slots(count).and_then(Limit::as_slots), want);
-        assert_eq!(rt; Limit::slots(count).and_then(Limit::as_kbytes), None);
-    }
-    for (count, want) in [(0, None), (1, Some(1)), (1024, Some(1024)), (1025, None)] {
-        assert_eq!(rt; KbyteCount::new(count).map(KbyteCount::get), want);
-        assert_eq!(rt; Limit::kbytes(count).and_then(Limit::as_kbytes), want);
-        assert_eq!(rt; Limit::kbytes(count).and_then(Limit::as_slots), None);
-    }
+    check_slots(&rt);
+    check_kbytes(&rt);
 }
 
 // `mask src-ip 0xffff0000 dst-ip 0x000000ff proto 0x0f src-port 0xff00 dst-port 0` on a packet from 10.0.0.1 to
@@ -177,45 +233,66 @@ fn third_entry(alloc: Global) -> Result<Entry, Fail> {
     })
 }
 
-#[test]
-fn clones_are_equal(rt: HostRuntime) -> Result<(), Fail> {
-    let entry = third_entry(rt.alloc())?;
-    assert_eq!(rt; entry.try_clone()?, entry);
-    assert_eq!(rt; entry.reply.try_clone()?, entry.reply);
-    let status = Reply::Status {
-        list: Statuses::from_vec(states(rt.alloc())?),
-    };
-    assert_eq!(rt; status.try_clone()?, status);
-    assert!(rt; status != entry.reply);
-    for reply in [
-        Reply::Configured,
-        Reply::NoSuchPipe,
-        Reply::Deleted,
-        Reply::PipeHasQueues,
-        Reply::NoSuchQueue,
-        Reply::Queued {
+fn check_clone(rt: &impl Abort, reply: &Reply) -> Result<(), AllocError> {
+    assert_eq!(rt; reply.try_clone()?, *reply);
+    Ok(())
+}
+
+fn check_plain_clones(rt: &impl Abort) -> Result<(), AllocError> {
+    check_clone(rt, &Reply::Configured)?;
+    check_clone(rt, &Reply::NoSuchPipe)?;
+    check_clone(rt, &Reply::Deleted)?;
+    check_clone(rt, &Reply::PipeHasQueues)?;
+    check_clone(rt, &Reply::NoSuchQueue)?;
+    check_clone(
+        rt,
+        &Reply::Queued {
             at: 3,
             flow: 2,
             packet: 1,
         },
-        Reply::Lost { at: 3, flow: 2 },
-        Reply::Full { at: 3, flow: 2 },
-        Reply::NoTarget { at: 3 },
-        Reply::Advanced { at: 3 },
-        Reply::Exhausted,
-    ] {
-        assert_eq!(rt; reply.try_clone()?, reply);
-    }
+    )?;
+    check_clone(rt, &Reply::Lost { at: 3, flow: 2 })?;
+    check_clone(rt, &Reply::Full { at: 3, flow: 2 })?;
+    check_clone(rt, &Reply::NoTarget { at: 3 })?;
+    check_clone(rt, &Reply::Advanced { at: 3 })?;
+    check_clone(rt, &Reply::Exhausted)
+}
+
+fn check_entry_clone(rt: &impl Abort, entry: &Entry) -> Result<(), AllocError> {
+    assert_eq!(rt; entry.try_clone()?, *entry);
+    check_clone(rt, &entry.reply)
+}
+
+#[test]
+fn clones_are_equal(rt: HostRuntime) -> Result<(), Fail> {
+    check_plain_clones(&rt)?;
+    let entry = third_entry(rt.alloc())?;
+    check_entry_clone(&rt, &entry)?;
+    let status = Reply::Status {
+        list: Statuses::from_vec(states(rt.alloc())?),
+    };
+    check_clone(&rt, &status)?;
+    assert!(rt; status != entry.reply);
     Ok(())
+}
+
+fn check_deliveries(rt: &impl Abort, given: Vec<Delivery>, want: &[Delivery]) {
+    let list = Deliveries::from_vec(given);
+    assert_eq!(rt; list.as_slice(), want);
+    assert_eq!(rt; list.into_vec().as_slice(), want);
+}
+
+fn check_statuses(rt: &impl Abort, given: Vec<FlowStatus>, want: &[FlowStatus]) {
+    let list = Statuses::from_vec(given);
+    assert_eq!(rt; list.as_slice(), want);
+    assert_eq!(rt; list.into_vec().as_slice(), want);
 }
 
 #[test]
 fn lists_give_their_items_back(rt: HostRuntime) -> Result<(), Fail> {
-    let list = Deliveries::from_vec(delivered(rt.alloc())?);
-    assert_eq!(rt; list.as_slice(), delivered(rt.alloc())?.as_slice());
-    assert_eq!(rt; list.into_vec(), delivered(rt.alloc())?);
-    let list = Statuses::from_vec(states(rt.alloc())?);
-    assert_eq!(rt; list.as_slice(), states(rt.alloc())?.as_slice());
-    assert_eq!(rt; list.into_vec(), states(rt.alloc())?);
+    let alloc = rt.alloc();
+    check_deliveries(&rt, delivered(alloc)?, delivered(alloc)?.as_slice());
+    check_statuses(&rt, states(alloc)?, states(alloc)?.as_slice());
     Ok(())
 }

@@ -25,6 +25,21 @@ fn the_example_of_the_readme(rt: HostRuntime) {
     assert_eq!(rt; sent, Ok(Some(0)));
 }
 
+/// A step of an example. Slots and virtual time after each pick were worked by hand from Bennett and
+/// Zhang's rules, and by an independent reference.
+enum Step {
+    /// A busy period begins.
+    Begin,
+    /// A packet of 1,000 bytes arrives at the slot, whose flow has this weight.
+    Arrive(usize, u8),
+    /// The backlog at the slot is discarded.
+    Discard(usize),
+    /// The slot is picked, after which virtual time is this.
+    Pick(usize, u128),
+    /// No slot is picked, at this virtual time.
+    PickNone(u128),
+}
+
 /// What a scheduler tells of itself: whether it is idle, virtual time, arrivals, picks and pushes.
 fn told(sched: &Sched) -> (bool, u128, u64, u64, u64) {
     (
@@ -38,7 +53,7 @@ fn told(sched: &Sched) -> (bool, u128, u64, u64, u64) {
 
 /// A packet of 1,000 bytes arrives. A refused growth changes nothing, and the next try goes on: with
 /// each allocation refused in turn, `rt try --test --fail-alloc N`, the tests pass for every N.
-fn add(rt: &impl Abort, sched: &mut Sched, slot: usize, weight: u8) -> Result<(), Fail> {
+fn arrive(rt: &impl Abort, sched: &mut Sched, slot: usize, weight: u8) -> Result<(), AllocError> {
     let before = told(sched);
     if sched.reserve_flow(slot).is_err() {
         assert_eq!(rt; told(sched), before);
@@ -58,138 +73,146 @@ fn begin(sched: &mut Sched) {
     }
 }
 
-/// A busy period in which the flow at slot 0, of weight 1, has sent one packet.
-fn one_sent(rt: &impl Abort, alloc: Global) -> Result<Sched, Fail> {
-    let mut sched = Sched::new(alloc);
-    begin(&mut sched);
-    add(rt, &mut sched, 0, 1)?;
-    assert_eq!(rt; sched.pick(), Some(0));
-    Ok(sched)
+fn check_pick(rt: &impl Abort, sched: &mut Sched, slot: Option<usize>, virtual_time: u128) {
+    let picked = sched.pick();
+    assert_eq!(rt; picked, slot);
+    assert_eq!(rt; sched.virtual_time(), virtual_time);
 }
 
-/// Picks once for each row, and answers the slots and virtual time after each pick.
-fn picked<const N: usize>(sched: &mut Sched) -> [(Option<usize>, u128); N] {
-    let mut picks = [(None, 0); N];
-    for i in 0..N {
-        let slot = sched.pick();
-        picks[i] = (slot, sched.virtual_time());
+fn take_steps(rt: &impl Abort, sched: &mut Sched, steps: &[Step]) -> Result<(), AllocError> {
+    for step in steps {
+        match step {
+            Step::Begin => begin(sched),
+            Step::Arrive(slot, weight) => arrive(rt, sched, *slot, *weight)?,
+            Step::Discard(slot) => sched.discard(*slot),
+            Step::Pick(slot, virtual_time) => check_pick(rt, sched, Some(*slot), *virtual_time),
+            Step::PickNone(virtual_time) => check_pick(rt, sched, None, *virtual_time),
+        }
     }
-    picks
+    Ok(())
 }
 
-#[test]
-fn parts_by_themselves(rt: HostRuntime) -> Result<(), Fail> {
-    let mut sched = Sched::new(rt.alloc());
+/// A new scheduler takes the steps.
+fn check(rt: &impl Abort, alloc: Global, steps: &[Step]) -> Result<(), AllocError> {
+    let mut sched = Sched::new(alloc);
+    let taken = take_steps(rt, &mut sched, steps);
+    // The proof of a drop by a call has one step, where that of a drop at the end has one for each field.
+    drop(sched);
+    taken
+}
+
+fn check_parts(rt: &impl Abort, sched: &mut Sched) -> Result<(), AllocError> {
     assert!(rt; sched.is_idle());
-    add(&rt, &mut sched, 0, 1)?;
-    assert_eq!(rt;
-        picked(&mut sched),
-        [(Some(0), 65_536_000), (None, 65_536_000)]
-    );
+    arrive(rt, sched, 0, 1)?;
+    check_pick(rt, sched, Some(0), 65_536_000);
+    check_pick(rt, sched, None, 65_536_000);
     assert_eq!(rt; (sched.arrivals(), sched.picks()), (1, 1));
     assert!(rt; 1 <= sched.moves() && sched.moves() <= 2);
     Ok(())
 }
 
-// The tables below were worked by hand from Bennett and Zhang's rules, and by an independent
-// reference: slots and virtual time after each pick.
+#[test]
+fn parts_by_themselves(rt: HostRuntime) -> Result<(), Fail> {
+    let mut sched = Sched::new(rt.alloc());
+    let checked = check_parts(&rt, &mut sched);
+    drop(sched);
+    Ok(checked?)
+}
 
 #[test]
 fn shares_by_weight(rt: HostRuntime) -> Result<(), Fail> {
-    let mut sched = one_sent(&rt, rt.alloc())?;
-    assert_eq!(rt; sched.virtual_time(), 65_536_000);
-    for (slot, weight) in [(0, 1), (1, 3), (1, 3), (1, 3)] {
-        add(&rt, &mut sched, slot, weight)?;
-    }
-    let wanted = [
-        (Some(1), 81_920_000),
-        (Some(0), 98_304_000),
-        (Some(1), 120_149_333),
-        (Some(1), 141_994_666),
-        (None, 141_994_666),
+    static STEPS: [Step; 12] = [
+        Step::Begin,
+        Step::Arrive(0, 1),
+        Step::Pick(0, 65_536_000),
+        Step::Arrive(0, 1),
+        Step::Arrive(1, 3),
+        Step::Arrive(1, 3),
+        Step::Arrive(1, 3),
+        Step::Pick(1, 81_920_000),
+        Step::Pick(0, 98_304_000),
+        Step::Pick(1, 120_149_333),
+        Step::Pick(1, 141_994_666),
+        Step::PickNone(141_994_666),
     ];
-    assert_eq!(rt; picked(&mut sched), wanted);
-    Ok(())
+    Ok(check(&rt, rt.alloc(), &STEPS)?)
 }
 
 #[test]
 fn ties_by_flow_number(rt: HostRuntime) -> Result<(), Fail> {
-    let mut sched = one_sent(&rt, rt.alloc())?;
-    add(&rt, &mut sched, 1, 1)?;
-    add(&rt, &mut sched, 0, 1)?;
-    let wanted = [
-        (Some(0), 98_304_000),
-        (Some(1), 163_840_000),
-        (None, 163_840_000),
+    static STEPS: [Step; 8] = [
+        Step::Begin,
+        Step::Arrive(0, 1),
+        Step::Pick(0, 65_536_000),
+        Step::Arrive(1, 1),
+        Step::Arrive(0, 1),
+        Step::Pick(0, 98_304_000),
+        Step::Pick(1, 163_840_000),
+        Step::PickNone(163_840_000),
     ];
-    assert_eq!(rt; picked(&mut sched), wanted);
-    Ok(())
+    Ok(check(&rt, rt.alloc(), &STEPS)?)
 }
 
 #[test]
 fn raised_virtual_time(rt: HostRuntime) -> Result<(), Fail> {
-    let mut sched = one_sent(&rt, rt.alloc())?;
-    for (slot, weight) in [(0, 1), (1, 3), (1, 3)] {
-        add(&rt, &mut sched, slot, weight)?;
-    }
-    let wanted = [
-        (Some(1), 81_920_000),
-        (Some(0), 98_304_000),
-        (Some(1), 120_149_333),
+    static STEPS: [Step; 12] = [
+        Step::Begin,
+        Step::Arrive(0, 1),
+        Step::Pick(0, 65_536_000),
+        Step::Arrive(0, 1),
+        Step::Arrive(1, 3),
+        Step::Arrive(1, 3),
+        Step::Pick(1, 81_920_000),
+        Step::Pick(0, 98_304_000),
+        Step::Pick(1, 120_149_333),
+        // The start tag is 131,072,000, to which virtual time is raised.
+        Step::Arrive(0, 1),
+        Step::Pick(0, 196_608_000),
+        Step::PickNone(196_608_000),
     ];
-    assert_eq!(rt; picked(&mut sched), wanted);
-    // The start tag is 131,072,000, to which virtual time is raised.
-    add(&rt, &mut sched, 0, 1)?;
-    assert_eq!(rt;
-        picked(&mut sched),
-        [(Some(0), 196_608_000), (None, 196_608_000)]
-    );
-    Ok(())
+    Ok(check(&rt, rt.alloc(), &STEPS)?)
 }
 
 #[test]
 fn a_new_busy_period(rt: HostRuntime) -> Result<(), Fail> {
-    let mut sched = Sched::new(rt.alloc());
-    begin(&mut sched);
-    add(&rt, &mut sched, 0, 1)?;
-    add(&rt, &mut sched, 0, 1)?;
-    assert_eq!(rt;
-        picked(&mut sched),
-        [(Some(0), 65_536_000), (Some(0), 131_072_000)]
-    );
-    begin(&mut sched);
-    add(&rt, &mut sched, 1, 1)?;
-    assert_eq!(rt; picked(&mut sched), [(Some(1), 65_536_000)]);
-    add(&rt, &mut sched, 1, 1)?;
-    add(&rt, &mut sched, 0, 1)?;
-    let wanted = [
-        (Some(0), 98_304_000),
-        (Some(1), 163_840_000),
-        (None, 163_840_000),
+    static STEPS: [Step; 13] = [
+        Step::Begin,
+        Step::Arrive(0, 1),
+        Step::Arrive(0, 1),
+        Step::Pick(0, 65_536_000),
+        Step::Pick(0, 131_072_000),
+        Step::Begin,
+        Step::Arrive(1, 1),
+        Step::Pick(1, 65_536_000),
+        Step::Arrive(1, 1),
+        Step::Arrive(0, 1),
+        Step::Pick(0, 98_304_000),
+        Step::Pick(1, 163_840_000),
+        Step::PickNone(163_840_000),
     ];
-    assert_eq!(rt; picked(&mut sched), wanted);
-    Ok(())
+    Ok(check(&rt, rt.alloc(), &STEPS)?)
 }
 
 // With the finish tag of a discarded packet kept, slot 0 would go twice before slot 1.
 #[test]
 fn a_discarded_backlog(rt: HostRuntime) -> Result<(), Fail> {
-    let mut sched = one_sent(&rt, rt.alloc())?;
-    for (slot, weight) in [(0, 1), (1, 1), (1, 1)] {
-        add(&rt, &mut sched, slot, weight)?;
-    }
-    sched.discard(1);
-    sched.discard(7);
-    add(&rt, &mut sched, 1, 1)?;
-    add(&rt, &mut sched, 0, 1)?;
-    let wanted = [
-        (Some(0), 98_304_000),
-        (Some(1), 131_072_000),
-        (Some(0), 196_608_000),
-        (None, 196_608_000),
+    static STEPS: [Step; 14] = [
+        Step::Begin,
+        Step::Arrive(0, 1),
+        Step::Pick(0, 65_536_000),
+        Step::Arrive(0, 1),
+        Step::Arrive(1, 1),
+        Step::Arrive(1, 1),
+        Step::Discard(1),
+        Step::Discard(7),
+        Step::Arrive(1, 1),
+        Step::Arrive(0, 1),
+        Step::Pick(0, 98_304_000),
+        Step::Pick(1, 131_072_000),
+        Step::Pick(0, 196_608_000),
+        Step::PickNone(196_608_000),
     ];
-    assert_eq!(rt; picked(&mut sched), wanted);
-    Ok(())
+    Ok(check(&rt, rt.alloc(), &STEPS)?)
 }
 
 /// What a scan over 100 flows picks, of which flow f has weight f + 1 and had 100 packets of 1,000
@@ -218,16 +241,17 @@ fn scan(sent: &[u128; 100], virtual_time: &mut u128) -> Option<usize> {
     Some(first?.1)
 }
 
-// The last figures come from an independent reference.
-#[test]
-fn a_hundred_flows(rt: HostRuntime) -> Result<(), Fail> {
-    let mut sched = Sched::new(rt.alloc());
-    begin(&mut sched);
-    for _ in 0..100 {
-        for slot in 0..100 {
-            add(&rt, &mut sched, slot, slot as u8 + 1)?;
-        }
+/// A hundred packets of 1,000 bytes arrive at each of 100 slots, of which slot f has weight f + 1.
+fn fill(rt: &impl Abort, sched: &mut Sched) -> Result<(), AllocError> {
+    for packet in 0..10_000usize {
+        let slot = packet % 100;
+        arrive(rt, sched, slot, slot as u8 + 1)?;
     }
+    Ok(())
+}
+
+/// Whether each pick and virtual time after it are those of the scan, and a checksum of the slots.
+fn compare(sched: &mut Sched) -> (bool, u32) {
     let mut sent = [0u128; 100];
     let mut virtual_time = 0;
     let mut same = true;
@@ -244,14 +268,22 @@ fn a_hundred_flows(rt: HostRuntime) -> Result<(), Fail> {
             }
         }
     }
-    assert!(rt; same);
-    assert_eq!(rt;
-        (sched.arrivals(), sched.picks(), sched.moves()),
-        (10000, 10000, 17530)
-    );
-    assert_eq!(rt;
-        (sched.virtual_time(), checksum),
-        (6_583_152_876, 1_019_959_014)
-    );
+    (same, checksum)
+}
+
+// The last figures come from an independent reference.
+fn check_hundred(rt: &impl Abort, sched: &mut Sched) -> Result<(), AllocError> {
+    begin(sched);
+    fill(rt, sched)?;
+    assert_eq!(rt; compare(sched), (true, 1_019_959_014));
+    assert_eq!(rt; told(sched), (true, 6_583_152_876, 10000, 10000, 17530));
     Ok(())
+}
+
+#[test]
+fn a_hundred_flows(rt: HostRuntime) -> Result<(), Fail> {
+    let mut sched = Sched::new(rt.alloc());
+    let checked = check_hundred(&rt, &mut sched);
+    drop(sched);
+    Ok(checked?)
 }

@@ -119,27 +119,34 @@ fn status_without_words(rt: &impl Eprint, error: &io::Error) -> u8 {
     USAGE
 }
 
+/// Does what the words of the command line say, and answers the status.
+fn done_by_words<R>(rt: &R, words: &[String]) -> u8
+where
+    R: Input + Files + Print + Eprint + AllocGlobal + Threads + Wait + Sync,
+{
+    let command = match command(rt.alloc()) {
+        Ok(command) => command,
+        Err(error) => return status_of_words(rt, &error),
+    };
+    match command.try_get_matches_from(words) {
+        Ok(matches) => status_of(rt, run(rt, &matches)),
+        Err(error) => status_of_words(rt, &error),
+    }
+}
+
 /// Does what the command line says, and answers the status.
 fn done<R>(rt: &R) -> u8
 where
     R: Env + Input + Files + Print + Eprint + AllocGlobal + Threads + Wait + Sync,
 {
-    let alloc = rt.alloc();
     let args = match env::args(rt) {
         Ok(args) => args,
         Err(error) => return status_without_words(rt, &error),
     };
-    let Ok(words) = args.collect::<Vec<String>>(alloc) else {
+    let Ok(words) = args.collect::<Vec<String>>(rt.alloc()) else {
         return status_of(rt, Err(ReplayFault::OutOfMemory));
     };
-    let command = match command(alloc) {
-        Ok(command) => command,
-        Err(error) => return status_of_words(rt, &error),
-    };
-    match command.try_get_matches_from(words.as_slice()) {
-        Ok(matches) => status_of(rt, run(rt, &matches)),
-        Err(error) => status_of_words(rt, &error),
-    }
+    done_by_words(rt, words.as_slice())
 }
 
 fn main(rt: HostRuntime) -> ExitCode {

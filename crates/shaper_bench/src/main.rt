@@ -55,6 +55,14 @@ const LOADS: [Load; 5] = [
     },
 ];
 
+/// What is measured of a load.
+#[derive(Clone, Copy)]
+enum Measured {
+    Rounds,
+    Collects,
+    Delete,
+}
+
 /// One packet under way for each Collect of 1,000.
 const COLLECTS: Load = Load {
     name: "a Collect of one packet, 1,000 under way",
@@ -113,13 +121,13 @@ fn tell(rt: &HostRuntime, name: &str, rounds: u64, run: &Run) -> io::Result<()> 
     Ok(())
 }
 
-/// Submits packets in rounds of 1,000, each followed by a Collect.
+/// Submits packets in rounds of 1,000, each followed by a Collect, and tells what they came to.
 fn measure_rounds(
     rt: &HostRuntime,
     shaper: &mut Shaper,
     load: &Load,
     rounds: u64,
-) -> io::Result<Run> {
+) -> io::Result<()> {
     let mut run = Run::new();
     configure(shaper, load, &mut run);
     let mut seed = 1;
@@ -129,13 +137,6 @@ fn measure_rounds(
         moment = moment.wrapping_add(load.interval.wrapping_mul(1_000));
         collect_timed(rt, shaper, moment, &mut run)?;
     }
-    Ok(run)
-}
-
-/// Measures so many rounds of a load on a shaper of its own.
-fn measure(rt: &HostRuntime, load: &Load, rounds: u64) -> io::Result<()> {
-    let mut shaper = Shaper::new(rt.alloc());
-    let run = measure_rounds(rt, &mut shaper, load, rounds)?;
     tell(rt, load.name, rounds, &run)
 }
 
@@ -155,13 +156,13 @@ fn collect_each(
     Ok(())
 }
 
-/// So many rounds of 1,000 Collects that give one packet of 1,000 under way.
-fn collect_rounds(
+/// So many rounds of 1,000 Collects that give one packet of 1,000 under way, and what they came to.
+fn measure_collects(
     rt: &HostRuntime,
     shaper: &mut Shaper,
     load: &Load,
     rounds: u64,
-) -> io::Result<Run> {
+) -> io::Result<()> {
     let mut run = Run::new();
     configure(shaper, load, &mut run);
     submit(shaper, load, 1_000, 0, 1, &mut run);
@@ -170,18 +171,11 @@ fn collect_rounds(
         collect_each(rt, shaper, load, from, &mut run)?;
         from = from.wrapping_add(1_000_000);
     }
-    Ok(run)
+    tell(rt, load.name, rounds, &run)
 }
 
-/// Measures those Collects on a shaper of its own.
-fn measure_collect(rt: &HostRuntime, rounds: u64) -> io::Result<()> {
-    let mut shaper = Shaper::new(rt.alloc());
-    let run = collect_rounds(rt, &mut shaper, &COLLECTS, rounds)?;
-    tell(rt, COLLECTS.name, rounds, &run)
-}
-
-/// A delete where packets wait, four times as many as there are flows.
-fn delete_timed(rt: &HostRuntime, shaper: &mut Shaper, load: &Load) -> io::Result<Run> {
+/// A delete where packets wait, four times as many as there are flows, and what it came to.
+fn measure_delete(rt: &HostRuntime, shaper: &mut Shaper, load: &Load) -> io::Result<()> {
     let mut run = Run::new();
     configure(shaper, load, &mut run);
     let packets = u64::from(load.flows).wrapping_mul(4);
@@ -189,23 +183,7 @@ fn delete_timed(rt: &HostRuntime, shaper: &mut Shaper, load: &Load) -> io::Resul
     let start = Instant::now(rt)?;
     apply(shaper, delete(load), &mut run);
     add_time(rt, &start, &mut run.submitting)?;
-    Ok(run)
-}
-
-/// Tells how long a delete takes that reaches so many flows, most with waiting packets: of a pipe,
-/// where each flow has a link of its own, or of the one queue of a pipe, whose flows share a link.
-fn measure_delete(rt: &HostRuntime, name: &'static str, queues: u32, flows: u32) -> io::Result<()> {
-    let load = Load {
-        name,
-        queues,
-        flows,
-        bandwidth: 1_000,
-        delay: 0,
-        interval: 0,
-    };
-    let mut shaper = Shaper::new(rt.alloc());
-    let run = delete_timed(rt, &mut shaper, &load)?;
-    tell_delete(rt, &load, &run)
+    tell_delete(rt, load, &run)
 }
 
 /// Tells what a delete came to.
@@ -217,6 +195,43 @@ fn tell_delete(rt: &HostRuntime, load: &Load, run: &Run) -> io::Result<()> {
     let nanos = run.submitting;
     eprintln!(rt; "a delete of {flows} {name}: {nanos} ns")?;
     Ok(())
+}
+
+/// Measures one thing of a load on a shaper that is made already.
+fn measure_on(
+    rt: &HostRuntime,
+    shaper: &mut Shaper,
+    measured: Measured,
+    load: &Load,
+    rounds: u64,
+) -> io::Result<()> {
+    match measured {
+        Measured::Rounds => measure_rounds(rt, shaper, load, rounds),
+        Measured::Collects => measure_collects(rt, shaper, load, rounds),
+        Measured::Delete => measure_delete(rt, shaper, load),
+    }
+}
+
+/// Measures one thing of a load on a shaper of its own.
+fn measure(rt: &HostRuntime, measured: Measured, load: &Load, rounds: u64) -> io::Result<()> {
+    let mut shaper = Shaper::new(rt.alloc());
+    let told = measure_on(rt, &mut shaper, measured, load, rounds);
+    // The proof of a drop by a call has one step, where that of a drop at the end has one for each field.
+    drop(shaper);
+    told
+}
+
+/// A load whose delete reaches so many flows, most with waiting packets: that of a pipe, where each
+/// flow has a link of its own, or of the one queue of a pipe, whose flows share a link.
+fn deleted(name: &'static str, queues: u32, flows: u32) -> Load {
+    Load {
+        name,
+        queues,
+        flows,
+        bandwidth: 1_000,
+        delay: 0,
+        interval: 0,
+    }
 }
 
 /// What the program is asked for: the count of rounds, and the place of the one load to measure.
@@ -234,15 +249,25 @@ fn arguments(rt: &HostRuntime) -> io::Result<(u64, Option<usize>)> {
     Ok((rounds, load))
 }
 
+/// Measures the two deletes of so many flows, in one round each.
+fn measure_deletes(rt: &HostRuntime, flows: u32) -> io::Result<()> {
+    measure(rt, Measured::Delete, &deleted("links", 0, flows), 1)?;
+    measure(
+        rt,
+        Measured::Delete,
+        &deleted("flows of one link", 1, flows),
+        1,
+    )
+}
+
 /// Measures each load, the Collects of one packet, and the deletes.
 fn measure_all(rt: &HostRuntime, rounds: u64) -> io::Result<()> {
-    for load in LOADS {
-        measure(rt, &load, rounds)?;
+    for load in &LOADS {
+        measure(rt, Measured::Rounds, load, rounds)?;
     }
-    measure_collect(rt, rounds)?;
+    measure(rt, Measured::Collects, &COLLECTS, rounds)?;
     for flows in [1_000u32, 4_000, 16_384] {
-        measure_delete(rt, "links", 0, flows)?;
-        measure_delete(rt, "flows of one link", 1, flows)?;
+        measure_deletes(rt, flows)?;
     }
     Ok(())
 }
@@ -251,7 +276,7 @@ fn main(rt: HostRuntime) -> io::Result<()> {
     let (rounds, load) = arguments(&rt)?;
     match load {
         Some(load) => match LOADS.get(load) {
-            Some(load) => measure(&rt, load, rounds),
+            Some(load) => measure(&rt, Measured::Rounds, load, rounds),
             None => Ok(()),
         },
         None => measure_all(&rt, rounds),

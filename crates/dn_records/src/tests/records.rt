@@ -1,9 +1,11 @@
 use crate::{Field, RecordReader, RecordWriter};
 use csv::ByteRecord;
+use std::alloc::{AllocError, Global};
+use std::process::Abort;
 use std::test::Fail;
 
 // A packet file's corners: the columns are a text and its records, with their fields joined by bars.
-const TEXTS: [(&[u8], &[&[&[u8]]]); 6] = [
+static TEXTS: [(&[u8], &[&[&[u8]]]); 6] = [
     (b"", &[]),
     (b"\n\r\n", &[]),
     (
@@ -15,27 +17,50 @@ const TEXTS: [(&[u8], &[&[&[u8]]]); 6] = [
     (b"a,\"b\nc,d\n", &[&[b"a", b"b\nc,d\n"]]),
 ];
 
+fn check_fields(rt: &impl Abort, row: &ByteRecord, fields: &[&[u8]]) {
+    assert_eq!(rt; row.len(), fields.len());
+    for i in 0..fields.len() {
+        assert!(rt; row.get(i) == Some(fields[i]), "field {i}");
+    }
+}
+
+// The reader gives these records, and then none.
+fn check_records(
+    rt: &impl Abort,
+    reader: &mut RecordReader<'_>,
+    row: &mut ByteRecord,
+    records: &[&[&[u8]]],
+) -> Result<(), AllocError> {
+    for record in records {
+        assert!(rt; reader.read(row)?);
+        check_fields(rt, row, record);
+    }
+    assert!(rt; !reader.read(row)?);
+    assert!(rt; !reader.read(row)?);
+    Ok(())
+}
+
+fn check_text(
+    rt: &impl Abort,
+    alloc: Global,
+    text: &[u8],
+    records: &[&[&[u8]]],
+) -> Result<(), AllocError> {
+    let mut reader = RecordReader::new(alloc, text);
+    let mut row = ByteRecord::new(alloc);
+    check_records(rt, &mut reader, &mut row, records)
+}
+
 #[test]
 fn records_are_read_one_by_one(rt: HostRuntime) -> Result<(), Fail> {
-    for (text, records) in TEXTS {
-        let mut reader = RecordReader::new(rt.alloc(), text);
-        let mut row = ByteRecord::new(rt.alloc());
-        for record in records {
-            assert!(rt; reader.read(&mut row)?);
-            assert_eq!(rt; row.len(), record.len());
-            for i in 0..record.len() {
-                assert!(rt; row.get(i) == Some(record[i]), "field {i}");
-            }
-        }
-        assert!(rt; !reader.read(&mut row)?);
-        assert!(rt; !reader.read(&mut row)?);
+    for (text, records) in TEXTS.iter() {
+        check_text(&rt, rt.alloc(), text, records)?;
     }
     Ok(())
 }
 
-#[test]
-fn each_kind_of_field_is_written(rt: HostRuntime) -> Result<(), Fail> {
-    let mut writer = RecordWriter::new(rt.alloc());
+// Four records with each kind of field, and one without any.
+fn write_each(writer: &mut RecordWriter) -> Result<(), AllocError> {
     writer.reserve(200)?;
     writer.write(&[
         Field::Text("out"),
@@ -55,7 +80,13 @@ fn each_kind_of_field_is_written(rt: HostRuntime) -> Result<(), Fail> {
         Field::Text(""),
     ])?;
     writer.write(&[Field::Empty])?;
-    writer.write(&[])?;
+    writer.write(&[])
+}
+
+#[test]
+fn each_kind_of_field_is_written(rt: HostRuntime) -> Result<(), Fail> {
+    let mut writer = RecordWriter::new(rt.alloc());
+    write_each(&mut writer)?;
     let text = writer.into_text();
     let want =
         b"out,0,,340282366920938463463374607431768211455\n10.0.0.1,0.0.0.0,255.255.255.255\n\"a,b\",\"\"\"c\"\"\",\"d\ne\rf\",\n\"\"\n\"\"\n";

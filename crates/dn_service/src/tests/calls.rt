@@ -1,10 +1,11 @@
-//! The calls that the tests make, all about pipe 1.
-ghost use Rattle.dn_service.specs.Callers.{IsSameCaller};
+//! The calls that the tests make, all about pipe 1, and the history that is left.
+ghost use Rattle.std.specs.Prelude.{All};
+ghost use Rattle.dn_service.specs.Callers.{IsOf, IsSameCaller};
 
-use crate::Caller;
+use crate::{Caller, CloseFault, Service};
 use dn_types::{
-    Bandwidth, Call, Command, Delay, FiveTuple, Len, Limit, Loss, Mask, Moment, Number, Packet,
-    Reply, Target,
+    Bandwidth, Call, Command, Delay, Entry, FiveTuple, Len, Limit, Loss, Mask, Moment, Number,
+    Packet, Reply, Target,
 };
 use std::process::Abort;
 
@@ -65,4 +66,14 @@ pub(crate) fn made<R: Abort>(rt: &R, caller: &mut Caller, call: Option<Call>) ->
         panic!(rt; "the call was not answered")
     };
     reply
+}
+
+/// The history of a service that is closed with all its callers.
+pub(crate) fn history_of(service: Service, callers: Vec<Caller>) -> Result<Vec<Entry>, CloseFault>
+    requires { All (IsOf service) callers.items }
+{
+    match service.close(callers) {
+        Ok(closed) => Ok(closed.history),
+        Err(back) => Err(back.fault),
+    }
 }

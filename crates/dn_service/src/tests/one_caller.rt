@@ -2,10 +2,11 @@
 ghost use Rattle.std.specs.Prelude.{◌≡◌, All, length};
 ghost use Rattle.dn_service.specs.Callers.{IsOf, IsSameCaller};
 
-use crate::tests::calls::{NO_BITS, collect, made, packet, pipe};
+use crate::tests::calls::{NO_BITS, collect, history_of, made, packet, pipe};
+use crate::tests::replies::{check_delivered, check_queued};
 use crate::{Caller, OpenFault, Service, TryFault};
 use dn_types::{Call, Delivery, Entry, FiveTuple, FlowKey, FlowStatus, Number, Reply, Target};
-use std::alloc::Global;
+use std::alloc::{AllocError, Global};
 use std::process::Abort;
 use std::sync::Wait;
 use std::test::Fail;
@@ -48,28 +49,15 @@ fn four_calls() -> Option<[Call; 4]> {
 /// The history of one caller that configures the pipe, submits a packet, collects it and asks for the flows.
 fn check_four<R: Abort>(rt: &R, history: &[Entry]) {
     let calls = four_calls().expect(rt, "calls in range");
-    let [configured, queued, delivered, status] = history else {
-        panic!(rt; "there are four entries")
-    };
     assert!(rt; history.iter().all(|entry| entry.caller == 0));
     assert!(rt; history.iter().map(|entry| entry.call).eq(calls));
-    assert!(rt; matches!(configured.reply, Reply::Configured));
-    assert!(rt;
-        matches!(
-            queued.reply,
-            Reply::Queued {
-                at: 0,
-                flow: 0,
-                packet: 0
-            }
-        )
-    );
-    let Reply::Delivered {
-        at: 1_000_000,
-        list,
-    } = &delivered.reply
-    else {
-        panic!(rt; "the third entry is a Collect at 1,000,000")
+    check_four_replies(rt, history);
+}
+
+/// The replies of that history.
+fn check_four_replies<R: Abort>(rt: &R, history: &[Entry]) {
+    let [configured, queued, delivered, status] = history else {
+        panic!(rt; "there are four entries")
     };
     let first = Delivery {
         due: 1_000_000,
@@ -77,37 +65,61 @@ fn check_four<R: Abort>(rt: &R, history: &[Entry]) {
         flow: 0,
         start: 0,
     };
-    assert_eq!(rt; list.as_slice(), [first].as_slice());
-    let Reply::Status { list } = &status.reply else {
-        panic!(rt; "the fourth entry is a Show")
-    };
-    assert_eq!(rt; list.as_slice().first().copied(), one_started());
-    assert_eq!(rt; list.as_slice().len(), 1);
+    assert!(rt; matches!(configured.reply, Reply::Configured));
+    check_queued(rt, &queued.reply, 0);
+    check_delivered(rt, &delivered.reply, 1_000_000, &[first]);
+    check_status(rt, &status.reply);
 }
 
-#[test]
-fn one_caller_history_by_call(rt: HostRuntime) -> Result<(), Fail> {
-    let [pipe, packet, collect, show] = four_calls().ok_or("calls")?;
-    let (service, mut callers) = Service::open(rt.alloc(), 1)?;
-    callers[0].call(&rt, pipe)?;
-    callers[0].call(&rt, packet)?;
-    callers[0].call(&rt, collect)?;
-    callers[0].call(&rt, show)?;
-    let closed = service.close(callers).map_err(|back| back.fault)?;
-    check_four(&rt, closed.history.as_slice());
+/// The reply to the Show: one flow, whose one packet has started.
+fn check_status<R: Abort>(rt: &R, reply: &Reply) {
+    let Reply::Status { list } = reply else {
+        panic!(rt; "the fourth entry is a Show")
+    };
+    let started = one_started().expect(rt, "numbers in range");
+    assert_eq!(rt; list.as_slice(), [started].as_slice());
+}
+
+/// Makes the four calls by `call`.
+fn call_four<R: Wait>(rt: &R, caller: &mut Caller, calls: &[Call; 4]) -> Result<(), AllocError>
+    ensures { IsSameCaller caller.old caller.new }
+{
+    let [pipe, packet, collect, show] = calls;
+    caller.call(rt, *pipe)?;
+    caller.call(rt, *packet)?;
+    caller.call(rt, *collect)?;
+    caller.call(rt, *show)?;
     Ok(())
 }
 
 #[test]
-fn one_caller_history_by_try_call(rt: HostRuntime) -> Result<(), Fail> {
-    let [pipe, packet, collect, show] = four_calls().ok_or("calls")?;
+fn one_caller_history_by_call(rt: HostRuntime) -> Result<(), Fail> {
+    let calls = four_calls().ok_or("calls")?;
     let (service, mut callers) = Service::open(rt.alloc(), 1)?;
-    let _ = made(&rt, &mut callers[0], Some(pipe));
-    let _ = made(&rt, &mut callers[0], Some(packet));
-    let _ = made(&rt, &mut callers[0], Some(collect));
-    let _ = made(&rt, &mut callers[0], Some(show));
-    let closed = service.close(callers).map_err(|back| back.fault)?;
-    check_four(&rt, closed.history.as_slice());
+    call_four(&rt, &mut callers[0], &calls)?;
+    let history = history_of(service, callers)?;
+    check_four(&rt, history.as_slice());
+    Ok(())
+}
+
+/// Makes the four calls by one try each.
+fn try_four<R: Abort>(rt: &R, caller: &mut Caller, calls: &[Call; 4])
+    ensures { IsSameCaller caller.old caller.new }
+{
+    let [pipe, packet, collect, show] = calls;
+    let _ = made(rt, caller, Some(*pipe));
+    let _ = made(rt, caller, Some(*packet));
+    let _ = made(rt, caller, Some(*collect));
+    let _ = made(rt, caller, Some(*show));
+}
+
+#[test]
+fn one_caller_history_by_try_call(rt: HostRuntime) -> Result<(), Fail> {
+    let calls = four_calls().ok_or("calls")?;
+    let (service, mut callers) = Service::open(rt.alloc(), 1)?;
+    try_four(&rt, &mut callers[0], &calls);
+    let history = history_of(service, callers)?;
+    check_four(&rt, history.as_slice());
     Ok(())
 }
 
@@ -148,30 +160,46 @@ fn opened_again<R: Abort>(rt: &R, alloc: Global) -> (Service, Vec<Caller>)
     panic!(rt; "refused again and again")
 }
 
+/// Makes the four calls by `tried_again`.
+fn try_four_again<R: Abort>(rt: &R, caller: &mut Caller, calls: &[Call; 4])
+    ensures { IsSameCaller caller.old caller.new }
+{
+    let [pipe, packet, collect, show] = calls;
+    tried_again(rt, caller, pipe);
+    tried_again(rt, caller, packet);
+    tried_again(rt, caller, collect);
+    tried_again(rt, caller, show);
+}
+
 /// It passes whichever growth is refused, or whichever two in a row: a refused try leaves no trace.
 #[test]
 fn a_try_that_memory_refuses_leaves_no_trace(rt: HostRuntime) -> Result<(), Fail> {
-    let [pipe, packet, collect, show] = four_calls().ok_or("calls")?;
+    let calls = four_calls().ok_or("calls")?;
     let (service, mut callers) = opened_again(&rt, rt.alloc());
-    tried_again(&rt, &mut callers[0], &pipe);
-    tried_again(&rt, &mut callers[0], &packet);
-    tried_again(&rt, &mut callers[0], &collect);
-    tried_again(&rt, &mut callers[0], &show);
-    let closed = service.close(callers).map_err(|back| back.fault)?;
-    check_four(&rt, closed.history.as_slice());
+    try_four_again(&rt, &mut callers[0], &calls);
+    let history = history_of(service, callers)?;
+    check_four(&rt, history.as_slice());
     Ok(())
+}
+
+/// Makes the four calls by `called_again`.
+fn call_four_again<R: Abort + Wait>(rt: &R, caller: &mut Caller, calls: &[Call; 4])
+    ensures { IsSameCaller caller.old caller.new }
+{
+    let [pipe, packet, collect, show] = calls;
+    called_again(rt, caller, pipe);
+    called_again(rt, caller, packet);
+    called_again(rt, caller, collect);
+    called_again(rt, caller, show);
 }
 
 /// The same of `call`.
 #[test]
 fn a_call_that_memory_refuses_leaves_no_trace(rt: HostRuntime) -> Result<(), Fail> {
-    let [pipe, packet, collect, show] = four_calls().ok_or("calls")?;
+    let calls = four_calls().ok_or("calls")?;
     let (service, mut callers) = opened_again(&rt, rt.alloc());
-    called_again(&rt, &mut callers[0], &pipe);
-    called_again(&rt, &mut callers[0], &packet);
-    called_again(&rt, &mut callers[0], &collect);
-    called_again(&rt, &mut callers[0], &show);
-    let closed = service.close(callers).map_err(|back| back.fault)?;
-    check_four(&rt, closed.history.as_slice());
+    call_four_again(&rt, &mut callers[0], &calls);
+    let history = history_of(service, callers)?;
+    check_four(&rt, history.as_slice());
     Ok(())
 }

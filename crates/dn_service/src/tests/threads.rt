@@ -1,9 +1,9 @@
 //! Callers in threads of their own.
-ghost use Rattle.std.specs.Prelude.{◌≡◌};
-ghost use Rattle.dn_service.specs.Callers.{IsSameCaller};
+ghost use Rattle.std.specs.Prelude.{◌≡◌, All, IfOk};
+ghost use Rattle.dn_service.specs.Callers.{IsOf, IsSameCaller};
 
-use crate::tests::calls::{made, packet, pipe};
-use crate::{Caller, CloseFault, Service, TryFault};
+use crate::tests::calls::{history_of, made, packet, pipe};
+use crate::{Caller, CloseFault, OpenFault, Service, TryFault};
 use dn_shaper::Shaper;
 use dn_types::{Call, Entry, Reply};
 use std::alloc::Global;
@@ -66,8 +66,8 @@ fn tries_of_two_callers_in_threads(rt: HostRuntime) -> Result<(), Fail> {
     assert_eq!(rt; back.callers.len(), 1);
     let _ = made(&rt, &mut back.callers[0], Some(Call::Show));
     back.callers.push(one)?;
-    let closed = back.service.close(back.callers).map_err(|back| back.fault)?;
-    assert!(rt; closed.history.len() > 5);
+    let history = history_of(back.service, back.callers)?;
+    assert!(rt; history.len() > 5);
     Ok(())
 }
 
@@ -93,8 +93,8 @@ fn two_threads_share_a_pipe(rt: HostRuntime) -> Result<(), Fail> {
     );
     callers.push(zero)?;
     callers.push(one)?;
-    let closed = service.close(callers).map_err(|back| back.fault)?;
-    assert_eq!(rt; closed.history.len(), 3);
+    let history = history_of(service, callers)?;
+    assert_eq!(rt; history.len(), 3);
     Ok(())
 }
 
@@ -164,34 +164,47 @@ fn check_thousands<R: Abort>(rt: &R, history: &[Entry]) {
 }
 
 /// A shaper that is given the calls of the history again answers each as the history says.
-fn check_replies<R: Abort>(rt: &R, alloc: Global, history: &[Entry]) {
-    let mut shaper = Shaper::new(alloc);
+fn check_replies<R: Abort>(rt: &R, shaper: &mut Shaper, history: &[Entry]) {
     for entry in history {
         let reply = shaper.apply(&entry.call);
         assert!(rt; reply.is_ok_and(|reply| reply == entry.reply));
     }
 }
 
+/// One caller has configured the pipe, and each of sixteen has submitted a thousand packets.
+fn check_history<R: Abort>(rt: &R, alloc: Global, history: &[Entry]) {
+    assert_eq!(rt; history.len(), 16_001);
+    check_thousands(rt, history);
+    let mut shaper = Shaper::new(alloc);
+    check_replies(rt, &mut shaper, history);
+    // The proof of a drop by a call has one step, where that of a drop at the end has one for each field.
+    drop(shaper);
+}
+
+/// A service with sixteen callers, the first of which has configured the pipe.
+fn sixteen<R: Abort>(rt: &R, alloc: Global) -> Result<(Service, Vec<Caller>), OpenFault>
+    ensures { IfOk result (λ opened. All (IsOf opened.0) opened.1.items) }
+{
+    let (service, mut callers) = Service::open(alloc, 16)?;
+    let zero = callers.first_mut().expect(rt, "caller 0");
+    let _ = made(rt, zero, pipe(0));
+    Ok((service, callers))
+}
+
 #[test]
 fn sixteen_threads_submit_a_thousand_packets_each(rt: HostRuntime) -> Result<(), Fail> {
-    let (service, mut callers) = Service::open(rt.alloc(), 16)?;
-    let _ = made(&rt, &mut callers[0], pipe(0));
+    let (service, callers) = sixteen(&rt, rt.alloc())?;
     let callers = thread::map_vec(&rt, callers, &|caller| submit_thousand(&rt, caller))?;
-    let closed = service.close(callers).map_err(|back| back.fault)?;
-    assert_eq!(rt; closed.history.len(), 16_001);
-    check_thousands(&rt, closed.history.as_slice());
-    check_replies(&rt, rt.alloc(), closed.history.as_slice());
+    let history = history_of(service, callers)?;
+    check_history(&rt, rt.alloc(), history.as_slice());
     Ok(())
 }
 
 #[test]
 fn sixteen_threads_try_a_thousand_packets_each(rt: HostRuntime) -> Result<(), Fail> {
-    let (service, mut callers) = Service::open(rt.alloc(), 16)?;
-    let _ = made(&rt, &mut callers[0], pipe(0));
+    let (service, callers) = sixteen(&rt, rt.alloc())?;
     let callers = thread::map_vec(&rt, callers, &|caller| try_thousand(&rt, caller))?;
-    let closed = service.close(callers).map_err(|back| back.fault)?;
-    assert_eq!(rt; closed.history.len(), 16_001);
-    check_thousands(&rt, closed.history.as_slice());
-    check_replies(&rt, rt.alloc(), closed.history.as_slice());
+    let history = history_of(service, callers)?;
+    check_history(&rt, rt.alloc(), history.as_slice());
     Ok(())
 }

@@ -1,9 +1,11 @@
 //! Two callers on one thread.
 ghost use Rattle.dn_service.specs.Callers.{IsSameCaller};
 
-use crate::tests::calls::{advance, collect, made, packet, pipe};
+use crate::tests::calls::{advance, collect, history_of, made, packet, pipe};
+use crate::tests::replies::{check_delivered, check_queued};
 use crate::{Caller, OpenFault, Service};
 use dn_types::{Delivery, Entry, Reply};
+use std::alloc::Global;
 use std::process::Abort;
 use std::test::Fail;
 
@@ -23,26 +25,41 @@ fn count_of(entries: &[Entry], caller: usize) -> usize {
     entries.iter().filter(|e| e.caller == caller).count()
 }
 
+/// Each of the two callers has made 1,000 calls.
+fn check_turns<R: Abort>(rt: &R, history: &[Entry]) {
+    assert_eq!(rt; history.len(), 2000);
+    assert_eq!(rt; count_of(history, 1), 1000);
+}
+
 #[test]
 fn tries_of_two_callers_by_turns(rt: HostRuntime) -> Result<(), Fail> {
     let (service, mut callers) = Service::open(rt.alloc(), 2)?;
     let (zero, one) = callers.split_at_mut(1);
     take_turns(&rt, &mut zero[0], &mut one[0]);
-    let closed = service.close(callers).map_err(|back| back.fault)?;
-    assert_eq!(rt; closed.history.len(), 2000);
-    assert_eq!(rt; count_of(closed.history.as_slice(), 1), 1000);
+    let history = history_of(service, callers)?;
+    check_turns(&rt, history.as_slice());
     Ok(())
+}
+
+/// A service can't have so many callers.
+fn check_bad_count<R: Abort>(rt: &R, alloc: Global, n: usize) {
+    assert!(rt; matches!(Service::open(alloc, n), Err(OpenFault::BadCount)));
+}
+
+/// The callers are numbered from 0 to 15.
+fn check_numbers<R: Abort>(rt: &R, callers: &[Caller]) {
+    let numbers = callers.iter().map(|c| c.number());
+    assert!(rt; numbers.eq(0..16));
 }
 
 #[test]
 fn a_service_has_one_to_sixteen_callers(rt: HostRuntime) -> Result<(), Fail> {
-    assert!(rt; matches!(Service::open(rt.alloc(), 0), Err(OpenFault::BadCount)));
-    assert!(rt; matches!(Service::open(rt.alloc(), 17), Err(OpenFault::BadCount)));
+    check_bad_count(&rt, rt.alloc(), 0);
+    check_bad_count(&rt, rt.alloc(), 17);
     let (service, callers) = Service::open(rt.alloc(), 16)?;
-    let numbers = callers.iter().map(|c| c.number());
-    assert!(rt; numbers.eq(0..16));
-    let closed = service.close(callers).map_err(|back| back.fault)?;
-    assert!(rt; closed.history.is_empty());
+    check_numbers(&rt, callers.as_slice());
+    let history = history_of(service, callers)?;
+    assert!(rt; history.is_empty());
     Ok(())
 }
 
@@ -51,34 +68,17 @@ fn act_late<R: Abort>(rt: &R, zero: &mut Caller, one: &mut Caller) {
     let _ = made(rt, zero, pipe(8_000_000));
     let _ = made(rt, zero, advance(9_000_000));
     let late = made(rt, one, packet(5_000_000));
-    assert!(rt;
-        matches!(
-            late,
-            Reply::Queued {
-                at: 9_000_000,
-                flow: 0,
-                packet: 0
-            }
-        )
-    );
+    check_queued(rt, &late, 9_000_000);
     let none = made(rt, one, collect(0));
-    assert!(rt;
-        matches!(&none, Reply::Delivered { at: 9_000_000, list } if list.as_slice().is_empty())
-    );
-    let Reply::Delivered {
-        at: 10_000_000,
-        list,
-    } = made(rt, one, collect(10_000_000))
-    else {
-        panic!(rt; "the clock is at 10,000,000")
-    };
+    check_delivered(rt, &none, 9_000_000, &[]);
     let first = Delivery {
         due: 10_000_000,
         packet: 0,
         flow: 0,
         start: 9_000_000,
     };
-    assert_eq!(rt; list.as_slice(), [first].as_slice());
+    let due = made(rt, one, collect(10_000_000));
+    check_delivered(rt, &due, 10_000_000, &[first]);
 }
 
 #[test]

@@ -1,6 +1,6 @@
 use Rattle.std.proofs.Common.{◌∙◌}
 use Rattle.dn_replay.specs.Runs.{replayed}
-use Rattle.dn_replay.proofs.ReplaySteps.{by_one, lawful}
+use Rattle.dn_replay.proofs.ReplaySteps.{by_one}
 use Rattle.dn_replay.proofs.replays.finish.Goals as goal
 
 pub write_report-requires : goal.write_report-requires
@@ -8,18 +8,6 @@ write_report-requires g c =
     let (calls, made) = c.requires.made in
     let after = c.in-Ok.ensures calls made in
     record {
-      callers = rw (c.as_slice.ensures.value ∙ c.into_history-history.ensures ∙ after.1) (by_one (replayed calls c.args.rows.now));
+      callers = rw (c.as_slice.ensures.value ∙ c.take_history-history.ensures ∙ after.1) (by_one (replayed calls c.args.rows.now));
       sound = c.requires.sound;
     }
-
-pub returns-clause-lawful : goal.returns-clause-lawful
-returns-clause-lawful g c =
-    let (calls, made) = c.requires.made in
-    let after = c.in-Ok.ensures calls made in
-    rw (c.into_history-history.ensures ∙ after.1) (lawful (replayed calls c.args.rows.now))
-
-pub returns-clause-callers : goal.returns-clause-callers
-returns-clause-callers g c =
-    let (calls, made) = c.requires.made in
-    let after = c.in-Ok.ensures calls made in
-    rw (c.into_history-history.ensures ∙ after.1) (by_one (replayed calls c.args.rows.now))

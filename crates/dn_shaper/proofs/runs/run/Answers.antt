@@ -1,22 +1,6 @@
--- Each turn of the loop answers one call more.
-use Rattle.std.proofs.Common.{List, ap, length, arith}
-use Rattle.dn_types.specs.declared.reply.Reply.{Reply}
-use Rattle.dn_flows.proofs.Places.{length-more}
-use Rattle.dn_shaper.proofs.Replying.{stands-next, told-next}
+-- What is answered of a shaper before its first call is answered of the new one.
+use Rattle.std.proofs.lemmas.Result.{IfOk-weaker}
 use Rattle.dn_shaper.proofs.runs.run.Goals as goal
 
-pub loop-call-preserved : goal.loop-call-preserved
-loop-call-preserved c =
-    let inv = c.loop-call.invariant in
-    let so_far = inv.so_far in
-    let room = inv.room in
-    let more = c.push_reserved.ensures.items in
-    let cap = c.push_reserved.ensures.capacity in
-    let count = ap (λ (rs : List Reply). length rs) more in
-    let one = length-more c.loop-call.replies.items c.in_ok-apply.field-0 in
-    record {
-      stands = stands-next c.args.calls.now c.loop-call.call-index c.call-item.result c.loop-call-test.true c.call-item.is c.loop-call.shaper c.apply.new.self c.in_ok-apply.field-0 c.in_ok-apply.ensures.ok inv.stands;
-      told = told-next c.args.calls.now c.loop-call.call-index c.call-item.result c.loop-call-test.true c.call-item.is c.loop-call.shaper c.apply.new.self c.in_ok-apply.field-0 c.in_ok-apply.ensures.ok inv.stands c.loop-call.replies.items c.push_reserved.new.self.items more inv.told;
-      so_far = omega arith;
-      room = omega arith;
-    }
+pub returns : goal.returns
+returns c = IfOk-weaker c.answer_all-replies.result _ _ (λ list told. told c.new-shaper.ensures) c.answer_all-replies.ensures

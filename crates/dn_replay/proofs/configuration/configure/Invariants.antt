@@ -3,7 +3,7 @@ use Rattle.dn_types.specs.declared.call.Call.{Call}
 use Rattle.dn_text.specs.Lines.{lines_of}
 use Rattle.dn_replay.specs.Configuring.{configured_by, configured_from}
 use Rattle.dn_replay.specs.Runs.{HasMade}
-use Rattle.dn_replay.proofs.configuration.configured.Given as goal
+use Rattle.dn_replay.proofs.configuration.configure.Given as goal
 
 abbrev pub invariant-loop-line : goal.invariant-loop-line
 invariant-loop-line l = record {

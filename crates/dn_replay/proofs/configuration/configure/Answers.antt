@@ -2,7 +2,7 @@ use Rattle.std.proofs.Common.{sym, arith}
 use Rattle.dn_text.specs.Lines.{lines_of}
 use Rattle.dn_replay.specs.Configuring.{configured_by}
 use Rattle.dn_replay.proofs.Runs.{bad_line, line-more, no_line, refused}
-use Rattle.dn_replay.proofs.configuration.configured.Goals as goal
+use Rattle.dn_replay.proofs.configuration.configure.Goals as goal
 
 pub returns-in_default-clause-ok : goal.returns-in_default-clause-ok
 returns-in_default-clause-ok c =

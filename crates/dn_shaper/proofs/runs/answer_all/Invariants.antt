@@ -1,14 +1,14 @@
-use Rattle.std.proofs.Common.{◌≡◌, ◌≤◌, length, reverse, take}
+use Rattle.std.proofs.Common.{◌≡◌, ◌≤◌, [], length, reverse, take}
 use Rattle.std.specs.Vec.{vec_capacity}
 use Rattle.dn_types.specs.Replies.{replies}
 use Rattle.dn_types.specs.declared.rule.Rule.TheVariants.{Ordered}
 use Rattle.dn_shaper.specs.Shaper.{StandsAfter}
-use Rattle.dn_shaper.proofs.runs.run.Given as goal
+use Rattle.dn_shaper.proofs.runs.answer_all.Given as goal
 
 abbrev pub invariant-loop-call : goal.invariant-loop-call
 invariant-loop-call l = record {
-  stands : StandsAfter Ordered l.shaper (reverse (take l.call-index l.calls));
-  told : l.replies.items ≡ reverse (replies Ordered (reverse (take l.call-index l.calls)));
+  stands : StandsAfter Ordered l.fn.shaper [] → StandsAfter Ordered l.shaper (reverse (take l.call-index l.calls));
+  told : StandsAfter Ordered l.fn.shaper [] → l.replies.items ≡ reverse (replies Ordered (reverse (take l.call-index l.calls)));
   so_far : length l.replies.items ≡ l.call-index;
   room : length l.calls ≤ vec_capacity l.replies;
 }
