@@ -1,6 +1,7 @@
 #!/bin/sh
 # Runs each test of a crate with each of its growths of memory refused in turn, a process each. The arguments are the
-# crate and then, if wanted, whole names of tests that stand in for all. A test passes if it tries a refused call again.
+# crate and then, if wanted, the tests that stand in for all: whole names, or `heap::` for those of a module. A test
+# passes if it tries a refused call again.
 # A Vec that is refused room for more asks again for just enough, which hides a refusal: REFUSE_IN_A_ROW=2 refuses both.
 # It takes what `rt test` has built. The tests of dn_examples tell where it was the shaper that was refused.
 set -e
@@ -15,11 +16,18 @@ cc -O2 -no-pie -o "$work/tests" "$here/refused_growths.c" "$here/../crates/$crat
 cd "$work"
 ulimit -c 0
 failed=0
-for name in ${*:-$(./tests --list | sed -n 's/: test$//p')}; do
-    if ! ./tests --list | grep -qx "$name: test"; then
-        echo "$crate has no test $name" >&2
+./tests --list | sed -n 's/: test$//p' >all
+[ $# -gt 0 ] || cp all chosen
+for wanted; do
+    case $wanted in
+    *::) grep "^$wanted" all ;;
+    *) grep -x "$wanted" all ;;
+    esac >>chosen || {
+        echo "$crate has no test $wanted" >&2
         exit 1
-    fi
+    }
+done
+while read -r name; do
     # A program with threads ends without telling how many growths there were, so they are refused until none is left.
     growth=1
     in_shaper=0
@@ -34,5 +42,5 @@ for name in ${*:-$(./tests --list | sed -n 's/: test$//p')}; do
     done
     echo "$name: each of $((growth - 1)) growths refused in turn"
     [ "$in_shaper" = 0 ] || echo "$name: $in_shaper of them answered by the shaper"
-done
+done <chosen
 [ "$failed" = 0 ]

@@ -24,8 +24,6 @@ mod print;
 mod print_options;
 mod read_back;
 mod setting;
-#[cfg(test)]
-mod tests;
 mod units;
 
 pub use fault::LineFault;

@@ -8,6 +8,8 @@ mod broken;
 #[cfg(test)]
 mod callers;
 #[cfg(test)]
+mod example;
+#[cfg(test)]
 mod fakes;
 #[cfg(test)]
 mod file_audits;
@@ -25,3 +27,5 @@ mod history_files;
 mod memory;
 #[cfg(test)]
 mod replays;
+#[cfg(test)]
+mod reports;

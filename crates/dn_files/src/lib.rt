@@ -25,8 +25,6 @@ mod row;
 mod row_fields;
 mod source;
 mod target_fields;
-#[cfg(test)]
-mod tests;
 
 pub use config::{CONFIG_LIMIT, command_at, read_config};
 pub use history_reader::read_history;

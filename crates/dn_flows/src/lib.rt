@@ -7,8 +7,6 @@ mod flows;
 mod packet_store;
 mod stored;
 mod table_key;
-#[cfg(test)]
-mod tests;
 mod unsent;
 mod verdict;
 mod waiting;

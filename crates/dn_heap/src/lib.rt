@@ -6,8 +6,6 @@ mod min_heap;
 mod remove;
 mod run;
 mod run_heap;
-#[cfg(test)]
-mod tests;
 
 pub use min_heap::MinHeap;
 pub use run_heap::RunHeap;

@@ -3,8 +3,6 @@
 
 mod delay_line;
 mod link;
-#[cfg(test)]
-mod tests;
 mod timing;
 
 pub use delay_line::DelayLine;

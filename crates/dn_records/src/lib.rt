@@ -11,8 +11,6 @@ mod outlet;
 mod read_fault;
 mod record_reader;
 mod record_writer;
-#[cfg(test)]
-mod tests;
 mod whole;
 mod write_fault;
 

@@ -15,8 +15,6 @@ mod no_gate;
 mod replays;
 mod report;
 mod run;
-#[cfg(test)]
-mod tests;
 mod verdict;
 
 pub use audits::audit;

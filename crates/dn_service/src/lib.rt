@@ -24,6 +24,3 @@ pub use open_fault::OpenFault;
 pub use service::Service;
 pub use try_fault::TryFault;
 pub use unclosed::Unclosed;
-
-#[cfg(test)]
-mod tests;

@@ -7,8 +7,6 @@ mod joined;
 mod lines;
 mod number_fault;
 mod numbers;
-#[cfg(test)]
-mod tests;
 mod words;
 
 pub use address::read_address;

@@ -53,6 +53,3 @@ pub use slot_count::SlotCount;
 pub use statuses::Statuses;
 pub use target::Target;
 pub use weight::Weight;
-
-#[cfg(test)]
-mod tests;

@@ -10,7 +10,5 @@ mod rank;
 mod reserve;
 mod scaled;
 mod sched;
-#[cfg(test)]
-mod tests;
 
 pub use sched::Sched;

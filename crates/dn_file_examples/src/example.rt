@@ -1,0 +1,48 @@
+use dn_replay::{
+    FromReader, FromWriter, NoGate, Verdict, audit, audit_file, read_config, read_packets, replay,
+    replay_callers, write_history, write_report,
+};
+use dn_types::Rule;
+use std::test::Fail;
+
+#[test]
+fn the_example_of_the_readme(rt: HostRuntime) -> Result<(), Fail> {
+    let alloc = rt.alloc();
+    let config = b"pipe 1 config bw 8Mbit/s\n".as_slice();
+    let packets = b"moment,target,number,src,dst,proto,sport,dport,len,word\n\
+        0,pipe,1,10.0.0.1,10.0.0.2,17,1000,2000,1000,0\n"
+        .as_slice();
+    let mut file = Vec::new(alloc);
+    let mut output = Vec::new(alloc);
+    let mut out = FromWriter::new(&mut output);
+    let history = replay(
+        alloc,
+        &mut FromReader::new(config),
+        &mut FromReader::new(packets),
+        &mut out,
+    )?;
+    write_report(alloc, 1, &history, &mut out)?;
+    write_history(alloc, &history, &mut FromWriter::new(&mut file))?;
+    let verdict = audit(alloc, Rule::Ordered, &history)?;
+    assert!(rt; verdict == Verdict::Lawful);
+    let same = audit_file(alloc, &mut FromReader::new(file.as_slice()), &mut out)?;
+    assert!(rt; same == verdict);
+    let rows = read_packets(alloc, &mut FromReader::new(packets))?;
+    let commands = read_config(alloc, &mut FromReader::new(config))?;
+    assert!(rt; history.len() == commands.len() + rows.len() + 1);
+    let shared = replay_callers(
+        &rt,
+        alloc,
+        3,
+        &mut FromReader::new(config),
+        &mut FromReader::new(packets),
+        &mut out,
+        &NoGate,
+    )?;
+    assert!(rt; shared.len() == history.len());
+    let report = "event,row,flow,packet,at,start,due\nout,1,0,0,0,0,1000000\n";
+    let written = format!(in alloc; "{report}{report}lawful 3\n{report}")?;
+    assert!(rt; output.as_slice() == written.as_bytes());
+    assert!(rt; file.starts_with(b"dummynet-history,3\n") && file.ends_with(b"\nend,3\n"));
+    Ok(())
+}

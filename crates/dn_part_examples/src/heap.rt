@@ -1,0 +1,141 @@
+use crate::keys::{check_last, check_pops, check_told, push_all, reserved_again};
+use dn_heap::{MinHeap, RunHeap};
+use std::alloc::{AllocError, Global};
+use std::process::Abort;
+use std::test::Fail;
+
+/// The lines of the README's sample.
+fn sample(alloc: Global) -> Result<Option<u64>, AllocError> {
+    let mut due: MinHeap<u64> = MinHeap::new(alloc);
+    due.reserve(2)?;
+    due.push_reserved(90);
+    due.push_reserved(30);
+    let first = due.pop();
+    Ok(first)
+}
+
+#[test]
+fn the_example_of_the_readme(rt: HostRuntime) {
+    let mut first = sample(rt.alloc());
+    if first.is_err() {
+        first = sample(rt.alloc());
+    }
+    assert_eq!(rt; first, Ok(Some(30)));
+}
+
+fn check_parts<R: Abort>(rt: &R, heap: &mut MinHeap<u32>) -> Result<(), AllocError> {
+    check_told(rt, heap, (None, 0, 0, 0));
+    reserved_again(rt, heap, 3)?;
+    push_all(heap, [5, 2, 9].as_slice());
+    check_told(rt, heap, (Some(2), 3, 0, 3));
+    check_last(rt, heap, [2, 5, 9].as_slice());
+    check_told(rt, heap, (None, 0, 3, 3));
+    Ok(())
+}
+
+#[test]
+fn parts_by_themselves(rt: HostRuntime) -> Result<(), Fail> {
+    let mut heap = MinHeap::new(rt.alloc());
+    check_parts(&rt, &mut heap)?;
+    Ok(())
+}
+
+fn check_equal<R: Abort>(rt: &R, heap: &mut MinHeap<u32>) -> Result<(), AllocError> {
+    reserved_again(rt, heap, 2)?;
+    push_all(heap, [7, 3].as_slice());
+    check_told(rt, heap, (Some(3), 2, 0, 2));
+    reserved_again(rt, heap, 3)?;
+    push_all(heap, [7, 1].as_slice());
+    assert!(rt; heap.take_out(&7));
+    assert!(rt; !heap.take_out(&8));
+    check_told(rt, heap, (Some(1), 3, 2, 4));
+    check_pops(rt, heap, [1, 3, 7].as_slice());
+    assert!(rt; heap.is_empty());
+    Ok(())
+}
+
+#[test]
+fn takes_one_of_equal_keys(rt: HostRuntime) -> Result<(), Fail> {
+    let mut heap = MinHeap::new(rt.alloc());
+    check_equal(&rt, &mut heap)?;
+    Ok(())
+}
+
+fn check_passing<R: Abort>(rt: &R, heap: &mut MinHeap<u32>) -> Result<(), AllocError> {
+    reserved_again(rt, heap, 5)?;
+    push_all(heap, [8, 3, 4, 8, 5].as_slice());
+    // Of two equal keys both are let go, and each key that is let go gives its room back.
+    heap.retain(|key| *key != 8 && *key != 3);
+    check_told(rt, heap, (Some(4), 2, 3, 5));
+    push_all(heap, [6].as_slice());
+    check_last(rt, heap, [4, 5, 6].as_slice());
+    Ok(())
+}
+
+#[test]
+fn retains_what_passes(rt: HostRuntime) -> Result<(), Fail> {
+    let mut heap = MinHeap::new(rt.alloc());
+    check_passing(&rt, &mut heap)?;
+    Ok(())
+}
+
+fn check_all_or_none<R: Abort>(rt: &R, heap: &mut MinHeap<u32>) -> Result<(), AllocError> {
+    heap.retain(|_| false);
+    check_told(rt, heap, (None, 0, 0, 0));
+    reserved_again(rt, heap, 2)?;
+    push_all(heap, [2, 1].as_slice());
+    heap.retain(|_| true);
+    check_told(rt, heap, (Some(1), 2, 0, 2));
+    heap.retain(|_| false);
+    check_told(rt, heap, (None, 0, 2, 2));
+    Ok(())
+}
+
+#[test]
+fn retains_all_or_none(rt: HostRuntime) -> Result<(), Fail> {
+    let mut heap = MinHeap::new(rt.alloc());
+    check_all_or_none(&rt, &mut heap)?;
+    Ok(())
+}
+
+fn check_keys<R: Abort>(rt: &R, heap: &mut RunHeap<u32>) -> Result<(), AllocError> {
+    reserved_again(rt, heap, 4)?;
+    push_all(heap, [10, 20, 15, 30].as_slice());
+    reserved_again(rt, heap, 3)?;
+    push_all(heap, [5, 20].as_slice());
+    check_told(rt, heap, (Some(5), 6, 1, 6));
+    check_pops(rt, heap, [5, 10, 15].as_slice());
+    check_told(rt, heap, (Some(20), 3, 4, 6));
+    push_all(heap, [25].as_slice());
+    check_last(rt, heap, [20, 20, 25, 30].as_slice());
+    check_told(rt, heap, (None, 0, 7, 7));
+    Ok(())
+}
+
+/// Keys that come in order and keys that come out of it leave in one order.
+#[test]
+fn keys_in_and_out_of_order(rt: HostRuntime) -> Result<(), Fail> {
+    let mut heap = RunHeap::new(rt.alloc());
+    check_keys(&rt, &mut heap)?;
+    Ok(())
+}
+
+fn check_retained<R: Abort>(rt: &R, heap: &mut RunHeap<u32>) -> Result<(), AllocError> {
+    reserved_again(rt, heap, 5)?;
+    push_all(heap, [2, 6, 4, 8, 6].as_slice());
+    // One of the equal keys is in the run, the other in the heap beside it.
+    heap.retain(|key| *key != 6);
+    check_told(rt, heap, (Some(2), 3, 2, 5));
+    heap.retain(|key| *key != 2);
+    check_told(rt, heap, (Some(4), 2, 3, 5));
+    check_last(rt, heap, [4, 8].as_slice());
+    check_told(rt, heap, (None, 0, 5, 5));
+    Ok(())
+}
+
+#[test]
+fn retains_in_and_out_of_order(rt: HostRuntime) -> Result<(), Fail> {
+    let mut heap = RunHeap::new(rt.alloc());
+    check_retained(&rt, &mut heap)?;
+    Ok(())
+}

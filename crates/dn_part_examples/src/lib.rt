@@ -1,0 +1,33 @@
+//! Worked examples of the parts below the shaper, one file a part.
+#![tactic(auto)]
+
+#[cfg(test)]
+mod config;
+#[cfg(test)]
+mod devices;
+#[cfg(test)]
+mod fakes;
+#[cfg(test)]
+mod file_texts;
+#[cfg(test)]
+mod files;
+#[cfg(test)]
+mod flows;
+#[cfg(test)]
+mod given;
+#[cfg(test)]
+mod heap;
+#[cfg(test)]
+mod keys;
+#[cfg(test)]
+mod link;
+#[cfg(test)]
+mod record_example;
+#[cfg(test)]
+mod records;
+#[cfg(test)]
+mod scheduler;
+#[cfg(test)]
+mod text;
+#[cfg(test)]
+mod types;

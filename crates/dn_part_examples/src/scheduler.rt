@@ -1,0 +1,289 @@
+use dn_types::{Len, Weight};
+use dn_wf2q::Sched;
+use std::alloc::{AllocError, Global};
+use std::process::Abort;
+use std::test::Fail;
+
+/// The lines of the README's sample.
+fn sample(alloc: Global, len: Len, weight: Weight) -> Result<Option<usize>, AllocError> {
+    let mut sched = Sched::new(alloc);
+    sched.begin_busy();
+    sched.reserve_flow(0)?;
+    sched.arrive(0, len, weight);
+    let sent = sched.pick();
+    Ok(sent)
+}
+
+#[test]
+fn the_example_of_the_readme(rt: HostRuntime) {
+    let len = Len::new(1000).unwrap();
+    let weight = Weight::new(1).unwrap();
+    let mut sent = sample(rt.alloc(), len, weight);
+    if sent.is_err() {
+        sent = sample(rt.alloc(), len, weight);
+    }
+    assert_eq!(rt; sent, Ok(Some(0)));
+}
+
+/// A step of an example. Slots and virtual time after each pick were worked by hand from Bennett and
+/// Zhang's rules, and by an independent reference.
+enum Step {
+    /// A busy period begins.
+    Begin,
+    /// A packet of 1,000 bytes arrives at the slot, whose flow has this weight.
+    Arrive(usize, u8),
+    /// The backlog at the slot is discarded.
+    Discard(usize),
+    /// The slot is picked, after which virtual time is this.
+    Pick(usize, u128),
+    /// No slot is picked, at this virtual time.
+    PickNone(u128),
+}
+
+/// What a scheduler tells of itself: whether it is idle, virtual time, arrivals, picks and pushes.
+fn told(sched: &Sched) -> (bool, u128, u64, u64, u64) {
+    (
+        sched.is_idle(),
+        sched.virtual_time(),
+        sched.arrivals(),
+        sched.picks(),
+        sched.moves(),
+    )
+}
+
+/// A packet of 1,000 bytes arrives. A refused growth changes nothing, and the next try goes on: with
+/// each allocation refused in turn, `rt try --test --fail-alloc N`, the tests pass for every N.
+fn arrive(rt: &impl Abort, sched: &mut Sched, slot: usize, weight: u8) -> Result<(), AllocError> {
+    let before = told(sched);
+    if sched.reserve_flow(slot).is_err() {
+        assert_eq!(rt; told(sched), before);
+        sched.reserve_flow(slot)?;
+    }
+    if let (Some(len), Some(weight)) = (Len::new(1000), Weight::new(weight)) {
+        if sched.arrivals() < 1 << 62 {
+            sched.arrive(slot, len, weight);
+        }
+    }
+    Ok(())
+}
+
+fn begin(sched: &mut Sched) {
+    if sched.is_idle() {
+        sched.begin_busy();
+    }
+}
+
+fn check_pick(rt: &impl Abort, sched: &mut Sched, slot: Option<usize>, virtual_time: u128) {
+    let picked = sched.pick();
+    assert_eq!(rt; picked, slot);
+    assert_eq!(rt; sched.virtual_time(), virtual_time);
+}
+
+fn take_steps(rt: &impl Abort, sched: &mut Sched, steps: &[Step]) -> Result<(), AllocError> {
+    for step in steps {
+        match step {
+            Step::Begin => begin(sched),
+            Step::Arrive(slot, weight) => arrive(rt, sched, *slot, *weight)?,
+            Step::Discard(slot) => sched.discard(*slot),
+            Step::Pick(slot, virtual_time) => check_pick(rt, sched, Some(*slot), *virtual_time),
+            Step::PickNone(virtual_time) => check_pick(rt, sched, None, *virtual_time),
+        }
+    }
+    Ok(())
+}
+
+/// A new scheduler takes the steps.
+fn check(rt: &impl Abort, alloc: Global, steps: &[Step]) -> Result<(), AllocError> {
+    let mut sched = Sched::new(alloc);
+    let taken = take_steps(rt, &mut sched, steps);
+    // The proof of a drop by a call has one step, where that of a drop at the end has one for each field.
+    drop(sched);
+    taken
+}
+
+fn check_parts(rt: &impl Abort, sched: &mut Sched) -> Result<(), AllocError> {
+    assert!(rt; sched.is_idle());
+    arrive(rt, sched, 0, 1)?;
+    check_pick(rt, sched, Some(0), 65_536_000);
+    check_pick(rt, sched, None, 65_536_000);
+    assert_eq!(rt; (sched.arrivals(), sched.picks()), (1, 1));
+    assert!(rt; 1 <= sched.moves() && sched.moves() <= 2);
+    Ok(())
+}
+
+#[test]
+fn parts_by_themselves(rt: HostRuntime) -> Result<(), Fail> {
+    let mut sched = Sched::new(rt.alloc());
+    let checked = check_parts(&rt, &mut sched);
+    drop(sched);
+    Ok(checked?)
+}
+
+#[test]
+fn shares_by_weight(rt: HostRuntime) -> Result<(), Fail> {
+    static STEPS: [Step; 12] = [
+        Step::Begin,
+        Step::Arrive(0, 1),
+        Step::Pick(0, 65_536_000),
+        Step::Arrive(0, 1),
+        Step::Arrive(1, 3),
+        Step::Arrive(1, 3),
+        Step::Arrive(1, 3),
+        Step::Pick(1, 81_920_000),
+        Step::Pick(0, 98_304_000),
+        Step::Pick(1, 120_149_333),
+        Step::Pick(1, 141_994_666),
+        Step::PickNone(141_994_666),
+    ];
+    Ok(check(&rt, rt.alloc(), &STEPS)?)
+}
+
+#[test]
+fn ties_by_flow_number(rt: HostRuntime) -> Result<(), Fail> {
+    static STEPS: [Step; 8] = [
+        Step::Begin,
+        Step::Arrive(0, 1),
+        Step::Pick(0, 65_536_000),
+        Step::Arrive(1, 1),
+        Step::Arrive(0, 1),
+        Step::Pick(0, 98_304_000),
+        Step::Pick(1, 163_840_000),
+        Step::PickNone(163_840_000),
+    ];
+    Ok(check(&rt, rt.alloc(), &STEPS)?)
+}
+
+#[test]
+fn raised_virtual_time(rt: HostRuntime) -> Result<(), Fail> {
+    static STEPS: [Step; 12] = [
+        Step::Begin,
+        Step::Arrive(0, 1),
+        Step::Pick(0, 65_536_000),
+        Step::Arrive(0, 1),
+        Step::Arrive(1, 3),
+        Step::Arrive(1, 3),
+        Step::Pick(1, 81_920_000),
+        Step::Pick(0, 98_304_000),
+        Step::Pick(1, 120_149_333),
+        // The start tag is 131,072,000, to which virtual time is raised.
+        Step::Arrive(0, 1),
+        Step::Pick(0, 196_608_000),
+        Step::PickNone(196_608_000),
+    ];
+    Ok(check(&rt, rt.alloc(), &STEPS)?)
+}
+
+#[test]
+fn a_new_busy_period(rt: HostRuntime) -> Result<(), Fail> {
+    static STEPS: [Step; 13] = [
+        Step::Begin,
+        Step::Arrive(0, 1),
+        Step::Arrive(0, 1),
+        Step::Pick(0, 65_536_000),
+        Step::Pick(0, 131_072_000),
+        Step::Begin,
+        Step::Arrive(1, 1),
+        Step::Pick(1, 65_536_000),
+        Step::Arrive(1, 1),
+        Step::Arrive(0, 1),
+        Step::Pick(0, 98_304_000),
+        Step::Pick(1, 163_840_000),
+        Step::PickNone(163_840_000),
+    ];
+    Ok(check(&rt, rt.alloc(), &STEPS)?)
+}
+
+// With the finish tag of a discarded packet kept, slot 0 would go twice before slot 1.
+#[test]
+fn a_discarded_backlog(rt: HostRuntime) -> Result<(), Fail> {
+    static STEPS: [Step; 14] = [
+        Step::Begin,
+        Step::Arrive(0, 1),
+        Step::Pick(0, 65_536_000),
+        Step::Arrive(0, 1),
+        Step::Arrive(1, 1),
+        Step::Arrive(1, 1),
+        Step::Discard(1),
+        Step::Discard(7),
+        Step::Arrive(1, 1),
+        Step::Arrive(0, 1),
+        Step::Pick(0, 98_304_000),
+        Step::Pick(1, 131_072_000),
+        Step::Pick(0, 196_608_000),
+        Step::PickNone(196_608_000),
+    ];
+    Ok(check(&rt, rt.alloc(), &STEPS)?)
+}
+
+/// What a scan over 100 flows picks, of which flow f has weight f + 1 and had 100 packets of 1,000
+/// bytes at first, where so many of each have been sent.
+fn scan(sent: &[u128; 100], virtual_time: &mut u128) -> Option<usize> {
+    let mut least: Option<u128> = None;
+    let mut weights: u128 = 0;
+    for flow in 0..100usize {
+        if sent[flow] < 100 {
+            let start = sent[flow] * (65_536_000 / (flow as u128 + 1));
+            least = Some(least.map_or(start, |l| l.min(start)));
+            weights = weights.saturating_add(flow as u128 + 1);
+        }
+    }
+    *virtual_time = (*virtual_time).max(least?);
+    let mut first: Option<(u128, usize)> = None;
+    for flow in 0..100usize {
+        let cost = 65_536_000 / (flow as u128 + 1);
+        if sent[flow] < 100 && sent[flow] * cost <= *virtual_time {
+            let key = (sent[flow] * cost + cost, flow);
+            first = Some(first.map_or(key, |f| f.min(key)));
+        }
+    }
+    let growth = 65_536_000u128.checked_div(weights).unwrap_or(0);
+    *virtual_time = (*virtual_time).saturating_add(growth);
+    Some(first?.1)
+}
+
+/// A hundred packets of 1,000 bytes arrive at each of 100 slots, of which slot f has weight f + 1.
+fn fill(rt: &impl Abort, sched: &mut Sched) -> Result<(), AllocError> {
+    for packet in 0..10_000usize {
+        let slot = packet % 100;
+        arrive(rt, sched, slot, slot as u8 + 1)?;
+    }
+    Ok(())
+}
+
+/// Whether each pick and virtual time after it are those of the scan, and a checksum of the slots.
+fn compare(sched: &mut Sched) -> (bool, u32) {
+    let mut sent = [0u128; 100];
+    let mut virtual_time = 0;
+    let mut same = true;
+    let mut checksum: u32 = 0;
+    for _ in 0..10001 {
+        let slot = sched.pick();
+        same = same
+            && slot == scan(&sent, &mut virtual_time)
+            && sched.virtual_time() == virtual_time;
+        if let Some(f) = slot {
+            if f < 100 {
+                sent[f] = sent[f].saturating_add(1);
+                checksum = checksum.wrapping_mul(31).wrapping_add(f as u32 + 1);
+            }
+        }
+    }
+    (same, checksum)
+}
+
+// The last figures come from an independent reference.
+fn check_hundred(rt: &impl Abort, sched: &mut Sched) -> Result<(), AllocError> {
+    begin(sched);
+    fill(rt, sched)?;
+    assert_eq!(rt; compare(sched), (true, 1_019_959_014));
+    assert_eq!(rt; told(sched), (true, 6_583_152_876, 10000, 10000, 17530));
+    Ok(())
+}
+
+#[test]
+fn a_hundred_flows(rt: HostRuntime) -> Result<(), Fail> {
+    let mut sched = Sched::new(rt.alloc());
+    let checked = check_hundred(&rt, &mut sched);
+    drop(sched);
+    Ok(checked?)
+}

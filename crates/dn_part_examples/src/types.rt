@@ -1,0 +1,301 @@
+use dn_types::{
+    Bandwidth, Buckets, Call, Delay, Deliveries, Delivery, Entry, FiveTuple, FlowKey, FlowStatus,
+    KbyteCount, Len, Limit, Loss, Mask, Moment, Number, Reply, SlotCount, Statuses, Target, Weight,
+};
+use std::alloc::{AllocError, Global};
+use std::process::Abort;
+use std::test::Fail;
+
+// The bounds are those that README.md gives.
+fn check_moments(rt: &impl Abort) {
+    static BOUNDS: [(u64, Option<u64>); 3] = [
+        (0, Some(0)),
+        (1 << 62, Some(1 << 62)),
+        ((1 << 62) + 1, None),
+    ];
+    for (value, want) in BOUNDS.iter() {
+        assert_eq!(rt; Moment::new(*value).map(Moment::get), *want);
+    }
+}
+
+fn check_lengths(rt: &impl Abort) {
+    static BOUNDS: [(u16, Option<u16>); 3] = [(0, None), (1, Some(1)), (65_535, Some(65_535))];
+    for (value, want) in BOUNDS.iter() {
+        assert_eq!(rt; Len::new(*value).map(Len::get), *want);
+    }
+}
+
+fn check_numbers(rt: &impl Abort) {
+    static BOUNDS: [(u32, Option<u32>); 4] = [
+        (0, None),
+        (1, Some(1)),
+        (65_535, Some(65_535)),
+        (65_536, None),
+    ];
+    for (value, want) in BOUNDS.iter() {
+        assert_eq!(rt; Number::new(*value).map(Number::get), *want);
+    }
+}
+
+fn check_bandwidths(rt: &impl Abort) {
+    static BOUNDS: [(u64, Option<u64>); 3] = [
+        (0, Some(0)),
+        (1_000_000_000_000, Some(1_000_000_000_000)),
+        (1_000_000_000_001, None),
+    ];
+    for (value, want) in BOUNDS.iter() {
+        assert_eq!(rt; Bandwidth::new(*value).map(Bandwidth::get), *want);
+    }
+}
+
+fn check_delays(rt: &impl Abort) {
+    static BOUNDS: [(u32, Option<u32>); 3] = [
+        (0, Some(0)),
+        (3_600_000, Some(3_600_000)),
+        (3_600_001, None),
+    ];
+    for (value, want) in BOUNDS.iter() {
+        assert_eq!(rt; Delay::new(*value).map(Delay::get), *want);
+    }
+}
+
+fn check_losses(rt: &impl Abort) {
+    static BOUNDS: [(u32, Option<u32>); 3] = [
+        (0, Some(0)),
+        (1 << 31, Some(1 << 31)),
+        ((1 << 31) + 1, None),
+    ];
+    for (value, want) in BOUNDS.iter() {
+        assert_eq!(rt; Loss::new(*value).map(Loss::get), *want);
+    }
+}
+
+fn check_weights(rt: &impl Abort) {
+    static BOUNDS: [(u8, Option<u8>); 4] = [(0, None), (1, Some(1)), (100, Some(100)), (101, None)];
+    for (value, want) in BOUNDS.iter() {
+        assert_eq!(rt; Weight::new(*value).map(Weight::get), *want);
+    }
+}
+
+fn check_buckets(rt: &impl Abort) {
+    static BOUNDS: [(u32, Option<u32>); 4] = [
+        (15, None),
+        (16, Some(16)),
+        (65_536, Some(65_536)),
+        (65_537, None),
+    ];
+    for (value, want) in BOUNDS.iter() {
+        assert_eq!(rt; Buckets::new(*value).map(Buckets::get), *want);
+    }
+}
+
+#[test]
+fn range_types_at_their_bounds(rt: HostRuntime) {
+    check_moments(&rt);
+    check_lengths(&rt);
+    check_numbers(&rt);
+    check_bandwidths(&rt);
+    check_delays(&rt);
+    check_losses(&rt);
+    check_weights(&rt);
+    check_buckets(&rt);
+}
+
+fn check_slots(rt: &impl Abort) {
+    static BOUNDS: [(u16, Option<u16>); 4] = [
+        (0, None),
+        (1, Some(1)),
+        (10_000, Some(10_000)),
+        (10_001, None),
+    ];
+    for (count, want) in BOUNDS.iter() {
+        assert_eq!(rt; SlotCount::new(*count).map(SlotCount::get), *want);
+        assert_eq!(rt; Limit::slots(*count).and_then(Limit::as_slots), *want);
+        assert_eq!(rt; Limit::slots(*count).and_then(Limit::as_kbytes), None);
+    }
+}
+
+fn check_kbytes(rt: &impl Abort) {
+    static BOUNDS: [(u16, Option<u16>); 4] = [
+        (0, None),
+        (1, Some(1)),
+        (1024, Some(1024)),
+        (1025, None),
+    ];
+    for (count, want) in BOUNDS.iter() {
+        assert_eq!(rt; KbyteCount::new(*count).map(KbyteCount::get), *want);
+        assert_eq!(rt; Limit::kbytes(*count).and_then(Limit::as_kbytes), *want);
+        assert_eq!(rt; Limit::kbytes(*count).and_then(Limit::as_slots), None);
+    }
+}
+
+#[test]
+fn limits_at_their_bounds(rt: HostRuntime) {
+    check_slots(&rt);
+    check_kbytes(&rt);
+}
+
+// `mask src-ip 0xffff0000 dst-ip 0x000000ff proto 0x0f src-port 0xff00 dst-port 0` on a packet from 10.0.0.1 to
+// 10.1.0.1: 10.0.0.0, 0.0.0.1, 17 & 15 = 1, 1000 & 65280 = 768 and 0.
+#[test]
+fn a_mask_keeps_its_bits(rt: HostRuntime) {
+    let mask = Mask {
+        src: 0xffff_0000,
+        dst: 0xff,
+        proto: 0x0f,
+        sport: 0xff00,
+        dport: 0,
+    };
+    let tuple = FiveTuple {
+        src: 0x0a00_0001,
+        dst: 0x0a01_0001,
+        proto: 17,
+        sport: 1000,
+        dport: 2000,
+    };
+    let want = FiveTuple {
+        src: 0x0a00_0000,
+        dst: 1,
+        proto: 1,
+        sport: 768,
+        dport: 0,
+    };
+    assert_eq!(rt; mask.apply(&tuple), want);
+}
+
+#[test]
+fn deliveries_go_by_due_moment_and_packet(rt: HostRuntime) {
+    let delivery = |due, packet| Delivery {
+        due,
+        packet,
+        flow: 0,
+        start: 0,
+    };
+    assert!(rt; delivery(4, 9) < delivery(5, 0));
+    assert!(rt; delivery(5, 0) < delivery(5, 1));
+}
+
+// The packet that the Collect of `third_entry` gives.
+fn delivered(alloc: Global) -> Result<Vec<Delivery>, Fail> {
+    let mut list = Vec::new(alloc);
+    list.push(Delivery {
+        due: 1_000_000,
+        packet: 0,
+        flow: 0,
+        start: 0,
+    })?;
+    Ok(list)
+}
+
+// The state of a pipe's one flow, of which a packet has started and none waits.
+fn states(alloc: Global) -> Result<Vec<FlowStatus>, Fail> {
+    let pipe = Number::new(1).ok_or("1 is a number")?;
+    let mask = Mask {
+        src: 0,
+        dst: 0,
+        proto: 0,
+        sport: 0,
+        dport: 0,
+    };
+    let tuple = FiveTuple {
+        src: 0,
+        dst: 0,
+        proto: 0,
+        sport: 0,
+        dport: 0,
+    };
+    let mut list = Vec::new(alloc);
+    list.push(FlowStatus {
+        flow: 0,
+        key: FlowKey {
+            target: Target::Pipe(pipe),
+            pipe,
+            mask,
+            tuple,
+        },
+        queued: 0,
+        bytes: 0,
+        lost: 0,
+        full: 0,
+        started: 1,
+        discarded: 0,
+    })?;
+    Ok(list)
+}
+
+// The third of four calls of one caller. A pipe of 8 Mbit/s was configured, one packet of 1,000 bytes was submitted
+// at 0, and the Collect at 1 ms gives it.
+fn third_entry(alloc: Global) -> Result<Entry, Fail> {
+    Ok(Entry {
+        caller: 0,
+        call: Call::Collect(Moment::new(1_000_000).ok_or("1 ms is a moment")?),
+        reply: Reply::Delivered {
+            at: 1_000_000,
+            list: Deliveries::from_vec(delivered(alloc)?),
+        },
+    })
+}
+
+fn check_clone(rt: &impl Abort, reply: &Reply) -> Result<(), AllocError> {
+    assert_eq!(rt; reply.try_clone()?, *reply);
+    Ok(())
+}
+
+fn check_plain_clones(rt: &impl Abort) -> Result<(), AllocError> {
+    check_clone(rt, &Reply::Configured)?;
+    check_clone(rt, &Reply::NoSuchPipe)?;
+    check_clone(rt, &Reply::Deleted)?;
+    check_clone(rt, &Reply::PipeHasQueues)?;
+    check_clone(rt, &Reply::NoSuchQueue)?;
+    check_clone(
+        rt,
+        &Reply::Queued {
+            at: 3,
+            flow: 2,
+            packet: 1,
+        },
+    )?;
+    check_clone(rt, &Reply::Lost { at: 3, flow: 2 })?;
+    check_clone(rt, &Reply::Full { at: 3, flow: 2 })?;
+    check_clone(rt, &Reply::NoTarget { at: 3 })?;
+    check_clone(rt, &Reply::Advanced { at: 3 })?;
+    check_clone(rt, &Reply::Exhausted)
+}
+
+fn check_entry_clone(rt: &impl Abort, entry: &Entry) -> Result<(), AllocError> {
+    assert_eq!(rt; entry.try_clone()?, *entry);
+    check_clone(rt, &entry.reply)
+}
+
+#[test]
+fn clones_are_equal(rt: HostRuntime) -> Result<(), Fail> {
+    check_plain_clones(&rt)?;
+    let entry = third_entry(rt.alloc())?;
+    check_entry_clone(&rt, &entry)?;
+    let status = Reply::Status {
+        list: Statuses::from_vec(states(rt.alloc())?),
+    };
+    check_clone(&rt, &status)?;
+    assert!(rt; status != entry.reply);
+    Ok(())
+}
+
+fn check_deliveries(rt: &impl Abort, given: Vec<Delivery>, want: &[Delivery]) {
+    let list = Deliveries::from_vec(given);
+    assert_eq!(rt; list.as_slice(), want);
+    assert_eq!(rt; list.into_vec().as_slice(), want);
+}
+
+fn check_statuses(rt: &impl Abort, given: Vec<FlowStatus>, want: &[FlowStatus]) {
+    let list = Statuses::from_vec(given);
+    assert_eq!(rt; list.as_slice(), want);
+    assert_eq!(rt; list.into_vec().as_slice(), want);
+}
+
+#[test]
+fn lists_give_their_items_back(rt: HostRuntime) -> Result<(), Fail> {
+    let alloc = rt.alloc();
+    check_deliveries(&rt, delivered(alloc)?, delivered(alloc)?.as_slice());
+    check_statuses(&rt, states(alloc)?, states(alloc)?.as_slice());
+    Ok(())
+}

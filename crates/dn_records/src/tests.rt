@@ -1,4 +1,0 @@
-mod devices;
-mod example;
-mod fakes;
-mod records;

@@ -1,2 +1,0 @@
-mod example;
-mod reports;

@@ -1,0 +1,205 @@
+//! One caller: the four entries of its history.
+ghost use Rattle.std.specs.Prelude.{◌≡◌, All, length};
+ghost use Rattle.dn_service.specs.Callers.{IsOf, IsSameCaller};
+
+use crate::calls::{NO_BITS, collect, history_of, made, packet, pipe};
+use crate::replies::{check_delivered, check_queued};
+use dn_service::{Caller, OpenFault, Service, TryFault};
+use dn_types::{Call, Delivery, Entry, FiveTuple, FlowKey, FlowStatus, Number, Reply, Target};
+use std::alloc::{AllocError, Global};
+use std::process::Abort;
+use std::sync::Wait;
+use std::test::Fail;
+
+/// The flow of the packets to pipe 1, once its one packet has started.
+fn one_started() -> Option<FlowStatus> {
+    Some(FlowStatus {
+        flow: 0,
+        key: FlowKey {
+            target: Target::Pipe(Number::new(1)?),
+            pipe: Number::new(1)?,
+            mask: NO_BITS,
+            tuple: FiveTuple {
+                src: 0,
+                dst: 0,
+                proto: 0,
+                sport: 0,
+                dport: 0,
+            },
+        },
+        queued: 0,
+        bytes: 0,
+        lost: 0,
+        full: 0,
+        started: 1,
+        discarded: 0,
+    })
+}
+
+/// The four calls of the one caller.
+fn four_calls() -> Option<[Call; 4]> {
+    Some([
+        pipe(8_000_000)?,
+        packet(0)?,
+        collect(1_000_000)?,
+        Call::Show,
+    ])
+}
+
+/// The history of one caller that configures the pipe, submits a packet, collects it and asks for the flows.
+fn check_four<R: Abort>(rt: &R, history: &[Entry]) {
+    let calls = four_calls().expect(rt, "calls in range");
+    assert!(rt; history.iter().all(|entry| entry.caller == 0));
+    assert!(rt; history.iter().map(|entry| entry.call).eq(calls));
+    check_four_replies(rt, history);
+}
+
+/// The replies of that history.
+fn check_four_replies<R: Abort>(rt: &R, history: &[Entry]) {
+    let [configured, queued, delivered, status] = history else {
+        panic!(rt; "there are four entries")
+    };
+    let first = Delivery {
+        due: 1_000_000,
+        packet: 0,
+        flow: 0,
+        start: 0,
+    };
+    assert!(rt; matches!(configured.reply, Reply::Configured));
+    check_queued(rt, &queued.reply, 0);
+    check_delivered(rt, &delivered.reply, 1_000_000, &[first]);
+    check_status(rt, &status.reply);
+}
+
+/// The reply to the Show: one flow, whose one packet has started.
+fn check_status<R: Abort>(rt: &R, reply: &Reply) {
+    let Reply::Status { list } = reply else {
+        panic!(rt; "the fourth entry is a Show")
+    };
+    let started = one_started().expect(rt, "numbers in range");
+    assert_eq!(rt; list.as_slice(), [started].as_slice());
+}
+
+/// Makes the four calls by `call`.
+fn call_four<R: Wait>(rt: &R, caller: &mut Caller, calls: &[Call; 4]) -> Result<(), AllocError>
+    ensures { IsSameCaller caller.old caller.new }
+{
+    let [pipe, packet, collect, show] = calls;
+    caller.call(rt, *pipe)?;
+    caller.call(rt, *packet)?;
+    caller.call(rt, *collect)?;
+    caller.call(rt, *show)?;
+    Ok(())
+}
+
+#[test]
+fn one_caller_history_by_call(rt: HostRuntime) -> Result<(), Fail> {
+    let calls = four_calls().ok_or("calls")?;
+    let (service, mut callers) = Service::open(rt.alloc(), 1)?;
+    call_four(&rt, &mut callers[0], &calls)?;
+    let history = history_of(service, callers)?;
+    check_four(&rt, history.as_slice());
+    Ok(())
+}
+
+/// Makes the four calls by one try each.
+fn try_four<R: Abort>(rt: &R, caller: &mut Caller, calls: &[Call; 4])
+    ensures { IsSameCaller caller.old caller.new }
+{
+    let [pipe, packet, collect, show] = calls;
+    let _ = made(rt, caller, Some(*pipe));
+    let _ = made(rt, caller, Some(*packet));
+    let _ = made(rt, caller, Some(*collect));
+    let _ = made(rt, caller, Some(*show));
+}
+
+#[test]
+fn one_caller_history_by_try_call(rt: HostRuntime) -> Result<(), Fail> {
+    let calls = four_calls().ok_or("calls")?;
+    let (service, mut callers) = Service::open(rt.alloc(), 1)?;
+    try_four(&rt, &mut callers[0], &calls);
+    let history = history_of(service, callers)?;
+    check_four(&rt, history.as_slice());
+    Ok(())
+}
+
+/// Tries the call again where memory was refused, three times at most. It is never busy, so a refused call has given the
+/// word back.
+fn tried_again<R: Abort>(rt: &R, caller: &mut Caller, call: &Call)
+    ensures { IsSameCaller caller.old caller.new }
+{
+    for _ in 0..3u64 {
+        match caller.try_call(*call) {
+            Ok(_) => return,
+            Err(fault) => assert_eq!(rt; fault, TryFault::OutOfMemory),
+        }
+    }
+    panic!(rt; "refused again and again")
+}
+
+/// The same after a `call`.
+fn called_again<R: Abort + Wait>(rt: &R, caller: &mut Caller, call: &Call)
+    ensures { IsSameCaller caller.old caller.new }
+{
+    if caller.call(rt, *call).is_err() {
+        tried_again(rt, caller, call);
+    }
+}
+
+/// Opens a service with one caller, again where memory was refused, three times at most.
+fn opened_again<R: Abort>(rt: &R, alloc: Global) -> (Service, Vec<Caller>)
+    ensures of { All (IsOf result.0) result.1.items }
+    ensures callers { length result.1.items ≡ 1 }
+{
+    for _ in 0..3u64 {
+        match Service::open(alloc, 1) {
+            Ok(opened) => return opened,
+            Err(fault) => assert_eq!(rt; fault, OpenFault::OutOfMemory),
+        }
+    }
+    panic!(rt; "refused again and again")
+}
+
+/// Makes the four calls by `tried_again`.
+fn try_four_again<R: Abort>(rt: &R, caller: &mut Caller, calls: &[Call; 4])
+    ensures { IsSameCaller caller.old caller.new }
+{
+    let [pipe, packet, collect, show] = calls;
+    tried_again(rt, caller, pipe);
+    tried_again(rt, caller, packet);
+    tried_again(rt, caller, collect);
+    tried_again(rt, caller, show);
+}
+
+/// It passes whichever growth is refused, or whichever two in a row: a refused try leaves no trace.
+#[test]
+fn a_try_that_memory_refuses_leaves_no_trace(rt: HostRuntime) -> Result<(), Fail> {
+    let calls = four_calls().ok_or("calls")?;
+    let (service, mut callers) = opened_again(&rt, rt.alloc());
+    try_four_again(&rt, &mut callers[0], &calls);
+    let history = history_of(service, callers)?;
+    check_four(&rt, history.as_slice());
+    Ok(())
+}
+
+/// Makes the four calls by `called_again`.
+fn call_four_again<R: Abort + Wait>(rt: &R, caller: &mut Caller, calls: &[Call; 4])
+    ensures { IsSameCaller caller.old caller.new }
+{
+    let [pipe, packet, collect, show] = calls;
+    called_again(rt, caller, pipe);
+    called_again(rt, caller, packet);
+    called_again(rt, caller, collect);
+    called_again(rt, caller, show);
+}
+
+/// The same of `call`.
+#[test]
+fn a_call_that_memory_refuses_leaves_no_trace(rt: HostRuntime) -> Result<(), Fail> {
+    let calls = four_calls().ok_or("calls")?;
+    let (service, mut callers) = opened_again(&rt, rt.alloc());
+    call_four_again(&rt, &mut callers[0], &calls);
+    let history = history_of(service, callers)?;
+    check_four(&rt, history.as_slice());
+    Ok(())
+}
