@@ -2,7 +2,23 @@ use dn_config::{LineFault, each_text_reads_back, parse_line, print_and_parse, pr
 use dn_types::{
     Bandwidth, Command, Delay, KbyteCount, Limit, Loss, Mask, Number, SlotCount, Weight,
 };
-use std::alloc::AllocError;
+use std::alloc::{AllocError, Global};
+use std::process::Abort;
+
+fn check_parsed(rt: &impl Abort, line: &str, command: Command) {
+    assert!(rt; parse_line(line) == Ok(Some(command)));
+}
+
+fn check_printed(
+    rt: &impl Abort,
+    alloc: Global,
+    command: &Command,
+    line: &str,
+) -> Result<(), AllocError> {
+    let text = print_command(alloc, command)?;
+    assert!(rt; text.as_str() == line);
+    Ok(())
+}
 
 // The lines and their commands are worked by hand from ipfw(8) and this project's rules.
 #[test]
@@ -23,12 +39,11 @@ fn a_line_and_its_canonical_text(rt: HostRuntime) -> Result<(), AllocError> {
             dport: 0,
         },
     };
-    assert!(rt; parse_line(line) == Ok(Some(command)));
-    let text = print_command(rt.alloc(), &command)?;
+    check_parsed(&rt, line, command);
     let wanted =
         "pipe 7 config bw 8000000bit/s queue 20Kbytes plr 0.099999999627470971 mask dst-ip 0x000000ff proto 0xff";
-    assert!(rt; text.as_str() == wanted);
-    assert!(rt; parse_line(text.as_str()) == Ok(Some(command)));
+    check_parsed(&rt, wanted, command);
+    check_printed(&rt, rt.alloc(), &command, wanted)?;
     assert!(rt; print_and_parse(rt.alloc(), &command)? == Ok(Some(command)));
     Ok(())
 }
@@ -51,33 +66,57 @@ fn a_queue_line(rt: HostRuntime) -> Result<(), AllocError> {
             dport: 0,
         },
     };
-    assert!(rt; parse_line("queue 2 config weight 100 pipe 1") == Ok(Some(command)));
-    let text = print_command(rt.alloc(), &command)?;
-    assert!(rt; text.as_str() == "queue 2 config pipe 1 weight 100");
-    assert!(rt; parse_line("queue 2 delete") == Ok(Some(Command::DeleteQueue(number))));
+    check_parsed(&rt, "queue 2 config weight 100 pipe 1", command);
+    check_parsed(&rt, "queue 2 delete", Command::DeleteQueue(number));
+    check_printed(
+        &rt,
+        rt.alloc(),
+        &command,
+        "queue 2 config pipe 1 weight 100",
+    )
+}
+
+// Lines, with the words and the position of the fault that users see.
+static FAULTS: [(&str, &str, usize); 6] = [
+    ("pipe 1 config weight 3", "unknown word", 4),
+    ("ipfw", "missing value", 1),
+    ("pipe 1 config plr .", "bad number", 5),
+    ("pipe 0 config", "out of range", 2),
+    ("pipe 1 config red", "left out", 4),
+    ("ipfw queue 1 config", "needs a pipe", 2),
+];
+
+fn check_shown(
+    rt: &impl Abort,
+    alloc: Global,
+    fault: LineFault,
+    words: &str,
+) -> Result<(), AllocError> {
+    let shown = format!(in alloc; "{fault}")?;
+    assert!(rt; shown.as_str() == words);
     Ok(())
 }
 
-// The words are those of the fault lines that users see.
+fn check_fault(
+    rt: &impl Abort,
+    alloc: Global,
+    line: &str,
+    words: &str,
+    position: usize,
+) -> Result<(), AllocError> {
+    let Err(fault) = parse_line(line) else {
+        panic!(rt; "the line has a fault")
+    };
+    assert!(rt; fault.position() == Some(position));
+    check_shown(rt, alloc, fault, words)
+}
+
 #[test]
 fn faults_have_words_and_positions(rt: HostRuntime) -> Result<(), AllocError> {
     each_text_reads_back();
-    let rows = [
-        ("pipe 1 config weight 3", "unknown word", Some(4)),
-        ("ipfw", "missing value", Some(1)),
-        ("pipe 1 config plr .", "bad number", Some(5)),
-        ("pipe 0 config", "out of range", Some(2)),
-        ("pipe 1 config red", "left out", Some(4)),
-        ("ipfw queue 1 config", "needs a pipe", Some(2)),
-    ];
-    for (line, words, position) in rows {
-        let Err(fault) = parse_line(line) else {
-            panic!(rt; "the line has a fault")
-        };
-        let shown = format!(in rt.alloc(); "{fault}")?;
-        assert!(rt; shown.as_str() == words && fault.position() == position);
+    for (line, words, position) in FAULTS.iter() {
+        check_fault(&rt, rt.alloc(), line, words, *position)?;
     }
-    let shown = format!(in rt.alloc(); "{}", LineFault::OutOfMemory)?;
-    assert!(rt; shown.as_str() == "out of memory" && LineFault::OutOfMemory.position().is_none());
-    Ok(())
+    assert!(rt; LineFault::OutOfMemory.position().is_none());
+    check_shown(&rt, rt.alloc(), LineFault::OutOfMemory, "out of memory")
 }

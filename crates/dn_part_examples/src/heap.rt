@@ -2,7 +2,6 @@ use crate::keys::{check_last, check_pops, check_told, push_all, reserved_again};
 use dn_heap::{MinHeap, RunHeap};
 use std::alloc::{AllocError, Global};
 use std::process::Abort;
-use std::test::Fail;
 
 /// The lines of the README's sample.
 fn sample(alloc: Global) -> Result<Option<u64>, AllocError> {
@@ -20,7 +19,7 @@ fn the_example_of_the_readme(rt: HostRuntime) {
     if first.is_err() {
         first = sample(rt.alloc());
     }
-    assert_eq!(rt; first, Ok(Some(30)));
+    assert!(rt; first == Ok(Some(30)));
 }
 
 fn check_parts<R: Abort>(rt: &R, heap: &mut MinHeap<u32>) -> Result<(), AllocError> {
@@ -34,10 +33,11 @@ fn check_parts<R: Abort>(rt: &R, heap: &mut MinHeap<u32>) -> Result<(), AllocErr
 }
 
 #[test]
-fn parts_by_themselves(rt: HostRuntime) -> Result<(), Fail> {
+fn parts_by_themselves(rt: HostRuntime) -> Result<(), AllocError> {
     let mut heap = MinHeap::new(rt.alloc());
-    check_parts(&rt, &mut heap)?;
-    Ok(())
+    let outcome = check_parts(&rt, &mut heap);
+    drop(heap);
+    outcome
 }
 
 fn check_equal<R: Abort>(rt: &R, heap: &mut MinHeap<u32>) -> Result<(), AllocError> {
@@ -55,10 +55,11 @@ fn check_equal<R: Abort>(rt: &R, heap: &mut MinHeap<u32>) -> Result<(), AllocErr
 }
 
 #[test]
-fn takes_one_of_equal_keys(rt: HostRuntime) -> Result<(), Fail> {
+fn takes_one_of_equal_keys(rt: HostRuntime) -> Result<(), AllocError> {
     let mut heap = MinHeap::new(rt.alloc());
-    check_equal(&rt, &mut heap)?;
-    Ok(())
+    let outcome = check_equal(&rt, &mut heap);
+    drop(heap);
+    outcome
 }
 
 fn check_passing<R: Abort>(rt: &R, heap: &mut MinHeap<u32>) -> Result<(), AllocError> {
@@ -73,10 +74,11 @@ fn check_passing<R: Abort>(rt: &R, heap: &mut MinHeap<u32>) -> Result<(), AllocE
 }
 
 #[test]
-fn retains_what_passes(rt: HostRuntime) -> Result<(), Fail> {
+fn retains_what_passes(rt: HostRuntime) -> Result<(), AllocError> {
     let mut heap = MinHeap::new(rt.alloc());
-    check_passing(&rt, &mut heap)?;
-    Ok(())
+    let outcome = check_passing(&rt, &mut heap);
+    drop(heap);
+    outcome
 }
 
 fn check_all_or_none<R: Abort>(rt: &R, heap: &mut MinHeap<u32>) -> Result<(), AllocError> {
@@ -92,10 +94,11 @@ fn check_all_or_none<R: Abort>(rt: &R, heap: &mut MinHeap<u32>) -> Result<(), Al
 }
 
 #[test]
-fn retains_all_or_none(rt: HostRuntime) -> Result<(), Fail> {
+fn retains_all_or_none(rt: HostRuntime) -> Result<(), AllocError> {
     let mut heap = MinHeap::new(rt.alloc());
-    check_all_or_none(&rt, &mut heap)?;
-    Ok(())
+    let outcome = check_all_or_none(&rt, &mut heap);
+    drop(heap);
+    outcome
 }
 
 fn check_keys<R: Abort>(rt: &R, heap: &mut RunHeap<u32>) -> Result<(), AllocError> {
@@ -114,10 +117,11 @@ fn check_keys<R: Abort>(rt: &R, heap: &mut RunHeap<u32>) -> Result<(), AllocErro
 
 /// Keys that come in order and keys that come out of it leave in one order.
 #[test]
-fn keys_in_and_out_of_order(rt: HostRuntime) -> Result<(), Fail> {
+fn keys_in_and_out_of_order(rt: HostRuntime) -> Result<(), AllocError> {
     let mut heap = RunHeap::new(rt.alloc());
-    check_keys(&rt, &mut heap)?;
-    Ok(())
+    let outcome = check_keys(&rt, &mut heap);
+    drop(heap);
+    outcome
 }
 
 fn check_retained<R: Abort>(rt: &R, heap: &mut RunHeap<u32>) -> Result<(), AllocError> {
@@ -134,8 +138,9 @@ fn check_retained<R: Abort>(rt: &R, heap: &mut RunHeap<u32>) -> Result<(), Alloc
 }
 
 #[test]
-fn retains_in_and_out_of_order(rt: HostRuntime) -> Result<(), Fail> {
+fn retains_in_and_out_of_order(rt: HostRuntime) -> Result<(), AllocError> {
     let mut heap = RunHeap::new(rt.alloc());
-    check_retained(&rt, &mut heap)?;
-    Ok(())
+    let outcome = check_retained(&rt, &mut heap);
+    drop(heap);
+    outcome
 }

@@ -71,7 +71,7 @@ pub(crate) fn reserved_again<R: Abort, H: Keys>(
     if heap.make_room(n).is_ok() {
         return Ok(());
     }
-    assert_eq!(rt; heap.told(), before);
+    assert!(rt; heap.told() == before);
     heap.make_room(n)
 }
 
@@ -81,7 +81,7 @@ pub(crate) fn check_told<R: Abort, H: Keys>(
     heap: &H,
     told: (Option<u32>, usize, usize, u64),
 ) {
-    assert_eq!(rt; heap.told(), told);
+    assert!(rt; heap.told() == told);
 }
 
 /// Pushes the keys, as far as there is room.
@@ -94,12 +94,12 @@ pub(crate) fn push_all<H: Keys>(heap: &mut H, keys: &[u32]) {
 /// These keys leave next, and no other.
 pub(crate) fn check_last<R: Abort, H: Keys>(rt: &R, heap: &mut H, keys: &[u32]) {
     check_pops(rt, heap, keys);
-    assert_eq!(rt; heap.take(), None);
+    assert!(rt; heap.take() == None);
 }
 
 /// These keys leave next.
 pub(crate) fn check_pops<R: Abort, H: Keys>(rt: &R, heap: &mut H, keys: &[u32]) {
     for key in keys {
-        assert_eq!(rt; heap.take(), Some(*key));
+        assert!(rt; heap.take() == Some(*key));
     }
 }

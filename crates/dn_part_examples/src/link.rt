@@ -1,7 +1,7 @@
 use dn_link::{DelayLine, Link, tx_time};
 use dn_types::{Bandwidth, Delay, Delivery, Len, Rule};
 use std::alloc::{AllocError, Global};
-use std::test::Fail;
+use std::process::Abort;
 
 fn delivery(due: u64, packet: u64) -> Delivery {
     Delivery {
@@ -50,70 +50,116 @@ fn the_example_of_the_readme(rt: HostRuntime) {
 }
 
 // Bytes, bit/s and nanoseconds, worked out by hand: bits divided by bit/s, rounded up.
+static TIMES: [(u16, u64, u64); 6] = [
+    (1_000, 300_000, 26_666_667),
+    (1_000, 8_000_000, 1_000_000),
+    (1_500, 1_000_000_000, 12_000),
+    (1, 1_000_000_000_000, 1),
+    (65_535, 1, 524_280_000_000_000),
+    (65_535, 0, 0),
+];
+
+fn check_time(rt: &impl Abort, len: u16, bandwidth: u64, want: u64) {
+    let time = Len::new(len)
+        .zip(Bandwidth::new(bandwidth))
+        .map(|(len, bandwidth)| tx_time(len, bandwidth));
+    assert!(rt; time == Some(want), "{len} bytes at {bandwidth} bit/s");
+}
+
 #[test]
 fn transmission_times(rt: HostRuntime) {
-    for (len, bandwidth, want) in [
-        (1_000, 300_000, 26_666_667),
-        (1_000, 8_000_000, 1_000_000),
-        (1_500, 1_000_000_000, 12_000),
-        (1, 1_000_000_000_000, 1),
-        (65_535, 1, 524_280_000_000_000),
-        (65_535, 0, 0),
-    ] {
-        let time = Len::new(len)
-            .zip(Bandwidth::new(bandwidth))
-            .map(|(len, bandwidth)| tx_time(len, bandwidth));
-        assert_eq!(rt; time, Some(want), "{len} bytes at {bandwidth} bit/s");
+    for (len, bandwidth, want) in TIMES.iter() {
+        check_time(&rt, *len, *bandwidth, *want);
     }
+}
+
+fn check_link(rt: &impl Abort, link: &Link, free: u64, last_due: u64) {
+    assert!(rt; link.free() == free && link.last_due() == last_due);
+}
+
+fn check_order(rt: &impl Abort, rule: Rule, second: u64) {
+    let mut link = Link::new();
+    link.begin(0, 1_000_000);
+    let first = link.deliver(0, 1_000_000, Delay::new(50).unwrap(), rule);
+    check_link(rt, &link, 1_000_000, 51_000_000);
+    link.begin(2_000_000, 1_000_000);
+    let due = link.deliver(2_000_000, 1_000_000, Delay::new(0).unwrap(), rule);
+    check_link(rt, &link, 3_000_000, second);
+    assert!(rt; first == 51_000_000 && due == second);
 }
 
 // 1,000 bytes at 8 Mbit/s take 1 ms. The first packet starts at 0 with a delay of 50 ms, and the
 // second at 2 ms without a delay.
 #[test]
 fn a_link_keeps_its_order(rt: HostRuntime) {
-    for (rule, second) in [(Rule::Ordered, 51_000_000), (Rule::Free, 3_000_000)] {
-        let mut link = Link::new();
-        link.begin(0, 1_000_000);
-        let first = link.deliver(0, 1_000_000, Delay::new(50).unwrap(), rule);
-        assert_eq!(rt; (first, link.free()), (51_000_000, 1_000_000));
-        link.begin(2_000_000, 1_000_000);
-        let due = link.deliver(2_000_000, 1_000_000, Delay::new(0).unwrap(), rule);
-        assert_eq!(rt; (due, link.free()), (second, 3_000_000));
-        assert_eq!(rt; link.last_due(), second);
+    check_order(&rt, Rule::Ordered, 51_000_000);
+    check_order(&rt, Rule::Free, 3_000_000);
+}
+
+fn check_line(rt: &impl Abort, line: &DelayLine, len: usize, room: usize) {
+    assert!(rt; line.len() == len && line.room() == room);
+}
+
+fn check_due(rt: &impl Abort, line: &mut DelayLine, moment: u64, want: Option<Delivery>) {
+    assert!(rt; line.pop_due(moment) == want);
+}
+
+/// Pushes a packet that is due at 5 ns if there is room.
+fn push(line: &mut DelayLine, packet: u64) {
+    if line.room() > 0 && line.pushed() < 100 {
+        line.push_reserved(delivery(5, packet));
     }
 }
 
-#[test]
-fn parts_by_themselves(rt: HostRuntime) -> Result<(), Fail> {
-    let mut line = DelayLine::new(rt.alloc());
+fn check_parts(rt: &impl Abort, line: &mut DelayLine) -> Result<(), AllocError> {
     line.reserve(2)?;
-    line.push_reserved(delivery(5, 1));
-    line.push_reserved(delivery(5, 0));
-    assert_eq!(rt; (line.len(), line.pushed()), (2, 2));
-    assert_eq!(rt; line.pop_due(4), None);
-    assert_eq!(rt; line.pop_due(5), Some(delivery(5, 0)));
-    assert_eq!(rt; line.pop_due(5), Some(delivery(5, 1)));
-    assert_eq!(rt; line.pop_due(5), None);
-    assert_eq!(rt; (line.len(), line.room(), line.pushed()), (0, 2, 2));
+    push(line, 1);
+    push(line, 0);
+    check_line(rt, line, 2, 0);
+    check_due(rt, line, 4, None);
+    check_due(rt, line, 5, Some(delivery(5, 0)));
+    check_due(rt, line, 5, Some(delivery(5, 1)));
+    check_due(rt, line, 5, None);
+    check_line(rt, line, 0, 2);
+    assert!(rt; line.pushed() == 2);
     Ok(())
 }
 
-// Run with each allocation refused in turn, `rt try --test --fail-alloc N`, this test passes for every N.
 #[test]
-fn a_refused_growth_changes_nothing(rt: HostRuntime) -> Result<(), Fail> {
+fn parts_by_themselves(rt: HostRuntime) -> Result<(), AllocError> {
     let mut line = DelayLine::new(rt.alloc());
-    if line.reserve(1).is_err() {
-        assert_eq!(rt; (line.len(), line.room()), (0, 0));
-        line.reserve(1)?;
+    let outcome = check_parts(&rt, &mut line);
+    drop(line);
+    outcome
+}
+
+/// Reserves, again where memory was refused, which changed nothing.
+fn reserved_again(rt: &impl Abort, line: &mut DelayLine, n: usize) -> Result<(), AllocError> {
+    let (len, room) = (line.len(), line.room());
+    if line.reserve(n).is_ok() {
+        return Ok(());
     }
-    line.push_reserved(delivery(5, 0));
-    if line.reserve(2).is_err() {
-        assert_eq!(rt; (line.len(), line.room()), (1, 0));
-        line.reserve(2)?;
-    }
+    check_line(rt, line, len, room);
+    line.reserve(n)
+}
+
+fn check_refused_growth(rt: &impl Abort, line: &mut DelayLine) -> Result<(), AllocError> {
+    reserved_again(rt, line, 1)?;
+    push(line, 0);
+    reserved_again(rt, line, 2)?;
     // Room that is there takes no memory.
-    assert_eq!(rt; line.reserve(2), Ok(()));
-    assert_eq!(rt; line.pop_due(5), Some(delivery(5, 0)));
-    assert_eq!(rt; line.room(), 3);
+    assert!(rt; line.reserve(2).is_ok());
+    check_line(rt, line, 1, 2);
+    check_due(rt, line, 5, Some(delivery(5, 0)));
+    check_line(rt, line, 0, 3);
     Ok(())
+}
+
+// With each allocation refused in turn this test passes, since it asks again.
+#[test]
+fn a_refused_growth_changes_nothing(rt: HostRuntime) -> Result<(), AllocError> {
+    let mut line = DelayLine::new(rt.alloc());
+    let outcome = check_refused_growth(&rt, &mut line);
+    drop(line);
+    outcome
 }

@@ -2,7 +2,6 @@ use dn_types::{Len, Weight};
 use dn_wf2q::Sched;
 use std::alloc::{AllocError, Global};
 use std::process::Abort;
-use std::test::Fail;
 
 /// The lines of the README's sample.
 fn sample(alloc: Global, len: Len, weight: Weight) -> Result<Option<usize>, AllocError> {
@@ -22,7 +21,7 @@ fn the_example_of_the_readme(rt: HostRuntime) {
     if sent.is_err() {
         sent = sample(rt.alloc(), len, weight);
     }
-    assert_eq!(rt; sent, Ok(Some(0)));
+    assert!(rt; sent == Ok(Some(0)));
 }
 
 /// A step of an example. Slots and virtual time after each pick were worked by hand from Bennett and
@@ -56,7 +55,7 @@ fn told(sched: &Sched) -> (bool, u128, u64, u64, u64) {
 fn arrive(rt: &impl Abort, sched: &mut Sched, slot: usize, weight: u8) -> Result<(), AllocError> {
     let before = told(sched);
     if sched.reserve_flow(slot).is_err() {
-        assert_eq!(rt; told(sched), before);
+        assert!(rt; told(sched) == before);
         sched.reserve_flow(slot)?;
     }
     if let (Some(len), Some(weight)) = (Len::new(1000), Weight::new(weight)) {
@@ -75,8 +74,8 @@ fn begin(sched: &mut Sched) {
 
 fn check_pick(rt: &impl Abort, sched: &mut Sched, slot: Option<usize>, virtual_time: u128) {
     let picked = sched.pick();
-    assert_eq!(rt; picked, slot);
-    assert_eq!(rt; sched.virtual_time(), virtual_time);
+    assert!(rt; picked == slot);
+    assert!(rt; sched.virtual_time() == virtual_time);
 }
 
 fn take_steps(rt: &impl Abort, sched: &mut Sched, steps: &[Step]) -> Result<(), AllocError> {
@@ -106,21 +105,21 @@ fn check_parts(rt: &impl Abort, sched: &mut Sched) -> Result<(), AllocError> {
     arrive(rt, sched, 0, 1)?;
     check_pick(rt, sched, Some(0), 65_536_000);
     check_pick(rt, sched, None, 65_536_000);
-    assert_eq!(rt; (sched.arrivals(), sched.picks()), (1, 1));
+    assert!(rt; (sched.arrivals(), sched.picks()) == (1, 1));
     assert!(rt; 1 <= sched.moves() && sched.moves() <= 2);
     Ok(())
 }
 
 #[test]
-fn parts_by_themselves(rt: HostRuntime) -> Result<(), Fail> {
+fn parts_by_themselves(rt: HostRuntime) -> Result<(), AllocError> {
     let mut sched = Sched::new(rt.alloc());
     let checked = check_parts(&rt, &mut sched);
     drop(sched);
-    Ok(checked?)
+    checked
 }
 
 #[test]
-fn shares_by_weight(rt: HostRuntime) -> Result<(), Fail> {
+fn shares_by_weight(rt: HostRuntime) -> Result<(), AllocError> {
     static STEPS: [Step; 12] = [
         Step::Begin,
         Step::Arrive(0, 1),
@@ -135,11 +134,11 @@ fn shares_by_weight(rt: HostRuntime) -> Result<(), Fail> {
         Step::Pick(1, 141_994_666),
         Step::PickNone(141_994_666),
     ];
-    Ok(check(&rt, rt.alloc(), &STEPS)?)
+    check(&rt, rt.alloc(), &STEPS)
 }
 
 #[test]
-fn ties_by_flow_number(rt: HostRuntime) -> Result<(), Fail> {
+fn ties_by_flow_number(rt: HostRuntime) -> Result<(), AllocError> {
     static STEPS: [Step; 8] = [
         Step::Begin,
         Step::Arrive(0, 1),
@@ -150,11 +149,11 @@ fn ties_by_flow_number(rt: HostRuntime) -> Result<(), Fail> {
         Step::Pick(1, 163_840_000),
         Step::PickNone(163_840_000),
     ];
-    Ok(check(&rt, rt.alloc(), &STEPS)?)
+    check(&rt, rt.alloc(), &STEPS)
 }
 
 #[test]
-fn raised_virtual_time(rt: HostRuntime) -> Result<(), Fail> {
+fn raised_virtual_time(rt: HostRuntime) -> Result<(), AllocError> {
     static STEPS: [Step; 12] = [
         Step::Begin,
         Step::Arrive(0, 1),
@@ -170,11 +169,11 @@ fn raised_virtual_time(rt: HostRuntime) -> Result<(), Fail> {
         Step::Pick(0, 196_608_000),
         Step::PickNone(196_608_000),
     ];
-    Ok(check(&rt, rt.alloc(), &STEPS)?)
+    check(&rt, rt.alloc(), &STEPS)
 }
 
 #[test]
-fn a_new_busy_period(rt: HostRuntime) -> Result<(), Fail> {
+fn a_new_busy_period(rt: HostRuntime) -> Result<(), AllocError> {
     static STEPS: [Step; 13] = [
         Step::Begin,
         Step::Arrive(0, 1),
@@ -190,12 +189,12 @@ fn a_new_busy_period(rt: HostRuntime) -> Result<(), Fail> {
         Step::Pick(1, 163_840_000),
         Step::PickNone(163_840_000),
     ];
-    Ok(check(&rt, rt.alloc(), &STEPS)?)
+    check(&rt, rt.alloc(), &STEPS)
 }
 
 // With the finish tag of a discarded packet kept, slot 0 would go twice before slot 1.
 #[test]
-fn a_discarded_backlog(rt: HostRuntime) -> Result<(), Fail> {
+fn a_discarded_backlog(rt: HostRuntime) -> Result<(), AllocError> {
     static STEPS: [Step; 14] = [
         Step::Begin,
         Step::Arrive(0, 1),
@@ -212,7 +211,7 @@ fn a_discarded_backlog(rt: HostRuntime) -> Result<(), Fail> {
         Step::Pick(0, 196_608_000),
         Step::PickNone(196_608_000),
     ];
-    Ok(check(&rt, rt.alloc(), &STEPS)?)
+    check(&rt, rt.alloc(), &STEPS)
 }
 
 /// What a scan over 100 flows picks, of which flow f has weight f + 1 and had 100 packets of 1,000
@@ -275,15 +274,15 @@ fn compare(sched: &mut Sched) -> (bool, u32) {
 fn check_hundred(rt: &impl Abort, sched: &mut Sched) -> Result<(), AllocError> {
     begin(sched);
     fill(rt, sched)?;
-    assert_eq!(rt; compare(sched), (true, 1_019_959_014));
-    assert_eq!(rt; told(sched), (true, 6_583_152_876, 10000, 10000, 17530));
+    assert!(rt; compare(sched) == (true, 1_019_959_014));
+    assert!(rt; told(sched) == (true, 6_583_152_876, 10000, 10000, 17530));
     Ok(())
 }
 
 #[test]
-fn a_hundred_flows(rt: HostRuntime) -> Result<(), Fail> {
+fn a_hundred_flows(rt: HostRuntime) -> Result<(), AllocError> {
     let mut sched = Sched::new(rt.alloc());
     let checked = check_hundred(&rt, &mut sched);
     drop(sched);
-    Ok(checked?)
+    checked
 }

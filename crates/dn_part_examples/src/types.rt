@@ -14,14 +14,14 @@ fn check_moments(rt: &impl Abort) {
         ((1 << 62) + 1, None),
     ];
     for (value, want) in BOUNDS.iter() {
-        assert_eq!(rt; Moment::new(*value).map(Moment::get), *want);
+        assert!(rt; Moment::new(*value).map(Moment::get) == *want);
     }
 }
 
 fn check_lengths(rt: &impl Abort) {
     static BOUNDS: [(u16, Option<u16>); 3] = [(0, None), (1, Some(1)), (65_535, Some(65_535))];
     for (value, want) in BOUNDS.iter() {
-        assert_eq!(rt; Len::new(*value).map(Len::get), *want);
+        assert!(rt; Len::new(*value).map(Len::get) == *want);
     }
 }
 
@@ -33,7 +33,7 @@ fn check_numbers(rt: &impl Abort) {
         (65_536, None),
     ];
     for (value, want) in BOUNDS.iter() {
-        assert_eq!(rt; Number::new(*value).map(Number::get), *want);
+        assert!(rt; Number::new(*value).map(Number::get) == *want);
     }
 }
 
@@ -44,7 +44,7 @@ fn check_bandwidths(rt: &impl Abort) {
         (1_000_000_000_001, None),
     ];
     for (value, want) in BOUNDS.iter() {
-        assert_eq!(rt; Bandwidth::new(*value).map(Bandwidth::get), *want);
+        assert!(rt; Bandwidth::new(*value).map(Bandwidth::get) == *want);
     }
 }
 
@@ -55,7 +55,7 @@ fn check_delays(rt: &impl Abort) {
         (3_600_001, None),
     ];
     for (value, want) in BOUNDS.iter() {
-        assert_eq!(rt; Delay::new(*value).map(Delay::get), *want);
+        assert!(rt; Delay::new(*value).map(Delay::get) == *want);
     }
 }
 
@@ -66,14 +66,14 @@ fn check_losses(rt: &impl Abort) {
         ((1 << 31) + 1, None),
     ];
     for (value, want) in BOUNDS.iter() {
-        assert_eq!(rt; Loss::new(*value).map(Loss::get), *want);
+        assert!(rt; Loss::new(*value).map(Loss::get) == *want);
     }
 }
 
 fn check_weights(rt: &impl Abort) {
     static BOUNDS: [(u8, Option<u8>); 4] = [(0, None), (1, Some(1)), (100, Some(100)), (101, None)];
     for (value, want) in BOUNDS.iter() {
-        assert_eq!(rt; Weight::new(*value).map(Weight::get), *want);
+        assert!(rt; Weight::new(*value).map(Weight::get) == *want);
     }
 }
 
@@ -85,7 +85,7 @@ fn check_buckets(rt: &impl Abort) {
         (65_537, None),
     ];
     for (value, want) in BOUNDS.iter() {
-        assert_eq!(rt; Buckets::new(*value).map(Buckets::get), *want);
+        assert!(rt; Buckets::new(*value).map(Buckets::get) == *want);
     }
 }
 
@@ -109,9 +109,9 @@ fn check_slots(rt: &impl Abort) {
         (10_001, None),
     ];
     for (count, want) in BOUNDS.iter() {
-        assert_eq!(rt; SlotCount::new(*count).map(SlotCount::get), *want);
-        assert_eq!(rt; Limit::slots(*count).and_then(Limit::as_slots), *want);
-        assert_eq!(rt; Limit::slots(*count).and_then(Limit::as_kbytes), None);
+        assert!(rt; SlotCount::new(*count).map(SlotCount::get) == *want);
+        assert!(rt; Limit::slots(*count).and_then(Limit::as_slots) == *want);
+        assert!(rt; Limit::slots(*count).and_then(Limit::as_kbytes) == None);
     }
 }
 
@@ -123,9 +123,9 @@ fn check_kbytes(rt: &impl Abort) {
         (1025, None),
     ];
     for (count, want) in BOUNDS.iter() {
-        assert_eq!(rt; KbyteCount::new(*count).map(KbyteCount::get), *want);
-        assert_eq!(rt; Limit::kbytes(*count).and_then(Limit::as_kbytes), *want);
-        assert_eq!(rt; Limit::kbytes(*count).and_then(Limit::as_slots), None);
+        assert!(rt; KbyteCount::new(*count).map(KbyteCount::get) == *want);
+        assert!(rt; Limit::kbytes(*count).and_then(Limit::as_kbytes) == *want);
+        assert!(rt; Limit::kbytes(*count).and_then(Limit::as_slots) == None);
     }
 }
 
@@ -237,7 +237,7 @@ fn third_entry(alloc: Global) -> Result<Entry, Fail> {
 }
 
 fn check_clone(rt: &impl Abort, reply: &Reply) -> Result<(), AllocError> {
-    assert_eq!(rt; reply.try_clone()?, *reply);
+    assert!(rt; reply.try_clone()? == *reply);
     Ok(())
 }
 
@@ -263,7 +263,7 @@ fn check_plain_clones(rt: &impl Abort) -> Result<(), AllocError> {
 }
 
 fn check_entry_clone(rt: &impl Abort, entry: &Entry) -> Result<(), AllocError> {
-    assert_eq!(rt; entry.try_clone()?, *entry);
+    assert!(rt; entry.try_clone()? == *entry);
     check_clone(rt, &entry.reply)
 }
 
@@ -282,14 +282,14 @@ fn clones_are_equal(rt: HostRuntime) -> Result<(), Fail> {
 
 fn check_deliveries(rt: &impl Abort, given: Vec<Delivery>, want: &[Delivery]) {
     let list = Deliveries::from_vec(given);
-    assert_eq!(rt; list.as_slice(), want);
-    assert_eq!(rt; list.into_vec().as_slice(), want);
+    assert!(rt; list.as_slice() == want);
+    assert!(rt; list.into_vec().as_slice() == want);
 }
 
 fn check_statuses(rt: &impl Abort, given: Vec<FlowStatus>, want: &[FlowStatus]) {
     let list = Statuses::from_vec(given);
-    assert_eq!(rt; list.as_slice(), want);
-    assert_eq!(rt; list.into_vec().as_slice(), want);
+    assert!(rt; list.as_slice() == want);
+    assert!(rt; list.into_vec().as_slice() == want);
 }
 
 #[test]

@@ -77,7 +77,7 @@ fn check_status<R: Abort>(rt: &R, reply: &Reply) {
         panic!(rt; "the fourth entry is a Show")
     };
     let started = one_started().expect(rt, "numbers in range");
-    assert_eq!(rt; list.as_slice(), [started].as_slice());
+    assert!(rt; list.as_slice() == [started].as_slice());
 }
 
 /// Makes the four calls by `call`.
@@ -131,7 +131,7 @@ fn tried_again<R: Abort>(rt: &R, caller: &mut Caller, call: &Call)
     for _ in 0..3u64 {
         match caller.try_call(*call) {
             Ok(_) => return,
-            Err(fault) => assert_eq!(rt; fault, TryFault::OutOfMemory),
+            Err(fault) => assert!(rt; fault == TryFault::OutOfMemory),
         }
     }
     panic!(rt; "refused again and again")
@@ -154,7 +154,7 @@ fn opened_again<R: Abort>(rt: &R, alloc: Global) -> (Service, Vec<Caller>)
     for _ in 0..3u64 {
         match Service::open(alloc, 1) {
             Ok(opened) => return opened,
-            Err(fault) => assert_eq!(rt; fault, OpenFault::OutOfMemory),
+            Err(fault) => assert!(rt; fault == OpenFault::OutOfMemory),
         }
     }
     panic!(rt; "refused again and again")
