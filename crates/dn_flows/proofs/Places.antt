@@ -114,3 +114,14 @@ pub get-below-map : {X Y : Type 0} (f : X → Y) (xs : List X) (i : ℕ) (y : Y)
 get-below-map f [] i y e = absurd cc
 get-below-map f (z ∷ xs) zero y e = omega arith
 get-below-map f (z ∷ xs) (suc i) y e = let r = get-below-map f xs i y e in omega arith
+
+module _ {X Y : Type 0} (f h : X → Y) where
+  pub map-same : (xs : List X) → ((j : ℕ) (x : X) → slice_get xs j ≡ Some x → h x ≡ f x) → map h xs ≡ map f xs
+  map-same [] same = refl
+  map-same (z ∷ xs) same = λ i. same 0 z refl i ∷ map-same xs (λ j x e. same (suc j) x e) i
+
+  -- One element changes, and the others stand for what they stood for.
+  pub map-set-but : (xs : List X) (k : ℕ) (y : X) → ((j : ℕ) (x : X) → slice_get xs j ≡ Some x → (j ≡ k → ⊥) → h x ≡ f x) → map h (set xs k y) ≡ set (map f xs) k (h y)
+  map-set-but [] k y same = refl
+  map-set-but (z ∷ xs) zero y same = λ i. h y ∷ map-same xs (λ j x e. same (suc j) x e (λ n. absurd (omega arith))) i
+  map-set-but (z ∷ xs) (suc k) y same = λ i. same 0 z refl (λ n. absurd (omega arith)) i ∷ map-set-but xs k y (λ j x e ne. same (suc j) x e (λ n. ne (let m = n in omega arith))) i

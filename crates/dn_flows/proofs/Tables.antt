@@ -14,20 +14,7 @@ use Rattle.dn_flows.proofs.Appended.{Appended, appended, owner-appended, behind-
 use Rattle.dn_flows.proofs.Bytes.{lengths-push, AreShort-push, no_more_than_bytes}
 use Rattle.dn_flows.proofs.Chains.{Stay, Same, stays, same-queue, SamePackets, taken, taken-queue, others-stay-taken, held-first, held-last, short-first}
 use Rattle.dn_flows.proofs.Counted.{Keeps, kept, carried, start-leaves, length_unsent, read-counts, both-set}
-use Rattle.dn_flows.proofs.Places.{get-set, get-set-other, get-read, get-more, get-kept, length-more, sum-set}
-
--- ---- Lists
-
-module _ {X Y : Type 0} (f h : X → Y) where
-  map-same : (xs : List X) → ((j : ℕ) (x : X) → slice_get xs j ≡ Some x → h x ≡ f x) → map h xs ≡ map f xs
-  map-same [] same = refl
-  map-same (z ∷ xs) same = λ i. same 0 z refl i ∷ map-same xs (λ j x e. same (suc j) x e) i
-
-  -- One element changes, and the others stand for what they stood for.
-  map-set-but : (xs : List X) (k : ℕ) (y : X) → ((j : ℕ) (x : X) → slice_get xs j ≡ Some x → (j ≡ k → ⊥) → h x ≡ f x) → map h (set xs k y) ≡ set (map f xs) k (h y)
-  map-set-but [] k y same = refl
-  map-set-but (z ∷ xs) zero y same = λ i. h y ∷ map-same xs (λ j x e. same (suc j) x e (λ n. absurd (omega arith))) i
-  map-set-but (z ∷ xs) (suc k) y same = λ i. same 0 z refl (λ n. absurd (omega arith)) i ∷ map-set-but xs k y (λ j x e ne. same (suc j) x e (λ n. ne (let m = n in omega arith))) i
+use Rattle.dn_flows.proofs.Places.{get-set, get-set-other, get-read, get-more, get-kept, length-more, map-set-but, sum-set}
 
 -- Each queue reserves one place at most.
 at-most-one-each : (queues : List FlowQueue) → reservations queues ≤ length queues

@@ -1,4 +1,4 @@
-ghost use Rattle.std.specs.Prelude.{◌≡◌, ◌+◌, ◌-◌, ◌<◌, ◌≤◌, ◌^◌, [], take, length, sum, slice_get, slice_set, true, Some, IfOk, OnOk, OnErr, IsOk};
+ghost use Rattle.std.specs.Prelude.{◌≡◌, ◌+◌, ◌-◌, ◌<◌, ◌≤◌, ◌^◌, [], take, length, nat_lt, sum, slice_get, slice_set, true, Some, IfOk, OnOk, OnErr, IsOk};
 ghost use Rattle.dn_types.specs.Flows.{flow_number, with_key};
 ghost use Rattle.dn_flows.specs.Table.{flow_at, is_known, flows_with, IsUnused, lengths, verdict_of, with_place, pushed, popped, one_lost, one_full, emptied, status_of};
 
@@ -139,6 +139,16 @@ impl Flows {
             full: unsent.full,
             started: queue.started,
             discarded: unsent.discarded,
+        }
+    }
+
+    /// Whether a packet waits in the flow's queue. None waits in that of a flow that isn't there.
+    pub fn has_backlog(&self, flow: usize) -> bool
+        ensures { result ≡ nat_lt 0 (length (flow_at self.now.flows flow).backlog) }
+    {
+        match self.queues.get(flow) {
+            Some(queue) => queue.len > 0,
+            None => false,
         }
     }
 

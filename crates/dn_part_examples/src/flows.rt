@@ -128,6 +128,7 @@ fn take_step<R: Abort>(
             push(flows, flow, Waiting { packet, len })?;
         }
         Step::Starts(number) => {
+            assert!(rt; flows.has_backlog(flow) == number.is_some());
             assert!(rt; pop(flows, flow).map(|first| first.packet) == number);
         }
         Step::Discards => discard(flows, flow),
@@ -161,6 +162,7 @@ fn check_two_queues<R: Abort>(rt: &R, flows: &mut Flows) -> Result<(), AllocErro
     for (flow, step) in TWO_QUEUES.iter() {
         take_step(rt, flows, *flow, *step)?;
     }
+    assert!(rt; !flows.has_backlog(2));
     Ok(())
 }
 

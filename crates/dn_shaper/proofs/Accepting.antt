@@ -1,5 +1,5 @@
 -- A packet is accepted: what that needs, and a heap with one key more.
-use Rattle.std.proofs.Common.{◌≡◌, ◌∙◌, ◌≤◌, ◌<◌, ◌⊎◌, ◌^◌, ℕ, zero, suc, ◌+◌, true, false, cond, List, [], ◌∷◌, map, set, refl, ap, sym, subst, length, arith, ⊎_elim, inl, inr, IsPermutation, slice_index_or, get_or-set_same, get_or-set_other}
+use Rattle.std.proofs.Common.{◌≡◌, ◌∙◌, ◌≤◌, ◌<◌, ◌⊎◌, ◌^◌, ℕ, zero, suc, ◌+◌, Bool, true, false, cond, List, [], ◌∷◌, map, set, refl, ap, sym, subst, length, arith, ⊎_elim, inl, inr, IsPermutation, slice_index_or, get_or-set_same, get_or-set_other}
 use Rattle.std.specs.Prelude.{Option, Some, None, is_some, nat_lt, slice_get}
 use Rattle.std.proofs.lemmas.Bool.{cases_eq}
 use Rattle.std.proofs.lemmas.Bool.Decides.{nat_tests}
@@ -20,10 +20,10 @@ use Rattle.dn_shaper.specs.Arriving.{CanJoin, CanAccept}
 use Rattle.dn_shaper.specs.NextStarts.{next_at, standing, Holds, one_backlogged, backlogged}
 use Rattle.dn_shaper.specs.Settling.{IsKept}
 use Rattle.dn_shaper.specs.Starting.{Within, IsReady}
-use Rattle.dn_shaper.specs.Views.{LinkView, views_of, home, stamped_of, at_slot, next_start_of}
+use Rattle.dn_shaper.specs.Views.{LinkView, IsAlone, views_of, home, stamped_of, at_slot, next_start_of}
+use Rattle.dn_shaper.proofs.Alone.{is-alone}
 use Rattle.dn_shaper.proofs.NextStarts.{same_place, other_place, pushed, none_standing}
 use Rattle.dn_shaper.proofs.Heads.{slot_or}
-use Rattle.dn_flows.proofs.Places.{sum-le}
 use Rattle.dn_shaper.proofs.Waiting.{empty-all, total-same}
 
 pub within-more : (n m : ℕ) (p : Parts) → n ≤ m → Within n p → Within m p
@@ -95,6 +95,13 @@ sure n h = grind (arith, nat_tests)
 never : (n : ℕ) → n ≤ 0 → nat_lt 0 n ≡ false
 never n h = grind (arith, nat_tests)
 
+-- Whether packets wait, by the count of them.
+pub none-waits : (n : ℕ) (b : Bool) → b ≡ nat_lt 0 n → b ≡ false → n ≡ 0
+none-waits n b is e = grind (arith, nat_tests)
+
+pub some-waits : (n : ℕ) (b : Bool) → b ≡ nat_lt 0 n → b ≡ true → 0 < n
+some-waits n b is e = grind (arith, nat_tests)
+
 pub next-some : (v : LinkView) → 0 < v.waits → next_start_of v ≡ Some v.value.free
 next-some v some = ap {B = Option ℕ} (λ b. cond b (Some v.value.free) None) (sure v.waits some)
 
@@ -139,8 +146,11 @@ module _ (settings : Settings) (at flow : ℕ) (p : Parts) (heap : Heap NextStar
           by (own pipe f) is = tt
           by (shared pipe) is = (ready.slot h v pipe at_home there is, (let a = few.2.arrivals h.place v there in let b = few.1 in omega arith), idle-schedule pipe is)
 
-      pub few-wait : v.waits ≤ p.waiting
-      few-wait = let le = sum-le (λ (x : LinkView). x.waits) (views_of p) h.place v there in let is = few.2.waiting_is in omega arith
+      pub alone : IsAlone flow h.place (views_of p)
+      alone =
+          let both : Some is-home.view ≡ Some v = sym is-home.there ∙ there in
+          let same : is-home.view ≡ v = cc in
+          is-alone p can.0 can.1 can.2 flow h.place v there (sym is-home.link_is ∙ ap (λ (x : LinkView). x.link) same)
 
   pub few-waiting : p.waiting < 2 ^ 62
   few-waiting = let a = few.2.pushed in let b = few.1 in omega arith

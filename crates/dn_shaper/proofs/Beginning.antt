@@ -17,7 +17,7 @@ use Rattle.dn_shaper.specs.NextStarts.{Holds, next_at, backlogged}
 use Rattle.dn_shaper.specs.Settings.{settings_of}
 use Rattle.dn_shaper.specs.Standing.{StandsAt, IsIndexed, IsSound}
 use Rattle.dn_shaper.specs.Starting.{IsFlowWithin, Within}
-use Rattle.dn_shaper.specs.Views.{LinkView, view_of, views_of, next_starts, waits_in_all}
+use Rattle.dn_shaper.specs.Views.{LinkView, queue_lengths, view_of, views_of, next_starts, waits_in_all}
 
 nothing-agrees : (rule : Rule) → IsAt rule 0 [] [] [] [] [] [] []
 nothing-agrees rule = record {
@@ -39,7 +39,7 @@ nothing-agrees rule = record {
 module _ (s : State) (accepted : s.parts.accepted ≡ 0) (keys : s.parts.flows.keys ≡ []) (flows : s.parts.flows.flows ≡ []) (homes : s.parts.homes.items ≡ []) (links : s.parts.links.items ≡ []) (waiting : s.parts.waiting ≡ 0)
     (shared : s.shared ≡ []) (pending : s.parts.line.pending ≡ []) (pushed : s.parts.line.pushed ≡ 0) (empty : s.heap.keys ≡ []) (moves : s.heap.moves ≡ 0) (none : (t : Target) → settings_of s.configured t ≡ None) (now : s.now ≡ 0) (calls : s.calls ≡ 0) where
   views : views_of s.parts ≡ []
-  views = ap (map view_of) links
+  views = ap (map (view_of (queue_lengths s.parts.flows.flows))) links
 
   agrees : AgreesWith s.parts [] []
   agrees =

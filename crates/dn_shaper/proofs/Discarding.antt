@@ -1,8 +1,10 @@
 -- A flow's packets are discarded: all parts agree, and a link only loses its backlog.
-use Rattle.std.proofs.Common.{◌≡◌, ◌∙◌, ◌≤◌, ◌<◌, ◌⊎◌, ◌^◌, ℕ, ◌+◌, Bool, true, false, cond, List, ◌∷◌, set, ap, sym, subst, length, arith, inl, inr, get_or-set_same, get_or-set_other}
+use Rattle.std.proofs.Common.{◌≡◌, ◌∙◌, ◌≤◌, ◌<◌, ◌⊎◌, ◌^◌, ℕ, ◌+◌, Bool, true, false, cond, List, ◌∷◌, set, refl, ap, sym, subst, length, arith, inl, inr, get_or-set_same, get_or-set_other}
 use Rattle.std.specs.Prelude.{Option, Some, None, is_some, nat_eq, slice_get}
 use Rattle.std.proofs.lemmas.Bool.{cases_eq, cases_lt}
-use Rattle.dn_types.specs.Trace.{Link, own, shared, discarded, backlog}
+use Rattle.std.proofs.lemmas.List.{length-map}
+use Rattle.dn_types.specs.Trace.{Link, own, shared, Accepted, discarded, backlog}
+use Rattle.dn_types.specs.Wf2q.{Stamped}
 use Rattle.dn_types.specs.declared.delivery.Delivery.{Delivery}
 use Rattle.dn_types.specs.declared.flow_key.FlowKey.{FlowKey}
 use Rattle.dn_types.specs.declared.rule.Rule.{Rule}
@@ -14,11 +16,12 @@ use Rattle.dn_shaper.specs.declared.parts.Home.{Home}
 use Rattle.dn_shaper.specs.declared.parts.Parts.{Parts}
 use Rattle.dn_shaper.specs.Agreement.{Agrees, IsAt, IsHomeOf, link_names}
 use Rattle.dn_shaper.specs.Arriving.{KeepsFlows}
-use Rattle.dn_shaper.specs.Discarding.{DiscardsOn, DiscardsAt, Discards, OnlyEmpties}
+use Rattle.dn_shaper.specs.Discarding.{DiscardsOn, DiscardsAt, Discards, HoldsCount, OnlyEmpties}
 use Rattle.dn_shaper.specs.NextStarts.{next_at}
 use Rattle.dn_shaper.specs.Starting.{IsFlowWithin, Within}
-use Rattle.dn_shaper.specs.Views.{LinkView, views_of, home, next_starts, next_start_of, waits_in_all}
+use Rattle.dn_shaper.specs.Views.{LinkView, IsAlone, views_of, home, at_slot, next_starts, next_start_of, stamped_of, waits_in_all}
 use Rattle.dn_shaper.proofs.Accepting.{next-some, next-none, next-listed}
+use Rattle.dn_shaper.proofs.Alone.{is-alone}
 use Rattle.dn_shaper.proofs.Discarded.{discarded-agrees, length-waiting}
 use Rattle.dn_shaper.proofs.Next.{home-here}
 use Rattle.dn_flows.proofs.Places.{get-below, get-set, get-set-other, get-map, map-set, map-set-same, sum-set, sum-le}
@@ -46,6 +49,26 @@ module _ (p : Parts) (agrees : Agrees p) (bound : Within (2 ^ 62) p) (flow : ℕ
         let c = ap {B = ℕ} (λ (q : List Waiting). length q) (a.flows_are flow).backlog_is ∙ length-waiting _ ∙ ap {B = ℕ} (λ (l : Link). length (backlog l flow agrees.1)) (sym is-home.link_is) in
         let v = (a.views_are h.place is-home.view is-home.there).waits_are in
         omega arith
+
+    -- On a shared link they wait at its slot.
+    pub holds : HoldsCount h.slot (length (flow_at p.flows.flows flow).backlog) is-home.view is-home.view.link
+    holds = by is-home.view.link refl
+      where
+        by : (l : Link) → is-home.view.link ≡ l → HoldsCount h.slot (length (flow_at p.flows.flows flow).backlog) is-home.view l
+        by (own pipe f) is = tt
+        by (shared pipe) is =
+            let a = agrees.2 in
+            let slot = is-home.slot_is pipe (sym is-home.link_is ∙ is) in
+            let there = (((a.views_are h.place is-home.view is-home.there).schedule_is pipe is).slots_are h.slot flow slot).backlog_is in
+            let waits = backlog is-home.view.link flow agrees.1 in
+            ap {B = ℕ} (λ (q : List Stamped). length q) there
+            ∙ length-map (stamped_of waits) (at_slot h.slot)
+            ∙ length-map waits (λ (x : Accepted). x.stamped)
+            ∙ ap {B = ℕ} (λ (l : Link). length (backlog l flow agrees.1)) is-home.link_is
+            ∙ sym (ap {B = ℕ} (λ (q : List Waiting). length q) (a.flows_are flow).backlog_is ∙ length-waiting _)
+
+    pub alone : IsAlone flow h.place (views_of p)
+    alone = is-alone p agrees.0 agrees.1 agrees.2 flow h.place is-home.view is-home.there (sym is-home.link_is)
 
     pub enough-all : length (flow_at p.flows.flows flow).backlog ≤ p.waiting
     enough-all = let e = enough in let le = sum-le (λ (v : LinkView). v.waits) (views_of p) h.place is-home.view is-home.there in let is = bound.waiting_is in omega arith

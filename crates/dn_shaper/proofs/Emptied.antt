@@ -19,11 +19,11 @@ is_some-cond : (b : Bool) (m : ℕ) → b ≡ is_some (cond b (Some m) None)
 is_some-cond true m = refl
 is_some-cond false m = refl
 
--- A link has a backlog where its count says so.
-pub backlog-told : (links : List LinkParts) (place : ℕ) (s : LinkParts) → slice_get links place ≡ Some s → nat_lt 0 s.waiting ≡ is_some (next_at (next_starts (map view_of links)) place)
-backlog-told links place s e =
-    let there = get-map next_start_of (map view_of links) place (view_of s) (get-map view_of links place s e) in
-    is_some-cond (nat_lt 0 s.waiting) s.times.free ∙ ap (λ (o : Option ℕ). is_some o) (sym (next-listed (next_starts (map view_of links)) place (next_start_of (view_of s)) there))
+-- A link has a backlog where packets wait for it.
+pub backlog-told : (queues : ℕ → ℕ) (links : List LinkParts) (place : ℕ) (s : LinkParts) → slice_get links place ≡ Some s → nat_lt 0 (view_of queues s).waits ≡ is_some (next_at (next_starts (map (view_of queues) links)) place)
+backlog-told queues links place s e =
+    let there = get-map next_start_of (map (view_of queues) links) place (view_of queues s) (get-map (view_of queues) links place s e) in
+    is_some-cond (nat_lt 0 (view_of queues s).waits) s.times.free ∙ ap (λ (o : Option ℕ). is_some o) (sym (next-listed (next_starts (map (view_of queues) links)) place (next_start_of (view_of queues s)) there))
 
 module _ (nexts : List (Option ℕ)) (place : ℕ) where
   step-in : (b : Bool) (k : NextStart) (ks : List NextStart) → is_backlogged nexts k ≡ b → standing place (filter (is_backlogged nexts) (k ∷ ks)) ≡ standing place (cond b (k ∷ filter (is_backlogged nexts) ks) (filter (is_backlogged nexts) ks))

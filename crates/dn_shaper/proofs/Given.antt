@@ -10,8 +10,9 @@ use Rattle.dn_shaper.specs.Homing.{GivesHome, Houses, place_for}
 use Rattle.dn_shaper.specs.Making.{Prepares}
 use Rattle.dn_shaper.specs.Standing.{IsSound}
 use Rattle.dn_shaper.specs.Starting.{IsReady}
-use Rattle.dn_shaper.specs.Views.{views_of}
-use Rattle.dn_shaper.proofs.Preparing.{IsOneMore, with_flows}
+use Rattle.dn_shaper.specs.Views.{LinkView, queue_lengths, views_of}
+use Rattle.dn_shaper.proofs.Alone.{all-seen-same}
+use Rattle.dn_shaper.proofs.Preparing.{IsOneMore, lengths-more, with_flows}
 use Rattle.dn_shaper.proofs.SharedHome.{shared-ready, shared-prepares, shared-sound}
 use Rattle.dn_shaper.proofs.NewHome.{opened-ready, opened-prepares, opened-sound}
 
@@ -19,11 +20,18 @@ module _ (old new : State) (t : Table) (key : FlowKey) (one : IsOneMore key old.
   abbrev pub Given : ℕ → Type 0
   Given n = GivesHome key n (with_flows old t) new
 
+  -- The flow that is new has no packet, so the links are seen as they were.
+  houses-before : (g : Given (length old.parts.flows.keys)) → Houses (place_for key old.shared) key (length old.parts.flows.keys) g.home (views_of old.parts) (views_of new.parts) new.heap old.shared new.shared
+  houses-before g =
+      subst (λ (vs : List LinkView). Houses (place_for key old.shared) key (length old.parts.flows.keys) g.home vs (views_of new.parts) new.heap old.shared new.shared)
+      (all-seen-same old.parts.links.items (queue_lengths old.parts.flows.flows) (queue_lengths t.flows) (lengths-more key old.parts.flows t one))
+      g.houses
+
   given-at : (f : ℕ) → f ≡ length old.parts.flows.keys → Given f → Given (length old.parts.flows.keys)
   given-at f e g = subst Given e g
 
   pub given-ready : (f : ℕ) → f ≡ length old.parts.flows.keys → Given f → IsReady f new.parts
-  given-ready f e given = subst (λ n. IsReady n new.parts) (sym e) (by (place_for key old.shared) refl g.houses)
+  given-ready f e given = subst (λ n. IsReady n new.parts) (sym e) (by (place_for key old.shared) refl (houses-before g))
     where
       g : Given (length old.parts.flows.keys)
       g = given-at f e given
@@ -33,7 +41,7 @@ module _ (old new : State) (t : Table) (key : FlowKey) (one : IsOneMore key old.
       by None noted h = opened-ready old new t key one g a.as_many noted h.0 h.1 sound.indexed a.as_many_homes
 
   pub given-prepares : (f : ℕ) → f ≡ length old.parts.flows.keys → Given f → Prepares f old.parts new.parts
-  given-prepares f e given = subst (λ n. Prepares n old.parts new.parts) (sym e) (by (place_for key old.shared) refl g.houses)
+  given-prepares f e given = subst (λ n. Prepares n old.parts new.parts) (sym e) (by (place_for key old.shared) refl (houses-before g))
     where
       g : Given (length old.parts.flows.keys)
       g = given-at f e given
@@ -43,7 +51,7 @@ module _ (old new : State) (t : Table) (key : FlowKey) (one : IsOneMore key old.
       by None noted h = opened-prepares old new t key one g a.as_many noted h.0 h.1 sound.indexed
 
   pub given-sound : (f : ℕ) → f ≡ length old.parts.flows.keys → Given f → IsSound new
-  given-sound f e given = by (place_for key old.shared) refl g.houses
+  given-sound f e given = by (place_for key old.shared) refl (houses-before g)
     where
       g : Given (length old.parts.flows.keys)
       g = given-at f e given

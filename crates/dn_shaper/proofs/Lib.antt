@@ -1,9 +1,11 @@
 pub mod Above
 pub mod Accepted
 pub mod Accepting
+pub mod Alone
 pub mod Arrived
 pub mod Arriving
 pub mod Beginning
+pub mod Behind
 pub mod Commands
 pub mod Configuring
 pub mod Counting
@@ -19,6 +21,7 @@ pub mod Holding
 pub mod Homes
 pub mod Housed
 pub mod Indexed
+pub mod Linked
 pub mod Made
 pub mod Needing
 pub mod NewHome
@@ -37,6 +40,7 @@ pub mod Replying
 pub mod Reserved
 pub mod Reserving
 pub mod Sending
+pub mod Scheduled
 pub mod Settles
 pub mod SharedHome
 pub mod Sharing

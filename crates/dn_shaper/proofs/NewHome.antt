@@ -18,7 +18,7 @@ use Rattle.dn_shaper.specs.Slots.{Ascends, top}
 use Rattle.dn_shaper.specs.Standing.{IsIndexed, IsSound}
 use Rattle.dn_shaper.specs.Starting.{IsReady, Within}
 use Rattle.dn_shaper.specs.Submitting.{IsMade}
-use Rattle.dn_shaper.specs.Views.{LinkView, views_of, home, home_by, next_starts, next_start_of, waits_in_all}
+use Rattle.dn_shaper.specs.Views.{LinkView, views_of, home, home_by, next_starts, next_start_of, queue_lengths, waits_in_all}
 use Rattle.dn_shaper.proofs.Events.{append-none}
 use Rattle.dn_shaper.proofs.Indexed.{noted-more, unnoted-unknown}
 use Rattle.dn_shaper.proofs.Made.{linked-agrees}
@@ -53,7 +53,7 @@ module _ (old new : State) (t : Table) (key : FlowKey) (one : IsOneMore key old.
   module _ (noted : place_for key old.shared ≡ None) (s : Opens link flow g.home (views_of old.parts) (views_of new.parts) new.heap) (notes : NotesFor key.target key.pipe g.home.place old.shared new.shared) (index : IsIndexed old (link_names (views_of old.parts))) where
     module _ (trace : List Event) (a : AgreesWith old.parts [] trace) where
       unknown : list_any (link_eq link) (link_names (views_of old.parts)) ≡ false
-      unknown = unnoted-unknown old old.parts.links.items index key.target flow key.pipe (λ k v e. (a.views_are k v e).below) noted
+      unknown = unnoted-unknown old (queue_lengths old.parts.flows.flows) old.parts.links.items index key.target flow key.pipe (λ k v e. (a.views_are k v e).below) noted
 
       pub opened-agrees : AgreesWith new.parts (link ∷ []) trace
       opened-agrees =

@@ -1,5 +1,5 @@
 -- All parts agree with the beginning of a busy period of a link.
-use Rattle.std.proofs.Common.{◌≡◌, ◌∙◌, ◌⊎◌, ℕ, zero, suc, Bool, true, false, cond, List, [], ◌∷◌, set, refl, ap, sym, subst, length, arith, inl, inr}
+use Rattle.std.proofs.Common.{◌≡◌, ◌∙◌, ◌⊎◌, ℕ, Bool, true, false, cond, List, ◌∷◌, set, refl, ap, sym, subst, length, arith, inl, inr}
 use Rattle.std.specs.Prelude.{Some, slice_get}
 use Rattle.std.proofs.lemmas.Bool.{cases_eq}
 use Rattle.dn_types.specs.Trace.{Link, shared, link_eq, Event, opened, is_start_of, is_loss_of, is_refusal_of, is_arrival}
@@ -19,11 +19,7 @@ use Rattle.dn_wf2q.specs.Schedule.{Flow, flow_at as slot_at, forgotten, without_
 use Rattle.dn_shaper.specs.Slots.{Ascends, top}
 use Rattle.dn_shaper.proofs.Homes.{home-after, slots_home-after}
 use Rattle.dn_shaper.proofs.Next.{distinct_views}
-
-forgotten-at : (fs : List Flow) (i : ℕ) → slot_at (forgotten fs) i ≡ without_tag (slot_at fs i)
-forgotten-at [] i = refl
-forgotten-at (f ∷ fs) zero = refl
-forgotten-at (f ∷ fs) (suc i) = forgotten-at fs i
+use Rattle.dn_shaper.proofs.Scheduled.{forgotten-at}
 
 module _ (rule : Rule) (accepted : ℕ) (keys : List FlowKey) (homes : List Home) (views : List LinkView) (flows : List FlowState) (pending : List Delivery) (more : List Link) (trace : List Event) (a : IsAt rule accepted keys homes views flows pending more trace) where
   module _ (k : ℕ) (v : LinkView) (there : slice_get views k ≡ Some v) (v' : LinkView) (same_link : v'.link ≡ v.link) (same_value : v'.value ≡ v.value) (same_waits : v'.waits ≡ v.waits) (same_slots : v'.slots ≡ v.slots)

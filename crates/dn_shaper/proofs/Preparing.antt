@@ -1,5 +1,5 @@
 -- Where only room was made, a shaper stays sound. So does one whose last flow, which was made for a packet, is taken out.
-use Rattle.std.proofs.Common.{◌≡◌, ◌∙◌, ◌≤◌, ◌<◌, ◌-◌, ℕ, zero, suc, ◌+◌, Bool, true, false, not, cond, ◌||◌, List, [], ◌∷◌, ◌++◌, refl, ap, sym, subst, length, take, arith, ⊎_elim}
+use Rattle.std.proofs.Common.{◌≡◌, ◌∙◌, ◌≤◌, ◌<◌, ◌-◌, ◌⊎◌, ℕ, zero, suc, ◌+◌, Bool, true, false, not, cond, ◌||◌, List, [], ◌∷◌, ◌++◌, refl, ap, sym, subst, length, take, arith, ⊎_elim, inl, inr}
 use Rattle.std.specs.Prelude.{Some, Result, Ok, Err, OnOk, OnErr, is_err, nat_eq, slice_get}
 use Rattle.std.specs.Map.{lookup}
 use Rattle.std.specs.List.{list_any, position_or_len}
@@ -11,18 +11,20 @@ use Rattle.dn_types.specs.Flows.{key_eq, flow_number, with_key}
 use Rattle.dn_types.specs.Trace.{Link, shared, link_eq, Event, links}
 use Rattle.dn_types.specs.declared.flow_key.FlowKey.{FlowKey}
 use Rattle.dn_flows.specs.Table.{FlowState, Table, new_flow, flow_at, is_known, flows_with}
+use Rattle.dn_flows.specs.declared.waiting.Waiting.{Waiting}
 use Rattle.dn_shaper.specs.declared.next_start.NextStart.{NextStart}
 use Rattle.dn_shaper.specs.declared.parts.Parts.{Parts}
 use Rattle.dn_shaper.specs.declared.state.State.{State}
 use Rattle.dn_shaper.specs.Agreement.{AgreesWith, link_names}
 use Rattle.dn_shaper.specs.NextStarts.{Holds}
 use Rattle.dn_shaper.specs.Homing.{KeepsHeap, OnlyReserves, without_last}
-use Rattle.dn_shaper.specs.Making.{Prepares, Reserves, SameFlow}
+use Rattle.dn_shaper.specs.Making.{KeepsAt, Prepares, Reserves, SameFlow}
 use Rattle.dn_shaper.specs.Settling.{IsKept}
 use Rattle.dn_shaper.specs.Standing.{IsSound}
 use Rattle.dn_shaper.specs.Starting.{Within}
 use Rattle.dn_shaper.specs.Submitting.{IsMade}
-use Rattle.dn_shaper.specs.Views.{LinkView, views_of, next_starts, home}
+use Rattle.dn_shaper.specs.Views.{LinkView, views_of, next_starts, home, queue_lengths}
+use Rattle.dn_shaper.proofs.Alone.{all-seen-same}
 use Rattle.dn_shaper.proofs.Events.{append-none}
 use Rattle.dn_flows.proofs.Places.{length-more}
 use Rattle.dn_shaper.proofs.Reserved.{reserved-names, reserves-agree, reserves-kept, reserves-within}
@@ -109,6 +111,12 @@ known-table old t key lt keys flows =
       flows = (flows ∙ ap (λ b. cond b old.flows (old.flows ++ new_flow ∷ [])) known) i;
     }
 
+pub flow-more : (flows : List FlowState) (g : ℕ) → flow_at (flows ++ new_flow ∷ []) g ≡ flow_at flows g
+flow-more [] zero = refl
+flow-more [] (suc g) = refl
+flow-more (s ∷ flows) zero = refl
+flow-more (s ∷ flows) (suc g) = flow-more flows g
+
 -- The table has one flow more, which is new.
 pub record IsOneMore (key : FlowKey) (old new : Table) : Type 0 where
   pub keys : new.keys ≡ old.keys ++ key ∷ []
@@ -123,6 +131,10 @@ new-table old t key le keys flows =
       flows = flows ∙ ap (λ b. cond b old.flows (old.flows ++ new_flow ∷ [])) p.1;
       number = p.0;
     }
+
+-- Its queues are as long as they were.
+pub lengths-more : (key : FlowKey) (old t : Table) → IsOneMore key old t → (f : ℕ) → queue_lengths t.flows f ≡ queue_lengths old.flows f
+lengths-more key old t one f = ap (λ (fs : List FlowState). queue_lengths fs f) one.flows ∙ ap (λ (s : FlowState). length s.backlog) (flow-more old.flows f)
 
 abbrev pub with_table : Parts → Table → Parts
 with_table p t = record { rule = p.rule; accepted = p.accepted; flows = t; homes = p.homes; links = p.links; waiting = p.waiting; line = p.line }
@@ -146,12 +158,6 @@ only-parts old new r = record {
 take-last : {X : Type 0} (xs : List X) (y : X) → take (length (xs ++ y ∷ []) - 1) (xs ++ y ∷ []) ≡ xs
 take-last xs y = let m = length-more xs y in let e : length (xs ++ y ∷ []) - 1 ≡ length xs = omega arith in ap (λ n. take n (xs ++ y ∷ [])) e ∙ take-append_seam xs (y ∷ [])
 
-pub flow-more : (flows : List FlowState) (g : ℕ) → flow_at (flows ++ new_flow ∷ []) g ≡ flow_at flows g
-flow-more [] zero = refl
-flow-more [] (suc g) = refl
-flow-more (s ∷ flows) zero = refl
-flow-more (s ∷ flows) (suc g) = flow-more flows g
-
 -- A table whose last flow is new and was taken out is the table before it.
 pub without-new : (old : State) (t : Table) (key : FlowKey) → IsOneMore key old.parts.flows t → (new : State) → OnlyReserves (without_last (with_flows old t)) new → OnlyReserves old new
 without-new old t key more new o =
@@ -160,7 +166,7 @@ without-new old t key more new o =
       flows = (ap (λ (fs : List FlowState). take (length fs - 1) fs) more.flows ∙ take-last old.parts.flows.flows new_flow) i;
     }) o
 
-module _ (old mid : State) (o : OnlyReserves old mid) (t : Table) (keys : t.keys ≡ take (length mid.parts.flows.keys - 1) mid.parts.flows.keys) (flows : t.flows ≡ take (length mid.parts.flows.flows - 1) mid.parts.flows.flows) where
+module _ (old mid : State) (o : OnlyReserves old mid) (t : Table) (keys : t.keys ≡ take (length mid.parts.flows.keys - 1) mid.parts.flows.keys) (flows : t.flows ≡ take (length mid.parts.flows.flows - 1) mid.parts.flows.flows) (empty : queue_lengths old.parts.flows.flows (length old.parts.flows.flows - 1) ≡ 0) where
   abbrev pub most : ℕ
   most = length old.parts.flows.flows - 1
 
@@ -191,6 +197,29 @@ module _ (old mid : State) (o : OnlyReserves old mid) (t : Table) (keys : t.keys
           let b : flow_at t.flows g ≡ new_flow = get_or_past t.flows g new_flow (omega arith) in
           subst (λ (x : FlowState × FlowState). SameFlow x.0 x.1) (λ i. (sym a i, sym b i)) (same-flow new_flow)
 
+  -- The last flow has no packet, so without it the links are seen as they were.
+  lengths-left : (g : ℕ) → queue_lengths (take most old.parts.flows.flows) g ≡ queue_lengths old.parts.flows.flows g
+  lengths-left g = ⊎_elim below beyond (cases_lt g most)
+    where
+      none : (fs : List FlowState) → length fs ≤ g → queue_lengths fs g ≡ 0
+      none fs le = ap {B = ℕ} (λ (s : FlowState). length s.backlog) (get_or_past fs g new_flow le)
+
+      below : g < most → queue_lengths (take most old.parts.flows.flows) g ≡ queue_lengths old.parts.flows.flows g
+      below lt = ap {B = ℕ} (λ (s : FlowState). length s.backlog) (get_or-take most old.parts.flows.flows g new_flow lt)
+
+      last : (most < g) ⊎ (g ≤ most) → most ≤ g → queue_lengths old.parts.flows.flows g ≡ 0
+      last (inl past) le = none old.parts.flows.flows (omega arith)
+      last (inr here) le = let e : g ≡ most = omega arith in ap (queue_lengths old.parts.flows.flows) e ∙ empty
+
+      beyond : most ≤ g → queue_lengths (take most old.parts.flows.flows) g ≡ queue_lengths old.parts.flows.flows g
+      beyond le = let l = length-take-le most old.parts.flows.flows (omega arith) in none (take most old.parts.flows.flows) (omega arith) ∙ sym (last (cases_lt most g) le)
+
+  lengths-now : (g : ℕ) → queue_lengths t.flows g ≡ queue_lengths mid.parts.flows.flows g
+  lengths-now g =
+      ap {B = ℕ} (λ (ws : List Waiting). length ws) (flows-left g).backlog
+      ∙ lengths-left g
+      ∙ sym (ap {B = ℕ} (λ (ws : List Waiting). length ws) (o.parts.flows g).backlog)
+
   -- What is left is the shaper without its last flow, but for room.
   pub forgets : OnlyReserves (without_last old) (with_flows mid t)
   forgets = record {
@@ -205,7 +234,10 @@ module _ (old mid : State) (o : OnlyReserves old mid) (t : Table) (keys : t.keys
       room = o.parts.room;
       flows = flows-left;
       many = many-left;
-      views = o.parts.views;
+      views = λ place.
+          subst (λ (x : List LinkView × List LinkView). KeepsAt (slice_get x.0 place) (slice_get x.1 place))
+          (λ i. (sym (all-seen-same old.parts.links.items (queue_lengths old.parts.flows.flows) (queue_lengths (take most old.parts.flows.flows)) lengths-left) i, sym (all-seen-same mid.parts.links.items (queue_lengths mid.parts.flows.flows) (queue_lengths t.flows) lengths-now) i))
+          (o.parts.views place);
     };
     heap = o.heap;
     shared = o.shared;

@@ -81,8 +81,12 @@ numbered key (x ∷ known) = ⊎_elim here (after (numbered key known)) (true_or
       link_is = r.link_is;
     }
 
-home-is : (key : FlowKey) (known : List FlowKey) → home (with_key key known) (flow_number known key) ≡ link_of key.target (flow_number known key) key.pipe
+pub home-is : (key : FlowKey) (known : List FlowKey) → home (with_key key known) (flow_number known key) ≡ link_of key.target (flow_number known key) key.pipe
 home-is key known = let r = numbered key known in ap (home_by (flow_number known key)) r.there ∙ r.link_is (flow_number known key)
+
+-- So a flow that was found or made for a packet is at home where the packet goes.
+pub goes-there : (key : FlowKey) (known now : List FlowKey) (flow : ℕ) → now ≡ with_key key known → flow ≡ flow_number known key → (pipe : ℕ) × (home now flow ≡ link_of key.target flow pipe)
+goes-there key known now flow keys number = (key.pipe, (λ i. home (keys i) (number i)) ∙ home-is key known ∙ ap (λ n. link_of key.target n key.pipe) (sym number))
 
 -- ---- What becomes of the packet
 

@@ -1,9 +1,15 @@
 -- A link is read by the name that stands at its place.
-use Rattle.std.proofs.Common.{◌≡◌, ◌∙◌, ℕ, zero, suc, List, [], ◌∷◌, map, get_or, refl, ap, sym}
-use Rattle.std.specs.Prelude.{Some, Result, Ok, Err, OnErr, slice_get}
+use Rattle.std.proofs.Common.{◌≡◌, ◌∙◌, ℕ, zero, suc, List, [], ◌∷◌, map, get_or, refl, ap, sym, subst}
+use Rattle.std.specs.Prelude.{Option, Some, None, Result, Ok, Err, IfOk, OnErr, slice_get}
+use Rattle.dn_heap.specs.Heap.{Heap}
+use Rattle.dn_types.specs.Calls.{link_of}
 use Rattle.dn_types.specs.Trace.{Link}
+use Rattle.dn_types.specs.declared.flow_key.FlowKey.{FlowKey}
+use Rattle.dn_shaper.specs.declared.next_start.NextStart.{NextStart}
+use Rattle.dn_shaper.specs.declared.parts.Home.{Home}
 use Rattle.dn_shaper.specs.declared.parts.LinkParts.{LinkParts}
 use Rattle.dn_shaper.specs.Agreement.{link_names}
+use Rattle.dn_shaper.specs.Homing.{Houses, NotesFor, Opens, Shares}
 use Rattle.dn_shaper.specs.Views.{LinkView, view_of}
 
 pub named-at : (views : List LinkView) (place : ℕ) (link : Link) → slice_get (link_names views) place ≡ Some link → (v : LinkView) × (slice_get views place ≡ Some v) × (v.link ≡ link)
@@ -12,16 +18,36 @@ named-at (v ∷ views) zero link e = let same : v.link ≡ link = cc in (v, refl
 named-at (v ∷ views) (suc place) link e = named-at views place link e
 
 -- The link that was read has the name.
-pub read-name : (links : List LinkParts) (place : ℕ) (link : Link) (read : LinkParts) → slice_get (link_names (map view_of links)) place ≡ Some link → read ≡ get_or links place read → (view_of read).link ≡ link
-read-name [] place link read e is = absurd cc
-read-name (p ∷ links) zero link read e is = let same : (view_of p).link ≡ link = cc in ap (λ (x : LinkParts). (view_of x).link) is ∙ same
-read-name (p ∷ links) (suc place) link read e is = read-name links place link read e is
+module _ (queues : ℕ → ℕ) where
+  pub read-name : (links : List LinkParts) (place : ℕ) (link : Link) (read : LinkParts) → slice_get (link_names (map (view_of queues) links)) place ≡ Some link → read ≡ get_or links place read → (view_of queues read).link ≡ link
+  read-name [] place link read e is = absurd cc
+  read-name (p ∷ links) zero link read e is = let same : (view_of queues p).link ≡ link = cc in ap (λ (x : LinkParts). (view_of queues x).link) is ∙ same
+  read-name (p ∷ links) (suc place) link read e is = read-name links place link read e is
 
-pub read-view : (links : List LinkParts) (place : ℕ) (link : Link) (read : LinkParts) → slice_get (link_names (map view_of links)) place ≡ Some link → read ≡ get_or links place read → slice_get (map view_of links) place ≡ Some (view_of read)
-read-view [] place link read e is = absurd cc
-read-view (p ∷ links) zero link read e is = ap (λ (x : LinkParts). Some (view_of x)) (sym is)
-read-view (p ∷ links) (suc place) link read e is = read-view links place link read e is
+  -- Whatever the lengths of the queues, it is seen at its place.
+  pub read-view : (links : List LinkParts) (place : ℕ) (link : Link) (read : LinkParts) → slice_get (link_names (map (view_of queues) links)) place ≡ Some link → read ≡ get_or links place read → (others : ℕ → ℕ) → slice_get (map (view_of others) links) place ≡ Some (view_of others read)
+  read-view [] place link read e is others = absurd cc
+  read-view (p ∷ links) zero link read e is others = ap (λ (x : LinkParts). Some (view_of others x)) (sym is)
+  read-view (p ∷ links) (suc place) link read e is others = read-view links place link read e is others
 
 pub on-err : {X E : Type 0} {A : Type 0} (r : Result X E) → A → OnErr r A
 on-err (Ok x) a = tt
 on-err (Err e) a = a
+
+-- What a call gives where memory isn't refused.
+pub both-ok : {X E : Type 0} {P Q R : X → Type 0} (r : Result X E) → ((x : X) → P x → Q x → R x) → IfOk r P → IfOk r Q → IfOk r R
+both-ok (Ok x) f p q = f x p q
+both-ok (Err e) f p q = tt
+
+pub if-ok : {X E : Type 0} {P Q : X → Type 0} (r : Result X E) → ((x : X) → P x → Q x) → IfOk r P → IfOk r Q
+if-ok (Ok x) f p = f x p
+if-ok (Err e) f p = tt
+
+-- ---- The home of a new flow, by whether a place is noted for its key
+
+module _ (key : FlowKey) (flow : ℕ) (h : Home) (old new : List LinkView) (heap : Heap NextStart) (noted noted' : List (ℕ × ℕ)) (o : Option ℕ) where
+  pub houses-some : (place : ℕ) → o ≡ Some place → Shares flow place h old new → noted' ≡ noted → Houses o key flow h old new heap noted noted'
+  houses-some place is shares same = subst (λ (x : Option ℕ). Houses x key flow h old new heap noted noted') (sym is) (shares, same)
+
+  pub houses-none : o ≡ None → Opens (link_of key.target flow key.pipe) flow h old new heap → NotesFor key.target key.pipe h.place noted noted' → Houses o key flow h old new heap noted noted'
+  houses-none is opens notes = subst (λ (x : Option ℕ). Houses x key flow h old new heap noted noted') (sym is) (opens, notes)

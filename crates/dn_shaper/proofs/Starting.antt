@@ -7,7 +7,7 @@ use Rattle.dn_types.specs.Deliveries.{in_order, is_given_before}
 use Rattle.dn_types.specs.Links.{transmission_time, due_by}
 use Rattle.dn_types.specs.SharedLinks.{next_packet}
 use Rattle.dn_types.specs.Starts.{start_at}
-use Rattle.dn_types.specs.Trace.{Link, shared, Accepted, Event, started, pipe_of, backlog}
+use Rattle.dn_types.specs.Trace.{Link, own, shared, Accepted, Event, started, pipe_of, backlog}
 use Rattle.dn_types.specs.declared.delivery.Delivery.{Delivery}
 use Rattle.dn_types.specs.declared.flow_key.FlowKey.{FlowKey}
 use Rattle.dn_types.specs.declared.rule.Rule.{Rule}
@@ -17,12 +17,19 @@ use Rattle.dn_flows.proofs.Views.{flow_after_set, popped_backlog}
 use Rattle.dn_wf2q.specs.Schedule.{room_at}
 use Rattle.dn_shaper.specs.declared.parts.Home.{Home}
 use Rattle.dn_shaper.specs.declared.parts.Parts.{Parts}
-use Rattle.dn_shaper.specs.Views.{LinkView, views_of, waits_in_all, waiting_of, next_starts, next_start_of, CanSend}
+use Rattle.dn_shaper.specs.Views.{LinkView, CanSend, IsAlone, Sends, home, next_start_of, next_starts, queue_lengths, views_of, waiting_of, waits_in_all}
 use Rattle.dn_shaper.specs.Agreement.{GivesRates, AgreesWith, Agrees, IsAt}
 use Rattle.dn_shaper.specs.Starting.{HasFront, IsFlowWithin, Within, IsReady, CanStart, StartsAt}
+use Rattle.dn_shaper.proofs.Alone.{is-alone, own-slot}
 use Rattle.dn_shaper.proofs.Next.{can_send, taken, front}
 use Rattle.dn_flows.proofs.Places.{eq-no, eq-yes, get-set, get-set-other, sum-set, sum-le, get-below, map-set}
 use Rattle.dn_shaper.proofs.Started.{start-agrees, popped_started, popped_rest}
+
+-- A flow that has a packet is there.
+pub popped-below : (fs : List FlowState) (i : ℕ) (w : Waiting) → slice_get (flow_at fs i).backlog 0 ≡ Some w → i < length fs
+popped-below [] i w e = absurd cc
+popped-below (x ∷ fs) zero w e = omega arith
+popped-below (x ∷ fs) (suc i) w e = let r = popped-below fs i w e in omega arith
 
 -- ---- What a start needs
 
@@ -41,6 +48,14 @@ module _ (p : Parts) (agrees : Agrees p) (within : Within (2 ^ 62) p) (place mom
 
   waits-at : 0 < p.waiting
   waits-at = let le = sum-le (λ (v : LinkView). v.waits) (views_of p) place can.view can.there in let is = within.waiting_is in let some = can.some in omega arith
+
+  -- The flow that is sent is at home on the link.
+  pub alone-at : (flow : ℕ) (v' : LinkView) → Sends flow can.view v' can.view.link → IsAlone flow place (views_of p)
+  alone-at flow v' sends = is-alone p agrees.0 agrees.1 agrees.2 flow place can.view can.there (by can.view.link refl sends)
+    where
+      by : (l : Link) → can.view.link ≡ l → Sends flow can.view v' l → home p.flows.keys flow ≡ can.view.link
+      by (own pipe f) is same = ap (home p.flows.keys) same ∙ agrees.2.slots_home place can.view can.there 0 f (own-slot (queue_lengths p.flows.flows) p.links.items place can.view pipe f can.there is)
+      by (shared pipe) is picked = agrees.2.slots_home place can.view can.there picked.0.flow flow picked.2
 
   pub room-at : 0 < p.line.room
   room-at = let w = waits-at in let r = within.room in omega arith
@@ -102,12 +117,7 @@ module _ (place moment bandwidth delay : ℕ) (old new : Parts) (s : StartsAt pl
       omega arith
 
   flow-there : s.starts.flow < length old.flows.flows
-  flow-there = below old.flows.flows s.starts.flow s.starts.packet s.starts.front
-    where
-      below : (fs : List FlowState) (i : ℕ) (w : Waiting) → slice_get (flow_at fs i).backlog 0 ≡ Some w → i < length fs
-      below [] i w e = absurd cc
-      below (x ∷ fs) zero w e = omega arith
-      below (x ∷ fs) (suc i) w e = let r = below fs i w e in omega arith
+  flow-there = popped-below old.flows.flows s.starts.flow s.starts.packet s.starts.front
 
   flow-now : (g : ℕ) → flow_at new.flows.flows g ≡ cond (nat_eq s.starts.flow g) (popped (flow_at old.flows.flows s.starts.flow)) (flow_at old.flows.flows g)
   flow-now g = ap (λ (fs : List FlowState). flow_at fs g) s.starts.flows_are ∙ flow_after_set old.flows.flows s.starts.flow g (popped (flow_at old.flows.flows s.starts.flow)) flow-there

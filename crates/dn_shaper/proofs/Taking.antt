@@ -1,14 +1,19 @@
 -- A link takes the flow that it sends next.
-use Rattle.std.proofs.Common.{◌≡◌, ◌∙◌, ℕ, zero, suc, List, [], ◌∷◌, get_or, refl, ap, sym, subst, Box, Global}
+use Rattle.std.proofs.Common.{◌≡◌, ◌∙◌, ◌<◌, ◌+◌, ℕ, zero, suc, cond, List, [], ◌∷◌, get_or, slice_set, drop, length, refl, ap, sym, subst, arith, Box, Global}
 use Rattle.std.specs.Prelude.{Option, Some, None, IsSome, slice_get, option_map, IfSome}
-use Rattle.dn_types.specs.Trace.{shared}
+use Rattle.dn_types.specs.Trace.{Link, own, shared}
 use Rattle.dn_types.specs.Wf2q.{Stamped, pick}
 use Rattle.dn_link.specs.LinkState.{LinkState}
-use Rattle.dn_wf2q.specs.Schedule.{Schedule, heads_of, Picks}
+use Rattle.dn_flows.specs.Table.{FlowState, flow_at, popped}
+use Rattle.dn_flows.specs.declared.waiting.Waiting.{Waiting}
+use Rattle.dn_flows.proofs.Places.{eq-yes}
+use Rattle.dn_flows.proofs.Views.{backlog_after_pop}
+use Rattle.dn_wf2q.specs.Schedule.{Schedule, heads_of, waiting_of as waiting_in, Picks}
 use Rattle.dn_shaper.specs.declared.parts.Carries.{Carries}
-use Rattle.dn_shaper.specs.declared.parts.Carries.TheVariants.{Shared}
+use Rattle.dn_shaper.specs.declared.parts.Carries.TheVariants.{Own, Shared}
+use Rattle.dn_shaper.specs.declared.parts.LinkParts.{LinkParts}
 use Rattle.dn_shaper.specs.declared.parts.SharedLink.{SharedLink}
-use Rattle.dn_shaper.specs.Views.{LinkView, TakesNext, Sends, CanSend, view_of}
+use Rattle.dn_shaper.specs.Views.{LinkView, TakesNext, Sends, CanSend, carried_link, carried_waits, queue_lengths, view_of}
 
 pub some-is : {X : Type 0} (o : Option X) (x : X) → o ≡ Some x → IsSome o
 some-is None x e = absurd cc
@@ -20,17 +25,16 @@ read-is (y ∷ xs) zero d x e = let same : y ≡ x = cc in same
 read-is (y ∷ xs) (suc i) d x e = read-is xs i d x e
 
 -- The scheduler's pick is the flow at its slot.
-takes-shared : (v : LinkView) (schedule : Schedule) (pipe slot flow : ℕ) → v.link ≡ shared pipe → CanSend v (shared pipe) →
+takes-shared : (v : LinkView) (schedule : Schedule) (waits pipe slot flow : ℕ) → v.link ≡ shared pipe → CanSend v (shared pipe) →
     Some slot ≡ option_map (λ h. h.flow) (pick v.schedule.virtual_time (heads_of v.schedule.flows)) →
     IfSome (pick v.schedule.virtual_time (heads_of v.schedule.flows)) (λ h. Picks h v.schedule schedule) →
     flow ≡ get_or v.slots slot flow →
-    TakesNext flow v (record { link = v.link; value = v.value; waits = v.waits; schedule = schedule; slots = v.slots })
-takes-shared v schedule pipe slot flow is can picked some read = record {
+    TakesNext flow v (record { link = v.link; value = v.value; waits = waits; schedule = schedule; slots = v.slots })
+takes-shared v schedule waits pipe slot flow is can picked some read = record {
   link = refl;
   value = refl;
-  waits = refl;
   slots = refl;
-  sends = subst (Sends flow v (record { link = v.link; value = v.value; waits = v.waits; schedule = schedule; slots = v.slots })) (sym is) (go (pick v.schedule.virtual_time (heads_of v.schedule.flows)) refl);
+  sends = subst (Sends flow v (record { link = v.link; value = v.value; waits = waits; schedule = schedule; slots = v.slots })) (sym is) (go (pick v.schedule.virtual_time (heads_of v.schedule.flows)) refl);
 }
   where
     go : (o : Option Stamped) → pick v.schedule.virtual_time (heads_of v.schedule.flows) ≡ o → (h : Stamped) × (pick v.schedule.virtual_time (heads_of v.schedule.flows) ≡ Some h) × (slice_get v.slots h.flow ≡ Some flow) × Picks h v.schedule schedule
@@ -45,24 +49,56 @@ takes-shared v schedule pipe slot flow is can picked some read = record {
         (h, e, at ∙ ap (λ f. Some f) (sym flow_is), subst (λ (o : Option Stamped). IfSome o (λ x. Picks x v.schedule schedule)) e some)
 
 -- The link after the pick is in the block t, and before it in the block s, which holds d.
-module _ (pipe : ℕ) (value : LinkState) (waits : ℕ) where
-  abbrev with_carries : Carries → LinkView
-  with_carries x = view_of (record { pipe = pipe; times = value; waiting = waits; carries = x })
+module _ (pipe : ℕ) (value : LinkState) where
+  abbrev with_carries : (ℕ → ℕ) → Carries → LinkView
+  with_carries queues x = view_of queues (record { pipe = pipe; times = value; carries = x })
 
   abbrev seen : Schedule → List ℕ → LinkView
-  seen schedule slots = record { link = shared pipe; value = value; waits = waits; schedule = schedule; slots = slots }
+  seen schedule slots = record { link = shared pipe; value = value; waits = waiting_in schedule.flows; schedule = schedule; slots = slots }
 
   pub takes-of : (carries : Carries) (s t : Box SharedLink Global) (d : SharedLink) (schedule : Schedule) (slot flow : ℕ) → carries ≡ Shared s → d ≡ s.value → t.value ≡ record { sched = schedule; flows = d.flows } →
-      CanSend (with_carries carries) (with_carries carries).link →
+      (queues : ℕ → ℕ) × CanSend (with_carries queues carries) (with_carries queues carries).link →
       Some slot ≡ option_map (λ h. h.flow) (pick d.sched.virtual_time (heads_of d.sched.flows)) →
       IfSome (pick d.sched.virtual_time (heads_of d.sched.flows)) (λ h. Picks h d.sched schedule) →
       flow ≡ get_or d.flows.items slot flow →
-      TakesNext flow (with_carries carries) (with_carries (Shared t))
-  takes-of carries s t d schedule slot flow is at made can picked some read =
-      let before : seen d.sched d.flows.items ≡ with_carries carries = ap (λ (x : SharedLink). seen x.sched x.flows.items) at ∙ ap (λ (x : Carries). with_carries x) (sym is) in
-      let after : seen schedule d.flows.items ≡ with_carries (Shared t) = ap (λ (x : SharedLink). seen x.sched x.flows.items) (sym made) in
-      subst (λ (x : LinkView × LinkView). TakesNext flow x.0 x.1) (λ i. (before i, after i))
-      (takes-shared (seen d.sched d.flows.items) schedule pipe slot flow refl (subst (λ (x : LinkView). CanSend x x.link) (sym before) can) picked some read)
+      (before after : ℕ → ℕ) → TakesNext flow (with_carries before carries) (with_carries after (Shared t))
+  takes-of carries s t d schedule slot flow is at made can picked some read before after =
+      subst (λ (x : LinkView × LinkView). TakesNext flow x.0 x.1) (λ i. (seen-before before i, seen-after i))
+      (takes-shared (seen d.sched d.flows.items) schedule (waiting_in schedule.flows) pipe slot flow refl (subst (λ (x : LinkView). CanSend x x.link) (sym (seen-before can.0)) can.1) picked some read)
+    where
+      seen-before : (queues : ℕ → ℕ) → seen d.sched d.flows.items ≡ with_carries queues carries
+      seen-before queues = ap (λ (x : SharedLink). seen x.sched x.flows.items) at ∙ ap (λ (x : Carries). with_carries queues x) (sym is)
+
+      seen-after : seen schedule d.flows.items ≡ with_carries after (Shared t)
+      seen-after = ap (λ (x : SharedLink). seen x.sched x.flows.items) (sym made)
+
+-- What is sent rests on the schedules alone.
+pub sends-on : (flow : ℕ) (old new new' : LinkView) → new'.schedule ≡ new.schedule → (l : Link) → Sends flow old new l → Sends flow old new' l
+sends-on flow old new new' same (own pipe f) sends = sends
+sends-on flow old new new' same (shared pipe) sends = (sends.0, sends.1, sends.2, subst (λ (s : Schedule). Picks sends.0 old.schedule s) (sym same) sends.3)
+
+-- One packet fewer waits for the link that sends one, if one fewer waits in the flow's queue.
+pub waits-fewer : (before after : ℕ → ℕ) (flow : ℕ) (l l' : LinkParts) → TakesNext flow (view_of before l) (view_of after l') → after flow + 1 ≡ before flow → carried_waits after l'.carries + 1 ≡ carried_waits before l.carries
+waits-fewer before after flow l l' takes fewer = by l.carries l'.carries takes.link takes.sends
+  where
+    by : (c c' : Carries) → carried_link l'.pipe c' ≡ carried_link l.pipe c → Sends flow (view_of before (record { pipe = l.pipe; times = l.times; carries = c })) (view_of after (record { pipe = l'.pipe; times = l'.times; carries = c' })) (carried_link l.pipe c) → carried_waits after c' + 1 ≡ carried_waits before c
+    by (Own f) (Own g) link sends =
+        let same : g ≡ f = cc in
+        ap (λ n. after n + 1) (same ∙ sym sends) ∙ fewer ∙ ap before sends
+    by (Own f) (Shared t) link sends = absurd cc
+    by (Shared s) (Own g) link sends = absurd cc
+    by (Shared s) (Shared t) link sends = sends.3.one_fewer
+
+-- One packet fewer waits in a queue whose first packet leaves.
+pub pops-fewer : (flows : List FlowState) (flow : ℕ) (w : Waiting) → flow < length flows → slice_get (flow_at flows flow).backlog 0 ≡ Some w → queue_lengths (slice_set flows flow (popped (flow_at flows flow))) flow + 1 ≡ queue_lengths flows flow
+pops-fewer flows flow w within first =
+    let e = ap (λ (ws : List Waiting). length ws) (backlog_after_pop flows flow flow within ∙ ap (λ b. cond b (drop 1 (flow_at flows flow).backlog) (flow_at flows flow).backlog) (eq-yes flow flow refl)) in
+    let r = rest (flow_at flows flow).backlog first in
+    omega arith
+  where
+    rest : (ws : List Waiting) → slice_get ws 0 ≡ Some w → length (drop 1 ws) + 1 ≡ length ws
+    rest [] e = absurd cc
+    rest (x ∷ ws) e = omega arith
 
 pub at-some : {X : Type 0} (P : X → Type 0) (o : Option X) (x : X) → o ≡ Some x → IfSome o P → P x
 at-some P o x e h = subst (λ r. IfSome r P) e h

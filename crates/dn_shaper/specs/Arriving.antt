@@ -36,6 +36,11 @@ pub record Arrives (slot len weight : ℕ) (idle : Bool) (old new : Schedule) : 
   pub one_more : waiting_of new.flows ≡ waiting_of (begun_flows idle old) + 1
   pub arrivals : new.arrivals ≡ old.arrivals + 1
 
+-- Where the link is one flow's own, one packet more waits in that flow's queue.
+abbrev pub HasOneMore : (ℕ → ℕ) → (ℕ → ℕ) → Link → Type 0
+HasOneMore before after (own pipe f) = after f ≡ before f + 1
+HasOneMore before after (shared pipe) = Unit {0}
+
 abbrev pub ArrivesOn : ℕ → ℕ → ℕ → Bool → LinkView → LinkView → Link → Type 0
 ArrivesOn slot len weight idle old new (own pipe f) = new.schedule ≡ old.schedule
 ArrivesOn slot len weight idle old new (shared pipe) = Arrives slot len weight idle old.schedule new.schedule
@@ -47,6 +52,17 @@ pub record Joins (slot len weight : ℕ) (idle : Bool) (old new : LinkView) : Ty
   pub slots : new.slots ≡ old.slots
   pub waits : new.waits ≡ old.waits + 1
   pub arrives : ArrivesOn slot len weight idle old new old.link
+
+-- One packet more waits in a flow's queue. The links are left as they are.
+pub record JoinsQueue (flow len : ℕ) (old new : Parts) : Type 0 where
+  pub flows_are : new.flows.flows ≡ slice_set old.flows.flows flow (pushed (record { packet = old.accepted; len = len }) (flow_at old.flows.flows flow))
+  pub links : new.links ≡ old.links
+  pub rule : new.rule ≡ old.rule
+  pub accepted : new.accepted ≡ old.accepted + 1
+  pub keys : new.flows.keys ≡ old.flows.keys
+  pub homes : new.homes ≡ old.homes
+  pub line : new.line ≡ old.line
+  pub waiting : new.waiting ≡ old.waiting + 1
 
 -- One arrival at a flow, seen by all parts. `idle` says whether the link was idle at the moment.
 pub record ArrivesAt (at : ℕ) (h : Home) (flow len weight : ℕ) (idle : Bool) (old new : Parts) : Type 0 where

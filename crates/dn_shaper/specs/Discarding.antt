@@ -2,12 +2,22 @@
 use Rattle.std.specs.Prelude.{◌≡◌, ℕ, ◌+◌, List, ◌∷◌, length, slice_get, Some, slice_set}
 use Rattle.dn_types.specs.Trace.{Link, own, shared, Event, discarded}
 use Rattle.dn_flows.specs.Table.{flow_at, emptied}
-use Rattle.dn_wf2q.specs.Schedule.{after_discard}
+use Rattle.dn_wf2q.specs.Schedule.{after_discard, flow_at as slot_at}
 use Rattle.dn_shaper.specs.declared.parts.Home.{Home}
 use Rattle.dn_shaper.specs.declared.parts.Parts.{Parts}
 use Rattle.dn_shaper.specs.NextStarts.{next_at}
 use Rattle.dn_shaper.specs.Views.{LinkView, views_of, next_starts}
 use Rattle.dn_shaper.specs.Agreement.{AgreesWith}
+
+-- So many packets of a flow no longer wait: in its queue where the link is its own, and at its slot of a shared one.
+abbrev pub LosesCount : ℕ → ℕ → (ℕ → ℕ) → (ℕ → ℕ) → LinkView → Link → Type 0
+LosesCount slot count before after v (own pipe f) = after f + count ≡ before f
+LosesCount slot count before after v (shared pipe) = length (slot_at v.schedule.flows slot).backlog ≡ count
+
+-- Where the link is shared, so many packets of a flow wait at its slot.
+abbrev pub HoldsCount : ℕ → ℕ → LinkView → Link → Type 0
+HoldsCount slot count v (own pipe f) = Unit {0}
+HoldsCount slot count v (shared pipe) = length (slot_at v.schedule.flows slot).backlog ≡ count
 
 abbrev pub DiscardsOn : ℕ → LinkView → LinkView → Link → Type 0
 DiscardsOn slot old new (own pipe f) = new.schedule ≡ old.schedule

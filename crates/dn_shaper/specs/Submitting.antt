@@ -1,6 +1,6 @@
 -- What becomes of a packet whose flow is known, after a settling.
 use Rattle.std.specs.Prelude.{◌≡◌, ℕ, cond, List, [], ◌∷◌, map}
-use Rattle.dn_types.specs.Calls.{Verdict, loses, refuses, takes, after_verdict}
+use Rattle.dn_types.specs.Calls.{link_of, Verdict, loses, refuses, takes, after_verdict}
 use Rattle.dn_types.specs.Configuration.{Settings}
 use Rattle.dn_types.specs.Drops.{is_lost, is_full}
 use Rattle.dn_types.specs.Flows.{Treatment}
@@ -9,6 +9,7 @@ use Rattle.dn_types.specs.Starts.{settled}
 use Rattle.dn_types.specs.Trace.{Link, Event, backlog, links, with_link}
 use Rattle.dn_types.specs.declared.packet.Packet.{Packet}
 use Rattle.dn_types.specs.declared.reply.Reply.{Reply}
+use Rattle.dn_types.specs.declared.target.Target.{Target}
 use Rattle.dn_shaper.specs.declared.parts.Parts.{Parts}
 use Rattle.dn_shaper.specs.declared.treatment.Treatment.{Treatment as TreatmentParts}
 use Rattle.dn_shaper.specs.Views.{views_of, home}
@@ -17,6 +18,10 @@ use Rattle.dn_shaper.specs.Agreement.{AgreesWith, link_names}
 -- The links are those that are seen once the flow's packet is.
 abbrev pub IsMade : ℕ → Parts → List Event → Type 0
 IsMade flow p trace = link_names (views_of p) ≡ with_link (home p.flows.keys flow) (links trace)
+
+-- The flow is at home on the link of a flow whose packets go to the target.
+abbrev pub GoesTo : ℕ → Target → Parts → Type 0
+GoesTo flow target p = (pipe : ℕ) × (home p.flows.keys flow ≡ link_of target flow pipe)
 
 -- There is a trace that the parts agree with, in which the flow's link is seen or made for this packet.
 abbrev pub CanSee : ℕ → Parts → Type 0

@@ -1,14 +1,15 @@
 -- The parts of a shaper as lists: for each link its name, its moments, how many packets wait for it, the flow number of
 -- each slot, and where it is shared its schedule.
-use Rattle.std.specs.Prelude.{◌≡◌, ℕ, cond, List, [], ◌∷◌, map, Option, Some, None, nat_lt, slice_get}
+use Rattle.std.specs.Prelude.{◌≡◌, ◌↔◌, ℕ, cond, List, [], ◌∷◌, map, length, Option, Some, None, nat_lt, slice_get}
 use Rattle.std.specs.List.{sum_by}
 use Rattle.dn_types.specs.Trace.{Link, own, shared, Accepted}
 use Rattle.dn_types.specs.Calls.{link_of}
 use Rattle.dn_types.specs.Wf2q.{Stamped, pick}
 use Rattle.dn_types.specs.declared.flow_key.FlowKey.{FlowKey}
 use Rattle.dn_link.specs.LinkState.{LinkState}
+use Rattle.dn_flows.specs.Table.{FlowState, flow_at}
 use Rattle.dn_flows.specs.declared.waiting.Waiting.{Waiting}
-use Rattle.dn_wf2q.specs.Schedule.{Schedule, heads_of, Picks}
+use Rattle.dn_wf2q.specs.Schedule.{Schedule, heads_of, waiting_of as waiting_in, Picks}
 use Rattle.dn_shaper.specs.declared.parts.Carries.{Carries}
 use Rattle.dn_shaper.specs.declared.parts.Carries.TheVariants.{Own, Shared}
 use Rattle.dn_shaper.specs.declared.parts.LinkParts.{LinkParts}
@@ -37,11 +38,21 @@ abbrev pub carried_slots : Carries → List ℕ
 carried_slots (Own flow) = flow ∷ []
 carried_slots (Shared s) = s.value.flows.items
 
-abbrev pub view_of : LinkParts → LinkView
-view_of s = record { link = carried_link s.pipe s.carries; value = s.times; waits = s.waiting; schedule = carried_schedule s.carries; slots = carried_slots s.carries }
+-- How many packets wait in each flow's queue.
+abbrev pub queue_lengths : List FlowState → ℕ → ℕ
+queue_lengths flows flow = length (flow_at flows flow).backlog
+
+-- How many packets wait for the link: in its flow's queue, or in the schedule of the flows that share it.
+abbrev pub carried_waits : (ℕ → ℕ) → Carries → ℕ
+carried_waits queues (Own flow) = queues flow
+carried_waits queues (Shared s) = waiting_in s.value.sched.flows
+
+-- A link, where the queues of the flows are so long.
+abbrev pub view_of : (ℕ → ℕ) → LinkParts → LinkView
+view_of queues s = record { link = carried_link s.pipe s.carries; value = s.times; waits = carried_waits queues s.carries; schedule = carried_schedule s.carries; slots = carried_slots s.carries }
 
 abbrev pub views_of : Parts → List LinkView
-views_of p = map view_of p.links.items
+views_of p = map (view_of (queue_lengths p.flows.flows)) p.links.items
 
 -- How many packets wait for the links.
 abbrev pub waits_in_all : List LinkView → ℕ
@@ -81,9 +92,12 @@ Sends flow old new (shared pipe) = (h : Stamped) × (pick old.schedule.virtual_t
 pub record TakesNext (flow : ℕ) (old new : LinkView) : Type 0 where
   pub link : new.link ≡ old.link
   pub value : new.value ≡ old.value
-  pub waits : new.waits ≡ old.waits
   pub slots : new.slots ≡ old.slots
   pub sends : Sends flow old new old.link
+
+-- The flow's own link stands at the place, or the flow shares the link there, and no other link is its own.
+abbrev pub IsAlone : ℕ → ℕ → List LinkView → Type 0
+IsAlone flow place views = (k : ℕ) (v : LinkView) (pipe f : ℕ) → slice_get views k ≡ Some v → v.link ≡ own pipe f → (f ≡ flow) ↔ (k ≡ place)
 
 -- A shared link has a flow to send.
 abbrev pub CanSend : LinkView → Link → Type 0

@@ -1,4 +1,4 @@
-ghost use Rattle.std.specs.Prelude.{◌≡◌, ℕ, List, None, OnErr, OnOk, Some, is_some};
+ghost use Rattle.std.specs.Prelude.{◌≡◌, ℕ, List, None, IfSome, OnErr, OnOk, Some, is_some};
 ghost use Rattle.std.specs.Option.{option_copied, option_map};
 ghost use Rattle.dn_types.specs.Configuration.{command_reply, has_queues, subject};
 ghost use Rattle.dn_types.specs.Flows.{treatment};
@@ -39,8 +39,9 @@ fn pipe_of(target: &Target, setting: Option<&Command>) -> Option<Number>
 }
 
 /// How packets are treated where the command is in force. A pipe's own packets have weight 1.
-fn treatment_by(command: &Command) -> Option<Treatment>
-    ensures { option_map treatment_of result ≡ treatment (Some command.now) }
+fn treatment_by(target: &Target, command: &Command) -> Option<Treatment>
+    ensures value { option_map treatment_of result ≡ treatment (Some command.now) }
+    ensures target { IfSome result (λ how. how.target ≡ target.now) }
 {
     match command {
         Command::Pipe {
@@ -50,6 +51,7 @@ fn treatment_by(command: &Command) -> Option<Treatment>
             mask,
             ..
         } => Some(Treatment {
+            target: *target,
             pipe: *number,
             weight: Weight::new(1).unwrap(),
             mask: *mask,
@@ -66,6 +68,7 @@ fn treatment_by(command: &Command) -> Option<Treatment>
             mask,
             ..
         } => Some(Treatment {
+            target: *target,
             pipe: *pipe,
             weight: *weight,
             mask: *mask,
@@ -137,10 +140,11 @@ impl Configured {
 
     /// How packets to a target are treated, where it is configured.
     pub fn treatment(&self, target: Target) -> Option<Treatment>
-        ensures { option_map treatment_of result ≡ treatment (settings_of self.now target) }
+        ensures value { option_map treatment_of result ≡ treatment (settings_of self.now target) }
+        ensures target { IfSome result (λ how. how.target ≡ target) }
     {
         match self.command(target) {
-            Some(command) => treatment_by(command),
+            Some(command) => treatment_by(&target, command),
             None => None,
         }
     }

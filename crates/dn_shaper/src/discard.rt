@@ -2,29 +2,29 @@ ghost use Rattle.std.specs.Prelude.{◌≡◌, ℕ, ◌+◌, ◌<◌, ◌≤◌,
 ghost use Rattle.dn_flows.specs.Table.{flow_at};
 ghost use Rattle.dn_shaper.specs.Agreement.{Agrees};
 ghost use Rattle.dn_shaper.specs.Arriving.{KeepsFlows};
-ghost use Rattle.dn_shaper.specs.Discarding.{Discards, DiscardsAt, Leaves, OnlyEmpties};
+ghost use Rattle.dn_shaper.specs.Discarding.{Discards, DiscardsAt, HoldsCount, Leaves, LosesCount, OnlyEmpties};
 ghost use Rattle.dn_shaper.specs.NextStarts.{next_at, is_backlogged};
 ghost use Rattle.dn_shaper.specs.Starting.{Within};
-ghost use Rattle.dn_shaper.specs.Views.{LinkView, next_starts, view_of, views_of};
+ghost use Rattle.dn_shaper.specs.Views.{LinkView, IsAlone, next_starts, view_of, views_of};
 
 use crate::next_start::NextStart;
 use crate::parts::{Carries, Home, LinkParts, Parts};
 use dn_heap::RunHeap;
 
-/// The packets at the slot, so many, no longer wait for the link.
-fn leave_link(link: &mut LinkParts, slot: usize, count: usize)
-    requires { count ≤ link.old.waiting }
-    ensures { Leaves slot count (view_of link.old) (view_of link.new) }
+/// The packets at the slot no longer wait for the link, where it is shared. Those of an own link wait
+/// in its flow's queue alone.
+fn leave_link(link: &mut LinkParts, slot: usize)
+    ensures { (before after : ℕ → ℕ) (count : ℕ) → LosesCount slot count before after (view_of before link.old) (view_of before link.old).link → Leaves slot count (view_of before link.old) (view_of after link.new) }
 {
     if let Carries::Shared(shared) = &mut link.carries {
         shared.sched.discard(slot);
     }
-    link.waiting -= count;
 }
 
 /// Discards the packets of the flow, which never start.
 fn empty_flow(parts: &mut Parts, home: Home, flow: usize, count: usize)
-    requires at { (v : LinkView) × (slice_get (views_of parts.old) home.place ≡ Some v) × (count ≤ v.waits) }
+    requires at { (v : LinkView) × (slice_get (views_of parts.old) home.place ≡ Some v) × HoldsCount home.slot count v v.link }
+    requires alone { IsAlone flow home.place (views_of parts.old) }
     requires within { flow < length parts.old.flows.flows }
     requires all { count ≡ length (flow_at parts.old.flows.flows flow).backlog }
     requires few { (flow_at parts.old.flows.flows flow).discarded + length (flow_at parts.old.flows.flows flow).backlog ≤ 2 ^ 62 }
@@ -32,7 +32,7 @@ fn empty_flow(parts: &mut Parts, home: Home, flow: usize, count: usize)
     ensures { DiscardsAt home flow parts.old parts.new }
 {
     let link = &mut parts.links[home.place];
-    leave_link(link, home.slot, count);
+    leave_link(link, home.slot);
     parts.flows.discard(flow);
     parts.waiting -= count;
 }
@@ -59,7 +59,7 @@ fn has_backlog(parts: &Parts, place: usize) -> bool
     ensures { result ≡ is_some (next_at (next_starts (views_of parts.now)) place) }
 {
     match parts.links.get(place) {
-        Some(link) => link.waiting > 0,
+        Some(link) => link.has_backlog(&parts.flows),
         None => false,
     }
 }

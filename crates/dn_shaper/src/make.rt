@@ -6,7 +6,7 @@ ghost use Rattle.dn_flows.specs.Table.{flow_at, IsUnused};
 ghost use Rattle.dn_shaper.specs.Agreement.{link_names};
 ghost use Rattle.dn_shaper.specs.Homing.{GivesHome, Houses, IsNewLink, KeepsHeap, KeepsLinks, OnlyReserves, Opens, Shares, TakesSlot, NotesFor, place_for, without_last};
 ghost use Rattle.dn_shaper.specs.Making.{KeepsLink};
-ghost use Rattle.dn_shaper.specs.Views.{view_of, views_of};
+ghost use Rattle.dn_shaper.specs.Views.{queue_lengths, view_of, views_of};
 
 use crate::next_start::NextStart;
 use crate::parts::{Carries, Home, LinkParts, SharedLink};
@@ -18,11 +18,12 @@ use dn_types::{FlowKey, Target};
 use std::alloc::{AllocError, Global};
 
 /// A new flow takes the next slot of a shared link, with room for a packet.
+#[tactic(auto, using(crate::proofs::Scheduled::waits_roomy))]
 fn take_slot(link: &mut LinkParts, flow: usize) -> Result<usize, AllocError>
-    requires is_shared { (pipe : ℕ) × ((view_of link.old).link ≡ shared_link pipe) }
-    ensures slot { IfOk result (λ slot. slot ≡ length (view_of link.old).slots) }
-    ensures takes { OnOk result (TakesSlot flow (view_of link.old) (view_of link.new)) }
-    ensures refused { OnErr result (KeepsLink (view_of link.old) (view_of link.new)) }
+    requires is_shared { (queues : ℕ → ℕ) × (pipe : ℕ) × ((view_of queues link.old).link ≡ shared_link pipe) }
+    ensures slot { (queues : ℕ → ℕ) → IfOk result (λ slot. slot ≡ length (view_of queues link.old).slots) }
+    ensures takes { (queues : ℕ → ℕ) → OnOk result (TakesSlot flow (view_of queues link.old) (view_of queues link.new)) }
+    ensures refused { (queues : ℕ → ℕ) → OnErr result (KeepsLink (view_of queues link.old) (view_of queues link.new)) }
 {
     match &mut link.carries {
         Carries::Own(_) => unreachable!(),
@@ -32,9 +33,9 @@ fn take_slot(link: &mut LinkParts, flow: usize) -> Result<usize, AllocError>
 
 /// A new flow gets its home on the link at the place, which is shared.
 fn share_link(links: &mut Vec<LinkParts>, place: usize, flow: usize) -> Result<Home, AllocError>
-    requires is_shared { (pipe : ℕ) × (slice_get (link_names (map view_of links.old.items)) place ≡ Some (shared_link pipe)) }
-    ensures shares { IfOk result (λ home. Shares flow place home (map view_of links.old.items) (map view_of links.new.items)) }
-    ensures refused { OnErr result (KeepsLinks (map view_of links.old.items) (map view_of links.new.items)) }
+    requires is_shared { (queues : ℕ → ℕ) × (pipe : ℕ) × (slice_get (link_names (map (view_of queues) links.old.items)) place ≡ Some (shared_link pipe)) }
+    ensures shares { (queues : ℕ → ℕ) → IfOk result (λ home. Shares flow place home (map (view_of queues) links.old.items) (map (view_of queues) links.new.items)) }
+    ensures refused { (queues : ℕ → ℕ) → OnErr result (KeepsLinks (map (view_of queues) links.old.items) (map (view_of queues) links.new.items)) }
 {
     let slot = take_slot(&mut links[place], flow)?;
     Ok(Home { place, slot })
@@ -43,7 +44,7 @@ fn share_link(links: &mut Vec<LinkParts>, place: usize, flow: usize) -> Result<H
 /// A link on which nothing has started, for a new flow with the key, with room for a packet: one of
 /// its own, or the one that the queues on its pipe share from now on.
 fn new_link(alloc: Global, key: &FlowKey, flow: usize) -> Result<LinkParts, AllocError>
-    ensures { IfOk result (λ made. IsNewLink (link_of key.now.target flow key.now.pipe) flow (view_of made)) }
+    ensures { (queues : ℕ → ℕ) → queues flow ≡ 0 → IfOk result (λ made. IsNewLink (link_of key.now.target flow key.now.pipe) flow (view_of queues made)) }
 {
     let carries = match key.target {
         Target::Pipe(_) => Carries::Own(flow),
@@ -56,7 +57,6 @@ fn new_link(alloc: Global, key: &FlowKey, flow: usize) -> Result<LinkParts, Allo
     Ok(LinkParts {
         pipe: key.pipe,
         times: Link::new(),
-        waiting: 0,
         carries,
     })
 }
@@ -70,7 +70,7 @@ fn make_link(
     key: &FlowKey,
     flow: usize,
 ) -> Result<Home, AllocError>
-    ensures opens { IfOk result (λ home. Opens (link_of key.now.target flow key.now.pipe) flow home (map view_of links.old.items) (map view_of links.new.items) heap.new) }
+    ensures opens { (queues : ℕ → ℕ) → queues flow ≡ 0 → IfOk result (λ home. Opens (link_of key.now.target flow key.now.pipe) flow home (map (view_of queues) links.old.items) (map (view_of queues) links.new.items) heap.new) }
     ensures notes { IfOk result (λ home. NotesFor key.now.target key.now.pipe home.place shared.old shared.new) }
     ensures heap { KeepsHeap heap.old heap.new }
     ensures refused { OnErr result (links.new.items ≡ links.old.items) }
@@ -95,10 +95,10 @@ fn find_home(
     key: &FlowKey,
     flow: usize,
 ) -> Result<Home, AllocError>
-    requires noted { (place : ℕ) → place_for key.now shared.old ≡ Some place → slice_get (link_names (map view_of links.old.items)) place ≡ Some (shared_link key.now.pipe) }
-    ensures houses { IfOk result (λ home. Houses (place_for key.now shared.old) key.now flow home (map view_of links.old.items) (map view_of links.new.items) heap.new shared.old shared.new) }
+    requires noted { (queues : ℕ → ℕ) × ((place : ℕ) → place_for key.now shared.old ≡ Some place → slice_get (link_names (map (view_of queues) links.old.items)) place ≡ Some (shared_link key.now.pipe)) }
+    ensures houses { (queues : ℕ → ℕ) → queues flow ≡ 0 → IfOk result (λ home. Houses (place_for key.now shared.old) key.now flow home (map (view_of queues) links.old.items) (map (view_of queues) links.new.items) heap.new shared.old shared.new) }
     ensures heap { KeepsHeap heap.old heap.new }
-    ensures refused { OnErr result (KeepsLinks (map view_of links.old.items) (map view_of links.new.items)) }
+    ensures refused { (queues : ℕ → ℕ) → OnErr result (KeepsLinks (map (view_of queues) links.old.items) (map (view_of queues) links.new.items)) }
     ensures unnoted { OnErr result (shared.new ≡ shared.old) }
 {
     match shared.place_for(key) {
@@ -110,6 +110,7 @@ fn find_home(
 /// Gives the last flow, which is new, its home, with room for a packet.
 fn make_home(state: &mut State, alloc: Global, key: &FlowKey, flow: usize) -> Result<(), AllocError>
     requires within { flow < length state.old.parts.flows.flows }
+    requires empty { queue_lengths state.old.parts.flows.flows flow ≡ 0 }
     requires few { state.old.parts.waiting < 2 ^ 62 }
     requires noted { (place : ℕ) → place_for key.now state.old.shared ≡ Some place → slice_get (link_names (views_of state.old.parts)) place ≡ Some (shared_link key.now.pipe) }
     ensures gives { OnOk result (GivesHome key.now flow state.old state.new) }

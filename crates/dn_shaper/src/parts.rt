@@ -1,7 +1,7 @@
-ghost use Rattle.std.specs.Prelude.{◌≡◌, ◌<◌, [], ◌∷◌, ◌++◌, length, IfOk, OnErr, OnOk};
+ghost use Rattle.std.specs.Prelude.{◌≡◌, ◌<◌, [], ◌∷◌, ◌++◌, length, nat_lt, IfOk, OnErr, OnOk};
 ghost use Rattle.dn_wf2q.specs.Schedule.{room_at};
 ghost use Rattle.dn_shaper.specs.Making.{OnlyRoom};
-ghost use Rattle.dn_shaper.specs.Views.{no_schedule};
+ghost use Rattle.dn_shaper.specs.Views.{no_schedule, queue_lengths, view_of};
 
 use dn_flows::Flows;
 use dn_link::{DelayLine, Link};
@@ -50,6 +50,15 @@ impl SharedLink {
         self.flows.push_reserved(flow);
         Ok(slot)
     }
+
+    /// Makes room for one more packet at the slot.
+    pub fn reserve_slot(&mut self, slot: usize) -> Result<(), AllocError>
+        ensures room { OnOk result (0 < room_at self.new.sched.room slot) }
+        ensures only { OnlyRoom self.old.sched self.new.sched }
+        ensures flows { self.new.flows ≡ self.old.flows }
+    {
+        self.sched.reserve_flow(slot)
+    }
 }
 
 /// Whose packets a link carries: one flow's, or those of all queues on the pipe.
@@ -60,14 +69,27 @@ pub enum Carries {
     Shared(Box<SharedLink>),
 }
 
-/// A link, and the count of the packets that wait for it.
+/// A link. It has no count of the packets that wait for it: those of an own link wait in its flow's
+/// queue, and those of a shared one in its scheduler. So a packet that joins others on an own link
+/// leaves the link as it is.
 #[derive(Drop)]
 pub struct LinkParts {
     pub pipe: Number,
     /// From when it is free, and when its last packet was due.
     pub times: Link,
-    pub waiting: usize,
     pub carries: Carries,
+}
+
+impl LinkParts {
+    /// Whether a packet waits for the link.
+    pub fn has_backlog(&self, flows: &Flows) -> bool
+        ensures { result ≡ nat_lt 0 (view_of (queue_lengths flows.now.flows) self.now).waits }
+    {
+        match &self.carries {
+            Carries::Own(flow) => flows.has_backlog(*flow),
+            Carries::Shared(shared) => !shared.sched.is_idle(),
+        }
+    }
 }
 
 /// All that packets change: the flows with their queues, the links in order of first sight, and the

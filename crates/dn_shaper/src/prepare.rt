@@ -5,6 +5,7 @@ ghost use Rattle.dn_shaper.specs.Agreement.{AgreesWith};
 ghost use Rattle.dn_shaper.specs.Making.{KeepsCalls, Prepares, Reserves};
 ghost use Rattle.dn_shaper.specs.Standing.{IsSound};
 ghost use Rattle.dn_shaper.specs.Starting.{IsReady};
+ghost use Rattle.dn_shaper.specs.Submitting.{GoesTo};
 
 use crate::make::house_last;
 use crate::reserve::reserve_known;
@@ -21,6 +22,7 @@ pub fn prepare(state: &mut State, alloc: Global, key: FlowKey) -> Result<usize, 
     ensures number { IfOk result (λ flow. flow ≡ flow_number state.old.parts.flows.keys key) }
     ensures within { IfOk result (λ flow. flow < length state.new.parts.flows.keys) }
     ensures keys { OnOk result (state.new.parts.flows.keys ≡ with_key key state.old.parts.flows.keys) }
+    ensures goes { IfOk result (λ flow. GoesTo flow key.target state.new.parts) }
     ensures ready { IfOk result (λ flow. IsReady flow state.new.parts) }
     ensures prepares { IfOk result (λ flow. Prepares flow state.old.parts state.new.parts) }
     ensures refused { OnErr result (Reserves state.old.parts state.new.parts) }
@@ -30,7 +32,7 @@ pub fn prepare(state: &mut State, alloc: Global, key: FlowKey) -> Result<usize, 
     let known = state.parts.flows.len();
     let flow = state.parts.flows.find_or_make(key)?;
     if flow < known {
-        reserve_known(&mut state.parts, flow)?;
+        reserve_known(&mut state.parts, flow, &key.target)?;
     } else {
         house_last(state, alloc, &key, flow)?;
     }

@@ -35,7 +35,7 @@ fn settle_one(
     let rates = configured.rates(parts.links[place].pipe);
     start_next(parts, place, moment, &rates);
     let link = &parts.links[place];
-    if link.waiting > 0 {
+    if link.has_backlog(&parts.flows) {
         let moment = link.times.free();
         heap.push_reserved(NextStart { moment, place });
     }

@@ -1,7 +1,7 @@
 ghost use Rattle.std.specs.Prelude.{◌≡◌, ℕ, ◌+◌, ◌*◌, ◌^◌, ◌<◌, ◌≤◌, slice_get, slice_set, length};
 ghost use Rattle.dn_types.specs.Deliveries.{in_order};
 ghost use Rattle.dn_types.specs.Links.{transmission_time, due_by};
-ghost use Rattle.dn_shaper.specs.Views.{view_of, TakesNext, CanSend};
+ghost use Rattle.dn_shaper.specs.Views.{queue_lengths, view_of, TakesNext, CanSend};
 ghost use Rattle.dn_shaper.specs.Agreement.{Agrees};
 ghost use Rattle.dn_shaper.specs.Starting.{HasFront, Starts, KeepsSchedule, Within, CanStart, StartsAt};
 
@@ -19,9 +19,9 @@ pub struct Rates {
 
 /// The flow whose packet the link sends next. On a shared link that is the scheduler's pick.
 fn next_flow(link: &mut LinkParts) -> usize
-    requires { CanSend (view_of link.old) (view_of link.old).link }
-    ensures takes { TakesNext result (view_of link.old) (view_of link.new) }
-    ensures keeps { KeepsSchedule (view_of link.old) (view_of link.new) }
+    requires { (queues : ℕ → ℕ) × CanSend (view_of queues link.old) (view_of queues link.old).link }
+    ensures takes { (before after : ℕ → ℕ) → TakesNext result (view_of before link.old) (view_of after link.new) }
+    ensures keeps { (before after : ℕ → ℕ) → KeepsSchedule (view_of before link.old) (view_of after link.new) }
 {
     match &mut link.carries {
         Carries::Own(flow) => *flow,
@@ -74,15 +74,14 @@ fn start_one(
     flows: &mut Flows,
     line: &mut DelayLine,
 )
-    requires some { 0 < link.old.waiting }
-    requires sends { CanSend (view_of link.old) (view_of link.old).link }
-    requires front { HasFront (view_of link.old) flows.old.flows }
+    requires sends { CanSend (view_of (queue_lengths flows.old.flows) link.old) (view_of (queue_lengths flows.old.flows) link.old).link }
+    requires front { HasFront (view_of (queue_lengths flows.old.flows) link.old) flows.old.flows }
     requires free { link.old.times.free ≤ moment }
     requires early { moment ≤ 2 ^ 62 }
     requires room { 0 < line.old.room }
     requires pushed { line.old.pushed < 2 ^ 62 }
-    ensures starts { Starts rule rates.now.bandwidth rates.now.delay moment (view_of link.old) flows.old.flows line.old.pending (view_of link.new) flows.new.flows line.new.pending }
-    ensures keeps { KeepsSchedule (view_of link.old) (view_of link.new) }
+    ensures starts { Starts rule rates.now.bandwidth rates.now.delay moment (view_of (queue_lengths flows.old.flows) link.old) flows.old.flows line.old.pending (view_of (queue_lengths flows.new.flows) link.new) flows.new.flows line.new.pending }
+    ensures keeps { KeepsSchedule (view_of (queue_lengths flows.old.flows) link.old) (view_of (queue_lengths flows.new.flows) link.new) }
     ensures keys { flows.new.keys ≡ flows.old.keys }
     ensures room { line.new.room + 1 ≡ line.old.room }
     ensures pushed { line.new.pushed ≡ line.old.pushed + 1 }
@@ -90,7 +89,6 @@ fn start_one(
     let flow = next_flow(link);
     let packet = flows.pop_front(flow).unwrap();
     send(rule, rates, &mut link.times, flow, packet, moment, line);
-    link.waiting -= 1;
 }
 
 /// The next packet of the link at the place is sent at the moment.

@@ -4,7 +4,7 @@ ghost use Rattle.dn_shaper.specs.Arriving.{KeepsFlows};
 ghost use Rattle.dn_shaper.specs.Settings.{settings_of};
 ghost use Rattle.dn_shaper.specs.Settling.{IsKept};
 ghost use Rattle.dn_shaper.specs.Starting.{IsReady, Within};
-ghost use Rattle.dn_shaper.specs.Submitting.{CanSee, Sees, Answers, treatment_of};
+ghost use Rattle.dn_shaper.specs.Submitting.{CanSee, GoesTo, Sees, Answers, treatment_of};
 ghost use Rattle.dn_heap.specs.Heap.{Heap as HeapValue};
 ghost use Rattle.dn_shaper.specs.declared.next_start.NextStart.{NextStart as NextStartValue};
 
@@ -58,6 +58,7 @@ pub fn submit(
 ) -> Reply
     requires kept { IsKept parts.old heap.old }
     requires within { flow < length parts.old.flows.keys }
+    requires goes { GoesTo flow how.now.target parts.old }
     requires ready { IsReady flow parts.old }
     requires early { at ≤ 2 ^ 62 }
     requires few { (n : ℕ) × (n < 2 ^ 62) × Within n parts.old }
@@ -80,7 +81,7 @@ pub fn submit(
             Reply::Full { at, flow }
         }
         Verdict::Take => {
-            let packet = accept(parts, heap, configured, flow, packet.len, how.weight, at);
+            let packet = accept(parts, heap, configured, flow, packet.len, how, at);
             Reply::Queued { at, flow, packet }
         }
     }

@@ -43,7 +43,7 @@ fn send_packet(
             Ok(Reply::NoTarget { at })
         }
         Some(how) => {
-            let flow = prepare(state, alloc, how.key(*target, packet))?;
+            let flow = prepare(state, alloc, how.key(packet))?;
             let reply = submit(
                 &mut state.parts,
                 &mut state.heap,

@@ -1,8 +1,9 @@
 -- The flow's packets leave its link.
-use Rattle.std.proofs.Common.{ℕ, ap, arith}
+use Rattle.std.proofs.Common.{ℕ, ap, arith, subst, sym}
 use Rattle.std.proofs.lemmas.Grind.{common_steps}
 use Rattle.dn_types.specs.declared.flow_status.FlowStatus.{FlowStatus}
-use Rattle.dn_shaper.proofs.Discarding.{home-of, few-there, is-home, enough, enough-all, discards-agree, discards-within, discards-keeps, discards-empties}
+use Rattle.dn_shaper.specs.Discarding.{HoldsCount}
+use Rattle.dn_shaper.proofs.Discarding.{home-of, few-there, is-home, holds, alone, enough-all, discards-agree, discards-within, discards-keeps, discards-empties}
 use Rattle.dn_flows.proofs.Places.{get-below, get-read}
 use Rattle.dn_shaper.proofs.discard.discard_flow.Goals as goal
 
@@ -19,7 +20,14 @@ empty_flow-requires-clause-at c =
     let at_home = get-read c.args.parts.now.homes.items c.args.flow c.index-home.result.now lt c.index-home.ensures in
     let is = is-home c.args.parts.now c.requires.agrees c.requires.few c.args.flow c.requires.within c.index-home.result.now at_home in
     let q = ap {B = ℕ} (λ (s : FlowStatus). s.queued) c.status-count.ensures.value in
-    let e = enough c.args.parts.now c.requires.agrees c.requires.few c.args.flow c.requires.within c.index-home.result.now at_home in (is.view, is.there, omega arith)
+    (is.view, is.there, subst (λ (n : ℕ). HoldsCount c.index-home.result.now.slot n is.view is.view.link) (sym q) (holds c.args.parts.now c.requires.agrees c.requires.few c.args.flow c.requires.within c.index-home.result.now at_home))
+
+pub empty_flow-requires-clause-alone : goal.empty_flow-requires-clause-alone
+empty_flow-requires-clause-alone c =
+    let t = home-of c.args.parts.now c.requires.agrees c.requires.few c.args.flow c.requires.within in
+    let lt = get-below c.args.parts.now.homes.items c.args.flow t.0 t.1 in
+    let at_home = get-read c.args.parts.now.homes.items c.args.flow c.index-home.result.now lt c.index-home.ensures in
+    alone c.args.parts.now c.requires.agrees c.requires.few c.args.flow c.requires.within c.index-home.result.now at_home
 
 pub empty_flow-requires-clause-waiting : goal.empty_flow-requires-clause-waiting
 empty_flow-requires-clause-waiting c =

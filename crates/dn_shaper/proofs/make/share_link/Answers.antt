@@ -10,21 +10,27 @@ use Rattle.dn_shaper.proofs.Sharing.{on-err, read-name, read-view}
 use Rattle.dn_shaper.proofs.make.share_link.Goals as goal
 
 pub take_slot-requires : goal.take_slot-requires
-take_slot-requires c = record { is_shared = (c.requires.is_shared.0, read-name c.args.links.now.items c.args.place (shared c.requires.is_shared.0) c.index_mut.result.now c.requires.is_shared.1 c.index_mut.ensures.value) }
+take_slot-requires c =
+    let is = c.requires.is_shared in
+    record { is_shared = (is.0, is.1, read-name is.0 c.args.links.now.items c.args.place (shared is.1) c.index_mut.result.now is.2 c.index_mut.ensures.value) }
 
 pub returns-clause-shares : goal.returns-clause-shares
-returns-clause-shares c = record {
-  view = view_of c.index_mut.result.now;
-  view' = view_of c.take_slot.new.link;
-  there = read-view c.args.links.now.items c.args.place (shared c.requires.is_shared.0) c.index_mut.result.now c.requires.is_shared.1 c.index_mut.ensures.value;
-  views_are = map-set view_of c.args.links.now.items c.args.place c.take_slot.new.link;
-  takes = c.in_ok-slot.ensures.takes;
-  place_is = refl;
-  slot_is = c.in_ok-slot.ensures.slot;
-}
+returns-clause-shares c queues =
+    let is = c.requires.is_shared in
+    record {
+      view = view_of queues c.index_mut.result.now;
+      view' = view_of queues c.take_slot.new.link;
+      there = read-view is.0 c.args.links.now.items c.args.place (shared is.1) c.index_mut.result.now is.2 c.index_mut.ensures.value queues;
+      views_are = map-set (view_of queues) c.args.links.now.items c.args.place c.take_slot.new.link;
+      takes = c.in_ok-slot.ensures.takes queues;
+      place_is = refl;
+      slot_is = c.in_ok-slot.ensures.slot queues;
+    }
 
 pub returns-in_err-slot-clause-refused : goal.returns-in_err-slot-clause-refused
-returns-in_err-slot-clause-refused c = on-err c.from_residual.result (λ place.
-    subst (λ (vs : List LinkView). KeepsAt (slice_get (map view_of c.args.links.now.items) place) (slice_get vs place)) (sym (map-set view_of c.args.links.now.items c.args.place c.take_slot.new.link))
-    (link-reserved (map view_of c.args.links.now.items) c.args.place (view_of c.index_mut.result.now) (view_of c.take_slot.new.link)
-    (read-view c.args.links.now.items c.args.place (shared c.requires.is_shared.0) c.index_mut.result.now c.requires.is_shared.1 c.index_mut.ensures.value) c.in_err-slot.ensures.refused place))
+returns-in_err-slot-clause-refused c queues =
+    let is = c.requires.is_shared in
+    on-err c.from_residual.result (λ place.
+    subst (λ (vs : List LinkView). KeepsAt (slice_get (map (view_of queues) c.args.links.now.items) place) (slice_get vs place)) (sym (map-set (view_of queues) c.args.links.now.items c.args.place c.take_slot.new.link))
+    (link-reserved (map (view_of queues) c.args.links.now.items) c.args.place (view_of queues c.index_mut.result.now) (view_of queues c.take_slot.new.link)
+    (read-view is.0 c.args.links.now.items c.args.place (shared is.1) c.index_mut.result.now is.2 c.index_mut.ensures.value queues) (c.in_err-slot.ensures.refused queues) place))

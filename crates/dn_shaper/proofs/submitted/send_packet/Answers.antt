@@ -1,6 +1,7 @@
 -- What the verdict makes of the parts, or what they stay where memory is refused.
 use Rattle.std.proofs.Common.{◌∙◌, ap}
-use Rattle.dn_types.specs.Flows.{flow_number, treatment, with_key}
+use Rattle.dn_types.specs.Flows.{flow_number, key_of, treatment, with_key}
+use Rattle.dn_types.specs.declared.target.Target.{Target}
 use Rattle.dn_wf2q.proofs.Reserved.{on_err_always}
 use Rattle.dn_shaper.specs.declared.state.State.{State}
 use Rattle.dn_shaper.specs.Settings.{settings_of}
@@ -18,12 +19,13 @@ pub returns-in_ok-flow-in-Some-clause-does : goal.returns-in_ok-flow-in-Some-cla
 returns-in_ok-flow-in-Some-clause-does c =
     let new : State = record { parts = c.submit-reply.new.parts; heap = c.submit-reply.new.heap; shared = c.prepare.new.state.shared; configured = c.prepare.new.state.configured; now = c.prepare.new.state.now; calls = c.prepare.new.state.calls } in
     let made = c.in_ok-flow-in-Some.ensures in
+    let key_is = c.key.ensures ∙ ap (λ (t : Target). key_of t c.args.packet.now.tuple (treatment_of c.in-Some.how)) c.in-Some.ensures.target in
     submits-does c.args.state.now new c.args.target.now c.args.packet.now c.args.at c.submit-reply.result c.prepare.ensures.keeps.configured c.prepare.ensures.keeps.calls
     (submits-some c.args.target.now c.args.packet.now (treatment_of c.in-Some.how) c.args.at c.in_ok-flow-in-Some.flow c.args.state.now c.prepare.new.state c.submit-reply.new.parts c.submit-reply.result
-    (made.number ∙ ap (flow_number c.args.state.now.parts.flows.keys) c.key.ensures)
-    (made.keys ∙ ap (λ k. with_key k c.args.state.now.parts.flows.keys) c.key.ensures)
+    (made.number ∙ ap (flow_number c.args.state.now.parts.flows.keys) key_is)
+    (made.keys ∙ ap (λ k. with_key k c.args.state.now.parts.flows.keys) key_is)
     made.prepares c.prepare.ensures.keeps c.submit-reply.ensures.keeps c.submit-reply.ensures.answers
-    (treatment (settings_of c.args.state.now.configured c.args.target.now)) c.in-Some.ensures)
+    (treatment (settings_of c.args.state.now.configured c.args.target.now)) c.in-Some.ensures.value)
 
 pub returns-in_ok-flow-in-Some-clause-sound : goal.returns-in_ok-flow-in-Some-clause-sound
 returns-in_ok-flow-in-Some-clause-sound c =
