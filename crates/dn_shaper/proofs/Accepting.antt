@@ -1,5 +1,5 @@
 -- A packet is accepted: what that needs, and a heap with one key more.
-use Rattle.std.proofs.Common.{◌≡◌, ◌∙◌, ◌≤◌, ◌<◌, ◌⊎◌, ◌^◌, ℕ, zero, suc, ◌+◌, Bool, true, false, cond, List, [], ◌∷◌, map, set, refl, ap, sym, subst, length, arith, ⊎_elim, inl, inr, IsPermutation, slice_index_or, get_or-set_same, get_or-set_other}
+use Rattle.std.proofs.Common.{◌≡◌, ◌∙◌, ◌≤◌, ◌<◌, ◌⊎◌, ◌^◌, ℕ, zero, suc, ◌+◌, Bool, true, false, cond, List, [], ◌∷◌, set, refl, ap, sym, subst, length, arith, inl, inr, IsPermutation, slice_index_or, get_or-set_same, get_or-set_other}
 use Rattle.std.specs.Prelude.{Option, Some, None, is_some, nat_lt, slice_get}
 use Rattle.std.proofs.lemmas.Bool.{cases_eq}
 use Rattle.std.proofs.lemmas.Bool.Decides.{nat_tests}
@@ -8,23 +8,18 @@ use Rattle.std.proofs.lemmas.List.Sorted.{All-permutation}
 use Rattle.std.proofs.lemmas.List.Sums.{sum_by-cons}
 use Rattle.dn_heap.specs.Heap.{Heap}
 use Rattle.dn_types.specs.Configuration.{Settings}
-use Rattle.dn_types.specs.SharedLinks.{waiting}
-use Rattle.dn_types.specs.Trace.{Link, own, shared, Accepted}
-use Rattle.dn_types.specs.Wf2q.{Stamped, total}
-use Rattle.dn_wf2q.specs.Schedule.{Flow, flow_at as slot_at, IsIdle}
+use Rattle.dn_types.specs.Trace.{Link, own, shared}
 use Rattle.dn_shaper.specs.declared.next_start.NextStart.{NextStart}
 use Rattle.dn_shaper.specs.declared.parts.Home.{Home}
 use Rattle.dn_shaper.specs.declared.parts.Parts.{Parts}
-use Rattle.dn_shaper.specs.Agreement.{IsHomeOf, IsScheduleAt}
+use Rattle.dn_shaper.specs.Agreement.{IsHomeOf}
 use Rattle.dn_shaper.specs.Arriving.{CanJoin, CanAccept}
 use Rattle.dn_shaper.specs.NextStarts.{next_at, standing, Holds, one_backlogged, backlogged}
 use Rattle.dn_shaper.specs.Settling.{IsKept}
 use Rattle.dn_shaper.specs.Starting.{Within, IsReady}
-use Rattle.dn_shaper.specs.Views.{LinkView, IsAlone, views_of, home, stamped_of, at_slot, next_start_of}
+use Rattle.dn_shaper.specs.Views.{LinkView, IsAlone, views_of, home, next_start_of}
 use Rattle.dn_shaper.proofs.Alone.{is-alone}
 use Rattle.dn_shaper.proofs.NextStarts.{same_place, other_place, pushed, none_standing}
-use Rattle.dn_shaper.proofs.Heads.{slot_or}
-use Rattle.dn_shaper.proofs.Waiting.{empty-all, total-same}
 
 pub within-more : (n m : ℕ) (p : Parts) → n ≤ m → Within n p → Within m p
 within-more n m p le w = record {
@@ -119,32 +114,12 @@ module _ (settings : Settings) (at flow : ℕ) (p : Parts) (heap : Heap NextStar
     is-home = let both : Some home-there.0 ≡ Some h = sym home-there.1 ∙ at_home in let same : home-there.0 ≡ h = cc in subst (λ (x : Home). IsHomeOf flow (home p.flows.keys flow) (views_of p) x) same home-there.2
 
     module _ (v : LinkView) (there : slice_get (views_of p) h.place ≡ Some v) where
-      idle-schedule : (pipe : ℕ) → v.link ≡ shared pipe → v.waits ≡ 0 → IsIdle v.schedule.flows
-      idle-schedule pipe is zero_waits =
-          total-same (length v.schedule.flows) (λ slot. []) (λ slot. (slot_at v.schedule.flows slot).backlog) (λ slot. ⊎_elim (given slot) (beyond slot) (slot_or v.slots slot)) ∙ none (length v.schedule.flows)
-        where
-          c : IsScheduleAt v.link can.1 v.schedule v.slots
-          c = (can.2.views_are h.place v there).schedule_is pipe is
-
-          z : waiting v.link can.1 ≡ 0
-          z = sym (can.2.views_are h.place v there).waits_are ∙ zero_waits
-
-          given : (slot : ℕ) → (f : ℕ) × (slice_get v.slots slot ≡ Some f) → length (slot_at v.schedule.flows slot).backlog ≡ 0
-          given slot g = ap {B = ℕ} (λ (q : List Stamped). length q) ((c.slots_are slot g.0 g.1).backlog_is ∙ ap (λ (q : List Accepted). map (at_slot slot) (stamped_of q)) (empty-all v.link can.1 z g.0))
-
-          beyond : (slot : ℕ) → length v.slots ≤ slot → length (slot_at v.schedule.flows slot).backlog ≡ 0
-          beyond slot le = ap {B = ℕ} (λ (f : Flow). length f.backlog) (c.beyond slot le)
-
-          none : (n : ℕ) → total {X = Stamped} n (λ slot. []) ≡ 0
-          none zero = refl
-          none (suc n) = let r = none n in omega arith
-
       pub can-join : CanJoin h.slot v v.link
       can-join = by v.link refl
         where
           by : (l : Link) → v.link ≡ l → CanJoin h.slot v l
           by (own pipe f) is = tt
-          by (shared pipe) is = (ready.slot h v pipe at_home there is, (let a = few.2.arrivals h.place v there in let b = few.1 in omega arith), idle-schedule pipe is)
+          by (shared pipe) is = (ready.slot h v pipe at_home there is, let a = few.2.arrivals h.place v there in let b = few.1 in omega arith)
 
       pub alone : IsAlone flow h.place (views_of p)
       alone =

@@ -8,16 +8,16 @@ use Rattle.dn_types.specs.Starts.{next_start}
 use Rattle.dn_types.specs.Trace.{Link, own, shared, Event, links, with_link}
 use Rattle.dn_types.specs.declared.packet.Packet.{Packet}
 use Rattle.dn_flows.specs.Table.{flow_at, pushed}
-use Rattle.dn_wf2q.specs.Schedule.{Flow, Schedule, room_at, IsIdle, waiting_of, forgotten, after_arrival}
+use Rattle.dn_wf2q.specs.Schedule.{Flow, Schedule, room_at, waiting_of, forgotten, after_arrival}
 use Rattle.dn_shaper.specs.declared.parts.Home.{Home}
 use Rattle.dn_shaper.specs.declared.parts.Parts.{Parts}
 use Rattle.dn_shaper.specs.Views.{LinkView, views_of, home}
 use Rattle.dn_shaper.specs.Agreement.{AgreesWith, link_names}
 
--- The scheduler of a shared link can take a packet at the slot, and is idle where no packet waits for the link.
+-- The scheduler of a shared link can take a packet at the slot.
 abbrev pub CanJoin : ℕ → LinkView → Link → Type 0
 CanJoin slot v (own pipe f) = Unit {0}
-CanJoin slot v (shared pipe) = (0 < room_at v.schedule.room slot) × (v.schedule.arrivals < 2 ^ 62) × (v.waits ≡ 0 → IsIdle v.schedule.flows)
+CanJoin slot v (shared pipe) = (0 < room_at v.schedule.room slot) × (v.schedule.arrivals < 2 ^ 62)
 
 -- Whether no packet waits for the link and it is free by the moment.
 abbrev pub is_idle : ℕ → LinkView → Bool
