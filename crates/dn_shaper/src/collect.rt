@@ -7,6 +7,8 @@ ghost use Rattle.dn_types.specs.declared.rule.Rule.{Rule as RuleValue};
 
 use dn_link::DelayLine;
 use dn_types::Delivery;
+use std::alloc::Global;
+use std::mem;
 
 /// Takes the packets that are due at the moment out of the delay line, in order. The list has room
 /// for all that are under way.
@@ -20,5 +22,16 @@ pub fn give(line: &mut DelayLine, at: u64, list: &mut Vec<Delivery>)
 {
     while let Some(delivery) = line.pop_due(at) {
         list.push_reserved(delivery);
+    }
+}
+
+/// A copy of the list in no more memory than it needs. Where that is refused, the answer is the list
+/// itself, and the next one is gathered in other memory.
+pub fn own_list(given: &mut Vec<Delivery>, alloc: Global) -> Vec<Delivery>
+    ensures { result.items ≡ given.old.items }
+{
+    match Vec::from_slice(alloc, given) {
+        Ok(list) => list,
+        Err(_) => mem::replace(given, Vec::new(alloc)),
     }
 }

@@ -55,7 +55,7 @@ pub fn discard_flow(parts: &mut Parts, flow: usize)
 }
 
 /// Whether a packet waits for the link at the place.
-fn has_backlog(parts: &Parts, place: usize) -> bool
+pub fn has_backlog(parts: &Parts, place: usize) -> bool
     ensures { result ≡ is_some (next_at (next_starts (views_of parts.now)) place) }
 {
     match parts.links.get(place) {

@@ -12,6 +12,7 @@ mod make;
 mod next_start;
 mod parts;
 mod prepare;
+mod read_ahead;
 mod reserve;
 mod runs;
 mod settle;

@@ -10,11 +10,12 @@ ghost use Rattle.dn_types.specs.declared.rule.Rule.TheVariants.{Ordered};
 ghost use Rattle.dn_shaper.specs.Shaper.{CanNeedMemory, StandsAfter, held, items_in};
 
 use crate::configure::configure;
+use crate::read_ahead::ReadAhead;
 use crate::show::show;
 use crate::state::{State, new_state};
 use crate::submitted::submit_call;
 use crate::timed::{advance, collect};
-use dn_types::{Call, Reply, Rule};
+use dn_types::{Call, Delivery, Reply, Rule};
 use std::alloc::{AllocError, Global};
 use std::marker::Model;
 
@@ -28,6 +29,10 @@ const CALL_LIMIT: u64 = 1 << 62;
 #[derive(Drop)]
 pub struct Shaper {
     state: State,
+    /// What a Collect gathers its deliveries in, whose memory serves the next one.
+    given: Vec<Delivery>,
+    /// What the last Submit read ahead.
+    ahead: ReadAhead,
     alloc: Global,
 }
 
@@ -60,6 +65,8 @@ impl Shaper {
     {
         Shaper {
             state: new_state(alloc, rule),
+            given: Vec::new(alloc),
+            ahead: ReadAhead::new(),
             alloc,
         }
     }
@@ -83,9 +90,18 @@ impl Shaper {
                 target,
                 packet,
                 moment,
-            } => submit_call(&mut self.state, self.alloc, *target, packet, *moment),
+            } => submit_call(
+                &mut self.state,
+                &mut self.ahead,
+                self.alloc,
+                *target,
+                packet,
+                *moment,
+            ),
             Call::Advance(moment) => Ok(advance(&mut self.state, *moment)),
-            Call::Collect(moment) => collect(&mut self.state, self.alloc, *moment),
+            Call::Collect(moment) => {
+                collect(&mut self.state, &mut self.given, self.alloc, *moment)
+            }
             Call::Show => show(&mut self.state, self.alloc),
         }
     }
