@@ -2,6 +2,10 @@
 """Runs the built shaper_bench again and again, and tells for each load the least and the median of a Submit and of its
 share of the Collects, in ns a packet, and how many times one link's cost a packet at 16,384 links has.
 
+A run stays on one processor, the next run on the next one, and takes the cost at one link before and after the other loads: the
+processors of a virtual machine can be threads of cores whose other threads have other users, and then one of them is half as fast as
+another, or as itself a second later. So runs in which the two costs at one link differ by more than a tenth are told, and left out.
+
 usage: bench/shaper_series.py ROUNDS RUNS     (after bench/shaper.sh, which proves and builds the program)
 """
 import os
@@ -12,32 +16,46 @@ import sys
 
 PROGRAM = os.path.join(os.path.dirname(__file__), "..", "crates", "shaper_bench", "out", "shaper_bench")
 LINE = re.compile(r"(.*): (\d+) ns and (\d+) ns for the Collects of \d+ rounds")
+ONE, MANY = "one flow of a pipe", "16,384 links"
+LOADS = range(5)
 
 
-def one_run(rounds):
-    """The costs of a packet of each load, a Submit and its share of the Collects."""
-    done = subprocess.run([PROGRAM, str(rounds)], capture_output=True, text=True, check=True)
-    lines = filter(None, map(LINE.match, done.stderr.splitlines()))
+def cost(rounds, load):
+    """The name of a load, and what a packet costs: a Submit, and its share of the Collects."""
+    done = subprocess.run([PROGRAM, str(rounds), str(load)], capture_output=True, text=True, check=True)
+    name, submits, collects = LINE.match(done.stderr).groups()
     packets = 1000 * rounds
-    return {line[1]: (int(line[2]) / packets, int(line[3]) / packets) for line in lines}
+    return name, (int(submits) / packets, int(collects) / packets)
+
+
+def one_run(rounds, processor):
+    """The costs of each load by one processor, and one link's cost again afterwards."""
+    os.sched_setaffinity(0, {processor})
+    costs = dict(cost(rounds, load) for load in LOADS)
+    return costs, cost(rounds, 0)[1]
+
+
+def tell_loads(runs):
+    """The least and the median of each load."""
+    for load in runs[0][0]:
+        submits, shares = zip(*(costs[load] for costs, _ in runs))
+        print(f"{load}: least {min(submits):.0f} + {min(shares):.0f},"
+              f" median {statistics.median(submits):.0f} + {statistics.median(shares):.0f}")
 
 
 def main():
     if len(sys.argv) != 3:
         sys.exit(__doc__)
     rounds, count = int(sys.argv[1]), int(sys.argv[2])
-    runs = [one_run(rounds) for _ in range(count)]
-    for load in runs[0]:
-        submits = [run[load][0] for run in runs]
-        shares = [run[load][1] for run in runs]
-        print(f"{load}: least {min(submits):.0f} + {min(shares):.0f},"
-              f" median {statistics.median(submits):.0f} + {statistics.median(shares):.0f}")
-    for what, cost in [("a Submit", lambda pair: pair[0]), ("a Submit and its share", sum)]:
-        one = [cost(run["one flow of a pipe"]) for run in runs]
-        many = [cost(run["16,384 links"]) for run in runs]
-        within = sum(b <= 4 * a for a, b in zip(one, many))
-        print(f"{what}, 16,384 links to one: least {min(many) / min(one):.2f},"
-              f" median {statistics.median(many) / statistics.median(one):.2f}, at most 4 in {within} of {count} runs")
+    processors = sorted(os.sched_getaffinity(0))
+    runs = [one_run(rounds, processors[i % len(processors)]) for i in range(count)]
+    steady = [(costs, after) for costs, after in runs if 0.9 < sum(costs[ONE]) / sum(after) < 1.1]
+    if not steady:
+        sys.exit("no run was steady: its two costs at one link differ by more than a tenth")
+    tell_loads(steady)
+    times = [2 * sum(costs[MANY]) / (sum(costs[ONE]) + sum(after)) for costs, after in steady]
+    print(f"16,384 links to one: least {min(times):.2f}, median {statistics.median(times):.2f}, most {max(times):.2f},"
+          f" at most 4 in {sum(ratio <= 4 for ratio in times)} of {len(steady)} steady runs of {count}")
 
 
 if __name__ == "__main__":

@@ -3,8 +3,9 @@ use crate::next_start::NextStart;
 use crate::parts::Parts;
 use dn_heap::RunHeap;
 
-/// With fewer links, all that a Submit reads is in a near cache.
-const MANY_LINKS: usize = 1_000;
+/// With fewer links, all that a Submit reads is in a near cache: a link with its flow and packets takes
+/// some 256 bytes, and a second level has 1 MiB and more.
+const MANY_LINKS: usize = 4_096;
 
 /// What was read ahead of its use. Nothing depends on it: it is kept since a read whose value goes
 /// nowhere isn't made.
