@@ -2,9 +2,9 @@
 """Runs the built shaper_bench again and again, and tells for each load the least and the median of a Submit and of its
 share of the Collects, in ns a packet, and how many times one link's cost a packet at 16,384 links has.
 
-A run stays on one processor, the next run on the next one, and takes the cost at one link before and after the other loads: the
-processors of a virtual machine can be threads of cores whose other threads have other users, and then one of them is half as fast as
-another, or as itself a second later. So runs in which the two costs at one link differ by more than a tenth are told, and left out.
+A run stays on one processor, the next run on the next one, and takes the cost at one link just before and after that at 16,384 links:
+the processors of a virtual machine can be threads of cores whose other threads have other users, and then one of them is half as
+fast as another, or as itself a second later. So runs in which the two costs at one link differ by more than a tenth are left out.
 
 usage: bench/shaper_series.py ROUNDS RUNS     (after bench/shaper.sh, which proves and builds the program)
 """
@@ -17,7 +17,7 @@ import sys
 PROGRAM = os.path.join(os.path.dirname(__file__), "..", "crates", "shaper_bench", "out", "shaper_bench")
 LINE = re.compile(r"(.*): (\d+) ns and (\d+) ns for the Collects of \d+ rounds")
 ONE, MANY = "one flow of a pipe", "16,384 links"
-LOADS = range(5)
+OTHER_LOADS = [1, 2, 4]
 
 
 def cost(rounds, load):
@@ -29,10 +29,12 @@ def cost(rounds, load):
 
 
 def one_run(rounds, processor):
-    """The costs of each load by one processor, and one link's cost again afterwards."""
+    """The costs of each load by one processor, and one link's cost again after that at 16,384 links."""
     os.sched_setaffinity(0, {processor})
-    costs = dict(cost(rounds, load) for load in LOADS)
-    return costs, cost(rounds, 0)[1]
+    costs = dict(cost(rounds, load) for load in [0, 3])
+    after = cost(rounds, 0)[1]
+    costs.update(cost(rounds, load) for load in OTHER_LOADS)
+    return costs, after
 
 
 def tell_loads(runs):
