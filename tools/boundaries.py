@@ -26,7 +26,7 @@ CALLERS = {
         "new": ["state::new_state"],
         "reserve": ["make::make_link"],
         "push_reserved": ["accept::accept", "settle::settle_one"],
-        "peek": ["settle::settle_one"],
+        "peek": ["settle::settle_one", "read_ahead::read"],
         "pop": ["settle::settle_one"],
         "retain": ["discard::forget_emptied"],
     },
@@ -39,7 +39,7 @@ CALLERS = {
     },
     "dn_link link": {
         "new": ["make::new_link"],
-        "free": ["arrive::is_idle", "accept::accept", "settle::settle_one"],
+        "free": ["arrive::is_idle", "accept::accept", "settle::settle_one", "read_ahead::free_of"],
         "begin": ["start::send"],
         "deliver": ["start::send"],
     },
