@@ -14,6 +14,8 @@ use std::marker::Model;
 pub(crate) struct Pages {
     shaper: Shaper,
     history: Vec<Entry>,
+    /// For the copy of each reply that the history keeps.
+    room: Room,
 }
 
 /// The shaper, with the history of all its calls. Contracts see the history, which is lawful, and after whose calls the
@@ -46,6 +48,7 @@ impl Book {
         let pages = Pages {
             shaper: Shaper::new(alloc),
             history: Vec::new(alloc),
+            room: Room::new(alloc),
         };
         Ok(Book {
             pages: Box::new(alloc, pages)?,
@@ -61,9 +64,9 @@ impl Book {
     {
         let pages = &mut *self.pages;
         pages.history.reserve(1)?;
-        let room = Room::reserve(*pages.history.allocator(), &call, pages.shaper.reply_room())?;
+        pages.room.reserve(&call, pages.shaper.reply_room())?;
         let reply = pages.shaper.apply(&call)?;
-        let copy = room.copy_of(&reply);
+        let copy = pages.room.copy_of(*pages.history.allocator(), &reply);
         pages.history.push_reserved(Entry {
             caller,
             call,
@@ -75,9 +78,14 @@ impl Book {
     pub(crate) fn into_history(self) -> Vec<Entry>
         ensures { result.items ≡ self }
     {
-        let Pages { shaper, history } = Box::into_inner(self.pages);
+        let Pages {
+            shaper,
+            history,
+            room,
+        } = Box::into_inner(self.pages);
         // The proof of a drop by a call has one step, where that of a drop at the end has one for each field.
         drop(shaper);
+        drop(room);
         history
     }
 }
