@@ -3,6 +3,6 @@
 # after it refused in turn: each run has to pass, since the refused call is made again and has left no trace.
 set -e
 cd "$(dirname "$0")/.."
-(cd crates/dn_service_examples && rt test -- memory_refuses)
-REFUSE_IN_A_ROW=2 exec tools/refused_growths.sh dn_service_examples one_caller::a_call_that_memory_refuses_leaves_no_trace \
+(cd crates/test_service && rt test -- memory_refuses)
+REFUSE_IN_A_ROW=2 exec tools/refused_growths.sh test_service one_caller::a_call_that_memory_refuses_leaves_no_trace \
     one_caller::a_try_that_memory_refuses_leaves_no_trace

@@ -104,7 +104,7 @@ fn twin(flows: usize, depth: u64, steps: u64) -> (u64, u64) {
 }
 
 unsafe extern "C" {
-    fn sched_bench(
+    fn bench_sched(
         flows: usize,
         depth: u64,
         steps: u64,
@@ -116,7 +116,7 @@ unsafe extern "C" {
 
 fn ours(flows: usize, depth: u64, steps: u64) -> (u64, u64) {
     let (mut order, mut virtual_time, mut refused) = (0, 0, 0);
-    assert!(unsafe { sched_bench(flows, depth, steps, &mut order, &mut virtual_time, &mut refused) });
+    assert!(unsafe { bench_sched(flows, depth, steps, &mut order, &mut virtual_time, &mut refused) });
     (order, virtual_time)
 }
 

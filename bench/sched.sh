@@ -4,13 +4,13 @@
 set -e
 cd "$(dirname "$0")/.."
 kit=$(dirname "$(rt doc | tail -1)")
-(cd crates/sched_bench && rt lib)
-ours=crates/sched_bench/out/libsched_bench.a
+(cd crates/bench_sched && rt lib)
+ours=crates/bench_sched/out/libsched_bench.a
 work=$(mktemp -d)
 trap 'rm -rf "$work"' EXIT
 cc -O2 -o "$work/refused" bench/sched_refused.c tools/refused_growths.c "$ours" "$kit/c/liblibc_c.a" \
     -Wl,--wrap=rattle_alloc,--wrap=rattle_realloc
 "$work/refused"
-rustc --edition 2021 -O -o "$work/sched" bench/sched.rs -L native=crates/sched_bench/out -l static=sched_bench \
+rustc --edition 2021 -O -o "$work/sched" bench/sched.rs -L native=crates/bench_sched/out -l static=bench_sched \
     -L native="$kit/c" -l static=libc_c
 "$work/sched" "${1:-10}"

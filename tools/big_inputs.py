@@ -35,7 +35,7 @@ MASK = "mask src-ip 0xffffffff"
 TEN = 10 << 24  # the network 10.0.0.0
 
 
-def config_lines(rng: Random, form: str, flows: int, slots: int) -> list[str]:
+def check_lines(rng: Random, form: str, flows: int, slots: int) -> list[str]:
     weights = [rng.choice(WEIGHTS) for _ in range(flows)]
     share = max(BW // flows, 1)
     if form == "direct":
@@ -91,7 +91,7 @@ def arguments() -> argparse.Namespace:
 def main() -> None:
     a = arguments()
     rng = Random(a.seed)
-    config = as_bytes(config_lines(rng, a.form, a.flows, a.slots))
+    config = as_bytes(check_lines(rng, a.form, a.flows, a.slots))
     packets = as_bytes([PACKET_HEADER, *packet_lines(rng, a.form, a.flows, a.rows, a.load)])
     joined = config + b"--\n" + packets
     if len(joined) > LIMITS["input"] or len(config) > LIMITS["config"]:

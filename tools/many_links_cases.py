@@ -1,6 +1,6 @@
 """Writes one history with so many links that the shaper reads ahead, with the replies of tools/oracle/fast.py.
 
-    python3 tools/many_links_cases.py SEED PACKETS      (crates/dn_cases reads it, by `rt try` or as it is built)
+    python3 tools/many_links_cases.py SEED PACKETS      (crates/check_histories reads it, by `rt try` or as it is built)
 
 The packets go to the 16,384 flows of pipe 1, each with a link of its own, and one in ten to a queue on pipe 2. A link is
 made for each flow that is seen, so 20,000 packets make some 11,000. Collects, Advances and new bandwidths come in between,

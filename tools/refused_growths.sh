@@ -3,7 +3,7 @@
 # crate and then, if wanted, the tests that stand in for all: whole names, or `heap::` for those of a module. A test
 # passes if it tries a refused call again.
 # A Vec that is refused room for more asks again for just enough, which hides a refusal: REFUSE_IN_A_ROW=2 refuses both.
-# It takes what `rt test` has built. The tests of dn_examples tell where it was the shaper that was refused.
+# It takes what `rt test` has built. The tests of test_shaper tell where it was the shaper that was refused.
 set -e
 here=$(cd "$(dirname "$0")" && pwd)
 crate=$1

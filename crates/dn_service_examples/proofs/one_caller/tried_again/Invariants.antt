@@ -1,5 +1,0 @@
-use Rattle.dn_service.specs.Callers.{IsSameCaller}
-use Rattle.dn_service_examples.proofs.one_caller.tried_again.Given as goal
-
-abbrev pub invariant-loop : goal.invariant-loop
-invariant-loop g l = IsSameCaller l.initial.caller l.caller
