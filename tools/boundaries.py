@@ -8,7 +8,8 @@ functions, no two of which are called by the same function of dn_shaper. So a go
 since a function's own goals are tried also where it calls one that isn't proved. With words, only the clauses are tried whose
 crate, function or name holds one of them. For each clause it prints `refused` with a goal of dn_shaper that isn't proved without
 it; `below` where already the crate of the clause fails; and `not used` where all still proves: then nothing that is proved of
-the shaper rests on the clause. docs/BOUNDARIES.md lists what came of it.
+the shaper rests on the clause. At the end all of it is a table in out/boundaries.md, which git ignores, and
+docs/ARCHITECTURE.md says what came of it.
 
 dn_shaper gets a copy of dn_heap of its own, `heap_of_links`, since dn_link and dn_wf2q stand on that crate too.
 """
@@ -20,6 +21,7 @@ import subprocess
 import sys
 
 HEAP = "heap_of_links"
+TABLE = pathlib.Path(__file__).resolve().parent.parent / "out" / "boundaries.md"
 # The functions of dn_shaper that call a function of a crate below, by file.
 CALLERS = {
     f"{HEAP} run_heap": {
@@ -173,7 +175,21 @@ def check(copy):
     return verdicts, all_goals, failed, run.stdout + run.stderr
 
 
-def judge(copy, chosen):
+def tell(clause, outcome, told):
+    """Prints what became of a clause, and keeps it for the table."""
+    print(f"{clause}: {outcome}", flush=True)
+    told[clause] = outcome
+
+
+def write_table(told):
+    """The outcomes by crate, in the order of the sources."""
+    TABLE.parent.mkdir(exist_ok=True)
+    rows = sorted(told, key=lambda c: (c.crate, c.path, c.place))
+    lines = [f"| {c.crate} | `{c.path.stem}::{c.function}` | `{c.name}` | {told[c]} |" for c in rows]
+    TABLE.write_text("\n".join(["| Crate | Function | Clause | dn_shaper without it |", "|---|---|---|---|", *lines]) + "\n")
+
+
+def judge(copy, chosen, told):
     """Tries the clauses together; those of which nothing was learned come back."""
     kept = weaken(chosen)
     try:
@@ -185,19 +201,19 @@ def judge(copy, chosen):
         (copy / "boundaries.log").write_text(said)
     if (failed or not verdicts) and len(chosen) > 1:
         rest = [clause for clause in chosen if failed and clause.crate not in failed]
-        again = judge(copy, rest) if rest else []
+        again = judge(copy, rest, told) if rest else []
         return again + [clause for clause in chosen if clause not in rest]
     again = []
     for clause in chosen:
         words = [verdicts.get(caller, "proved") for caller in clause.callers]
         if failed or not verdicts:
-            print(f"{clause}: below, in {' '.join(sorted(set(failed)))}", flush=True)
+            tell(clause, f"below, in {' '.join(sorted(set(failed)))}", told)
         elif refused := [f for f, word in zip(clause.callers, words) if word in ("not proved", "no proof")]:
-            print(f"{clause}: refused at {refused[0]} {' '.join(goals[refused[0]][:2])}", flush=True)
+            tell(clause, f"refused at {refused[0]} {' '.join(goals[refused[0]][:2])}", told)
         elif "no proof: it calls" in words:
             again.append(clause)
         else:
-            print(f"{clause}: not used", flush=True)
+            tell(clause, "not used", told)
     return again
 
 
@@ -208,10 +224,12 @@ def main():
     # The first clause of each function comes first.
     numbered = sorted(clauses(copy), key=lambda it: it[0])
     left = [c for _, c in numbered if not words or any(word in str(c) for word in words)]
-    again = [clause for chosen in rounds(left) for clause in judge(copy, chosen)]
+    told = {}
+    again = [clause for chosen in rounds(left) for clause in judge(copy, chosen, told)]
     # What is left is mostly not used, so that nothing fails beside it now.
-    for clause in [clause for chosen in rounds(again) for clause in judge(copy, chosen)]:
-        judge(copy, [clause])
+    for clause in [clause for chosen in rounds(again) for clause in judge(copy, chosen, told)]:
+        judge(copy, [clause], told)
+    write_table(told)
 
 
 if __name__ == "__main__":
