@@ -3,9 +3,10 @@
     python3 tools/virtual_time_cost.py [PROGRAM]
 
 The rules differ in one line. Here virtual time grows after a pick by the packet's length over the sum of the weights of the
-*heads*; in WF2Q+ as Bennett and Zhang have it (1997) it grows with time, at the link's rate over the sum of *all* weights, and
-is raised in the same way. Each scenario is replayed by the program (./dummynet without an argument), and by a model of one link
-below with either rule. By this project's rule the model has to give the program's due moments, row by row; else the status is 1.
+*heads*; in WF2Q+ as Bennett and Zhang have it (1997) it grows with time, at the link's rate over the sum of *all* weights, which
+over a packet's transmission is its length over that sum. Each scenario is replayed by the program (./dummynet where none is
+named), and by a model of one link below with either rule. By this project's rule the model has to give the program's due
+moments, row by row; else the status is 1.
 
 The table that it prints has, for each scenario, the longest time from a packet's submission to the end of its transmission, over
 all packets of the flows watched: by the program, by the papers' virtual time, and the bound of WF2Q+, which is the packet's bits
