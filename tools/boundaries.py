@@ -53,7 +53,7 @@ CALLERS = {
         "forget_last": ["make::house_last"],
         "key": ["configure::discard_flows"],
         "status": ["discard::discard_flow", "show::statuses"],
-        "has_backlog": ["parts::has_backlog", "accept::accept"],
+        "has_backlog": ["link_parts::has_backlog", "accept::accept"],
         "verdict": ["judge::judge"],
         "reserve_place": ["make::make_home", "reserve::reserve_known"],
         "push_reserved": ["arrive::join_queue"],
