@@ -1,0 +1,168 @@
+"""Writes the examples: for each a configuration, a packet file, and the report by the independent reference.
+
+    python3 tools/examples.py FOLDER
+
+The files of examples/ but for first.txt and README.md are `python3 tools/examples.py examples`. The random words and the
+jitter come from a generator that is seeded by the example's name and SEED, so they are the same in each run.
+"""
+
+from __future__ import annotations
+
+import sys
+from io import BytesIO
+from pathlib import Path
+from random import Random
+from typing import Callable, Iterator, NamedTuple
+
+sys.path.insert(0, str(Path(__file__).parent / "oracle"))
+
+from files import PACKET_HEADER  # noqa: E402
+from program import outcome  # noqa: E402
+
+MS = 1_000_000
+# One by which the mobile link loses as many packets as its rate says.
+SEED = 2
+
+
+class Sender(NamedTuple):
+    """Where a stream of packets goes, and its addresses, protocol and ports."""
+
+    target: str
+    tuple: str
+
+
+class Packet(NamedTuple):
+    moment: int
+    sender: Sender
+    len: int
+
+
+class Example(NamedTuple):
+    """A name, configuration lines, and the packets of some streams."""
+
+    name: str
+    config: str
+    packets: Callable[[Random], Iterator[Packet]]
+
+
+def to_pipe(number: int, host: int, port: int = 443, proto: int = 6) -> Sender:
+    return Sender(f"pipe,{number}", f"192.168.1.{host},203.0.113.9,{proto},{40000 + host},{port}")
+
+
+def to_queue(number: int, host: int, port: int = 443, proto: int = 6) -> Sender:
+    return Sender(f"queue,{number}", to_pipe(1, host, port, proto).tuple)
+
+
+def stream(rng: Random, sender: Sender, count: int, first: int, gap: int, length: int, jitter: int = 0) -> Iterator[Packet]:
+    """Packets of one length, one every `gap` ns from `first` on, each up to `jitter` ns later."""
+    for i in range(count):
+        yield Packet(first + i * gap + (rng.getrandbits(32) % jitter if jitter else 0), sender, length)
+
+
+def burst(sender: Sender, count: int, moment: int, length: int) -> Iterator[Packet]:
+    """Packets that are sent at once."""
+    for _ in range(count):
+        yield Packet(moment, sender, length)
+
+
+def dsl(rng: Random) -> Iterator[Packet]:
+    yield from stream(rng, to_pipe(1, 10), 120, 0, MS, 1500, MS // 4)
+    yield from stream(rng, to_pipe(2, 10), 60, 0, 2 * MS, 52, MS // 4)
+    yield from stream(rng, to_pipe(2, 11), 20, 10 * MS, 12 * MS, 1500)
+
+
+def cable(rng: Random) -> Iterator[Packet]:
+    for turn in range(4):
+        yield from burst(to_pipe(1, 10), 40, turn * 10 * MS, 1500)
+    yield from stream(rng, to_pipe(2, 10), 40, 0, MS, 52, MS // 10)
+
+
+def satellite(rng: Random) -> Iterator[Packet]:
+    yield from stream(rng, to_pipe(1, 10), 100, 0, 7 * MS, 1500, MS)
+    yield from stream(rng, to_pipe(1, 11, 5004, 17), 60, 0, 20 * MS, 200, MS)
+
+
+def mobile(rng: Random) -> Iterator[Packet]:
+    yield from stream(rng, to_pipe(1, 10), 200, 0, 2 * MS, 1400, 2 * MS)
+
+
+def bulk_and_voice(send: Callable[[int, int, int, int], Sender]) -> Callable[[Random], Iterator[Packet]]:
+    def packets(rng: Random) -> Iterator[Packet]:
+        yield from burst(send(1, 10, 443, 6), 40, 0, 1500)
+        yield from stream(rng, send(1, 10, 443, 6), 90, 6 * MS, 6 * MS, 1500, MS)
+        yield from stream(rng, send(1, 20, 5004, 17), 30, 5 * MS, 20 * MS, 200)
+
+    return packets
+
+
+def weights(rng: Random) -> Iterator[Packet]:
+    for number in (1, 2, 3):
+        yield from stream(rng, to_queue(number, 10 * number), 60, 0, MS, 1000, MS // 10)
+
+
+def byte_limit(rng: Random) -> Iterator[Packet]:
+    for turn in range(6):
+        yield from burst(to_pipe(1, 10), 10, turn * 40 * MS, 1500)
+    yield from stream(rng, to_pipe(1, 11, 53, 17), 120, MS, 2 * MS, 80)
+
+
+def policed(rng: Random) -> Iterator[Packet]:
+    yield from stream(rng, to_pipe(1, 10), 120, 0, 2 * MS, 1000, MS)
+    for turn in range(4):
+        yield from burst(to_pipe(1, 11), 10, (20 + 60 * turn) * MS, 1000)
+
+
+def leased(rng: Random) -> Iterator[Packet]:
+    for pipe in (1, 2):
+        yield from stream(rng, to_pipe(pipe, 10 * pipe, 5004, 17), 90, 0, 5 * MS, 1024)
+
+
+def unlimited(rng: Random) -> Iterator[Packet]:
+    for turn in range(5):
+        yield from burst(to_pipe(1, 10), 20, turn * 3 * MS, 1500)
+
+
+EXAMPLES = (
+    Example("dsl", "# A DSL line: 16 Mbit/s towards the house, 1 Mbit/s from it\n"
+            "pipe 1 config bw 16Mbit/s delay 12ms queue 60\npipe 2 config bw 1Mbit/s delay 12ms queue 30\n", dsl),
+    Example("cable", "# A cable modem: 100 Mbit/s down, 10 Mbit/s up, queues by bytes\n"
+            "pipe 1 config bw 100Mbit/s delay 8ms queue 50Kbytes\npipe 2 config bw 10Mbit/s delay 8ms queue 50Kbytes\n", cable),
+    Example("satellite", "# One way over a geostationary satellite\npipe 1 config bw 2Mbit/s delay 270ms queue 40\n", satellite),
+    Example("mobile", "# A mobile link that loses two packets in a hundred, by their random words\n"
+            "pipe 1 config bw 12Mbit/s delay 35ms queue 100 plr 0.02\n", mobile),
+    Example("bufferbloat", "# A long queue that an upload and a call share\npipe 1 config bw 2Mbit/s delay 10ms queue 100\n",
+            bulk_and_voice(to_pipe)),
+    Example("fair", "# The cure: a queue for each sender, by a mask, and each has its share\npipe 1 config bw 2Mbit/s delay 10ms\n"
+            "queue 1 config pipe 1 queue 100 mask src-ip 0xffffffff\n", bulk_and_voice(to_queue)),
+    Example("weights", "# Three classes share 6 Mbit/s as 3 : 2 : 1\npipe 1 config bw 6Mbit/s\nqueue 1 config pipe 1 weight 3 queue 100\n"
+            "queue 2 config pipe 1 weight 2 queue 100\nqueue 3 config pipe 1 weight 1 queue 100\n", weights),
+    Example("bytes", "# A queue of 8 Kbytes: it takes a packet while what waits isn't more than that\n"
+            "pipe 1 config bw 4Mbit/s queue 8Kbytes\n", byte_limit),
+    Example("policed", "# An uplink that holds nothing back: one packet may wait\npipe 1 config bw 5Mbit/s queue 1\n", policed),
+    Example("leased", "# A leased line of 2,048 kbit/s each way\npipe 1 config bw 2048Kbit/s delay 3ms\n"
+            "pipe 2 config bw 2048Kbit/s delay 3ms\n", leased),
+    Example("unlimited", "# Delay alone: no bandwidth, so no packet waits\npipe 1 config delay 100ms\n", unlimited),
+)
+
+
+def rows(example: Example) -> str:
+    """The packet file: rows by moment, each with its random word."""
+    rng = Random(f"{example.name}, {SEED}")
+    packets = sorted(example.packets(rng), key=lambda packet: packet.moment)
+    lines = [f"{p.moment},{p.sender.target},{p.sender.tuple},{p.len},{rng.getrandbits(32)}" for p in packets]
+    return "".join(f"{line}\n" for line in [PACKET_HEADER, *lines])
+
+
+def main(folder: str) -> None:
+    place = Path(folder)
+    for example in EXAMPLES:
+        (place / f"{example.name}.config").write_text(example.config)
+        (place / f"{example.name}.csv").write_text(rows(example))
+        done = outcome(["replay", f"{example.name}.config", f"{example.name}.csv"], BytesIO(), place)
+        if done.status:
+            sys.exit(f"{example.name}: {done.stderr.decode()}")
+        (place / f"{example.name}.report").write_bytes(done.stdout)
+
+
+if __name__ == "__main__":
+    main(*sys.argv[1:])
