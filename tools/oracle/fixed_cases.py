@@ -167,6 +167,7 @@ AUDITS = {
 }
 
 # Command lines that give nothing to do.
-USAGES = (("replay",), ("replay", "c"), ("replay", "c", "p", "q"), ("nothing",), ("--nothing",), ("--help",), ("replay", "--help"),
+USAGES = (("replay",), ("replay", "c"), ("replay", "c", "p", "q"), ("nothing",), ("--nothing",), ("--help",), ("--version",), ("replay", "--help"),
+          ("replay", "c", "p", "--history", "c"), ("replay", "c", "p", "--history", "p"),
           ("audit",), ("audit", "c", "p"), ("audit", "--history", "c"), ("audit", "--help"),
           *(("replay", "c", "p", "--callers", n) for n in ("0", "17", "x", "1.5", "18446744073709551616")), ("replay", "c", "p", "--callers"))

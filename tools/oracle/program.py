@@ -101,7 +101,8 @@ def audited(path: Path) -> Outcome:
 
 
 def asked(words: list[str]) -> Optional[tuple[list[str], Optional[str]]]:
-    """The two files of a replay and the file of its history, or None where the words ask for no replay."""
+    """The two files of a replay and the file of its history, or None where the words ask for no replay, or for one that would
+    write over what it reads."""
     options: dict[str, Optional[str]] = {"--callers": "1", "--history": None}
     paths: list[str] = []
     rest = iter(words[1:])
@@ -115,14 +116,15 @@ def asked(words: list[str]) -> Optional[tuple[list[str], Optional[str]]]:
             paths.append(word)
     callers = options["--callers"]
     is_count = callers is not None and callers.isascii() and callers.isdigit() and 1 <= int(callers) <= MAX_CALLERS
-    return (paths, options["--history"]) if words[:1] == ["replay"] and len(paths) == 2 and is_count else None
+    is_apart = options["--history"] not in paths
+    return (paths, options["--history"]) if words[:1] == ["replay"] and len(paths) == 2 and is_count and is_apart else None
 
 
 def replayed(words: list[str], stdin: BinaryIO, folder: Path) -> Outcome:
     """The report of a replay, where the words ask for one. Several callers are replayed as one is: what they do in turn is theirs."""
     replay = asked(words)
     if words and replay is None:
-        return Outcome(b"", b"", 0 if "--help" in words else USAGE)
+        return Outcome(b"", b"", USAGE if {"--help", "--version"}.isdisjoint(words) else 0)
     if replay is None:
         return reported(replay_joined(stdin), folder, None)
     (config, packets), file = replay

@@ -2,9 +2,26 @@ use clap::builder::ValueParser;
 use clap::{Arg, Command, Error};
 use std::alloc::{AllocError, Global};
 
+// What `--version` tells: the version, and the kit with which it is proved and built.
+const VERSION: &str = "1.0.0 (rattle-kit-13f)";
+
+// What stands below the options in the help of the whole.
+const EXAMPLE: &str = "Example:
+  dummynet replay dsl.config dsl.csv --history dsl.history > dsl.report
+  dummynet audit dsl.history
+
+CONFIG has a line for each pipe or queue, as ipfw(8): pipe 1 config bw 8Mbit/s delay 20ms
+PACKETS is CSV with a header and a row for each packet that is sent
+HISTORY is what --history wrote: each call and the reply that it got
+The report on standard output tells for each packet when it left, or why it didn't.
+dummynet(1) and docs/FORMATS.md describe the files, the faults and the statuses.";
+
 // A file that has to be named.
-fn required<'a>(alloc: Global, name: &'a str, shown: &'a str) -> Arg<'a> {
-    Arg::new(alloc, name).value_name(shown).required(true)
+fn required<'a>(alloc: Global, name: &'a str, shown: &'a str, help: &'a str) -> Arg<'a> {
+    Arg::new(alloc, name)
+        .value_name(shown)
+        .required(true)
+        .help(help)
 }
 
 // How many callers replay.
@@ -21,15 +38,27 @@ fn history<'a>(alloc: Global) -> Arg<'a> {
     Arg::new(alloc, "history")
         .long("history")
         .value_name("FILE")
-        .help("Writes the calls and their replies to FILE, after the report")
+        .help(
+            "Writes the calls and their replies to FILE, after the report. FILE is made, or emptied if it is there",
+        )
 }
 
 // The command that replays two files.
 fn replay<'a>(alloc: Global) -> Result<Command<'a>, AllocError> {
     Command::new(alloc, "replay")
         .about("Replays a packet file through a configuration and writes the report")
-        .arg(required(alloc, "config", "CONFIG"))?
-        .arg(required(alloc, "packets", "PACKETS"))?
+        .arg(required(
+            alloc,
+            "config",
+            "CONFIG",
+            "The configuration: a line for each pipe or queue",
+        ))?
+        .arg(required(
+            alloc,
+            "packets",
+            "PACKETS",
+            "The packets: CSV, a row for each",
+        ))?
         .arg(callers(alloc))?
         .arg(history(alloc))
 }
@@ -38,7 +67,7 @@ fn replay<'a>(alloc: Global) -> Result<Command<'a>, AllocError> {
 fn audit<'a>(alloc: Global) -> Result<Command<'a>, AllocError> {
     Command::new(alloc, "audit")
         .about("Tells whether a history is lawful, or the first entry that differs")
-        .arg(required(alloc, "history", "HISTORY"))
+        .arg(required(alloc, "history", "HISTORY", "A file that --history wrote"))
 }
 
 /// The command line of the program.
@@ -46,7 +75,11 @@ pub fn command<'a>(alloc: Global) -> Result<Command<'a>, Error> {
     let replay = replay(alloc)?;
     let audit = audit(alloc)?;
     let all = Command::new(alloc, "dummynet")
-        .about("Emulates pipes and queues. Without arguments it replays one joined input")
+        .version(VERSION)
+        .about(
+            "Replays packets through emulated links. Without arguments it reads standard input: a configuration, a line --, and packets",
+        )
+        .after_help(EXAMPLE)
         .subcommand(replay)?
         .subcommand(audit)?;
     Ok(all)

@@ -2,14 +2,16 @@
 #![tactic(auto)]
 
 mod command;
+mod late_file;
 
 use clap::error::ErrorKind;
-use clap::{ArgMatches, Error};
+use clap::{ArgMatches, Command, Error};
 use command::command;
 use dn_records::{FromReader, FromWriter};
 use dn_replay::{
     NoGate, ReplayFault, Source, audit_file, replay, replay_callers, replay_joined, write_history,
 };
+use late_file::LateFile;
 use std::process::ExitCode;
 use std::rt::{Env, Files};
 use std::sync::Wait;
@@ -31,8 +33,8 @@ fn replay_input<R: Input + Print + AllocGlobal>(rt: &R) -> Result<(), ReplayFaul
 }
 
 /// From two files to standard output, by one caller or by as many as are asked for. Both files are opened
-/// before either is read. Where a third file is asked for, it is made, or emptied if it is there, after the
-/// report was written, and gets the history.
+/// before either is read. Where a third file is asked for, the history is written to it after the report, and
+/// the file is made, or emptied if it is there, once the text of the history stands whole in memory.
 fn replay_files<R: Files + Print + AllocGlobal + Threads + Wait + Sync>(
     rt: &R,
     found: &ArgMatches<'_>,
@@ -54,10 +56,11 @@ fn replay_files<R: Files + Print + AllocGlobal + Threads + Wait + Sync>(
     let Some(path) = found.get_str("history") else {
         return Ok(());
     };
-    let Ok(file) = fs::create(rt, path) else {
-        return Err(ReplayFault::Write(Source::History));
-    };
-    write_history(alloc, &entries, &mut FromWriter::new(file))
+    write_history(
+        alloc,
+        &entries,
+        &mut FromWriter::new(LateFile::new(rt, path)),
+    )
 }
 
 /// Audits the history in a file, and writes its verdict to standard output. Answers the verdict's status.
@@ -119,16 +122,37 @@ fn status_without_words(rt: &impl Eprint, error: &io::Error) -> u8 {
     USAGE
 }
 
+/// Whether the history is to go where the configuration or the packets are read from, by the same word.
+fn overwrites(matches: &ArgMatches<'_>) -> bool {
+    let Some(("replay", found)) = matches.subcommand() else {
+        return false;
+    };
+    let Some(history) = found.get_str("history") else {
+        return false;
+    };
+    [found.get_str("config"), found.get_str("packets")].contains(&Some(history))
+}
+
+/// What the words ask for, or why they aren't understood.
+fn understood<'a>(command: &mut Command<'a>, words: &'a [String]) -> Result<ArgMatches<'a>, Error> {
+    let matches = command.try_get_matches_from_mut(words)?;
+    if overwrites(&matches) {
+        let message = "--history FILE would overwrite CONFIG or PACKETS";
+        return Err(command.error(ErrorKind::ArgumentConflict, message)?);
+    }
+    Ok(matches)
+}
+
 /// Does what the words of the command line say, and answers the status.
 fn done_by_words<R>(rt: &R, words: &[String]) -> u8
 where
     R: Input + Files + Print + Eprint + AllocGlobal + Threads + Wait + Sync,
 {
-    let command = match command(rt.alloc()) {
+    let mut command = match command(rt.alloc()) {
         Ok(command) => command,
         Err(error) => return status_of_words(rt, &error),
     };
-    match command.try_get_matches_from(words) {
+    match understood(&mut command, words) {
         Ok(matches) => status_of(rt, run(rt, &matches)),
         Err(error) => status_of_words(rt, &error),
     }
