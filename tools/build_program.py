@@ -1,0 +1,216 @@
+"""Proves and builds the program, crates that don't need one another side by side, and puts it into built/.
+
+    python3 tools/build_program.py
+
+Two commands of rt never work in one crate's folder at once, and one that works on a crate holds the folders of those below it.
+So each crate is built in a folder of its own, outside the repository, which gets the built libraries of the crates below.
+What was proved is given to the repository's crates/*/out in the end, so that the next build begins with it. The program
+stands in built/SUM/dummynet, where SUM is the checksum of its sources (tools/program_sources). A failed build leaves what was
+built before as it was, answers status 70, and names the log of the crate that failed.
+"""
+
+from __future__ import annotations
+
+import fcntl
+import os
+import shutil
+import subprocess
+import sys
+import time
+from concurrent.futures import FIRST_COMPLETED, Future, ThreadPoolExecutor, wait
+from pathlib import Path
+from tempfile import mkdtemp
+
+TOP = Path(__file__).resolve().parent.parent
+BUILT = TOP / "built"
+PROGRAM = "dummynet"
+FAILED = 70
+LANES = max(1, min(4, len(os.sched_getaffinity(0))))
+# The minutes that a crate's first check took on four cores, of which the time that is left is told.
+MINUTES = {"dn_types": 2.3, "dn_text": 0.6, "dn_config": 2.0, "dn_records": 1.5, "dn_heap": 1.3, "dn_flows": 1.7, "dn_link": 1.2,
+           "dn_wf2q": 2.9, "dn_shaper": 3.7, "dn_service": 2.2, "dn_files": 2.6, "dn_replay": 5.5, PROGRAM: 4.7}
+
+
+class BuildFault(Exception):
+    """Why there is no program. Its text is one line for the user."""
+
+
+def say(text: str) -> None:
+    print(f"{PROGRAM}: {text}", file=sys.stderr, flush=True)
+
+
+def sources(word: str = "") -> str:
+    """The checksum of the sources, or the program's crates, lowest first, as tools/program_sources gives them."""
+    done = subprocess.run([TOP / "tools" / "program_sources", *filter(None, [word])], capture_output=True, text=True)
+    if done.returncode:
+        raise BuildFault(f"the sources can't be read: {done.stderr.strip()}")
+    return done.stdout.strip()
+
+
+def dependencies() -> dict[str, list[str]]:
+    """The program's crates, lowest first, each with those of them that it names in crates.txt."""
+    names = sources("--crates").split()
+    found: dict[str, list[str]] = {}
+    for line in (TOP / "crates.txt").read_text().splitlines():
+        name, _, below = line.partition("#")[0].partition(":")
+        found[name.strip()] = [word for word in below.split() if word in names]
+    return {name: found[name] for name in names}
+
+
+def minutes_left(below: dict[str, list[str]], started: dict[str, float], done: set[str]) -> float:
+    """The longest chain of crates that isn't built yet."""
+    ends: dict[str, float] = {}
+    for name, needs in below.items():
+        own = max(0.0, MINUTES.get(name, 1.0) - (time.monotonic() - started.get(name, time.monotonic())) / 60)
+        ends[name] = max((ends[need] for need in needs), default=0.0) + (0.0 if name in done else own)
+    return max(ends.values())
+
+
+class Builder:
+    """One build: its folder outside the repository, and what is proved in it."""
+
+    def __init__(self, work: Path, below: dict[str, list[str]]) -> None:
+        self.work, self.below = work, below
+        self.logs = BUILT / "log"
+        self.logs.mkdir(parents=True, exist_ok=True)
+
+    def all_below(self, name: str) -> list[str]:
+        """The crates that this one stands on, also through others."""
+        found = {need for direct in self.below[name] for need in (*self.all_below(direct), direct)}
+        return [other for other in self.below if other in found]
+
+    def folder(self, name: str) -> Path:
+        return self.work / name / "crates" / name
+
+    def prepare(self, name: str) -> None:
+        """The folder in which a crate is built: its sources and those below it, the libraries below, and what was kept here."""
+        place = self.work / name
+        members = [*self.all_below(name), name]
+        for member in members:
+            for part in ("src", "specs", "proofs", "stdin", "stdout"):
+                of = TOP / "crates" / member / part
+                if of.is_dir():
+                    shutil.copytree(of, place / "crates" / member / part)
+                elif of.is_file():
+                    shutil.copyfile(of, place / "crates" / member / part)
+        lines = [line for line in (TOP / "crates.txt").read_text().splitlines() if line.partition(":")[0].strip() in members]
+        (place / "crates.txt").write_text("".join(f"{line}\n" for line in lines))
+        shutil.copyfile(TOP / "HANDLES", place / "HANDLES")
+        for member in members[:-1]:
+            copied(self.folder(member) / "out" / "rlib", place / "crates" / member / "out" / "rlib")
+        for part in ("rlib", "incremental"):
+            copied(TOP / "crates" / name / "out" / part, self.folder(name) / "out" / part)
+
+    def build(self, name: str, jobs: int) -> bool:
+        """Proves and builds a crate, and answers whether it could."""
+        self.prepare(name)
+        words = ["rt", "run", "--jobs", str(jobs), "--", "--version"] if name == PROGRAM else ["rt", "lib", "--jobs", str(jobs)]
+        with open(self.logs / f"{name}.log", "w") as log:
+            done = subprocess.run(words, cwd=self.folder(name), stdin=subprocess.DEVNULL, stdout=log, stderr=subprocess.STDOUT)
+        return done.returncode == 0
+
+    def build_all(self) -> None:
+        """Builds each crate once those below it are built, as many side by side as there are processors."""
+        begun, started, done = time.monotonic(), {}, set()
+        running: dict[Future[bool], str] = {}
+        with ThreadPoolExecutor(LANES) as pool:
+            while len(done) < len(self.below):
+                ready = [n for n in self.below if n not in started and done.issuperset(self.below[n])][:LANES - len(running)]
+                jobs = max(1, LANES // max(1, len(running) + len(ready)))
+                for name in ready:
+                    started[name] = time.monotonic()
+                    running[pool.submit(self.build, name, jobs)] = name
+                for ended in wait(running, return_when=FIRST_COMPLETED).done:
+                    name = running.pop(ended)
+                    if not ended.result():
+                        raise BuildFault(f"{name} could not be built; what was said stands in {self.logs / name}.log")
+                    done.add(name)
+                    passed = (time.monotonic() - begun) / 60
+                    total = passed + minutes_left(self.below, started, done)
+                    say(f"{len(done)} of {len(self.below)} crates built ({name}), {passed:.1f} minutes of about {total:.0f}")
+
+    def give_back(self) -> None:
+        """What was proved goes to the repository, where the next build begins with it, unless rt works in the crate there."""
+        for name in self.below:
+            held = os.open(TOP / "crates" / name, os.O_RDONLY)
+            try:
+                fcntl.flock(held, fcntl.LOCK_EX | fcntl.LOCK_NB)
+                for part in ("rlib", "incremental"):
+                    made, to = self.folder(name) / "out" / part, TOP / "crates" / name / "out" / part
+                    if made.is_dir():
+                        shutil.rmtree(to, ignore_errors=True)
+                        copied(made, to)
+            except BlockingIOError:
+                pass
+            finally:
+                os.close(held)
+
+
+def link_or_copy(source: str, target: str) -> None:
+    """A second name for what was proved, which a check replaces and never changes; a copy of anything else, or on another disk."""
+    try:
+        if source.endswith(".oantt"):
+            os.link(source, target)
+            return
+    except OSError:
+        pass
+    shutil.copy2(source, target)
+
+
+def copied(one: Path, other: Path) -> None:
+    """Copies a folder, where it is there."""
+    if one.is_dir():
+        shutil.copytree(one, other, symlinks=True, copy_function=link_or_copy)
+
+
+def put_in_place(made: Path, target: Path) -> None:
+    """The new program, whole from its first moment, and then none of older sources."""
+    target.parent.mkdir(exist_ok=True)
+    room = target.parent / f"new-{os.getpid()}"
+    shutil.copyfile(made, room)
+    room.chmod(0o755)
+    room.replace(target)
+    for older in BUILT.glob(f"*/{PROGRAM}"):
+        if older != target:
+            shutil.rmtree(older.parent)
+
+
+def build() -> None:
+    """Builds the program, unless another build of the same sources ended meanwhile."""
+    if shutil.which("rt") is None:
+        raise BuildFault("the program can't be built: there is no `rt` on the path (Rattle's toolchain)")
+    asked = time.time()
+    with open(BUILT / "lock", "w") as lock:
+        fcntl.flock(lock, fcntl.LOCK_EX)
+        target = BUILT / sources() / PROGRAM
+        if target.exists() and target.stat().st_mtime > asked:
+            return
+        below = dependencies()
+        say(f"proving and building {len(below)} crates, logs in {BUILT / 'log'}")
+        work = Path(mkdtemp(prefix="hingetulip-build-"))
+        builder = Builder(work, below)
+        try:
+            builder.build_all()
+            if BUILT / sources() / PROGRAM != target:
+                raise BuildFault("the sources changed while the program was built; build it again")
+            put_in_place(builder.folder(PROGRAM) / "out" / PROGRAM, target)
+        finally:
+            builder.give_back()
+            shutil.rmtree(work, ignore_errors=True)
+
+
+def main() -> int:
+    BUILT.mkdir(exist_ok=True)
+    try:
+        build()
+    except BuildFault as fault:
+        say(str(fault))
+        return FAILED
+    except OSError as error:
+        say(f"the program could not be built: {error}")
+        return FAILED
+    return 0
+
+
+if __name__ == "__main__":
+    sys.exit(main())

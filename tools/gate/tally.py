@@ -1,0 +1,23 @@
+"""Counts what passed and what failed, and prints it as the last line of a part of the gate."""
+
+from __future__ import annotations
+
+
+class Tally:
+    def __init__(self) -> None:
+        self.passed = self.failed = 0
+
+    def note(self, name: str, *faults: str) -> None:
+        """One thing that was tried, and what is wrong with it, if anything."""
+        found = [fault for fault in faults if fault]
+        self.passed, self.failed = self.passed + (not found), self.failed + bool(found)
+        for fault in found:
+            print(f"{name}: {fault}", flush=True)
+
+    def equal(self, name: str, wanted: object, got: object) -> None:
+        self.note(name, "" if wanted == got else f"want {wanted!r}, got {got!r}")
+
+    def end(self) -> int:
+        """Prints the last line, and answers the status."""
+        print(f"{self.passed} passed, {self.failed} failed")
+        return 1 if self.failed else 0

@@ -1,0 +1,183 @@
+"""The scripts ./dummynet, ./build, tools/release and ./install, in copies of the repository with a toolchain that only pretends.
+
+    python3 tools/gate/wrapper.py PROGRAM
+
+The pretended `rt` proves nothing: it leaves the files that the real one leaves, and fails where it is told to. So which program
+runs, what is told, and what is left when a build fails is tried in seconds. The streams and statuses of the real program are
+tried through the real ./dummynet.
+"""
+
+from __future__ import annotations
+
+import os
+import re
+import shutil
+import subprocess
+import sys
+from pathlib import Path
+from tempfile import TemporaryDirectory
+
+from tally import Tally
+
+TOP = Path(__file__).resolve().parent.parent.parent
+SCRIPTS = ("dummynet", "build", "install", "tools/program_sources", "tools/build_program.py", "tools/release", "tools/completion.bash",
+           "docs/dummynet.1", "crates.txt", "HANDLES")
+PRETENDED = """#!/bin/sh
+crate=$(basename "$PWD")
+case $1 in
+version) echo 'rattle-kit-none logic 0'; exit ;;
+esac
+echo "$1 $crate" >>"$CALLS"
+[ "$crate" != "$FAILS" ] || { echo 'no proof'; exit 1; }
+mkdir -p out/rlib out/incremental
+for below in ../*; do [ -d "$below/out/rlib" ] || { echo "$below isn't built"; exit 1; }; done
+[ "$1" = lib ] || { printf '#!/bin/sh\\necho built "$@"\\n' >out/dummynet; chmod 755 out/dummynet; }
+"""
+RELEASE = "#!/bin/sh\necho release \"$@\"\n"
+
+
+class Copy:
+    """A copy of the repository's scripts and of the sources of the program and of one test crate."""
+
+    def __init__(self, place: str) -> None:
+        self.top, self.tools = Path(place) / "repo", Path(place) / "bin"
+        self.calls, self.temporary = Path(place) / "calls", Path(place) / "tmp"
+        self.temporary.mkdir()
+        for file in SCRIPTS:
+            (self.top / file).parent.mkdir(parents=True, exist_ok=True)
+            shutil.copy(TOP / file, self.top / file)
+        crates = subprocess.run([TOP / "tools" / "program_sources", "--crates"], capture_output=True, text=True, check=True).stdout.split()
+        for crate in [*crates, "test_parts"]:
+            shutil.copytree(TOP / "crates" / crate / "src", self.top / "crates" / crate / "src")
+        self.crates = crates
+        self.tools.mkdir()
+        (self.tools / "rt").write_text(PRETENDED)
+        (self.tools / "rt").chmod(0o755)
+
+    def run(self, *words: str, fails: str = "", has_rt: bool = True, script: str = "dummynet") -> subprocess.CompletedProcess[str]:
+        """Runs a script from another folder. Without `rt` the path has what the scripts themselves need, and no more."""
+        self.calls.write_text("")
+        path = os.environ["PATH"].split(":")
+        plain = [folder for folder in path if not (Path(folder) / "rt").exists()]
+        env = {**os.environ, "PATH": ":".join([str(self.tools)] * has_rt + plain), "CALLS": str(self.calls), "FAILS": fails,
+               "TMPDIR": str(self.temporary)}
+        return subprocess.run([str(self.top / script), *words], cwd="/", env=env, capture_output=True, text=True, stdin=subprocess.DEVNULL)
+
+    def sources(self) -> str:
+        return subprocess.run([self.top / "tools" / "program_sources"], capture_output=True, text=True, check=True).stdout
+
+    def release(self, sources: str) -> None:
+        (self.top / "release").mkdir(exist_ok=True)
+        (self.top / "release" / "dummynet").write_text(RELEASE)
+        (self.top / "release" / "dummynet").chmod(0o755)
+        (self.top / "release" / "sources").write_text(sources)
+
+    def change(self, file: str) -> None:
+        with open(self.top / file, "a") as it:
+            it.write("// changed\n")
+
+    def built(self) -> list[str]:
+        return sorted(it.parent.name for it in (self.top / "built").glob("*/dummynet"))
+
+
+def which_program(tally: Tally, copy: Copy) -> None:
+    """The program of the present sources: the release, then the one that was built here."""
+    copy.release(copy.sources())
+    done = copy.run("a", "b c", has_rt=False)
+    tally.equal("a release of these sources needs no toolchain", (0, "release a b c\n", ""), (done.returncode, done.stdout, done.stderr))
+    done = copy.run(script="build")
+    tally.equal("./build builds beside a release", 0, done.returncode)
+    tally.equal("./build builds each crate once", sorted(copy.crates), sorted(w.split()[1] for w in copy.calls.read_text().splitlines()))
+    count = len(copy.crates)
+    told = re.findall(rf"(?m)^dummynet: \d+ of {count} crates built \(\w+\), \d+\.\d minutes of about \d+$", done.stderr)
+    tally.equal("./build tells of each crate", count, len(told))
+    done = copy.run("x", has_rt=False)
+    tally.equal("the program that was built goes before the release", (0, "built x\n", ""), (done.returncode, done.stdout, done.stderr))
+    for crate in ("dn_types/src/lib.rt", "dummynet/src/main.rt"):
+        os.utime(copy.top / "crates" / crate)
+    copy.change("crates/test_parts/src/lib.rt")
+    (copy.top / "crates.txt").write_text((copy.top / "crates.txt").read_text() + "# a note\ntest_more: dn_types\n")
+    done = copy.run("x")
+    tally.equal("a touched file, a test and another crate build nothing", ("built x\n", ""), (done.stdout, copy.calls.read_text()))
+    link = copy.top.parent / "link"
+    link.symlink_to(copy.top / "dummynet")
+    done = subprocess.run([link, "x"], cwd="/", capture_output=True, text=True)
+    tally.equal("a link to the script", "built x\n", done.stdout)
+
+
+def stale(tally: Tally, copy: Copy) -> None:
+    """Sources of which there is no program."""
+    before = copy.built()
+    copy.change("crates/dn_link/src/lib.rt")
+    done = copy.run("x", has_rt=False)
+    tally.note("no toolchain: status", "" if done.returncode == 70 and done.stdout == "" else f"got {done}")
+    tally.note("no toolchain: told", "" if "no `rt` on the path" in done.stderr else f"got {done.stderr!r}")
+    done = copy.run("x", fails="dn_link")
+    log = copy.top / "built" / "log" / "dn_link.log"
+    tally.note("a failed build: status", "" if done.returncode == 70 and done.stdout == "" else f"got {done}")
+    tally.note("a failed build names its log", "" if str(log) in done.stderr else f"got {done.stderr!r}")
+    tally.equal("a failed build leaves a log", "no proof\n", log.read_text())
+    tally.equal("a failed build loses nothing", (before, True), (copy.built(), (copy.top / "release" / "dummynet").exists()))
+    done = copy.run("x", fails="dummynet")
+    tally.equal("a failed build of the program itself", (70, before), (done.returncode, copy.built()))
+    done = copy.run("x y")
+    tally.equal("a stale release and program are replaced", (0, "built x y\n"), (done.returncode, done.stdout))
+    tally.note("one program is left", "" if len(copy.built()) == 1 and copy.built() != before else f"got {copy.built()}")
+    tally.equal("nothing is left among the temporary files", [], list(copy.temporary.iterdir()))
+    shutil.rmtree(copy.top / "release")
+    shutil.rmtree(copy.top / "built")
+    done = copy.run("x")
+    tally.equal("neither release nor program", (0, "built x\n"), (done.returncode, done.stdout))
+
+
+def released_and_installed(tally: Tally, copy: Copy) -> None:
+    """tools/release over what was built, and ./install."""
+    done = copy.run(script="tools/release")
+    tally.equal("tools/release", 0, done.returncode)
+    tally.equal("its sources", copy.sources(), (copy.top / "release" / "sources").read_text())
+    done = subprocess.run(["sha256sum", "-c", "--quiet", "SHA256SUMS"], cwd=copy.top / "release", capture_output=True, text=True)
+    tally.equal("its checksum", (0, ""), (done.returncode, done.stdout))
+    prefix = copy.top.parent / "prefix"
+    trees = []
+    for _ in range(2):
+        done = copy.run(str(prefix), script="install", has_rt=False)
+        trees.append({str(it.relative_to(prefix)): it.read_bytes() for it in prefix.rglob("*") if it.is_file()})
+        tally.equal("./install", 0, done.returncode)
+    tally.equal("./install twice", trees[0], trees[1])
+    tally.equal("what is installed", ["bin/dummynet", "share/bash-completion/completions/dummynet", "share/man/man1/dummynet.1"],
+                sorted(trees[0]))
+    tally.equal("./install without a folder", 2, copy.run(script="install").returncode)
+    copy.change("crates/dummynet/src/main.rt")
+    done = copy.run(script="tools/release")
+    tally.note("no release of what isn't built", "" if done.returncode == 1 and "isn't built" in done.stderr else f"got {done}")
+
+
+def through_the_wrapper(tally: Tally, program: str) -> None:
+    """The streams and the status of the real program, where one stands for the present sources."""
+    with TemporaryDirectory() as place:
+        copy = Copy(place)
+        built = copy.top / "built" / copy.sources().strip()
+        built.mkdir(parents=True)
+        shutil.copy(program, built / "dummynet")
+        for words, stdin in (([], "examples/first.txt"), (["audit", "none"], "/dev/null"), (["nothing"], "/dev/null")):
+            both = []
+            for command in (program, str(copy.top / "dummynet")):
+                with open(TOP / stdin, "rb") as given:
+                    done = subprocess.run([command, *words], stdin=given, capture_output=True, cwd=place)
+                both.append((done.returncode, done.stdout, done.stderr))
+            tally.equal(f"./dummynet {' '.join(words)}", both[0], both[1])
+
+
+def main(program: str) -> int:
+    tally = Tally()
+    with TemporaryDirectory() as place:
+        copy = Copy(place)
+        which_program(tally, copy)
+        stale(tally, copy)
+        released_and_installed(tally, copy)
+    through_the_wrapper(tally, program)
+    return tally.end()
+
+
+if __name__ == "__main__":
+    sys.exit(main(sys.argv[1]))
