@@ -1,6 +1,10 @@
 /* Linked into a program, it refuses growths of memory: the one whose number REFUSE names, counted from 1, and those after
    it, as many in a row as REFUSE_IN_A_ROW says (1). Where REFUSE is 0 it refuses none and tells in the end how many growths
-   there were. A program can also set `first_refused` itself. tools/refused_growths.sh and bench/sched.sh link it. */
+   there were. A program can also set `first_refused` itself. The scripts under bench/ link it. Compiled with PRELOADED as a
+   shared library and loaded before a program that is linked already, it refuses what that program itself asks of malloc and
+   realloc, and nothing that the C library asks for its own ends: tools/refused_growths.sh and tools/gate/memory.py. */
+#define _GNU_SOURCE
+#include <link.h>
 #include <stddef.h>
 #include <stdint.h>
 #include <stdio.h>
@@ -33,6 +37,37 @@ static int refuses(void) {
     return 1;
 }
 
+#ifdef PRELOADED
+
+static uintptr_t first_byte = 0, last_byte = 0; /* of the program, without the libraries that it loads */
+
+static int note_program(struct dl_phdr_info *it, size_t size, void *data) {
+    (void)size, (void)data;
+    for (int i = 0; i < it->dlpi_phnum; i++) {
+        uintptr_t at = it->dlpi_addr + it->dlpi_phdr[i].p_vaddr, end = at + it->dlpi_phdr[i].p_memsz;
+        if (it->dlpi_phdr[i].p_type != PT_LOAD) continue;
+        if (first_byte == 0 || at < first_byte) first_byte = at;
+        if (end > last_byte) last_byte = end;
+    }
+    return 1; /* the first that is told is the program */
+}
+
+__attribute__((constructor)) static void begin_preloaded(void) { dl_iterate_phdr(note_program, NULL); }
+
+static int refuses_for(void *caller) {
+    return first_byte <= (uintptr_t)caller && (uintptr_t)caller < last_byte && refuses();
+}
+
+void *__libc_malloc(size_t size);
+void *malloc(size_t size) { return refuses_for(__builtin_return_address(0)) ? NULL : __libc_malloc(size); }
+
+void *__libc_realloc(void *old, size_t size);
+void *realloc(void *old, size_t size) {
+    return refuses_for(__builtin_return_address(0)) ? NULL : __libc_realloc(old, size);
+}
+
+#else
+
 grown __real_rattle_alloc(size_t size, size_t align);
 grown __wrap_rattle_alloc(size_t size, size_t align) {
     return refuses() ? (grown){0, (void *)16} : __real_rattle_alloc(size, align);
@@ -42,3 +77,5 @@ grown __real_rattle_realloc(void *old, size_t a, size_t b, size_t c);
 grown __wrap_rattle_realloc(void *old, size_t a, size_t b, size_t c) {
     return refuses() ? (grown){0, old} : __real_rattle_realloc(old, a, b, c);
 }
+
+#endif

@@ -3,16 +3,15 @@
 # crate and then, if wanted, the tests that stand in for all: whole names, or `heap::` for those of a module. A test
 # passes if it tries a refused call again.
 # A Vec that is refused room for more asks again for just enough, which hides a refusal: REFUSE_IN_A_ROW=2 refuses both.
-# It takes what `rt test` has built. The tests of test_shaper tell where it was the shaper that was refused.
+# It takes what `rt test` or `rt ci` has built. The tests of test_shaper tell where it was the shaper that was refused.
 set -e
 here=$(cd "$(dirname "$0")" && pwd)
 crate=$1
 shift
-kit=$(dirname "$(rt doc | tail -1)")
 work=$(mktemp -d)
 trap 'rm -rf "$work"' EXIT
-cc -O2 -no-pie -o "$work/tests" "$here/refused_growths.c" "$here/../crates/$crate/out/${crate}_tests.o" \
-    "$kit/c/libos_c.a" "$kit/c/liblibc_c.a" -Wl,--wrap=rattle_alloc,--wrap=rattle_realloc
+cp "$here/../crates/$crate/out/${crate}_tests" "$work/tests"
+cc -O2 -shared -fPIC -DPRELOADED -o "$work/refusing.so" "$here/refused_growths.c"
 cd "$work"
 ulimit -c 0
 failed=0
@@ -32,7 +31,7 @@ while read -r name; do
     growth=1
     in_shaper=0
     while true; do
-        if ! REFUSE=$growth ./tests "$name" >told 2>&1; then
+        if ! REFUSE=$growth LD_PRELOAD=./refusing.so ./tests "$name" >told 2>&1; then
             echo "$name fails where growth $growth is refused: $(tail -1 told)"
             failed=$((failed + 1))
         fi

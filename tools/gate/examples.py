@@ -1,4 +1,4 @@
-"""The examples: each report is what the program writes of its configuration and packets, and README's and FORMATS' are first.txt's.
+"""The examples: each report is what the program writes of its configuration and packets, and README's is that of first.txt.
 
     python3 tools/gate/examples.py PROGRAM
 
@@ -31,8 +31,7 @@ def main(program: str) -> int:
             tally.note(f"{made.name} by tools/examples.py", "" if made.read_bytes() == (EXAMPLES / made.name).read_bytes() else "differs")
     with open(EXAMPLES / "first.txt", "rb") as first:
         done = subprocess.run([program], stdin=first, capture_output=True, text=True)
-    for page in ("README.md",):
-        tally.note(f"the report in {page}", "" if f"```\n{done.stdout}```" in (TOP / page).read_text() else "isn't what first.txt gives")
+    tally.note("the report in README.md", "" if f"```\n{done.stdout}```" in (TOP / "README.md").read_text() else "isn't what first.txt gives")
     return tally.end()
 
 

@@ -40,7 +40,7 @@ class Copy:
     """A copy of the repository's scripts and of the sources of the program and of one test crate."""
 
     def __init__(self, place: str) -> None:
-        self.top, self.tools = Path(place) / "repo", Path(place) / "bin"
+        self.top, self.tools, self.plain = Path(place) / "repo", Path(place) / "bin", Path(place) / "python"
         self.calls, self.temporary = Path(place) / "calls", Path(place) / "tmp"
         self.temporary.mkdir()
         for file in SCRIPTS:
@@ -50,16 +50,19 @@ class Copy:
         for crate in [*crates, "test_parts"]:
             shutil.copytree(TOP / "crates" / crate / "src", self.top / "crates" / crate / "src")
         self.crates = crates
+        self.plain.mkdir()
+        (self.plain / "python3").write_text(f'#!/bin/sh\nexec "{sys.executable}" "$@"\n')
+        (self.plain / "python3").chmod(0o755)
         self.tools.mkdir()
         (self.tools / "rt").write_text(PRETENDED)
         (self.tools / "rt").chmod(0o755)
 
     def run(self, *words: str, fails: str = "", has_rt: bool = True, script: str = "dummynet") -> subprocess.CompletedProcess[str]:
-        """Runs a script from another folder. Without `rt` the path has what the scripts themselves need, and no more."""
+        """Runs a script from another folder. The path has no folder in which the real `rt` lies, and Python all the same."""
         self.calls.write_text("")
         path = os.environ["PATH"].split(":")
         plain = [folder for folder in path if not (Path(folder) / "rt").exists()]
-        env = {**os.environ, "PATH": ":".join([str(self.tools)] * has_rt + plain), "CALLS": str(self.calls), "FAILS": fails,
+        env = {**os.environ, "PATH": ":".join([str(self.tools)] * has_rt + [str(self.plain), *plain]), "CALLS": str(self.calls), "FAILS": fails,
                "TMPDIR": str(self.temporary)}
         return subprocess.run([str(self.top / script), *words], cwd="/", env=env, capture_output=True, text=True, stdin=subprocess.DEVNULL)
 

@@ -1,0 +1,216 @@
+"""The whole command line of the program, as a user gives it.
+
+    python3 tools/gate/command_line.py PROGRAM
+
+Each form, each status from 0 to 6, help and version, broken pipes, full devices, files that are missing, unreadable or folders,
+lines that end in CR LF, and byte order marks. What is wanted stands here in full, from docs/FORMATS.md.
+"""
+
+from __future__ import annotations
+
+import os
+import shutil
+import subprocess
+import sys
+from dataclasses import dataclass, field
+from pathlib import Path
+from tempfile import TemporaryDirectory
+from typing import Optional
+
+from tally import Tally
+
+HEADER = "moment,target,number,src,dst,proto,sport,dport,len,word\n"
+ROW = "0,pipe,1,10.0.0.1,10.0.0.2,17,1000,2000,1000,0\n"
+CONFIG = "pipe 1 config bw 8Mbit/s\n"
+PACKETS = HEADER + ROW
+REPORT = "event,row,flow,packet,at,start,due\nout,1,0,0,0,0,1000000\n"
+HISTORY = ("dummynet-history,3\nc,0,configure,pipe 1 config bw 8000000bit/s\nr,configured\n"
+           "c,0,submit,pipe,1,10.0.0.1,10.0.0.2,17,1000,2000,1000,0,0\nr,queued,0,0,0\n"
+           "c,0,collect,4611686018427387904\nr,delivered,4611686018427387904,1\nd,0,0,0,1000000\nend,3\n")
+CHANGED = HISTORY.replace("r,queued,0,0,0", "r,queued,0,0,1")
+FILES = {"c": CONFIG, "p": PACKETS, "h": HISTORY}
+OLDER = "an older history\n"
+
+
+@dataclass(frozen=True)
+class Case:
+    """A command line, what lies where it runs, and what it has to do. No text of a stream is wanted where it is None."""
+
+    name: str
+    words: list[str]
+    status: int
+    stdout: Optional[str] = ""
+    stderr: Optional[str] = ""
+    stdin: str = ""
+    files: dict[str, str] = field(default_factory=lambda: dict(FILES))
+    made: dict[str, str] = field(default_factory=dict)
+
+
+def fault(name: str, words: list[str], status: int, line: str, **rest: object) -> Case:
+    return Case(name, words, status, "", f"{line}\n", **rest)  # type: ignore[arg-type]
+
+
+def replay(*words: str) -> list[str]:
+    return ["replay", "c", "p", *words]
+
+
+MARK = "\ufeff"
+FORMS = [
+    Case("joined input", [], 0, REPORT, stdin=f"{CONFIG}--\n{PACKETS}"),
+    Case("no input", [], 0, REPORT.partition("\n")[0] + "\n"),
+    Case("two files", replay(), 0, REPORT),
+    Case("options first", ["replay", "--callers", "1", "--history", "new", "c", "p"], 0, REPORT, made={"new": HISTORY}),
+    Case("options with an equals sign", replay("--callers=2", "--history=new"), 0, REPORT, made={"new": HISTORY}),
+    Case("files after two dashes", ["replay", "--", "c", "p"], 0, REPORT),
+    Case("a history", replay("--history", "new"), 0, REPORT, made={"new": HISTORY}),
+    Case("an older history is replaced", replay("--history", "old"), 0, REPORT, files={**FILES, "old": OLDER * 100}, made={"old": HISTORY}),
+    Case("a history over the packets by another name", replay("--history", "./p"), 0, REPORT, made={"p": HISTORY}),
+    Case("sixteen callers", replay("--callers", "16"), 0, REPORT),
+    Case("lawful history", ["audit", "h"], 0, "lawful 3\n"),
+    Case("changed history", ["audit", "h"], 1, "differs 1\n", files={"h": CHANGED}),
+    Case("CR LF in a joined input", [], 0, REPORT, stdin=f"{CONFIG}--\n{PACKETS}".replace("\n", "\r\n")),
+    Case("CR LF in two files", replay(), 0, REPORT, files={"c": CONFIG.replace("\n", "\r\n"), "p": PACKETS.replace("\n", "\r\n")}),
+    Case("CR LF in a history", ["audit", "h"], 0, "lawful 3\n", files={"h": HISTORY.replace("\n", "\r\n")}),
+    Case("a byte order mark before packets", replay(), 0, REPORT, files={"c": CONFIG, "p": MARK + PACKETS}),
+    Case("blank lines between rows", replay(), 0, REPORT, files={"c": f"\n{CONFIG}\n", "p": f"{HEADER}\n\n{ROW}\n"}),
+]
+FAULTS = [
+    fault("a byte order mark before a configuration", replay(), 3, "config line 1, word 1: unknown word",
+          files={"c": MARK + CONFIG, "p": PACKETS}),
+    fault("a bad number", replay(), 3, "config line 2, word 5: bad number", files={"c": "# a note\npipe 1 config bw 1.5Mbit/s\n", "p": ""}),
+    fault("a part of ipfw that is left out", replay(), 3, "config line 1, word 4: left out", files={"c": "pipe 1 config red 1/2/3/0.1\n", "p": ""}),
+    fault("a line that isn't text", [], 3, "config line 1: not UTF-8", stdin="pipe 1 config # \udcff\n"),
+    fault("a queue without its pipe", [], 3, "config line 1: no such pipe", stdin="queue 1 config pipe 3\n"),
+    fault("a pipe with queues", [], 3, "config line 3: pipe has queues", stdin="pipe 1 config\nqueue 1 config pipe 1\npipe delete 1\n"),
+    fault("a queue that isn't there", [], 3, "config line 1: no such queue", stdin="queue delete 1\n"),
+    fault("another header", replay(), 4, "packet row 0, field 0: bad", files={"c": CONFIG, "p": "moment,target\n"}),
+    fault("a short row", replay(), 4, "packet row 2, field 0: bad", files={"c": CONFIG, "p": f"{PACKETS}\n\n0,pipe,1\n"}),
+    fault("a bad field", replay(), 4, "packet row 1, field 9: bad", files={"c": CONFIG, "p": PACKETS.replace(",1000,0\n", ",0,0\n")}),
+    fault("a cut history", ["audit", "h"], 4, "history record 9: bad", files={"h": HISTORY.replace("end,3\n", "")}),
+    fault("no configuration", ["replay", "none", "p"], 6, "cannot read config"),
+    fault("no packets, told before a bad configuration", ["replay", "c", "none"], 6, "cannot read packets", files={"c": "bad\n"}),
+    fault("a folder as configuration", ["replay", ".", "p"], 6, "cannot read config"),
+    fault("a folder as packets", ["replay", "c", "."], 6, "cannot read packets"),
+    fault("a folder as history", ["audit", "."], 6, "cannot read history"),
+    fault("no history", ["audit", "none"], 6, "cannot read history"),
+    fault("a read that fails", ["replay", "/proc/self/mem", "p"], 6, "cannot read config"),
+    fault("a configuration without end", ["replay", "/dev/zero", "p"], 6, "config too long"),
+    Case("a history in no folder", replay("--history", "no/new"), 6, REPORT, "cannot write history\n"),
+    Case("a folder in the place of a history", replay("--history", "."), 6, REPORT, "cannot write history\n"),
+    Case("a full device in the place of a history", replay("--history", "/dev/full"), 6, REPORT, "cannot write history\n"),
+    Case("a faulty replay leaves an older history", replay("--history", "old"), 4, "", "packet row 1, field 0: bad\n",
+         files={"c": CONFIG, "p": HEADER + "0\n", "old": OLDER}),
+]
+SAME = "error: --history FILE would overwrite CONFIG or PACKETS\n"
+USAGES = [
+    *[Case(f"usage: {' '.join(words)}", words, 2, "", None)
+      for words in (["nothing"], ["--nothing"], ["replay"], ["replay", "c"], replay("more"), replay("--callers", "0"), replay("--callers", "17"),
+                    replay("--callers", "two"), replay("--callers"), replay("--history"), ["audit"], ["audit", "h", "h"], ["-x"])],
+    *[Case(f"a history over {name}, the {word}", ["replay", *names, "--history", name], 2, "", None)
+      for names, name, word in ((["c", "p"], "c", "configuration"), (["c", "p"], "p", "packets"), (["none", "p"], "none", "missing file"))],
+]
+
+
+def run(program: str, words: list[str], place: str, stdin: str, **how: object) -> subprocess.CompletedProcess[bytes]:
+    return subprocess.run([program, *words], cwd=place, input=stdin.encode("utf-8", "surrogateescape"), timeout=120,
+                          **{"stdout": subprocess.PIPE, "stderr": subprocess.PIPE, **how})  # type: ignore[call-overload, no-any-return]
+
+
+def laid(place: Path, files: dict[str, str]) -> None:
+    for name, text in files.items():
+        (place / name).write_bytes(text.encode("utf-8", "surrogateescape"))
+
+
+def judged(tally: Tally, program: str, case: Case) -> None:
+    with TemporaryDirectory() as folder:
+        laid(Path(folder), case.files)
+        done = run(program, case.words, folder, case.stdin)
+        found = {it.name: it.read_bytes().decode() for it in Path(folder).iterdir() if it.name not in case.files or it.name in case.made}
+        left = {name: (Path(folder) / name).read_bytes().decode("utf-8", "surrogateescape") for name in case.files if name not in case.made}
+    told = done.stdout.decode(), done.stderr.decode()
+    tally.note(case.name,
+               "" if done.returncode == case.status else f"status: want {case.status}, got {done.returncode} {told}",
+               "" if case.stdout in (None, told[0]) else f"standard output: want {case.stdout!r}, got {told[0]!r}",
+               "" if case.stderr in (None, told[1]) else f"standard error: want {case.stderr!r}, got {told[1]!r}",
+               "" if found == case.made else f"files: want {case.made}, got {found}",
+               "" if left == {n: t for n, t in case.files.items() if n not in case.made} else "a file that it reads was changed")
+
+
+def texts(tally: Tally, program: str) -> None:
+    """Help and version, and the words of the usage fault that is the program's own."""
+    with TemporaryDirectory() as folder:
+        for words, wanted in ((["--version"], ["dummynet 1.", "rattle-kit"]), (["-V"], ["dummynet 1.", "rattle-kit"]),
+                              (["--help"], ["CONFIG", "PACKETS", "HISTORY", "Example:", "replay", "audit"]), (["-h"], ["Usage: dummynet"]),
+                              (["help"], ["Usage: dummynet"]), (["replay", "--help"], ["CONFIG", "PACKETS", "--callers", "--history"]),
+                              (["help", "replay"], ["CONFIG"]), (["audit", "--help"], ["HISTORY"])):
+            done = run(program, words, folder, "")
+            lacking = [text for text in wanted if text not in done.stdout.decode()]
+            tally.equal(" ".join(words), (0, b"", []), (done.returncode, done.stderr, lacking))
+        laid(Path(folder), FILES)
+        done = run(program, replay("--history", "p"), folder, "")
+        tally.equal("the words of a history over packets", SAME, done.stderr.decode()[:len(SAME)])
+        done = run(program, [os.fsdecode(b"\xff")], folder, "")
+        tally.equal("an argument that isn't UTF-8", (2, b"", b"error: an argument isn't UTF-8\n"), (done.returncode, done.stdout, done.stderr))
+
+
+def devices(tally: Tally, program: str) -> None:
+    """Standard output and standard error that take nothing, or are closed."""
+    joined = f"{CONFIG}--\n{PACKETS}"
+    with TemporaryDirectory() as folder, open("/dev/full", "wb") as full:
+        laid(Path(folder), FILES)
+        for name, words in (("a report", []), ("an audit's line", ["audit", "h"])):
+            done = run(program, words, folder, joined, stdout=full)
+            tally.equal(f"{name} to a full device", (6, b"cannot write report\n"), (done.returncode, done.stderr))
+            reader, writer = os.pipe()
+            os.close(reader)
+            done = run(program, words, folder, joined, stdout=writer)
+            os.close(writer)
+            tally.equal(f"{name} to a broken pipe", (6, b"cannot write report\n"), (done.returncode, done.stderr))
+        done = run(program, replay("--history", "new"), folder, "", stdout=full)
+        tally.equal("no history after a report that failed", (6, False), (done.returncode, (Path(folder) / "new").exists()))
+        done = run(program, ["replay", "none", "p"], folder, "", stderr=full)
+        tally.equal("a fault line to a full device", (6, b""), (done.returncode, done.stdout))
+        done = subprocess.run(["sh", "-c", 'ulimit -s 128; exec "$0" replay c p', program], cwd=folder, capture_output=True)
+        tally.equal("128 Kbytes of stack", (0, REPORT.encode(), b""), (done.returncode, done.stdout, done.stderr))
+        done = run(program, replay("--history", "/dev/stdout"), folder, "")
+        tally.equal("a history after the report in one pipe", (REPORT + HISTORY).encode(), done.stdout)
+        with open(Path(folder) / "both", "wb") as both:
+            run(program, replay("--history", "both"), folder, "", stdout=both)
+        tally.equal("a history over the report", HISTORY, (Path(folder) / "both").read_text())
+        done = subprocess.run(["sh", "-c", 'exec "$0" <&-', program], cwd=folder, capture_output=True)
+        tally.equal("standard input closed", (6, b"", b"cannot read input\n"), (done.returncode, done.stdout, done.stderr))
+
+
+def rights(tally: Tally, program: str) -> None:
+    """Files that may not be read or written, by a user to whom that matters."""
+    drop = ["setpriv", "--reuid=65534", "--regid=65534", "--clear-groups"] if os.geteuid() == 0 else []
+    if drop and shutil.which(drop[0]) is None:
+        print("rights of files: skipped, since there is no setpriv on the path")
+        return
+    with TemporaryDirectory() as folder:
+        os.chmod(folder, 0o755)
+        laid(Path(folder), {**FILES, "old": OLDER})
+        own = shutil.copy(program, folder)
+        os.chmod(own, 0o755)
+        for name, words, told in (("c", replay(), (6, b"", b"cannot read config\n")), ("p", replay(), (6, b"", b"cannot read packets\n")),
+                                  ("h", ["audit", "h"], (6, b"", b"cannot read history\n")),
+                                  ("old", replay("--history", "old"), (6, REPORT.encode(), b"cannot write history\n"))):
+            (Path(folder) / name).chmod(0)
+            done = subprocess.run([*drop, own, *words], cwd=folder, capture_output=True, stdin=subprocess.DEVNULL)
+            tally.equal(f"no right to {name}", told, (done.returncode, done.stdout, done.stderr))
+            (Path(folder) / name).chmod(0o644)
+        tally.equal("a history without rights is left as it was", OLDER, (Path(folder) / "old").read_text())
+
+
+def main(program: str) -> int:
+    tally = Tally()
+    for case in [*FORMS, *FAULTS, *USAGES]:
+        judged(tally, program, case)
+    texts(tally, program)
+    devices(tally, program)
+    rights(tally, program)
+    return tally.end()
+
+
+if __name__ == "__main__":
+    sys.exit(main(sys.argv[1]))

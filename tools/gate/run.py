@@ -1,0 +1,131 @@
+"""The gate: `rt ci`, and then what is tried over what it has built.
+
+    python3 tools/gate/run.py [--built]
+
+With --built the parts are tried over what an earlier `rt ci` built, without `rt ci`: that isn't the gate. Each part is a
+command whose last line is 'N passed, M failed'; one that ends otherwise counts as one that failed. The last line is the sum.
+A part that needs what this machine lacks says so, and passes nothing. DUMMYNET names the program for those that aren't told.
+"""
+
+from __future__ import annotations
+
+import os
+import re
+import secrets
+import shutil
+import subprocess
+import sys
+import time
+from concurrent.futures import ThreadPoolExecutor
+from pathlib import Path
+from tempfile import TemporaryDirectory
+from typing import NamedTuple, Optional
+
+TOP = Path(__file__).resolve().parent.parent.parent
+GATE = TOP / "tools" / "gate"
+MADE = TOP / "crates" / "dummynet" / "out" / "dummynet"
+TALLY = re.compile(r"(\d+) passed, (\d+) failed")
+RANDOM_CASES = 400
+RUNS_BY_CALLERS = 100
+
+
+class Tally(NamedTuple):
+    passed: int
+    failed: int
+
+
+class Part(NamedTuple):
+    """Something that is tried: its name, its command, and what it needs beside Python, if anything."""
+
+    name: str
+    words: list[str]
+    needs: Optional[str] = None
+
+
+def tally_in(text: str, status: int) -> Tally:
+    """What the last line says, where the status agrees with it."""
+    lines = text.strip().splitlines()
+    found = TALLY.match(lines[-1]) if lines else None
+    tally = Tally(int(found[1]), int(found[2])) if found else Tally(0, 1)
+    return tally if (status == 0) == (tally.failed == 0) else Tally(tally.passed, tally.failed + 1)
+
+
+def sources() -> str:
+    return subprocess.run([TOP / "tools" / "program_sources"], capture_output=True, text=True, check=True).stdout.strip()
+
+
+def proved() -> Tally:
+    """`rt ci`, whose lines are passed on; what it built becomes the program of ./dummynet."""
+    before, text = sources(), ""
+    with subprocess.Popen(["rt", "ci"], cwd=TOP, stdin=subprocess.DEVNULL, stdout=subprocess.PIPE, text=True, errors="replace") as ci:
+        for line in ci.stdout or ():
+            text += line
+            print(f"rt ci: {line}" if TALLY.match(line) else line, end="", flush=True)
+    tally = tally_in(text, ci.returncode)
+    if tally.failed == 0 and sources() == before:
+        keep_program(before)
+    return tally
+
+
+def keep_program(sum: str) -> None:
+    place = TOP / "built" / sum
+    place.mkdir(parents=True, exist_ok=True)
+    room = place / f"new-{os.getpid()}"
+    shutil.copyfile(MADE, room)
+    room.chmod(0o755)
+    room.replace(place / "dummynet")
+
+
+def parts(cases: str, seed: int) -> list[Part]:
+    """All parts, those that take longest first."""
+    python, program = sys.executable, str(MADE)
+    growths = [("test_replay", "memory::"), ("test_shaper", "refused_growths::"), ("test_parts", "scheduler::"),
+               ("test_parts", "heap::"), ("test_parts", "link::"), ("test_parts", "flows::"),
+               ("test_service", "one_caller::a_try_that_memory_refuses_leaves_no_trace"),
+               ("test_service", "one_caller::a_call_that_memory_refuses_leaves_no_trace")]
+    capture = TOP / "tools" / "capture" / "test"
+    return [
+        Part("limits of input", [python, "tools/limit_checks.py", program]),
+        *[Part(f"refused growths of {crate} {tests}", [python, "tools/gate/growths.py", crate, tests], "cc") for crate, tests in growths],
+        Part("cases of the reference", [python, "tools/gate/cases.py", program, str(seed), str(RANDOM_CASES), cases]),
+        Part("replays by callers", [python, "tools/callers_checks.py", program, str(seed), str(RUNS_BY_CALLERS)]),
+        Part("the program without memory", [python, "tools/gate/memory.py", program], "cc"),
+        Part("the command line", [python, "tools/gate/command_line.py", program]),
+        Part("the wrapper, ./build and ./install", [python, "tools/gate/wrapper.py", program]),
+        Part("examples", [python, "tools/gate/examples.py", program]),
+        Part("the release", [python, "tools/gate/release.py", program]),
+        Part("the manual page", [python, "tools/gate/manual.py", program], "mandoc"),
+        *([Part("the capture kit", [str(capture)])] if capture.exists() else []),
+    ]
+
+
+def tried(part: Part) -> Tally:
+    """Runs a part, and prints what it said at once when it has ended."""
+    if part.needs and shutil.which(part.needs) is None:
+        print(f"== {part.name}: skipped, since there is no {part.needs} on the path", flush=True)
+        return Tally(0, 0)
+    begun = time.monotonic()
+    done = subprocess.run(part.words, cwd=TOP, env={**os.environ, "DUMMYNET": str(MADE)}, stdin=subprocess.DEVNULL,
+                          stdout=subprocess.PIPE, stderr=subprocess.STDOUT, text=True, errors="replace")
+    tally = tally_in(done.stdout, done.returncode)
+    print(f"== {part.name}, {time.monotonic() - begun:.0f} s\n{done.stdout}", end="" if done.stdout.endswith("\n") else "\n", flush=True)
+    return tally
+
+
+def main(words: list[str]) -> int:
+    tallies = [] if words == ["--built"] else [proved()]
+    if not MADE.exists():
+        print("no program was built, so nothing more is tried")
+        tallies.append(Tally(0, 1))
+    else:
+        seed = secrets.randbelow(2**32)
+        print(f"== parts over what was built, random ones by seed {seed}", flush=True)
+        with TemporaryDirectory() as cases, ThreadPoolExecutor(len(os.sched_getaffinity(0))) as pool:
+            tallies += pool.map(tried, parts(cases, seed))
+    failed = sum(t.failed for t in tallies)
+    print(f"{sum(t.passed for t in tallies)} passed, {failed} failed")
+    return 1 if failed else 0
+
+
+if __name__ == "__main__":
+    sys.exit(main(sys.argv[1:]))
