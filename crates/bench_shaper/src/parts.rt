@@ -1,18 +1,9 @@
-//! Measures the two parts of a Submit that have no other benchmark: a heap of links and a delay line. What was taken out goes
-//! to standard output, and the times to standard error.
-#![tactic(auto)]
-
+use crate::load::next;
 use dn_heap::RunHeap;
 use dn_link::DelayLine;
 use dn_types::Delivery;
 use std::io;
 use std::time::Instant;
-
-/// The next number of a small generator, so that no cache foresees the keys.
-fn next(seed: u64) -> u64 {
-    seed.wrapping_mul(6364136223846793005)
-        .wrapping_add(1442695040888963407)
-}
 
 /// Puts a key of the size of a link's into the heap.
 fn put(heap: &mut RunHeap<u128>, key: u128) {
@@ -102,23 +93,13 @@ fn measure_line(rt: &HostRuntime, packets: u64, times: u64) -> io::Result<()> {
     tell(rt, "delay line", packets, given, &start)
 }
 
-/// How many times each is measured: the argument, or 1,000.
-fn times(rt: &HostRuntime) -> io::Result<u64> {
-    let mut args = std::env::args(rt)?;
-    let _program = args.next();
-    match args.next() {
-        Some(text) => Ok(text.as_str().parse::<u64>().unwrap_or(1_000)),
-        None => Ok(1_000),
+/// Measures each of the two parts so many times, with 1, 1,000 and 16,384 keys or packets in it.
+pub fn measure_parts(rt: &HostRuntime, times: u64) -> io::Result<()> {
+    for size in [1u64, 1_000, 16_384] {
+        measure_heap(rt, size, times)?;
     }
-}
-
-fn main(rt: HostRuntime) -> io::Result<()> {
-    let times = times(&rt)?;
-    for keys in [1u64, 1_000, 16_384] {
-        measure_heap(&rt, keys, times)?;
-    }
-    for packets in [1u64, 1_000, 16_384] {
-        measure_line(&rt, packets, times)?;
+    for size in [1u64, 1_000, 16_384] {
+        measure_line(rt, size, times)?;
     }
     Ok(())
 }

@@ -1,16 +1,10 @@
-//! Many threads on one service, again and again: whether each run left a history as it has to be goes to standard
-//! output, and how often a try was busy to standard error.
-#![tactic(auto)]
-
 ghost use Rattle.std.specs.Prelude.{◌≡◌};
 ghost use Rattle.dn_service.specs.Callers.{IsSameCaller};
 
+use crate::calls::{packet, pipe};
 use dn_service::{Caller, Service, TryFault};
 use dn_shaper::Shaper;
-use dn_types::{
-    Bandwidth, Call, Command, Delay, Entry, FiveTuple, Len, Limit, Loss, Mask, Moment, Number,
-    Packet, Reply, Target,
-};
+use dn_types::{Call, Entry, Reply};
 use std::alloc::Global;
 use std::sync::Wait;
 use std::sync::atomic::{AtomicU64, Ordering};
@@ -22,44 +16,6 @@ const PACKETS: u64 = 1000;
 
 /// A packet is tried so often.
 const MOST_TRIES: u64 = 10_000_000;
-
-/// `pipe 1 config`, unlimited, so that each packet starts when it is submitted.
-fn pipe() -> Option<Call> {
-    Some(Call::Configure(Command::Pipe {
-        number: Number::new(1)?,
-        bw: Bandwidth::new(0)?,
-        delay: Delay::new(0)?,
-        limit: Limit::slots(50)?,
-        loss: Loss::new(0)?,
-        buckets: None,
-        mask: Mask {
-            src: 0,
-            dst: 0,
-            proto: 0,
-            sport: 0,
-            dport: 0,
-        },
-    }))
-}
-
-/// A packet of 1,000 bytes to pipe 1.
-fn packet(moment: u64) -> Option<Call> {
-    Some(Call::Submit {
-        target: Target::Pipe(Number::new(1)?),
-        packet: Packet {
-            tuple: FiveTuple {
-                src: 0x0a00_0001,
-                dst: 0x0a00_0002,
-                proto: 17,
-                sport: 1000,
-                dport: 2000,
-            },
-            len: Len::new(1000)?,
-            word: 0,
-        },
-        moment: Moment::new(moment)?,
-    })
-}
 
 /// Submits the packets by `call`, the i-th at moment i.
 fn submit_all<R: Wait>(rt: &R, mut caller: Caller) -> Caller
@@ -160,7 +116,7 @@ fn run_by_call<R: Wait + Threads + Sync>(
     let Ok((service, mut opened)) = Service::open(alloc, callers) else {
         return Ok(false);
     };
-    if let (Some(first), Some(call)) = (opened.first_mut(), pipe()) {
+    if let (Some(first), Some(call)) = (opened.first_mut(), pipe(0)) {
         let _ = first.call(rt, call);
     }
     let back = thread::map_vec(rt, opened, &|caller| submit_all(rt, caller))?;
@@ -180,7 +136,7 @@ fn run_by_try<R: Threads + Sync>(
     let Ok((service, mut opened)) = Service::open(alloc, callers) else {
         return Ok(false);
     };
-    if let (Some(first), Some(call)) = (opened.first_mut(), pipe()) {
+    if let (Some(first), Some(call)) = (opened.first_mut(), pipe(0)) {
         let _ = first.try_call(call);
     }
     let back = thread::map_vec(rt, opened, &|caller| try_all(caller, busy))?;
@@ -190,35 +146,35 @@ fn run_by_try<R: Threads + Sync>(
     }
 }
 
-/// The count of runs that the program is asked for.
-fn asked_for(rt: &HostRuntime) -> io::Result<u64> {
-    let mut args = std::env::args(rt)?;
-    let _program = args.next();
-    match args.next() {
-        Some(text) => Ok(text.as_str().parse::<u64>().unwrap_or(1)),
-        None => Ok(1),
+/// So many runs of 2 and of 16 threads, by `call` and by `try_call`: tells how many left a right history.
+pub fn check_all<R: Wait + Threads + Sync + AllocGlobal + Print + Eprint>(
+    rt: &R,
+    runs: u64,
+) -> io::Result<()> {
+    for callers in [2usize, 16] {
+        check_runs(rt, callers, runs)?;
     }
+    Ok(())
 }
 
-fn main(rt: HostRuntime) -> io::Result<()> {
-    let runs = asked_for(&rt)?;
-    for callers in [2usize, 16] {
-        let busy = AtomicU64::new(0);
-        let mut called = 0u64;
-        let mut tried = 0u64;
-        for _ in 0..runs {
-            if run_by_call(&rt, rt.alloc(), callers)? {
-                called = called.wrapping_add(1);
-            }
-            if run_by_try(&rt, rt.alloc(), callers, &busy)? {
-                tried = tried.wrapping_add(1);
-            }
+fn check_runs<R: Wait + Threads + Sync + AllocGlobal + Print + Eprint>(
+    rt: &R,
+    callers: usize,
+    runs: u64,
+) -> io::Result<()> {
+    let busy = AtomicU64::new(0);
+    let mut called = 0u64;
+    let mut tried = 0u64;
+    for _ in 0..runs {
+        if run_by_call(rt, rt.alloc(), callers)? {
+            called = called.wrapping_add(1);
         }
-        println!(rt;
-            "{callers} callers: {called} of {runs} runs right by call, {tried} by try_call"
-        )?;
-        let busy = busy.load(Ordering::SeqCst);
-        eprintln!(rt; "{callers} callers: busy {busy} times")?;
+        if run_by_try(rt, rt.alloc(), callers, &busy)? {
+            tried = tried.wrapping_add(1);
+        }
     }
+    println!(rt; "{callers} callers: {called} of {runs} runs right by call, {tried} by try_call")?;
+    let busy = busy.load(Ordering::SeqCst);
+    eprintln!(rt; "{callers} callers: busy {busy} times")?;
     Ok(())
 }
