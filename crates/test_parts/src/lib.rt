@@ -26,6 +26,8 @@ mod record_example;
 #[cfg(test)]
 mod records;
 #[cfg(test)]
+mod replies;
+#[cfg(test)]
 mod scheduler;
 #[cfg(test)]
 mod text;
