@@ -6,7 +6,7 @@ use Rattle.dn_flows.specs.declared.flow_queue.FlowQueue.{FlowQueue}
 use Rattle.dn_flows.specs.declared.waiting.Waiting.{Waiting}
 use Rattle.dn_flows.specs.Table.{lengths}
 use Rattle.dn_flows.proofs.Bytes.{lengths-cons}
-use Rattle.dn_flows.specs.Store.{IsChain, IsCounted, IsQueue, Takes, Lies, Shortens, stored_or, stored_at, waiting_from, key_after}
+use Rattle.dn_flows.specs.Store.{IsChain, IsCounted, IsQueue, TakesFront, Lies, Shortens, stored_or, stored_at, waiting_from, key_after}
 
 -- A key with a packet isn't free.
 pub not-free : (store : Packets) (key other : ℕ) (stored : StoredPacket) → get store key ≡ None → get store other ≡ Some stored → other ≡ key → ⊥
@@ -63,7 +63,7 @@ chain-end owner behind store flow key (suc n) c =
 
 -- ---- The first packet leaves a queue
 
-module _ (owner behind : ℕ → ℕ) (old new : Packets) (first : Waiting) (q q' : FlowQueue) (flow : ℕ) (t : Takes first old q new q') (is : IsQueue owner behind old flow q) where
+module _ (owner behind : ℕ → ℕ) (old new : Packets) (first : Waiting) (q q' : FlowQueue) (flow : ℕ) (t : TakesFront first old q new q') (is : IsQueue owner behind old flow q) where
   -- The queue after its first packet left.
   pub record Taken : Type 0 where
     pub chain : IsChain owner behind new flow q'.front q'.len
@@ -169,7 +169,7 @@ shortens-none store q = record {
   counts = (refl, refl);
 }
 
-pub shortens-more : (old mid new : Packets) (first : Waiting) (q q₁ q' : FlowQueue) → Shortens old q mid q₁ → Takes first mid q₁ new q' → new.len + 1 ≡ mid.len → new.capacity ≡ mid.capacity → Shortens old q new q'
+pub shortens-more : (old mid new : Packets) (first : Waiting) (q q₁ q' : FlowQueue) → Shortens old q mid q₁ → TakesFront first mid q₁ new q' → new.len + 1 ≡ mid.len → new.capacity ≡ mid.capacity → Shortens old q new q'
 shortens-more old mid new first q q₁ q' s t len capacity = record {
   leaves = λ owner behind flow is.
       let left = s.leaves owner behind flow is in
@@ -185,5 +185,5 @@ shortens-more old mid new first q q₁ q' s t len capacity = record {
   );
 }
 
-pub lies-taken : (mid new : Packets) (first : Waiting) (q₁ q' : FlowQueue) → Lies mid q₁ → Takes first mid q₁ new q' → Lies new q'
+pub lies-taken : (mid new : Packets) (first : Waiting) (q₁ q' : FlowQueue) → Lies mid q₁ → TakesFront first mid q₁ new q' → Lies new q'
 lies-taken mid new first q₁ q' l t = record { owner = l.owner; behind = l.behind; flow = l.flow; is = taken-queue l.owner l.behind mid new first q₁ q' l.flow t l.is }

@@ -8,7 +8,7 @@ use Rattle.dn_flows.specs.Packets.{Packets, ContainsKey, get}
 use Rattle.dn_flows.specs.declared.flow_queue.FlowQueue.{FlowQueue}
 use Rattle.dn_flows.specs.declared.unsent.Unsent.{Unsent}
 use Rattle.dn_flows.specs.declared.waiting.Waiting.{Waiting}
-use Rattle.dn_flows.specs.Store.{IsCounted, IsQueue, AreStored, Appends, Takes, Lies, Shortens, Leaves, all_with_unsent, state_of, stored_at, with_unsent, waiting_from, new_queue, reserved_one, reservations}
+use Rattle.dn_flows.specs.Store.{IsCounted, IsQueue, AreStored, Appends, TakesFront, Lies, Shortens, OnlyOwnLeft, all_with_unsent, state_of, stored_at, with_unsent, waiting_from, new_queue, reserved_one, reservations}
 use Rattle.dn_flows.specs.Table.{FlowState, flow_at, new_flow, lengths, pushed, popped, popped_from, emptied}
 use Rattle.dn_flows.proofs.Appended.{Appended, appended, owner-appended, behind-appended, others-stay-appended}
 use Rattle.dn_flows.proofs.Bytes.{lengths-push, AreShort-push, no_more_than_bytes}
@@ -205,7 +205,7 @@ module _ (old : Packets) (queues : List FlowQueue) (unsent : List Unsent) (flow 
   first-short = short-first are.owner are.behind old flow q queue-is
 
   -- The first packet starts.
-  pub popping : (new : Packets) (first : Waiting) (q' q'' : FlowQueue) → Takes first old q new q' → SamePackets q' q'' → (q''.reserved ≡ q.reserved) × (q''.started ≡ q.started + 1) → After new q'' (popped (flow_at seen flow))
+  pub popping : (new : Packets) (first : Waiting) (q' q'' : FlowQueue) → TakesFront first old q new q' → SamePackets q' q'' → (q''.reserved ≡ q.reserved) × (q''.started ≡ q.started + 1) → After new q'' (popped (flow_at seen flow))
   popping new first q' q'' t same counts = after new q'' popped start-leaves
       (changed old new queues flow q q'' are are.owner are.behind there (λ g n ne. others-stay-taken are.owner are.behind old new first q q' flow t queue-is g n ne) (same-queue are.owner are.behind new flow q' q'' same (taken-queue are.owner are.behind old new first q q' flow t queue-is)))
       ((λ i. record {
@@ -225,7 +225,7 @@ module _ (old : Packets) (queues : List FlowQueue) (unsent : List Unsent) (flow 
   none-waits none = ap (λ (ws : List Waiting). slice_get ws 0) (reads.backlog ∙ ap (waiting_from old q.front) none)
 
   -- The front is the first of the packets that wait.
-  pub front : (new : Packets) (first : Waiting) (q' : FlowQueue) → Takes first old q new q' → slice_get (flow_at seen flow).backlog 0 ≡ Some first
+  pub front : (new : Packets) (first : Waiting) (q' : FlowQueue) → TakesFront first old q new q' → slice_get (flow_at seen flow).backlog 0 ≡ Some first
   front new first q' t = ap (λ (ws : List Waiting). slice_get ws 0) (reads.backlog ∙ (taken are.owner are.behind old new first q q' flow t queue-is).waiting)
 
   -- The queue lies in the store.
@@ -254,7 +254,7 @@ module _ (old : Packets) (queues : List FlowQueue) (unsent : List Unsent) (flow 
       as-many : length unsent ≡ length (map (state_of old) queues)
       as-many = same ∙ sym (length-map queues (state_of old))
 
-      left : Leaves are.owner are.behind flow new q' old
+      left : OnlyOwnLeft are.owner are.behind flow new q' old
       left = s.leaves are.owner are.behind flow queue-is
 
       there-after : Changed old new queues flow q'

@@ -13,9 +13,9 @@ abbrev pub ports : ℕ → ℕ → ℕ
 ports high low = high * 65536 + low
 
 -- A target by twice its number, and one more for a queue.
-abbrev pub target_number : Target → ℕ
-target_number (Pipe number) = number * 2
-target_number (Queue number) = number * 2 + 1
+abbrev pub target_code : Target → ℕ
+target_code (Pipe number) = number * 2
+target_code (Queue number) = number * 2 + 1
 
 -- A pipe, and the protocols of a mask and a tuple.
 abbrev pub pipe_number : ℕ → ℕ → ℕ → ℕ
@@ -23,7 +23,7 @@ pipe_number pipe mask tuple = pipe * 65536 + (mask * 256 + tuple)
 
 -- The writes into the hasher, which are the four words. What differs least from key to key comes first.
 abbrev pub key_writes : FlowKey → List (List ℕ)
-key_writes k = fed.u64 (beside (target_number k.target) (pipe_number k.pipe k.mask.proto k.tuple.proto)) ++ fed.u64 (beside k.mask.src k.mask.dst) ++ fed.u64 (beside (ports k.mask.sport k.mask.dport) (ports k.tuple.sport k.tuple.dport)) ++ fed.u64 (beside k.tuple.src k.tuple.dst)
+key_writes k = fed.u64 (beside (target_code k.target) (pipe_number k.pipe k.mask.proto k.tuple.proto)) ++ fed.u64 (beside k.mask.src k.mask.dst) ++ fed.u64 (beside (ports k.mask.sport k.mask.dport) (ports k.tuple.sport k.tuple.dport)) ++ fed.u64 (beside k.tuple.src k.tuple.dst)
 
 -- ---- Back from the words
 
@@ -44,8 +44,8 @@ last_port half = half % 65536
 abbrev pub target_of : ℕ → Target
 target_of number = cond (nat_eq (number % 2) 0) (Pipe (number / 2)) (Queue (number / 2))
 
-abbrev pub pipe_of : ℕ → ℕ
-pipe_of half = half / 65536
+abbrev pub pipe_in : ℕ → ℕ
+pipe_in half = half / 65536
 
 abbrev pub mask_protocol : ℕ → ℕ
 mask_protocol half = half % 65536 / 256
@@ -58,7 +58,7 @@ abbrev pub key_of_words : ℕ → ℕ → ℕ → ℕ → FlowKey
 key_of_words numbers mask_addresses both_ports addresses =
     record {
       target = target_of (high numbers);
-      pipe = pipe_of (low numbers);
+      pipe = pipe_in (low numbers);
       mask = record {
         src = high mask_addresses;
         dst = low mask_addresses;
@@ -81,4 +81,4 @@ IsNumber n = (1 ≤ n) × (n ≤ 65535)
 
 -- The word holds the numbers of a target and of a pipe.
 abbrev pub HoldsNumbers : ℕ → Type 0
-HoldsNumbers numbers = IsNumber (high numbers / 2) × IsNumber (pipe_of (low numbers))
+HoldsNumbers numbers = IsNumber (high numbers / 2) × IsNumber (pipe_in (low numbers))

@@ -96,7 +96,7 @@ pub record Appends (w : Waiting) (old : Packets) (q : FlowQueue) (new : Packets)
   pub queue_is : q' ≡ record q { front = cond (nat_eq q.len 0) key q.front; back = key; len = q.len + 1; bytes = q.bytes + w.len; reserved = false }
 
 -- The first packet of a queue leaves the store.
-pub record Takes (first : Waiting) (old : Packets) (q : FlowQueue) (new : Packets) (q' : FlowQueue) : Type 0 where
+pub record TakesFront (first : Waiting) (old : Packets) (q : FlowQueue) (new : Packets) (q' : FlowQueue) : Type 0 where
   pub next : ℕ
   pub some : 0 < q.len
   pub front : get old q.front ≡ Some (record { waiting = first; next = next })
@@ -111,13 +111,13 @@ pub record Lies (store : Packets) (q : FlowQueue) : Type 0 where
   pub is : IsQueue owner behind store flow q
 
 -- Only packets of the flow left the store, and its queue lies there with what is left.
-pub record Leaves (owner behind : ℕ → ℕ) (flow : ℕ) (new : Packets) (q' : FlowQueue) (old : Packets) : Type 0 where
+pub record OnlyOwnLeft (owner behind : ℕ → ℕ) (flow : ℕ) (new : Packets) (q' : FlowQueue) (old : Packets) : Type 0 where
   pub is : IsQueue owner behind new flow q'
   pub others : (key : ℕ) (stored : StoredPacket) → get old key ≡ Some stored → (owner key ≡ flow → ⊥) → get new key ≡ Some stored
 
 -- Some packets of a queue left the store, and all else that the queue keeps stays.
 pub record Shortens (old : Packets) (q : FlowQueue) (new : Packets) (q' : FlowQueue) : Type 0 where
-  pub leaves : (owner behind : ℕ → ℕ) (flow : ℕ) → IsQueue owner behind old flow q → Leaves owner behind flow new q' old
+  pub leaves : (owner behind : ℕ → ℕ) (flow : ℕ) → IsQueue owner behind old flow q → OnlyOwnLeft owner behind flow new q' old
   pub len : new.len + q.len ≡ old.len + q'.len
   pub capacity : new.capacity ≡ old.capacity
   pub counts : (q'.reserved ≡ q.reserved) × (q'.started ≡ q.started)

@@ -1,7 +1,7 @@
 ghost use Rattle.std.specs.Prelude.{◌≡◌, ◌+◌, ◌≤◌, ◌<◌, ◌^◌, List, sum, false, IfSome, IfNone, OnSome};
 ghost use Rattle.dn_types.specs.Drops.{is_full};
 ghost use Rattle.dn_flows.specs.Packets.{ContainsKey, HasRoomFor};
-ghost use Rattle.dn_flows.specs.Store.{Appends, IsCounted, Lies, Shortens, Takes, new_queue, stored_at};
+ghost use Rattle.dn_flows.specs.Store.{Appends, IsCounted, Lies, Shortens, TakesFront, new_queue, stored_at};
 ghost use Rattle.dn_flows.specs.Table.{lengths, verdict_of};
 ghost use Rattle.dn_flows.specs.declared.waiting.Waiting.{Waiting as WaitingValue};
 
@@ -98,7 +98,7 @@ impl FlowQueue {
     pub fn pop_front(&mut self, store: &mut PacketStore) -> Option<Waiting>
         requires held { 0 < self.old.len → ContainsKey store.old self.old.front }
         requires bytes { 0 < self.old.len → (stored_at store.old self.old.front).waiting.len ≤ self.old.bytes }
-        ensures takes { IfSome result (λ first. Takes first store.old self.old store.new self.new) }
+        ensures takes { IfSome result (λ first. TakesFront first store.old self.old store.new self.new) }
         ensures len { OnSome result (store.new.len + 1 ≡ store.old.len) }
         ensures capacity { store.new.capacity ≡ store.old.capacity }
         ensures none { IfNone result (self.old.len ≡ 0) }

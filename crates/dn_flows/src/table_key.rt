@@ -1,5 +1,5 @@
 ghost use Rattle.std.specs.Prelude.{◌≡◌, ◌/◌};
-ghost use Rattle.dn_flows.specs.KeyWords.{high, low, first_port, last_port, target_of, pipe_of, mask_protocol, tuple_protocol, key_writes, IsNumber};
+ghost use Rattle.dn_flows.specs.KeyWords.{high, low, first_port, last_port, target_of, pipe_in, mask_protocol, tuple_protocol, key_writes, IsNumber};
 ghost use Rattle.std.specs.Cmp.Rules.{hashing};
 ghost use Rattle.std.proofs.Common.{rules};
 
@@ -48,7 +48,7 @@ impl TableKey {
         } = key;
         TableKey {
             numbers: beside(
-                target_number(target),
+                target_code(target),
                 pipe_number(pipe, mask.proto, tuple.proto),
             ),
             mask_addresses: beside(mask.src, mask.dst),
@@ -159,7 +159,7 @@ fn last_port(half: u32) -> u16
 }
 
 /// Twice the target's number, and one more for a queue.
-fn target_number(target: Target) -> u32
+fn target_code(target: Target) -> u32
     ensures target { target_of result ≡ target }
     ensures number { IsNumber (result / 2) }
 {
@@ -182,10 +182,10 @@ fn target_of(target: u32) -> Target
 }
 
 fn pipe_number(pipe: Number, mask: u8, tuple: u8) -> u32
-    ensures pipe { pipe_of result ≡ pipe }
+    ensures pipe { pipe_in result ≡ pipe }
     ensures mask { mask_protocol result ≡ mask }
     ensures tuple { tuple_protocol result ≡ tuple }
-    ensures number { IsNumber (pipe_of result) }
+    ensures number { IsNumber (pipe_in result) }
 {
     pipe.get() * 0x1_0000 + (u32::from(mask) * 0x100 + u32::from(tuple))
 }

@@ -7,9 +7,9 @@ use Rattle.dn_records.specs.declared.read_fault.ReadFault.TheVariants as fault
 
 -- A read gave bytes into the front of the buffer, and none only at the end or with no room. A failed read left the
 -- known bytes as they were.
-abbrev pub Reads : Option (List ℕ) → Option (List ℕ) → Option ℕ → List ℕ → Type 0
-Reads old new None buf = Keeps old new
-Reads old new (Some n) buf = (n ≤ length buf) × Consumes old new (take n buf) × (n ≡ 0 → 0 < length buf → IsAtEnd new)
+abbrev pub ReadsBytes : Option (List ℕ) → Option (List ℕ) → Option ℕ → List ℕ → Type 0
+ReadsBytes old new None buf = Keeps old new
+ReadsBytes old new (Some n) buf = (n ≤ length buf) × Consumes old new (take n buf) × (n ≡ 0 → 0 < length buf → IsAtEnd new)
 
 -- A write took bytes from the front of the buffer. A failed write left the known bytes as they were.
 abbrev pub Writes : Option (List ℕ) → Option (List ℕ) → Option ℕ → List ℕ → Type 0

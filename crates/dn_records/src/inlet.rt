@@ -1,5 +1,5 @@
 ghost use Rattle.std.specs.Prelude.{◌≡◌, ◌||◌, ℕ, Bool, List, Option};
-ghost use Rattle.dn_records.specs.Devices.{Reads, read_fails};
+ghost use Rattle.dn_records.specs.Devices.{ReadsBytes, read_fails};
 
 /// A source of bytes that remembers whether a read of it has failed.
 pub trait Inlet {
@@ -12,7 +12,7 @@ pub trait Inlet {
     /// Reads some bytes into the front of `buf` and answers how many: 0 only at the end of the input
     /// or where `buf` is empty. None is a failure, an interrupted call included.
     fn read(&mut self, buf: &mut [u8]) -> Option<usize>
-        ensures bytes { Reads (remaining self.old) (remaining self.new) result buf.new }
+        ensures bytes { ReadsBytes (remaining self.old) (remaining self.new) result buf.new }
         ensures failed { has_failed self.new ≡ has_failed self.old || read_fails result };
 
     /// Whether a read has failed since the inlet was made.

@@ -15,7 +15,7 @@ use Rattle.dn_types.specs.declared.reply.Reply.TheVariants.{Configured, NoSuchPi
 use Rattle.dn_types.specs.declared.rule.Rule.{Rule}
 use Rattle.dn_types.specs.declared.target.Target.TheVariants.{Pipe as ToPipe, Queue as ToQueue}
 use Rattle.dn_shaper.specs.Shaper.{items_in}
-use Rattle.dn_service.specs.Rooms.{HasRoom, IsRoomFor}
+use Rattle.dn_service.specs.Rooms.{FitsRoom, IsRoomFor}
 
 either_has : (P : Reply → Type 0) (b : Bool) (r s : Reply) → P r → P s → P (cond b r s)
 either_has P true r s p q = p
@@ -23,7 +23,7 @@ either_has P false r s p q = q
 
 module _ (d s : ℕ) where
   abbrev Has : Reply → Type 0
-  Has = HasRoom d s
+  Has = FitsRoom d s
 
   after_command : (in_force : Settings) (queues : List ℕ) (command : Command) → Has (command_reply in_force queues command)
   after_command in_force queues (Pipe number bw delay limit loss buckets mask) = tt
@@ -47,7 +47,7 @@ within : (m n d : ℕ) → m ≤ n → n ≤ d → m ≤ d
 within m n d few room = omega arith
 
 -- Where there is room for the items that the call may be answered with, there is room for its reply.
-pub room_for : (rule : Rule) (calls : List Call) (c : Call) (n d s : ℕ) → items_in (reply rule calls c) ≤ n → IsRoomFor c n d s → HasRoom d s (reply rule calls c)
+pub room_for : (rule : Rule) (calls : List Call) (c : Call) (n d s : ℕ) → items_in (reply rule calls c) ≤ n → IsRoomFor c n d s → FitsRoom d s (reply rule calls c)
 room_for rule calls (Configure command) n d s few room =
     exhausted_or d s n (nat_le call_limit (length calls)) (counted_reply rule calls (Configure command)) (λ _. after_command d s (settings calls) (queue_numbers calls) command) few
 room_for rule calls (Submit target packet moment) n d s few room =

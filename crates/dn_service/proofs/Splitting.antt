@@ -9,7 +9,7 @@ use Rattle.atomic_table.specs.Table.{State, Splits, Joins, opening}
 use Rattle.atomic_table.proofs.Lists.{at_set, set_else, at_longer, at_last}
 use Rattle.dn_types.specs.declared.entry.Entry.{Entry}
 use Rattle.dn_service.specs.Rule.{Sits, SeatFits, SeatRule}
-use Rattle.dn_service.specs.Seats.{Account, SeatView, Slot, Each, Has, new_accounts, first_seat, waiting, spent}
+use Rattle.dn_service.specs.Seats.{Account, SeatView, Slot, Each, Has, new_accounts, first_seat, seat_with, spent}
 use Rattle.dn_service.proofs.Accounts.{each_join, has_left, has_right, has_new}
 use Rattle.dn_service.proofs.HistoryLaws.{below_none, starts_none}
 use Rattle.dn_service.proofs.Views.{set_there, seats_set, held_set, at_inside, added_last}
@@ -45,9 +45,9 @@ module _ (n : ℕ) where
   seat_below s r k l = let h = r.held k l in at_inside s.views (r.seat_of k) h.0 h.1
 
   -- the seat's first caller goes to a new seat
-  pub splits : (id m : ℕ) (x : Account) (xs : List Account) → ¬ Has x.number xs → Splits (SeatRule n) id (waiting m (x ∷ xs)) (waiting m xs) (waiting m (x ∷ []))
+  pub splits : (id m : ℕ) (x : Account) (xs : List Account) → ¬ Has x.number xs → Splits (SeatRule n) id (seat_with m (x ∷ xs)) (seat_with m xs) (seat_with m (x ∷ []))
   splits id m x xs once s r at =
-      let f = r.seats id (waiting m (x ∷ xs)) at in let u = waiting m xs in let w = waiting m (x ∷ []) in
+      let f = r.seats id (seat_with m (x ∷ xs)) at in let u = seat_with m xs in let w = seat_with m (x ∷ []) in
       let vs : List SeatView = set s.views id u in
       let new : ℕ = length vs in
       let size : new ≡ length s.views = length-set s.views id u in
@@ -84,14 +84,14 @@ module _ (n : ℕ) where
         seats = added_last vs w (SeatFits n (get_or s.words 0 0) r.history seat_of) fits fresh;
         held = λ k l. dite (ℕ_discrete k x.number)
             (λ e. (w, subst (λ (z : ℕ). get_elem? (vs ++ w ∷ []) z ≡ some w) (sym (new_seat_of k e)) (at_last vs w new refl), inl (sym e)))
-            (λ ne. let t = held_set s.views id (waiting m (x ∷ xs)) u at (r.seat_of k) k (λ has. ⊎_elim (λ (e : x.number ≡ k). absurd (ne (sym e))) (λ (h : Has k xs). h) has) (r.held k l) in
+            (λ ne. let t = held_set s.views id (seat_with m (x ∷ xs)) u at (r.seat_of k) k (λ has. ⊎_elim (λ (e : x.number ≡ k). absurd (ne (sym e))) (λ (h : Has k xs). h) has) (r.held k l) in
             (t.0, at_longer vs (w ∷ []) (seat_of k) t.0 (ap (get_elem? vs) (same_seat_of k ne) ∙ t.1), t.2));
       }
 
   -- the other's callers go to the seat
-  pub joins : (id a other b : ℕ) (ys zs : List Account) → 0 < length zs → Joins (SeatRule n) id (waiting a ys) other (waiting b zs) (waiting b (ys ++ zs)) spent
+  pub joins : (id a other b : ℕ) (ys zs : List Account) → 0 < length zs → Joins (SeatRule n) id (seat_with a ys) other (seat_with b zs) (seat_with b (ys ++ zs)) spent
   joins id a other b ys zs some_there s r at apart there =
-      let v = waiting a ys in let w = waiting b zs in let u = waiting b (ys ++ zs) in
+      let v = seat_with a ys in let w = seat_with b zs in let u = seat_with b (ys ++ zs) in
       let x : ℕ = get_or s.words 0 0 in
       let there' : get_elem? s.views other ≡ some w = sym (set_else s.views id other u apart) ∙ there in
       let f = r.seats id v at in let g = r.seats other w there' in
@@ -134,9 +134,9 @@ module _ (n : ℕ) where
             (t.0, subst (λ (z : ℕ). get_elem? (set vs other spent) z ≡ some t.0) (sym (same_seat_of k ne)) (set_else vs other (r.seat_of k) spent ne ∙ t.1), t.2));
       }
     where
-      seats_two : (K : ℕ → SeatView → Type 0) (j : ℕ) (c : SeatView) → j ≢ other → get_elem? (set s.views id (waiting b (ys ++ zs))) j ≡ some c → K id (waiting b (ys ++ zs)) → ((i : ℕ) (d : SeatView) → i ≢ id → i ≢ other → get_elem? s.views i ≡ some d → K i d) → K j c
-      seats_two K j c ne e mine theirs = ⊎_elim (λ (t : (j ≡ id) × (waiting b (ys ++ zs) ≡ c)). subst (λ (y : ℕ × SeatView). K y.0 y.1) (λ i. (sym t.0 i, t.1 i)) mine)
-          (λ (t : (j ≢ id) × (get_elem? s.views j ≡ some c)). theirs j c t.0 ne t.1) (at_set s.views id j (waiting b (ys ++ zs)) c e)
+      seats_two : (K : ℕ → SeatView → Type 0) (j : ℕ) (c : SeatView) → j ≢ other → get_elem? (set s.views id (seat_with b (ys ++ zs))) j ≡ some c → K id (seat_with b (ys ++ zs)) → ((i : ℕ) (d : SeatView) → i ≢ id → i ≢ other → get_elem? s.views i ≡ some d → K i d) → K j c
+      seats_two K j c ne e mine theirs = ⊎_elim (λ (t : (j ≡ id) × (seat_with b (ys ++ zs) ≡ c)). subst (λ (y : ℕ × SeatView). K y.0 y.1) (λ i. (sym t.0 i, t.1 i)) mine)
+          (λ (t : (j ≢ id) × (get_elem? s.views j ≡ some c)). theirs j c t.0 ne t.1) (at_set s.views id j (seat_with b (ys ++ zs)) c e)
 
   pub opens : SeatRule n (opening (0 ∷ []) (Some [] ∷ []) (first_seat n))
   opens = record {

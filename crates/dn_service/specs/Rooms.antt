@@ -6,10 +6,10 @@ use Rattle.dn_types.specs.declared.reply.Reply.{Reply}
 use Rattle.dn_types.specs.declared.reply.Reply.TheVariants.{Delivered, Status}
 
 -- The list in the reply, if it has one, fits the room.
-abbrev pub HasRoom : ℕ → ℕ → Reply → Type 0
-HasRoom d s (Delivered at list) = length list ≤ d
-HasRoom d s (Status list) = length list ≤ s
-HasRoom d s _ = ⊤
+abbrev pub FitsRoom : ℕ → ℕ → Reply → Type 0
+FitsRoom d s (Delivered at list) = length list ≤ d
+FitsRoom d s (Status list) = length list ≤ s
+FitsRoom d s _ = ⊤
 
 -- There is room for the n items that the call may be answered with.
 abbrev pub IsRoomFor : Call → ℕ → ℕ → ℕ → Type 0

@@ -46,20 +46,20 @@ abbrev pub up_to_date : List Entry → Account → Account
 up_to_date history a = record { number = a.number; front = history; own = own_entries a.number history }
 
 -- A seat that has not taken the book.
-abbrev pub waiting : ℕ → List Account → SeatView
-waiting n accounts = record { count = n; accounts = accounts; taken = None }
+abbrev pub seat_with : ℕ → List Account → SeatView
+seat_with n accounts = record { count = n; accounts = accounts; taken = None }
 
 -- The seat of one caller, which has not taken the book.
 abbrev pub sitting : ℕ → ℕ → List Entry → List Entry → SeatView
-sitting n k front own = waiting n (record { number = k; front = front; own = own } ∷ [])
+sitting n k front own = seat_with n (record { number = k; front = front; own = own } ∷ [])
 
 -- The first seat stands for all callers.
 abbrev pub first_seat : ℕ → SeatView
-first_seat n = waiting n (new_accounts 0 n)
+first_seat n = seat_with n (new_accounts 0 n)
 
 -- A spent seat, whose number of callers is forgotten.
 abbrev pub spent : SeatView
-spent = waiting 0 []
+spent = seat_with 0 []
 
 -- The seat with this in place of what it has taken.
 abbrev pub with_taken : SeatView → Option (List Entry) → SeatView
@@ -67,14 +67,14 @@ with_taken v t = record { count = v.count; accounts = v.accounts; taken = t }
 
 -- The seat after it gave the book back with this history, which each of its callers has seen.
 abbrev pub with_history : SeatView → List Entry → SeatView
-with_history v history = waiting v.count (map (up_to_date history) v.accounts)
+with_history v history = seat_with v.count (map (up_to_date history) v.accounts)
 
 -- The seat after its first caller got a seat of its own, and that seat.
 abbrev pub without_first : SeatView → SeatView
 without_first v = record { count = v.count; accounts = drop 1 v.accounts; taken = v.taken }
 
 abbrev pub only_first : SeatView → SeatView
-only_first v = waiting v.count (take 1 v.accounts)
+only_first v = seat_with v.count (take 1 v.accounts)
 
 -- Two seats in one, which keeps each caller's own account.
 abbrev pub joined : SeatView → SeatView → SeatView
@@ -107,4 +107,4 @@ pub record IsServiceSeat (table : TableId) (count : ℕ) (seat : TableId) (me : 
   pub one_word : seat.words ≡ 1
   pub some : 0 < count
   pub few : count ≤ 16
-  pub waits : me ≡ (waiting count [], [])
+  pub waits : me ≡ (seat_with count [], [])

@@ -1,5 +1,5 @@
 ghost use Rattle.std.specs.Prelude.{◌≡◌, ◌≤◌, [], length, vec_len, vec_capacity, OnOk};
-ghost use Rattle.dn_service.specs.Rooms.{HasRoom, IsRoomFor};
+ghost use Rattle.dn_service.specs.Rooms.{FitsRoom, IsRoomFor};
 
 use dn_types::{Call, Deliveries, Delivery, FlowStatus, Reply, Statuses};
 use std::alloc::{AllocError, Global};
@@ -39,7 +39,7 @@ impl Room {
     /// An equal reply. Its list has memory of its own, or this room's where that is refused.
     pub(crate) fn copy_of(&mut self, alloc: Global, reply: &Reply) -> Reply
         requires empty { (self.old.deliveries.items ≡ []) × (self.old.statuses.items ≡ []) }
-        requires room { HasRoom (vec_capacity self.old.deliveries) (vec_capacity self.old.statuses) reply.now }
+        requires room { FitsRoom (vec_capacity self.old.deliveries) (vec_capacity self.old.statuses) reply.now }
         ensures { result ≡ reply.now }
     {
         match reply {

@@ -1,6 +1,6 @@
 ghost use Rattle.std.specs.Prelude.{◌≡◌, ℕ, ◌<◌, [], All, true, MatchOption};
 ghost use Rattle.dn_service.specs.Callers.{ServiceView, has_number, IsLeastMissing, IsOf, accounts_of};
-ghost use Rattle.dn_service.specs.Seats.{waiting};
+ghost use Rattle.dn_service.specs.Seats.{seat_with};
 
 use crate::caller::Caller;
 use crate::rule::{BookSeat, BookTable};
@@ -10,9 +10,9 @@ use crate::steps::Together;
 pub(crate) fn take_in(table: &BookTable, seat: &mut BookSeat, callers: Vec<Caller>)
     requires table { (seat.old.table_id ≡ table.now.shared.table_id) × (seat.old.table_id.words ≡ 1) }
     requires callers { (service : ServiceView) × (service.table ≡ seat.old.table_id)
-        × (seat.old.me ≡ (waiting service.callers [], [])) × All (IsOf service) callers.items }
+        × (seat.old.me ≡ (seat_with service.callers [], [])) × All (IsOf service) callers.items }
     ensures table { seat.new.table_id ≡ seat.old.table_id }
-    ensures seat { seat.new.me ≡ (waiting seat.old.me.0.count (accounts_of callers.items), []) }
+    ensures seat { seat.new.me ≡ (seat_with seat.old.me.0.count (accounts_of callers.items), []) }
 {
     for caller in callers {
         table.shared.join_seat::<Together>(seat, caller.into_seat());

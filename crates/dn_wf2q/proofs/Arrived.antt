@@ -8,20 +8,20 @@ use Rattle.std.proofs.lemmas.Bool.Decides.{nat_tests}
 use Rattle.std.specs.Vec.{with_item}
 use Rattle.dn_types.specs.Wf2q.{Stamped}
 use Rattle.dn_heap.specs.Heap.{Heap}
-use Rattle.dn_wf2q.specs.declared.flow_queue.TaggedPacket.{TaggedPacket}
-use Rattle.dn_wf2q.specs.declared.flow_queue.FlowQueue.{FlowQueue}
-use Rattle.dn_wf2q.specs.declared.parts.Parts.{Parts}
-use Rattle.dn_wf2q.specs.Rank.{Rank}
+use Rattle.dn_wf2q.specs.declared.tagged_packet.TaggedPacket.{TaggedPacket}
+use Rattle.dn_wf2q.specs.declared.tagged_queue.TaggedQueue.{TaggedQueue}
+use Rattle.dn_wf2q.specs.declared.sched_parts.SchedParts.{SchedParts}
+use Rattle.dn_wf2q.specs.Rank.{RankView}
 use Rattle.dn_wf2q.specs.Schedule.{Flow, flow_at, no_packets, room_at, stamped, joined_by, after_arrival}
-use Rattle.dn_wf2q.specs.Kept.{Kept, IsKept, IsKeptWithout, IsEligible, IsWaiting, IsWithin, IsFlowWithin, flows_of, seen, tagged, arriving, last_finish_tag_in, by_slot, places, presence, behind, head_weight, bound, none_absent, only_absent}
-use Rattle.dn_wf2q.specs.Steps.{Arrives}
+use Rattle.dn_wf2q.specs.Kept.{Kept, IsSchedKept, IsKeptWithout, IsEligible, IsWaiting, IsWithin, AreTagsWithin, flows_of, seen, tagged, arriving, last_finish_tag_in, by_slot, places, presence, behind, head_weight, bound, none_absent, only_absent}
+use Rattle.dn_wf2q.specs.Steps.{ArrivesAtSlot}
 use Rattle.dn_wf2q.proofs.BySlot.{length-by_slot, by_slot-set}
 use Rattle.dn_wf2q.proofs.Heads.{head_stays, presence_grows, presence_begins, head_begins, flow_within, flow_within_more, cond-le, flow_at_seen, room_listed, room_of_others}
 use Rattle.dn_wf2q.proofs.Counts.{waiting-set}
 use Rattle.dn_wf2q.proofs.Ranks.{absent_same, absent_other}
 use Rattle.dn_wf2q.proofs.Sent.{scaled-le}
 
-module _ {flows : List Flow} {eligible waiting : Heap Rank} {virtual_time weights arrivals picks : ℕ} (kept : Kept none_absent [] flows eligible waiting virtual_time weights arrivals picks) (slot len weight : ℕ) (listed : slot < length flows) (short : len < 65536) (some : 0 < weight) (most : weight ≤ 100) where
+module _ {flows : List Flow} {eligible waiting : Heap RankView} {virtual_time weights arrivals picks : ℕ} (kept : Kept none_absent [] flows eligible waiting virtual_time weights arrivals picks) (slot len weight : ℕ) (listed : slot < length flows) (short : len < 65536) (some : 0 < weight) (most : weight ≤ 100) where
   abbrev fl : Flow
   fl = flow_at flows slot
 
@@ -43,15 +43,15 @@ module _ {flows : List Flow} {eligible waiting : Heap Rank} {virtual_time weight
       let g = scaled-le len weight short in
       omega arith
 
-  grown_within : IsFlowWithin (bound (arrivals + 1) picks) grown
+  grown_within : AreTagsWithin (bound (arrivals + 1) picks) grown
   grown_within =
       let s = start-le in
       let w = flow_within_more (bound arrivals picks) (bound (arrivals + 1) picks) fl (omega arith) (flow_within (bound arrivals picks) flows slot kept.bounded) in
       (finish-le, All-push (IsWithin (bound (arrivals + 1) picks)) fl.backlog x w.1 (omega arith, finish-le, short, some, most))
 
-  all_within : All (IsFlowWithin (bound (arrivals + 1) picks)) (set flows slot grown)
-  all_within = All-set (IsFlowWithin (bound (arrivals + 1) picks)) flows slot grown grown_within
-      (All-weaker (IsFlowWithin (bound arrivals picks)) (IsFlowWithin (bound (arrivals + 1) picks)) (λ y h. flow_within_more (bound arrivals picks) (bound (arrivals + 1) picks) y (omega arith) h) flows kept.bounded)
+  all_within : All (AreTagsWithin (bound (arrivals + 1) picks)) (set flows slot grown)
+  all_within = All-set (AreTagsWithin (bound (arrivals + 1) picks)) flows slot grown grown_within
+      (All-weaker (AreTagsWithin (bound arrivals picks)) (AreTagsWithin (bound (arrivals + 1) picks)) (λ y h. flow_within_more (bound arrivals picks) (bound (arrivals + 1) picks) y (omega arith) h) flows kept.bounded)
 
   still_ready : All (IsEligible (set flows slot grown) virtual_time) eligible.keys
   still_ready i d l =
@@ -138,14 +138,14 @@ answered b a h e = elim b as (λ v. cond v (Some a) None ≡ Some h → (v ≡ t
 pub unanswered : (b : Bool) (a : TaggedPacket) → cond b (Some a) None ≡ None → b ≡ false
 unanswered b a e = elim b as (λ v. cond v (Some a) None ≡ None → v ≡ false) [ true ↦ λ e. absurd (cc) | false ↦ λ e. refl ] e
 
-module _ (p : Parts) (kept : IsKept p) (slot len weight : ℕ) (short : len < 65536) (some : 0 < weight) (most : weight ≤ 100) (room : 0 < room_at (map places p.flows.items) slot) where
+module _ (p : SchedParts) (kept : IsSchedKept p) (slot len weight : ℕ) (short : len < 65536) (some : 0 < weight) (most : weight ≤ 100) (room : 0 < room_at (map places p.flows.items) slot) where
   pub listed : slot < length p.flows.items
   listed = room_listed p.flows.items slot room
 
   listed' : slot < length (flows_of p)
   listed' = let l = length-by_slot (seen p.busy_from) p.flows.items in omega (arith, listed)
 
-  module _ (q : FlowQueue) (at : q ≡ get_or p.flows.items slot q) where
+  module _ (q : TaggedQueue) (at : q ≡ get_or p.flows.items slot q) where
     same_flow : flow_at (flows_of p) slot ≡ seen p.busy_from slot q
     same_flow = flow_at_seen p.busy_from p.flows.items slot q listed ∙ ap (seen p.busy_from slot) (sym at)
 
@@ -161,7 +161,7 @@ module _ (p : Parts) (kept : IsKept p) (slot len weight : ℕ) (short : len < 65
     abbrev made : TaggedPacket
     made = arriving p.busy_from q p.virtual_time len weight
 
-    module _ (r : FlowQueue) (packets : r.packets.items ≡ q.packets.items ++ made ∷ []) (last : r.last_finish_tag ≡ made.finish_tag) (arrived : r.arrived ≡ p.arrivals + 1) where
+    module _ (r : TaggedQueue) (packets : r.packets.items ≡ q.packets.items ++ made ∷ []) (last : r.last_finish_tag ≡ made.finish_tag) (arrived : r.arrived ≡ p.arrivals + 1) where
       stamped_is : tagged slot made ≡ stamped slot (seen p.busy_from slot q) p.virtual_time len weight
       stamped_is = rw (length-map q.packets.items (tagged slot)) refl
 
@@ -174,7 +174,7 @@ module _ (p : Parts) (kept : IsKept p) (slot len weight : ℕ) (short : len < 65
       flows_is : by_slot (seen p.busy_from) (set p.flows.items slot r) ≡ after_arrival (flows_of p) slot p.virtual_time len weight
       flows_is = by_slot-set (seen p.busy_from) p.flows.items slot r ∙ ap (λ y. set (flows_of p) slot y) (rw same_flow seen_is)
 
-      pub arrives : (new : Parts) → new.flows.items ≡ set p.flows.items slot r → new.busy_from ≡ p.busy_from → new.virtual_time ≡ p.virtual_time → new.arrivals ≡ p.arrivals + 1 → new.picks ≡ p.picks → Arrives slot len weight p new
+      pub arrives : (new : SchedParts) → new.flows.items ≡ set p.flows.items slot r → new.busy_from ≡ p.busy_from → new.virtual_time ≡ p.virtual_time → new.arrivals ≡ p.arrivals + 1 → new.picks ≡ p.picks → ArrivesAtSlot slot len weight p new
       arrives new nf nb nt na np =
           let fs : flows_of new ≡ after_arrival (flows_of p) slot p.virtual_time len weight = rw (nf, nb) flows_is in
           record {
@@ -195,7 +195,7 @@ module _ (p : Parts) (kept : IsKept p) (slot len weight : ℕ) (short : len < 65
       all_arrived = All-set (λ y. y.arrived ≤ p.arrivals + 1) p.flows.items slot r (omega arith) (All-weaker (λ y. y.arrived ≤ p.arrivals) (λ y. y.arrived ≤ p.arrivals + 1) (λ y h. omega arith) p.flows.items kept.arrived)
 
       -- The parts then.
-      abbrev pub arrived_parts : Parts
+      abbrev pub arrived_parts : SchedParts
       arrived_parts = record {
         flows = with_item p.flows slot r;
         eligible = p.eligible;
@@ -207,7 +207,7 @@ module _ (p : Parts) (kept : IsKept p) (slot len weight : ℕ) (short : len < 65
         picks = p.picks;
       }
 
-      pub busy_kept : p.arrivals < 2 ^ 62 → cond (length q.packets.items == 0) (Some made) None ≡ None → IsKept arrived_parts
+      pub busy_kept : p.arrivals < 2 ^ 62 → cond (length q.packets.items == 0) (Some made) None ≡ None → IsSchedKept arrived_parts
       busy_kept few e =
           let n = unanswered (length q.packets.items == 0) made e in
           let busy : 0 < length q.packets.items = grind (arith, nat_tests) in

@@ -7,11 +7,11 @@ use Rattle.std.proofs.lemmas.List.Elements.{All-nil, All-cons, All-head, All-tai
 use Rattle.std.proofs.lemmas.Bool.Decides.{nat_tests}
 use Rattle.dn_types.specs.Wf2q.{Stamped}
 use Rattle.dn_heap.specs.Heap.{Heap}
-use Rattle.dn_wf2q.specs.declared.flow_queue.FlowQueue.{FlowQueue}
-use Rattle.dn_wf2q.specs.declared.parts.Parts.{Parts}
-use Rattle.dn_wf2q.specs.Rank.{Rank}
+use Rattle.dn_wf2q.specs.declared.tagged_queue.TaggedQueue.{TaggedQueue}
+use Rattle.dn_wf2q.specs.declared.sched_parts.SchedParts.{SchedParts}
+use Rattle.dn_wf2q.specs.Rank.{RankView}
 use Rattle.dn_wf2q.specs.Schedule.{Flow, flow_at, IsIdle, forgotten, without_tag}
-use Rattle.dn_wf2q.specs.Kept.{Kept, IsKept, IsFlowWithin, flows_of, seen, by_slot, presence, behind, head_weight, bound, none_absent}
+use Rattle.dn_wf2q.specs.Kept.{Kept, IsSchedKept, AreTagsWithin, flows_of, seen, by_slot, presence, behind, head_weight, bound, none_absent}
 use Rattle.dn_wf2q.proofs.Counts.{idle_no_heads}
 
 -- A sum over backlogs does not depend on finish tags.
@@ -28,13 +28,13 @@ backlog_forgotten [] slot = refl
 backlog_forgotten (fl ∷ fls) zero = refl
 backlog_forgotten (fl ∷ fls) (suc slot) = backlog_forgotten fls slot
 
-within_forgotten : (b : ℕ) (flows : List Flow) → All (IsFlowWithin b) flows → All (IsFlowWithin b) (forgotten flows)
-within_forgotten b [] h = All-nil (IsFlowWithin b)
+within_forgotten : (b : ℕ) (flows : List Flow) → All (AreTagsWithin b) flows → All (AreTagsWithin b) (forgotten flows)
+within_forgotten b [] h = All-nil (AreTagsWithin b)
 within_forgotten b (fl ∷ fls) h =
-    let one = All-head (IsFlowWithin b) fl fls h in
-    All-cons (IsFlowWithin b) (without_tag fl) (forgotten fls) (omega arith, one.1) (within_forgotten b fls (All-tail (IsFlowWithin b) fl fls h))
+    let one = All-head (AreTagsWithin b) fl fls h in
+    All-cons (AreTagsWithin b) (without_tag fl) (forgotten fls) (omega arith, one.1) (within_forgotten b fls (All-tail (AreTagsWithin b) fl fls h))
 
-forgotten_by : (b a : ℕ) (s : ℕ → ℕ) (qs : List FlowQueue) → All (λ q. q.arrived ≤ a) qs → by_slot (λ i. seen a (s i)) qs ≡ forgotten (by_slot (λ i. seen b (s i)) qs)
+forgotten_by : (b a : ℕ) (s : ℕ → ℕ) (qs : List TaggedQueue) → All (λ q. q.arrived ≤ a) qs → by_slot (λ i. seen a (s i)) qs ≡ forgotten (by_slot (λ i. seen b (s i)) qs)
 forgotten_by b a s [] h = refl
 forgotten_by b a s (q ∷ qs) h =
     let one = All-head (λ x. x.arrived ≤ a) q qs h in
@@ -42,10 +42,10 @@ forgotten_by b a s (q ∷ qs) h =
     rw (e, forgotten_by b a (λ i. s (suc i)) qs (All-tail (λ x. x.arrived ≤ a) q qs h)) refl
 
 -- No queue's last finish tag counts any more, since none has had an arrival since.
-pub flows_forgotten : (b a : ℕ) (qs : List FlowQueue) → All (λ q. q.arrived ≤ a) qs → by_slot (seen a) qs ≡ forgotten (by_slot (seen b) qs)
+pub flows_forgotten : (b a : ℕ) (qs : List TaggedQueue) → All (λ q. q.arrived ≤ a) qs → by_slot (seen a) qs ≡ forgotten (by_slot (seen b) qs)
 flows_forgotten b a qs h = forgotten_by b a (λ i. i) qs h
 
-module _ {flows : List Flow} {eligible waiting : Heap Rank} {virtual_time weights arrivals picks : ℕ} (kept : Kept none_absent [] flows eligible waiting virtual_time weights arrivals picks) (idle : IsIdle flows) where
+module _ {flows : List Flow} {eligible waiting : Heap RankView} {virtual_time weights arrivals picks : ℕ} (kept : Kept none_absent [] flows eligible waiting virtual_time weights arrivals picks) (idle : IsIdle flows) where
   none : length eligible.keys + length waiting.keys ≡ 0
   none = let c = kept.counted in let z = idle_no_heads flows idle in omega arith
 
@@ -66,7 +66,7 @@ module _ {flows : List Flow} {eligible waiting : Heap Rank} {virtual_time weight
         waiting_room = let c = kept.waiting_room in omega arith;
       }
 
-pub begun : (p : Parts) → IsKept p → IsIdle (flows_of p) → IsKept (record p { virtual_time = 0; busy_from = p.arrivals })
+pub begun : (p : SchedParts) → IsSchedKept p → IsIdle (flows_of p) → IsSchedKept (record p { virtual_time = 0; busy_from = p.arrivals })
 begun p kept idle = record {
   kept = rw (flows_forgotten p.busy_from p.arrivals p.flows.items kept.arrived) (begun_kept kept.kept idle);
   few = kept.few;

@@ -9,27 +9,27 @@ use Rattle.std.specs.Ordering.{is_eq}
 use Rattle.std.specs.Vec.{with_item}
 use Rattle.dn_types.specs.Wf2q.{Stamped}
 use Rattle.dn_heap.specs.Heap.{Heap}
-use Rattle.dn_wf2q.specs.declared.flow_queue.TaggedPacket.{TaggedPacket}
-use Rattle.dn_wf2q.specs.declared.flow_queue.FlowQueue.{FlowQueue}
-use Rattle.dn_wf2q.specs.declared.parts.Parts.{Parts}
-use Rattle.dn_wf2q.specs.Rank.{Rank, rank_cmp}
+use Rattle.dn_wf2q.specs.declared.tagged_packet.TaggedPacket.{TaggedPacket}
+use Rattle.dn_wf2q.specs.declared.tagged_queue.TaggedQueue.{TaggedQueue}
+use Rattle.dn_wf2q.specs.declared.sched_parts.SchedParts.{SchedParts}
+use Rattle.dn_wf2q.specs.Rank.{RankView, rank_cmp}
 use Rattle.dn_wf2q.specs.Schedule.{Flow, flow_at, no_packets, after_discard}
-use Rattle.dn_wf2q.specs.Kept.{Kept, IsKept, HeadIs, IsEligible, IsWaiting, IsWithin, IsFlowWithin, presence, behind, head_weight, standing, bound, flows_of, seen, tagged, by_slot, first_of, places, none_absent}
-use Rattle.dn_wf2q.specs.Steps.{Discards}
+use Rattle.dn_wf2q.specs.Kept.{Kept, IsSchedKept, HeadIs, IsEligible, IsWaiting, IsWithin, AreTagsWithin, presence, behind, head_weight, ranks_at, bound, flows_of, seen, tagged, by_slot, first_packet, places, none_absent}
+use Rattle.dn_wf2q.specs.Steps.{DiscardsSlot}
 use Rattle.dn_wf2q.proofs.BySlot.{length-by_slot, by_slot-set}
 use Rattle.dn_wf2q.proofs.Heads.{head_says, head_there, head_both, head_weighs, presence-le, flow_at_seen, room_grows, cond_zero, next_is}
 use Rattle.dn_wf2q.proofs.Counts.{waiting-set}
-use Rattle.dn_wf2q.proofs.Ranks.{standing_popped, at_slot_same, at_slot_other, none_standing, some_standing, same_rank, rank_same}
+use Rattle.dn_wf2q.proofs.Ranks.{ranks_at_popped, rank_at_same, rank_at_other, no_rank_at, some_rank_at, same_rank, rank_same}
 
-abbrev no_rank : Rank
+abbrev no_rank : RankView
 no_rank = record { tag = 0; slot = 0 }
 
-module _ {flows : List Flow} {eligible waiting : Heap Rank} {virtual_time weights arrivals picks : ℕ} (kept : Kept none_absent [] flows eligible waiting virtual_time weights arrivals picks) (slot : ℕ) (listed : slot < length flows) where
+module _ {flows : List Flow} {eligible waiting : Heap RankView} {virtual_time weights arrivals picks : ℕ} (kept : Kept none_absent [] flows eligible waiting virtual_time weights arrivals picks) (slot : ℕ) (listed : slot < length flows) where
   abbrev fl : Flow
   fl = flow_at flows slot
 
   -- The slot stands in neither heap, and the others as before.
-  forgot : (es ws : Heap Rank) (w : ℕ) → standing slot es.keys ≡ 0 → standing slot ws.keys ≡ 0 → ((g : ℕ) → (g ≡ slot → ⊥) → standing g es.keys + standing g ws.keys ≡ standing g eligible.keys + standing g waiting.keys) → All (IsEligible flows virtual_time) es.keys → All (IsWaiting flows) ws.keys → length es.keys + length ws.keys + presence fl.backlog ≡ length eligible.keys + length waiting.keys → length es.keys ≤ length eligible.keys → length ws.keys ≤ length waiting.keys → es.moves ≡ eligible.moves → ws.moves ≡ waiting.moves → es.room + length es.keys ≡ eligible.room + length eligible.keys → ws.room + length ws.keys ≡ waiting.room + length waiting.keys → w + head_weight fl.backlog ≡ weights → Kept none_absent [] (set flows slot no_packets) es ws virtual_time w arrivals picks
+  forgot : (es ws : Heap RankView) (w : ℕ) → ranks_at slot es.keys ≡ 0 → ranks_at slot ws.keys ≡ 0 → ((g : ℕ) → (g ≡ slot → ⊥) → ranks_at g es.keys + ranks_at g ws.keys ≡ ranks_at g eligible.keys + ranks_at g waiting.keys) → All (IsEligible flows virtual_time) es.keys → All (IsWaiting flows) ws.keys → length es.keys + length ws.keys + presence fl.backlog ≡ length eligible.keys + length waiting.keys → length es.keys ≤ length eligible.keys → length ws.keys ≤ length waiting.keys → es.moves ≡ eligible.moves → ws.moves ≡ waiting.moves → es.room + length es.keys ≡ eligible.room + length eligible.keys → ws.room + length ws.keys ≡ waiting.room + length waiting.keys → w + head_weight fl.backlog ≡ weights → Kept none_absent [] (set flows slot no_packets) es ws virtual_time w arrivals picks
   forgot es ws w ne nw others re aw lens le lw me mw rme rmw wq =
       let long = length-set flows slot no_packets in
       let weigh : sum_by (λ y. head_weight y.backlog) (set flows slot no_packets) + head_weight fl.backlog ≡ sum_by (λ y. head_weight y.backlog) flows + 0 = sum_by-set (λ y. head_weight y.backlog) flows slot no_packets no_packets listed in
@@ -41,14 +41,14 @@ module _ {flows : List Flow} {eligible waiting : Heap Rank} {virtual_time weight
           | inr n ↦ let o = others g n in let c = kept.placed g in rw (get_or-set_other flows slot g no_packets no_packets n) (omega arith)
         ];
         ready = λ i d l. let e = slice_index_or es.keys i d in
-            rw (get_or-set_other flows slot e.slot no_packets no_packets (none_standing slot es.keys ne i d l)) (re i d l);
+            rw (get_or-set_other flows slot e.slot no_packets no_packets (no_rank_at slot es.keys ne i d l)) (re i d l);
         waits = λ i d l. let e = slice_index_or ws.keys i d in
-            rw (get_or-set_other flows slot e.slot no_packets no_packets (none_standing slot ws.keys nw i d l)) (aw i d l);
+            rw (get_or-set_other flows slot e.slot no_packets no_packets (no_rank_at slot ws.keys nw i d l)) (aw i d l);
         weighed = let c = kept.weighed in omega (arith, weigh);
         counted = let c = kept.counted in omega (arith, heads);
         pushed = let c = kept.pushed in omega (arith, tails);
         picked = let c = kept.picked in omega arith;
-        bounded = All-set (IsFlowWithin (bound arrivals picks)) flows slot no_packets (omega arith, All-nil (IsWithin (bound arrivals picks))) kept.bounded;
+        bounded = All-set (AreTagsWithin (bound arrivals picks)) flows slot no_packets (omega arith, All-nil (IsWithin (bound arrivals picks))) kept.bounded;
         timely = kept.timely;
         eligible_room = let c = kept.eligible_room in omega arith;
         waiting_room = let c = kept.waiting_room in omega arith;
@@ -59,28 +59,28 @@ module _ {flows : List Flow} {eligible waiting : Heap Rank} {virtual_time weight
       let c = kept.placed slot in
       forgot eligible waiting weights (omega arith) (omega arith) (λ g n. refl) kept.ready kept.waits (omega arith) (omega arith) (omega arith) refl refl refl refl (omega arith)
 
-  pub forgot_waiting : (k : Rank) (ws : Heap Rank) (w : ℕ) → k.slot ≡ slot → IsPermutation waiting.keys (k ∷ ws.keys) → ws.moves ≡ waiting.moves → ws.room ≡ waiting.room + 1 → w + head_weight fl.backlog ≡ weights → Kept none_absent [] (set flows slot no_packets) eligible ws virtual_time w arrivals picks
+  pub forgot_waiting : (k : RankView) (ws : Heap RankView) (w : ℕ) → k.slot ≡ slot → IsPermutation waiting.keys (k ∷ ws.keys) → ws.moves ≡ waiting.moves → ws.room ≡ waiting.room + 1 → w + head_weight fl.backlog ≡ weights → Kept none_absent [] (set flows slot no_packets) eligible ws virtual_time w arrivals picks
   forgot_waiting k ws w same p mw rmw wq =
       let c = kept.placed slot in
-      let a = standing_popped slot k waiting.keys ws.keys p in
-      let z = at_slot_same slot k same in
+      let a = ranks_at_popped slot k waiting.keys ws.keys p in
+      let z = rank_at_same slot k same in
       let m = presence-le fl.backlog in
       let l = length_permutation waiting.keys (k ∷ ws.keys) p in
       forgot eligible ws w (omega arith) (omega arith)
-      (λ g n. let b = standing_popped g k waiting.keys ws.keys p in let y = at_slot_other g k (λ e. n (sym e ∙ same)) in omega arith)
+      (λ g n. let b = ranks_at_popped g k waiting.keys ws.keys p in let y = rank_at_other g k (λ e. n (sym e ∙ same)) in omega arith)
       kept.ready
       (All-tail (IsWaiting flows) k ws.keys (All-permutation (IsWaiting flows) waiting.keys (k ∷ ws.keys) p kept.waits))
       (omega arith) (omega arith) (omega arith) refl mw refl (omega arith) wq
 
-  pub forgot_eligible : (k : Rank) (es : Heap Rank) (w : ℕ) → k.slot ≡ slot → IsPermutation eligible.keys (k ∷ es.keys) → es.moves ≡ eligible.moves → es.room ≡ eligible.room + 1 → w + head_weight fl.backlog ≡ weights → Kept none_absent [] (set flows slot no_packets) es waiting virtual_time w arrivals picks
+  pub forgot_eligible : (k : RankView) (es : Heap RankView) (w : ℕ) → k.slot ≡ slot → IsPermutation eligible.keys (k ∷ es.keys) → es.moves ≡ eligible.moves → es.room ≡ eligible.room + 1 → w + head_weight fl.backlog ≡ weights → Kept none_absent [] (set flows slot no_packets) es waiting virtual_time w arrivals picks
   forgot_eligible k es w same p me rme wq =
       let c = kept.placed slot in
-      let a = standing_popped slot k eligible.keys es.keys p in
-      let z = at_slot_same slot k same in
+      let a = ranks_at_popped slot k eligible.keys es.keys p in
+      let z = rank_at_same slot k same in
       let m = presence-le fl.backlog in
       let l = length_permutation eligible.keys (k ∷ es.keys) p in
       forgot es waiting w (omega arith) (omega arith)
-      (λ g n. let b = standing_popped g k eligible.keys es.keys p in let y = at_slot_other g k (λ e. n (sym e ∙ same)) in omega arith)
+      (λ g n. let b = ranks_at_popped g k eligible.keys es.keys p in let y = rank_at_other g k (λ e. n (sym e ∙ same)) in omega arith)
       (All-tail (IsEligible flows virtual_time) k es.keys (All-permutation (IsEligible flows virtual_time) eligible.keys (k ∷ es.keys) p kept.ready))
       kept.waits
       (omega arith) (omega arith) (omega arith) me refl (omega arith) refl wq
@@ -90,16 +90,16 @@ module _ {flows : List Flow} {eligible waiting : Heap Rank} {virtual_time weight
   one_stands h is nw ne =
       let c = kept.placed slot in
       let one = head_there (λ x. x ≡ h) fl.backlog is in
-      elim (cases_lt 0 (standing slot waiting.keys)) [
+      elim (cases_lt 0 (ranks_at slot waiting.keys)) [
         | inl l ↦
-            let i = some_standing slot waiting.keys l in
+            let i = some_rank_at slot waiting.keys l in
             let k = slice_index_or waiting.keys i.0 no_rank in
             let at = subst (λ x. HeadIs (λ p. k.tag ≡ p.start_tag) (flow_at flows x).backlog) (i.2 no_rank) (kept.waits i.0 no_rank i.1) in
             let s = head_says (λ p. (k.tag ≡ p.start_tag) × (p ≡ h)) (k.tag ≡ h.start_tag) (λ p x. x.0 ∙ ap (λ (y : Stamped). y.start_tag) x.1) fl.backlog (head_both (λ p. k.tag ≡ p.start_tag) (λ x. x ≡ h) (λ p. (k.tag ≡ p.start_tag) × (p ≡ h)) (λ p a b. (a, b)) fl.backlog at is) in
             absurd (let t = rank_same k (record { tag = h.start_tag; slot = slot }) s (i.2 no_rank) in let u = nw i.0 no_rank i.1 in cc)
         | inr n ↦
-            let l : 0 < standing slot eligible.keys = omega arith in
-            let i = some_standing slot eligible.keys l in
+            let l : 0 < ranks_at slot eligible.keys = omega arith in
+            let i = some_rank_at slot eligible.keys l in
             let k = slice_index_or eligible.keys i.0 no_rank in
             let at = subst (λ x. HeadIs (λ p. (k.tag ≡ p.finish_tag) × (p.start_tag ≤ virtual_time)) (flow_at flows x).backlog) (i.2 no_rank) (kept.ready i.0 no_rank i.1) in
             let s = head_says (λ p. ((k.tag ≡ p.finish_tag) × (p.start_tag ≤ virtual_time)) × (p ≡ h)) (k.tag ≡ h.finish_tag) (λ p x. x.0.0 ∙ ap (λ (y : Stamped). y.finish_tag) x.1) fl.backlog (head_both (λ p. (k.tag ≡ p.finish_tag) × (p.start_tag ≤ virtual_time)) (λ x. x ≡ h) (λ p. ((k.tag ≡ p.finish_tag) × (p.start_tag ≤ virtual_time)) × (p ≡ h)) (λ p a b. (a, b)) fl.backlog at is) in
@@ -107,7 +107,7 @@ module _ {flows : List Flow} {eligible waiting : Heap Rank} {virtual_time weight
       ]
 
 -- Nothing waits beyond the slots that there are.
-pub beyond : (p : Parts) (slot : ℕ) → length p.flows.items ≤ slot → Discards slot p p
+pub beyond : (p : SchedParts) (slot : ℕ) → length p.flows.items ≤ slot → DiscardsSlot slot p p
 beyond p slot l =
     let long = length-by_slot (seen p.busy_from) p.flows.items in
     let none : flow_at (flows_of p) slot ≡ no_packets = get_or_past (flows_of p) slot no_packets (omega arith) in
@@ -121,7 +121,7 @@ beyond p slot l =
       room = λ g. omega arith;
     }
 
-module _ (p : Parts) (kept : IsKept p) (slot : ℕ) (listed : slot < length p.flows.items) (q : FlowQueue) (at : q ≡ get_or p.flows.items slot q) (r : FlowQueue) (packets : r.packets.items ≡ []) (last : r.last_finish_tag ≡ 0) (arrived : r.arrived ≡ q.arrived) (room : places q ≤ places r) where
+module _ (p : SchedParts) (kept : IsSchedKept p) (slot : ℕ) (listed : slot < length p.flows.items) (q : TaggedQueue) (at : q ≡ get_or p.flows.items slot q) (r : TaggedQueue) (packets : r.packets.items ≡ []) (last : r.last_finish_tag ≡ 0) (arrived : r.arrived ≡ q.arrived) (room : places q ≤ places r) where
   same_flow : flow_at (flows_of p) slot ≡ seen p.busy_from slot q
   same_flow = flow_at_seen p.busy_from p.flows.items slot q listed ∙ ap (seen p.busy_from slot) (sym at)
 
@@ -134,7 +134,7 @@ module _ (p : Parts) (kept : IsKept p) (slot : ℕ) (listed : slot < length p.fl
   flows_is : by_slot (seen p.busy_from) (set p.flows.items slot r) ≡ after_discard (flows_of p) slot
   flows_is = by_slot-set (seen p.busy_from) p.flows.items slot r ∙ ap (λ x. set (flows_of p) slot x) seen_is
 
-  pub discards : (new : Parts) → new.flows.items ≡ set p.flows.items slot r → new.busy_from ≡ p.busy_from → new.virtual_time ≡ p.virtual_time → new.arrivals ≡ p.arrivals → new.picks ≡ p.picks → new.eligible.moves + new.waiting.moves ≡ p.eligible.moves + p.waiting.moves → Discards slot p new
+  pub discards : (new : SchedParts) → new.flows.items ≡ set p.flows.items slot r → new.busy_from ≡ p.busy_from → new.virtual_time ≡ p.virtual_time → new.arrivals ≡ p.arrivals → new.picks ≡ p.picks → new.eligible.moves + new.waiting.moves ≡ p.eligible.moves + p.waiting.moves → DiscardsSlot slot p new
   discards new nf nb nt na np nm =
       let fs : flows_of new ≡ after_discard (flows_of p) slot = rw (nf, nb) flows_is in
       record {
@@ -150,7 +150,7 @@ module _ (p : Parts) (kept : IsKept p) (slot : ℕ) (listed : slot < length p.fl
   all_arrived : All (λ x. x.arrived ≤ p.arrivals) (set p.flows.items slot r)
   all_arrived = All-set (λ x. x.arrived ≤ p.arrivals) p.flows.items slot r (rw (arrived, at) (kept.arrived slot q listed)) kept.arrived
 
-  abbrev pub left_parts : Heap Rank → Heap Rank → ℕ → Parts
+  abbrev pub left_parts : Heap RankView → Heap RankView → ℕ → SchedParts
   left_parts es ws w = record {
     flows = with_item p.flows slot r;
     eligible = es;
@@ -162,13 +162,13 @@ module _ (p : Parts) (kept : IsKept p) (slot : ℕ) (listed : slot < length p.fl
     picks = p.picks;
   }
 
-  made : (es ws : Heap Rank) (w : ℕ) → Kept none_absent [] (set (flows_of p) slot no_packets) es ws p.virtual_time w p.arrivals p.picks → IsKept (left_parts es ws w)
+  made : (es ws : Heap RankView) (w : ℕ) → Kept none_absent [] (set (flows_of p) slot no_packets) es ws p.virtual_time w p.arrivals p.picks → IsSchedKept (left_parts es ws w)
   made es ws w k = record { kept = rw flows_is k; few = kept.few; began = kept.began; arrived = all_arrived }
 
-  pub idle_left : q.packets.items ≡ [] → IsKept (left_parts p.eligible p.waiting p.weights)
+  pub idle_left : q.packets.items ≡ [] → IsSchedKept (left_parts p.eligible p.waiting p.weights)
   idle_left nil = made p.eligible p.waiting p.weights (forgot_idle kept.kept slot listed' (rw (same_flow, nil) refl) (rw (same_flow, nil) refl))
 
-  module _ (h : TaggedPacket) (is : first_of q.packets.items ≡ Some h) where
+  module _ (h : TaggedPacket) (is : first_packet q.packets.items ≡ Some h) where
     is' : HeadIs (λ x. x ≡ tagged slot h) (flow_at (flows_of p) slot).backlog
     is' = rw same_flow (next_is slot q.packets.items h is)
 
@@ -181,15 +181,15 @@ module _ (p : Parts) (kept : IsKept p) (slot : ℕ) (listed : slot < length p.fl
         let w = kept.kept.weighed in
         omega (arith, weight_is)
 
-    pub waiting_left : (e k : Rank) (ws : Heap Rank) → e ≡ record { tag = h.start_tag; slot = slot } → is_eq (rank_cmp k e) ≡ true → IsPermutation p.waiting.keys (k ∷ ws.keys) → ws.moves ≡ p.waiting.moves → ws.room ≡ p.waiting.room + 1 → IsKept (left_parts p.eligible ws (p.weights - h.weight))
+    pub waiting_left : (e k : RankView) (ws : Heap RankView) → e ≡ record { tag = h.start_tag; slot = slot } → is_eq (rank_cmp k e) ≡ true → IsPermutation p.waiting.keys (k ∷ ws.keys) → ws.moves ≡ p.waiting.moves → ws.room ≡ p.waiting.room + 1 → IsSchedKept (left_parts p.eligible ws (p.weights - h.weight))
     waiting_left e k ws this eq perm mw rmw =
         let w = weighs in
-        made p.eligible ws (p.weights - h.weight) (forgot_waiting kept.kept slot listed' k ws (p.weights - h.weight) ((same_rank k e eq).1 ∙ ap (λ (x : Rank). x.slot) this) perm mw rmw (omega (arith, weight_is)))
+        made p.eligible ws (p.weights - h.weight) (forgot_waiting kept.kept slot listed' k ws (p.weights - h.weight) ((same_rank k e eq).1 ∙ ap (λ (x : RankView). x.slot) this) perm mw rmw (omega (arith, weight_is)))
 
-    pub eligible_left : (e k : Rank) (es : Heap Rank) → e ≡ record { tag = h.finish_tag; slot = slot } → is_eq (rank_cmp k e) ≡ true → IsPermutation p.eligible.keys (k ∷ es.keys) → es.moves ≡ p.eligible.moves → es.room ≡ p.eligible.room + 1 → IsKept (left_parts es p.waiting (p.weights - h.weight))
+    pub eligible_left : (e k : RankView) (es : Heap RankView) → e ≡ record { tag = h.finish_tag; slot = slot } → is_eq (rank_cmp k e) ≡ true → IsPermutation p.eligible.keys (k ∷ es.keys) → es.moves ≡ p.eligible.moves → es.room ≡ p.eligible.room + 1 → IsSchedKept (left_parts es p.waiting (p.weights - h.weight))
     eligible_left e k es this eq perm me rme =
         let w = weighs in
-        made es p.waiting (p.weights - h.weight) (forgot_eligible kept.kept slot listed' k es (p.weights - h.weight) ((same_rank k e eq).1 ∙ ap (λ (x : Rank). x.slot) this) perm me rme (omega (arith, weight_is)))
+        made es p.waiting (p.weights - h.weight) (forgot_eligible kept.kept slot listed' k es (p.weights - h.weight) ((same_rank k e eq).1 ∙ ap (λ (x : RankView). x.slot) this) perm me rme (omega (arith, weight_is)))
 
-    pub not_both : (e f : Rank) → e ≡ record { tag = h.start_tag; slot = slot } → f ≡ record { tag = h.finish_tag; slot = slot } → All (λ k. is_eq (rank_cmp k e) ≡ false) p.waiting.keys → All (λ k. is_eq (rank_cmp k f) ≡ false) p.eligible.keys → ⊥
+    pub not_both : (e f : RankView) → e ≡ record { tag = h.start_tag; slot = slot } → f ≡ record { tag = h.finish_tag; slot = slot } → All (λ k. is_eq (rank_cmp k e) ≡ false) p.waiting.keys → All (λ k. is_eq (rank_cmp k f) ≡ false) p.eligible.keys → ⊥
     not_both e f ee ef nw ne = one_stands kept.kept slot listed' (tagged slot h) is' (rw ee at nw) (rw ef at ne)

@@ -5,38 +5,38 @@ use Rattle.std.proofs.lemmas.List.Elements.{All-cons}
 use Rattle.std.proofs.lemmas.Bool.{cases_eq}
 use Rattle.dn_types.specs.Wf2q.{Stamped}
 use Rattle.dn_heap.specs.Heap.{Heap}
-use Rattle.dn_wf2q.specs.Rank.{Rank}
+use Rattle.dn_wf2q.specs.Rank.{RankView}
 use Rattle.dn_wf2q.specs.Schedule.{Flow, flow_at}
-use Rattle.dn_wf2q.specs.Kept.{Kept, HeadIs, IsEligible, IsWaiting, standing, none_absent, only_absent}
+use Rattle.dn_wf2q.specs.Kept.{Kept, HeadIs, IsEligible, IsWaiting, ranks_at, none_absent, only_absent}
 use Rattle.dn_wf2q.proofs.Heads.{head_weaker}
-use Rattle.dn_wf2q.proofs.Ranks.{standing_pushed, at_slot_same, at_slot_other, absent_same, absent_other}
-use Rattle.dn_wf2q.proofs.Steps.{standing-le}
+use Rattle.dn_wf2q.proofs.Ranks.{ranks_at_pushed, rank_at_same, rank_at_other, absent_same, absent_other}
+use Rattle.dn_wf2q.proofs.Steps.{ranks_at-le}
 
-module _ {flows : List Flow} {eligible waiting : Heap Rank} {virtual_time weights arrivals picks : ℕ} (slot : ℕ) (h : Stamped) (kept : Kept (only_absent slot) (h ∷ []) flows eligible waiting virtual_time weights arrivals picks) (is : HeadIs (λ x. x ≡ h) (flow_at flows slot).backlog) where
+module _ {flows : List Flow} {eligible waiting : Heap RankView} {virtual_time weights arrivals picks : ℕ} (slot : ℕ) (h : Stamped) (kept : Kept (only_absent slot) (h ∷ []) flows eligible waiting virtual_time weights arrivals picks) (is : HeadIs (λ x. x ≡ h) (flow_at flows slot).backlog) where
   pub enter_room : arrivals ≤ 2 ^ 62 → (0 < eligible.room) × (0 < waiting.room) × (eligible.moves < 2 ^ 63) × (waiting.moves < 2 ^ 63)
   enter_room few =
-      let s = standing-le kept in
+      let s = ranks_at-le kept in
       let a = kept.eligible_room in
       let b = kept.waiting_room in
       let c = kept.pushed in
       (omega arith, omega arith, omega arith, omega arith)
 
   -- What a heap gains is what was absent.
-  placed : (e : Rank) → e.slot ≡ slot → (keys keys' : List Rank) → IsPermutation (e ∷ keys) keys' → (g : ℕ) → standing g keys' ≡ standing g keys + only_absent slot g
+  placed : (e : RankView) → e.slot ≡ slot → (keys keys' : List RankView) → IsPermutation (e ∷ keys) keys' → (g : ℕ) → ranks_at g keys' ≡ ranks_at g keys + only_absent slot g
   placed e same keys keys' q g = elim (cases_eq g slot) [
     | inl eq ↦
-        let a = standing_pushed g e keys keys' q in
-        let z = at_slot_same g e (same ∙ sym eq) in
+        let a = ranks_at_pushed g e keys keys' q in
+        let z = rank_at_same g e (same ∙ sym eq) in
         let w = absent_same slot g 1 (sym eq) in
         omega arith
     | inr n ↦
-        let a = standing_pushed g e keys keys' q in
-        let z = at_slot_other g e (λ y. n (sym y ∙ same)) in
+        let a = ranks_at_pushed g e keys keys' q in
+        let z = rank_at_other g e (λ y. n (sym y ∙ same)) in
         let w = absent_other slot g 1 (λ y. n (sym y)) in
         omega arith
   ]
 
-  pub entered_waiting : (e : Rank) (ws : Heap Rank) → e.slot ≡ slot → e.tag ≡ h.start_tag → IsPermutation (e ∷ waiting.keys) ws.keys → ws.moves ≡ waiting.moves + 1 → ws.room + 1 ≡ waiting.room → Kept none_absent [] flows eligible ws virtual_time (weights + h.weight) arrivals picks
+  pub entered_waiting : (e : RankView) (ws : Heap RankView) → e.slot ≡ slot → e.tag ≡ h.start_tag → IsPermutation (e ∷ waiting.keys) ws.keys → ws.moves ≡ waiting.moves + 1 → ws.room + 1 ≡ waiting.room → Kept none_absent [] flows eligible ws virtual_time (weights + h.weight) arrivals picks
   entered_waiting e ws same tag q mw rw' =
       let l = length_permutation (e ∷ waiting.keys) ws.keys q in
       let one : IsWaiting flows e = rw same (head_weaker (λ x. x ≡ h) (λ x. e.tag ≡ x.start_tag) (λ x y. rw y tag) (flow_at flows slot).backlog is) in
@@ -54,7 +54,7 @@ module _ {flows : List Flow} {eligible waiting : Heap Rank} {virtual_time weight
         waiting_room = let c = kept.waiting_room in omega arith;
       }
 
-  pub entered_eligible : (e : Rank) (es : Heap Rank) → h.start_tag ≤ virtual_time → e.slot ≡ slot → e.tag ≡ h.finish_tag → IsPermutation (e ∷ eligible.keys) es.keys → es.moves ≡ eligible.moves + 1 → es.room + 1 ≡ eligible.room → Kept none_absent [] flows es waiting virtual_time (weights + h.weight) arrivals picks
+  pub entered_eligible : (e : RankView) (es : Heap RankView) → h.start_tag ≤ virtual_time → e.slot ≡ slot → e.tag ≡ h.finish_tag → IsPermutation (e ∷ eligible.keys) es.keys → es.moves ≡ eligible.moves + 1 → es.room + 1 ≡ eligible.room → Kept none_absent [] flows es waiting virtual_time (weights + h.weight) arrivals picks
   entered_eligible e es low same tag q me re =
       let l = length_permutation (e ∷ eligible.keys) es.keys q in
       let one : IsEligible flows virtual_time e = rw same (head_weaker (λ x. x ≡ h) (λ x. (e.tag ≡ x.finish_tag) × (x.start_tag ≤ virtual_time)) (λ x y. rw y (tag, low)) (flow_at flows slot).backlog is) in

@@ -4,10 +4,10 @@ use Rattle.std.proofs.lemmas.List.{get_or-set_same, get_or-set_other, get_or_pas
 use Rattle.std.proofs.lemmas.List.Elements.{All-nil, All-weaker}
 use Rattle.std.proofs.lemmas.Bool.{cases_lt, cases_eq}
 use Rattle.dn_types.specs.Wf2q.{Stamped}
-use Rattle.dn_wf2q.specs.declared.flow_queue.TaggedPacket.{TaggedPacket}
-use Rattle.dn_wf2q.specs.declared.flow_queue.FlowQueue.{FlowQueue}
+use Rattle.dn_wf2q.specs.declared.tagged_packet.TaggedPacket.{TaggedPacket}
+use Rattle.dn_wf2q.specs.declared.tagged_queue.TaggedQueue.{TaggedQueue}
 use Rattle.dn_wf2q.specs.Schedule.{Flow, flow_at, no_packets, room_at}
-use Rattle.dn_wf2q.specs.Kept.{HeadIs, first_of, places, seen, tagged, by_slot, IsWithin, IsFlowWithin, presence, behind, head_weight}
+use Rattle.dn_wf2q.specs.Kept.{HeadIs, first_packet, places, seen, tagged, by_slot, IsWithin, AreTagsWithin, presence, behind, head_weight}
 use Rattle.dn_wf2q.proofs.BySlot.{by_slot_at}
 
 -- P holds of the head, if there is one
@@ -65,7 +65,7 @@ head_listed P [] f h = absurd h
 head_listed P (fl ∷ fls) zero h = omega arith
 head_listed P (fl ∷ fls) (suc f) h = let l = head_listed P fls f h in omega arith
 
-pub flow_within : (b : ℕ) (flows : List Flow) (f : ℕ) → All (IsFlowWithin b) flows → IsFlowWithin b (flow_at flows f)
+pub flow_within : (b : ℕ) (flows : List Flow) (f : ℕ) → All (AreTagsWithin b) flows → AreTagsWithin b (flow_at flows f)
 flow_within b flows f all = elim (cases_lt f (length flows)) [
   | inl l ↦ all f no_packets l
   | inr n ↦ rw (get_or_past flows f no_packets n) (omega arith, All-nil (IsWithin b))
@@ -75,7 +75,7 @@ pub head_of_all : (P : Stamped → Type 0) (Q : Stamped → Type 0) (q : List St
 head_of_all P Q [] h all = h
 head_of_all P Q (p ∷ q) h all = all 0 p (omega arith)
 
-pub head_within : (P : Stamped → Type 0) (b : ℕ) (flows : List Flow) (f : ℕ) → All (IsFlowWithin b) flows → HeadIs P (flow_at flows f).backlog → HeadIs (IsWithin b) (flow_at flows f).backlog
+pub head_within : (P : Stamped → Type 0) (b : ℕ) (flows : List Flow) (f : ℕ) → All (AreTagsWithin b) flows → HeadIs P (flow_at flows f).backlog → HeadIs (IsWithin b) (flow_at flows f).backlog
 head_within P b flows f all h = head_of_all P (IsWithin b) (flow_at flows f).backlog h (flow_within b flows f all).1
 
 -- a fact that does not speak of the head
@@ -84,7 +84,7 @@ head_says P A w [] h = absurd h
 head_says P A w (p ∷ q) h = w p h
 
 -- the flow f, from the code's list
-pub flow_at_seen : (b : ℕ) (qs : List FlowQueue) (f : ℕ) (d : FlowQueue) → f < length qs → flow_at (by_slot (seen b) qs) f ≡ seen b f (get_or qs f d)
+pub flow_at_seen : (b : ℕ) (qs : List TaggedQueue) (f : ℕ) (d : TaggedQueue) → f < length qs → flow_at (by_slot (seen b) qs) f ≡ seen b f (get_or qs f d)
 flow_at_seen b qs f d l = by_slot_at (seen b) qs f d no_packets l
 
 pub head_is_some : (P : Stamped → Type 0) (q : List Stamped) → HeadIs P q → 0 < length q
@@ -94,22 +94,22 @@ head_is_some P (p ∷ q) h = omega arith
 pub within_more : (b c : ℕ) (p : Stamped) → b ≤ c → IsWithin b p → IsWithin c p
 within_more b c p l h = let a = h.0 in let f = h.1 in (omega arith, omega arith, h.2, h.3, h.4)
 
-pub flow_within_more : (b c : ℕ) (fl : Flow) → b ≤ c → IsFlowWithin b fl → IsFlowWithin c fl
+pub flow_within_more : (b c : ℕ) (fl : Flow) → b ≤ c → AreTagsWithin b fl → AreTagsWithin c fl
 flow_within_more b c fl l h = let a = h.0 in (omega arith, All-weaker (IsWithin b) (IsWithin c) (λ p w. within_more b c p l w) fl.backlog h.1)
 
 -- one flow gets more room
-pub room_grows : (qs : List FlowQueue) (f : ℕ) (q : FlowQueue) → ((d : FlowQueue) → f < length qs → places (get_or qs f d) ≤ places q) → (g : ℕ) → room_at (map places qs) g ≤ room_at (map places (set qs f q)) g
+pub room_grows : (qs : List TaggedQueue) (f : ℕ) (q : TaggedQueue) → ((d : TaggedQueue) → f < length qs → places (get_or qs f d) ≤ places q) → (g : ℕ) → room_at (map places qs) g ≤ room_at (map places (set qs f q)) g
 room_grows [] f q h g = omega arith
 room_grows (x ∷ xs) zero q h zero = h x (omega arith)
 room_grows (x ∷ xs) zero q h (suc g) = omega arith
 room_grows (x ∷ xs) (suc f) q h zero = omega arith
 room_grows (x ∷ xs) (suc f) q h (suc g) = room_grows xs f q (λ d l. h d (omega arith)) g
 
-pub next_is : (slot : ℕ) (q : List TaggedPacket) (h : TaggedPacket) → first_of q ≡ Some h → HeadIs (λ p. p ≡ tagged slot h) (map (tagged slot) q)
+pub next_is : (slot : ℕ) (q : List TaggedPacket) (h : TaggedPacket) → first_packet q ≡ Some h → HeadIs (λ p. p ≡ tagged slot h) (map (tagged slot) q)
 next_is slot [] h e = absurd (cc)
 next_is slot (p ∷ q) h e = let same : p ≡ h = cc in ap (tagged slot) same
 
-pub next_is_none : (q : List TaggedPacket) → first_of q ≡ None → q ≡ []
+pub next_is_none : (q : List TaggedPacket) → first_packet q ≡ None → q ≡ []
 next_is_none [] e = refl
 next_is_none (p ∷ q) e = absurd (cc)
 
@@ -146,13 +146,13 @@ head_begins P [] x e h = h
 head_begins P (p ∷ q) x e h = absurd (omega arith)
 
 -- a flow with room is in the list
-pub room_listed : (qs : List FlowQueue) (f : ℕ) → 0 < room_at (map places qs) f → f < length qs
+pub room_listed : (qs : List TaggedQueue) (f : ℕ) → 0 < room_at (map places qs) f → f < length qs
 room_listed [] f h = absurd (omega arith)
 room_listed (x ∷ xs) zero h = omega arith
 room_listed (x ∷ xs) (suc f) h = let l = room_listed xs f h in omega arith
 
 -- a flow whose room may change does not matter to the others
-pub room_of_others : (qs : List FlowQueue) (f : ℕ) (q : FlowQueue) (g : ℕ) → (g ≡ f → ⊥) → room_at (map places qs) g ≤ room_at (map places (set qs f q)) g
+pub room_of_others : (qs : List TaggedQueue) (f : ℕ) (q : TaggedQueue) (g : ℕ) → (g ≡ f → ⊥) → room_at (map places qs) g ≤ room_at (map places (set qs f q)) g
 room_of_others [] f q g n = omega arith
 room_of_others (x ∷ xs) zero q zero n = absurd (n refl)
 room_of_others (x ∷ xs) zero q (suc g) n = omega arith
@@ -165,7 +165,7 @@ some_packets P slot [] h = absurd h
 some_packets P slot (p ∷ q) h = omega arith
 
 -- Where a queue has a first packet, that is the head and all that is there of heads.
-pub first_facts : (slot : ℕ) (q : List TaggedPacket) (h : TaggedPacket) → first_of q ≡ Some h → (presence (map (tagged slot) q) ≡ 1) × (take 1 (map (tagged slot) q) ≡ tagged slot h ∷ []) × HeadIs (λ x. x ≡ tagged slot h) (map (tagged slot) q)
+pub first_facts : (slot : ℕ) (q : List TaggedPacket) (h : TaggedPacket) → first_packet q ≡ Some h → (presence (map (tagged slot) q) ≡ 1) × (take 1 (map (tagged slot) q) ≡ tagged slot h ∷ []) × HeadIs (λ x. x ≡ tagged slot h) (map (tagged slot) q)
 first_facts slot [] h e = absurd (cc)
 first_facts slot (p ∷ q) h e = let same : p ≡ h = cc in (refl, ap (λ x. tagged slot x ∷ []) same, ap (tagged slot) same)
 

@@ -2,9 +2,9 @@
 use Rattle.std.proofs.Common.{◌≡◌, ℕ, zero, suc, List, [], ◌∷◌, map, All, refl}
 use Rattle.std.proofs.lemmas.List.Elements.{All-nil, All-cons}
 use Rattle.dn_types.specs.Wf2q.{Stamped}
-use Rattle.dn_wf2q.specs.declared.flow_queue.TaggedPacket.{TaggedPacket}
-use Rattle.dn_wf2q.specs.declared.flow_queue.FlowQueue.{FlowQueue}
-use Rattle.dn_wf2q.specs.declared.parts.Parts.{Parts}
+use Rattle.dn_wf2q.specs.declared.tagged_packet.TaggedPacket.{TaggedPacket}
+use Rattle.dn_wf2q.specs.declared.tagged_queue.TaggedQueue.{TaggedQueue}
+use Rattle.dn_wf2q.specs.declared.sched_parts.SchedParts.{SchedParts}
 use Rattle.dn_wf2q.specs.Schedule.{flow_at}
 use Rattle.dn_wf2q.specs.Kept.{flows_of, seen, tagged, by_slot}
 
@@ -12,10 +12,10 @@ tagged_own : (slot : ℕ) (ps : List TaggedPacket) → All (λ (p : Stamped). p.
 tagged_own slot [] = All-nil (λ (p : Stamped). p.flow ≡ slot)
 tagged_own slot (p ∷ ps) = All-cons (λ (p : Stamped). p.flow ≡ slot) (tagged slot p) (map (tagged slot) ps) refl (tagged_own slot ps)
 
-own_by : (b : ℕ) (s : ℕ → ℕ) (qs : List FlowQueue) (g : ℕ) → All (λ (p : Stamped). p.flow ≡ s g) (flow_at (by_slot (λ i. seen b (s i)) qs) g).backlog
+own_by : (b : ℕ) (s : ℕ → ℕ) (qs : List TaggedQueue) (g : ℕ) → All (λ (p : Stamped). p.flow ≡ s g) (flow_at (by_slot (λ i. seen b (s i)) qs) g).backlog
 own_by b s [] g = All-nil (λ (p : Stamped). p.flow ≡ s g)
 own_by b s (q ∷ qs) zero = tagged_own (s 0) q.packets.items
 own_by b s (q ∷ qs) (suc g) = own_by b (λ i. s (suc i)) qs g
 
-pub own_slots : (p : Parts) (g : ℕ) → All (λ (x : Stamped). x.flow ≡ g) (flow_at (flows_of p) g).backlog
+pub own_slots : (p : SchedParts) (g : ℕ) → All (λ (x : Stamped). x.flow ≡ g) (flow_at (flows_of p) g).backlog
 own_slots p g = own_by p.busy_from (λ i. i) p.flows.items g

@@ -2,18 +2,18 @@
 use Rattle.std.proofs.Common.{◌≡◌, ℕ, ◌+◌, ◌<◌, ◌≤◌, ◌∷◌, length, map, Some, IsPermutation, sym, ap, ◌∙◌, arith, get_or}
 use Rattle.std.proofs.lemmas.List.Sorted.{length_permutation}
 use Rattle.dn_heap.specs.Heap.{Heap}
-use Rattle.dn_wf2q.specs.declared.flow_queue.TaggedPacket.{TaggedPacket}
-use Rattle.dn_wf2q.specs.declared.flow_queue.FlowQueue.{FlowQueue}
-use Rattle.dn_wf2q.specs.declared.parts.Parts.{Parts}
-use Rattle.dn_wf2q.specs.Rank.{Rank}
+use Rattle.dn_wf2q.specs.declared.tagged_packet.TaggedPacket.{TaggedPacket}
+use Rattle.dn_wf2q.specs.declared.tagged_queue.TaggedQueue.{TaggedQueue}
+use Rattle.dn_wf2q.specs.declared.sched_parts.SchedParts.{SchedParts}
+use Rattle.dn_wf2q.specs.Rank.{RankView}
 use Rattle.dn_wf2q.specs.Schedule.{flow_at}
-use Rattle.dn_wf2q.specs.Kept.{IsKept, HeadIs, flows_of, seen, tagged, first_of}
+use Rattle.dn_wf2q.specs.Kept.{IsSchedKept, HeadIs, flows_of, seen, tagged, first_packet}
 use Rattle.dn_wf2q.proofs.BySlot.{length-by_slot}
 use Rattle.dn_wf2q.proofs.Heads.{head_listed, flow_at_seen, some_packets, head_weaker, next_is}
-use Rattle.dn_wf2q.proofs.Steps.{popped_waits, promoted_kept, standing-le}
+use Rattle.dn_wf2q.proofs.Steps.{popped_waits, promoted_kept, ranks_at-le}
 
 -- The key k of this slot left the waiting heap.
-module _ (p : Parts) (kept : IsKept p) (k : Rank) (slot : ℕ) (this : slot ≡ k.slot) (ws : Heap Rank) (perm : IsPermutation p.waiting.keys (k ∷ ws.keys)) where
+module _ (p : SchedParts) (kept : IsSchedKept p) (k : RankView) (slot : ℕ) (this : slot ≡ k.slot) (ws : Heap RankView) (perm : IsPermutation p.waiting.keys (k ∷ ws.keys)) where
   waits : HeadIs (λ x. k.tag ≡ x.start_tag) (flow_at (flows_of p) slot).backlog
   waits = rw this (popped_waits kept.kept k ws.keys perm)
 
@@ -25,11 +25,11 @@ module _ (p : Parts) (kept : IsKept p) (k : Rank) (slot : ℕ) (this : slot ≡ 
   pub has_room : 0 < p.eligible.room
   has_room =
       let l = length_permutation p.waiting.keys (k ∷ ws.keys) perm in
-      let s = standing-le kept.kept in
+      let s = ranks_at-le kept.kept in
       let r = kept.kept.eligible_room in
       omega arith
 
-  module _ (q : FlowQueue) (at : q ≡ get_or p.flows.items slot q) where
+  module _ (q : TaggedQueue) (at : q ≡ get_or p.flows.items slot q) where
     same_flow : flow_at (flows_of p) slot ≡ seen p.busy_from slot q
     same_flow = flow_at_seen p.busy_from p.flows.items slot q listed ∙ ap (seen p.busy_from slot) (sym at)
 
@@ -37,7 +37,7 @@ module _ (p : Parts) (kept : IsKept p) (k : Rank) (slot : ℕ) (this : slot ≡ 
     has_head = some_packets (λ x. k.tag ≡ x.start_tag) slot q.packets.items (rw same_flow at waits)
 
     -- It enters the eligible heap under the key e.
-    pub moved : (head : TaggedPacket) (e : Rank) (es : Heap Rank) → first_of q.packets.items ≡ Some head → k.tag ≤ p.virtual_time → e.slot ≡ slot → e.tag ≡ head.finish_tag → IsPermutation (e ∷ p.eligible.keys) es.keys → es.room + 1 ≡ p.eligible.room → es.moves ≡ p.eligible.moves + 1 → ws.room ≡ p.waiting.room + 1 → ws.moves ≡ p.waiting.moves → IsKept (record p { eligible = es; waiting = ws })
+    pub moved : (head : TaggedPacket) (e : RankView) (es : Heap RankView) → first_packet q.packets.items ≡ Some head → k.tag ≤ p.virtual_time → e.slot ≡ slot → e.tag ≡ head.finish_tag → IsPermutation (e ∷ p.eligible.keys) es.keys → es.room + 1 ≡ p.eligible.room → es.moves ≡ p.eligible.moves + 1 → ws.room ≡ p.waiting.room + 1 → ws.moves ≡ p.waiting.moves → IsSchedKept (record p { eligible = es; waiting = ws })
     moved head e es first low same tag into er em wr wm = record {
       kept = promoted_kept kept.kept k e es ws perm into (same ∙ this) low
           (rw (← this, same_flow) (head_weaker (λ x. x ≡ tagged slot head) (λ x. e.tag ≡ x.finish_tag) (λ x y. rw y tag) (map (tagged slot) q.packets.items) (next_is slot q.packets.items head first)))

@@ -6,47 +6,47 @@ use Rattle.std.proofs.lemmas.List.Elements.{All-nil, All-cons}
 use Rattle.std.proofs.lemmas.Bool.{cases_eq, cases_order, cases_lt}
 use Rattle.std.specs.Ordering.{is_lt, is_eq}
 use Rattle.std.proofs.lemmas.Bool.Decides.{nat_tests}
-use Rattle.dn_wf2q.specs.Rank.{Rank, rank_cmp}
-use Rattle.dn_wf2q.specs.Kept.{at_slot, standing}
+use Rattle.dn_wf2q.specs.Rank.{RankView, rank_cmp}
+use Rattle.dn_wf2q.specs.Kept.{rank_at, ranks_at}
 
-pub at_slot_same : (f : ℕ) (k : Rank) → k.slot ≡ f → at_slot f k ≡ 1
-at_slot_same f k e = grind (arith, nat_tests)
+pub rank_at_same : (f : ℕ) (k : RankView) → k.slot ≡ f → rank_at f k ≡ 1
+rank_at_same f k e = grind (arith, nat_tests)
 
-pub at_slot_other : (f : ℕ) (k : Rank) → (k.slot ≡ f → ⊥) → at_slot f k ≡ 0
-at_slot_other f k n = grind (arith, nat_tests)
+pub rank_at_other : (f : ℕ) (k : RankView) → (k.slot ≡ f → ⊥) → rank_at f k ≡ 0
+rank_at_other f k n = grind (arith, nat_tests)
 
-pub standing-cons : (f : ℕ) (k : Rank) (ks : List Rank) → standing f (k ∷ ks) ≡ at_slot f k + standing f ks
-standing-cons f k ks = sum_by-cons (at_slot f) k ks
+pub ranks_at-cons : (f : ℕ) (k : RankView) (ks : List RankView) → ranks_at f (k ∷ ks) ≡ rank_at f k + ranks_at f ks
+ranks_at-cons f k ks = sum_by-cons (rank_at f) k ks
 
-pub standing_pushed : (f : ℕ) (k : Rank) (xs ys : List Rank) → IsPermutation (k ∷ xs) ys → standing f ys ≡ at_slot f k + standing f xs
-standing_pushed f k xs ys h = sum_by_pushed (at_slot f) k xs ys h
+pub ranks_at_pushed : (f : ℕ) (k : RankView) (xs ys : List RankView) → IsPermutation (k ∷ xs) ys → ranks_at f ys ≡ rank_at f k + ranks_at f xs
+ranks_at_pushed f k xs ys h = sum_by_pushed (rank_at f) k xs ys h
 
-pub standing_popped : (f : ℕ) (k : Rank) (xs ys : List Rank) → IsPermutation xs (k ∷ ys) → standing f ys + at_slot f k ≡ standing f xs
-standing_popped f k xs ys h = sum_by_popped (at_slot f) k xs ys h
+pub ranks_at_popped : (f : ℕ) (k : RankView) (xs ys : List RankView) → IsPermutation xs (k ∷ ys) → ranks_at f ys + rank_at f k ≡ ranks_at f xs
+ranks_at_popped f k xs ys h = sum_by_popped (rank_at f) k xs ys h
 
-pub none_standing : (f : ℕ) (ks : List Rank) → standing f ks ≡ 0 → All (λ k. k.slot ≡ f → ⊥) ks
-none_standing f [] h = All-nil (λ k. k.slot ≡ f → ⊥)
-none_standing f (k ∷ ks) h =
-    let s = standing-cons f k ks in
+pub no_rank_at : (f : ℕ) (ks : List RankView) → ranks_at f ks ≡ 0 → All (λ k. k.slot ≡ f → ⊥) ks
+no_rank_at f [] h = All-nil (λ k. k.slot ≡ f → ⊥)
+no_rank_at f (k ∷ ks) h =
+    let s = ranks_at-cons f k ks in
     All-cons (λ k. k.slot ≡ f → ⊥) k ks
-    (λ e. let one = at_slot_same f k e in omega arith)
-    (none_standing f ks (omega (arith, s, h)))
+    (λ e. let one = rank_at_same f k e in omega arith)
+    (no_rank_at f ks (omega (arith, s, h)))
 
 -- a key of f, at its place
-pub some_standing : (f : ℕ) (ks : List Rank) → 0 < standing f ks → (i : ℕ) × (i < length ks) × ((d : Rank) → (slice_index_or ks i d).slot ≡ f)
-some_standing f [] h = absurd (omega arith)
-some_standing f (k ∷ ks) h =
+pub some_rank_at : (f : ℕ) (ks : List RankView) → 0 < ranks_at f ks → (i : ℕ) × (i < length ks) × ((d : RankView) → (slice_index_or ks i d).slot ≡ f)
+some_rank_at f [] h = absurd (omega arith)
+some_rank_at f (k ∷ ks) h =
     elim (cases_eq k.slot f) [
       | inl e ↦ (0, omega arith, λ d. e)
       | inr n ↦
-          let z = at_slot_other f k n in
-          let s = standing-cons f k ks in
-          let r = some_standing f ks (omega (arith, s, z, h)) in
+          let z = rank_at_other f k n in
+          let s = ranks_at-cons f k ks in
+          let r = some_rank_at f ks (omega (arith, s, z, h)) in
           (suc r.0, omega arith, r.2)
     ]
 
 -- a key that is less than no other comes first, ties by flow
-pub not_before : (x y : Rank) → is_lt (rank_cmp y x) ≡ false → (x.tag ≤ y.tag) × (y.tag ≡ x.tag → x.slot ≤ y.slot)
+pub not_before : (x y : RankView) → is_lt (rank_cmp y x) ≡ false → (x.tag ≤ y.tag) × (y.tag ≡ x.tag → x.slot ≤ y.slot)
 not_before x y h = elim (cases_order y.tag x.tag) [
   | inl e ↦ (
     omega arith,
@@ -61,9 +61,9 @@ not_before x y h = elim (cases_order y.tag x.tag) [
   ]
 ]
 
-pub standing_empty : (f : ℕ) (ks : List Rank) → length ks ≡ 0 → standing f ks ≡ 0
-standing_empty f [] e = refl
-standing_empty f (k ∷ ks) e = absurd (omega arith)
+pub ranks_at_empty : (f : ℕ) (ks : List RankView) → length ks ≡ 0 → ranks_at f ks ≡ 0
+ranks_at_empty f [] e = refl
+ranks_at_empty f (k ∷ ks) e = absurd (omega arith)
 
 -- what `None` says of a length
 pub zero_from_none : (n : ℕ) → (0 < n → false ≡ true) → n ≡ 0
@@ -72,7 +72,7 @@ zero_from_none n h = elim (cases_lt 0 n) [
   | inr m ↦ omega arith
 ]
 
-pub same_rank : (x y : Rank) → is_eq (rank_cmp x y) ≡ true → (x.tag ≡ y.tag) × (x.slot ≡ y.slot)
+pub same_rank : (x y : RankView) → is_eq (rank_cmp x y) ≡ true → (x.tag ≡ y.tag) × (x.slot ≡ y.slot)
 same_rank x y h = elim (cases_order x.tag y.tag) [
   | inl e ↦ elim (cases_order x.slot y.slot) [
     | inl f ↦ (e, f)
@@ -81,7 +81,7 @@ same_rank x y h = elim (cases_order x.tag y.tag) [
   | inr r ↦ absurd (let z : is_eq (rank_cmp x y) ≡ false = grind (arith, nat_tests) in cc)
 ]
 
-pub rank_same : (x y : Rank) → x.tag ≡ y.tag → x.slot ≡ y.slot → is_eq (rank_cmp x y) ≡ true
+pub rank_same : (x y : RankView) → x.tag ≡ y.tag → x.slot ≡ y.slot → is_eq (rank_cmp x y) ≡ true
 rank_same x y e f = grind (arith, nat_tests)
 
 -- What is absent at a slot, and at the others.

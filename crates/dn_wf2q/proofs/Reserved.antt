@@ -7,19 +7,19 @@ use Rattle.std.proofs.lemmas.List.Elements.{All-nil, All-append, All-replicate, 
 use Rattle.std.specs.Vec.{with_item}
 use Rattle.dn_heap.specs.Heap.{Heap}
 use Rattle.dn_types.specs.Wf2q.{Stamped}
-use Rattle.dn_wf2q.specs.declared.flow_queue.FlowQueue.{FlowQueue}
-use Rattle.dn_wf2q.specs.declared.parts.Parts.{Parts}
-use Rattle.dn_wf2q.specs.Rank.{Rank}
+use Rattle.dn_wf2q.specs.declared.tagged_queue.TaggedQueue.{TaggedQueue}
+use Rattle.dn_wf2q.specs.declared.sched_parts.SchedParts.{SchedParts}
+use Rattle.dn_wf2q.specs.Rank.{RankView}
 use Rattle.dn_wf2q.specs.Schedule.{Flow, flow_at, no_packets, padded, room_at}
-use Rattle.dn_wf2q.specs.Kept.{Kept, IsKept, IsWithin, IsFlowWithin, flows_of, seen, by_slot, places, presence, behind, head_weight, bound, none_absent}
-use Rattle.dn_wf2q.specs.Steps.{Reserves, IsBlank, IsExtended}
+use Rattle.dn_wf2q.specs.Kept.{Kept, IsSchedKept, IsWithin, AreTagsWithin, flows_of, seen, by_slot, places, presence, behind, head_weight, bound, none_absent}
+use Rattle.dn_wf2q.specs.Steps.{MakesRoom, IsBlank, IsExtended}
 use Rattle.dn_wf2q.proofs.BySlot.{length-by_slot, by_slot-set, by_slot-append}
 use Rattle.dn_wf2q.proofs.Heads.{flow_at_seen, room_grows, cond_zero}
 
-pub none_added : (xs : List FlowQueue) → IsExtended xs xs
+pub none_added : (xs : List TaggedQueue) → IsExtended xs xs
 none_added xs = record { more = []; is = sym (append-nil xs); blank = All-nil IsBlank }
 
-pub one_added : (xs ys : List FlowQueue) (q : FlowQueue) → IsExtended xs ys → IsBlank q → IsExtended xs (ys ++ q ∷ [])
+pub one_added : (xs ys : List TaggedQueue) (q : TaggedQueue) → IsExtended xs ys → IsBlank q → IsExtended xs (ys ++ q ∷ [])
 one_added xs ys q e b = record {
   more = e.more ++ q ∷ [];
   is = ap (λ l. l ++ q ∷ []) e.is ∙ append_assoc xs e.more (q ∷ []);
@@ -27,16 +27,16 @@ one_added xs ys q e b = record {
 }
 
 -- The flows that blank queues stand for have had no packet.
-pub extended_seen : (b : ℕ) (xs ys : List FlowQueue) (n : ℕ) → IsExtended xs ys → length ys ≡ n → by_slot (seen b) ys ≡ padded (by_slot (seen b) xs) n
+pub extended_seen : (b : ℕ) (xs ys : List TaggedQueue) (n : ℕ) → IsExtended xs ys → length ys ≡ n → by_slot (seen b) ys ≡ padded (by_slot (seen b) xs) n
 extended_seen b xs ys n e l =
     let m : length e.more ≡ n - length (by_slot (seen b) xs) = omega (arith, length-by_slot (seen b) xs, length-append xs e.more, ap length e.is) in
     let blank = All-weaker IsBlank (λ q. (slot : ℕ) → seen b slot q ≡ no_packets) (λ q h slot. rw (h.0, h.1, cond_zero (nat_lt b q.arrived)) refl) e.more e.blank in
     rw (e.is, ← m) (by_slot-append (seen b) xs e.more no_packets blank)
 
-extended_arrived : (a : ℕ) (xs ys : List FlowQueue) → IsExtended xs ys → All (λ q. q.arrived ≤ a) xs → All (λ q. q.arrived ≤ a) ys
+extended_arrived : (a : ℕ) (xs ys : List TaggedQueue) → IsExtended xs ys → All (λ q. q.arrived ≤ a) xs → All (λ q. q.arrived ≤ a) ys
 extended_arrived a xs ys e h = rw e.is (All-append (λ q. q.arrived ≤ a) xs e.more h (All-weaker IsBlank (λ q. q.arrived ≤ a) (λ q b. let z = b.2 in omega arith) e.more e.blank))
 
-room_extended : (xs ms : List FlowQueue) (g : ℕ) → room_at (map places xs) g ≤ room_at (map places (xs ++ ms)) g
+room_extended : (xs ms : List TaggedQueue) (g : ℕ) → room_at (map places xs) g ≤ room_at (map places (xs ++ ms)) g
 room_extended [] ms g = omega arith
 room_extended (x ∷ xs) ms zero = omega arith
 room_extended (x ∷ xs) ms (suc g) = room_extended xs ms g
@@ -57,9 +57,9 @@ sum_more h flows n z =
     let b : sum_by h (replicate n no_packets) ≡ 0 = rw (sum_by-replicate h n no_packets, z) (omega arith) in
     omega (arith, a, b)
 
-module _ {flows : List Flow} {eligible waiting : Heap Rank} {virtual_time weights arrivals picks : ℕ} (kept : Kept none_absent [] flows eligible waiting virtual_time weights arrivals picks) where
+module _ {flows : List Flow} {eligible waiting : Heap RankView} {virtual_time weights arrivals picks : ℕ} (kept : Kept none_absent [] flows eligible waiting virtual_time weights arrivals picks) where
   -- Only the heaps' room changes.
-  pub roomy_kept : (es ws : Heap Rank) → es.keys ≡ eligible.keys → ws.keys ≡ waiting.keys → es.moves ≡ eligible.moves → ws.moves ≡ waiting.moves → eligible.room ≤ es.room → waiting.room ≤ ws.room → Kept none_absent [] flows es ws virtual_time weights arrivals picks
+  pub roomy_kept : (es ws : Heap RankView) → es.keys ≡ eligible.keys → ws.keys ≡ waiting.keys → es.moves ≡ eligible.moves → ws.moves ≡ waiting.moves → eligible.room ≤ es.room → waiting.room ≤ ws.room → Kept none_absent [] flows es ws virtual_time weights arrivals picks
   roomy_kept es ws ek wk em wm er wr =
       let le = ap length ek in
       let lw = ap length wk in
@@ -89,7 +89,7 @@ module _ {flows : List Flow} {eligible waiting : Heap Rank} {virtual_time weight
         counted = kept.counted ∙ sym (sum_more (λ fl. presence fl.backlog) flows n refl);
         pushed = let c = kept.pushed in omega (arith, sum_more (λ fl. behind fl.backlog) flows n refl);
         picked = kept.picked;
-        bounded = All-append (IsFlowWithin (bound arrivals picks)) flows (replicate n no_packets) kept.bounded (All-replicate (IsFlowWithin (bound arrivals picks)) n no_packets (omega arith, All-nil (IsWithin (bound arrivals picks))));
+        bounded = All-append (AreTagsWithin (bound arrivals picks)) flows (replicate n no_packets) kept.bounded (All-replicate (AreTagsWithin (bound arrivals picks)) n no_packets (omega arith, All-nil (IsWithin (bound arrivals picks))));
         timely = kept.timely;
         eligible_room = omega arith;
         waiting_room = omega arith;
@@ -104,7 +104,7 @@ pub presences : (flows : List Flow) → sum_by (λ flow. presence flow.backlog) 
 presences [] = omega arith
 presences (fl ∷ fls) = omega (arith, sum_by-cons (λ flow. presence flow.backlog) fl fls, presence-le fl.backlog, presences fls)
 
-pub keys_within : (p : Parts) → IsKept p → length p.eligible.keys + length p.waiting.keys ≤ length p.flows.items
+pub keys_within : (p : SchedParts) → IsSchedKept p → length p.eligible.keys + length p.waiting.keys ≤ length p.flows.items
 keys_within p kept =
     let c = kept.kept.counted in
     omega (arith, presences (flows_of p), length-by_slot (seen p.busy_from) p.flows.items)
@@ -122,14 +122,14 @@ on_err_always (Ok x) Q q = tt
 on_err_always (Err e) Q q = q
 
 -- A queue that is there gets room.
-module _ (p : Parts) (kept : IsKept p) (slot : ℕ) (listed : slot < length p.flows.items) (q : FlowQueue) (at : q ≡ get_or p.flows.items slot q) where
+module _ (p : SchedParts) (kept : IsSchedKept p) (slot : ℕ) (listed : slot < length p.flows.items) (q : TaggedQueue) (at : q ≡ get_or p.flows.items slot q) where
   room_is : room_at (map places p.flows.items) slot ≡ places q
   room_is = get_or-map places p.flows.items slot q 0 listed ∙ ap places (sym at)
 
   pub has_place : 0 < room_at (map places p.flows.items) slot → 0 < places q
   has_place h = rw room_is at h
 
-  module _ (r : FlowQueue) (packets : r.packets.items ≡ q.packets.items) (last : r.last_finish_tag ≡ q.last_finish_tag) (arrived : r.arrived ≡ q.arrived) (room : places q ≤ places r) where
+  module _ (r : TaggedQueue) (packets : r.packets.items ≡ q.packets.items) (last : r.last_finish_tag ≡ q.last_finish_tag) (arrived : r.arrived ≡ q.arrived) (room : places q ≤ places r) where
     seen_is : seen p.busy_from slot r ≡ flow_at (flows_of p) slot
     seen_is =
         let a : seen p.busy_from slot r ≡ seen p.busy_from slot q = rw (packets, last, arrived) refl in
@@ -149,7 +149,7 @@ module _ (p : Parts) (kept : IsKept p) (slot : ℕ) (listed : slot < length p.fl
         let l = length-set p.flows.items slot r in
         rw (get_or-map places (set p.flows.items slot r) slot r 0 (omega (arith, l)), get_or-set_same p.flows.items slot r r listed) h
 
-    pub reserves_same : (new : Parts) → new.flows.items ≡ set p.flows.items slot r → new.virtual_time ≡ p.virtual_time → new.arrivals ≡ p.arrivals → new.picks ≡ p.picks → new.eligible.moves ≡ p.eligible.moves → new.waiting.moves ≡ p.waiting.moves → Reserves p new
+    pub reserves_same : (new : SchedParts) → new.flows.items ≡ set p.flows.items slot r → new.virtual_time ≡ p.virtual_time → new.arrivals ≡ p.arrivals → new.picks ≡ p.picks → new.eligible.moves ≡ p.eligible.moves → new.waiting.moves ≡ p.waiting.moves → MakesRoom p new
     reserves_same new nf nt na np ne nw = record {
       virtual_time = nt;
       arrivals = na;
@@ -159,10 +159,10 @@ module _ (p : Parts) (kept : IsKept p) (slot : ℕ) (listed : slot < length p.fl
       room = rw nf (room_grows p.flows.items slot r (λ d l. let e = get_or_read p.flows.items slot q listed at d in rw (← e) room));
     }
 
-    abbrev roomy : Parts
+    abbrev roomy : SchedParts
     roomy = record p { flows = with_item p.flows slot r }
 
-    pub kept_same : IsKept roomy
+    pub kept_same : IsSchedKept roomy
     kept_same = record {
       kept = rw flows_same kept.kept;
       few = kept.few;
@@ -171,7 +171,7 @@ module _ (p : Parts) (kept : IsKept p) (slot : ℕ) (listed : slot < length p.fl
     }
 
 -- Queues are added.
-pub kept_extended : (p new : Parts) → IsKept p → (n : ℕ) → IsExtended p.flows.items new.flows.items → length new.flows.items ≡ n → length p.flows.items ≤ n → new.eligible.keys ≡ p.eligible.keys → new.waiting.keys ≡ p.waiting.keys → new.eligible.moves ≡ p.eligible.moves → new.waiting.moves ≡ p.waiting.moves → p.eligible.room ≤ new.eligible.room → p.waiting.room ≤ new.waiting.room → n ≤ length new.eligible.keys + new.eligible.room → n ≤ length new.waiting.keys + new.waiting.room → new.virtual_time ≡ p.virtual_time → new.weights ≡ p.weights → new.busy_from ≡ p.busy_from → new.arrivals ≡ p.arrivals → new.picks ≡ p.picks → IsKept new
+pub kept_extended : (p new : SchedParts) → IsSchedKept p → (n : ℕ) → IsExtended p.flows.items new.flows.items → length new.flows.items ≡ n → length p.flows.items ≤ n → new.eligible.keys ≡ p.eligible.keys → new.waiting.keys ≡ p.waiting.keys → new.eligible.moves ≡ p.eligible.moves → new.waiting.moves ≡ p.waiting.moves → p.eligible.room ≤ new.eligible.room → p.waiting.room ≤ new.waiting.room → n ≤ length new.eligible.keys + new.eligible.room → n ≤ length new.waiting.keys + new.waiting.room → new.virtual_time ≡ p.virtual_time → new.weights ≡ p.weights → new.busy_from ≡ p.busy_from → new.arrivals ≡ p.arrivals → new.picks ≡ p.picks → IsSchedKept new
 kept_extended p new kept n e l le ek wk em wm er wr ee ww nt nw nb na np =
     let long = length-by_slot (seen p.busy_from) p.flows.items in
     let lk = ap length ek in
@@ -185,11 +185,11 @@ kept_extended p new kept n e l le ek wk em wm er wr ee ww nt nw nb na np =
       arrived = rw na (extended_arrived p.arrivals p.flows.items new.flows.items e kept.arrived);
     }
 
-pub room_added : (xs ys : List FlowQueue) → IsExtended xs ys → (g : ℕ) → room_at (map places xs) g ≤ room_at (map places ys) g
+pub room_added : (xs ys : List TaggedQueue) → IsExtended xs ys → (g : ℕ) → room_at (map places xs) g ≤ room_at (map places ys) g
 room_added xs ys e g = rw e.is (room_extended xs e.more g)
 
 -- A slot beyond the queues has no room.
-pub no_place : (qs : List FlowQueue) (slot : ℕ) → length qs ≤ slot → 0 < room_at (map places qs) slot → ⊥
+pub no_place : (qs : List TaggedQueue) (slot : ℕ) → length qs ≤ slot → 0 < room_at (map places qs) slot → ⊥
 no_place [] slot l h = absurd (omega arith)
 no_place (q ∷ qs) zero l h = absurd (omega arith)
 no_place (q ∷ qs) (suc slot) l h = no_place qs slot (omega arith) h

@@ -166,9 +166,9 @@ first_exists h (k ∷ hs) =
       )
     ]
 
-first_of_some : (hs : List Stamped) → Has (λ h. Unit {0}) hs → (r : Stamped) × IsFirst r hs
-first_of_some [] s = absurd (let f = s.fits (λ x. ⊥) (All-nil (λ x. ⊥)) in f)
-first_of_some (h ∷ hs) s = first_exists h hs
+first_packet_some : (hs : List Stamped) → Has (λ h. Unit {0}) hs → (r : Stamped) × IsFirst r hs
+first_packet_some [] s = absurd (let f = s.fits (λ x. ⊥) (All-nil (λ x. ⊥)) in f)
+first_packet_some (h ∷ hs) s = first_exists h hs
 
 filtered_fits : (p : Stamped → Bool) (Q : Stamped → Type 0) (hs : List Stamped) → All Q (filter p hs) → All (λ x. p x ≡ true → Q x) hs
 filtered_fits p Q [] all = All-nil (λ x. p x ≡ true → Q x)
@@ -202,7 +202,7 @@ first-is : (v : ℕ) (h : Stamped) (hs : List Stamped) → Has (λ x. (x ≡ h) 
 first-is v h hs has all =
     let fs = filter (is_eligible v) hs in
     let eligible = has_filtered (is_eligible v) (λ x. (x ≡ h) × (x.start_tag ≤ v)) hs (λ x k. eligible_by v x k.1) has in
-    let some = first_of_some fs (has_some (λ x. (x ≡ h) × (x.start_tag ≤ v)) fs eligible) in
+    let some = first_packet_some fs (has_some (λ x. (x ≡ h) × (x.start_tag ≤ v)) fs eligible) in
     let r = some.0 in
     let f = some.1 in
     let h-r : IsNotBefore h r = subst (λ x. IsNotBefore x r) eligible.holds.0 (eligible.fits (λ x. IsNotBefore x r) f.first) in
@@ -258,7 +258,7 @@ some_picked v h hs e =
     let l = has.holds in
     let now : Has (λ x. x.start_tag ≤ w) (h ∷ hs) = record { packet = has.packet; holds = omega arith; fits = has.fits } in
     let eligible = has_filtered (is_eligible w) (λ x. x.start_tag ≤ w) (h ∷ hs) (λ x k. eligible_by w x k) now in
-    let some = first_of_some (filter (is_eligible w) (h ∷ hs)) (has_some (λ x. x.start_tag ≤ w) (filter (is_eligible w) (h ∷ hs)) eligible) in
+    let some = first_packet_some (filter (is_eligible w) (h ∷ hs)) (has_some (λ x. x.start_tag ≤ w) (filter (is_eligible w) (h ∷ hs)) eligible) in
     let is = some.1.is in
     absurd (cc (e, is))
 

@@ -9,17 +9,17 @@ use Rattle.std.proofs.Math.Nat.{div-le_self}
 use Rattle.std.specs.Vec.{with_item}
 use Rattle.dn_types.specs.Wf2q.{Stamped, scaled, weight_sum}
 use Rattle.dn_heap.specs.Heap.{Heap}
-use Rattle.dn_wf2q.specs.declared.flow_queue.TaggedPacket.{TaggedPacket}
-use Rattle.dn_wf2q.specs.declared.flow_queue.FlowQueue.{FlowQueue}
-use Rattle.dn_wf2q.specs.declared.parts.Parts.{Parts}
-use Rattle.dn_wf2q.specs.Rank.{Rank}
+use Rattle.dn_wf2q.specs.declared.tagged_packet.TaggedPacket.{TaggedPacket}
+use Rattle.dn_wf2q.specs.declared.tagged_queue.TaggedQueue.{TaggedQueue}
+use Rattle.dn_wf2q.specs.declared.sched_parts.SchedParts.{SchedParts}
+use Rattle.dn_wf2q.specs.Rank.{RankView}
 use Rattle.dn_wf2q.specs.Schedule.{Flow, flow_at, no_packets, heads_of, after_pick, without_head}
-use Rattle.dn_wf2q.specs.Kept.{Kept, IsKept, IsKeptBut, IsKeptWithout, HeadIs, IsEligible, IsWaiting, IsWithin, IsFlowWithin, flows_of, seen, tagged, first_of, places, presence, behind, head_weight, standing, bound, none_absent, only_absent}
-use Rattle.dn_wf2q.specs.Steps.{Sends}
+use Rattle.dn_wf2q.specs.Kept.{Kept, IsSchedKept, IsKeptBut, IsKeptWithout, HeadIs, IsEligible, IsWaiting, IsWithin, AreTagsWithin, flows_of, seen, tagged, first_packet, places, presence, behind, head_weight, ranks_at, bound, none_absent, only_absent}
+use Rattle.dn_wf2q.specs.Steps.{SendsHead}
 use Rattle.dn_wf2q.proofs.BySlot.{length-by_slot, by_slot-set}
 use Rattle.dn_wf2q.proofs.Heads.{head_listed, head_weaker, flow_at_seen, some_packets, flow_within, within_more, flow_within_more, length-split, room_grows, first_facts, cond_zero}
 use Rattle.dn_wf2q.proofs.Counts.{length_of_first, weight_of_first, weights_are, waiting-set}
-use Rattle.dn_wf2q.proofs.Ranks.{standing_popped, none_standing, at_slot_same, at_slot_other, absent_same, absent_other}
+use Rattle.dn_wf2q.proofs.Ranks.{ranks_at_popped, no_rank_at, rank_at_same, rank_at_other, absent_same, absent_other}
 use Rattle.dn_wf2q.proofs.Steps.{all_in}
 
 -- Neither a packet's cost nor the growth by it is above this.
@@ -27,18 +27,18 @@ pub scaled-le : (len w : ℕ) → len < 65536 → scaled len w ≤ 4294967296
 scaled-le len w l = let d = div-le_self (len * 65536) w in omega arith
 
 -- The key k leaves the eligible heap; at its slot `sent` leaves and `rest` is left.
-module _ {flows : List Flow} {eligible waiting : Heap Rank} {virtual_time weights arrivals picks : ℕ} (kept : Kept none_absent [] flows eligible waiting virtual_time weights arrivals picks) (k : Rank) (es : Heap Rank) (p : IsPermutation eligible.keys (k ∷ es.keys)) (sent : Stamped) (rest : List Stamped) (is : (flow_at flows k.slot).backlog ≡ sent ∷ rest) where
-  left_in_eligible : standing k.slot es.keys ≡ 0
+module _ {flows : List Flow} {eligible waiting : Heap RankView} {virtual_time weights arrivals picks : ℕ} (kept : Kept none_absent [] flows eligible waiting virtual_time weights arrivals picks) (k : RankView) (es : Heap RankView) (p : IsPermutation eligible.keys (k ∷ es.keys)) (sent : Stamped) (rest : List Stamped) (is : (flow_at flows k.slot).backlog ≡ sent ∷ rest) where
+  left_in_eligible : ranks_at k.slot es.keys ≡ 0
   left_in_eligible =
-      let a = standing_popped k.slot k eligible.keys es.keys p in
-      let b = at_slot_same k.slot k refl in
+      let a = ranks_at_popped k.slot k eligible.keys es.keys p in
+      let b = rank_at_same k.slot k refl in
       let c = rw is at (kept.placed k.slot) in
       omega arith
 
-  left_in_waiting : standing k.slot waiting.keys ≡ 0
+  left_in_waiting : ranks_at k.slot waiting.keys ≡ 0
   left_in_waiting =
-      let a = standing_popped k.slot k eligible.keys es.keys p in
-      let b = at_slot_same k.slot k refl in
+      let a = ranks_at_popped k.slot k eligible.keys es.keys p in
+      let b = rank_at_same k.slot k refl in
       let c = rw is at (kept.placed k.slot) in
       omega arith
 
@@ -46,7 +46,7 @@ module _ {flows : List Flow} {eligible waiting : Heap Rank} {virtual_time weight
   others_ready : (fl : Flow) (v : ℕ) → virtual_time ≤ v → All (IsEligible (set flows k.slot fl) v) es.keys
   others_ready fl v l i d h =
       let e = slice_index_or es.keys i d in
-      let n = none_standing k.slot es.keys left_in_eligible i d h in
+      let n = no_rank_at k.slot es.keys left_in_eligible i d h in
       let was = All-tail (IsEligible flows virtual_time) k es.keys (All-permutation (IsEligible flows virtual_time) eligible.keys (k ∷ es.keys) p kept.ready) i d h in
       rw (get_or-set_other flows k.slot e.slot fl no_packets n)
       (head_weaker (λ p. (e.tag ≡ p.finish_tag) × (p.start_tag ≤ virtual_time)) (λ p. (e.tag ≡ p.finish_tag) × (p.start_tag ≤ v)) (λ p x. let y = x.1 in (x.0, omega arith)) (flow_at flows e.slot).backlog was)
@@ -54,7 +54,7 @@ module _ {flows : List Flow} {eligible waiting : Heap Rank} {virtual_time weight
   others_wait : (fl : Flow) → All (IsWaiting (set flows k.slot fl)) waiting.keys
   others_wait fl i d h =
       let e = slice_index_or waiting.keys i d in
-      let n = none_standing k.slot waiting.keys left_in_waiting i d h in
+      let n = no_rank_at k.slot waiting.keys left_in_waiting i d h in
       rw (get_or-set_other flows k.slot e.slot fl no_packets n) (kept.waits i d h)
 
   pub sent_within : IsWithin (bound arrivals picks) sent × All (IsWithin (bound arrivals picks)) rest × ((flow_at flows k.slot).last_finish_tag ≤ bound arrivals picks)
@@ -94,11 +94,11 @@ module _ {flows : List Flow} {eligible waiting : Heap Rank} {virtual_time weight
               let z = absent_same k.slot g (presence rest) e in
               let a = left_in_eligible in
               let b = left_in_waiting in
-              rw z (subst (λ x. standing x es.keys + standing x waiting.keys + presence rest ≡ presence (flow_at (set flows k.slot fl) x).backlog) e
+              rw z (subst (λ x. ranks_at x es.keys + ranks_at x waiting.keys + presence rest ≡ presence (flow_at (set flows k.slot fl) x).backlog) e
               (rw (get_or-set_same flows k.slot fl no_packets sent_listed) (omega arith)))
           | inr n ↦
-              let a = standing_popped g k eligible.keys es.keys p in
-              let z = at_slot_other g k n in
+              let a = ranks_at_popped g k eligible.keys es.keys p in
+              let z = rank_at_other g k n in
               let y = absent_other k.slot g (presence rest) n in
               let c = kept.placed g in
               rw (get_or-set_other flows k.slot g fl no_packets (λ e. n (sym e))) (omega arith)
@@ -109,16 +109,16 @@ module _ {flows : List Flow} {eligible waiting : Heap Rank} {virtual_time weight
         counted = let c = kept.counted in omega arith;
         pushed = let c = kept.pushed in omega arith;
         picked = let c = kept.picked in omega arith;
-        bounded = All-set (IsFlowWithin (bound arrivals (picks + 1))) flows k.slot fl
+        bounded = All-set (AreTagsWithin (bound arrivals (picks + 1))) flows k.slot fl
             (omega arith, All-weaker (IsWithin (bound arrivals picks)) (IsWithin (bound arrivals (picks + 1))) (λ x h. within_more _ _ x (omega arith) h) rest sent_within.1)
-            (All-weaker (IsFlowWithin (bound arrivals picks)) (IsFlowWithin (bound arrivals (picks + 1))) (λ x h. flow_within_more _ _ x (omega arith) h) flows kept.bounded);
+            (All-weaker (AreTagsWithin (bound arrivals picks)) (AreTagsWithin (bound arrivals (picks + 1))) (λ x h. flow_within_more _ _ x (omega arith) h) flows kept.bounded);
         timely = vb;
         eligible_room = let c = kept.eligible_room in omega arith;
         waiting_room = let c = kept.waiting_room in omega arith;
       }
 
 -- The parts, where the key k left the eligible heap.
-module _ (p : Parts) (kept : IsKept p) (k : Rank) (es : Heap Rank) (perm : IsPermutation p.eligible.keys (k ∷ es.keys)) where
+module _ (p : SchedParts) (kept : IsSchedKept p) (k : RankView) (es : Heap RankView) (perm : IsPermutation p.eligible.keys (k ∷ es.keys)) where
   ready : HeadIs (λ x. (k.tag ≡ x.finish_tag) × (x.start_tag ≤ p.virtual_time)) (flow_at (flows_of p) k.slot).backlog
   ready = All-head (IsEligible (flows_of p) p.virtual_time) k es.keys (All-permutation (IsEligible (flows_of p) p.virtual_time) p.eligible.keys (k ∷ es.keys) perm kept.kept.ready)
 
@@ -127,14 +127,14 @@ module _ (p : Parts) (kept : IsKept p) (k : Rank) (es : Heap Rank) (perm : IsPer
       let l = head_listed (λ x. (k.tag ≡ x.finish_tag) × (x.start_tag ≤ p.virtual_time)) (flows_of p) k.slot ready in
       omega (arith, length-by_slot (seen p.busy_from) p.flows.items)
 
-  module _ (q : FlowQueue) (at : q ≡ get_or p.flows.items k.slot q) where
+  module _ (q : TaggedQueue) (at : q ≡ get_or p.flows.items k.slot q) where
     same_flow : flow_at (flows_of p) k.slot ≡ seen p.busy_from k.slot q
     same_flow = flow_at_seen p.busy_from p.flows.items k.slot q listed ∙ ap (seen p.busy_from k.slot) (sym at)
 
     pub has_head : 0 < length q.packets.items
     has_head = some_packets (λ x. (k.tag ≡ x.finish_tag) × (x.start_tag ≤ p.virtual_time)) k.slot q.packets.items (rw same_flow at ready)
 
-    module _ (r : FlowQueue) (sent : TaggedPacket) (is : q.packets.items ≡ sent ∷ r.packets.items) (last : r.last_finish_tag ≡ q.last_finish_tag) (arrived : r.arrived ≡ q.arrived) (room : places r ≡ places q + 1) where
+    module _ (r : TaggedQueue) (sent : TaggedPacket) (is : q.packets.items ≡ sent ∷ r.packets.items) (last : r.last_finish_tag ≡ q.last_finish_tag) (arrived : r.arrived ≡ q.arrived) (room : places r ≡ places q + 1) where
       abbrev head : Stamped
       head = tagged k.slot sent
 
@@ -159,7 +159,7 @@ module _ (p : Parts) (kept : IsKept p) (k : Rank) (es : Heap Rank) (perm : IsPer
       within : IsWithin (bound p.arrivals p.picks) head × All (IsWithin (bound p.arrivals p.picks)) rest × ((flow_at (flows_of p) k.slot).last_finish_tag ≤ bound p.arrivals p.picks)
       within = sent_within kept.kept k es perm head rest rest_is
 
-      pub sends : (new : Parts) → new.flows.items ≡ set p.flows.items k.slot r → new.busy_from ≡ p.busy_from → new.virtual_time ≡ p.virtual_time + scaled sent.len p.weights → new.arrivals ≡ p.arrivals → new.picks ≡ p.picks + 1 → Sends head p.virtual_time p new
+      pub sends : (new : SchedParts) → new.flows.items ≡ set p.flows.items k.slot r → new.busy_from ≡ p.busy_from → new.virtual_time ≡ p.virtual_time + scaled sent.len p.weights → new.arrivals ≡ p.arrivals → new.picks ≡ p.picks + 1 → SendsHead head p.virtual_time p new
       sends new nf nb nt na np =
           let fs : flows_of new ≡ after_pick (flows_of p) k.slot = rw (nf, nb) flows_is in
           let w : p.weights ≡ weight_sum (heads_of (flows_of p)) = let c = kept.kept.weighed in let s = weights_are (flows_of p) in omega arith in
@@ -190,7 +190,7 @@ module _ (p : Parts) (kept : IsKept p) (k : Rank) (es : Heap Rank) (perm : IsPer
       still_arrived = All-set (λ x. x.arrived ≤ p.arrivals) p.flows.items k.slot r (rw (arrived, at) (kept.arrived k.slot q listed)) kept.arrived
 
       -- The parts then.
-      abbrev pub sent_parts : Parts
+      abbrev pub sent_parts : SchedParts
       sent_parts = record {
         flows = with_item p.flows k.slot r;
         eligible = es;
@@ -216,7 +216,7 @@ module _ (p : Parts) (kept : IsKept p) (k : Rank) (es : Heap Rank) (perm : IsPer
             }
 
         -- No packet is left at the slot.
-        pub last_kept : r.packets.items ≡ [] → IsKept sent_parts
+        pub last_kept : r.packets.items ≡ [] → IsSchedKept sent_parts
         last_kept nil =
             let none : rest ≡ [] = rw nil refl in
             record {
@@ -227,7 +227,7 @@ module _ (p : Parts) (kept : IsKept p) (k : Rank) (es : Heap Rank) (perm : IsPer
             }
 
         -- Some packet is, and is the new head.
-        pub more_kept : (next : TaggedPacket) → first_of r.packets.items ≡ Some next → IsKeptWithout k.slot next sent_parts
+        pub more_kept : (next : TaggedPacket) → first_packet r.packets.items ≡ Some next → IsKeptWithout k.slot next sent_parts
         more_kept next e =
             let f = first_facts k.slot r.packets.items next e in
             let here = flow_at_seen p.busy_from (set p.flows.items k.slot r) k.slot r (let l = length-set p.flows.items k.slot r in omega (arith, listed)) ∙ ap (seen p.busy_from k.slot) (get_or-set_same p.flows.items k.slot r r listed) in

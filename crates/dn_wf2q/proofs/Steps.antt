@@ -7,39 +7,39 @@ use Rattle.std.proofs.lemmas.Bool.{cases_lt}
 use Rattle.std.specs.List.{Contains, filter}
 use Rattle.dn_types.specs.Wf2q.{Stamped, raised, first_to_go, is_eligible, weight_sum}
 use Rattle.dn_heap.specs.Heap.{Heap, IsLeast}
-use Rattle.dn_wf2q.specs.Rank.{Rank, rank_cmp}
+use Rattle.dn_wf2q.specs.Rank.{RankView, rank_cmp}
 use Rattle.dn_wf2q.specs.Schedule.{Flow, flow_at, heads_of}
-use Rattle.dn_wf2q.specs.Kept.{Kept, HeadIs, IsEligible, IsWaiting, IsWithin, presence, head_weight, standing, at_slot, bound, none_absent}
+use Rattle.dn_wf2q.specs.Kept.{Kept, HeadIs, IsEligible, IsWaiting, IsWithin, presence, head_weight, ranks_at, rank_at, bound, none_absent}
 use Rattle.dn_wf2q.proofs.Heads.{IfHead, head_weaker, head_both, head_if, if_none, presence-le, head_within, head_says, head_of_all, head_weight-le}
-use Rattle.dn_wf2q.proofs.Ranks.{standing_pushed, standing_popped, some_standing, not_before}
+use Rattle.dn_wf2q.proofs.Ranks.{ranks_at_pushed, ranks_at_popped, some_rank_at, not_before}
 use Rattle.dn_wf2q.proofs.Scan.{raised_is, raised_stays, first_is, first_none, YieldsTo}
 
 abbrev some_flow : Flow
 some_flow = record { backlog = record { flow = 0; len = 0; weight = 0; start_tag = 0; finish_tag = 0 } ∷ []; last_finish_tag = 0 }
 
-abbrev no_key : Rank
+abbrev no_key : RankView
 no_key = record { tag = 0; slot = 0 }
 
 -- R holds of each head, where it holds of the head of each key's flow.
-heads_by : (R : ℕ → Stamped → Type 0) (flows : List Flow) (es ws : List Rank) → ((g : ℕ) → standing g es + standing g ws ≡ presence (flow_at flows g).backlog) → All (λ k. HeadIs (R k.slot) (flow_at flows k.slot).backlog) es → All (λ k. HeadIs (R k.slot) (flow_at flows k.slot).backlog) ws → (g : ℕ) → IfHead (R g) (flow_at flows g).backlog
+heads_by : (R : ℕ → Stamped → Type 0) (flows : List Flow) (es ws : List RankView) → ((g : ℕ) → ranks_at g es + ranks_at g ws ≡ presence (flow_at flows g).backlog) → All (λ k. HeadIs (R k.slot) (flow_at flows k.slot).backlog) es → All (λ k. HeadIs (R k.slot) (flow_at flows k.slot).backlog) ws → (g : ℕ) → IfHead (R g) (flow_at flows g).backlog
 heads_by R flows es ws placed a b g =
     let q = (flow_at flows g).backlog in
     let pl = placed g in
     let one = presence-le q in
-    elim (cases_lt 0 (standing g es)) [
-      | inl l ↦ let i = some_standing g es l in
+    elim (cases_lt 0 (ranks_at g es)) [
+      | inl l ↦ let i = some_rank_at g es l in
           head_if (R g) (R g) (λ p h. h) q (subst (λ x. HeadIs (R x) (flow_at flows x).backlog) (i.2 no_key) (a i.0 no_key i.1))
-      | inr n ↦ elim (cases_lt 0 (standing g ws)) [
-        | inl l ↦ let i = some_standing g ws l in
+      | inr n ↦ elim (cases_lt 0 (ranks_at g ws)) [
+        | inl l ↦ let i = some_rank_at g ws l in
             head_if (R g) (R g) (λ p h. h) q (subst (λ x. HeadIs (R x) (flow_at flows x).backlog) (i.2 no_key) (b i.0 no_key i.1))
         | inr m ↦ if_none (R g) q (omega arith)
       ]
     ]
 
-module _ {absent : ℕ → ℕ} {out : List Stamped} {flows : List Flow} {eligible waiting : Heap Rank} {virtual_time weights arrivals picks : ℕ} (kept : Kept absent out flows eligible waiting virtual_time weights arrivals picks) where
+module _ {absent : ℕ → ℕ} {out : List Stamped} {flows : List Flow} {eligible waiting : Heap RankView} {virtual_time weights arrivals picks : ℕ} (kept : Kept absent out flows eligible waiting virtual_time weights arrivals picks) where
   -- Heads are at most as many as flows.
-  pub standing-le : length eligible.keys + length waiting.keys + length out ≤ length flows
-  standing-le =
+  pub ranks_at-le : length eligible.keys + length waiting.keys + length out ≤ length flows
+  ranks_at-le =
       let s = sum_by-le (λ fl. presence fl.backlog) 1 flows (λ i d l. presence-le (slice_index_or flows i d).backlog) in
       let c = kept.counted in
       omega arith
@@ -66,8 +66,8 @@ module _ {absent : ℕ → ℕ} {out : List Stamped} {flows : List Flow} {eligib
     waiting_room = kept.waiting_room;
   }
 
-module _ {flows : List Flow} {eligible waiting : Heap Rank} {virtual_time weights arrivals picks : ℕ} (kept : Kept none_absent [] flows eligible waiting virtual_time weights arrivals picks) where
-  placed : (g : ℕ) → standing g eligible.keys + standing g waiting.keys ≡ presence (flow_at flows g).backlog
+module _ {flows : List Flow} {eligible waiting : Heap RankView} {virtual_time weights arrivals picks : ℕ} (kept : Kept none_absent [] flows eligible waiting virtual_time weights arrivals picks) where
+  placed : (g : ℕ) → ranks_at g eligible.keys + ranks_at g waiting.keys ≡ presence (flow_at flows g).backlog
   placed g = let c = kept.placed g in omega arith
 
   pub later_kept : (v : ℕ) → virtual_time ≤ v → v ≤ bound arrivals picks → Kept none_absent [] flows eligible waiting v weights arrivals picks
@@ -86,7 +86,7 @@ module _ {flows : List Flow} {eligible waiting : Heap Rank} {virtual_time weight
   }
 
   -- The eligible heap is empty, and top is a least key of the waiting heap.
-  pub raised_by_top : (top : Rank) → length eligible.keys ≡ 0 → Contains waiting.keys top → IsLeast rank_cmp top waiting.keys → raised virtual_time (heads_of flows) ≡ max virtual_time top.tag
+  pub raised_by_top : (top : RankView) → length eligible.keys ≡ 0 → Contains waiting.keys top → IsLeast rank_cmp top waiting.keys → raised virtual_time (heads_of flows) ≡ max virtual_time top.tag
   raised_by_top top e c least =
       let h = All-contains (IsWaiting flows) waiting.keys top kept.waits c in
       raised_is virtual_time top.tag flows top.slot
@@ -104,7 +104,7 @@ module _ {flows : List Flow} {eligible waiting : Heap Rank} {virtual_time weight
       raised_stays virtual_time flows k.slot (head_weaker (λ p. (k.tag ≡ p.finish_tag) × (p.start_tag ≤ virtual_time)) (λ p. p.start_tag ≤ virtual_time) (λ p x. x.1) (flow_at flows k.slot).backlog (kept.ready 0 no_key l))
 
   -- No key of the waiting heap is above the bound.
-  pub top_within : (top : Rank) → Contains waiting.keys top → top.tag ≤ bound arrivals picks
+  pub top_within : (top : RankView) → Contains waiting.keys top → top.tag ≤ bound arrivals picks
   top_within top c =
       let h = All-contains (IsWaiting flows) waiting.keys top kept.waits c in
       let w = head_within (λ p. top.tag ≡ p.start_tag) (bound arrivals picks) flows top.slot kept.bounded h in
@@ -113,10 +113,10 @@ module _ {flows : List Flow} {eligible waiting : Heap Rank} {virtual_time weight
       (head_both (λ p. top.tag ≡ p.start_tag) (IsWithin (bound arrivals picks)) (λ p. (top.tag ≡ p.start_tag) × IsWithin (bound arrivals picks) p) (λ p a b. (a, b)) q h w)
 
   -- A key that leaves the waiting heap is its flow's start tag.
-  pub popped_waits : (k : Rank) (ws : List Rank) → IsPermutation waiting.keys (k ∷ ws) → HeadIs (λ p. k.tag ≡ p.start_tag) (flow_at flows k.slot).backlog
+  pub popped_waits : (k : RankView) (ws : List RankView) → IsPermutation waiting.keys (k ∷ ws) → HeadIs (λ p. k.tag ≡ p.start_tag) (flow_at flows k.slot).backlog
   popped_waits k ws p = All-head (IsWaiting flows) k ws (All-permutation (IsWaiting flows) waiting.keys (k ∷ ws) p kept.waits)
 
-  pub promoted_kept : (k e : Rank) (es ws : Heap Rank) → IsPermutation waiting.keys (k ∷ ws.keys) → IsPermutation (e ∷ eligible.keys) es.keys → e.slot ≡ k.slot → k.tag ≤ virtual_time → HeadIs (λ p. e.tag ≡ p.finish_tag) (flow_at flows k.slot).backlog → es.room + 1 ≡ eligible.room → es.moves ≡ eligible.moves + 1 → ws.room ≡ waiting.room + 1 → ws.moves ≡ waiting.moves → Kept none_absent [] flows es ws virtual_time weights arrivals picks
+  pub promoted_kept : (k e : RankView) (es ws : Heap RankView) → IsPermutation waiting.keys (k ∷ ws.keys) → IsPermutation (e ∷ eligible.keys) es.keys → e.slot ≡ k.slot → k.tag ≤ virtual_time → HeadIs (λ p. e.tag ≡ p.finish_tag) (flow_at flows k.slot).backlog → es.room + 1 ≡ eligible.room → es.moves ≡ eligible.moves + 1 → ws.room ≡ waiting.room + 1 → ws.moves ≡ waiting.moves → Kept none_absent [] flows es ws virtual_time weights arrivals picks
   promoted_kept k e es ws p q same low fin er em wr wm =
       let w = popped_waits k ws.keys p in
       let lw = length_permutation waiting.keys (k ∷ ws.keys) p in
@@ -125,10 +125,10 @@ module _ {flows : List Flow} {eligible waiting : Heap Rank} {virtual_time weight
       rw same (head_both (λ p. e.tag ≡ p.finish_tag) (λ p. k.tag ≡ p.start_tag) (λ p. (e.tag ≡ p.finish_tag) × (p.start_tag ≤ virtual_time)) (λ p a b. (a, omega arith)) (flow_at flows k.slot).backlog fin w) in
       record {
         placed = λ f.
-            let a = standing_popped f k waiting.keys ws.keys p in
-            let b = standing_pushed f e eligible.keys es.keys q in
+            let a = ranks_at_popped f k waiting.keys ws.keys p in
+            let b = ranks_at_pushed f e eligible.keys es.keys q in
             let c = kept.placed f in
-            let s : at_slot f e ≡ at_slot f k = rw same refl in
+            let s : rank_at f e ≡ rank_at f k = rw same refl in
             omega arith;
         ready = All-permutation (IsEligible flows virtual_time) (e ∷ eligible.keys) es.keys q (All-cons (IsEligible flows virtual_time) e eligible.keys both kept.ready);
         waits = All-tail (IsWaiting flows) k ws.keys (All-permutation (IsWaiting flows) waiting.keys (k ∷ ws.keys) p kept.waits);
@@ -147,7 +147,7 @@ module _ {flows : List Flow} {eligible waiting : Heap Rank} {virtual_time weight
   head_when A P R (p ∷ q) h r = r
 
   -- The least key of the eligible heap belongs to the scan's pick.
-  pub picked_is : ((g : ℕ) → All (λ p. p.flow ≡ g) (flow_at flows g).backlog) → (k : Rank) (es : List Rank) → IsPermutation eligible.keys (k ∷ es) → IsLeast rank_cmp k eligible.keys → All (λ e. virtual_time < e.tag) waiting.keys → (h : Stamped) → HeadIs (λ p. p ≡ h) (flow_at flows k.slot).backlog → first_to_go (filter (is_eligible virtual_time) (heads_of flows)) ≡ Some h
+  pub picked_is : ((g : ℕ) → All (λ p. p.flow ≡ g) (flow_at flows g).backlog) → (k : RankView) (es : List RankView) → IsPermutation eligible.keys (k ∷ es) → IsLeast rank_cmp k eligible.keys → All (λ e. virtual_time < e.tag) waiting.keys → (h : Stamped) → HeadIs (λ p. p ≡ h) (flow_at flows k.slot).backlog → first_to_go (filter (is_eligible virtual_time) (heads_of flows)) ≡ Some h
   picked_is own k es p least late h is =
       let ready = All-head (IsEligible flows virtual_time) k es (All-permutation (IsEligible flows virtual_time) eligible.keys (k ∷ es) p kept.ready) in
       let backlog = (flow_at flows k.slot).backlog in

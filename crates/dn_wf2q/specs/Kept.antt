@@ -4,10 +4,10 @@ use Rattle.std.specs.List.{sum_by, All}
 use Rattle.std.specs.VecDeque.{deque_len, deque_capacity}
 use Rattle.dn_types.specs.Wf2q.{Stamped, scaled, start_tag_on_arrival, weight_sum}
 use Rattle.dn_heap.specs.Heap.{Heap}
-use Rattle.dn_wf2q.specs.declared.flow_queue.TaggedPacket.{TaggedPacket}
-use Rattle.dn_wf2q.specs.declared.flow_queue.FlowQueue.{FlowQueue}
-use Rattle.dn_wf2q.specs.declared.parts.Parts.{Parts}
-use Rattle.dn_wf2q.specs.Rank.{Rank}
+use Rattle.dn_wf2q.specs.declared.tagged_packet.TaggedPacket.{TaggedPacket}
+use Rattle.dn_wf2q.specs.declared.tagged_queue.TaggedQueue.{TaggedQueue}
+use Rattle.dn_wf2q.specs.declared.sched_parts.SchedParts.{SchedParts}
+use Rattle.dn_wf2q.specs.Rank.{RankView}
 use Rattle.dn_wf2q.specs.Schedule.{Flow, Schedule, flow_at}
 
 -- A packet of the queue at a slot.
@@ -15,11 +15,11 @@ abbrev pub tagged : ℕ → TaggedPacket → Stamped
 tagged slot p = record { flow = slot; len = p.len; weight = p.weight; start_tag = p.start_tag; finish_tag = p.finish_tag }
 
 -- The last finish tag of a queue, where the busy period began after so many arrivals: an older tag counts for 0.
-abbrev pub last_finish_tag_in : ℕ → FlowQueue → ℕ
+abbrev pub last_finish_tag_in : ℕ → TaggedQueue → ℕ
 last_finish_tag_in busy_from q = cond (nat_lt busy_from q.arrived) q.last_finish_tag 0
 
 -- The flow that a queue at a slot stands for.
-abbrev pub seen : ℕ → ℕ → FlowQueue → Flow
+abbrev pub seen : ℕ → ℕ → TaggedQueue → Flow
 seen busy_from slot q = record { backlog = map (tagged slot) q.packets.items; last_finish_tag = last_finish_tag_in busy_from q }
 
 -- A function of slot and element, at each element of a list.
@@ -27,14 +27,14 @@ abbrev pub by_slot : {X Y : Type 0} → (ℕ → X → Y) → List X → List Y
 by_slot f [] = []
 by_slot f (x ∷ xs) = f 0 x ∷ by_slot (λ slot. f (suc slot)) xs
 
-abbrev pub flows_of : Parts → List Flow
+abbrev pub flows_of : SchedParts → List Flow
 flows_of p = by_slot (seen p.busy_from) p.flows.items
 
 -- For how many packets a queue has room.
-abbrev pub places : FlowQueue → ℕ
+abbrev pub places : TaggedQueue → ℕ
 places q = deque_capacity q.packets - deque_len q.packets
 
-abbrev pub schedule_of : Parts → Schedule
+abbrev pub schedule_of : SchedParts → Schedule
 schedule_of p = record {
   flows = flows_of p;
   virtual_time = p.virtual_time;
@@ -45,15 +45,15 @@ schedule_of p = record {
 }
 
 -- The packet that a queue appends on an arrival.
-abbrev pub arriving : ℕ → FlowQueue → ℕ → ℕ → ℕ → TaggedPacket
+abbrev pub arriving : ℕ → TaggedQueue → ℕ → ℕ → ℕ → TaggedPacket
 arriving busy_from q virtual_time len weight =
     let start = start_tag_on_arrival (length q.packets.items == 0) (last_finish_tag_in busy_from q) virtual_time in
     record { start_tag = start; finish_tag = start + scaled len weight; len = len; weight = weight }
 
 -- The first packet of a queue.
-abbrev pub first_of : List TaggedPacket → Option TaggedPacket
-first_of [] = None
-first_of (p ∷ ps) = Some p
+abbrev pub first_packet : List TaggedPacket → Option TaggedPacket
+first_packet [] = None
+first_packet (p ∷ ps) = Some p
 
 -- 1 where a packet waits, else 0.
 abbrev pub presence : List Stamped → ℕ
@@ -71,11 +71,11 @@ head_weight [] = 0
 head_weight (p ∷ ps) = p.weight
 
 -- How often a slot stands among keys.
-abbrev pub at_slot : ℕ → Rank → ℕ
-at_slot slot k = cond (k.slot == slot) 1 0
+abbrev pub rank_at : ℕ → RankView → ℕ
+rank_at slot k = cond (k.slot == slot) 1 0
 
-abbrev pub standing : ℕ → List Rank → ℕ
-standing slot keys = sum_by (at_slot slot) keys
+abbrev pub ranks_at : ℕ → List RankView → ℕ
+ranks_at slot keys = sum_by (rank_at slot) keys
 
 -- There is a head, and P holds of it.
 abbrev pub HeadIs : (Stamped → Type 0) → List Stamped → Type 0
@@ -83,11 +83,11 @@ HeadIs P [] = ⊥
 HeadIs P (p ∷ ps) = P p
 
 -- A key of the eligible heap is the finish tag of its flow's head, which is eligible.
-abbrev pub IsEligible : List Flow → ℕ → Rank → Type 0
+abbrev pub IsEligible : List Flow → ℕ → RankView → Type 0
 IsEligible flows virtual_time k = HeadIs (λ p. (k.tag ≡ p.finish_tag) × (p.start_tag ≤ virtual_time)) (flow_at flows k.slot).backlog
 
 -- A key of the waiting heap is the start tag of its flow's head.
-abbrev pub IsWaiting : List Flow → Rank → Type 0
+abbrev pub IsWaiting : List Flow → RankView → Type 0
 IsWaiting flows k = HeadIs (λ p. k.tag ≡ p.start_tag) (flow_at flows k.slot).backlog
 
 -- No tag is above this after so many arrivals and picks. It is below 2^96, since there are at most 2^62 arrivals and
@@ -98,25 +98,25 @@ bound arrivals picks = (arrivals + picks) * 4294967296
 abbrev pub IsWithin : ℕ → Stamped → Type 0
 IsWithin b p = (p.start_tag ≤ b) × (p.finish_tag ≤ b) × (p.len < 65536) × (0 < p.weight) × (p.weight ≤ 100)
 
-abbrev pub IsFlowWithin : ℕ → Flow → Type 0
-IsFlowWithin b flow = (flow.last_finish_tag ≤ b) × All (IsWithin b) flow.backlog
+abbrev pub AreTagsWithin : ℕ → Flow → Type 0
+AreTagsWithin b flow = (flow.last_finish_tag ≤ b) × All (IsWithin b) flow.backlog
 
 -- Each backlogged flow stands in exactly one of the two heaps, once, with its head's tag, and sums and counts are right.
 -- Between two steps of a call the heads `out` are in no heap yet, and `absent` says how many of them a slot has.
-pub record Kept (absent : ℕ → ℕ) (out : List Stamped) (flows : List Flow) (eligible waiting : Heap Rank) (virtual_time weights arrivals picks : ℕ) : Type 0 where
-  pub placed : (slot : ℕ) → standing slot eligible.keys + standing slot waiting.keys + absent slot ≡ presence (flow_at flows slot).backlog
+pub record Kept (absent : ℕ → ℕ) (out : List Stamped) (flows : List Flow) (eligible waiting : Heap RankView) (virtual_time weights arrivals picks : ℕ) : Type 0 where
+  pub placed : (slot : ℕ) → ranks_at slot eligible.keys + ranks_at slot waiting.keys + absent slot ≡ presence (flow_at flows slot).backlog
   pub ready : All (IsEligible flows virtual_time) eligible.keys
   pub waits : All (IsWaiting flows) waiting.keys
   pub weighed : weights + weight_sum out ≡ sum_by (λ flow. head_weight flow.backlog) flows
   pub counted : length eligible.keys + length waiting.keys + length out ≡ sum_by (λ flow. presence flow.backlog) flows
   pub pushed : eligible.moves + waiting.moves + length waiting.keys + 2 * length out + 2 * sum_by (λ flow. behind flow.backlog) flows ≤ 2 * arrivals
   pub picked : picks + length eligible.keys ≤ eligible.moves
-  pub bounded : All (IsFlowWithin (bound arrivals picks)) flows
+  pub bounded : All (AreTagsWithin (bound arrivals picks)) flows
   pub timely : virtual_time ≤ bound arrivals picks
   pub eligible_room : length flows ≤ length eligible.keys + eligible.room
   pub waiting_room : length flows ≤ length waiting.keys + waiting.room
 
-pub record IsKeptBut (absent : ℕ → ℕ) (out : List Stamped) (p : Parts) : Type 0 where
+pub record IsKeptBut (absent : ℕ → ℕ) (out : List Stamped) (p : SchedParts) : Type 0 where
   pub kept : Kept absent out (flows_of p) p.eligible p.waiting p.virtual_time p.weights p.arrivals p.picks
   pub few : p.arrivals ≤ 2 ^ 62
   pub began : p.busy_from ≤ p.arrivals
@@ -126,12 +126,12 @@ pub record IsKeptBut (absent : ℕ → ℕ) (out : List Stamped) (p : Parts) : T
 abbrev pub none_absent : ℕ → ℕ
 none_absent slot = 0
 
-abbrev pub IsKept : Parts → Type 0
-IsKept p = IsKeptBut none_absent [] p
+abbrev pub IsSchedKept : SchedParts → Type 0
+IsSchedKept p = IsKeptBut none_absent [] p
 
 -- The head of the flow at a slot is in no heap yet.
 abbrev pub only_absent : ℕ → ℕ → ℕ
 only_absent this slot = cond (this == slot) 1 0
 
-abbrev pub IsKeptWithout : ℕ → TaggedPacket → Parts → Type 0
+abbrev pub IsKeptWithout : ℕ → TaggedPacket → SchedParts → Type 0
 IsKeptWithout slot head p = IsKeptBut (only_absent slot) (tagged slot head ∷ []) p × HeadIs (λ x. x ≡ tagged slot head) (flow_at (flows_of p) slot).backlog

@@ -2,13 +2,13 @@
 use Rattle.std.specs.Prelude.{◌≡◌, ℕ, ◌+◌, ◌≤◌, List, [], ◌∷◌, ◌++◌, length, map, take}
 use Rattle.std.specs.List.{All}
 use Rattle.dn_types.specs.Wf2q.{Stamped, scaled, weight_sum}
-use Rattle.dn_wf2q.specs.declared.flow_queue.FlowQueue.{FlowQueue}
-use Rattle.dn_wf2q.specs.declared.parts.Parts.{Parts}
+use Rattle.dn_wf2q.specs.declared.tagged_queue.TaggedQueue.{TaggedQueue}
+use Rattle.dn_wf2q.specs.declared.sched_parts.SchedParts.{SchedParts}
 use Rattle.dn_wf2q.specs.Schedule.{flow_at, room_at, heads_of, waiting_of, after_arrival, after_pick, after_discard, forgotten}
 use Rattle.dn_wf2q.specs.Kept.{flows_of, places}
 
 -- Only the heaps and the running sum of weights change.
-pub record OnlyHeaps (old new : Parts) : Type 0 where
+pub record OnlyHeaps (old new : SchedParts) : Type 0 where
   pub flows : new.flows ≡ old.flows
   pub virtual_time : new.virtual_time ≡ old.virtual_time
   pub busy_from : new.busy_from ≡ old.busy_from
@@ -16,11 +16,11 @@ pub record OnlyHeaps (old new : Parts) : Type 0 where
   pub picks : new.picks ≡ old.picks
 
 -- No queue has less room than before.
-abbrev pub QueuesKeepRoom : Parts → Parts → Type 0
+abbrev pub QueuesKeepRoom : SchedParts → SchedParts → Type 0
 QueuesKeepRoom old new = (slot : ℕ) → room_at (map places old.flows.items) slot ≤ room_at (map places new.flows.items) slot
 
 -- The packet h, the first at its slot, is sent at the raised virtual time v.
-pub record Sends (h : Stamped) (v : ℕ) (old new : Parts) : Type 0 where
+pub record SendsHead (h : Stamped) (v : ℕ) (old new : SchedParts) : Type 0 where
   pub head : take 1 (flow_at (flows_of old) h.flow).backlog ≡ h ∷ []
   pub flows : flows_of new ≡ after_pick (flows_of old) h.flow
   pub virtual_time : new.virtual_time ≡ v + scaled h.len (weight_sum (heads_of (flows_of old)))
@@ -30,7 +30,7 @@ pub record Sends (h : Stamped) (v : ℕ) (old new : Parts) : Type 0 where
   pub room : QueuesKeepRoom old new
 
 -- A packet arrives at a slot.
-pub record Arrives (slot len weight : ℕ) (old new : Parts) : Type 0 where
+pub record ArrivesAtSlot (slot len weight : ℕ) (old new : SchedParts) : Type 0 where
   pub flows : flows_of new ≡ after_arrival (flows_of old) slot old.virtual_time len weight
   pub virtual_time : new.virtual_time ≡ old.virtual_time
   pub arrivals : new.arrivals ≡ old.arrivals + 1
@@ -39,7 +39,7 @@ pub record Arrives (slot len weight : ℕ) (old new : Parts) : Type 0 where
   pub room : (other : ℕ) → (other ≡ slot → ⊥) → room_at (map places old.flows.items) other ≤ room_at (map places new.flows.items) other
 
 -- The packets of a slot leave.
-pub record Discards (slot : ℕ) (old new : Parts) : Type 0 where
+pub record DiscardsSlot (slot : ℕ) (old new : SchedParts) : Type 0 where
   pub flows : flows_of new ≡ after_discard (flows_of old) slot
   pub fewer : waiting_of (flows_of new) + length (flow_at (flows_of old) slot).backlog ≡ waiting_of (flows_of old)
   pub virtual_time : new.virtual_time ≡ old.virtual_time
@@ -49,7 +49,7 @@ pub record Discards (slot : ℕ) (old new : Parts) : Type 0 where
   pub room : QueuesKeepRoom old new
 
 -- A busy period begins.
-pub record Begins (old new : Parts) : Type 0 where
+pub record Begins (old new : SchedParts) : Type 0 where
   pub flows : flows_of new ≡ forgotten (flows_of old)
   pub virtual_time : new.virtual_time ≡ 0
   pub arrivals : new.arrivals ≡ old.arrivals
@@ -59,17 +59,17 @@ pub record Begins (old new : Parts) : Type 0 where
   pub queues : new.flows ≡ old.flows
 
 -- A queue that has had no packet.
-abbrev pub IsBlank : FlowQueue → Type 0
+abbrev pub IsBlank : TaggedQueue → Type 0
 IsBlank q = (q.packets.items ≡ []) × (q.last_finish_tag ≡ 0) × (q.arrived ≡ 0)
 
 -- The second list is the first and then such queues.
-pub record IsExtended (xs ys : List FlowQueue) : Type 0 where
-  pub more : List FlowQueue
+pub record IsExtended (xs ys : List TaggedQueue) : Type 0 where
+  pub more : List TaggedQueue
   pub is : ys ≡ xs ++ more
   pub blank : All IsBlank more
 
 -- Only room is made.
-pub record Reserves (old new : Parts) : Type 0 where
+pub record MakesRoom (old new : SchedParts) : Type 0 where
   pub virtual_time : new.virtual_time ≡ old.virtual_time
   pub arrivals : new.arrivals ≡ old.arrivals
   pub picks : new.picks ≡ old.picks

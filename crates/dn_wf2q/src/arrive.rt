@@ -1,22 +1,22 @@
 ghost use Rattle.std.specs.Prelude.{◌≡◌, ◌<◌, ◌≤◌, ◌^◌, map};
 ghost use Rattle.dn_wf2q.specs.Schedule.{room_at};
-ghost use Rattle.dn_wf2q.specs.Kept.{IsKept, IsKeptWithout, places};
-ghost use Rattle.dn_wf2q.specs.Steps.{Arrives, OnlyHeaps};
+ghost use Rattle.dn_wf2q.specs.Kept.{IsSchedKept, IsKeptWithout, places};
+ghost use Rattle.dn_wf2q.specs.Steps.{ArrivesAtSlot, OnlyHeaps};
 
-use crate::flow_queue::TaggedPacket;
-use crate::parts::Parts;
 use crate::rank::Rank;
+use crate::sched_parts::SchedParts;
+use crate::tagged_packet::TaggedPacket;
 
-impl Parts {
+impl SchedParts {
     /// A packet joins the queue at a slot.
     pub(crate) fn arrive(&mut self, slot: usize, len: u16, weight: u8)
-        requires kept { IsKept self.old }
+        requires kept { IsSchedKept self.old }
         requires room { 0 < room_at (map places self.old.flows.items) slot }
         requires few { self.old.arrivals < 2 ^ 62 }
         requires some { 0 < weight }
         requires in_range { weight ≤ 100 }
-        ensures arrived { Arrives slot len weight self.old self.new }
-        ensures kept { IsKept self.new }
+        ensures arrived { ArrivesAtSlot slot len weight self.old self.new }
+        ensures kept { IsSchedKept self.new }
     {
         self.arrivals += 1;
         let q = &mut self.flows[slot];
@@ -36,7 +36,7 @@ impl Parts {
     pub(crate) fn enter(&mut self, slot: usize, head: TaggedPacket)
         requires kept { IsKeptWithout slot head self.old }
         ensures same { OnlyHeaps self.old self.new }
-        ensures kept { IsKept self.new }
+        ensures kept { IsSchedKept self.new }
     {
         self.weights += head.weight as u128;
         if head.start_tag <= self.virtual_time {

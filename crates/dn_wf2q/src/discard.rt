@@ -1,15 +1,15 @@
-ghost use Rattle.dn_wf2q.specs.Kept.{IsKept};
-ghost use Rattle.dn_wf2q.specs.Steps.{Discards};
+ghost use Rattle.dn_wf2q.specs.Kept.{IsSchedKept};
+ghost use Rattle.dn_wf2q.specs.Steps.{DiscardsSlot};
 
-use crate::parts::Parts;
 use crate::rank::Rank;
+use crate::sched_parts::SchedParts;
 
-impl Parts {
+impl SchedParts {
     /// Lets all packets of a slot go, and its last finish tag.
     pub(crate) fn discard(&mut self, slot: usize)
-        requires kept { IsKept self.old }
-        ensures discarded { Discards slot self.old self.new }
-        ensures kept { IsKept self.new }
+        requires kept { IsSchedKept self.old }
+        ensures discarded { DiscardsSlot slot self.old self.new }
+        ensures kept { IsSchedKept self.new }
     {
         if self.flows.len() <= slot {
             return;

@@ -3,12 +3,13 @@
 
 mod arrive;
 mod discard;
-mod flow_queue;
-mod parts;
 mod pick;
 mod rank;
 mod reserve;
 mod scaled;
 mod sched;
+mod sched_parts;
+mod tagged_packet;
+mod tagged_queue;
 
 pub use sched::Sched;

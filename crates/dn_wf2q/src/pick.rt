@@ -3,22 +3,22 @@ ghost use Rattle.std.specs.List.{filter};
 ghost use Rattle.std.specs.Option.{option_map};
 ghost use Rattle.dn_types.specs.Wf2q.{first_to_go, is_eligible, pick, raised};
 ghost use Rattle.dn_wf2q.specs.Schedule.{IsIdle, heads_of};
-ghost use Rattle.dn_wf2q.specs.Kept.{IsKept, flows_of};
-ghost use Rattle.dn_wf2q.specs.Steps.{OnlyHeaps, Sends};
+ghost use Rattle.dn_wf2q.specs.Kept.{IsSchedKept, flows_of};
+ghost use Rattle.dn_wf2q.specs.Steps.{OnlyHeaps, SendsHead};
 
-use crate::parts::Parts;
 use crate::rank::Rank;
 use crate::scaled::growth;
+use crate::sched_parts::SchedParts;
 
-impl Parts {
+impl SchedParts {
     /// The slot whose head is sent next; that packet leaves.
     pub(crate) fn pick(&mut self) -> Option<usize>
-        requires kept { IsKept self.old }
+        requires kept { IsSchedKept self.old }
         ensures picks { result ≡ option_map (λ h. h.flow) (pick self.old.virtual_time (heads_of (flows_of self.old))) }
-        ensures some { IfSome (pick self.old.virtual_time (heads_of (flows_of self.old))) (λ h. Sends h (raised self.old.virtual_time (heads_of (flows_of self.old))) self.old self.new) }
+        ensures some { IfSome (pick self.old.virtual_time (heads_of (flows_of self.old))) (λ h. SendsHead h (raised self.old.virtual_time (heads_of (flows_of self.old))) self.old self.new) }
         ensures idle { (result ≡ None) ↔ IsIdle (flows_of self.old) }
         ensures none { IfNone result (self.new ≡ self.old) }
-        ensures kept { IsKept self.new }
+        ensures kept { IsSchedKept self.new }
     {
         if self.is_idle() {
             return None;
@@ -31,9 +31,9 @@ impl Parts {
     /// Raises virtual time to the least start tag of the heads. A head in the eligible heap has
     /// one that is low enough already.
     fn raise(&mut self)
-        requires kept { IsKept self.old }
+        requires kept { IsSchedKept self.old }
         ensures virtual_time { self.new ≡ record self.old { virtual_time = raised self.old.virtual_time (heads_of (flows_of self.old)) } }
-        ensures kept { IsKept self.new }
+        ensures kept { IsSchedKept self.new }
     {
         if self.eligible.is_empty() {
             if let Some(top) = self.waiting.peek() {
@@ -44,21 +44,21 @@ impl Parts {
 
     /// Moves each flow whose head has become eligible.
     fn promote(&mut self)
-        requires kept { IsKept self.old }
+        requires kept { IsSchedKept self.old }
         ensures same { OnlyHeaps self.old self.new }
         ensures done { All (λ k. self.new.virtual_time < k.tag) self.new.waiting.keys }
-        ensures kept { IsKept self.new }
+        ensures kept { IsSchedKept self.new }
     {
         while self.promote_one() {}
     }
 
     /// Moves the flow with the least start tag, where its head has become eligible.
     fn promote_one(&mut self) -> bool
-        requires kept { IsKept self.old }
+        requires kept { IsSchedKept self.old }
         ensures same { OnlyHeaps self.old self.new }
         ensures fewer { result ≡ true → length self.new.waiting.keys + 1 ≡ length self.old.waiting.keys }
         ensures done { result ≡ false → All (λ k. self.new.virtual_time < k.tag) self.new.waiting.keys }
-        ensures kept { IsKept self.new }
+        ensures kept { IsSchedKept self.new }
     {
         let Some(top) = self.waiting.peek() else {
             return false;
@@ -76,12 +76,12 @@ impl Parts {
 
     /// Sends the head of the first eligible flow.
     fn send(&mut self) -> Option<usize>
-        requires kept { IsKept self.old }
+        requires kept { IsSchedKept self.old }
         requires promoted { All (λ k. self.old.virtual_time < k.tag) self.old.waiting.keys }
         ensures picks { result ≡ option_map (λ h. h.flow) (first_to_go (filter (is_eligible self.old.virtual_time) (heads_of (flows_of self.old)))) }
-        ensures some { IfSome (first_to_go (filter (is_eligible self.old.virtual_time) (heads_of (flows_of self.old)))) (λ h. Sends h self.old.virtual_time self.old self.new) }
+        ensures some { IfSome (first_to_go (filter (is_eligible self.old.virtual_time) (heads_of (flows_of self.old)))) (λ h. SendsHead h self.old.virtual_time self.old self.new) }
         ensures none { IfNone result (self.new ≡ self.old) }
-        ensures kept { IsKept self.new }
+        ensures kept { IsSchedKept self.new }
     {
         let first = self.eligible.pop()?;
         let slot = first.slot();

@@ -8,6 +8,9 @@ ghost use Rattle.dn_wf2q.specs.Rank.{rank_cmp, rank_eq};
 use std::cmp::Ordering;
 use std::marker::Model;
 
+/// How many values a word has, of which a tag takes two.
+const WORD: u128 = 1 << 64;
+
 /// A key of a heap: a tag of a flow's head, and the flow's slot. Ranks are ordered by tag and
 /// then by slot.
 ///
@@ -21,12 +24,12 @@ pub(crate) struct Rank {
 }
 
 impl Model for Rank {
-    ghost use Rattle.std.specs.Prelude.{◌+◌, ◌*◌};
-    ghost use Rattle.dn_wf2q.specs.Rank.{Rank};
+    ghost use Rattle.std.specs.Prelude.{◌+◌, ◌*◌, ◌^◌};
+    ghost use Rattle.dn_wf2q.specs.Rank.{RankView};
 
-    ghost Value = { Rank };
+    ghost Value = { RankView };
 
-    ghost view = { λ r. record { tag = r.high * 18446744073709551616 + r.low; slot = r.slot } };
+    ghost view = { λ r. record { tag = r.high * 2 ^ 64 + r.low; slot = r.slot } };
 }
 
 impl Rank {
@@ -34,8 +37,8 @@ impl Rank {
         ensures value { result ≡ record { tag = tag; slot = slot } }
     {
         Rank {
-            high: (tag / 18446744073709551616) as u64,
-            low: (tag % 18446744073709551616) as u64,
+            high: (tag / WORD) as u64,
+            low: (tag % WORD) as u64,
             slot,
         }
     }
@@ -43,7 +46,7 @@ impl Rank {
     pub(crate) fn tag(&self) -> u128
         ensures value { result ≡ self.now.tag }
     {
-        self.high as u128 * 18446744073709551616 + self.low as u128
+        self.high as u128 * WORD + self.low as u128
     }
 
     pub(crate) fn slot(&self) -> usize

@@ -2,24 +2,25 @@ ghost use Rattle.std.specs.Prelude.{◌≡◌, ◌+◌, ◌<◌, ◌≤◌, [], 
 ghost use Rattle.std.specs.VecDeque.{deque_capacity};
 ghost use Rattle.std.specs.Vec.{vec_len, vec_capacity};
 ghost use Rattle.dn_wf2q.specs.Schedule.{padded, room_at};
-ghost use Rattle.dn_wf2q.specs.Kept.{IsKept, flows_of, places};
-ghost use Rattle.dn_wf2q.specs.Steps.{IsExtended, Reserves};
+ghost use Rattle.dn_wf2q.specs.Kept.{IsSchedKept, flows_of, places};
+ghost use Rattle.dn_wf2q.specs.Steps.{IsExtended, MakesRoom};
 
-use crate::flow_queue::{FlowQueue, TaggedPacket};
-use crate::parts::Parts;
+use crate::sched_parts::SchedParts;
+use crate::tagged_packet::TaggedPacket;
+use crate::tagged_queue::TaggedQueue;
 use std::alloc::{AllocError, Global};
 use std::collections::VecDeque;
 
-impl Parts {
+impl SchedParts {
     /// Room for one more arrival at a slot, and a queue for it where there is none.
     pub(crate) fn reserve_flow(&mut self, alloc: Global, slot: usize) -> Result<(), AllocError>
-        requires kept { IsKept self.old }
+        requires kept { IsSchedKept self.old }
         ensures succeeds { 0 < room_at (map places self.old.flows.items) slot → IsOk result }
         ensures ok { OnOk result (flows_of self.new ≡ padded (flows_of self.old) (slot + 1)) }
         ensures place { OnOk result (0 < room_at (map places self.new.flows.items) slot) }
         ensures err { OnErr result (flows_of self.new ≡ flows_of self.old) }
-        ensures reserves { Reserves self.old self.new }
-        ensures kept { IsKept self.new }
+        ensures reserves { MakesRoom self.old self.new }
+        ensures kept { IsSchedKept self.new }
     {
         if slot < self.flows.len() {
             return self.flows[slot].reserve_place();
@@ -39,7 +40,7 @@ impl Parts {
 
 /// Adds queues that have had no packet, the last of them at `slot` and with this room.
 fn add_queues(
-    flows: &mut Vec<FlowQueue>,
+    flows: &mut Vec<TaggedQueue>,
     alloc: Global,
     slot: usize,
     packets: VecDeque<TaggedPacket>,
@@ -53,13 +54,13 @@ fn add_queues(
     ensures place { 0 < room_at (map places flows.new.items) slot }
 {
     'blanks: while flows.len() < slot {
-        flows.push_reserved(FlowQueue {
+        flows.push_reserved(TaggedQueue {
             packets: VecDeque::new(alloc),
             last_finish_tag: 0,
             arrived: 0,
         });
     }
-    flows.push_reserved(FlowQueue {
+    flows.push_reserved(TaggedQueue {
         packets,
         last_finish_tag: 0,
         arrived: 0,

@@ -3,7 +3,7 @@ ghost use Rattle.std.specs.Option.{option_map};
 ghost use Rattle.dn_types.specs.Wf2q.{pick};
 ghost use Rattle.dn_wf2q.specs.Schedule.{Picks, KeepsCounts, KeepsRoom, IsIdle, after_arrival, after_discard, flow_at, forgotten, heads_of, padded, room_at, waiting_of};
 
-use crate::parts::Parts;
+use crate::sched_parts::SchedParts;
 use dn_heap::MinHeap;
 use dn_types::{Len, Weight};
 use std::alloc::{AllocError, Global};
@@ -21,19 +21,19 @@ use std::marker::Model;
 /// the heaps below 2^63, since there are at most 2^62 arrivals.
 #[derive(Drop)]
 pub struct Sched {
-    parts: Parts,
+    parts: SchedParts,
     alloc: Global,
 }
 
 impl Model for Sched {
     ghost use Rattle.dn_wf2q.specs.Schedule.{Schedule};
-    ghost use Rattle.dn_wf2q.specs.Kept.{IsKept, schedule_of};
+    ghost use Rattle.dn_wf2q.specs.Kept.{IsSchedKept, schedule_of};
 
     ghost Value = { Schedule };
 
     ghost view = { λ s. schedule_of s.parts };
 
-    ghost invariant = { λ s. IsKept s.parts };
+    ghost invariant = { λ s. IsSchedKept s.parts };
 }
 
 impl Sched {
@@ -42,7 +42,7 @@ impl Sched {
         ensures value { result ≡ record { flows = []; virtual_time = 0; room = []; arrivals = 0; picks = 0; moves = 0 } }
     {
         Sched {
-            parts: Parts {
+            parts: SchedParts {
                 flows: Vec::new(alloc),
                 eligible: MinHeap::new(alloc),
                 waiting: MinHeap::new(alloc),

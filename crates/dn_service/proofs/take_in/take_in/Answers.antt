@@ -1,6 +1,6 @@
 use Rattle.std.proofs.Common.{rules, [], ◌∷◌, ◌++◌, sym, ap, ◌∙◌, append_assoc}
 use Rattle.dn_service.specs.Callers.{IsOf, accounts_of}
-use Rattle.dn_service.specs.Seats.{waiting}
+use Rattle.dn_service.specs.Seats.{seat_with}
 use Rattle.dn_service.proofs.Handing.{takes_in, taken_in, between}
 use Rattle.dn_service.proofs.take_in.take_in.Goals as goal
 
@@ -25,7 +25,7 @@ loop-caller-preserved c =
       did.0 ∙ was.2,
       did.2 ∙ (λ i. (
         (taken_in _ c.loop-caller.yielded one _ _ (ap (λ x. x.0) was.3) (ap (λ x. x.0) c.into_seat.ensures.seat)
-            ∙ ap (λ n. waiting n (accounts_of (c.loop-caller.yielded ++ one ∷ []))) (ap (λ s. s.callers) of ∙ sym (ap (λ x. x.0.count) r.2))) i,
+            ∙ ap (λ n. seat_with n (accounts_of (c.loop-caller.yielded ++ one ∷ []))) (ap (λ s. s.callers) of ∙ sym (ap (λ x. x.0.count) r.2))) i,
         (ap (λ x. x.1) was.3) i,
       )),
       append_assoc c.loop-caller.yielded (one ∷ []) c.next.new.self.rest.items ∙ (ap (λ l. c.loop-caller.yielded ++ l) (sym c.in-Some.ensures.steps.0) ∙ was.4),

@@ -3,13 +3,13 @@ use Rattle.std.specs.Prelude.{None}
 use Rattle.dn_flows.specs.Packets.{Packets}
 use Rattle.dn_flows.specs.declared.flow_queue.FlowQueue.{FlowQueue}
 use Rattle.dn_flows.specs.declared.waiting.Waiting.{Waiting}
-use Rattle.dn_flows.specs.Store.{Takes}
+use Rattle.dn_flows.specs.Store.{TakesFront}
 use Rattle.dn_flows.proofs.Tables.{as-many-flows, first-held, first-short, popping, front, none-waits, reads, resting, same-reserved}
 use Rattle.std.proofs.lemmas.Grind.{common_steps}
 use Rattle.dn_flows.proofs.flows.Flows.pop_front.Goals as goal
 
 -- the start is counted, and nothing else
-counts-after : {old new : Packets} {first : Waiting} {q q' : FlowQueue} → Takes first old q new q' → (q'.reserved ≡ q.reserved) × (q'.started + 1 ≡ q.started + 1)
+counts-after : {old new : Packets} {first : Waiting} {q q' : FlowQueue} → TakesFront first old q new q' → (q'.reserved ≡ q.reserved) × (q'.started + 1 ≡ q.started + 1)
 counts-after t = (ap (λ (x : FlowQueue). x.reserved) t.queue_is.2, ap (λ (x : FlowQueue). x.started + 1) t.queue_is.2)
 
 pub pop_front-requires-clause-held : goal.pop_front-requires-clause-held

@@ -2,12 +2,12 @@ use Rattle.std.proofs.Common.{arith, ◌≡◌, true, [], sym, ap, ◌∙◌, su
 use Rattle.dn_service.specs.Callers.{has_number, Closes}
 use Rattle.dn_service.specs.Histories.{AreBelow}
 use Rattle.dn_service.specs.Rule.{Follows}
-use Rattle.dn_service.specs.Seats.{waiting, Has, Each}
+use Rattle.dn_service.specs.Seats.{seat_with, Has, Each}
 use Rattle.dn_service.proofs.Handing.{account_there, accounted}
 use Rattle.dn_service.proofs.service.Service.close.Goals as goal
 
 pub take_in-requires-clause-callers : goal.take_in-requires-clause-callers
-take_in-requires-clause-callers c = (c.args.self, sym (ap (λ s. s.table) c.self.view_is), c.self.invariant.waits ∙ ap (λ n. (waiting n [], [])) (ap (λ s. s.callers) c.self.view_is), c.requires)
+take_in-requires-clause-callers c = (c.args.self, sym (ap (λ s. s.table) c.self.view_is), c.self.invariant.waits ∙ ap (λ n. (seat_with n [], [])) (ap (λ s. s.callers) c.self.view_is), c.requires)
 
 pub enter-requires-clause-seat : goal.enter-requires-clause-seat
 enter-requires-clause-seat c =

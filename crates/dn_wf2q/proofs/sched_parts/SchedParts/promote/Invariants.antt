@@ -1,10 +1,10 @@
 use Rattle.std.proofs.Common.{length}
-use Rattle.dn_wf2q.specs.Kept.{IsKept}
+use Rattle.dn_wf2q.specs.Kept.{IsSchedKept}
 use Rattle.dn_wf2q.specs.Steps.{OnlyHeaps}
-use Rattle.dn_wf2q.proofs.parts.Parts.promote.Given as goal
+use Rattle.dn_wf2q.proofs.sched_parts.SchedParts.promote.Given as goal
 
 abbrev pub invariant-loop : goal.invariant-loop
-invariant-loop l = IsKept l.self × OnlyHeaps l.initial.self l.self
+invariant-loop l = IsSchedKept l.self × OnlyHeaps l.initial.self l.self
 
 abbrev pub decreases-loop : goal.decreases-loop
 decreases-loop l = length l.self.waiting.keys

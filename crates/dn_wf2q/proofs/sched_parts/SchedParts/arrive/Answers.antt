@@ -1,6 +1,6 @@
 use Rattle.std.proofs.Common.{refl, sym, ◌∙◌, arith}
 use Rattle.dn_wf2q.proofs.Arrived.{last_fits, arrives, busy_kept, idle_kept}
-use Rattle.dn_wf2q.proofs.parts.Parts.arrive.Goals as goal
+use Rattle.dn_wf2q.proofs.sched_parts.SchedParts.arrive.Goals as goal
 
 pub append-head-requires-clause-last_finish_tag : goal.append-head-requires-clause-last_finish_tag
 append-head-requires-clause-last_finish_tag c = last_fits c.args.self.now c.requires.kept c.args.slot c.args.len c.args.weight (omega arith) c.requires.some c.requires.in_range c.requires.room c.index_mut-q.result.now c.index_mut-q.ensures.value

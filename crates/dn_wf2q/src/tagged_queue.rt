@@ -1,22 +1,14 @@
 ghost use Rattle.std.specs.Prelude.{◌≡◌, ◌+◌, ◌<◌, ◌≤◌, ◌^◌, ◌==◌, [], ◌∷◌, ◌++◌, length, cond, Some, None, IsOk, OnOk};
-ghost use Rattle.dn_wf2q.specs.Kept.{arriving, first_of, last_finish_tag_in, places};
+ghost use Rattle.dn_wf2q.specs.Kept.{arriving, first_packet, last_finish_tag_in, places};
 
 use crate::scaled::cost;
+use crate::tagged_packet::TaggedPacket;
 use std::alloc::AllocError;
 use std::collections::VecDeque;
 
-/// A packet that waits, with its tags in units of 1/65536 byte per weight.
-#[derive(Clone, Copy)]
-pub(crate) struct TaggedPacket {
-    pub(crate) start_tag: u128,
-    pub(crate) finish_tag: u128,
-    pub(crate) len: u16,
-    pub(crate) weight: u8,
-}
-
 /// The packets of one flow that wait, oldest first.
 #[derive(Drop)]
-pub(crate) struct FlowQueue {
+pub(crate) struct TaggedQueue {
     pub(crate) packets: VecDeque<TaggedPacket>,
     pub(crate) last_finish_tag: u128,
     /// The count of arrivals at this flow's last one. Where a busy period has begun since then, the
@@ -24,7 +16,7 @@ pub(crate) struct FlowQueue {
     pub(crate) arrived: u64,
 }
 
-impl FlowQueue {
+impl TaggedQueue {
     /// Makes room for one more packet.
     pub(crate) fn reserve_place(&mut self) -> Result<(), AllocError>
         ensures succeeds { 0 < places self.old → IsOk result }
@@ -83,7 +75,7 @@ impl FlowQueue {
     pub(crate) fn take_head(&mut self) -> (TaggedPacket, Option<TaggedPacket>)
         requires some { 0 < length self.old.packets.items }
         ensures sent { self.old.packets.items ≡ result.0 ∷ self.new.packets.items }
-        ensures next { result.1 ≡ first_of self.new.packets.items }
+        ensures next { result.1 ≡ first_packet self.new.packets.items }
         ensures last_finish_tag { self.new.last_finish_tag ≡ self.old.last_finish_tag }
         ensures arrived { self.new.arrived ≡ self.old.arrived }
         ensures room { places self.new ≡ places self.old + 1 }
@@ -96,14 +88,14 @@ impl FlowQueue {
     /// The head of a backlogged flow.
     pub(crate) fn front(&self) -> TaggedPacket
         requires some { 0 < length self.now.packets.items }
-        ensures head { first_of self.now.packets.items ≡ Some result }
+        ensures head { first_packet self.now.packets.items ≡ Some result }
     {
         *self.packets.front().unwrap()
     }
 
     /// The head, where there is one.
     pub(crate) fn head(&self) -> Option<TaggedPacket>
-        ensures head { result ≡ first_of self.now.packets.items }
+        ensures head { result ≡ first_packet self.now.packets.items }
     {
         self.packets.front().copied()
     }

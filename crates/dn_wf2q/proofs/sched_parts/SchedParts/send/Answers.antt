@@ -4,7 +4,7 @@ use Rattle.dn_wf2q.proofs.Heads.{next_is_none}
 use Rattle.dn_wf2q.proofs.Own.{own_slots}
 use Rattle.dn_wf2q.proofs.Steps.{picked_is, picked_none}
 use Rattle.dn_wf2q.proofs.Sent.{listed, has_head, head_is, weighs, sends, last_kept, more_kept}
-use Rattle.dn_wf2q.proofs.parts.Parts.send.Goals as goal
+use Rattle.dn_wf2q.proofs.sched_parts.SchedParts.send.Goals as goal
 
 -- The eligible heap is empty, so that no head is eligible.
 pub returns-in_err-first-clause-picks : goal.returns-in_err-first-clause-picks

@@ -4,7 +4,7 @@ use Rattle.dn_wf2q.proofs.Ranks.{zero_from_none}
 use Rattle.dn_wf2q.proofs.Counts.{heads_of_idle, no_heads_idle}
 use Rattle.dn_wf2q.proofs.Steps.{later_kept, raised_by_top, raised_ready, top_within}
 use Rattle.dn_wf2q.specs.Kept.{flows_of}
-use Rattle.dn_wf2q.proofs.parts.Parts.raise.Goals as goal
+use Rattle.dn_wf2q.proofs.sched_parts.SchedParts.raise.Goals as goal
 
 -- Virtual time is raised to the least start tag.
 pub returns-in-Some-clause-virtual_time : goal.returns-in-Some-clause-virtual_time

@@ -1,6 +1,6 @@
 use Rattle.std.proofs.Common.{refl}
 use Rattle.dn_wf2q.proofs.Begun.{begun, flows_forgotten}
-use Rattle.dn_wf2q.proofs.parts.Parts.begin_busy.Goals as goal
+use Rattle.dn_wf2q.proofs.sched_parts.SchedParts.begin_busy.Goals as goal
 
 pub returns-clause-begun : goal.returns-clause-begun
 returns-clause-begun c = record {

@@ -2,7 +2,7 @@ use Rattle.std.proofs.Common.{◌≡◌, length, arith}
 use Rattle.std.proofs.lemmas.Bool.Decides.{nat_tests}
 use Rattle.dn_wf2q.specs.Kept.{flows_of}
 use Rattle.dn_wf2q.proofs.Counts.{idle_no_heads, no_heads_idle}
-use Rattle.dn_wf2q.proofs.parts.Parts.is_idle.Goals as goal
+use Rattle.dn_wf2q.proofs.sched_parts.SchedParts.is_idle.Goals as goal
 
 pub returns-then-is_empty : goal.returns-then-is_empty
 returns-then-is_empty c =

@@ -1,17 +1,17 @@
 ghost use Rattle.std.specs.Prelude.{◌≡◌, ◌+◌, ◌*◌, ◌≤◌, ◌↔◌, IsTrue};
 ghost use Rattle.dn_wf2q.specs.Schedule.{IsIdle};
-ghost use Rattle.dn_wf2q.specs.Kept.{IsKept, flows_of};
+ghost use Rattle.dn_wf2q.specs.Kept.{IsSchedKept, flows_of};
 ghost use Rattle.dn_wf2q.specs.Steps.{Begins};
 
-use crate::flow_queue::FlowQueue;
 use crate::rank::Rank;
+use crate::tagged_queue::TaggedQueue;
 use dn_heap::MinHeap;
 
 /// What a scheduler is made of. Each backlogged flow stands in one of the heaps: by its head's
 /// finish tag in the eligible one, by its head's start tag in the waiting one.
 #[derive(Drop)]
-pub(crate) struct Parts {
-    pub(crate) flows: Vec<FlowQueue>,
+pub(crate) struct SchedParts {
+    pub(crate) flows: Vec<TaggedQueue>,
     pub(crate) eligible: MinHeap<Rank>,
     pub(crate) waiting: MinHeap<Rank>,
     pub(crate) virtual_time: u128,
@@ -23,16 +23,16 @@ pub(crate) struct Parts {
     pub(crate) picks: u64,
 }
 
-impl Parts {
+impl SchedParts {
     pub(crate) fn is_idle(&self) -> bool
-        requires kept { IsKept self.now }
+        requires kept { IsSchedKept self.now }
         ensures idle { IsTrue result ↔ IsIdle (flows_of self.now) }
     {
         self.eligible.is_empty() && self.waiting.is_empty()
     }
 
     pub(crate) fn moves(&self) -> u64
-        requires kept { IsKept self.now }
+        requires kept { IsSchedKept self.now }
         ensures value { result ≡ self.now.eligible.moves + self.now.waiting.moves }
         ensures least { self.now.picks ≤ result }
         ensures most { result ≤ 2 * self.now.arrivals }
@@ -41,10 +41,10 @@ impl Parts {
     }
 
     pub(crate) fn begin_busy(&mut self)
-        requires kept { IsKept self.old }
+        requires kept { IsSchedKept self.old }
         requires idle { IsIdle (flows_of self.old) }
         ensures begun { Begins self.old self.new }
-        ensures kept { IsKept self.new }
+        ensures kept { IsSchedKept self.new }
     {
         self.virtual_time = 0;
         self.busy_from = self.arrivals;

@@ -2,7 +2,7 @@ use Rattle.std.proofs.Common.{◌+◌, refl, ap, sym, ◌∙◌, arith, inl, inr
 use Rattle.std.proofs.lemmas.Bool.{cases_Bool}
 use Rattle.dn_wf2q.proofs.Heads.{next_is_none}
 use Rattle.dn_wf2q.proofs.Discarded.{beyond, discards, idle_left, waiting_left, eligible_left, not_both, weighs}
-use Rattle.dn_wf2q.proofs.parts.Parts.discard.Goals as goal
+use Rattle.dn_wf2q.proofs.sched_parts.SchedParts.discard.Goals as goal
 
 pub returns-then-len-slot-clause-discarded : goal.returns-then-len-slot-clause-discarded
 returns-then-len-slot-clause-discarded c = beyond c.args.self.now c.args.slot (omega (arith, c.args.self.now.flows.ok.0))

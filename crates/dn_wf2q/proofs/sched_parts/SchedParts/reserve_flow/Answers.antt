@@ -1,6 +1,6 @@
 use Rattle.std.proofs.Common.{◌+◌, ap, length, refl, sym, ◌∙◌, arith}
 use Rattle.dn_wf2q.proofs.Reserved.{on_ok, on_ok_always, on_err_always, has_place, flows_same, padded_same, place_same, reserves_same, kept_same, kept_extended, keys_within, extended_seen, room_added}
-use Rattle.dn_wf2q.proofs.parts.Parts.reserve_flow.Goals as goal
+use Rattle.dn_wf2q.proofs.sched_parts.SchedParts.reserve_flow.Goals as goal
 
 -- There is a queue at the slot.
 pub returns-then-slot-len-clause-succeeds : goal.returns-then-slot-len-clause-succeeds
