@@ -1,8 +1,6 @@
 -- What a Collect takes. The packets that `pop_due` gives one after the other, up to the first None, are `given` of
--- the definition of the emulator, and what is left is what `undelivered` keeps. An invariant of the loop is that the
--- packets taken so far, followed by those due in the line, are those due at first, that the packets not due stay the
--- same, and that the line ascends: `due-first` and `not_due-first` keep it, and at None `due-none` and
--- `not_due-none` finish it.
+-- the definition of the emulator, and what is left is what `undelivered` keeps: at None `due-none` and `not_due-none` say
+-- that nothing in the line is due.
 use Rattle.std.proofs.Common.{◌≡◌, ℕ, ◌<◌, ◌≤◌, Bool, true, false, cond, nat_le, nat_lt, List, [], ◌∷◌, filter, All, Some, None, is_some, refl, sym, ap, ◌∙◌, arith, inl, inr}
 use Rattle.std.specs.Ordering.{is_lt}
 use Rattle.std.proofs.lemmas.List.Elements.{All-nil, All-cons}
@@ -13,7 +11,7 @@ use Rattle.dn_types.specs.declared.rule.Rule.{Rule}
 use Rattle.dn_types.specs.Deliveries.{delivery_cmp, is_given_before, in_order, delivery_of, undelivered}
 use Rattle.dn_types.specs.Links.{last_due}
 use Rattle.dn_types.specs.Trace.{Event, opened, arrived, started, lost, refused, discarded, collected}
-use Rattle.dn_link.specs.Line.{all_in_order, due_first, after_due}
+use Rattle.dn_link.specs.Line.{all_in_order, due_first}
 use Rattle.dn_link.proofs.Placed.{NoneBefore, Ascends, ascends_placed, ascends_filtered}
 use Rattle.dn_link.proofs.InOrder.{strict, in_order_placed, first_due}
 
@@ -41,34 +39,6 @@ IsInOrder-undelivered rule (arrived p ∷ trace) = IsInOrder-undelivered rule tr
 IsInOrder-undelivered rule (lost l f ∷ trace) = IsInOrder-undelivered rule trace
 IsInOrder-undelivered rule (refused l f ∷ trace) = IsInOrder-undelivered rule trace
 IsInOrder-undelivered rule (discarded f ∷ trace) = IsInOrder-undelivered rule trace
-
-pub IsInOrder-after_due : (at : ℕ) (ds : List Delivery) → IsInOrder ds → IsInOrder (after_due at ds)
-IsInOrder-after_due at [] ordered = tt
-IsInOrder-after_due at (d ∷ ds) ordered = by (nat_le d.due at)
-  where
-    by : (b : Bool) → IsInOrder (cond b ds (d ∷ ds))
-    by true = ordered.1
-    by false = ordered
-
--- A first that is due is the first of the list.
-first_is : (b : Bool) (d e : Delivery) → cond b (Some d) None ≡ Some e → (b ≡ true) × (d ≡ e)
-first_is true d e h = (refl, cc)
-first_is false d e h = absurd (let z : false ≡ true = ap is_some h in cc)
-
--- Where the first is due, it is the first of those due.
-pub due-first : (at : ℕ) (ds : List Delivery) (e : Delivery) → due_first at ds ≡ Some e → due_at at ds ≡ e ∷ due_at at (after_due at ds)
-due-first at [] e h = absurd (let z : false ≡ true = ap is_some h in cc)
-due-first at (d ∷ ds) e h =
-    let is = first_is (nat_le d.due at) d e h in
-    rw (is.0, is.1) refl
-
--- And the packets not due are those behind it.
-pub not_due-first : (at : ℕ) (ds : List Delivery) (e : Delivery) → due_first at ds ≡ Some e → not_due_at at (after_due at ds) ≡ not_due_at at ds
-not_due-first at [] e h = refl
-not_due-first at (d ∷ ds) e h =
-    let is = first_is (nat_le d.due at) d e h in
-    let test : nat_lt at d.due ≡ false = let due = is.0 in grind (arith, nat_tests) in
-    rw (is.0, test) refl
 
 -- What is given later isn't due sooner.
 due_order : (a b : Delivery) → is_given_before b a ≡ false → a.due ≤ b.due

@@ -6,7 +6,7 @@ use Rattle.dn_types.specs.declared.call.Call.{Call}
 use Rattle.dn_types.specs.declared.entry.Entry.{Entry}
 use Rattle.dn_types.specs.declared.reply.Reply.{Reply}
 use Rattle.dn_types.specs.declared.rule.Rule.TheVariants.{Ordered}
-use Rattle.dn_service.specs.Callers.{ServiceView, CallerView, Answered}
+use Rattle.dn_service.specs.Callers.{CallerView, Answered}
 use Rattle.dn_service.specs.Histories.{entry_of, AreBelow}
 use Rattle.dn_service.specs.Rule.{Follows}
 use Rattle.dn_service.specs.Seats.{SeatState, SeatView, Slot, Has, Each, sitting, with_taken, up_to_date, front_in, own_in}
@@ -47,9 +47,6 @@ pub now_sitting : (k : ℕ) (m m' : SeatState) (x : SeatView) (history later : L
 now_sitting k m m' x history later is at told = told ∙ (λ i. (record { count = (at i).count; accounts = map (up_to_date later) (at i).accounts; taken = None }, []))
     ∙ (λ i. (record { count = m.0.count; accounts = map (up_to_date later) (accounts_is k m is i); taken = None }, []))
 
-pub sits_again : (k n : ℕ) (front own : List Entry) (m : SeatState) → m ≡ (sitting n k front own, []) → IsSitting k m
-sits_again k n front own m e = subst (IsSitting k) (sym e) refl
-
 pub answers : (service : TableId) (k : ℕ) (m m' : SeatState) (service' : TableId) (history : List Entry) (c : Call) (a : Reply) → IsSitting k m → k < m.0.count
     → IsLawful Ordered (history ++ entry_of k c a ∷ []) → AreBelow m.0.count history → Each (Follows history) m.0.accounts
     → m' ≡ (sitting m.0.count k (history ++ entry_of k c a ∷ []) (own_entries k (history ++ entry_of k c a ∷ [])), [])
@@ -64,6 +61,3 @@ answers service k m m' service' history c a is small lawful below follows e =
       own = own-more k history x refl ∙ ap (λ l. l ++ x ∷ []) (sym f.own);
       all_own = refl;
     }
-
-pub same_service : {a b : TableId} {m n : ℕ} → a ≡ b → m ≡ n → ◌≡◌ {A = ServiceView} (record { table = a; callers = m }) (record { table = b; callers = n })
-same_service e f = λ i. record { table = e i; callers = f i }

@@ -10,7 +10,6 @@ use Rattle.std.proofs.lemmas.Nat.{mul-le}
 use Rattle.std.proofs.lemmas.Int.Digits.{digits_value_more}
 use Rattle.std.proofs.lemmas.List.{take_all}
 use Rattle.dn_text.specs.Numbers.{numeral_of, all_digits, within}
-use Rattle.dn_text.specs.declared.number_fault.NumberFault.{NumberFault}
 use Rattle.dn_text.specs.declared.number_fault.NumberFault.TheVariants.{Range}
 
 -- a number is no greater than its multiple
@@ -73,30 +72,12 @@ ok_within least greatest n a b =
     let high : nat_le n greatest ≡ true = le-leb _ _ b in
     rw (low, high) refl
 
-pub below_within : (least greatest n : ℕ) → n < least → within least greatest (Some n) ≡ Err Range
-unfolding within
-below_within least greatest n a = let low : nat_le least n ≡ false = lt-leb _ _ a in rw low refl
-
 pub above_within : (greatest n : ℕ) → greatest < n → within 0 greatest (Some n) ≡ Err Range
 unfolding within
 above_within greatest n a =
     let low : nat_le 0 n ≡ true = le-leb _ _ (omega arith) in
     let high : nat_le n greatest ≡ false = lt-leb _ _ a in
     rw (low, high) refl
-
--- a fault doesn't depend on the least number
-pub same_fault : (least greatest : ℕ) (e : NumberFault) (o : Option ℕ) → Err e ≡ within 0 greatest o → Err e ≡ within least greatest o
-unfolding within
-same_fault least greatest e None h = h
-same_fault least greatest e (Some n) h = tested (nat_le least n) (nat_le n greatest) h
-  where
-    low : nat_le 0 n ≡ true
-    low = le-leb _ _ (omega arith)
-
-    tested : (a b : Bool) → Err e ≡ cond (nat_le 0 n && b) (Ok n) (Err Range) → Err e ≡ cond (a && b) (Ok n) (Err Range)
-    tested true b h = rw low at h
-    tested false true h = let k = rw low at h in absurd (cc)
-    tested false false h = let k = rw low at h in k
 
 module _ (radix greatest : ℕ) (ds : List ℕ) (i v : ℕ) (past : length ds ≤ i) (end : i ≤ length ds) (some : 0 < length ds)
     (digits : (k : ℕ) → k < i → digit_value (get_or ds k 0) < radix) (capped : v ≡ min (digits_value radix (take i ds)) (greatest + 1)) where

@@ -27,10 +27,6 @@ pub head_if : (P Q : Stamped → Type 0) → ((p : Stamped) → P p → Q p) →
 head_if P Q w [] h = tt
 head_if P Q w (p ∷ q) h = w p h
 
-pub if_weaker : (P Q : Stamped → Type 0) → ((p : Stamped) → P p → Q p) → (q : List Stamped) → IfHead P q → IfHead Q q
-if_weaker P Q w [] h = tt
-if_weaker P Q w (p ∷ q) h = w p h
-
 pub if_none : (P : Stamped → Type 0) (q : List Stamped) → presence q ≡ 0 → IfHead P q
 if_none P [] e = tt
 if_none P (p ∷ q) e = absurd (omega arith)
@@ -46,14 +42,6 @@ head_there P (p ∷ q) h = refl
 pub presence-le : (q : List Stamped) → presence q ≤ 1
 presence-le [] = omega arith
 presence-le (p ∷ q) = omega arith
-
-pub presence_of_empty : (q : List Stamped) → length q ≡ 0 → presence q ≡ 0
-presence_of_empty [] e = refl
-presence_of_empty (p ∷ q) e = absurd (omega arith)
-
-pub presence_of_some : (q : List Stamped) → 0 < length q → presence q ≡ 1
-presence_of_some [] e = absurd (omega arith)
-presence_of_some (p ∷ q) e = refl
 
 pub length-split : (q : List Stamped) → length q ≡ presence q + behind q
 length-split [] = refl
@@ -86,10 +74,6 @@ head_says P A w (p ∷ q) h = w p h
 -- the flow f, from the code's list
 pub flow_at_seen : (b : ℕ) (qs : List TaggedQueue) (f : ℕ) (d : TaggedQueue) → f < length qs → flow_at (by_slot (seen b) qs) f ≡ seen b f (get_or qs f d)
 flow_at_seen b qs f d l = by_slot_at (seen b) qs f d no_packets l
-
-pub head_is_some : (P : Stamped → Type 0) (q : List Stamped) → HeadIs P q → 0 < length q
-head_is_some P [] h = absurd h
-head_is_some P (p ∷ q) h = omega arith
 
 pub within_more : (b c : ℕ) (p : Stamped) → b ≤ c → IsWithin b p → IsWithin c p
 within_more b c p l h = let a = h.0 in let f = h.1 in (omega arith, omega arith, h.2, h.3, h.4)

@@ -1,5 +1,5 @@
 -- How often a flow stands among keys.
-use Rattle.std.proofs.Common.{◌≡◌, ◌==◌, cond, ℕ, suc, ◌+◌, ◌<◌, ◌≤◌, slice_index_or, true, false, List, [], ◌∷◌, length, All, IsPermutation, refl, arith, inl, inr}
+use Rattle.std.proofs.Common.{◌≡◌, ◌==◌, cond, ℕ, suc, ◌+◌, ◌<◌, ◌≤◌, slice_index_or, true, false, List, [], ◌∷◌, length, All, IsPermutation, arith, inl, inr}
 use Rattle.std.proofs.lemmas.List.Sums.{sum_by-cons}
 use Rattle.std.proofs.lemmas.List.Sorted.{sum_by_pushed, sum_by_popped}
 use Rattle.std.proofs.lemmas.List.Elements.{All-nil, All-cons}
@@ -60,10 +60,6 @@ not_before x y h = elim (cases_order y.tag x.tag) [
     | inr l ↦ (omega arith, λ e. absurd (omega arith))
   ]
 ]
-
-pub ranks_at_empty : (f : ℕ) (ks : List RankView) → length ks ≡ 0 → ranks_at f ks ≡ 0
-ranks_at_empty f [] e = refl
-ranks_at_empty f (k ∷ ks) e = absurd (omega arith)
 
 -- what `None` says of a length
 pub zero_from_none : (n : ℕ) → (0 < n → false ≡ true) → n ≡ 0

@@ -16,9 +16,6 @@ use Rattle.dn_wf2q.specs.Steps.{MakesRoom, IsBlank, IsExtended}
 use Rattle.dn_wf2q.proofs.BySlot.{length-by_slot, by_slot-set, by_slot-append}
 use Rattle.dn_wf2q.proofs.Heads.{flow_at_seen, room_grows, cond_zero}
 
-pub none_added : (xs : List TaggedQueue) → IsExtended xs xs
-none_added xs = record { more = []; is = sym (append-nil xs); blank = All-nil IsBlank }
-
 pub one_added : (xs ys : List TaggedQueue) (q : TaggedQueue) → IsExtended xs ys → IsBlank q → IsExtended xs (ys ++ q ∷ [])
 one_added xs ys q e b = record {
   more = e.more ++ q ∷ [];

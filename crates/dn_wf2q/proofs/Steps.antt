@@ -14,9 +14,6 @@ use Rattle.dn_wf2q.proofs.Heads.{IfHead, head_weaker, head_both, head_if, if_non
 use Rattle.dn_wf2q.proofs.Ranks.{ranks_at_pushed, ranks_at_popped, some_rank_at, not_before}
 use Rattle.dn_wf2q.proofs.Scan.{raised_is, raised_stays, first_is, first_none, YieldsTo}
 
-abbrev some_flow : Flow
-some_flow = record { backlog = record { flow = 0; len = 0; weight = 0; start_tag = 0; finish_tag = 0 } ∷ []; last_finish_tag = 0 }
-
 abbrev no_key : RankView
 no_key = record { tag = 0; slot = 0 }
 
