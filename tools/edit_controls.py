@@ -1,0 +1,134 @@
+#!/usr/bin/env python3
+"""Shows that a must-fail edit is refused for its mistake and not for its form.
+
+An edit that adds code, a wrapper or a field would prove nothing if a change that does no harm in the same form were refused
+too. So for each edit of the table below the mistake is undone and the form kept, and the crate has to prove. Edits that
+only change a value have no entry: without the mistake they are the crate itself.
+
+Usage: tools/edit_controls.py [CRATE..] [CRATE/EDIT..]. It works in a copy of the repository, so the checkout stays as it is,
+and prints a line for each control and then 'N controls prove, M do not'. RT is the command that checks, `rt` without it.
+"""
+import os
+import re
+import shlex
+import shutil
+import subprocess
+import sys
+import tempfile
+
+TOP = os.path.realpath(os.path.join(os.path.dirname(__file__), ".."))
+
+LEAST = "ensures least { IfSome result (λ key. IsLeast %s key self.old.keys) } ensures keys {"
+IS_LEAST = "ghost use Rattle.dn_heap.specs.Heap.{IsLeast}; "
+
+# For each edit the pairs that undo its mistake, each applied to the text that the edit puts in.
+CONTROLS = {
+    "dn_heap/pops_another_key": [("push(Reverse(top)).unwrap(); return Some(next);", "push(Reverse(next)).unwrap();")],
+    "dn_heap/reserves_without_the_keys_of_the_heap": [(".min(n))", ".max(n))")],
+    "dn_wf2q/left_in_waiting_heap": [("self.waiting.push_reserved(first);", "let _ = first.slot();")],
+    "dn_wf2q/never_raises_virtual_time": [("top.tag() * 0", "top.tag() * 1")],
+    "dn_wf2q/one_place_too_few": [(".saturating_sub(1)", ".saturating_sub(0)")],
+    "dn_wf2q/pick_not_counted": [("slot.is_some() as u64", "0")],
+    "dn_wf2q/picked_left_out_of_sum": [
+        ("before.saturating_add(growth(sent.len, weights.saturating_sub(sent.weight as u128).max(1)) as u128)", "self.virtual_time")],
+    "dn_wf2q/picks_ineligible": [("top.tag() * 0", "top.tag() * 1")],
+    "dn_wf2q/start_tag_behind_a_packet": [("|| last < virtual_time", "|| last < last")],
+    "dn_wf2q/ties_by_arrival": [(".then(self.entered.cmp(&other.entered))", ".then(self.slot.cmp(&other.slot))")],
+    "dn_wf2q/without_the_least_key": [
+        ("use dn_heap::MinHeap;", IS_LEAST + "ghost use Rattle.dn_wf2q.specs.Rank.{rank_cmp}; use dn_heap::MinHeap;"),
+        ("ensures keys {", LEAST % "rank_cmp")],
+    "dn_link/without_the_least_key": [
+        ("trait Pops", IS_LEAST + "ghost use Rattle.dn_types.specs.Deliveries.{delivery_cmp}; trait Pops"),
+        ("ensures keys {", LEAST % "delivery_cmp")],
+    "dn_link/without_the_value_of_a_bandwidth": [("ensures in_range", "ensures value { result ≡ self } ensures in_range")],
+    "dn_flows/full_at_bytes_counting_the_new_packet": [("u64::from(self.bytes) + u64::from(packet.len.get()) >", "u64::from(self.bytes) >")],
+    "dn_flows/limit_before_loss": [("&& !self.is_full(&rule.limit)", "&& self.len == self.len")],
+    "dn_flows/makes_a_flow_for_each_packet": [("&& flow == 0", "&& flow == flow")],
+    "dn_text/greatest_is_out_of_range": [(".saturating_sub(1)", ".saturating_sub(0)")],
+    "dn_text/range_before_shape": [("if value == beyond", "if value > beyond")],
+    "dn_text/separator_anywhere": [("*byte == b' '", "*byte == b'\\n'")],
+    "dn_service/a_packet_recorded_twice": [("pages.history.push_reserved(", "drop(")],
+    "dn_service/always_busy": [("number < 16", "number >= 16")],
+    "dn_service/front_forgets": [("pages.history.clear();", "let _ = pages.history.len();")],
+    "dn_service/hands_out_from_one": [("callers.remove(0);", "let _ = callers.len();")],
+    "dn_service/invented_reply": [("number == 0", "number >= 16")],
+    "dn_service/loses_an_entry_at_close": [("history.pop();", "let _ = history.len();")],
+    "dn_service/memory_after_change": [("pages.history.reserve(1)?;", "let _ = pages.history.len();")],
+    "dn_service/records_twice": [("let _ = self.try_call(*call);", "let _ = self.number();")],
+    "dn_service/without_the_reply": [
+        ("ghost use Rattle.dn_types.specs.Clock", "ghost use Rattle.dn_types.specs.Replies.{reply}; ghost use Rattle.dn_types.specs.Clock"),
+        ("ensures err {", "ensures ok { IfOk result (λ r. (rule : RuleValue) (calls : List CallValue) → StandsAfter rule self.old calls"
+         " → (r ≡ reply rule calls call.now) × StandsAfter rule self.new (call.now ∷ calls)) } ensures err {")],
+}
+
+
+def read(path):
+    with open(path, encoding="utf-8") as file:
+        return file.read()
+
+
+def write(path, text):
+    with open(path, "w", encoding="utf-8") as file:
+        file.write(text)
+
+
+def pairs_of(edit):
+    """The edit's (file, old, new), in order."""
+    file = old = None
+    for line in edit.splitlines():
+        kind, _, text = line.partition(": ") if ": " in line else (line.rstrip(": "), "", "")
+        if kind == "file":
+            file = text.strip()
+        elif kind == "old":
+            old = text
+        elif kind == "new":
+            yield file, old, text
+
+
+def controlled(name, news):
+    """The texts that an edit puts in, with its mistake undone; fails where a pair finds nothing to undo."""
+    for wrong, right in CONTROLS[name]:
+        if not any(wrong in new for new in news):
+            sys.exit(f"{name}: nothing to undo in {wrong!r}")
+        news = [new.replace(wrong, right) for new in news]
+    return news
+
+
+def proves(folder, name):
+    """Applies the control in the copy, checks the crate, and puts the sources back."""
+    crate, edit = name.split("/")
+    crate = os.path.join(folder, "crates", crate)
+    pairs = list(pairs_of(read(os.path.join(crate, "must-fail", edit + ".edit"))))
+    news = controlled(name, [new for _, _, new in pairs])
+    before = {file: read(os.path.join(crate, file)) for file, _, _ in pairs}
+    after = dict(before)
+    for (file, old, _), new in zip(pairs, news):
+        if old not in after[file]:
+            sys.exit(f"{name}: {file} has no {old!r}")
+        after[file] = after[file].replace(old, new, 1)
+    for file, text in after.items():
+        write(os.path.join(crate, file), text)
+    check = shlex.split(os.environ.get("RT", "rt")) + ["check"]
+    told = subprocess.run(check, cwd=crate, capture_output=True, text=True)
+    for file, text in before.items():
+        write(os.path.join(crate, file), text)
+    faults = [line for line in (told.stdout + told.stderr).splitlines() if re.search(r"error|refused|not proved|gave up", line)]
+    return told.returncode == 0, faults[:3]
+
+
+def main():
+    asked = sys.argv[1:]
+    names = [name for name in CONTROLS if not asked or name in asked or name.split("/")[0] in asked]
+    failed = 0
+    with tempfile.TemporaryDirectory() as work:
+        folder = os.path.join(work, "controls")
+        shutil.copytree(TOP, folder, ignore=shutil.ignore_patterns("out", ".git"))
+        for name in names:
+            right, faults = proves(folder, name)
+            failed += not right
+            print("proves" if right else "REFUSED", name, *faults, sep="\n    " if faults else " ", flush=True)
+    print(f"{len(names) - failed} controls prove, {failed} do not")
+    sys.exit(1 if failed else 0)
+
+
+main()
