@@ -48,7 +48,10 @@ module _ (owner behind : ℕ → ℕ) (old new : Packets) (w : Waiting) (q q' : 
   longer : (key n m : ℕ) → q.len ≡ suc m → IsChain owner behind old flow key (suc n) → key_after old key n ≡ q.back → Longer key n
   longer key zero m some c at_back = record {
     chain = (record { waiting = (c.0).waiting; next = a.key }, now, owner-of-other key fresh ∙ c.2, behind-of-own key fresh c.2 ∙ ap suc c.3, single.0);
-    waiting = ap (λ (s : StoredPacket). s.waiting ∷ waiting_from new s.next 1) (ap stored_or now) ∙ ap (λ (ws : List Waiting). (c.0).waiting ∷ ws) single.1 ∙ sym (ap (λ (s : StoredPacket). s.waiting ∷ w ∷ []) (ap stored_or c.1));
+    waiting =
+        ap (λ (s : StoredPacket). s.waiting ∷ waiting_from new s.next 1) (ap stored_or now)
+        ∙ ap (λ (ws : List Waiting). (c.0).waiting ∷ ws) single.1
+        ∙ sym (ap (λ (s : StoredPacket). s.waiting ∷ w ∷ []) (ap stored_or c.1));
     last = ap (λ (s : StoredPacket). s.next) (ap stored_or now);
   }
     where
@@ -78,7 +81,10 @@ module _ (owner behind : ℕ → ℕ) (old new : Packets) (w : Waiting) (q q' : 
       step : (key_after old (c.0).next n ≡ q.back → Longer (c.0).next n) → Longer key (suc n)
       step next = record {
         chain = (c.0, now, owner-of-other key fresh ∙ c.2, behind-of-own key fresh c.2 ∙ ap suc c.3, rest.chain);
-        waiting = ap (λ (s : StoredPacket). s.waiting ∷ waiting_from new s.next (suc (suc n))) (ap stored_or now) ∙ ap (λ (ws : List Waiting). (c.0).waiting ∷ ws) rest.waiting ∙ sym (ap (λ (s : StoredPacket). s.waiting ∷ waiting_from old s.next (suc n) ++ w ∷ []) (ap stored_or c.1));
+        waiting =
+            ap (λ (s : StoredPacket). s.waiting ∷ waiting_from new s.next (suc (suc n))) (ap stored_or now)
+            ∙ ap (λ (ws : List Waiting). (c.0).waiting ∷ ws) rest.waiting
+            ∙ sym (ap (λ (s : StoredPacket). s.waiting ∷ waiting_from old s.next (suc n) ++ w ∷ []) (ap stored_or c.1));
         last = ap (λ (s : StoredPacket). key_after new s.next (suc n)) (ap stored_or now) ∙ rest.last;
       }
         where

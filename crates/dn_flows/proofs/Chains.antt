@@ -41,7 +41,10 @@ module _ (owner behind owner' behind' : ℕ → ℕ) (old new : Packets) (flow :
       step : Same (c.0).next n → Same key (suc n)
       step rest = record {
         chain = (c.0, now.0, now.1, now.2 ∙ c.3, rest.chain);
-        waiting = ap (λ (s : StoredPacket). s.waiting ∷ waiting_from new s.next n) read_new ∙ ap (λ (ws : List Waiting). (c.0).waiting ∷ ws) rest.waiting ∙ sym (ap (λ (s : StoredPacket). s.waiting ∷ waiting_from old s.next n) read_old);
+        waiting =
+            ap (λ (s : StoredPacket). s.waiting ∷ waiting_from new s.next n) read_new
+            ∙ ap (λ (ws : List Waiting). (c.0).waiting ∷ ws) rest.waiting
+            ∙ sym (ap (λ (s : StoredPacket). s.waiting ∷ waiting_from old s.next n) read_old);
         keys = keys;
       }
         where
@@ -96,8 +99,14 @@ module _ (owner behind : ℕ → ℕ) (old new : Packets) (first : Waiting) (q q
   pub taken : Taken
   taken = record {
     chain = subst (λ k. IsChain owner behind new flow k q'.len) (sym next_is) rest.chain;
-    waiting = ap (λ n. waiting_from old q.front n) many ∙ ap (λ (s : StoredPacket). s.waiting ∷ waiting_from old s.next q'.len) (ap stored_or parts.1) ∙ (λ i. (front_is i).waiting ∷ (sym rest.waiting ∙ ap (λ k. waiting_from new k q'.len) (sym next_is)) i);
-    last = λ n e. ap (λ k. key_after new k n) next_is ∙ rest.keys n (omega arith) ∙ sym (ap (λ (s : StoredPacket). key_after old s.next n) (ap stored_or parts.1)) ∙ is.last (suc n) (many ∙ ap suc e) ∙ sym (ap (λ (x : FlowQueue). x.back) t.queue_is.2);
+    waiting =
+        ap (λ n. waiting_from old q.front n) many
+        ∙ ap (λ (s : StoredPacket). s.waiting ∷ waiting_from old s.next q'.len) (ap stored_or parts.1)
+        ∙ (λ i. (front_is i).waiting ∷ (sym rest.waiting ∙ ap (λ k. waiting_from new k q'.len) (sym next_is)) i);
+    last =
+        λ n e. ap (λ k. key_after new k n) next_is ∙ rest.keys n (omega arith)
+        ∙ sym (ap (λ (s : StoredPacket). key_after old s.next n) (ap stored_or parts.1)) ∙ is.last (suc n) (many ∙ ap suc e)
+        ∙ sym (ap (λ (x : FlowQueue). x.back) t.queue_is.2);
   }
 
   -- Any other flow's packets stay.
@@ -169,7 +178,8 @@ shortens-none store q = record {
   counts = (refl, refl);
 }
 
-pub shortens-more : (old mid new : Packets) (first : Waiting) (q q₁ q' : FlowQueue) → Shortens old q mid q₁ → TakesFront first mid q₁ new q' → new.len + 1 ≡ mid.len → new.capacity ≡ mid.capacity → Shortens old q new q'
+pub shortens-more : (old mid new : Packets) (first : Waiting) (q q₁ q' : FlowQueue) → Shortens old q mid q₁ → TakesFront first mid q₁ new q'
+    → new.len + 1 ≡ mid.len → new.capacity ≡ mid.capacity → Shortens old q new q'
 shortens-more old mid new first q q₁ q' s t len capacity = record {
   leaves = λ owner behind flow is.
       let left = s.leaves owner behind flow is in

@@ -63,7 +63,10 @@ module _ (keys : List ℕ) (key places : ℕ) (are : AreFree (keys ++ key ∷ []
 
 pub one-more-free : (keys : List ℕ) (key places : ℕ) → AreFree keys places → key < places → list_any (nat_eq key) keys ≡ false → AreFree (keys ++ key ∷ []) places
 one-more-free keys key places are below none = record {
-  distinct = IsDistinct-IsPermutation nat_eq flips (key ∷ keys) (keys ++ key ∷ []) (IsPermutation-sym (keys ++ key ∷ []) (key ∷ keys) (at-end keys key)) (IsDistinct-cons nat_eq key keys (all-apart key keys none) are.distinct);
+  distinct =
+      IsDistinct-IsPermutation nat_eq flips (key ∷ keys) (keys ++ key ∷ [])
+      (IsPermutation-sym (keys ++ key ∷ []) (key ∷ keys) (at-end keys key))
+      (IsDistinct-cons nat_eq key keys (all-apart key keys none) are.distinct);
   within = λ other free. by other free (cases_eq other key);
 }
   where

@@ -39,7 +39,8 @@ flow-read store (z ∷ queues) (suc flow) q e = flow-read store queues flow q e
 -- ---- One queue changes
 
 -- A queue whose packets stay is the flow's queue still, and stands for what it stood for.
-stay-queue : (owner behind owner' behind' : ℕ → ℕ) (old new : Packets) (flow : ℕ) (q : FlowQueue) → IsQueue owner behind old flow q → Stay owner behind owner' behind' old new flow q.len → IsQueue owner' behind' new flow q × (state_of new q ≡ state_of old q)
+stay-queue : (owner behind owner' behind' : ℕ → ℕ) (old new : Packets) (flow : ℕ) (q : FlowQueue) → IsQueue owner behind old flow q
+    → Stay owner behind owner' behind' old new flow q.len → IsQueue owner' behind' new flow q × (state_of new q ≡ state_of old q)
 stay-queue owner behind owner' behind' old new flow q is stay = (
   record {
     chain = same.chain;
@@ -57,7 +58,9 @@ pub record Changed (old new : Packets) (queues : List FlowQueue) (flow : ℕ) (q
   pub stored : AreStored new (set queues flow q')
   pub states : map (state_of new) (set queues flow q') ≡ set (map (state_of old) queues) flow (state_of new q')
 
-changed : (old new : Packets) (queues : List FlowQueue) (flow : ℕ) (q q' : FlowQueue) (are : AreStored old queues) (owner' behind' : ℕ → ℕ) → slice_get queues flow ≡ Some q → ((g n : ℕ) → (g ≡ flow → ⊥) → Stay are.owner are.behind owner' behind' old new g n) → IsQueue owner' behind' new flow q' → Changed old new queues flow q'
+changed : (old new : Packets) (queues : List FlowQueue) (flow : ℕ) (q q' : FlowQueue) (are : AreStored old queues) (owner' behind' : ℕ → ℕ)
+    → slice_get queues flow ≡ Some q → ((g n : ℕ) → (g ≡ flow → ⊥) → Stay are.owner are.behind owner' behind' old new g n)
+    → IsQueue owner' behind' new flow q' → Changed old new queues flow q'
 changed old new queues flow q q' are owner' behind' there stay is = record {
   stored = record { owner = owner'; behind = behind'; queues_are = λ g x e. by g x e (cases_eq g flow) };
   states = map-set-but (state_of old) (state_of new) queues flow q' (λ g x e ne. (stay-queue are.owner are.behind owner' behind' old new g x (are.queues_are g x e) (stay g x.len ne)).1);
@@ -78,7 +81,8 @@ as-many-flows store queues unsent = length_unsent (map (state_of store) queues) 
 
 -- ---- A call on the flow with a queue
 
-module _ (old : Packets) (queues : List FlowQueue) (unsent : List Unsent) (flow : ℕ) (q : FlowQueue) (are : AreStored old queues) (within : flow < length (all_with_unsent (map (state_of old) queues) unsent)) (read : q ≡ get_or queues flow q) where
+module _ (old : Packets) (queues : List FlowQueue) (unsent : List Unsent) (flow : ℕ) (q : FlowQueue) (are : AreStored old queues)
+    (within : flow < length (all_with_unsent (map (state_of old) queues) unsent)) (read : q ≡ get_or queues flow q) where
   abbrev seen : List FlowState
   seen = all_with_unsent (map (state_of old) queues) unsent
 
@@ -156,11 +160,14 @@ module _ (old : Packets) (queues : List FlowQueue) (unsent : List Unsent) (flow 
   after : (new : Packets) (q' : FlowQueue) (f : FlowState → FlowState) → Leaving f → Changed old new queues flow q' → state_of new q' ≡ f (state_of old q) → After new q' (f (flow_at seen flow))
   after new q' f leaves c e = record {
     stored = c.stored;
-    states = ap (λ (states : List FlowState). all_with_unsent states unsent) (c.states ∙ ap (set (map (state_of old) queues) flow) (e ∙ ap f (sym read-state))) ∙ carried f leaves (map (state_of old) queues) unsent flow;
+    states =
+        ap (λ (states : List FlowState). all_with_unsent states unsent) (c.states ∙ ap (set (map (state_of old) queues) flow) (e ∙ ap f (sym read-state)))
+        ∙ carried f leaves (map (state_of old) queues) unsent flow;
   }
 
   -- No packet moves, though the store may get room.
-  pub counting : (new : Packets) (q' : FlowQueue) (f : FlowState → FlowState) → Leaving f → ((key : ℕ) → get new key ≡ get old key) → SamePackets q q' → state_of old q' ≡ f (state_of old q) → After new q' (f (flow_at seen flow))
+  pub counting : (new : Packets) (q' : FlowQueue) (f : FlowState → FlowState) → Leaving f → ((key : ℕ) → get new key ≡ get old key)
+      → SamePackets q q' → state_of old q' ≡ f (state_of old q) → After new q' (f (flow_at seen flow))
   counting new q' f leaves same-packets same e = after new q' f leaves (changed old new queues flow q q' are are.owner are.behind there (λ g n ne. stay g n) now.0) (now.1 ∙ e)
     where
       stay : (g n : ℕ) → Stay are.owner are.behind are.owner are.behind old new g n
@@ -170,9 +177,13 @@ module _ (old : Packets) (queues : List FlowQueue) (unsent : List Unsent) (flow 
       now = stay-queue are.owner are.behind are.owner are.behind old new flow q' (same-queue are.owner are.behind old flow q q' same queue-is) (stay flow q'.len)
 
   -- A packet joins.
-  pub pushing : (new : Packets) (w : Waiting) (q' : FlowQueue) → Appends w old q new q' → 1 ≤ w.len → w.len ≤ 65535 → sum (lengths (flow_at seen flow).backlog) + w.len < 2 ^ 32 → After new q' (pushed w (flow_at seen flow))
+  pub pushing : (new : Packets) (w : Waiting) (q' : FlowQueue) → Appends w old q new q' → 1 ≤ w.len → w.len ≤ 65535
+      → sum (lengths (flow_at seen flow).backlog) + w.len < 2 ^ 32 → After new q' (pushed w (flow_at seen flow))
   pushing new w q' a some short fit = after new q' (pushed w) (λ u s. refl)
-      (changed old new queues flow q q' are (owner-appended are.owner are.behind old new w q q' flow a queue-is) (behind-appended are.owner are.behind old new w q q' flow a queue-is) there (λ g n ne. others-stay-appended are.owner are.behind old new w q q' flow a queue-is g n ne) (record { chain = now.chain; last = now.last; counts = counts }))
+      (changed old new queues flow q q' are (owner-appended are.owner are.behind old new w q q' flow a queue-is)
+      (behind-appended are.owner are.behind old new w q q' flow a queue-is) there
+      (λ g n ne. others-stay-appended are.owner are.behind old new w q q' flow a queue-is g n ne)
+      (record { chain = now.chain; last = now.last; counts = counts }))
       ((λ i. record {
         backlog = now.waiting i;
         reserved = (a.queue_is i).reserved;
@@ -205,9 +216,12 @@ module _ (old : Packets) (queues : List FlowQueue) (unsent : List Unsent) (flow 
   first-short = short-first are.owner are.behind old flow q queue-is
 
   -- The first packet starts.
-  pub popping : (new : Packets) (first : Waiting) (q' q'' : FlowQueue) → TakesFront first old q new q' → SamePackets q' q'' → (q''.reserved ≡ q.reserved) × (q''.started ≡ q.started + 1) → After new q'' (popped (flow_at seen flow))
+  pub popping : (new : Packets) (first : Waiting) (q' q'' : FlowQueue) → TakesFront first old q new q' → SamePackets q' q''
+      → (q''.reserved ≡ q.reserved) × (q''.started ≡ q.started + 1) → After new q'' (popped (flow_at seen flow))
   popping new first q' q'' t same counts = after new q'' popped start-leaves
-      (changed old new queues flow q q'' are are.owner are.behind there (λ g n ne. others-stay-taken are.owner are.behind old new first q q' flow t queue-is g n ne) (same-queue are.owner are.behind new flow q' q'' same (taken-queue are.owner are.behind old new first q q' flow t queue-is)))
+      (changed old new queues flow q q'' are are.owner are.behind there
+      (λ g n ne. others-stay-taken are.owner are.behind old new first q q' flow t queue-is g n ne)
+      (same-queue are.owner are.behind new flow q' q'' same (taken-queue are.owner are.behind old new first q q' flow t queue-is)))
       ((λ i. record {
         backlog = waiting_from new (same.0 i) (same.2 i);
         reserved = counts.0 i;
@@ -219,7 +233,10 @@ module _ (old : Packets) (queues : List FlowQueue) (unsent : List Unsent) (flow 
 
   -- Where none waits nothing changes.
   pub resting : (new : Packets) (q' : FlowQueue) → new ≡ old → q' ≡ q → q.len ≡ 0 → After new q' (popped (flow_at seen flow))
-  resting new q' store same none = counting new q' popped start-leaves (λ key. ap (λ (s : Packets). get s key) store) (ap (λ (x : FlowQueue). x.front) same, ap (λ (x : FlowQueue). x.back) same, ap (λ (x : FlowQueue). x.len) same, ap (λ (x : FlowQueue). x.bytes) same) (ap (state_of old) same ∙ sym (ap (λ n. popped_from (waiting_from old q.front n) (state_of old q)) none))
+  resting new q' store same none =
+      counting new q' popped start-leaves (λ key. ap (λ (s : Packets). get s key) store)
+      (ap (λ (x : FlowQueue). x.front) same, ap (λ (x : FlowQueue). x.back) same, ap (λ (x : FlowQueue). x.len) same, ap (λ (x : FlowQueue). x.bytes) same)
+      (ap (state_of old) same ∙ sym (ap (λ n. popped_from (waiting_from old q.front n) (state_of old q)) none))
 
   pub none-waits : q.len ≡ 0 → slice_get (flow_at seen flow).backlog 0 ≡ None
   none-waits none = ap (λ (ws : List Waiting). slice_get ws 0) (reads.backlog ∙ ap (waiting_from old q.front) none)
@@ -233,7 +250,9 @@ module _ (old : Packets) (queues : List FlowQueue) (unsent : List Unsent) (flow 
   lies-here = record { owner = are.owner; behind = are.behind; flow = flow; is = queue-is }
 
   -- All packets leave, and are counted beside the queue.
-  pub emptying : (new : Packets) (q' : FlowQueue) (u : Unsent) → Shortens old q new q' → q'.len ≡ 0 → length unsent ≡ length queues → u ≡ get_or unsent flow u → AreStored new (set queues flow q') × (all_with_unsent (map (state_of new) (set queues flow q')) (set unsent flow (record u { discarded = u.discarded + q.len })) ≡ set seen flow (emptied (flow_at seen flow)))
+  pub emptying : (new : Packets) (q' : FlowQueue) (u : Unsent) → Shortens old q new q' → q'.len ≡ 0 → length unsent ≡ length queues
+      → u ≡ get_or unsent flow u
+      → AreStored new (set queues flow q') × (all_with_unsent (map (state_of new) (set queues flow q')) (set unsent flow (record u { discarded = u.discarded + q.len })) ≡ set seen flow (emptied (flow_at seen flow)))
   emptying new q' u s none same is = (
     there-after.stored,
     ap (λ (states : List FlowState). all_with_unsent states (set unsent flow counted)) there-after.states
@@ -267,7 +286,9 @@ added store queues are = record { owner = are.owner; behind = are.behind; queues
   where
     by : (g : ℕ) (x : FlowQueue) → (slice_get queues g ≡ Some x) ⊎ ((g ≡ length queues) × (x ≡ new_queue)) → IsQueue are.owner are.behind store g x
     by g x (inl e) = are.queues_are g x e
-    by g x (inr e) = subst (IsQueue are.owner are.behind store g) (sym e.1) (record { chain = tt; last = λ n z. absurd (omega arith); counts = record { many = refl; counted = refl; bounded = omega arith; short = tt } })
+    by g x (inr e) =
+        subst (IsQueue are.owner are.behind store g) (sym e.1)
+        (record { chain = tt; last = λ n z. absurd (omega arith); counts = record { many = refl; counted = refl; bounded = omega arith; short = tt } })
 
 pub without-last : (store : Packets) (queues : List FlowQueue) (q : FlowQueue) → AreStored store (queues ++ q ∷ []) → AreStored store queues
 without-last store queues q are = record { owner = are.owner; behind = are.behind; queues_are = λ g x e. are.queues_are g x (get-kept queues q x g e) }
@@ -286,7 +307,8 @@ no-counts store [] (suc n) = refl
 no-counts store (q ∷ queues) zero = refl
 no-counts store (q ∷ queues) (suc n) = λ i. state_of store q ∷ no-counts store queues n i
 
-states-less : (store : Packets) (queues : List FlowQueue) (unsent : List Unsent) (n : ℕ) → all_with_unsent (map (state_of store) (take n queues)) (take n unsent) ≡ take n (all_with_unsent (map (state_of store) queues) unsent)
+states-less : (store : Packets) (queues : List FlowQueue) (unsent : List Unsent) (n : ℕ)
+    → all_with_unsent (map (state_of store) (take n queues)) (take n unsent) ≡ take n (all_with_unsent (map (state_of store) queues) unsent)
 states-less store [] unsent zero = refl
 states-less store [] unsent (suc n) = refl
 states-less store (q ∷ queues) unsent zero = refl
@@ -294,7 +316,9 @@ states-less store (q ∷ queues) [] (suc n) = λ i. state_of store q ∷ no-coun
 states-less store (q ∷ queues) (u ∷ unsent) (suc n) = λ i. with_unsent u (state_of store q) ∷ states-less store queues unsent n i
 
 -- The last flow is taken out.
-pub last-out : (store : Packets) (queues queues' : List FlowQueue) (unsent unsent' : List Unsent) → queues' ≡ take (length queues - 1) queues → unsent' ≡ take (length unsent - 1) unsent → length unsent ≡ length queues → all_with_unsent (map (state_of store) queues') unsent' ≡ take (length (all_with_unsent (map (state_of store) queues) unsent) - 1) (all_with_unsent (map (state_of store) queues) unsent)
+pub last-out : (store : Packets) (queues queues' : List FlowQueue) (unsent unsent' : List Unsent)
+    → queues' ≡ take (length queues - 1) queues → unsent' ≡ take (length unsent - 1) unsent → length unsent ≡ length queues
+    → all_with_unsent (map (state_of store) queues') unsent' ≡ take (length (all_with_unsent (map (state_of store) queues) unsent) - 1) (all_with_unsent (map (state_of store) queues) unsent)
 last-out store queues queues' unsent unsent' fewer-queues fewer-counts same =
     let many = as-many-flows store queues unsent in
     let last = length (all_with_unsent (map (state_of store) queues) unsent) - 1 in

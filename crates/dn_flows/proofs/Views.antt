@@ -25,7 +25,8 @@ popped_backlog s = by s.backlog refl
     by (w ∷ ws) e = refl
 
 -- The packets that wait in each flow after a start of one of them.
-pub backlog_after_pop : (flows : List FlowState) (flow f : ℕ) → flow < length flows → (flow_at (slice_set flows flow (popped (flow_at flows flow))) f).backlog ≡ cond (nat_eq flow f) (drop 1 (flow_at flows f).backlog) (flow_at flows f).backlog
+pub backlog_after_pop : (flows : List FlowState) (flow f : ℕ) → flow < length flows
+    → (flow_at (slice_set flows flow (popped (flow_at flows flow))) f).backlog ≡ cond (nat_eq flow f) (drop 1 (flow_at flows f).backlog) (flow_at flows f).backlog
 backlog_after_pop flows flow f within = ap (λ s. s.backlog) (flow_after_set flows flow f (popped (flow_at flows flow)) within) ∙ elim (cases_eq flow f) [
   | inl same ↦
       let test : nat_eq flow f ≡ true = grind (arith, nat_tests) in

@@ -29,7 +29,9 @@ module _ {K : Type 0} {cmp : K → K → Ordering} (order : IsTotalOrder cmp) wh
   -- the last key is less than none
   last_is_greatest : (xs : List K) (n : ℕ) (last : K) → n + 1 ≡ length xs → last ≡ get_or xs n last → IsAscending cmp xs → All (λ k. is_lt (cmp last k) ≡ false) xs
   last_is_greatest [] n last long e ascending = absurd (omega arith)
-  last_is_greatest (x ∷ []) zero last long e ascending = All-cons (λ k. is_lt (cmp last k) ≡ false) x [] (subst (λ k. is_lt (cmp last k) ≡ false) e (itself last)) (All-nil (λ k. is_lt (cmp last k) ≡ false))
+  last_is_greatest (x ∷ []) zero last long e ascending =
+      All-cons (λ k. is_lt (cmp last k) ≡ false) x [] (subst (λ k. is_lt (cmp last k) ≡ false) e (itself last))
+      (All-nil (λ k. is_lt (cmp last k) ≡ false))
   last_is_greatest (x ∷ []) (suc n) last long e ascending = absurd (omega arith)
   last_is_greatest (x ∷ y ∷ ys) zero last long e ascending = absurd (omega arith)
   last_is_greatest (x ∷ y ∷ ys) (suc n) last long e ascending =
@@ -50,8 +52,11 @@ module _ {K : Type 0} {cmp : K → K → Ordering} (order : IsTotalOrder cmp) wh
 
   pub joined : (xs : List K) (key : K) → IsAscending cmp xs → All (λ k. is_lt (cmp key k) ≡ false) xs → IsAscending cmp (xs ++ key ∷ [])
   joined [] key ascending none = (All-nil (λ k. is_lt (cmp k key) ≡ false), tt)
-  joined (x ∷ xs) key ascending none =
-      (All-push (λ k. is_lt (cmp k x) ≡ false) xs key ascending.0 (All-head (λ k. is_lt (cmp key k) ≡ false) x xs none), joined xs key ascending.1 (All-tail (λ k. is_lt (cmp key k) ≡ false) x xs none))
+  joined (x ∷ xs) key ascending none = (
+    All-push (λ k. is_lt (cmp k x) ≡ false) xs key ascending.0 (All-head (λ k. is_lt (cmp key k) ≡ false) x xs none),
+    joined xs key
+        ascending.1 (All-tail (λ k. is_lt (cmp key k) ≡ false) x xs none),
+  )
 
   All_where_true : (P : K → Type 0) (bs : List Bool) (xs : List K) → All P xs → All P (items_where_true bs xs)
   All_where_true P [] xs h = All-nil P

@@ -23,7 +23,8 @@ module _ {P X : Type 0} (R : P → X → Bool → P → Type 0) (J : P → Type 
       let k : length bs ≡ length xs = omega arith in
       rw a.0 (ap (λ l. x ∷ l) (kept_after r.0 bs xs q s.1 a.1 k r.2))
 
-  taken_before : (p : P) (bs : List Bool) (xs : List X) (q : P) → J p → done p ≡ false → list_any test xs ≡ true → length bs ≡ length xs → ReturnsInTurn R p bs xs q → (x : X) × (test x ≡ true) × IsPermutation xs (x ∷ items_where_true bs xs)
+  taken_before : (p : P) (bs : List Bool) (xs : List X) (q : P) → J p → done p ≡ false → list_any test xs ≡ true → length bs ≡ length xs
+      → ReturnsInTurn R p bs xs q → (x : X) × (test x ≡ true) × IsPermutation xs (x ∷ items_where_true bs xs)
   taken_before p bs [] q j d some e r = absurd (cc)
   taken_before p [] (x ∷ xs) q j d some e r = absurd (omega arith)
   taken_before p (b ∷ bs) (x ∷ xs) q j d some e r =

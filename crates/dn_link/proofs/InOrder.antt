@@ -16,7 +16,9 @@ use Rattle.dn_link.proofs.Placed.{placed, all_placed, IsStrict, none_from_all, a
 
 -- The order of deliveries is total.
 pub delivery_total : IsTotalOrder delivery_cmp
-delivery_total = then_total (on_total (λ (d : Delivery). d.due) nat_cmp_total) (then_total (on_total (λ (d : Delivery). d.packet) nat_cmp_total) (then_total (on_total (λ (d : Delivery). d.flow) nat_cmp_total) (on_total (λ (d : Delivery). d.start) nat_cmp_total)))
+delivery_total =
+    then_total (on_total (λ (d : Delivery). d.due) nat_cmp_total) (then_total (on_total (λ (d : Delivery). d.packet) nat_cmp_total)
+    (then_total (on_total (λ (d : Delivery). d.flow) nat_cmp_total) (on_total (λ (d : Delivery). d.start) nat_cmp_total)))
 
 -- A comparison the other way round is the reverse.
 back_way : (a b : Delivery) → delivery_cmp a b ≡ ordering_reverse (delivery_cmp b a)
@@ -63,7 +65,9 @@ pub strict : IsStrict is_given_before
 strict = record {
   own = λ x. ap is_lt (tied_itself delivery_total x);
   back = λ x y h. less_not_back (delivery_cmp x y) (delivery_cmp y x) (back_way y x) h;
-  through = λ x y z h k. lt_gt (delivery_cmp z x) (delivery_cmp x z) (back_way z x) ∙ upto delivery_total x y z (sym (lt_gt (delivery_cmp y x) (delivery_cmp x y) (back_way y x)) ∙ h) (sym (lt_gt (delivery_cmp z y) (delivery_cmp y z) (back_way z y)) ∙ k);
+  through =
+      λ x y z h k. lt_gt (delivery_cmp z x) (delivery_cmp x z) (back_way z x)
+      ∙ upto delivery_total x y z (sym (lt_gt (delivery_cmp y x) (delivery_cmp x y) (back_way y x)) ∙ h) (sym (lt_gt (delivery_cmp z y) (delivery_cmp y z) (back_way z y)) ∙ k);
   same = λ x y h k. same_delivery x y (equal_only (delivery_cmp x y) (delivery_cmp y x) (back_way x y) h k);
 }
 
@@ -124,7 +128,10 @@ gives_first at d rest l e h =
     (sym (ap (due_first at) e ∙ ap (λ b. cond b (Some d) None) t), sym (ap (after_due at) e ∙ ap (λ b. cond b rest (d ∷ rest)) t))
 
 -- The same of a heap, by the clauses of its `pop`.
-pub pop_gives : (at : ℕ) (r : Option Delivery) (old new : List Delivery) → is_some (due_first at (all_in_order old)) ≡ true → (0 < length old → IsSome r) → IfSome r (λ d. IsPermutation old (d ∷ new)) → IfSome r (λ d. All (λ e. is_lt (delivery_cmp e d) ≡ false) old) → (r ≡ due_first at (all_in_order old)) × (all_in_order new ≡ after_due at (all_in_order old))
+pub pop_gives : (at : ℕ) (r : Option Delivery) (old new : List Delivery) → is_some (due_first at (all_in_order old)) ≡ true
+    → (0 < length old → IsSome r) → IfSome r (λ d. IsPermutation old (d ∷ new))
+    → IfSome r (λ d. All (λ e. is_lt (delivery_cmp e d) ≡ false) old)
+    → (r ≡ due_first at (all_in_order old)) × (all_in_order new ≡ after_due at (all_in_order old))
 pop_gives at (Some d) old new h some p least = gives_first at d (all_in_order new) (all_in_order old) (popped_in_order d old new p least) h
 pop_gives at None [] new h some p least = absurd (let z : false ≡ true = h in cc)
 pop_gives at None (x ∷ xs) new h some p least = absurd (let z : false ≡ true = some (omega arith) in cc)

@@ -149,8 +149,12 @@ module _ {K : Type 0} (before : K → K → Bool) where
 
     -- A reordered list gives the same list in order.
     pub all_placed_permuted : (xs ys : List K) → IsPermutation xs ys → all_placed xs ≡ all_placed ys
-    all_placed_permuted xs ys h = same_ascending (all_placed xs) (all_placed ys) (ascends_all_placed xs) (ascends_all_placed ys) (λ f. sum_by-all_placed f xs ∙ sym (sum_by-IsPermutation f xs ys h) ∙ sym (sum_by-all_placed f ys))
+    all_placed_permuted xs ys h =
+        same_ascending (all_placed xs) (all_placed ys) (ascends_all_placed xs) (ascends_all_placed ys)
+        (λ f. sum_by-all_placed f xs ∙ sym (sum_by-IsPermutation f xs ys h) ∙ sym (sum_by-all_placed f ys))
 
     -- The least stands first.
     pub all_placed_least : (x : K) (xs : List K) → NoneBefore x xs → all_placed (x ∷ xs) ≡ x ∷ all_placed xs
-    all_placed_least x xs h = same_ascending (all_placed (x ∷ xs)) (x ∷ all_placed xs) (ascends_all_placed (x ∷ xs)) (none_all_placed x xs h, ascends_all_placed xs) (λ f. sum_by-placed f x (all_placed xs) ∙ sym (sum_by-cons f x (all_placed xs)))
+    all_placed_least x xs h =
+        same_ascending (all_placed (x ∷ xs)) (x ∷ all_placed xs) (ascends_all_placed (x ∷ xs))
+        (none_all_placed x xs h, ascends_all_placed xs) (λ f. sum_by-placed f x (all_placed xs) ∙ sym (sum_by-cons f x (all_placed xs)))

@@ -40,7 +40,16 @@ escaped-fits field i d lt =
     let cut = ap (λ (xs : List ℕ). length (escaped default_writer xs)) (split_at field i d lt) in
     let front = ap (length {A = ℕ}) (escaped-append (take i field) (get_or field i d ∷ drop (suc i) field)) in
     let rest = ap (length {A = ℕ}) (escaped-append (get_or field i d ∷ []) (drop (suc i) field)) in
-    omega (arith, cut, front, rest, length-append (escaped default_writer (take i field)) (escaped default_writer (get_or field i d ∷ drop (suc i) field)), length-append (escaped default_writer (get_or field i d ∷ [])) (escaped default_writer (drop (suc i) field)))
+    omega (
+      arith,
+      cut,
+      front,
+      rest,
+      length-append (escaped default_writer (take i field))
+          (escaped default_writer (get_or field i d ∷ drop (suc i) field)),
+      length-append (escaped default_writer (get_or field i d ∷ []))
+          (escaped default_writer (drop (suc i) field)),
+    )
 
 fields-append : (xs ys : List (List ℕ)) → fields_text default_writer (xs ++ ys) ≡ fields_text default_writer xs ++ fields_text default_writer ys
 unfolding fields_text
@@ -54,7 +63,8 @@ unfolding fields_text
 fields-more fields i d lt =
     let one : fields_text default_writer (record_of (get_or fields i d ∷ [])) ≡ 44 ∷ field_text default_writer (bytes_of (get_or fields i d)) =
     ap (λ (t : List ℕ). 44 ∷ t) (append-nil _) in
-    rw (take_more fields i d lt, map-append bytes_of (take i fields) (get_or fields i d ∷ [])) (fields-append (record_of (take i fields)) (record_of (get_or fields i d ∷ [])) ∙ ap (λ (t : List ℕ). fields_text default_writer (record_of (take i fields)) ++ t) one)
+    rw (take_more fields i d lt, map-append bytes_of (take i fields) (get_or fields i d ∷ []))
+    (fields-append (record_of (take i fields)) (record_of (get_or fields i d ∷ [])) ∙ ap (λ (t : List ℕ). fields_text default_writer (record_of (take i fields)) ++ t) one)
 
 -- the fields up to a place and the one there are no longer than all of them
 pub fields-fit : (fields : List Field) (i : ℕ) (d : Field) → i < length fields
@@ -67,7 +77,16 @@ fields-fit fields i d lt =
     let back = record_of (drop (i + 1) fields) in
     let whole : fields_text default_writer (record_of (take (i + 1) fields ++ drop (i + 1) fields)) ≡ fields_text default_writer front ++ fields_text default_writer back =
     rw (map-append bytes_of (take (i + 1) fields) (drop (i + 1) fields)) (fields-append front back) in
-    omega (arith, more, cut, ap (length {A = ℕ}) whole, length-append (fields_text default_writer (record_of (take i fields))) (44 ∷ field_text default_writer (bytes_of (get_or fields i d))), length-append (fields_text default_writer (record_of (take (i + 1) fields))) (fields_text default_writer (record_of (drop (i + 1) fields))))
+    omega (
+      arith,
+      more,
+      cut,
+      ap (length {A = ℕ}) whole,
+      length-append (fields_text default_writer (record_of (take i fields)))
+          (44 ∷ field_text default_writer (bytes_of (get_or fields i d))),
+      length-append
+          (fields_text default_writer (record_of (take (i + 1) fields))) (fields_text default_writer (record_of (drop (i + 1) fields))),
+    )
 
 -- a text that starts with a longer one starts with its front
 pub starts-shorter : (xs front back : List ℕ) → StartsWith xs (front ++ back) → StartsWith xs front
@@ -94,7 +113,8 @@ pub decimal_is_plain : (n : ℕ) → n < 2 ^ 128 → field_text default_writer (
 decimal_is_plain n small = rw (decimal-plain n small) refl
 
 -- two plain texts with a point between them are plain
-point-plain : (front back : List ℕ) → list_any (needs_byte default_writer) front ≡ false → list_any (needs_byte default_writer) back ≡ false → list_any (needs_byte default_writer) (with_point front back) ≡ false
+point-plain : (front back : List ℕ) → list_any (needs_byte default_writer) front ≡ false → list_any (needs_byte default_writer) back ≡ false
+    → list_any (needs_byte default_writer) (with_point front back) ≡ false
 point-plain front back f b = rw (list_any-append (needs_byte default_writer) front (46 ∷ back), f, b) refl
 
 -- an address is written as it is

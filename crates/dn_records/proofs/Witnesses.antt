@@ -19,7 +19,9 @@ history =
     ∷ (codes "d" ∷ codes "0" ∷ codes "0" ∷ codes "0" ∷ codes "1000000" ∷ [])
     ∷ (codes "c" ∷ codes "0" ∷ codes "show" ∷ [])
     ∷ (codes "r" ∷ codes "status" ∷ codes "1" ∷ [])
-    ∷ (codes "f" ∷ codes "0" ∷ codes "pipe" ∷ codes "1" ∷ codes "1" ∷ codes "0.0.0.0" ∷ codes "0.0.0.0" ∷ codes "0" ∷ codes "0" ∷ codes "0" ∷ codes "0.0.0.0" ∷ codes "0.0.0.0" ∷ codes "0" ∷ codes "0" ∷ codes "0" ∷ codes "0" ∷ codes "0" ∷ codes "0" ∷ codes "0" ∷ codes "1" ∷ codes "0" ∷ [])
+    ∷ (codes "f" ∷ codes "0" ∷ codes "pipe" ∷ codes "1" ∷ codes "1" ∷ codes "0.0.0.0" ∷ codes "0.0.0.0" ∷ codes "0" ∷ codes "0" ∷ codes "0"
+    ∷ codes "0.0.0.0" ∷ codes "0.0.0.0" ∷ codes "0" ∷ codes "0" ∷ codes "0" ∷ codes "0" ∷ codes "0" ∷ codes "0" ∷ codes "0" ∷ codes "1"
+    ∷ codes "0" ∷ [])
     ∷ (codes "end" ∷ codes "4" ∷ [])
     ∷ []
 

@@ -18,7 +18,8 @@ new_accounts_step k n l = let e : n - k ≡ suc (n - (k + 1)) = omega arith in a
 
 pub hands_out : (n id count k : ℕ) (m : SeatState) → k < count → m ≡ (seat_with count (new_accounts k (count - k)), []) → Splits (SeatRule n) id m.0 (without_first m.0) (only_first m.0)
 hands_out n id count k m l is = let e : m.0 ≡ seat_with count (new_account k ∷ new_accounts (k + 1) (count - (k + 1))) = ap (λ x. x.0) is ∙ ap (seat_with count) (new_accounts_step k count l) in
-    subst (λ v. Splits (SeatRule n) id v (without_first v) (only_first v)) (sym e) (splits n id count (new_account k) (new_accounts (k + 1) (count - (k + 1))) (has_none_new (k + 1) (count - (k + 1)) k (omega arith)))
+    subst (λ v. Splits (SeatRule n) id v (without_first v) (only_first v)) (sym e)
+    (splits n id count (new_account k) (new_accounts (k + 1) (count - (k + 1))) (has_none_new (k + 1) (count - (k + 1)) k (omega arith)))
 
 pub left_over : (count k : ℕ) (m : SeatState) → k < count → m ≡ (seat_with count (new_accounts k (count - k)), []) → without_first m.0 ≡ seat_with count (new_accounts (k + 1) (count - (k + 1)))
 left_over count k m l is = ap without_first (ap (λ x. x.0) is ∙ ap (seat_with count) (new_accounts_step k count l))
@@ -35,11 +36,14 @@ pub one_more_caller : (service : ServiceView) (n : ℕ) → new_callers service 
 one_more_caller service n = let e : n ≡ 0 + n = omega arith in ap (λ k. new_callers service 0 n ++ new_caller service k ∷ []) e ∙ new_callers_more service 0 n
 
 -- the other's seat is that of one caller
-pub takes_in : (n id other a b k : ℕ) (ys : List Account) (front own : List Entry) (v w : SeatView) → v ≡ seat_with a ys → w ≡ sitting b k front own → Joins (SeatRule n) id v other w (joined v w) spent
+pub takes_in : (n id other a b k : ℕ) (ys : List Account) (front own : List Entry) (v w : SeatView) → v ≡ seat_with a ys
+    → w ≡ sitting b k front own → Joins (SeatRule n) id v other w (joined v w) spent
 takes_in n id other a b k ys front own v w e f =
-    subst (λ (p : SeatView × SeatView). Joins (SeatRule n) id p.0 other p.1 (joined p.0 p.1) spent) (λ i. (sym e i, sym f i)) (joins n id a other b ys (record { number = k; front = front; own = own } ∷ []) (omega arith))
+    subst (λ (p : SeatView × SeatView). Joins (SeatRule n) id p.0 other p.1 (joined p.0 p.1) spent) (λ i. (sym e i, sym f i))
+    (joins n id a other b ys (record { number = k; front = front; own = own } ∷ []) (omega arith))
 
-pub taken_in : (a : ℕ) (cs : List CallerView) (c : CallerView) (v w : SeatView) → v ≡ seat_with a (accounts_of cs) → w ≡ sitting c.service.callers c.number c.front c.own → joined v w ≡ seat_with c.service.callers (accounts_of (cs ++ c ∷ []))
+pub taken_in : (a : ℕ) (cs : List CallerView) (c : CallerView) (v w : SeatView) → v ≡ seat_with a (accounts_of cs)
+    → w ≡ sitting c.service.callers c.number c.front c.own → joined v w ≡ seat_with c.service.callers (accounts_of (cs ++ c ∷ []))
 taken_in a cs c v w e f = (λ i. joined (e i) (f i)) ∙ ap (seat_with c.service.callers) (sym (map-append (λ (x : CallerView). record { number = x.number; front = x.front; own = x.own }) cs (c ∷ [])))
 
 -- what holds of each holds of the one between

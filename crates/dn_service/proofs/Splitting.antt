@@ -23,7 +23,9 @@ module _ (n : ℕ) where
   each_new j (suc m) l = (record { below = omega arith; seated = refl; follows = record { front = starts_none []; own = refl } }, each_new (j + 1) m (omega arith))
 
   -- the same stands, where another seat may stand for them
-  rehold : (history : List Entry) (seat_of seat_of' : ℕ → ℕ) (seat seat' : ℕ) (xs : List Account) → ((k : ℕ) → Has k xs → seat_of k ≡ seat → seat_of' k ≡ seat') → Each (Sits n history seat_of seat) xs → Each (Sits n history seat_of' seat') xs
+  rehold : (history : List Entry) (seat_of seat_of' : ℕ → ℕ) (seat seat' : ℕ) (xs : List Account)
+      → ((k : ℕ) → Has k xs → seat_of k ≡ seat → seat_of' k ≡ seat') → Each (Sits n history seat_of seat) xs
+      → Each (Sits n history seat_of' seat') xs
   rehold history seat_of seat_of' seat seat' [] f h = tt
   rehold history seat_of seat_of' seat seat' (y ∷ ys) f h = (
     record { below = h.0.below; seated = f y.number (inl refl) h.0.seated; follows = h.0.follows },
@@ -31,7 +33,9 @@ module _ (n : ℕ) where
   )
 
   -- a seat that has not taken the book, and whose callers another seat may stand for
-  refit : (w : ℕ) (history : List Entry) (seat_of seat_of' : ℕ → ℕ) (seat : ℕ) (u : SeatView) → ((k : ℕ) → w ≡ k + 1 → seat_of' k ≡ seat_of k) → ((k : ℕ) → seat_of k ≡ seat → seat_of' k ≡ seat) → SeatFits n w history seat_of seat u → SeatFits n w history seat_of' seat u
+  refit : (w : ℕ) (history : List Entry) (seat_of seat_of' : ℕ → ℕ) (seat : ℕ) (u : SeatView)
+      → ((k : ℕ) → w ≡ k + 1 → seat_of' k ≡ seat_of k) → ((k : ℕ) → seat_of k ≡ seat → seat_of' k ≡ seat)
+      → SeatFits n w history seat_of seat u → SeatFits n w history seat_of' seat u
   refit w history seat_of seat_of' seat u at_word keep f = record {
     count = f.count;
     accounts = rehold history seat_of seat_of' seat seat u.accounts (λ k _ e. keep k e) f.accounts;
@@ -103,7 +107,10 @@ module _ (n : ℕ) where
       let count : b ≡ n = g.count some_there in
       let mine : SeatFits n x r.history seat_of id u = record {
         count = λ _. count;
-        accounts = each_join (Sits n r.history seat_of id) ys zs (rehold r.history r.seat_of seat_of id id ys (λ k _ e. same_seat_of k (λ q. apart (sym q ∙ e)) ∙ e) f.accounts) (rehold r.history r.seat_of seat_of other id zs (λ k _ e. new_seat_of k e) g.accounts);
+        accounts =
+            each_join (Sits n r.history seat_of id) ys zs
+            (rehold r.history r.seat_of seat_of id id ys (λ k _ e. same_seat_of k (λ q. apart (sym q ∙ e)) ∙ e) f.accounts)
+            (rehold r.history r.seat_of seat_of other id zs (λ k _ e. new_seat_of k e) g.accounts);
         free = λ _. refl;
         taken = λ k e h. f.taken k e (sym (at_word k e) ∙ h);
         idle = λ _ _ _. refl;
@@ -123,7 +130,10 @@ module _ (n : ℕ) where
         lawful = r.lawful;
         below = r.below;
         home = r.home;
-        seats = seats_set (SeatFits n x r.history seat_of) vs other spent gone (λ j c ne e. seats_two (SeatFits n x r.history seat_of) j c ne e mine (λ i d not_id not_other e'. refit x r.history r.seat_of seat_of i d at_word (λ k q. same_seat_of k (λ z. not_other (sym q ∙ z)) ∙ q) (r.seats i d e')));
+        seats =
+            seats_set (SeatFits n x r.history seat_of) vs other spent gone (λ j c ne e. seats_two (SeatFits n x r.history seat_of) j c ne e
+            mine
+            (λ i d not_id not_other e'. refit x r.history r.seat_of seat_of i d at_word (λ k q. same_seat_of k (λ z. not_other (sym q ∙ z)) ∙ q) (r.seats i d e')));
         held = λ k l. dite (ℕ_discrete (r.seat_of k) other)
             (λ e. (
               u,
@@ -134,7 +144,9 @@ module _ (n : ℕ) where
             (t.0, subst (λ (z : ℕ). get_elem? (set vs other spent) z ≡ some t.0) (sym (same_seat_of k ne)) (set_else vs other (r.seat_of k) spent ne ∙ t.1), t.2));
       }
     where
-      seats_two : (K : ℕ → SeatView → Type 0) (j : ℕ) (c : SeatView) → j ≢ other → get_elem? (set s.views id (seat_with b (ys ++ zs))) j ≡ some c → K id (seat_with b (ys ++ zs)) → ((i : ℕ) (d : SeatView) → i ≢ id → i ≢ other → get_elem? s.views i ≡ some d → K i d) → K j c
+      seats_two : (K : ℕ → SeatView → Type 0) (j : ℕ) (c : SeatView) → j ≢ other
+          → get_elem? (set s.views id (seat_with b (ys ++ zs))) j ≡ some c → K id (seat_with b (ys ++ zs))
+          → ((i : ℕ) (d : SeatView) → i ≢ id → i ≢ other → get_elem? s.views i ≡ some d → K i d) → K j c
       seats_two K j c ne e mine theirs = ⊎_elim (λ (t : (j ≡ id) × (seat_with b (ys ++ zs) ≡ c)). subst (λ (y : ℕ × SeatView). K y.0 y.1) (λ i. (sym t.0 i, t.1 i)) mine)
           (λ (t : (j ≢ id) × (get_elem? s.views j ≡ some c)). theirs j c t.0 ne t.1) (at_set s.views id j (seat_with b (ys ++ zs)) c e)
 

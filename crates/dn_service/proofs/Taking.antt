@@ -48,13 +48,17 @@ module _ (n : ℕ) where
         lawful = lawful;
         below = below;
         home = λ e. home (sym now ∙ e);
-        seats = subst (λ (z : ℕ). (j : ℕ) (u : SeatView) → get_elem? (set s.views id w) j ≡ some u → SeatFits n z history r.seat_of j u) (sym now) (seats_set (SeatFits n word history r.seat_of) s.views id w mine theirs);
+        seats =
+            subst (λ (z : ℕ). (j : ℕ) (u : SeatView) → get_elem? (set s.views id w) j ≡ some u → SeatFits n z history r.seat_of j u)
+            (sym now) (seats_set (SeatFits n word history r.seat_of) s.views id w mine theirs);
         held = λ k l. held_set s.views id v w at (r.seat_of k) k (keep k) (r.held k l);
       }
 
   -- a step that changes nothing
   same : (s : TableState) (id : ℕ) (v : SeatView) (cs : List (ℕ × Slot)) → SeatRule n s → get_elem? s.views id ≡ some v → SeatRule n (stepped s 0 (get_or s.words 0 0) id cs v keeps)
-  same s id v cs r at = subst (λ (z : List ℕ × List SeatView). SeatRule n record { words = z.0; homes = s.homes; views = z.1 }) (λ i. (sym (set-get_or s.words 0 0) i, sym (set_again s.views id v at) i)) r
+  same s id v cs r at =
+      subst (λ (z : List ℕ × List SeatView). SeatRule n record { words = z.0; homes = s.homes; views = z.1 })
+      (λ i. (sym (set-get_or s.words 0 0) i, sym (set_again s.views id v at) i)) r
 
   -- the seat that took the book is the one of which the word tells
   has_book : (s : TableState) (r : SeatRule n s) (id : ℕ) (v : SeatView) (history : List Entry) → get_elem? s.views id ≡ some v → v.taken ≡ Some history
@@ -66,10 +70,13 @@ module _ (n : ℕ) where
       (λ there. let e = f.idle k is there in absurd (cc)))
 
   -- what holds of the other seats is kept
-  sits_on : (history later : List Entry) (seat_of : ℕ → ℕ) (seat : ℕ) (xs : List Account) → ((x : Account) → seat_of x.number ≡ seat → Follows history x → Follows later x) → Each (Sits n history seat_of seat) xs → Each (Sits n later seat_of seat) xs
+  sits_on : (history later : List Entry) (seat_of : ℕ → ℕ) (seat : ℕ) (xs : List Account)
+      → ((x : Account) → seat_of x.number ≡ seat → Follows history x → Follows later x) → Each (Sits n history seat_of seat) xs
+      → Each (Sits n later seat_of seat) xs
   sits_on history later seat_of seat xs f h = each_map xs (λ x t. record { below = t.below; seated = t.seated; follows = f x t.seated t.follows }) h
 
-  pub tries : (slots id : ℕ) (me : SeatState) (k : ℕ) → me.0.taken ≡ None → Has k me.0.accounts → Allows (SeatRule n) slots id me 0 (λ x. either (eqb x 0) (k + 1) x) (tried (step slots 0 0 (k + 1) none) me)
+  pub tries : (slots id : ℕ) (me : SeatState) (k : ℕ) → me.0.taken ≡ None → Has k me.0.accounts
+      → Allows (SeatRule n) slots id me 0 (λ x. either (eqb x 0) (k + 1) x) (tried (step slots 0 0 (k + 1) none) me)
   tries slots id me k idle has s r deep at _ =
       let x : ℕ = get_or s.words 0 0 in let f = r.seats id me.0 at in
       let mine = each_at _ me.0.accounts k f.accounts has in
@@ -82,7 +89,8 @@ module _ (n : ℕ) where
         takes 0 (Some r.history),
         r.home hit,
         subst (λ b. SeatRule n (stepped s 0 (either b (k + 1) x) id me.1 (with_taken me.0 (Some r.history)) (takes 0 (Some r.history)))) (sym (eq-eqb x 0 hit))
-            (moved s r id me.0 (with_taken me.0 (Some r.history)) (k + 1) (set s.homes 0 none) r.history at (omega arith) (length-set s.homes 0 none ∙ r.one_slot) r.lawful r.below (λ z. absurd (omega arith))
+            (moved s r id me.0 (with_taken me.0 (Some r.history)) (k + 1) (set s.homes 0 none) r.history at (omega arith)
+            (length-set s.homes 0 none ∙ r.one_slot) r.lawful r.below (λ z. absurd (omega arith))
             record {
               count = f.count;
               accounts = f.accounts;
@@ -115,7 +123,8 @@ module _ (n : ℕ) where
         ),
       ))
 
-  pub gives_back : (slots id : ℕ) (me : SeatState) (history : List Entry) → me.0.taken ≡ Some history → me.1 ≡ (0, Some history) ∷ [] → Allows (SeatRule n) slots id me 0 (λ _. 0) (λ _. returned (step slots 0 0 0 none) me 0)
+  pub gives_back : (slots id : ℕ) (me : SeatState) (history : List Entry) → me.0.taken ≡ Some history → me.1 ≡ (0, Some history) ∷ []
+      → Allows (SeatRule n) slots id me 0 (λ _. 0) (λ _. returned (step slots 0 0 0 none) me 0)
   gives_back slots id me history took carried s r deep at _ =
       let f = r.seats id me.0 at in let b = has_book s r id me.0 history at took in let w = with_taken me.0 None in
       let one = r.one_slot in (
@@ -143,7 +152,8 @@ module _ (n : ℕ) where
         refl,
       )
 
-  pub publishes : (slots id : ℕ) (me : SeatState) (was : List Entry) (e : Entry) → me.0.taken ≡ Some was → me.1 ≡ (0, Some (was ++ e ∷ [])) ∷ [] → IsLawful Ordered (was ++ e ∷ []) → Has e.caller me.0.accounts
+  pub publishes : (slots id : ℕ) (me : SeatState) (was : List Entry) (e : Entry) → me.0.taken ≡ Some was
+      → me.1 ≡ (0, Some (was ++ e ∷ [])) ∷ [] → IsLawful Ordered (was ++ e ∷ []) → Has e.caller me.0.accounts
       → Allows (SeatRule n) slots id me 0 (λ _. 0) (λ _. published (step slots 0 0 0 none) me 0)
   publishes slots id me was e took carried lawful has s r deep at _ =
       let f = r.seats id me.0 at in let b = has_book s r id me.0 was at took in
@@ -157,7 +167,9 @@ module _ (n : ℕ) where
         gives,
         tt,
         subst (λ (cs : List (ℕ × Slot)). SeatRule n (stepped s 0 0 id cs w gives)) (sym carried)
-            (moved s r id me.0 w 0 (set s.homes 0 (some (Some now))) now at (omega arith) (length-set s.homes 0 (some (Some now)) ∙ r.one_slot) lawful (subst (AreBelow n) more (below_more n r.history e r.below small))
+            (moved s r id me.0 w 0 (set s.homes 0 (some (Some now))) now at (omega arith)
+            (length-set s.homes 0 (some (Some now)) ∙ r.one_slot) lawful
+            (subst (AreBelow n) more (below_more n r.history e r.below small))
             (λ _. one_home s.homes (some (Some now)) r.one_slot)
             record {
               count = λ l. f.count (updated_some now me.0.accounts l);

@@ -42,7 +42,9 @@ at_inside (x ∷ xs) zero a e = omega arith
 at_inside (x ∷ xs) (suc i) a e = let h = at_inside xs i a e in omega arith
 
 -- What holds of each seat and of a new one.
-pub added_last : (vs : List SeatView) (w : SeatView) (K : ℕ → SeatView → Type 0) → ((j : ℕ) (v : SeatView) → get_elem? vs j ≡ some v → K j v) → K (length vs) w → (j : ℕ) (v : SeatView) → get_elem? (vs ++ w ∷ []) j ≡ some v → K j v
+pub added_last : (vs : List SeatView) (w : SeatView) (K : ℕ → SeatView → Type 0)
+    → ((j : ℕ) (v : SeatView) → get_elem? vs j ≡ some v → K j v) → K (length vs) w → (j : ℕ) (v : SeatView)
+    → get_elem? (vs ++ w ∷ []) j ≡ some v → K j v
 added_last [] w K all new zero v e = subst (K 0) (some-injective w v e) new
 added_last [] w K all new (suc j) v e = absurd (some-ne-none v (sym e))
 added_last (x ∷ xs) w K all new zero v e = all zero v e

@@ -15,7 +15,8 @@ after_line (b ∷ line) [] l = refl
 after_line line (y ∷ ys) l = rw (split_first is_line_feed ys) refl
 
 -- the first line, and what is left behind its line feed
-pub next_line : (xs line rest : List ℕ) → 0 < length line + length rest → line ≡ take (position_or_len is_line_feed xs) xs → rest ≡ drop (position_or_len is_line_feed xs) xs → lines_of xs ≡ line ∷ lines_of (drop 1 rest)
+pub next_line : (xs line rest : List ℕ) → 0 < length line + length rest → line ≡ take (position_or_len is_line_feed xs) xs
+    → rest ≡ drop (position_or_len is_line_feed xs) xs → lines_of xs ≡ line ∷ lines_of (drop 1 rest)
 unfolding lines_of
 next_line xs line rest l e f =
     ap without_empty_end (split_first is_line_feed xs)

@@ -31,4 +31,7 @@ regroup front c (Some p) = ap (λ (t : List ℕ). Some (t, p.1)) (sym (append_as
 
 pub later : (l : List ℕ) (i c : ℕ) → i < length l → get_or l i 0 ≡ c → (c == 46) ≡ false → behind (take i l) (at_point (drop i l)) ≡ behind (take (i + 1) l) (at_point (drop (i + 1) l))
 unfolding at_point
-later l i c lt e test = rw (drop-cons l i 0 lt, e, add-one, test) (regroup (take i l) c (at_point (drop (suc i) l)) ∙ ap (λ (t : List ℕ). behind t (at_point (drop (suc i) l))) (ap (λ (d : ℕ). take i l ++ d ∷ []) (sym e) ∙ sym (take_more l i 0 lt) ∙ ap (λ (n : ℕ). take n l) (add-one i)))
+later l i c lt e test =
+    rw (drop-cons l i 0 lt, e, add-one, test) (regroup (take i l) c (at_point (drop (suc i) l)) ∙ ap
+    (λ (t : List ℕ). behind t (at_point (drop (suc i) l)))
+    (ap (λ (d : ℕ). take i l ++ d ∷ []) (sym e) ∙ sym (take_more l i 0 lt) ∙ ap (λ (n : ℕ). take n l) (add-one i)))

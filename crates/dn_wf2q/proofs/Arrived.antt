@@ -21,7 +21,9 @@ use Rattle.dn_wf2q.proofs.Counts.{waiting-set}
 use Rattle.dn_wf2q.proofs.Ranks.{absent_same, absent_other}
 use Rattle.dn_wf2q.proofs.Sent.{scaled-le}
 
-module _ {flows : List Flow} {eligible waiting : Heap RankView} {virtual_time weights arrivals picks : ℕ} (kept : Kept none_absent [] flows eligible waiting virtual_time weights arrivals picks) (slot len weight : ℕ) (listed : slot < length flows) (short : len < 65536) (some : 0 < weight) (most : weight ≤ 100) where
+module _ {flows : List Flow} {eligible waiting : Heap RankView} {virtual_time weights arrivals picks : ℕ}
+    (kept : Kept none_absent [] flows eligible waiting virtual_time weights arrivals picks) (slot len weight : ℕ)
+    (listed : slot < length flows) (short : len < 65536) (some : 0 < weight) (most : weight ≤ 100) where
   abbrev fl : Flow
   fl = flow_at flows slot
 
@@ -51,7 +53,8 @@ module _ {flows : List Flow} {eligible waiting : Heap RankView} {virtual_time we
 
   all_within : All (AreTagsWithin (bound (arrivals + 1) picks)) (set flows slot grown)
   all_within = All-set (AreTagsWithin (bound (arrivals + 1) picks)) flows slot grown grown_within
-      (All-weaker (AreTagsWithin (bound arrivals picks)) (AreTagsWithin (bound (arrivals + 1) picks)) (λ y h. flow_within_more (bound arrivals picks) (bound (arrivals + 1) picks) y (omega arith) h) flows kept.bounded)
+      (All-weaker (AreTagsWithin (bound arrivals picks)) (AreTagsWithin (bound (arrivals + 1) picks))
+      (λ y h. flow_within_more (bound arrivals picks) (bound (arrivals + 1) picks) y (omega arith) h) flows kept.bounded)
 
   still_ready : All (IsEligible (set flows slot grown) virtual_time) eligible.keys
   still_ready i d l =
@@ -174,7 +177,8 @@ module _ (p : SchedParts) (kept : IsSchedKept p) (slot len weight : ℕ) (short 
       flows_is : by_slot (seen p.busy_from) (set p.flows.items slot r) ≡ after_arrival (flows_of p) slot p.virtual_time len weight
       flows_is = by_slot-set (seen p.busy_from) p.flows.items slot r ∙ ap (λ y. set (flows_of p) slot y) (rw same_flow seen_is)
 
-      pub arrives : (new : SchedParts) → new.flows.items ≡ set p.flows.items slot r → new.busy_from ≡ p.busy_from → new.virtual_time ≡ p.virtual_time → new.arrivals ≡ p.arrivals + 1 → new.picks ≡ p.picks → ArrivesAtSlot slot len weight p new
+      pub arrives : (new : SchedParts) → new.flows.items ≡ set p.flows.items slot r → new.busy_from ≡ p.busy_from
+          → new.virtual_time ≡ p.virtual_time → new.arrivals ≡ p.arrivals + 1 → new.picks ≡ p.picks → ArrivesAtSlot slot len weight p new
       arrives new nf nb nt na np =
           let fs : flows_of new ≡ after_arrival (flows_of p) slot p.virtual_time len weight = rw (nf, nb) flows_is in
           record {
@@ -192,7 +196,9 @@ module _ (p : SchedParts) (kept : IsSchedKept p) (slot len weight : ℕ) (short 
           }
 
       all_arrived : All (λ y. y.arrived ≤ p.arrivals + 1) (set p.flows.items slot r)
-      all_arrived = All-set (λ y. y.arrived ≤ p.arrivals + 1) p.flows.items slot r (omega arith) (All-weaker (λ y. y.arrived ≤ p.arrivals) (λ y. y.arrived ≤ p.arrivals + 1) (λ y h. omega arith) p.flows.items kept.arrived)
+      all_arrived =
+          All-set (λ y. y.arrived ≤ p.arrivals + 1) p.flows.items slot r (omega arith)
+          (All-weaker (λ y. y.arrived ≤ p.arrivals) (λ y. y.arrived ≤ p.arrivals + 1) (λ y h. omega arith) p.flows.items kept.arrived)
 
       -- The parts then.
       abbrev pub arrived_parts : SchedParts

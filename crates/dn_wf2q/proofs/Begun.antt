@@ -45,7 +45,8 @@ forgotten_by b a s (q ∷ qs) h =
 pub flows_forgotten : (b a : ℕ) (qs : List TaggedQueue) → All (λ q. q.arrived ≤ a) qs → by_slot (seen a) qs ≡ forgotten (by_slot (seen b) qs)
 flows_forgotten b a qs h = forgotten_by b a (λ i. i) qs h
 
-module _ {flows : List Flow} {eligible waiting : Heap RankView} {virtual_time weights arrivals picks : ℕ} (kept : Kept none_absent [] flows eligible waiting virtual_time weights arrivals picks) (idle : IsIdle flows) where
+module _ {flows : List Flow} {eligible waiting : Heap RankView} {virtual_time weights arrivals picks : ℕ}
+    (kept : Kept none_absent [] flows eligible waiting virtual_time weights arrivals picks) (idle : IsIdle flows) where
   none : length eligible.keys + length waiting.keys ≡ 0
   none = let c = kept.counted in let z = idle_no_heads flows idle in omega arith
 

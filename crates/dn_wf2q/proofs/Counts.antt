@@ -56,14 +56,16 @@ pub waiting-set : (flows : List Flow) (slot : ℕ) (fl : Flow) → slot < length
 waiting-set flows slot fl l =
     let a = waiting_is (set flows slot fl) in
     let b = waiting_is flows in
-    let c : sum_by (λ y. length y.backlog) (set flows slot fl) + length (flow_at flows slot).backlog ≡ sum_by (λ y. length y.backlog) flows + length fl.backlog = sum_by-set (λ y. length y.backlog) flows slot fl no_packets l in
+    let c : sum_by (λ y. length y.backlog) (set flows slot fl) + length (flow_at flows slot).backlog ≡ sum_by (λ y. length y.backlog) flows + length fl.backlog =
+    sum_by-set (λ y. length y.backlog) flows slot fl no_packets l in
     omega (arith, a, b, c)
 
 presence_or_none : (q : List Stamped) (n : ℕ) → (length q + n ≡ 0 → presence q + n ≡ 0) × (presence q + n ≡ 0 → length q + n ≡ 0)
 presence_or_none [] n = (λ e. e, λ e. e)
 presence_or_none (p ∷ q) n = (λ e. absurd (omega arith), λ e. absurd (omega arith))
 
-sum_presence : (flows : List Flow) → (sum_by (λ fl. length fl.backlog) flows ≡ 0 → sum_by (λ fl. presence fl.backlog) flows ≡ 0) × (sum_by (λ fl. presence fl.backlog) flows ≡ 0 → sum_by (λ fl. length fl.backlog) flows ≡ 0)
+sum_presence : (flows : List Flow)
+    → (sum_by (λ fl. length fl.backlog) flows ≡ 0 → sum_by (λ fl. presence fl.backlog) flows ≡ 0) × (sum_by (λ fl. presence fl.backlog) flows ≡ 0 → sum_by (λ fl. length fl.backlog) flows ≡ 0)
 sum_presence [] = (λ e. refl, λ e. refl)
 sum_presence (fl ∷ fls) =
     let a = sum_by-cons (λ fl. length fl.backlog) fl fls in

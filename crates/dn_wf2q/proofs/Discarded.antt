@@ -24,17 +24,27 @@ use Rattle.dn_wf2q.proofs.Ranks.{ranks_at_popped, rank_at_same, rank_at_other, n
 abbrev no_rank : RankView
 no_rank = record { tag = 0; slot = 0 }
 
-module _ {flows : List Flow} {eligible waiting : Heap RankView} {virtual_time weights arrivals picks : ℕ} (kept : Kept none_absent [] flows eligible waiting virtual_time weights arrivals picks) (slot : ℕ) (listed : slot < length flows) where
+module _ {flows : List Flow} {eligible waiting : Heap RankView} {virtual_time weights arrivals picks : ℕ}
+    (kept : Kept none_absent [] flows eligible waiting virtual_time weights arrivals picks) (slot : ℕ) (listed : slot < length flows) where
   abbrev fl : Flow
   fl = flow_at flows slot
 
   -- The slot stands in neither heap, and the others as before.
-  forgot : (es ws : Heap RankView) (w : ℕ) → ranks_at slot es.keys ≡ 0 → ranks_at slot ws.keys ≡ 0 → ((g : ℕ) → (g ≡ slot → ⊥) → ranks_at g es.keys + ranks_at g ws.keys ≡ ranks_at g eligible.keys + ranks_at g waiting.keys) → All (IsEligible flows virtual_time) es.keys → All (IsWaiting flows) ws.keys → length es.keys + length ws.keys + presence fl.backlog ≡ length eligible.keys + length waiting.keys → length es.keys ≤ length eligible.keys → length ws.keys ≤ length waiting.keys → es.moves ≡ eligible.moves → ws.moves ≡ waiting.moves → es.room + length es.keys ≡ eligible.room + length eligible.keys → ws.room + length ws.keys ≡ waiting.room + length waiting.keys → w + head_weight fl.backlog ≡ weights → Kept none_absent [] (set flows slot no_packets) es ws virtual_time w arrivals picks
+  forgot : (es ws : Heap RankView) (w : ℕ) → ranks_at slot es.keys ≡ 0 → ranks_at slot ws.keys ≡ 0
+      → ((g : ℕ) → (g ≡ slot → ⊥) → ranks_at g es.keys + ranks_at g ws.keys ≡ ranks_at g eligible.keys + ranks_at g waiting.keys)
+      → All (IsEligible flows virtual_time) es.keys → All (IsWaiting flows) ws.keys
+      → length es.keys + length ws.keys + presence fl.backlog ≡ length eligible.keys + length waiting.keys
+      → length es.keys ≤ length eligible.keys → length ws.keys ≤ length waiting.keys → es.moves ≡ eligible.moves → ws.moves ≡ waiting.moves
+      → es.room + length es.keys ≡ eligible.room + length eligible.keys → ws.room + length ws.keys ≡ waiting.room + length waiting.keys
+      → w + head_weight fl.backlog ≡ weights → Kept none_absent [] (set flows slot no_packets) es ws virtual_time w arrivals picks
   forgot es ws w ne nw others re aw lens le lw me mw rme rmw wq =
       let long = length-set flows slot no_packets in
-      let weigh : sum_by (λ y. head_weight y.backlog) (set flows slot no_packets) + head_weight fl.backlog ≡ sum_by (λ y. head_weight y.backlog) flows + 0 = sum_by-set (λ y. head_weight y.backlog) flows slot no_packets no_packets listed in
-      let heads : sum_by (λ y. presence y.backlog) (set flows slot no_packets) + presence fl.backlog ≡ sum_by (λ y. presence y.backlog) flows + 0 = sum_by-set (λ y. presence y.backlog) flows slot no_packets no_packets listed in
-      let tails : sum_by (λ y. behind y.backlog) (set flows slot no_packets) + behind fl.backlog ≡ sum_by (λ y. behind y.backlog) flows + 0 = sum_by-set (λ y. behind y.backlog) flows slot no_packets no_packets listed in
+      let weigh : sum_by (λ y. head_weight y.backlog) (set flows slot no_packets) + head_weight fl.backlog ≡ sum_by (λ y. head_weight y.backlog) flows + 0 =
+      sum_by-set (λ y. head_weight y.backlog) flows slot no_packets no_packets listed in
+      let heads : sum_by (λ y. presence y.backlog) (set flows slot no_packets) + presence fl.backlog ≡ sum_by (λ y. presence y.backlog) flows + 0 =
+      sum_by-set (λ y. presence y.backlog) flows slot no_packets no_packets listed in
+      let tails : sum_by (λ y. behind y.backlog) (set flows slot no_packets) + behind fl.backlog ≡ sum_by (λ y. behind y.backlog) flows + 0 =
+      sum_by-set (λ y. behind y.backlog) flows slot no_packets no_packets listed in
       record {
         placed = λ g. elim (cases_eq g slot) [
           | inl e ↦ rw (e, get_or-set_same flows slot no_packets no_packets listed) (omega (arith, ne, nw))
@@ -59,7 +69,9 @@ module _ {flows : List Flow} {eligible waiting : Heap RankView} {virtual_time we
       let c = kept.placed slot in
       forgot eligible waiting weights (omega arith) (omega arith) (λ g n. refl) kept.ready kept.waits (omega arith) (omega arith) (omega arith) refl refl refl refl (omega arith)
 
-  pub forgot_waiting : (k : RankView) (ws : Heap RankView) (w : ℕ) → k.slot ≡ slot → IsPermutation waiting.keys (k ∷ ws.keys) → ws.moves ≡ waiting.moves → ws.room ≡ waiting.room + 1 → w + head_weight fl.backlog ≡ weights → Kept none_absent [] (set flows slot no_packets) eligible ws virtual_time w arrivals picks
+  pub forgot_waiting : (k : RankView) (ws : Heap RankView) (w : ℕ) → k.slot ≡ slot → IsPermutation waiting.keys (k ∷ ws.keys)
+      → ws.moves ≡ waiting.moves → ws.room ≡ waiting.room + 1 → w + head_weight fl.backlog ≡ weights
+      → Kept none_absent [] (set flows slot no_packets) eligible ws virtual_time w arrivals picks
   forgot_waiting k ws w same p mw rmw wq =
       let c = kept.placed slot in
       let a = ranks_at_popped slot k waiting.keys ws.keys p in
@@ -72,7 +84,9 @@ module _ {flows : List Flow} {eligible waiting : Heap RankView} {virtual_time we
       (All-tail (IsWaiting flows) k ws.keys (All-permutation (IsWaiting flows) waiting.keys (k ∷ ws.keys) p kept.waits))
       (omega arith) (omega arith) (omega arith) refl mw refl (omega arith) wq
 
-  pub forgot_eligible : (k : RankView) (es : Heap RankView) (w : ℕ) → k.slot ≡ slot → IsPermutation eligible.keys (k ∷ es.keys) → es.moves ≡ eligible.moves → es.room ≡ eligible.room + 1 → w + head_weight fl.backlog ≡ weights → Kept none_absent [] (set flows slot no_packets) es waiting virtual_time w arrivals picks
+  pub forgot_eligible : (k : RankView) (es : Heap RankView) (w : ℕ) → k.slot ≡ slot → IsPermutation eligible.keys (k ∷ es.keys)
+      → es.moves ≡ eligible.moves → es.room ≡ eligible.room + 1 → w + head_weight fl.backlog ≡ weights
+      → Kept none_absent [] (set flows slot no_packets) es waiting virtual_time w arrivals picks
   forgot_eligible k es w same p me rme wq =
       let c = kept.placed slot in
       let a = ranks_at_popped slot k eligible.keys es.keys p in
@@ -86,7 +100,9 @@ module _ {flows : List Flow} {eligible waiting : Heap RankView} {virtual_time we
       (omega arith) (omega arith) (omega arith) me refl (omega arith) refl wq
 
   -- The head's keys are not both missing.
-  pub one_stands : (h : Stamped) → HeadIs (λ x. x ≡ h) fl.backlog → All (λ k. is_eq (rank_cmp k (record { tag = h.start_tag; slot = slot })) ≡ false) waiting.keys → All (λ k. is_eq (rank_cmp k (record { tag = h.finish_tag; slot = slot })) ≡ false) eligible.keys → ⊥
+  pub one_stands : (h : Stamped) → HeadIs (λ x. x ≡ h) fl.backlog
+      → All (λ k. is_eq (rank_cmp k (record { tag = h.start_tag; slot = slot })) ≡ false) waiting.keys
+      → All (λ k. is_eq (rank_cmp k (record { tag = h.finish_tag; slot = slot })) ≡ false) eligible.keys → ⊥
   one_stands h is nw ne =
       let c = kept.placed slot in
       let one = head_there (λ x. x ≡ h) fl.backlog is in
@@ -95,14 +111,21 @@ module _ {flows : List Flow} {eligible waiting : Heap RankView} {virtual_time we
             let i = some_rank_at slot waiting.keys l in
             let k = slice_index_or waiting.keys i.0 no_rank in
             let at = subst (λ x. HeadIs (λ p. k.tag ≡ p.start_tag) (flow_at flows x).backlog) (i.2 no_rank) (kept.waits i.0 no_rank i.1) in
-            let s = head_says (λ p. (k.tag ≡ p.start_tag) × (p ≡ h)) (k.tag ≡ h.start_tag) (λ p x. x.0 ∙ ap (λ (y : Stamped). y.start_tag) x.1) fl.backlog (head_both (λ p. k.tag ≡ p.start_tag) (λ x. x ≡ h) (λ p. (k.tag ≡ p.start_tag) × (p ≡ h)) (λ p a b. (a, b)) fl.backlog at is) in
+            let s =
+            head_says (λ p. (k.tag ≡ p.start_tag) × (p ≡ h)) (k.tag ≡ h.start_tag) (λ p x. x.0 ∙ ap (λ (y : Stamped). y.start_tag) x.1)
+            fl.backlog
+            (head_both (λ p. k.tag ≡ p.start_tag) (λ x. x ≡ h) (λ p. (k.tag ≡ p.start_tag) × (p ≡ h)) (λ p a b. (a, b)) fl.backlog at is) in
             absurd (let t = rank_same k (record { tag = h.start_tag; slot = slot }) s (i.2 no_rank) in let u = nw i.0 no_rank i.1 in cc)
         | inr n ↦
             let l : 0 < ranks_at slot eligible.keys = omega arith in
             let i = some_rank_at slot eligible.keys l in
             let k = slice_index_or eligible.keys i.0 no_rank in
             let at = subst (λ x. HeadIs (λ p. (k.tag ≡ p.finish_tag) × (p.start_tag ≤ virtual_time)) (flow_at flows x).backlog) (i.2 no_rank) (kept.ready i.0 no_rank i.1) in
-            let s = head_says (λ p. ((k.tag ≡ p.finish_tag) × (p.start_tag ≤ virtual_time)) × (p ≡ h)) (k.tag ≡ h.finish_tag) (λ p x. x.0.0 ∙ ap (λ (y : Stamped). y.finish_tag) x.1) fl.backlog (head_both (λ p. (k.tag ≡ p.finish_tag) × (p.start_tag ≤ virtual_time)) (λ x. x ≡ h) (λ p. ((k.tag ≡ p.finish_tag) × (p.start_tag ≤ virtual_time)) × (p ≡ h)) (λ p a b. (a, b)) fl.backlog at is) in
+            let s =
+            head_says (λ p. ((k.tag ≡ p.finish_tag) × (p.start_tag ≤ virtual_time)) × (p ≡ h)) (k.tag ≡ h.finish_tag) (λ p x. x.0.0 ∙ ap
+            (λ (y : Stamped). y.finish_tag) x.1) fl.backlog (head_both (λ p. (k.tag ≡ p.finish_tag) × (p.start_tag ≤ virtual_time))
+            (λ x. x ≡ h) (λ p. ((k.tag ≡ p.finish_tag) × (p.start_tag ≤ virtual_time)) × (p ≡ h)) (λ p a b. (a, b)) fl.backlog at
+            is) in
             absurd (let t = rank_same k (record { tag = h.finish_tag; slot = slot }) s (i.2 no_rank) in let u = ne i.0 no_rank i.1 in cc)
       ]
 
@@ -121,7 +144,9 @@ beyond p slot l =
       room = λ g. omega arith;
     }
 
-module _ (p : SchedParts) (kept : IsSchedKept p) (slot : ℕ) (listed : slot < length p.flows.items) (q : TaggedQueue) (at : q ≡ get_or p.flows.items slot q) (r : TaggedQueue) (packets : r.packets.items ≡ []) (last : r.last_finish_tag ≡ 0) (arrived : r.arrived ≡ q.arrived) (room : places q ≤ places r) where
+module _ (p : SchedParts) (kept : IsSchedKept p) (slot : ℕ) (listed : slot < length p.flows.items) (q : TaggedQueue)
+    (at : q ≡ get_or p.flows.items slot q) (r : TaggedQueue) (packets : r.packets.items ≡ []) (last : r.last_finish_tag ≡ 0)
+    (arrived : r.arrived ≡ q.arrived) (room : places q ≤ places r) where
   same_flow : flow_at (flows_of p) slot ≡ seen p.busy_from slot q
   same_flow = flow_at_seen p.busy_from p.flows.items slot q listed ∙ ap (seen p.busy_from slot) (sym at)
 
@@ -134,7 +159,9 @@ module _ (p : SchedParts) (kept : IsSchedKept p) (slot : ℕ) (listed : slot < l
   flows_is : by_slot (seen p.busy_from) (set p.flows.items slot r) ≡ after_discard (flows_of p) slot
   flows_is = by_slot-set (seen p.busy_from) p.flows.items slot r ∙ ap (λ x. set (flows_of p) slot x) seen_is
 
-  pub discards : (new : SchedParts) → new.flows.items ≡ set p.flows.items slot r → new.busy_from ≡ p.busy_from → new.virtual_time ≡ p.virtual_time → new.arrivals ≡ p.arrivals → new.picks ≡ p.picks → new.eligible.moves + new.waiting.moves ≡ p.eligible.moves + p.waiting.moves → DiscardsSlot slot p new
+  pub discards : (new : SchedParts) → new.flows.items ≡ set p.flows.items slot r → new.busy_from ≡ p.busy_from
+      → new.virtual_time ≡ p.virtual_time → new.arrivals ≡ p.arrivals → new.picks ≡ p.picks
+      → new.eligible.moves + new.waiting.moves ≡ p.eligible.moves + p.waiting.moves → DiscardsSlot slot p new
   discards new nf nb nt na np nm =
       let fs : flows_of new ≡ after_discard (flows_of p) slot = rw (nf, nb) flows_is in
       record {
@@ -177,19 +204,27 @@ module _ (p : SchedParts) (kept : IsSchedKept p) (slot : ℕ) (listed : slot < l
 
     pub weighs : h.weight ≤ p.weights
     weighs =
-        let g : head_weight (flow_at (flows_of p) slot).backlog ≤ sum_by (λ fl. head_weight fl.backlog) (flows_of p) = get_or-le-sum_by (λ fl. head_weight fl.backlog) (flows_of p) slot no_packets listed' in
+        let g : head_weight (flow_at (flows_of p) slot).backlog ≤ sum_by (λ fl. head_weight fl.backlog) (flows_of p) =
+        get_or-le-sum_by (λ fl. head_weight fl.backlog) (flows_of p) slot no_packets listed' in
         let w = kept.kept.weighed in
         omega (arith, weight_is)
 
-    pub waiting_left : (e k : RankView) (ws : Heap RankView) → e ≡ record { tag = h.start_tag; slot = slot } → is_eq (rank_cmp k e) ≡ true → IsPermutation p.waiting.keys (k ∷ ws.keys) → ws.moves ≡ p.waiting.moves → ws.room ≡ p.waiting.room + 1 → IsSchedKept (left_parts p.eligible ws (p.weights - h.weight))
+    pub waiting_left : (e k : RankView) (ws : Heap RankView) → e ≡ record { tag = h.start_tag; slot = slot } → is_eq (rank_cmp k e) ≡ true
+        → IsPermutation p.waiting.keys (k ∷ ws.keys) → ws.moves ≡ p.waiting.moves → ws.room ≡ p.waiting.room + 1
+        → IsSchedKept (left_parts p.eligible ws (p.weights - h.weight))
     waiting_left e k ws this eq perm mw rmw =
         let w = weighs in
-        made p.eligible ws (p.weights - h.weight) (forgot_waiting kept.kept slot listed' k ws (p.weights - h.weight) ((same_rank k e eq).1 ∙ ap (λ (x : RankView). x.slot) this) perm mw rmw (omega (arith, weight_is)))
+        made p.eligible ws (p.weights - h.weight)
+        (forgot_waiting kept.kept slot listed' k ws (p.weights - h.weight) ((same_rank k e eq).1 ∙ ap (λ (x : RankView). x.slot) this) perm mw rmw (omega (arith, weight_is)))
 
-    pub eligible_left : (e k : RankView) (es : Heap RankView) → e ≡ record { tag = h.finish_tag; slot = slot } → is_eq (rank_cmp k e) ≡ true → IsPermutation p.eligible.keys (k ∷ es.keys) → es.moves ≡ p.eligible.moves → es.room ≡ p.eligible.room + 1 → IsSchedKept (left_parts es p.waiting (p.weights - h.weight))
+    pub eligible_left : (e k : RankView) (es : Heap RankView) → e ≡ record { tag = h.finish_tag; slot = slot } → is_eq (rank_cmp k e) ≡ true
+        → IsPermutation p.eligible.keys (k ∷ es.keys) → es.moves ≡ p.eligible.moves → es.room ≡ p.eligible.room + 1
+        → IsSchedKept (left_parts es p.waiting (p.weights - h.weight))
     eligible_left e k es this eq perm me rme =
         let w = weighs in
-        made es p.waiting (p.weights - h.weight) (forgot_eligible kept.kept slot listed' k es (p.weights - h.weight) ((same_rank k e eq).1 ∙ ap (λ (x : RankView). x.slot) this) perm me rme (omega (arith, weight_is)))
+        made es p.waiting (p.weights - h.weight)
+        (forgot_eligible kept.kept slot listed' k es (p.weights - h.weight) ((same_rank k e eq).1 ∙ ap (λ (x : RankView). x.slot) this) perm me rme (omega (arith, weight_is)))
 
-    pub not_both : (e f : RankView) → e ≡ record { tag = h.start_tag; slot = slot } → f ≡ record { tag = h.finish_tag; slot = slot } → All (λ k. is_eq (rank_cmp k e) ≡ false) p.waiting.keys → All (λ k. is_eq (rank_cmp k f) ≡ false) p.eligible.keys → ⊥
+    pub not_both : (e f : RankView) → e ≡ record { tag = h.start_tag; slot = slot } → f ≡ record { tag = h.finish_tag; slot = slot }
+        → All (λ k. is_eq (rank_cmp k e) ≡ false) p.waiting.keys → All (λ k. is_eq (rank_cmp k f) ≡ false) p.eligible.keys → ⊥
     not_both e f ee ef nw ne = one_stands kept.kept slot listed' (tagged slot h) is' (rw ee at nw) (rw ef at ne)

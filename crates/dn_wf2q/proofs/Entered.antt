@@ -12,7 +12,9 @@ use Rattle.dn_wf2q.proofs.Heads.{head_weaker}
 use Rattle.dn_wf2q.proofs.Ranks.{ranks_at_pushed, rank_at_same, rank_at_other, absent_same, absent_other}
 use Rattle.dn_wf2q.proofs.Steps.{ranks_at-le}
 
-module _ {flows : List Flow} {eligible waiting : Heap RankView} {virtual_time weights arrivals picks : ℕ} (slot : ℕ) (h : Stamped) (kept : Kept (only_absent slot) (h ∷ []) flows eligible waiting virtual_time weights arrivals picks) (is : HeadIs (λ x. x ≡ h) (flow_at flows slot).backlog) where
+module _ {flows : List Flow} {eligible waiting : Heap RankView} {virtual_time weights arrivals picks : ℕ} (slot : ℕ) (h : Stamped)
+    (kept : Kept (only_absent slot) (h ∷ []) flows eligible waiting virtual_time weights arrivals picks)
+    (is : HeadIs (λ x. x ≡ h) (flow_at flows slot).backlog) where
   pub enter_room : arrivals ≤ 2 ^ 62 → (0 < eligible.room) × (0 < waiting.room) × (eligible.moves < 2 ^ 63) × (waiting.moves < 2 ^ 63)
   enter_room few =
       let s = ranks_at-le kept in
@@ -36,7 +38,9 @@ module _ {flows : List Flow} {eligible waiting : Heap RankView} {virtual_time we
         omega arith
   ]
 
-  pub entered_waiting : (e : RankView) (ws : Heap RankView) → e.slot ≡ slot → e.tag ≡ h.start_tag → IsPermutation (e ∷ waiting.keys) ws.keys → ws.moves ≡ waiting.moves + 1 → ws.room + 1 ≡ waiting.room → Kept none_absent [] flows eligible ws virtual_time (weights + h.weight) arrivals picks
+  pub entered_waiting : (e : RankView) (ws : Heap RankView) → e.slot ≡ slot → e.tag ≡ h.start_tag → IsPermutation (e ∷ waiting.keys) ws.keys
+      → ws.moves ≡ waiting.moves + 1 → ws.room + 1 ≡ waiting.room
+      → Kept none_absent [] flows eligible ws virtual_time (weights + h.weight) arrivals picks
   entered_waiting e ws same tag q mw rw' =
       let l = length_permutation (e ∷ waiting.keys) ws.keys q in
       let one : IsWaiting flows e = rw same (head_weaker (λ x. x ≡ h) (λ x. e.tag ≡ x.start_tag) (λ x y. rw y tag) (flow_at flows slot).backlog is) in
@@ -54,10 +58,14 @@ module _ {flows : List Flow} {eligible waiting : Heap RankView} {virtual_time we
         waiting_room = let c = kept.waiting_room in omega arith;
       }
 
-  pub entered_eligible : (e : RankView) (es : Heap RankView) → h.start_tag ≤ virtual_time → e.slot ≡ slot → e.tag ≡ h.finish_tag → IsPermutation (e ∷ eligible.keys) es.keys → es.moves ≡ eligible.moves + 1 → es.room + 1 ≡ eligible.room → Kept none_absent [] flows es waiting virtual_time (weights + h.weight) arrivals picks
+  pub entered_eligible : (e : RankView) (es : Heap RankView) → h.start_tag ≤ virtual_time → e.slot ≡ slot → e.tag ≡ h.finish_tag
+      → IsPermutation (e ∷ eligible.keys) es.keys → es.moves ≡ eligible.moves + 1 → es.room + 1 ≡ eligible.room
+      → Kept none_absent [] flows es waiting virtual_time (weights + h.weight) arrivals picks
   entered_eligible e es low same tag q me re =
       let l = length_permutation (e ∷ eligible.keys) es.keys q in
-      let one : IsEligible flows virtual_time e = rw same (head_weaker (λ x. x ≡ h) (λ x. (e.tag ≡ x.finish_tag) × (x.start_tag ≤ virtual_time)) (λ x y. rw y (tag, low)) (flow_at flows slot).backlog is) in
+      let one : IsEligible flows virtual_time e =
+      rw same
+      (head_weaker (λ x. x ≡ h) (λ x. (e.tag ≡ x.finish_tag) × (x.start_tag ≤ virtual_time)) (λ x y. rw y (tag, low)) (flow_at flows slot).backlog is) in
       record {
         placed = λ g. let p = placed e same eligible.keys es.keys q g in let c = kept.placed g in omega arith;
         ready = All-permutation (IsEligible flows virtual_time) (e ∷ eligible.keys) es.keys q (All-cons (IsEligible flows virtual_time) e eligible.keys one kept.ready);

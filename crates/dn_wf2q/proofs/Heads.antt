@@ -82,7 +82,8 @@ pub flow_within_more : (b c : ℕ) (fl : Flow) → b ≤ c → AreTagsWithin b f
 flow_within_more b c fl l h = let a = h.0 in (omega arith, All-weaker (IsWithin b) (IsWithin c) (λ p w. within_more b c p l w) fl.backlog h.1)
 
 -- one flow gets more room
-pub room_grows : (qs : List TaggedQueue) (f : ℕ) (q : TaggedQueue) → ((d : TaggedQueue) → f < length qs → places (get_or qs f d) ≤ places q) → (g : ℕ) → room_at (map places qs) g ≤ room_at (map places (set qs f q)) g
+pub room_grows : (qs : List TaggedQueue) (f : ℕ) (q : TaggedQueue) → ((d : TaggedQueue) → f < length qs → places (get_or qs f d) ≤ places q)
+    → (g : ℕ) → room_at (map places qs) g ≤ room_at (map places (set qs f q)) g
 room_grows [] f q h g = omega arith
 room_grows (x ∷ xs) zero q h zero = h x (omega arith)
 room_grows (x ∷ xs) zero q h (suc g) = omega arith
@@ -109,7 +110,9 @@ pub cond-le : (b : Bool) (x y m : ℕ) → x ≤ m → y ≤ m → cond b x y �
 cond-le b x y m h k = elim b as (λ v. cond v x y ≤ m) [ true ↦ h | false ↦ k ]
 
 -- a head stays where its queue grows at the end
-pub head_stays : (P : Stamped → Type 0) (flows : List Flow) (f : ℕ) (fl : Flow) (ys : List Stamped) → f < length flows → fl.backlog ≡ (flow_at flows f).backlog ++ ys → (g : ℕ) → HeadIs P (flow_at flows g).backlog → HeadIs P (flow_at (set flows f fl) g).backlog
+pub head_stays : (P : Stamped → Type 0) (flows : List Flow) (f : ℕ) (fl : Flow) (ys : List Stamped) → f < length flows
+    → fl.backlog ≡ (flow_at flows f).backlog ++ ys → (g : ℕ) → HeadIs P (flow_at flows g).backlog
+    → HeadIs P (flow_at (set flows f fl) g).backlog
 head_stays P flows f fl ys l e g h = elim (cases_eq g f) [
   | inl same ↦
       let h' = rw same at h in
@@ -121,7 +124,8 @@ pub presence_grows : (q : List Stamped) (x : Stamped) → 0 < length q → (pres
 presence_grows [] x l = absurd (omega arith)
 presence_grows (p ∷ q) x l = (refl, refl, length_push q x)
 
-pub presence_begins : (q : List Stamped) (x : Stamped) → length q ≡ 0 → (presence (q ++ x ∷ []) ≡ 1) × (head_weight (q ++ x ∷ []) ≡ x.weight) × (behind (q ++ x ∷ []) ≡ 0) × (presence q ≡ 0) × (head_weight q ≡ 0) × (behind q ≡ 0)
+pub presence_begins : (q : List Stamped) (x : Stamped) → length q ≡ 0
+    → (presence (q ++ x ∷ []) ≡ 1) × (head_weight (q ++ x ∷ []) ≡ x.weight) × (behind (q ++ x ∷ []) ≡ 0) × (presence q ≡ 0) × (head_weight q ≡ 0) × (behind q ≡ 0)
 presence_begins [] x e = (refl, refl, refl, refl, refl, refl)
 presence_begins (p ∷ q) x e = absurd (omega arith)
 
@@ -149,7 +153,8 @@ some_packets P slot [] h = absurd h
 some_packets P slot (p ∷ q) h = omega arith
 
 -- Where a queue has a first packet, that is the head and all that is there of heads.
-pub first_facts : (slot : ℕ) (q : List TaggedPacket) (h : TaggedPacket) → first_packet q ≡ Some h → (presence (map (tagged slot) q) ≡ 1) × (take 1 (map (tagged slot) q) ≡ tagged slot h ∷ []) × HeadIs (λ x. x ≡ tagged slot h) (map (tagged slot) q)
+pub first_facts : (slot : ℕ) (q : List TaggedPacket) (h : TaggedPacket) → first_packet q ≡ Some h
+    → (presence (map (tagged slot) q) ≡ 1) × (take 1 (map (tagged slot) q) ≡ tagged slot h ∷ []) × HeadIs (λ x. x ≡ tagged slot h) (map (tagged slot) q)
 first_facts slot [] h e = absurd (cc)
 first_facts slot (p ∷ q) h e = let same : p ≡ h = cc in (refl, ap (λ x. tagged slot x ∷ []) same, ap (tagged slot) same)
 

@@ -37,7 +37,10 @@ module _ (p : SchedParts) (kept : IsSchedKept p) (k : RankView) (slot : ℕ) (th
     has_head = some_packets (λ x. k.tag ≡ x.start_tag) slot q.packets.items (rw same_flow at waits)
 
     -- It enters the eligible heap under the key e.
-    pub moved : (head : TaggedPacket) (e : RankView) (es : Heap RankView) → first_packet q.packets.items ≡ Some head → k.tag ≤ p.virtual_time → e.slot ≡ slot → e.tag ≡ head.finish_tag → IsPermutation (e ∷ p.eligible.keys) es.keys → es.room + 1 ≡ p.eligible.room → es.moves ≡ p.eligible.moves + 1 → ws.room ≡ p.waiting.room + 1 → ws.moves ≡ p.waiting.moves → IsSchedKept (record p { eligible = es; waiting = ws })
+    pub moved : (head : TaggedPacket) (e : RankView) (es : Heap RankView) → first_packet q.packets.items ≡ Some head
+        → k.tag ≤ p.virtual_time → e.slot ≡ slot → e.tag ≡ head.finish_tag → IsPermutation (e ∷ p.eligible.keys) es.keys
+        → es.room + 1 ≡ p.eligible.room → es.moves ≡ p.eligible.moves + 1 → ws.room ≡ p.waiting.room + 1 → ws.moves ≡ p.waiting.moves
+        → IsSchedKept (record p { eligible = es; waiting = ws })
     moved head e es first low same tag into er em wr wm = record {
       kept = promoted_kept kept.kept k e es ws perm into (same ∙ this) low
           (rw (← this, same_flow) (head_weaker (λ x. x ≡ tagged slot head) (λ x. e.tag ≡ x.finish_tag) (λ x y. rw y tag) (map (tagged slot) q.packets.items) (next_is slot q.packets.items head first)))

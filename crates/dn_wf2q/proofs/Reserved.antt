@@ -56,7 +56,9 @@ sum_more h flows n z =
 
 module _ {flows : List Flow} {eligible waiting : Heap RankView} {virtual_time weights arrivals picks : ℕ} (kept : Kept none_absent [] flows eligible waiting virtual_time weights arrivals picks) where
   -- Only the heaps' room changes.
-  pub roomy_kept : (es ws : Heap RankView) → es.keys ≡ eligible.keys → ws.keys ≡ waiting.keys → es.moves ≡ eligible.moves → ws.moves ≡ waiting.moves → eligible.room ≤ es.room → waiting.room ≤ ws.room → Kept none_absent [] flows es ws virtual_time weights arrivals picks
+  pub roomy_kept : (es ws : Heap RankView) → es.keys ≡ eligible.keys → ws.keys ≡ waiting.keys → es.moves ≡ eligible.moves
+      → ws.moves ≡ waiting.moves → eligible.room ≤ es.room → waiting.room ≤ ws.room
+      → Kept none_absent [] flows es ws virtual_time weights arrivals picks
   roomy_kept es ws ek wk em wm er wr =
       let le = ap length ek in
       let lw = ap length wk in
@@ -74,7 +76,8 @@ module _ {flows : List Flow} {eligible waiting : Heap RankView} {virtual_time we
         waiting_room = let c = kept.waiting_room in omega arith;
       }
 
-  more_flows : (n : ℕ) → length flows + n ≤ length eligible.keys + eligible.room → length flows + n ≤ length waiting.keys + waiting.room → Kept none_absent [] (flows ++ replicate n no_packets) eligible waiting virtual_time weights arrivals picks
+  more_flows : (n : ℕ) → length flows + n ≤ length eligible.keys + eligible.room → length flows + n ≤ length waiting.keys + waiting.room
+      → Kept none_absent [] (flows ++ replicate n no_packets) eligible waiting virtual_time weights arrivals picks
   more_flows n er wr =
       let long = length-append flows (replicate n no_packets) in
       let rep = length-replicate n no_packets in
@@ -86,7 +89,9 @@ module _ {flows : List Flow} {eligible waiting : Heap RankView} {virtual_time we
         counted = kept.counted ∙ sym (sum_more (λ fl. presence fl.backlog) flows n refl);
         pushed = let c = kept.pushed in omega (arith, sum_more (λ fl. behind fl.backlog) flows n refl);
         picked = kept.picked;
-        bounded = All-append (AreTagsWithin (bound arrivals picks)) flows (replicate n no_packets) kept.bounded (All-replicate (AreTagsWithin (bound arrivals picks)) n no_packets (omega arith, All-nil (IsWithin (bound arrivals picks))));
+        bounded =
+            All-append (AreTagsWithin (bound arrivals picks)) flows (replicate n no_packets) kept.bounded
+            (All-replicate (AreTagsWithin (bound arrivals picks)) n no_packets (omega arith, All-nil (IsWithin (bound arrivals picks))));
         timely = kept.timely;
         eligible_room = omega arith;
         waiting_room = omega arith;
@@ -146,7 +151,9 @@ module _ (p : SchedParts) (kept : IsSchedKept p) (slot : ℕ) (listed : slot < l
         let l = length-set p.flows.items slot r in
         rw (get_or-map places (set p.flows.items slot r) slot r 0 (omega (arith, l)), get_or-set_same p.flows.items slot r r listed) h
 
-    pub reserves_same : (new : SchedParts) → new.flows.items ≡ set p.flows.items slot r → new.virtual_time ≡ p.virtual_time → new.arrivals ≡ p.arrivals → new.picks ≡ p.picks → new.eligible.moves ≡ p.eligible.moves → new.waiting.moves ≡ p.waiting.moves → MakesRoom p new
+    pub reserves_same : (new : SchedParts) → new.flows.items ≡ set p.flows.items slot r → new.virtual_time ≡ p.virtual_time
+        → new.arrivals ≡ p.arrivals → new.picks ≡ p.picks → new.eligible.moves ≡ p.eligible.moves → new.waiting.moves ≡ p.waiting.moves
+        → MakesRoom p new
     reserves_same new nf nt na np ne nw = record {
       virtual_time = nt;
       arrivals = na;
@@ -168,7 +175,12 @@ module _ (p : SchedParts) (kept : IsSchedKept p) (slot : ℕ) (listed : slot < l
     }
 
 -- Queues are added.
-pub kept_extended : (p new : SchedParts) → IsSchedKept p → (n : ℕ) → IsExtended p.flows.items new.flows.items → length new.flows.items ≡ n → length p.flows.items ≤ n → new.eligible.keys ≡ p.eligible.keys → new.waiting.keys ≡ p.waiting.keys → new.eligible.moves ≡ p.eligible.moves → new.waiting.moves ≡ p.waiting.moves → p.eligible.room ≤ new.eligible.room → p.waiting.room ≤ new.waiting.room → n ≤ length new.eligible.keys + new.eligible.room → n ≤ length new.waiting.keys + new.waiting.room → new.virtual_time ≡ p.virtual_time → new.weights ≡ p.weights → new.busy_from ≡ p.busy_from → new.arrivals ≡ p.arrivals → new.picks ≡ p.picks → IsSchedKept new
+pub kept_extended : (p new : SchedParts) → IsSchedKept p → (n : ℕ) → IsExtended p.flows.items new.flows.items → length new.flows.items ≡ n
+    → length p.flows.items ≤ n → new.eligible.keys ≡ p.eligible.keys → new.waiting.keys ≡ p.waiting.keys
+    → new.eligible.moves ≡ p.eligible.moves → new.waiting.moves ≡ p.waiting.moves → p.eligible.room ≤ new.eligible.room
+    → p.waiting.room ≤ new.waiting.room → n ≤ length new.eligible.keys + new.eligible.room → n ≤ length new.waiting.keys + new.waiting.room
+    → new.virtual_time ≡ p.virtual_time → new.weights ≡ p.weights → new.busy_from ≡ p.busy_from → new.arrivals ≡ p.arrivals
+    → new.picks ≡ p.picks → IsSchedKept new
 kept_extended p new kept n e l le ek wk em wm er wr ee ww nt nw nb na np =
     let long = length-by_slot (seen p.busy_from) p.flows.items in
     let lk = ap length ek in

@@ -88,7 +88,8 @@ pub raised_stays : (v : ℕ) (flows : List Flow) (slot : ℕ) → HeadIs (λ p. 
 raised_stays v flows slot h = rw (heads_are flows) (raised-stays v (first_packets flows) (has_head (λ p. p.start_tag ≤ v) flows slot h))
 
 -- Virtual time is raised to s, where s is the least start tag.
-pub raised_is : (v s : ℕ) (flows : List Flow) (slot : ℕ) → HeadIs (λ p. p.start_tag ≤ s) (flow_at flows slot).backlog → ((g : ℕ) → IfHead (λ p. s ≤ p.start_tag) (flow_at flows g).backlog) → raised v (heads_of flows) ≡ max v s
+pub raised_is : (v s : ℕ) (flows : List Flow) (slot : ℕ) → HeadIs (λ p. p.start_tag ≤ s) (flow_at flows slot).backlog
+    → ((g : ℕ) → IfHead (λ p. s ≤ p.start_tag) (flow_at flows g).backlog) → raised v (heads_of flows) ≡ max v s
 raised_is v s flows slot h all = rw (heads_are flows) (raised-to v s (first_packets flows) (has_head (λ p. p.start_tag ≤ s) flows slot h) (all_heads (λ p. s ≤ p.start_tag) flows all))
 
 -- The packet a does not go before b.
@@ -218,7 +219,8 @@ first-is v h hs has all =
     f.is ∙ ap (λ x. Some x) (yields.1 (omega arith))
 
 -- The scan finds h, the head at a slot, where h is eligible and each other eligible head yields to it.
-pub first_is : (v : ℕ) (flows : List Flow) (slot : ℕ) (h : Stamped) → HeadIs (λ x. (x ≡ h) × (x.start_tag ≤ v)) (flow_at flows slot).backlog → ((g : ℕ) → IfHead (YieldsTo v h) (flow_at flows g).backlog) → first_to_go (filter (is_eligible v) (heads_of flows)) ≡ Some h
+pub first_is : (v : ℕ) (flows : List Flow) (slot : ℕ) (h : Stamped) → HeadIs (λ x. (x ≡ h) × (x.start_tag ≤ v)) (flow_at flows slot).backlog
+    → ((g : ℕ) → IfHead (YieldsTo v h) (flow_at flows g).backlog) → first_to_go (filter (is_eligible v) (heads_of flows)) ≡ Some h
 first_is v flows slot h is all = rw (heads_are flows) (first-is v h (first_packets flows) (has_head (λ x. (x ≡ h) × (x.start_tag ≤ v)) flows slot is) (all_heads (YieldsTo v h) flows all))
 
 filter-none : (p : Stamped → Bool) (hs : List Stamped) → All (λ x. p x ≡ false) hs → filter p hs ≡ []

@@ -27,7 +27,10 @@ pub scaled-le : (len w : ℕ) → len < 65536 → scaled len w ≤ 4294967296
 scaled-le len w l = let d = div-le_self (len * 65536) w in omega arith
 
 -- The key k leaves the eligible heap; at its slot `sent` leaves and `rest` is left.
-module _ {flows : List Flow} {eligible waiting : Heap RankView} {virtual_time weights arrivals picks : ℕ} (kept : Kept none_absent [] flows eligible waiting virtual_time weights arrivals picks) (k : RankView) (es : Heap RankView) (p : IsPermutation eligible.keys (k ∷ es.keys)) (sent : Stamped) (rest : List Stamped) (is : (flow_at flows k.slot).backlog ≡ sent ∷ rest) where
+module _ {flows : List Flow} {eligible waiting : Heap RankView} {virtual_time weights arrivals picks : ℕ}
+    (kept : Kept none_absent [] flows eligible waiting virtual_time weights arrivals picks) (k : RankView) (es : Heap RankView)
+    (p : IsPermutation eligible.keys (k ∷ es.keys)) (sent : Stamped) (rest : List Stamped)
+    (is : (flow_at flows k.slot).backlog ≡ sent ∷ rest) where
   left_in_eligible : ranks_at k.slot es.keys ≡ 0
   left_in_eligible =
       let a = ranks_at_popped k.slot k eligible.keys es.keys p in
@@ -49,7 +52,8 @@ module _ {flows : List Flow} {eligible waiting : Heap RankView} {virtual_time we
       let n = no_rank_at k.slot es.keys left_in_eligible i d h in
       let was = All-tail (IsEligible flows virtual_time) k es.keys (All-permutation (IsEligible flows virtual_time) eligible.keys (k ∷ es.keys) p kept.ready) i d h in
       rw (get_or-set_other flows k.slot e.slot fl no_packets n)
-      (head_weaker (λ p. (e.tag ≡ p.finish_tag) × (p.start_tag ≤ virtual_time)) (λ p. (e.tag ≡ p.finish_tag) × (p.start_tag ≤ v)) (λ p x. let y = x.1 in (x.0, omega arith)) (flow_at flows e.slot).backlog was)
+      (head_weaker (λ p. (e.tag ≡ p.finish_tag) × (p.start_tag ≤ virtual_time)) (λ p. (e.tag ≡ p.finish_tag) × (p.start_tag ≤ v))
+      (λ p x. let y = x.1 in (x.0, omega arith)) (flow_at flows e.slot).backlog was)
 
   others_wait : (fl : Flow) → All (IsWaiting (set flows k.slot fl)) waiting.keys
   others_wait fl i d h =
@@ -74,14 +78,19 @@ module _ {flows : List Flow} {eligible waiting : Heap RankView} {virtual_time we
       (sent_within.0.3, omega arith)
 
   -- The next head, if there is one, is in no heap yet.
-  pub sent_kept : (v w last : ℕ) → es.moves ≡ eligible.moves → es.room ≡ eligible.room + 1 → virtual_time ≤ v → v ≤ bound arrivals (picks + 1) → w + sent.weight ≡ weights → last ≤ bound arrivals picks → Kept (λ slot. cond (k.slot == slot) (presence rest) 0) (take 1 rest) (set flows k.slot (record { backlog = rest; last_finish_tag = last })) es waiting v w arrivals (picks + 1)
+  pub sent_kept : (v w last : ℕ) → es.moves ≡ eligible.moves → es.room ≡ eligible.room + 1 → virtual_time ≤ v
+      → v ≤ bound arrivals (picks + 1) → w + sent.weight ≡ weights → last ≤ bound arrivals picks
+      → Kept (λ slot. cond (k.slot == slot) (presence rest) 0) (take 1 rest) (set flows k.slot (record { backlog = rest; last_finish_tag = last })) es waiting v w arrivals (picks + 1)
   sent_kept v w last me re tv vb wq lb =
       let fl : Flow = record { backlog = rest; last_finish_tag = last } in
       let le = length_permutation eligible.keys (k ∷ es.keys) p in
       let long = length-set flows k.slot fl in
-      let weigh : sum_by (λ x. head_weight x.backlog) (set flows k.slot fl) + head_weight (flow_at flows k.slot).backlog ≡ sum_by (λ x. head_weight x.backlog) flows + head_weight rest = sum_by-set (λ x. head_weight x.backlog) flows k.slot fl no_packets sent_listed in
-      let heads : sum_by (λ x. presence x.backlog) (set flows k.slot fl) + presence (flow_at flows k.slot).backlog ≡ sum_by (λ x. presence x.backlog) flows + presence rest = sum_by-set (λ x. presence x.backlog) flows k.slot fl no_packets sent_listed in
-      let tails : sum_by (λ x. behind x.backlog) (set flows k.slot fl) + behind (flow_at flows k.slot).backlog ≡ sum_by (λ x. behind x.backlog) flows + behind rest = sum_by-set (λ x. behind x.backlog) flows k.slot fl no_packets sent_listed in
+      let weigh : sum_by (λ x. head_weight x.backlog) (set flows k.slot fl) + head_weight (flow_at flows k.slot).backlog ≡ sum_by (λ x. head_weight x.backlog) flows + head_weight rest =
+      sum_by-set (λ x. head_weight x.backlog) flows k.slot fl no_packets sent_listed in
+      let heads : sum_by (λ x. presence x.backlog) (set flows k.slot fl) + presence (flow_at flows k.slot).backlog ≡ sum_by (λ x. presence x.backlog) flows + presence rest =
+      sum_by-set (λ x. presence x.backlog) flows k.slot fl no_packets sent_listed in
+      let tails : sum_by (λ x. behind x.backlog) (set flows k.slot fl) + behind (flow_at flows k.slot).backlog ≡ sum_by (λ x. behind x.backlog) flows + behind rest =
+      sum_by-set (λ x. behind x.backlog) flows k.slot fl no_packets sent_listed in
       let weigh' = rw is at weigh in
       let heads' = rw is at heads in
       let tails' = rw is at tails in
@@ -134,7 +143,8 @@ module _ (p : SchedParts) (kept : IsSchedKept p) (k : RankView) (es : Heap RankV
     pub has_head : 0 < length q.packets.items
     has_head = some_packets (λ x. (k.tag ≡ x.finish_tag) × (x.start_tag ≤ p.virtual_time)) k.slot q.packets.items (rw same_flow at ready)
 
-    module _ (r : TaggedQueue) (sent : TaggedPacket) (is : q.packets.items ≡ sent ∷ r.packets.items) (last : r.last_finish_tag ≡ q.last_finish_tag) (arrived : r.arrived ≡ q.arrived) (room : places r ≡ places q + 1) where
+    module _ (r : TaggedQueue) (sent : TaggedPacket) (is : q.packets.items ≡ sent ∷ r.packets.items)
+        (last : r.last_finish_tag ≡ q.last_finish_tag) (arrived : r.arrived ≡ q.arrived) (room : places r ≡ places q + 1) where
       abbrev head : Stamped
       head = tagged k.slot sent
 
@@ -159,7 +169,9 @@ module _ (p : SchedParts) (kept : IsSchedKept p) (k : RankView) (es : Heap RankV
       within : IsWithin (bound p.arrivals p.picks) head × All (IsWithin (bound p.arrivals p.picks)) rest × ((flow_at (flows_of p) k.slot).last_finish_tag ≤ bound p.arrivals p.picks)
       within = sent_within kept.kept k es perm head rest rest_is
 
-      pub sends : (new : SchedParts) → new.flows.items ≡ set p.flows.items k.slot r → new.busy_from ≡ p.busy_from → new.virtual_time ≡ p.virtual_time + scaled sent.len p.weights → new.arrivals ≡ p.arrivals → new.picks ≡ p.picks + 1 → SendsHead head p.virtual_time p new
+      pub sends : (new : SchedParts) → new.flows.items ≡ set p.flows.items k.slot r → new.busy_from ≡ p.busy_from
+          → new.virtual_time ≡ p.virtual_time + scaled sent.len p.weights → new.arrivals ≡ p.arrivals → new.picks ≡ p.picks + 1
+          → SendsHead head p.virtual_time p new
       sends new nf nb nt na np =
           let fs : flows_of new ≡ after_pick (flows_of p) k.slot = rw (nf, nb) flows_is in
           let w : p.weights ≡ weight_sum (heads_of (flows_of p)) = let c = kept.kept.weighed in let s = weights_are (flows_of p) in omega arith in
@@ -209,7 +221,8 @@ module _ (p : SchedParts) (kept : IsSchedKept p) (k : RankView) (es : Heap RankV
             let w1 = w.1 in
             record {
               kept = rw (by_slot-set (seen p.busy_from) p.flows.items k.slot r)
-                  (sent_kept kept.kept k es perm head rest rest_is (p.virtual_time + scaled sent.len p.weights) (p.weights - sent.weight) (seen p.busy_from k.slot r).last_finish_tag moves places' (omega arith) late (omega arith) old_last);
+                  (sent_kept kept.kept k es perm head rest rest_is (p.virtual_time + scaled sent.len p.weights) (p.weights - sent.weight)
+                  (seen p.busy_from k.slot r).last_finish_tag moves places' (omega arith) late (omega arith) old_last);
               few = kept.few;
               began = kept.began;
               arrived = still_arrived;
@@ -230,6 +243,8 @@ module _ (p : SchedParts) (kept : IsSchedKept p) (k : RankView) (es : Heap RankV
         pub more_kept : (next : TaggedPacket) → first_packet r.packets.items ≡ Some next → IsKeptWithout k.slot next sent_parts
         more_kept next e =
             let f = first_facts k.slot r.packets.items next e in
-            let here = flow_at_seen p.busy_from (set p.flows.items k.slot r) k.slot r (let l = length-set p.flows.items k.slot r in omega (arith, listed)) ∙ ap (seen p.busy_from k.slot) (get_or-set_same p.flows.items k.slot r r listed) in
+            let here =
+            flow_at_seen p.busy_from (set p.flows.items k.slot r) k.slot r (let l = length-set p.flows.items k.slot r in omega (arith, listed))
+            ∙ ap (seen p.busy_from k.slot) (get_or-set_same p.flows.items k.slot r r listed) in
             let b : IsKeptBut (only_absent k.slot) (tagged k.slot next ∷ []) sent_parts = rw (f.0, f.1) at between in
             (b, rw here f.2)

@@ -18,7 +18,10 @@ abbrev no_key : RankView
 no_key = record { tag = 0; slot = 0 }
 
 -- R holds of each head, where it holds of the head of each key's flow.
-heads_by : (R : ℕ → Stamped → Type 0) (flows : List Flow) (es ws : List RankView) → ((g : ℕ) → ranks_at g es + ranks_at g ws ≡ presence (flow_at flows g).backlog) → All (λ k. HeadIs (R k.slot) (flow_at flows k.slot).backlog) es → All (λ k. HeadIs (R k.slot) (flow_at flows k.slot).backlog) ws → (g : ℕ) → IfHead (R g) (flow_at flows g).backlog
+heads_by : (R : ℕ → Stamped → Type 0) (flows : List Flow) (es ws : List RankView)
+    → ((g : ℕ) → ranks_at g es + ranks_at g ws ≡ presence (flow_at flows g).backlog)
+    → All (λ k. HeadIs (R k.slot) (flow_at flows k.slot).backlog) es → All (λ k. HeadIs (R k.slot) (flow_at flows k.slot).backlog) ws
+    → (g : ℕ) → IfHead (R g) (flow_at flows g).backlog
 heads_by R flows es ws placed a b g =
     let q = (flow_at flows g).backlog in
     let pl = placed g in
@@ -33,7 +36,8 @@ heads_by R flows es ws placed a b g =
       ]
     ]
 
-module _ {absent : ℕ → ℕ} {out : List Stamped} {flows : List Flow} {eligible waiting : Heap RankView} {virtual_time weights arrivals picks : ℕ} (kept : Kept absent out flows eligible waiting virtual_time weights arrivals picks) where
+module _ {absent : ℕ → ℕ} {out : List Stamped} {flows : List Flow} {eligible waiting : Heap RankView}
+    {virtual_time weights arrivals picks : ℕ} (kept : Kept absent out flows eligible waiting virtual_time weights arrivals picks) where
   -- Heads are at most as many as flows.
   pub ranks_at-le : length eligible.keys + length waiting.keys + length out ≤ length flows
   ranks_at-le =
@@ -70,7 +74,10 @@ module _ {flows : List Flow} {eligible waiting : Heap RankView} {virtual_time we
   pub later_kept : (v : ℕ) → virtual_time ≤ v → v ≤ bound arrivals picks → Kept none_absent [] flows eligible waiting v weights arrivals picks
   later_kept v l b = record {
     placed = kept.placed;
-    ready = All-weaker (IsEligible flows virtual_time) (IsEligible flows v) (λ k h. head_weaker (λ p. (k.tag ≡ p.finish_tag) × (p.start_tag ≤ virtual_time)) (λ p. (k.tag ≡ p.finish_tag) × (p.start_tag ≤ v)) (λ p x. let y = x.1 in (x.0, omega arith)) (flow_at flows k.slot).backlog h) eligible.keys kept.ready;
+    ready =
+        All-weaker (IsEligible flows virtual_time) (IsEligible flows v) (λ k h. head_weaker
+        (λ p. (k.tag ≡ p.finish_tag) × (p.start_tag ≤ virtual_time)) (λ p. (k.tag ≡ p.finish_tag) × (p.start_tag ≤ v))
+        (λ p x. let y = x.1 in (x.0, omega arith)) (flow_at flows k.slot).backlog h) eligible.keys kept.ready;
     waits = kept.waits;
     weighed = kept.weighed;
     counted = kept.counted;
@@ -98,7 +105,8 @@ module _ {flows : List Flow} {eligible waiting : Heap RankView} {virtual_time we
   pub raised_ready : 0 < length eligible.keys → raised virtual_time (heads_of flows) ≡ virtual_time
   raised_ready l =
       let k = slice_index_or eligible.keys 0 no_key in
-      raised_stays virtual_time flows k.slot (head_weaker (λ p. (k.tag ≡ p.finish_tag) × (p.start_tag ≤ virtual_time)) (λ p. p.start_tag ≤ virtual_time) (λ p x. x.1) (flow_at flows k.slot).backlog (kept.ready 0 no_key l))
+      raised_stays virtual_time flows k.slot
+      (head_weaker (λ p. (k.tag ≡ p.finish_tag) × (p.start_tag ≤ virtual_time)) (λ p. p.start_tag ≤ virtual_time) (λ p x. x.1) (flow_at flows k.slot).backlog (kept.ready 0 no_key l))
 
   -- No key of the waiting heap is above the bound.
   pub top_within : (top : RankView) → Contains waiting.keys top → top.tag ≤ bound arrivals picks
@@ -113,13 +121,17 @@ module _ {flows : List Flow} {eligible waiting : Heap RankView} {virtual_time we
   pub popped_waits : (k : RankView) (ws : List RankView) → IsPermutation waiting.keys (k ∷ ws) → HeadIs (λ p. k.tag ≡ p.start_tag) (flow_at flows k.slot).backlog
   popped_waits k ws p = All-head (IsWaiting flows) k ws (All-permutation (IsWaiting flows) waiting.keys (k ∷ ws) p kept.waits)
 
-  pub promoted_kept : (k e : RankView) (es ws : Heap RankView) → IsPermutation waiting.keys (k ∷ ws.keys) → IsPermutation (e ∷ eligible.keys) es.keys → e.slot ≡ k.slot → k.tag ≤ virtual_time → HeadIs (λ p. e.tag ≡ p.finish_tag) (flow_at flows k.slot).backlog → es.room + 1 ≡ eligible.room → es.moves ≡ eligible.moves + 1 → ws.room ≡ waiting.room + 1 → ws.moves ≡ waiting.moves → Kept none_absent [] flows es ws virtual_time weights arrivals picks
+  pub promoted_kept : (k e : RankView) (es ws : Heap RankView) → IsPermutation waiting.keys (k ∷ ws.keys)
+      → IsPermutation (e ∷ eligible.keys) es.keys → e.slot ≡ k.slot → k.tag ≤ virtual_time
+      → HeadIs (λ p. e.tag ≡ p.finish_tag) (flow_at flows k.slot).backlog → es.room + 1 ≡ eligible.room → es.moves ≡ eligible.moves + 1
+      → ws.room ≡ waiting.room + 1 → ws.moves ≡ waiting.moves → Kept none_absent [] flows es ws virtual_time weights arrivals picks
   promoted_kept k e es ws p q same low fin er em wr wm =
       let w = popped_waits k ws.keys p in
       let lw = length_permutation waiting.keys (k ∷ ws.keys) p in
       let le = length_permutation (e ∷ eligible.keys) es.keys q in
       let both : HeadIs (λ p. (e.tag ≡ p.finish_tag) × (p.start_tag ≤ virtual_time)) (flow_at flows e.slot).backlog =
-      rw same (head_both (λ p. e.tag ≡ p.finish_tag) (λ p. k.tag ≡ p.start_tag) (λ p. (e.tag ≡ p.finish_tag) × (p.start_tag ≤ virtual_time)) (λ p a b. (a, omega arith)) (flow_at flows k.slot).backlog fin w) in
+      rw same (head_both (λ p. e.tag ≡ p.finish_tag) (λ p. k.tag ≡ p.start_tag) (λ p. (e.tag ≡ p.finish_tag) × (p.start_tag ≤ virtual_time))
+      (λ p a b. (a, omega arith)) (flow_at flows k.slot).backlog fin w) in
       record {
         placed = λ f.
             let a = ranks_at_popped f k waiting.keys ws.keys p in
@@ -144,12 +156,19 @@ module _ {flows : List Flow} {eligible waiting : Heap RankView} {virtual_time we
   head_when A P R (p ∷ q) h r = r
 
   -- The least key of the eligible heap belongs to the scan's pick.
-  pub picked_is : ((g : ℕ) → All (λ p. p.flow ≡ g) (flow_at flows g).backlog) → (k : RankView) (es : List RankView) → IsPermutation eligible.keys (k ∷ es) → IsLeast rank_cmp k eligible.keys → All (λ e. virtual_time < e.tag) waiting.keys → (h : Stamped) → HeadIs (λ p. p ≡ h) (flow_at flows k.slot).backlog → first_to_go (filter (is_eligible virtual_time) (heads_of flows)) ≡ Some h
+  pub picked_is : ((g : ℕ) → All (λ p. p.flow ≡ g) (flow_at flows g).backlog) → (k : RankView) (es : List RankView)
+      → IsPermutation eligible.keys (k ∷ es) → IsLeast rank_cmp k eligible.keys → All (λ e. virtual_time < e.tag) waiting.keys
+      → (h : Stamped) → HeadIs (λ p. p ≡ h) (flow_at flows k.slot).backlog
+      → first_to_go (filter (is_eligible virtual_time) (heads_of flows)) ≡ Some h
   picked_is own k es p least late h is =
       let ready = All-head (IsEligible flows virtual_time) k es (All-permutation (IsEligible flows virtual_time) eligible.keys (k ∷ es) p kept.ready) in
       let backlog = (flow_at flows k.slot).backlog in
-      let mine = head_both (λ x. x ≡ h) (λ x. (k.tag ≡ x.finish_tag) × (x.start_tag ≤ virtual_time)) (λ x. ((x ≡ h) × (x.start_tag ≤ virtual_time)) × (k.tag ≡ x.finish_tag)) (λ x a b. ((a, b.1), b.0)) backlog is ready in
-      let tag : k.tag ≡ h.finish_tag = head_says (λ x. ((x ≡ h) × (x.start_tag ≤ virtual_time)) × (k.tag ≡ x.finish_tag)) (k.tag ≡ h.finish_tag) (λ x a. subst (λ (y : Stamped). k.tag ≡ y.finish_tag) a.0.0 a.1) backlog mine in
+      let mine =
+      head_both (λ x. x ≡ h) (λ x. (k.tag ≡ x.finish_tag) × (x.start_tag ≤ virtual_time))
+      (λ x. ((x ≡ h) × (x.start_tag ≤ virtual_time)) × (k.tag ≡ x.finish_tag)) (λ x a b. ((a, b.1), b.0)) backlog is ready in
+      let tag : k.tag ≡ h.finish_tag =
+      head_says (λ x. ((x ≡ h) × (x.start_tag ≤ virtual_time)) × (k.tag ≡ x.finish_tag)) (k.tag ≡ h.finish_tag)
+      (λ x a. subst (λ (y : Stamped). k.tag ≡ y.finish_tag) a.0.0 a.1) backlog mine in
       let slot : h.flow ≡ k.slot = head_says (λ x. (x ≡ h) × (x.flow ≡ k.slot)) (h.flow ≡ k.slot) (λ x a. subst (λ (y : Stamped). y.flow ≡ k.slot) a.0 a.1) backlog
       (head_both (λ x. x ≡ h) (λ x. x.flow ≡ k.slot) (λ x. (x ≡ h) × (x.flow ≡ k.slot)) (λ x a b. (a, b)) backlog is (head_of_all (λ x. x ≡ h) (λ x. x.flow ≡ k.slot) backlog is (own k.slot))) in
       first_is virtual_time flows k.slot h

@@ -10,7 +10,8 @@ split_seat-one-requires c = (search rules, search rules, hands_out _ _ c.args.co
 pub new-requires-clause-seat : goal.new-requires-clause-seat
 new-requires-clause-seat c =
     let count = c.args.count in let k = c.loop-number.number in
-    let alone : c.split_seat-one.result.me.0 ≡ sitting count k [] [] = ap (λ x. x.0) c.split_seat-one.ensures.4 ∙ handed count k c.loop-number.seat.me c.loop-number-test.true c.loop-number.invariant.1 in
+    let alone : c.split_seat-one.result.me.0 ≡ sitting count k [] [] =
+    ap (λ x. x.0) c.split_seat-one.ensures.4 ∙ handed count k c.loop-number.seat.me c.loop-number-test.true c.loop-number.invariant.1 in
     c.split_seat-one.ensures.4 ∙ (λ i. (handed count k c.loop-number.seat.me c.loop-number-test.true c.loop-number.invariant.1 i, []))
     ∙ ap (λ n. (sitting n k [] [], [])) (sym (ap (λ v. v.count) alone))
 

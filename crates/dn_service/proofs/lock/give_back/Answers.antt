@@ -3,4 +3,10 @@ use Rattle.dn_service.proofs.Taking.{gives_back}
 use Rattle.dn_service.proofs.lock.give_back.Goals as goal
 
 pub store-requires : goal.store-requires
-store-requires c = let put = c.put_in.ensures.seat in (search rules, search rules, gives_back c.args.table.now.shared.key _ _ _ c.args.book (ap (λ x. x.0.taken) put ∙ c.requires.seat.0) (ap (λ x. x.1) put))
+store-requires c =
+    let put = c.put_in.ensures.seat in (
+      search rules,
+      search rules,
+      gives_back c.args.table.now.shared.key _ _ _ c.args.book (ap (λ x. x.0.taken) put ∙ c.requires.seat.0)
+          (ap (λ x. x.1) put),
+    )

@@ -7,7 +7,9 @@ use Rattle.dn_service.proofs.take_in.take_in.Goals as goal
 pub join_seat-requires : goal.join_seat-requires
 join_seat-requires c =
     let was = c.loop-caller.invariant in let one = c.in-Some.caller in let r = c.requires.callers in
-    let of : IsOf r.0 one = between (IsOf r.0) c.loop-caller.yielded one c.next.new.self.rest.items c.args.callers.items (ap (λ l. c.loop-caller.yielded ++ l) (sym c.in-Some.ensures.steps.0) ∙ was.4) r.3 in (
+    let of : IsOf r.0 one =
+    between (IsOf r.0) c.loop-caller.yielded one c.next.new.self.rest.items c.args.callers.items
+    (ap (λ l. c.loop-caller.yielded ++ l) (sym c.in-Some.ensures.steps.0) ∙ was.4) r.3 in (
       search rules,
       c.into_seat.ensures.table ∙ (ap (λ s. s.table) of ∙ (r.1 ∙ c.requires.table.0)),
       ap (λ x. x.1) c.into_seat.ensures.seat,
@@ -18,7 +20,9 @@ join_seat-requires c =
 pub loop-caller-preserved : goal.loop-caller-preserved
 loop-caller-preserved c =
     let was = c.loop-caller.invariant in let one = c.in-Some.caller in let r = c.requires.callers in
-    let of : IsOf r.0 one = between (IsOf r.0) c.loop-caller.yielded one c.next.new.self.rest.items c.args.callers.items (ap (λ l. c.loop-caller.yielded ++ l) (sym c.in-Some.ensures.steps.0) ∙ was.4) r.3 in
+    let of : IsOf r.0 one =
+    between (IsOf r.0) c.loop-caller.yielded one c.next.new.self.rest.items c.args.callers.items
+    (ap (λ l. c.loop-caller.yielded ++ l) (sym c.in-Some.ensures.steps.0) ∙ was.4) r.3 in
     let did = c.join_seat.ensures in (
       tt,
       tt,

@@ -27,7 +27,8 @@ loop-i-preserved c = elim c.if-starts_line.branch [
 
 pub returns-clause-config : goal.returns-clause-config
 returns-clause-config c =
-    sym (L.take_all c.loop-i.i c.args.text.now c.loop-i-test.false) ∙ ap (λ (p : List ℕ × List ℕ). p.0) (unmarked c.args.text.now c.loop-i.i c.loop-i.starts_line (joined_parts c.args.text.now) c.loop-i-test.false c.loop-i.invariant)
+    sym (L.take_all c.loop-i.i c.args.text.now c.loop-i-test.false)
+    ∙ ap (λ (p : List ℕ × List ℕ). p.0) (unmarked c.args.text.now c.loop-i.i c.loop-i.starts_line (joined_parts c.args.text.now) c.loop-i-test.false c.loop-i.invariant)
 
 pub returns-clause-packets : goal.returns-clause-packets
 returns-clause-packets c =

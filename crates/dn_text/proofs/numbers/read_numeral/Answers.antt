@@ -26,11 +26,13 @@ loop-byte-preserved c = (
 pub returns-then-value-beyond-clause-value : goal.returns-then-value-beyond-clause-value
 returns-then-value-beyond-clause-value c =
     let nonempty = eqb-false _ _ (sym c.is_empty.ensures ∙ c.if-is_empty.false) in
-    whole_above c.args.radix c.args.greatest c.args.text.now c.loop-byte.byte-index c.loop-byte.value c.loop-byte-test.false c.loop-byte.auto.byte-index-end (omega (arith, nonempty)) c.loop-byte.invariant.0
+    whole_above c.args.radix c.args.greatest c.args.text.now c.loop-byte.byte-index c.loop-byte.value c.loop-byte-test.false
+    c.loop-byte.auto.byte-index-end (omega (arith, nonempty)) c.loop-byte.invariant.0
     (rw c.from-beyond.ensures at c.loop-byte.invariant.1) (rw c.from-beyond.ensures at c.if-value-beyond.true)
 
 pub returns-clause-value : goal.returns-clause-value
 returns-clause-value c =
     let nonempty = eqb-false _ _ (sym c.is_empty.ensures ∙ c.if-is_empty.false) in
-    whole_in c.args.radix c.args.greatest c.args.text.now c.loop-byte.byte-index c.loop-byte.value c.loop-byte-test.false c.loop-byte.auto.byte-index-end (omega (arith, nonempty)) c.loop-byte.invariant.0
+    whole_in c.args.radix c.args.greatest c.args.text.now c.loop-byte.byte-index c.loop-byte.value c.loop-byte-test.false
+    c.loop-byte.auto.byte-index-end (omega (arith, nonempty)) c.loop-byte.invariant.0
     (rw c.from-beyond.ensures at c.loop-byte.invariant.1) (rw c.from-beyond.ensures at c.if-value-beyond.false)

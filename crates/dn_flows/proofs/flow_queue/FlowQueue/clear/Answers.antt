@@ -29,5 +29,9 @@ loop-self-preserved c =
     let takes = of-some c.pop_front.result c.loop-self.self.len _ some c.pop_front.ensures.none c.pop_front.ensures.takes in
     record {
       lies = lies-taken c.loop-self.store c.pop_front.new.store takes.0 c.loop-self.self c.pop_front.new.self c.loop-self.invariant.lies takes.1;
-      shortens = shortens-more c.args.store.now c.loop-self.store c.pop_front.new.store takes.0 c.args.self.now c.loop-self.self c.pop_front.new.self c.loop-self.invariant.shortens takes.1 (on-some c.pop_front.result c.loop-self.self.len _ some c.pop_front.ensures.none c.pop_front.ensures.len) c.pop_front.ensures.capacity;
+      shortens =
+          shortens-more c.args.store.now c.loop-self.store c.pop_front.new.store takes.0 c.args.self.now c.loop-self.self
+          c.pop_front.new.self c.loop-self.invariant.shortens takes.1
+          (on-some c.pop_front.result c.loop-self.self.len _ some c.pop_front.ensures.none c.pop_front.ensures.len)
+          c.pop_front.ensures.capacity;
     }

@@ -38,7 +38,9 @@ returns-clause-appends c = elim c.if-self-eq0.branch [
         absurd cc)
         ∙ c.insert_reserved-key.ensures.updates.changed
         ∙ ap Some c.new.ensures;
-    named = λ n some ne. ap (λ (s : Packets). get s c.args.self.now.back) w.store-is ∙ w.name_next.ensures.named ∙ ap (option_map (with_next c.insert_reserved-key.result)) (c.insert_reserved-key.ensures.updates.others c.args.self.now.back ne);
+    named =
+        λ n some ne. ap (λ (s : Packets). get s c.args.self.now.back) w.store-is ∙ w.name_next.ensures.named
+        ∙ ap (option_map (with_next c.insert_reserved-key.result)) (c.insert_reserved-key.ensures.updates.others c.args.self.now.back ne);
     others = λ other ne at. ap (λ (s : Packets). get s other) w.store-is ∙ w.name_next.ensures.others other (elim at [
       | inl none ↦ absurd (w.if-self-eq0.false none)
       | inr elsewhere ↦ elsewhere

@@ -12,24 +12,36 @@ use Rattle.dn_flows.proofs.flows.Flows.find_or_make.Goals as goal
 
 pub invariant_of-self-2 : goal.invariant_of-self-2
 invariant_of-self-2 c =
-    let items = c.push_reserved.ensures.items ∙ ap (λ (qs : List FlowQueue). qs ++ c.new-queue.result ∷ []) c.reserve.ensures.items ∙ ap (λ (q : FlowQueue). c.self.inside.queues.items ++ q ∷ []) c.new-queue.ensures in
+    let items =
+    c.push_reserved.ensures.items ∙ ap (λ (qs : List FlowQueue). qs ++ c.new-queue.result ∷ []) c.reserve.ensures.items
+    ∙ ap (λ (q : FlowQueue). c.self.inside.queues.items ++ q ∷ []) c.new-queue.ensures in
     let counts = c.push_reserved-2.ensures.items ∙ ap (λ (us : List Unsent). us ++ record { lost = 0; full = 0; discarded = 0 } ∷ []) c.reserve-2.ensures.items in
     let more-queues = ap (λ (qs : List FlowQueue). length qs) items ∙ length-more c.self.inside.queues.items new_queue in
     let more-counts = ap (λ (us : List Unsent). length us) counts ∙ length-more c.self.inside.unsent.items (record { lost = 0; full = 0; discarded = 0 }) in
     let before = c.self.invariant.3 in (
       search rules,
-      (c.self.invariant.1.0 ∙ (let more = sum-more reserved_one c.self.inside.queues.items new_queue in let goal : reservations c.self.inside.queues.items ≡ reservations (c.self.inside.queues.items ++ new_queue ∷ []) = omega arith in goal) ∙ ap reservations (sym items), c.self.invariant.1.1),
+      (
+        c.self.invariant.1.0 ∙ (let more = sum-more reserved_one c.self.inside.queues.items new_queue in let goal : reservations
+            c.self.inside.queues.items ≡ reservations (c.self.inside.queues.items ++ new_queue ∷ []) = omega arith in
+            goal) ∙ ap reservations (sym items),
+        c.self.invariant.1.1,
+      ),
       subst (AreStored c.self.inside.packets) (sym items) (added c.self.inside.packets c.self.inside.queues.items c.self.invariant.2),
       omega arith,
     )
 
 pub returns-clause-flows : goal.returns-clause-flows
 returns-clause-flows c =
-    let items = c.push_reserved.ensures.items ∙ ap (λ (qs : List FlowQueue). qs ++ c.new-queue.result ∷ []) c.reserve.ensures.items ∙ ap (λ (q : FlowQueue). c.self.inside.queues.items ++ q ∷ []) c.new-queue.ensures in
+    let items =
+    c.push_reserved.ensures.items ∙ ap (λ (qs : List FlowQueue). qs ++ c.new-queue.result ∷ []) c.reserve.ensures.items
+    ∙ ap (λ (q : FlowQueue). c.self.inside.queues.items ++ q ∷ []) c.new-queue.ensures in
     let counts = c.push_reserved-2.ensures.items ∙ ap (λ (us : List Unsent). us ++ record { lost = 0; full = 0; discarded = 0 } ∷ []) c.reserve-2.ensures.items in
     let unknown : is_known c.args.key c.self.inside.keys.keys ≡ false = search rules in
     let states = ap (map (state_of c.self.inside.packets)) items ∙ states_added c.self.inside.packets c.self.inside.queues.items in
-    let more = both-more (map (state_of c.self.inside.packets) c.self.inside.queues.items) c.self.inside.unsent.items new_flow (record { lost = 0; full = 0; discarded = 0 }) (c.self.invariant.3 ∙ sym (length-map c.self.inside.queues.items (state_of c.self.inside.packets))) in
+    let more =
+    both-more (map (state_of c.self.inside.packets) c.self.inside.queues.items) c.self.inside.unsent.items new_flow
+    (record { lost = 0; full = 0; discarded = 0 })
+    (c.self.invariant.3 ∙ sym (length-map c.self.inside.queues.items (state_of c.self.inside.packets))) in
     let seen = all_with_unsent (map (state_of c.self.inside.packets) c.self.inside.queues.items) c.self.inside.unsent.items in
     rw (← c.self.view_is) ((λ i. all_with_unsent (states i) (counts i)) ∙ more ∙ sym (ap (λ b. cond b seen (seen ++ new_flow ∷ [])) unknown))
 

@@ -21,8 +21,13 @@ invariant_of-self-else-queue c =
     let fewer-queues = ap (λ (qs : List FlowQueue). length qs) c.pop-3.ensures.rest ∙ length-take _ c.self.inside.queues.items in
     let counts-ok = c.self.inside.unsent.ok.0 in
     let queues-ok = c.self.inside.queues.ok.0 in
-    let before = c.self.invariant.3 in
-    (search rules, (omega arith, c.self.invariant.1.1), without-last c.self.inside.packets c.pop-3.new.self.items c.in-Some.queue (subst (AreStored c.self.inside.packets) items c.self.invariant.2), omega arith)
+    let before = c.self.invariant.3 in (
+      search rules,
+      (omega arith, c.self.invariant.1.1),
+      without-last c.self.inside.packets c.pop-3.new.self.items c.in-Some.queue
+          (subst (AreStored c.self.inside.packets) items c.self.invariant.2),
+      omega arith,
+    )
 
 -- the flow's place is let go
 pub invariant_of-self-2 : goal.invariant_of-self-2
@@ -36,8 +41,13 @@ invariant_of-self-2 c =
     let fewer-queues = ap (λ (qs : List FlowQueue). length qs) c.pop-3.ensures.rest ∙ length-take _ c.self.inside.queues.items in
     let counts-ok = c.self.inside.unsent.ok.0 in
     let queues-ok = c.self.inside.queues.ok.0 in
-    let before = c.self.invariant.3 in
-    (search rules, (omega arith, omega arith), without-last c.self.inside.packets c.pop-3.new.self.items c.in-Some.queue (subst (AreStored c.self.inside.packets) items c.self.invariant.2), omega arith)
+    let before = c.self.invariant.3 in (
+      search rules,
+      (omega arith, omega arith),
+      without-last c.self.inside.packets c.pop-3.new.self.items c.in-Some.queue
+          (subst (AreStored c.self.inside.packets) items c.self.invariant.2),
+      omega arith,
+    )
 
 -- the last flow is out
 pub returns-then-queue-clause-flows : goal.returns-then-queue-clause-flows
@@ -46,7 +56,9 @@ returns-then-queue-clause-flows c =
     let counts-ok = c.self.inside.unsent.ok.0 in
     let queues : vec_len c.self.inside.queues ≡ length c.self.inside.queues.items = omega arith in
     let counts : vec_len c.self.inside.unsent ≡ length c.self.inside.unsent.items = omega arith in
-    rw (← c.self.view_is) (last-out c.self.inside.packets c.self.inside.queues.items c.pop-3.new.self.items c.self.inside.unsent.items c.pop-2.new.self.items (c.pop-3.ensures.rest ∙ ap (λ n. take (n - 1) c.self.inside.queues.items) queues) (c.pop-2.ensures.rest ∙ ap (λ n. take (n - 1) c.self.inside.unsent.items) counts) c.self.invariant.3)
+    rw (← c.self.view_is) (last-out c.self.inside.packets c.self.inside.queues.items c.pop-3.new.self.items c.self.inside.unsent.items
+    c.pop-2.new.self.items (c.pop-3.ensures.rest ∙ ap (λ n. take (n - 1) c.self.inside.queues.items) queues)
+    (c.pop-2.ensures.rest ∙ ap (λ n. take (n - 1) c.self.inside.unsent.items) counts) c.self.invariant.3)
 
 pub returns-in_default-clause-flows : goal.returns-in_default-clause-flows
 returns-in_default-clause-flows c =
@@ -54,7 +66,10 @@ returns-in_default-clause-flows c =
     let counts-ok = c.self.inside.unsent.ok.0 in
     let queues : vec_len c.self.inside.queues ≡ length c.self.inside.queues.items = omega arith in
     let counts : vec_len c.self.inside.unsent ≡ length c.self.inside.unsent.items = omega arith in
-    let out = (last-out c.self.inside.packets c.self.inside.queues.items c.pop-3.new.self.items c.self.inside.unsent.items c.pop-2.new.self.items (c.pop-3.ensures.rest ∙ ap (λ n. take (n - 1) c.self.inside.queues.items) queues) (c.pop-2.ensures.rest ∙ ap (λ n. take (n - 1) c.self.inside.unsent.items) counts) c.self.invariant.3) in
+    let out =
+    (last-out c.self.inside.packets c.self.inside.queues.items c.pop-3.new.self.items c.self.inside.unsent.items c.pop-2.new.self.items
+    (c.pop-3.ensures.rest ∙ ap (λ n. take (n - 1) c.self.inside.queues.items) queues)
+    (c.pop-2.ensures.rest ∙ ap (λ n. take (n - 1) c.self.inside.unsent.items) counts) c.self.invariant.3) in
     rw (← c.self.view_is) (elim c.in_default.branch [
       | in_default-via-in-None-1 w ↦ ap (λ (t : Table). t.flows) w.self-is ∙ out
       | in_default-via-in-Some+else-queue w ↦ ap (λ (t : Table). t.flows) w.self-is ∙ out

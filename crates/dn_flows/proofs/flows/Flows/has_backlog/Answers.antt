@@ -20,7 +20,8 @@ returns-in-Some c =
     let read = found.1 ∙ ap (λ (qs : List FlowQueue). slice_index_or qs c.args.flow c.in-Some.queue.now) items in
     rw (← c.self.view_is) (ap (nat_lt 0)
     ((queue-is c.self.inside.packets c.self.inside.queues.items c.self.inside.unsent.items c.args.flow c.in-Some.queue.now c.self.invariant.2 within read).counts.many
-    ∙ ap (λ (ws : List Waiting). length ws) (sym (reads c.self.inside.packets c.self.inside.queues.items c.self.inside.unsent.items c.args.flow c.in-Some.queue.now c.self.invariant.2 within read).backlog)))
+    ∙ ap (λ (ws : List Waiting). length ws)
+    (sym (reads c.self.inside.packets c.self.inside.queues.items c.self.inside.unsent.items c.args.flow c.in-Some.queue.now c.self.invariant.2 within read).backlog)))
 
 -- No queue is there, and a new flow has no packet.
 pub returns-in-None : goal.returns-in-None
@@ -29,4 +30,5 @@ returns-in-None c =
     let items = c.deref.ensures.value in
     let many = as-many-flows c.self.inside.packets c.self.inside.queues.items c.self.inside.unsent.items in
     let as_long = ap {B = ℕ} (λ (qs : List FlowQueue). length qs) items in
-    rw (← c.self.view_is) (ap (λ (s : FlowState). nat_lt 0 (length s.backlog)) (sym (get_or_past (all_with_unsent (map (state_of c.self.inside.packets) c.self.inside.queues.items) c.self.inside.unsent.items) c.args.flow new_flow (omega arith))))
+    rw (← c.self.view_is) (ap (λ (s : FlowState). nat_lt 0 (length s.backlog))
+    (sym (get_or_past (all_with_unsent (map (state_of c.self.inside.packets) c.self.inside.queues.items) c.self.inside.unsent.items) c.args.flow new_flow (omega arith))))

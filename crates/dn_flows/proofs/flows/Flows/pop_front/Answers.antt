@@ -13,10 +13,14 @@ counts-after : {old new : Packets} {first : Waiting} {q q' : FlowQueue} → Take
 counts-after t = (ap (λ (x : FlowQueue). x.reserved) t.queue_is.2, ap (λ (x : FlowQueue). x.started + 1) t.queue_is.2)
 
 pub pop_front-requires-clause-held : goal.pop_front-requires-clause-held
-pop_front-requires-clause-held c = first-held c.self.inside.packets c.self.inside.queues.items c.self.inside.unsent.items c.args.flow c.index_mut-queue.result.now c.self.invariant.2 (rw (← c.self.view_is) at c.requires.within) c.index_mut-queue.ensures.value
+pop_front-requires-clause-held c =
+    first-held c.self.inside.packets c.self.inside.queues.items c.self.inside.unsent.items c.args.flow c.index_mut-queue.result.now
+    c.self.invariant.2 (rw (← c.self.view_is) at c.requires.within) c.index_mut-queue.ensures.value
 
 pub pop_front-requires-clause-bytes : goal.pop_front-requires-clause-bytes
-pop_front-requires-clause-bytes c = first-short c.self.inside.packets c.self.inside.queues.items c.self.inside.unsent.items c.args.flow c.index_mut-queue.result.now c.self.invariant.2 (rw (← c.self.view_is) at c.requires.within) c.index_mut-queue.ensures.value
+pop_front-requires-clause-bytes c =
+    first-short c.self.inside.packets c.self.inside.queues.items c.self.inside.unsent.items c.args.flow c.index_mut-queue.result.now
+    c.self.invariant.2 (rw (← c.self.view_is) at c.requires.within) c.index_mut-queue.ensures.value
 
 -- the first packet leaves the flow's chain
 pub invariant_of-self-2 : goal.invariant_of-self-2
@@ -26,15 +30,37 @@ invariant_of-self-2 c =
     let capacity = c.in_ok-first.ensures.capacity in (
       c.self.invariant.0 ∙ sym (length-set c.self.inside.queues.items c.args.flow _),
       (c.self.invariant.1.0 ∙ sym (same-reserved c.self.inside.packets c.self.inside.queues.items c.self.inside.unsent.items c.args.flow c.index_mut-queue.result.now c.self.invariant.2 (rw (← c.self.view_is) at c.requires.within) c.index_mut-queue.ensures.value (record { front = c.pop_front.new.self.front; back = c.pop_front.new.self.back; len = c.pop_front.new.self.len; bytes = c.pop_front.new.self.bytes; reserved = c.pop_front.new.self.reserved; started = c.pop_front.new.self.started + 1 }) (counts-after c.in_ok-first.ensures.takes).0), omega arith),
-      (popping c.self.inside.packets c.self.inside.queues.items c.self.inside.unsent.items c.args.flow c.index_mut-queue.result.now c.self.invariant.2 (rw (← c.self.view_is) at c.requires.within) c.index_mut-queue.ensures.value c.pop_front.new.store c.in_ok-first.first c.pop_front.new.self (record { front = c.pop_front.new.self.front; back = c.pop_front.new.self.back; len = c.pop_front.new.self.len; bytes = c.pop_front.new.self.bytes; reserved = c.pop_front.new.self.reserved; started = c.pop_front.new.self.started + 1 }) c.in_ok-first.ensures.takes (refl, refl, refl, refl) (counts-after c.in_ok-first.ensures.takes)).stored,
+      (popping c.self.inside.packets c.self.inside.queues.items c.self.inside.unsent.items c.args.flow c.index_mut-queue.result.now c.self.invariant.2 (rw (←
+          c.self.view_is) at c.requires.within) c.index_mut-queue.ensures.value c.pop_front.new.store c.in_ok-first.first c.pop_front.new.self (record {
+            front = c.pop_front.new.self.front;
+            back = c.pop_front.new.self.back;
+            len = c.pop_front.new.self.len;
+            bytes =
+                c.pop_front.new.self.bytes;
+            reserved = c.pop_front.new.self.reserved;
+            started = c.pop_front.new.self.started + 1;
+          }) c.in_ok-first.ensures.takes (refl, refl, refl, refl) (counts-after c.in_ok-first.ensures.takes)).stored,
       c.self.invariant.3 ∙ sym (length-set c.self.inside.queues.items c.args.flow _),
     )
 
 pub returns-clause-front : goal.returns-clause-front
-returns-clause-front c = rw (← c.self.view_is) (sym (front c.self.inside.packets c.self.inside.queues.items c.self.inside.unsent.items c.args.flow c.index_mut-queue.result.now c.self.invariant.2 (rw (← c.self.view_is) at c.requires.within) c.index_mut-queue.ensures.value c.pop_front.new.store c.in_ok-first.first c.pop_front.new.self c.in_ok-first.ensures.takes))
+returns-clause-front c =
+    rw (← c.self.view_is) (sym (front c.self.inside.packets c.self.inside.queues.items c.self.inside.unsent.items c.args.flow
+    c.index_mut-queue.result.now c.self.invariant.2 (rw (← c.self.view_is) at c.requires.within) c.index_mut-queue.ensures.value
+    c.pop_front.new.store c.in_ok-first.first c.pop_front.new.self c.in_ok-first.ensures.takes))
 
 pub returns-clause-flows : goal.returns-clause-flows
-returns-clause-flows c = rw (← c.self.view_is) (popping c.self.inside.packets c.self.inside.queues.items c.self.inside.unsent.items c.args.flow c.index_mut-queue.result.now c.self.invariant.2 (rw (← c.self.view_is) at c.requires.within) c.index_mut-queue.ensures.value c.pop_front.new.store c.in_ok-first.first c.pop_front.new.self (record { front = c.pop_front.new.self.front; back = c.pop_front.new.self.back; len = c.pop_front.new.self.len; bytes = c.pop_front.new.self.bytes; reserved = c.pop_front.new.self.reserved; started = c.pop_front.new.self.started + 1 }) c.in_ok-first.ensures.takes (refl, refl, refl, refl) (counts-after c.in_ok-first.ensures.takes)).states
+returns-clause-flows c =
+    rw (← c.self.view_is) (popping c.self.inside.packets c.self.inside.queues.items c.self.inside.unsent.items c.args.flow c.index_mut-queue.result.now c.self.invariant.2 (rw (←
+    c.self.view_is) at c.requires.within) c.index_mut-queue.ensures.value c.pop_front.new.store c.in_ok-first.first c.pop_front.new.self (record {
+      front = c.pop_front.new.self.front;
+      back = c.pop_front.new.self.back;
+      len = c.pop_front.new.self.len;
+      bytes =
+          c.pop_front.new.self.bytes;
+      reserved = c.pop_front.new.self.reserved;
+      started = c.pop_front.new.self.started + 1;
+    }) c.in_ok-first.ensures.takes (refl, refl, refl, refl) (counts-after c.in_ok-first.ensures.takes)).states
 
 pub index_mut-queue-requires : goal.index_mut-queue-requires
 index_mut-queue-requires c =
@@ -45,7 +71,9 @@ index_mut-queue-requires c =
 pub overflow_add-queue : goal.overflow_add-queue
 overflow_add-queue c =
     let count = rw (← c.self.view_is) at c.requires.count in
-    let before = (reads c.self.inside.packets c.self.inside.queues.items c.self.inside.unsent.items c.args.flow c.index_mut-queue.result.now c.self.invariant.2 (rw (← c.self.view_is) at c.requires.within) c.index_mut-queue.ensures.value).started in
+    let before =
+    (reads c.self.inside.packets c.self.inside.queues.items c.self.inside.unsent.items c.args.flow c.index_mut-queue.result.now
+    c.self.invariant.2 (rw (← c.self.view_is) at c.requires.within) c.index_mut-queue.ensures.value).started in
     let after = ap (λ (x : FlowQueue). x.started) c.in_ok-first.ensures.takes.queue_is.2 in
     omega arith
 
@@ -53,7 +81,13 @@ overflow_add-queue c =
 pub returns-in_err-first-clause-front : goal.returns-in_err-first-clause-front
 returns-in_err-first-clause-front c =
     let none : c.from_residual.result ≡ None = search rules in
-    rw (← c.self.view_is) (none ∙ sym (none-waits c.self.inside.packets c.self.inside.queues.items c.self.inside.unsent.items c.args.flow c.index_mut-queue.result.now c.self.invariant.2 (rw (← c.self.view_is) at c.requires.within) c.index_mut-queue.ensures.value c.in_err-first.ensures.none))
+    rw (← c.self.view_is) (none ∙ sym (none-waits c.self.inside.packets c.self.inside.queues.items c.self.inside.unsent.items c.args.flow
+    c.index_mut-queue.result.now c.self.invariant.2 (rw (← c.self.view_is) at c.requires.within) c.index_mut-queue.ensures.value
+    c.in_err-first.ensures.none))
 
 pub returns-in_err-first-clause-flows : goal.returns-in_err-first-clause-flows
-returns-in_err-first-clause-flows c = rw (← c.self.view_is) (resting c.self.inside.packets c.self.inside.queues.items c.self.inside.unsent.items c.args.flow c.index_mut-queue.result.now c.self.invariant.2 (rw (← c.self.view_is) at c.requires.within) c.index_mut-queue.ensures.value c.pop_front.new.store c.pop_front.new.self c.in_err-first.ensures.keeps_store c.in_err-first.ensures.keeps_queue c.in_err-first.ensures.none).states
+returns-in_err-first-clause-flows c =
+    rw (← c.self.view_is) (resting c.self.inside.packets c.self.inside.queues.items c.self.inside.unsent.items c.args.flow
+    c.index_mut-queue.result.now c.self.invariant.2 (rw (← c.self.view_is) at c.requires.within) c.index_mut-queue.ensures.value
+    c.pop_front.new.store c.pop_front.new.self c.in_err-first.ensures.keeps_store c.in_err-first.ensures.keeps_queue
+    c.in_err-first.ensures.none).states

@@ -8,13 +8,17 @@ use Rattle.dn_flows.proofs.packet_store.PacketStore.insert_reserved.Goals as goa
 -- the last of the free keys is that of a place
 pub index_mut-requires : goal.index_mut-requires
 index_mut-requires c =
-    let below = there c.pop.new.self.items c.in-Some.key (length c.self.inside.places.items) (subst (λ (l : List ℕ). AreFree l (length c.self.inside.places.items)) c.in-Some.ensures.items c.self.invariant.0) in
+    let below =
+    there c.pop.new.self.items c.in-Some.key (length c.self.inside.places.items)
+    (subst (λ (l : List ℕ). AreFree l (length c.self.inside.places.items)) c.in-Some.ensures.items c.self.invariant.0) in
     let ok = c.self.inside.places.ok.0 in
     omega arith
 
 pub invariant_of-self : goal.invariant_of-self
 invariant_of-self c =
-    let are = still-free c.pop.new.self.items c.in-Some.key (length c.self.inside.places.items) (subst (λ (l : List ℕ). AreFree l (length c.self.inside.places.items)) c.in-Some.ensures.items c.self.invariant.0) in
+    let are =
+    still-free c.pop.new.self.items c.in-Some.key (length c.self.inside.places.items)
+    (subst (λ (l : List ℕ). AreFree l (length c.self.inside.places.items)) c.in-Some.ensures.items c.self.invariant.0) in
     let same = length-set c.self.inside.places.items c.in-Some.key c.args.stored in
     let fewer = c.in-Some.ensures.len in
     let ok = c.self.inside.free.ok.0 in
@@ -27,7 +31,10 @@ pub returns-in-Some-clause-updates : goal.returns-in-Some-clause-updates
 returns-in-Some-clause-updates c =
     let are = subst (λ (l : List ℕ). AreFree l (length c.self.inside.places.items)) c.in-Some.ensures.items c.self.invariant.0 in
     rw (← c.self.view_is) (record {
-      changed = put-here c.pop.new.self.items c.self.inside.places.items c.in-Some.key c.args.stored (not-free-now c.pop.new.self.items c.in-Some.key (length c.self.inside.places.items) are) (there c.pop.new.self.items c.in-Some.key (length c.self.inside.places.items) are);
+      changed =
+          put-here c.pop.new.self.items c.self.inside.places.items c.in-Some.key c.args.stored
+          (not-free-now c.pop.new.self.items c.in-Some.key (length c.self.inside.places.items) are)
+          (there c.pop.new.self.items c.in-Some.key (length c.self.inside.places.items) are);
       others = λ other ne.
           put-elsewhere c.pop.new.self.items c.self.inside.places.items c.in-Some.key other c.args.stored ne
           ∙ sym (ap (λ (l : List ℕ). under l c.self.inside.places.items other) c.in-Some.ensures.items ∙ same-but c.pop.new.self.items c.self.inside.places.items c.in-Some.key other ne);
@@ -41,7 +48,8 @@ returns-clause-was_free c =
     let cases = c.in_default.ensures.cases in
     let none = none-left c.self.inside.free.items (omega arith) in
     let place : c.len-key.result ≡ length c.self.inside.places.items = (let e = c.len-key.ensures in omega arith) in
-    rw (← c.self.view_is) (under-all c.self.inside.free.items c.self.inside.places.items c.len-key.result none ∙ ap (slice_get c.self.inside.places.items) place ∙ none-at-end c.self.inside.places.items)
+    rw (← c.self.view_is)
+    (under-all c.self.inside.free.items c.self.inside.places.items c.len-key.result none ∙ ap (slice_get c.self.inside.places.items) place ∙ none-at-end c.self.inside.places.items)
 
 pub returns-clause-updates : goal.returns-clause-updates
 returns-clause-updates c =

@@ -23,7 +23,9 @@ index-requires c =
 pub invariant_of-self : goal.invariant_of-self
 invariant_of-self c =
     let here = is-used c.self.inside.free.items c.self.inside.places.items c.args.key (rw (← c.self.view_is) at c.requires) in
-    let are = subst (λ (l : List ℕ). AreFree l (length c.self.inside.places.items)) (sym c.push_reserved.ensures.items) (one-more-free c.self.inside.free.items c.args.key (length c.self.inside.places.items) c.self.invariant.0 here.within here.used) in
+    let are =
+    subst (λ (l : List ℕ). AreFree l (length c.self.inside.places.items)) (sym c.push_reserved.ensures.items)
+    (one-more-free c.self.inside.free.items c.args.key (length c.self.inside.places.items) c.self.invariant.0 here.within here.used) in
     let fewer = no-more-than-places c.push_reserved.new.self.items (length c.self.inside.places.items) are in
     let capacity = c.push_reserved.ensures.capacity in
     let invariant = c.self.invariant in

@@ -6,11 +6,13 @@ use Rattle.dn_link.proofs.delay_line.DelayLine.pop_due.Goals as goal
 
 pub returns-then-is_due-clause-value : goal.returns-then-is_due-clause-value
 returns-then-is_due-clause-value c =
-    rw (← c.self.view_is) (pop_gives c.args.at c.pop.result c.self.inside.heap.keys c.pop.new.self.keys (sym c.is_due.ensures ∙ c.if-is_due.true) c.pop.ensures.some.1 c.pop.ensures.keys c.pop.ensures.least).0
+    rw (← c.self.view_is)
+    (pop_gives c.args.at c.pop.result c.self.inside.heap.keys c.pop.new.self.keys (sym c.is_due.ensures ∙ c.if-is_due.true) c.pop.ensures.some.1 c.pop.ensures.keys c.pop.ensures.least).0
 
 pub returns-then-is_due-clause-pending : goal.returns-then-is_due-clause-pending
 returns-then-is_due-clause-pending c =
-    rw (← c.self.view_is) (pop_gives c.args.at c.pop.result c.self.inside.heap.keys c.pop.new.self.keys (sym c.is_due.ensures ∙ c.if-is_due.true) c.pop.ensures.some.1 c.pop.ensures.keys c.pop.ensures.least).1
+    rw (← c.self.view_is)
+    (pop_gives c.args.at c.pop.result c.self.inside.heap.keys c.pop.new.self.keys (sym c.is_due.ensures ∙ c.if-is_due.true) c.pop.ensures.some.1 c.pop.ensures.keys c.pop.ensures.least).1
 
 pub returns-else-is_due-clause-none_due : goal.returns-else-is_due-clause-none_due
 returns-else-is_due-clause-none_due c =

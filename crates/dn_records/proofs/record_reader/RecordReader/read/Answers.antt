@@ -24,7 +24,8 @@ returns-clause-ok c =
     let a = c.self.inside.reader in
     let reading = c.self.invariant c.if-self.false in
     let e = c.in-Ok.ensures in
-    rw (← c.self.view_is, c.if-self.false) ((reads a c.read_byte_record.new.self c.in-Ok.found (fields_of c.read_byte_record.new.row) reading (e.ready reading.plain) e.flexible (e.reads reading.plain reading.ready)).0)
+    rw (← c.self.view_is, c.if-self.false)
+    ((reads a c.read_byte_record.new.self c.in-Ok.found (fields_of c.read_byte_record.new.row) reading (e.ready reading.plain) e.flexible (e.reads reading.plain reading.ready)).0)
 
 pub returns-clause-shorter : goal.returns-clause-shorter
 returns-clause-shorter c = shorter c.args.self.now _ c.in-Ok.found (fields_of c.read_byte_record.new.row) (returns-clause-ok c)

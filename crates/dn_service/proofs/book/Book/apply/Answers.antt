@@ -24,7 +24,8 @@ copy_of-copy-requires-clause-room c =
     let calls : List Call = calls_of pages.history.items in
     let d : ℕ = vec_capacity c.reserve-2.new.self.deliveries in
     let s : ℕ = vec_capacity c.reserve-2.new.self.statuses in
-    subst (FitsRoom d s) (sym (c.in_ok-reply.ensures.ok Ordered calls kept.1).0) (room_for Ordered calls c.args.call c.reply_room.result d s (c.reply_room.ensures.room Ordered calls kept.1 c.args.call) c.in_ok-reserve-2.ensures.room)
+    subst (FitsRoom d s) (sym (c.in_ok-reply.ensures.ok Ordered calls kept.1).0)
+    (room_for Ordered calls c.args.call c.reply_room.result d s (c.reply_room.ensures.room Ordered calls kept.1 c.args.call) c.in_ok-reserve-2.ensures.room)
 
 -- with the new entry the history is lawful, and the shaper stands after its calls
 pub invariant_of-self-2 : goal.invariant_of-self-2

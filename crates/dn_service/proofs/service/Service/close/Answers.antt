@@ -20,7 +20,9 @@ unreachable-requires c =
     let cs = c.args.callers.items in let is = c.take_in.ensures.seat in let told = c.in_default-enter.ensures.taken in
     let count : c.take_in.new.seat.me.0.count ≡ c.self.inside.count = ap (λ x. x.0.count) is ∙ ap (λ x. x.0.count) c.self.invariant.waits in
     let less = told.1 in
-    let there : has_number c.in_default-enter.field-0 cs ≡ true = subst (λ xs. has_number c.in_default-enter.field-0 xs ≡ true) c.as_slice.ensures.value (c.in_default.ensures c.in_default-enter.field-0 (omega arith)) in
+    let there : has_number c.in_default-enter.field-0 cs ≡ true =
+    subst (λ xs. has_number c.in_default-enter.field-0 xs ≡ true) c.as_slice.ensures.value
+    (c.in_default.ensures c.in_default-enter.field-0 (omega arith)) in
     told.2 (subst (Has c.in_default-enter.field-0) (sym (ap (λ x. x.0.accounts) is)) (account_there c.in_default-enter.field-0 cs there))
 
 pub returns-clause-ok : goal.returns-clause-ok

@@ -3,22 +3,38 @@ use Rattle.dn_wf2q.proofs.Arrived.{last_fits, arrives, busy_kept, idle_kept}
 use Rattle.dn_wf2q.proofs.sched_parts.SchedParts.arrive.Goals as goal
 
 pub append-head-requires-clause-last_finish_tag : goal.append-head-requires-clause-last_finish_tag
-append-head-requires-clause-last_finish_tag c = last_fits c.args.self.now c.requires.kept c.args.slot c.args.len c.args.weight (omega arith) c.requires.some c.requires.in_range c.requires.room c.index_mut-q.result.now c.index_mut-q.ensures.value
+append-head-requires-clause-last_finish_tag c =
+    last_fits c.args.self.now c.requires.kept c.args.slot c.args.len c.args.weight (omega arith) c.requires.some c.requires.in_range
+    c.requires.room c.index_mut-q.result.now c.index_mut-q.ensures.value
 
 -- The queue was empty.
 pub enter-requires : goal.enter-requires
 enter-requires c = record {
-  kept = idle_kept c.args.self.now c.requires.kept c.args.slot c.args.len c.args.weight (omega arith) c.requires.some c.requires.in_range c.requires.room c.index_mut-q.result.now c.index_mut-q.ensures.value c.append-head.new.self c.append-head.ensures.packets c.append-head.ensures.last_finish_tag c.append-head.ensures.arrived c.in-Some.head c.requires.few (sym c.append-head.ensures.head ∙ c.in-Some.is);
+  kept =
+      idle_kept c.args.self.now c.requires.kept c.args.slot c.args.len c.args.weight (omega arith) c.requires.some c.requires.in_range
+      c.requires.room c.index_mut-q.result.now c.index_mut-q.ensures.value c.append-head.new.self c.append-head.ensures.packets
+      c.append-head.ensures.last_finish_tag c.append-head.ensures.arrived c.in-Some.head c.requires.few
+      (sym c.append-head.ensures.head ∙ c.in-Some.is);
 }
 
 pub returns-in-Some-clause-arrived : goal.returns-in-Some-clause-arrived
 returns-in-Some-clause-arrived c =
     let s = c.enter.ensures.same in
-    arrives c.args.self.now c.requires.kept c.args.slot c.args.len c.args.weight (omega arith) c.requires.some c.requires.in_range c.requires.room c.index_mut-q.result.now c.index_mut-q.ensures.value c.append-head.new.self c.append-head.ensures.packets c.append-head.ensures.last_finish_tag c.append-head.ensures.arrived c.enter.new.self (rw s.flows refl) s.busy_from s.virtual_time s.arrivals s.picks
+    arrives c.args.self.now c.requires.kept c.args.slot c.args.len c.args.weight (omega arith) c.requires.some c.requires.in_range
+    c.requires.room c.index_mut-q.result.now c.index_mut-q.ensures.value c.append-head.new.self c.append-head.ensures.packets
+    c.append-head.ensures.last_finish_tag c.append-head.ensures.arrived c.enter.new.self (rw s.flows refl) s.busy_from s.virtual_time
+    s.arrivals s.picks
 
 -- Packets waited already.
 pub returns-in_default-clause-arrived : goal.returns-in_default-clause-arrived
-returns-in_default-clause-arrived c = arrives c.args.self.now c.requires.kept c.args.slot c.args.len c.args.weight (omega arith) c.requires.some c.requires.in_range c.requires.room c.index_mut-q.result.now c.index_mut-q.ensures.value c.append-head.new.self c.append-head.ensures.packets c.append-head.ensures.last_finish_tag c.append-head.ensures.arrived _ refl refl refl refl refl
+returns-in_default-clause-arrived c =
+    arrives c.args.self.now c.requires.kept c.args.slot c.args.len c.args.weight (omega arith) c.requires.some c.requires.in_range
+    c.requires.room c.index_mut-q.result.now c.index_mut-q.ensures.value c.append-head.new.self c.append-head.ensures.packets
+    c.append-head.ensures.last_finish_tag c.append-head.ensures.arrived _ refl refl refl refl refl
 
 pub returns-in_default-clause-kept : goal.returns-in_default-clause-kept
-returns-in_default-clause-kept c = busy_kept c.args.self.now c.requires.kept c.args.slot c.args.len c.args.weight (omega arith) c.requires.some c.requires.in_range c.requires.room c.index_mut-q.result.now c.index_mut-q.ensures.value c.append-head.new.self c.append-head.ensures.packets c.append-head.ensures.last_finish_tag c.append-head.ensures.arrived c.requires.few (sym c.append-head.ensures.head ∙ c.in_default.is)
+returns-in_default-clause-kept c =
+    busy_kept c.args.self.now c.requires.kept c.args.slot c.args.len c.args.weight (omega arith) c.requires.some c.requires.in_range
+    c.requires.room c.index_mut-q.result.now c.index_mut-q.ensures.value c.append-head.new.self c.append-head.ensures.packets
+    c.append-head.ensures.last_finish_tag c.append-head.ensures.arrived c.requires.few
+    (sym c.append-head.ensures.head ∙ c.in_default.is)

@@ -8,27 +8,45 @@ pub returns-then-len-slot-clause-discarded : goal.returns-then-len-slot-clause-d
 returns-then-len-slot-clause-discarded c = beyond c.args.self.now c.args.slot (omega (arith, c.args.self.now.flows.ok.0))
 
 pub overflow_sub-self : goal.overflow_sub-self
-overflow_sub-self c = weighs c.args.self.now c.requires.kept c.args.slot (omega (arith, c.args.self.now.flows.ok.0)) c.index_mut-q.result.now c.index_mut-q.ensures.value c.clear.new.self c.clear.ensures.packets c.clear.ensures.last_finish_tag c.clear.ensures.arrived c.clear.ensures.room c.in-Some.head (sym c.head-head.ensures.head ∙ c.in-Some.is)
+overflow_sub-self c =
+    weighs c.args.self.now c.requires.kept c.args.slot (omega (arith, c.args.self.now.flows.ok.0)) c.index_mut-q.result.now
+    c.index_mut-q.ensures.value c.clear.new.self c.clear.ensures.packets c.clear.ensures.last_finish_tag c.clear.ensures.arrived
+    c.clear.ensures.room c.in-Some.head (sym c.head-head.ensures.head ∙ c.in-Some.is)
 
 -- No packet waited.
 pub returns-in_default-clause-discarded : goal.returns-in_default-clause-discarded
-returns-in_default-clause-discarded c = discards c.args.self.now c.requires.kept c.args.slot (omega (arith, c.args.self.now.flows.ok.0)) c.index_mut-q.result.now c.index_mut-q.ensures.value c.clear.new.self c.clear.ensures.packets c.clear.ensures.last_finish_tag c.clear.ensures.arrived c.clear.ensures.room _ refl refl refl refl refl refl
+returns-in_default-clause-discarded c =
+    discards c.args.self.now c.requires.kept c.args.slot (omega (arith, c.args.self.now.flows.ok.0)) c.index_mut-q.result.now
+    c.index_mut-q.ensures.value c.clear.new.self c.clear.ensures.packets c.clear.ensures.last_finish_tag c.clear.ensures.arrived
+    c.clear.ensures.room _ refl refl refl refl refl refl
 
 pub returns-in_default-clause-kept : goal.returns-in_default-clause-kept
-returns-in_default-clause-kept c = idle_left c.args.self.now c.requires.kept c.args.slot (omega (arith, c.args.self.now.flows.ok.0)) c.index_mut-q.result.now c.index_mut-q.ensures.value c.clear.new.self c.clear.ensures.packets c.clear.ensures.last_finish_tag c.clear.ensures.arrived c.clear.ensures.room (next_is_none c.index_mut-q.result.now.packets.items (sym c.head-head.ensures.head ∙ c.in_default.is))
+returns-in_default-clause-kept c =
+    idle_left c.args.self.now c.requires.kept c.args.slot (omega (arith, c.args.self.now.flows.ok.0)) c.index_mut-q.result.now
+    c.index_mut-q.ensures.value c.clear.new.self c.clear.ensures.packets c.clear.ensures.last_finish_tag c.clear.ensures.arrived
+    c.clear.ensures.room (next_is_none c.index_mut-q.result.now.packets.items (sym c.head-head.ensures.head ∙ c.in_default.is))
 
 -- The head stood in the waiting heap.
 pub returns-then-take_out-clause-discarded : goal.returns-then-take_out-clause-discarded
-returns-then-take_out-clause-discarded c = discards c.args.self.now c.requires.kept c.args.slot (omega (arith, c.args.self.now.flows.ok.0)) c.index_mut-q.result.now c.index_mut-q.ensures.value c.clear.new.self c.clear.ensures.packets c.clear.ensures.last_finish_tag c.clear.ensures.arrived c.clear.ensures.room _ refl refl refl refl refl (ap (λ m. c.args.self.now.eligible.moves + m) c.take_out.ensures.keeps_moves)
+returns-then-take_out-clause-discarded c =
+    discards c.args.self.now c.requires.kept c.args.slot (omega (arith, c.args.self.now.flows.ok.0)) c.index_mut-q.result.now
+    c.index_mut-q.ensures.value c.clear.new.self c.clear.ensures.packets c.clear.ensures.last_finish_tag c.clear.ensures.arrived
+    c.clear.ensures.room _ refl refl refl refl refl (ap (λ m. c.args.self.now.eligible.moves + m) c.take_out.ensures.keeps_moves)
 
 pub returns-then-take_out-clause-kept : goal.returns-then-take_out-clause-kept
 returns-then-take_out-clause-kept c =
     let t = c.take_out.ensures.taken c.if-take_out.true in
-    waiting_left c.args.self.now c.requires.kept c.args.slot (omega (arith, c.args.self.now.flows.ok.0)) c.index_mut-q.result.now c.index_mut-q.ensures.value c.clear.new.self c.clear.ensures.packets c.clear.ensures.last_finish_tag c.clear.ensures.arrived c.clear.ensures.room c.in-Some.head (sym c.head-head.ensures.head ∙ c.in-Some.is) c.new.result t.0 c.take_out.new.self c.new.ensures.value t.1 t.2 c.take_out.ensures.keeps_moves (c.take_out.ensures.room c.if-take_out.true)
+    waiting_left c.args.self.now c.requires.kept c.args.slot (omega (arith, c.args.self.now.flows.ok.0)) c.index_mut-q.result.now
+    c.index_mut-q.ensures.value c.clear.new.self c.clear.ensures.packets c.clear.ensures.last_finish_tag c.clear.ensures.arrived
+    c.clear.ensures.room c.in-Some.head (sym c.head-head.ensures.head ∙ c.in-Some.is) c.new.result t.0 c.take_out.new.self
+    c.new.ensures.value t.1 t.2 c.take_out.ensures.keeps_moves (c.take_out.ensures.room c.if-take_out.true)
 
 -- It stood in the eligible one.
 pub returns-clause-discarded : goal.returns-clause-discarded
-returns-clause-discarded c = discards c.args.self.now c.requires.kept c.args.slot (omega (arith, c.args.self.now.flows.ok.0)) c.index_mut-q.result.now c.index_mut-q.ensures.value c.clear.new.self c.clear.ensures.packets c.clear.ensures.last_finish_tag c.clear.ensures.arrived c.clear.ensures.room _ refl refl refl refl refl (omega (arith, c.take_out.ensures.keeps_moves, c.take_out-2.ensures.keeps_moves))
+returns-clause-discarded c =
+    discards c.args.self.now c.requires.kept c.args.slot (omega (arith, c.args.self.now.flows.ok.0)) c.index_mut-q.result.now
+    c.index_mut-q.ensures.value c.clear.new.self c.clear.ensures.packets c.clear.ensures.last_finish_tag c.clear.ensures.arrived
+    c.clear.ensures.room _ refl refl refl refl refl (omega (arith, c.take_out.ensures.keeps_moves, c.take_out-2.ensures.keeps_moves))
 
 pub returns-clause-kept : goal.returns-clause-kept
 returns-clause-kept c =
@@ -37,6 +55,12 @@ returns-clause-kept c =
     rw same (elim (cases_Bool c.take_out-2.result) [
       | inl y ↦
           let t = c.take_out-2.ensures.taken y in
-          eligible_left c.args.self.now c.requires.kept c.args.slot (omega (arith, c.args.self.now.flows.ok.0)) c.index_mut-q.result.now c.index_mut-q.ensures.value c.clear.new.self c.clear.ensures.packets c.clear.ensures.last_finish_tag c.clear.ensures.arrived c.clear.ensures.room c.in-Some.head (sym c.head-head.ensures.head ∙ c.in-Some.is) c.new-2.result t.0 c.take_out-2.new.self c.new-2.ensures.value t.1 t.2 c.take_out-2.ensures.keeps_moves (c.take_out-2.ensures.room y)
-      | inr n ↦ absurd (not_both c.args.self.now c.requires.kept c.args.slot (omega (arith, c.args.self.now.flows.ok.0)) c.index_mut-q.result.now c.index_mut-q.ensures.value c.clear.new.self c.clear.ensures.packets c.clear.ensures.last_finish_tag c.clear.ensures.arrived c.clear.ensures.room c.in-Some.head (sym c.head-head.ensures.head ∙ c.in-Some.is) c.new.result c.new-2.result c.new.ensures.value c.new-2.ensures.value nw (c.take_out-2.ensures.absent n))
+          eligible_left c.args.self.now c.requires.kept c.args.slot (omega (arith, c.args.self.now.flows.ok.0)) c.index_mut-q.result.now
+          c.index_mut-q.ensures.value c.clear.new.self c.clear.ensures.packets c.clear.ensures.last_finish_tag c.clear.ensures.arrived
+          c.clear.ensures.room c.in-Some.head (sym c.head-head.ensures.head ∙ c.in-Some.is) c.new-2.result t.0 c.take_out-2.new.self
+          c.new-2.ensures.value t.1 t.2 c.take_out-2.ensures.keeps_moves (c.take_out-2.ensures.room y)
+      | inr n ↦ absurd (not_both c.args.self.now c.requires.kept c.args.slot (omega (arith, c.args.self.now.flows.ok.0))
+          c.index_mut-q.result.now c.index_mut-q.ensures.value c.clear.new.self c.clear.ensures.packets c.clear.ensures.last_finish_tag
+          c.clear.ensures.arrived c.clear.ensures.room c.in-Some.head (sym c.head-head.ensures.head ∙ c.in-Some.is) c.new.result
+          c.new-2.result c.new.ensures.value c.new-2.ensures.value nw (c.take_out-2.ensures.absent n))
     ])

@@ -26,7 +26,11 @@ push_reserved-requires-else-head-self-clause-reserved c = (enter_room c.args.slo
 -- The head is eligible.
 pub returns-then-head-self-clause-kept : goal.returns-then-head-self-clause-kept
 returns-then-head-self-clause-kept c = record {
-  kept = entered_eligible c.args.slot (tagged c.args.slot c.args.head) c.requires.kept.0.kept c.requires.kept.1 c.new.result c.push_reserved.new.self (grind (arith, nat_tests)) (ap (λ (r : RankView). r.slot) c.new.ensures.value) (ap (λ (r : RankView). r.tag) c.new.ensures.value) c.push_reserved.ensures.keys c.push_reserved.ensures.moves c.push_reserved.ensures.room;
+  kept =
+      entered_eligible c.args.slot (tagged c.args.slot c.args.head) c.requires.kept.0.kept c.requires.kept.1 c.new.result
+      c.push_reserved.new.self (grind (arith, nat_tests)) (ap (λ (r : RankView). r.slot) c.new.ensures.value)
+      (ap (λ (r : RankView). r.tag) c.new.ensures.value) c.push_reserved.ensures.keys c.push_reserved.ensures.moves
+      c.push_reserved.ensures.room;
   few = c.requires.kept.0.few;
   began = c.requires.kept.0.began;
   arrived = c.requires.kept.0.arrived;
@@ -34,7 +38,11 @@ returns-then-head-self-clause-kept c = record {
 
 pub returns-else-head-self-clause-kept : goal.returns-else-head-self-clause-kept
 returns-else-head-self-clause-kept c = record {
-  kept = entered_waiting c.args.slot (tagged c.args.slot c.args.head) c.requires.kept.0.kept c.requires.kept.1 c.new-else-head-self.result c.push_reserved-else-head-self.new.self (ap (λ (r : RankView). r.slot) c.new-else-head-self.ensures.value) (ap (λ (r : RankView). r.tag) c.new-else-head-self.ensures.value) c.push_reserved-else-head-self.ensures.keys c.push_reserved-else-head-self.ensures.moves c.push_reserved-else-head-self.ensures.room;
+  kept =
+      entered_waiting c.args.slot (tagged c.args.slot c.args.head) c.requires.kept.0.kept c.requires.kept.1 c.new-else-head-self.result
+      c.push_reserved-else-head-self.new.self (ap (λ (r : RankView). r.slot) c.new-else-head-self.ensures.value)
+      (ap (λ (r : RankView). r.tag) c.new-else-head-self.ensures.value) c.push_reserved-else-head-self.ensures.keys
+      c.push_reserved-else-head-self.ensures.moves c.push_reserved-else-head-self.ensures.room;
   few = c.requires.kept.0.few;
   began = c.requires.kept.0.began;
   arrived = c.requires.kept.0.arrived;

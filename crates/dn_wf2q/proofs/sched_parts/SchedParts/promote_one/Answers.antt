@@ -28,7 +28,10 @@ returns-in-Some-pop-clause-kept c =
     let low = (not_before k top (All-contains (λ y. is_lt (rank_cmp y k) ≡ false) c.args.self.now.waiting.keys top c.in-Some-pop.ensures.least c.in-Some.ensures.held)).0 in
     let tag = c.tag.ensures.value in
     let e = c.new.ensures.value in
-    moved c.args.self.now c.requires.kept k c.slot-slot.result c.slot-slot.ensures.value c.pop.new.self c.in-Some-pop.ensures.keys c.index.result.now c.index.ensures c.front-finish_tag.result c.new.result c.push_reserved.new.self c.front-finish_tag.ensures.head (omega arith) (ap (λ (x : RankView). x.slot) e) (ap (λ (x : RankView). x.tag) e) c.push_reserved.ensures.keys c.push_reserved.ensures.room c.push_reserved.ensures.moves c.in-Some-pop.ensures.room c.pop.ensures.keeps_moves
+    moved c.args.self.now c.requires.kept k c.slot-slot.result c.slot-slot.ensures.value c.pop.new.self c.in-Some-pop.ensures.keys
+    c.index.result.now c.index.ensures c.front-finish_tag.result c.new.result c.push_reserved.new.self c.front-finish_tag.ensures.head
+    (omega arith) (ap (λ (x : RankView). x.slot) e) (ap (λ (x : RankView). x.tag) e) c.push_reserved.ensures.keys
+    c.push_reserved.ensures.room c.push_reserved.ensures.moves c.in-Some-pop.ensures.room c.pop.ensures.keeps_moves
 
 pub returns-in-Some-pop-clause-fewer : goal.returns-in-Some-pop-clause-fewer
 returns-in-Some-pop-clause-fewer c = λ e. let l = length_permutation _ _ c.in-Some-pop.ensures.keys in omega (arith, l)

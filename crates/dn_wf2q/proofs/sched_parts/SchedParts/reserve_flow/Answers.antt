@@ -4,22 +4,38 @@ use Rattle.dn_wf2q.proofs.sched_parts.SchedParts.reserve_flow.Goals as goal
 
 -- There is a queue at the slot.
 pub returns-then-slot-len-clause-succeeds : goal.returns-then-slot-len-clause-succeeds
-returns-then-slot-len-clause-succeeds c = λ h. c.reserve_place.ensures.succeeds (has_place c.args.self.now c.requires.kept c.args.slot (omega (arith, c.args.self.now.flows.ok.0)) c.index_mut.result.now c.index_mut.ensures.value h)
+returns-then-slot-len-clause-succeeds c =
+    λ h. c.reserve_place.ensures.succeeds
+    (has_place c.args.self.now c.requires.kept c.args.slot (omega (arith, c.args.self.now.flows.ok.0)) c.index_mut.result.now c.index_mut.ensures.value h)
 
 pub returns-then-slot-len-clause-reserves : goal.returns-then-slot-len-clause-reserves
-returns-then-slot-len-clause-reserves c = reserves_same c.args.self.now c.requires.kept c.args.slot (omega (arith, c.args.self.now.flows.ok.0)) c.index_mut.result.now c.index_mut.ensures.value c.reserve_place.new.self c.reserve_place.ensures.packets c.reserve_place.ensures.last_finish_tag c.reserve_place.ensures.arrived c.reserve_place.ensures.room _ refl refl refl refl refl refl
+returns-then-slot-len-clause-reserves c =
+    reserves_same c.args.self.now c.requires.kept c.args.slot (omega (arith, c.args.self.now.flows.ok.0)) c.index_mut.result.now
+    c.index_mut.ensures.value c.reserve_place.new.self c.reserve_place.ensures.packets c.reserve_place.ensures.last_finish_tag
+    c.reserve_place.ensures.arrived c.reserve_place.ensures.room _ refl refl refl refl refl refl
 
 pub returns-then-slot-len-clause-ok : goal.returns-then-slot-len-clause-ok
-returns-then-slot-len-clause-ok c = on_ok_always c.reserve_place.result _ (flows_same c.args.self.now c.requires.kept c.args.slot (omega (arith, c.args.self.now.flows.ok.0)) c.index_mut.result.now c.index_mut.ensures.value c.reserve_place.new.self c.reserve_place.ensures.packets c.reserve_place.ensures.last_finish_tag c.reserve_place.ensures.arrived c.reserve_place.ensures.room ∙ sym (padded_same c.args.self.now c.requires.kept c.args.slot (omega (arith, c.args.self.now.flows.ok.0)) c.index_mut.result.now c.index_mut.ensures.value c.reserve_place.new.self c.reserve_place.ensures.packets c.reserve_place.ensures.last_finish_tag c.reserve_place.ensures.arrived c.reserve_place.ensures.room))
+returns-then-slot-len-clause-ok c =
+    on_ok_always c.reserve_place.result _ (flows_same c.args.self.now c.requires.kept c.args.slot (omega (arith, c.args.self.now.flows.ok.0)) c.index_mut.result.now c.index_mut.ensures.value c.reserve_place.new.self c.reserve_place.ensures.packets c.reserve_place.ensures.last_finish_tag c.reserve_place.ensures.arrived c.reserve_place.ensures.room ∙ sym (padded_same c.args.self.now c.requires.kept c.args.slot (omega (arith, c.args.self.now.flows.ok.0)) c.index_mut.result.now c.index_mut.ensures.value c.reserve_place.new.self c.reserve_place.ensures.packets c.reserve_place.ensures.last_finish_tag c.reserve_place.ensures.arrived c.reserve_place.ensures.room))
 
 pub returns-then-slot-len-clause-err : goal.returns-then-slot-len-clause-err
-returns-then-slot-len-clause-err c = on_err_always c.reserve_place.result _ (flows_same c.args.self.now c.requires.kept c.args.slot (omega (arith, c.args.self.now.flows.ok.0)) c.index_mut.result.now c.index_mut.ensures.value c.reserve_place.new.self c.reserve_place.ensures.packets c.reserve_place.ensures.last_finish_tag c.reserve_place.ensures.arrived c.reserve_place.ensures.room)
+returns-then-slot-len-clause-err c =
+    on_err_always c.reserve_place.result _ (flows_same c.args.self.now c.requires.kept c.args.slot
+    (omega (arith, c.args.self.now.flows.ok.0)) c.index_mut.result.now c.index_mut.ensures.value c.reserve_place.new.self
+    c.reserve_place.ensures.packets c.reserve_place.ensures.last_finish_tag c.reserve_place.ensures.arrived
+    c.reserve_place.ensures.room)
 
 pub returns-then-slot-len-clause-place : goal.returns-then-slot-len-clause-place
-returns-then-slot-len-clause-place c = on_ok c.reserve_place.result _ _ (place_same c.args.self.now c.requires.kept c.args.slot (omega (arith, c.args.self.now.flows.ok.0)) c.index_mut.result.now c.index_mut.ensures.value c.reserve_place.new.self c.reserve_place.ensures.packets c.reserve_place.ensures.last_finish_tag c.reserve_place.ensures.arrived c.reserve_place.ensures.room) c.reserve_place.ensures.ok
+returns-then-slot-len-clause-place c =
+    on_ok c.reserve_place.result _ _ (place_same c.args.self.now c.requires.kept c.args.slot (omega (arith, c.args.self.now.flows.ok.0))
+    c.index_mut.result.now c.index_mut.ensures.value c.reserve_place.new.self c.reserve_place.ensures.packets
+    c.reserve_place.ensures.last_finish_tag c.reserve_place.ensures.arrived c.reserve_place.ensures.room) c.reserve_place.ensures.ok
 
 pub returns-then-slot-len-clause-kept : goal.returns-then-slot-len-clause-kept
-returns-then-slot-len-clause-kept c = kept_same c.args.self.now c.requires.kept c.args.slot (omega (arith, c.args.self.now.flows.ok.0)) c.index_mut.result.now c.index_mut.ensures.value c.reserve_place.new.self c.reserve_place.ensures.packets c.reserve_place.ensures.last_finish_tag c.reserve_place.ensures.arrived c.reserve_place.ensures.room
+returns-then-slot-len-clause-kept c =
+    kept_same c.args.self.now c.requires.kept c.args.slot (omega (arith, c.args.self.now.flows.ok.0)) c.index_mut.result.now
+    c.index_mut.ensures.value c.reserve_place.new.self c.reserve_place.ensures.packets c.reserve_place.ensures.last_finish_tag
+    c.reserve_place.ensures.arrived c.reserve_place.ensures.room
 
 -- There is none yet.
 pub overflow_sub-flows-2 : goal.overflow_sub-flows-2
@@ -39,7 +55,9 @@ returns-clause-reserves c = record {
 }
 
 pub returns-clause-ok : goal.returns-clause-ok
-returns-clause-ok c = extended_seen _ c.args.self.now.flows.items c.add_queues.new.flows.items (c.args.slot + 1) (rw c.in_ok-reserve.ensures.items at c.add_queues.ensures.extended) c.add_queues.ensures.len
+returns-clause-ok c =
+    extended_seen _ c.args.self.now.flows.items c.add_queues.new.flows.items (c.args.slot + 1)
+    (rw c.in_ok-reserve.ensures.items at c.add_queues.ensures.extended) c.add_queues.ensures.len
 
 pub returns-clause-kept : goal.returns-clause-kept
 returns-clause-kept c =
@@ -50,4 +68,7 @@ returns-clause-kept c =
     let y = c.len-4.ensures.value in
     let ek = ap length c.in_ok-reserve-2.ensures.keeps_keys in
     let wk = ap length c.in_ok-reserve-3.ensures.keeps_keys in
-    kept_extended c.args.self.now _ c.requires.kept (c.args.slot + 1) (rw c.in_ok-reserve.ensures.items at c.add_queues.ensures.extended) c.add_queues.ensures.len (omega arith) c.in_ok-reserve-2.ensures.keeps_keys c.in_ok-reserve-3.ensures.keeps_keys c.in_ok-reserve-2.ensures.keeps_moves c.in_ok-reserve-3.ensures.keeps_moves (omega arith) (omega arith) (omega arith) (omega arith) refl refl refl refl refl
+    kept_extended c.args.self.now _ c.requires.kept (c.args.slot + 1) (rw c.in_ok-reserve.ensures.items at c.add_queues.ensures.extended)
+    c.add_queues.ensures.len (omega arith) c.in_ok-reserve-2.ensures.keeps_keys c.in_ok-reserve-3.ensures.keeps_keys
+    c.in_ok-reserve-2.ensures.keeps_moves c.in_ok-reserve-3.ensures.keeps_moves (omega arith) (omega arith) (omega arith) (omega arith)
+    refl refl refl refl refl

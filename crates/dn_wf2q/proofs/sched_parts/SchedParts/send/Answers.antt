@@ -26,13 +26,18 @@ index_mut-requires c =
 
 pub take_head-next-requires : goal.take_head-next-requires
 take_head-next-requires c = record {
-  some = has_head c.args.self.now c.requires.kept (record { tag = c.in_ok-first.first.tag; slot = c.slot-slot.result }) c.pop.new.self (rw c.slot-slot.ensures.value c.in_ok-first.ensures.keys) c.index_mut.result.now c.index_mut.ensures.value;
+  some =
+      has_head c.args.self.now c.requires.kept (record { tag = c.in_ok-first.first.tag; slot = c.slot-slot.result }) c.pop.new.self
+      (rw c.slot-slot.ensures.value c.in_ok-first.ensures.keys) c.index_mut.result.now c.index_mut.ensures.value;
 }
 
 pub growth-requires : goal.growth-requires
 growth-requires c =
     let t = c.take_head-next.ensures in
-    let w = weighs c.args.self.now c.requires.kept (record { tag = c.in_ok-first.first.tag; slot = c.slot-slot.result }) c.pop.new.self (rw c.slot-slot.ensures.value c.in_ok-first.ensures.keys) c.index_mut.result.now c.index_mut.ensures.value c.take_head-next.new.self c.take_head-next.result.0 t.sent t.last_finish_tag t.arrived t.room in
+    let w =
+    weighs c.args.self.now c.requires.kept (record { tag = c.in_ok-first.first.tag; slot = c.slot-slot.result }) c.pop.new.self
+    (rw c.slot-slot.ensures.value c.in_ok-first.ensures.keys) c.index_mut.result.now c.index_mut.ensures.value
+    c.take_head-next.new.self c.take_head-next.result.0 t.sent t.last_finish_tag t.arrived t.room in
     let w0 = w.0 in
     let w1 = w.1 in
     record { some = omega arith }
@@ -40,46 +45,87 @@ growth-requires c =
 pub overflow_sub-self : goal.overflow_sub-self
 overflow_sub-self c =
     let t = c.take_head-next.ensures in
-    (weighs c.args.self.now c.requires.kept (record { tag = c.in_ok-first.first.tag; slot = c.slot-slot.result }) c.pop.new.self (rw c.slot-slot.ensures.value c.in_ok-first.ensures.keys) c.index_mut.result.now c.index_mut.ensures.value c.take_head-next.new.self c.take_head-next.result.0 t.sent t.last_finish_tag t.arrived t.room).1
+    (weighs c.args.self.now c.requires.kept (record { tag = c.in_ok-first.first.tag; slot = c.slot-slot.result }) c.pop.new.self
+    (rw c.slot-slot.ensures.value c.in_ok-first.ensures.keys) c.index_mut.result.now c.index_mut.ensures.value c.take_head-next.new.self
+    c.take_head-next.result.0 t.sent t.last_finish_tag t.arrived t.room).1
 
 -- The next packet of the flow is its head.
 pub enter-requires : goal.enter-requires
 enter-requires c =
     let t = c.take_head-next.ensures in
     record {
-      kept = rw c.growth.ensures.value (more_kept c.args.self.now c.requires.kept (record { tag = c.in_ok-first.first.tag; slot = c.slot-slot.result }) c.pop.new.self (rw c.slot-slot.ensures.value c.in_ok-first.ensures.keys) c.index_mut.result.now c.index_mut.ensures.value c.take_head-next.new.self c.take_head-next.result.0 t.sent t.last_finish_tag t.arrived t.room c.pop.ensures.keeps_moves c.in_ok-first.ensures.room c.in-Some.head (sym t.next ∙ c.in-Some.is));
+      kept =
+          rw c.growth.ensures.value (more_kept c.args.self.now c.requires.kept
+          (record { tag = c.in_ok-first.first.tag; slot = c.slot-slot.result }) c.pop.new.self
+          (rw c.slot-slot.ensures.value c.in_ok-first.ensures.keys) c.index_mut.result.now c.index_mut.ensures.value
+          c.take_head-next.new.self c.take_head-next.result.0 t.sent t.last_finish_tag t.arrived t.room c.pop.ensures.keeps_moves
+          c.in_ok-first.ensures.room c.in-Some.head (sym t.next ∙ c.in-Some.is));
     }
 
 pub returns-in-Some-clause-picks : goal.returns-in-Some-clause-picks
 returns-in-Some-clause-picks c =
     let t = c.take_head-next.ensures in
-    let h = head_is c.args.self.now c.requires.kept (record { tag = c.in_ok-first.first.tag; slot = c.slot-slot.result }) c.pop.new.self (rw c.slot-slot.ensures.value c.in_ok-first.ensures.keys) c.index_mut.result.now c.index_mut.ensures.value c.take_head-next.new.self c.take_head-next.result.0 t.sent t.last_finish_tag t.arrived t.room in
-    let e = picked_is c.requires.kept.kept (own_slots c.args.self.now) (record { tag = c.in_ok-first.first.tag; slot = c.slot-slot.result }) c.pop.new.self.keys (rw c.slot-slot.ensures.value c.in_ok-first.ensures.keys) (rw c.slot-slot.ensures.value c.in_ok-first.ensures.least) c.requires.promoted _ h in
+    let h =
+    head_is c.args.self.now c.requires.kept (record { tag = c.in_ok-first.first.tag; slot = c.slot-slot.result }) c.pop.new.self
+    (rw c.slot-slot.ensures.value c.in_ok-first.ensures.keys) c.index_mut.result.now c.index_mut.ensures.value
+    c.take_head-next.new.self c.take_head-next.result.0 t.sent t.last_finish_tag t.arrived t.room in
+    let e =
+    picked_is c.requires.kept.kept (own_slots c.args.self.now) (record { tag = c.in_ok-first.first.tag; slot = c.slot-slot.result })
+    c.pop.new.self.keys (rw c.slot-slot.ensures.value c.in_ok-first.ensures.keys)
+    (rw c.slot-slot.ensures.value c.in_ok-first.ensures.least) c.requires.promoted _ h in
     rw e refl
 
 pub returns-in-Some-clause-some : goal.returns-in-Some-clause-some
 returns-in-Some-clause-some c =
     let t = c.take_head-next.ensures in
-    let h = head_is c.args.self.now c.requires.kept (record { tag = c.in_ok-first.first.tag; slot = c.slot-slot.result }) c.pop.new.self (rw c.slot-slot.ensures.value c.in_ok-first.ensures.keys) c.index_mut.result.now c.index_mut.ensures.value c.take_head-next.new.self c.take_head-next.result.0 t.sent t.last_finish_tag t.arrived t.room in
-    let e = picked_is c.requires.kept.kept (own_slots c.args.self.now) (record { tag = c.in_ok-first.first.tag; slot = c.slot-slot.result }) c.pop.new.self.keys (rw c.slot-slot.ensures.value c.in_ok-first.ensures.keys) (rw c.slot-slot.ensures.value c.in_ok-first.ensures.least) c.requires.promoted _ h in
+    let h =
+    head_is c.args.self.now c.requires.kept (record { tag = c.in_ok-first.first.tag; slot = c.slot-slot.result }) c.pop.new.self
+    (rw c.slot-slot.ensures.value c.in_ok-first.ensures.keys) c.index_mut.result.now c.index_mut.ensures.value
+    c.take_head-next.new.self c.take_head-next.result.0 t.sent t.last_finish_tag t.arrived t.room in
+    let e =
+    picked_is c.requires.kept.kept (own_slots c.args.self.now) (record { tag = c.in_ok-first.first.tag; slot = c.slot-slot.result })
+    c.pop.new.self.keys (rw c.slot-slot.ensures.value c.in_ok-first.ensures.keys)
+    (rw c.slot-slot.ensures.value c.in_ok-first.ensures.least) c.requires.promoted _ h in
     let s = c.enter.ensures.same in
-    rw e (sends c.args.self.now c.requires.kept (record { tag = c.in_ok-first.first.tag; slot = c.slot-slot.result }) c.pop.new.self (rw c.slot-slot.ensures.value c.in_ok-first.ensures.keys) c.index_mut.result.now c.index_mut.ensures.value c.take_head-next.new.self c.take_head-next.result.0 t.sent t.last_finish_tag t.arrived t.room c.enter.new.self (rw s.flows refl) s.busy_from (s.virtual_time ∙ ap (λ g. c.args.self.now.virtual_time + g) c.growth.ensures.value) s.arrivals s.picks)
+    rw e (sends c.args.self.now c.requires.kept (record { tag = c.in_ok-first.first.tag; slot = c.slot-slot.result }) c.pop.new.self
+    (rw c.slot-slot.ensures.value c.in_ok-first.ensures.keys) c.index_mut.result.now c.index_mut.ensures.value c.take_head-next.new.self
+    c.take_head-next.result.0 t.sent t.last_finish_tag t.arrived t.room c.enter.new.self (rw s.flows refl) s.busy_from
+    (s.virtual_time ∙ ap (λ g. c.args.self.now.virtual_time + g) c.growth.ensures.value) s.arrivals s.picks)
 
 pub returns-in_default-clause-picks : goal.returns-in_default-clause-picks
 returns-in_default-clause-picks c =
     let t = c.take_head-next.ensures in
-    let h = head_is c.args.self.now c.requires.kept (record { tag = c.in_ok-first.first.tag; slot = c.slot-slot.result }) c.pop.new.self (rw c.slot-slot.ensures.value c.in_ok-first.ensures.keys) c.index_mut.result.now c.index_mut.ensures.value c.take_head-next.new.self c.take_head-next.result.0 t.sent t.last_finish_tag t.arrived t.room in
-    let e = picked_is c.requires.kept.kept (own_slots c.args.self.now) (record { tag = c.in_ok-first.first.tag; slot = c.slot-slot.result }) c.pop.new.self.keys (rw c.slot-slot.ensures.value c.in_ok-first.ensures.keys) (rw c.slot-slot.ensures.value c.in_ok-first.ensures.least) c.requires.promoted _ h in
+    let h =
+    head_is c.args.self.now c.requires.kept (record { tag = c.in_ok-first.first.tag; slot = c.slot-slot.result }) c.pop.new.self
+    (rw c.slot-slot.ensures.value c.in_ok-first.ensures.keys) c.index_mut.result.now c.index_mut.ensures.value
+    c.take_head-next.new.self c.take_head-next.result.0 t.sent t.last_finish_tag t.arrived t.room in
+    let e =
+    picked_is c.requires.kept.kept (own_slots c.args.self.now) (record { tag = c.in_ok-first.first.tag; slot = c.slot-slot.result })
+    c.pop.new.self.keys (rw c.slot-slot.ensures.value c.in_ok-first.ensures.keys)
+    (rw c.slot-slot.ensures.value c.in_ok-first.ensures.least) c.requires.promoted _ h in
     rw e refl
 
 pub returns-in_default-clause-some : goal.returns-in_default-clause-some
 returns-in_default-clause-some c =
     let t = c.take_head-next.ensures in
-    let h = head_is c.args.self.now c.requires.kept (record { tag = c.in_ok-first.first.tag; slot = c.slot-slot.result }) c.pop.new.self (rw c.slot-slot.ensures.value c.in_ok-first.ensures.keys) c.index_mut.result.now c.index_mut.ensures.value c.take_head-next.new.self c.take_head-next.result.0 t.sent t.last_finish_tag t.arrived t.room in
-    let e = picked_is c.requires.kept.kept (own_slots c.args.self.now) (record { tag = c.in_ok-first.first.tag; slot = c.slot-slot.result }) c.pop.new.self.keys (rw c.slot-slot.ensures.value c.in_ok-first.ensures.keys) (rw c.slot-slot.ensures.value c.in_ok-first.ensures.least) c.requires.promoted _ h in
-    rw e (sends c.args.self.now c.requires.kept (record { tag = c.in_ok-first.first.tag; slot = c.slot-slot.result }) c.pop.new.self (rw c.slot-slot.ensures.value c.in_ok-first.ensures.keys) c.index_mut.result.now c.index_mut.ensures.value c.take_head-next.new.self c.take_head-next.result.0 t.sent t.last_finish_tag t.arrived t.room _ refl refl (ap (λ g. c.args.self.now.virtual_time + g) c.growth.ensures.value) refl refl)
+    let h =
+    head_is c.args.self.now c.requires.kept (record { tag = c.in_ok-first.first.tag; slot = c.slot-slot.result }) c.pop.new.self
+    (rw c.slot-slot.ensures.value c.in_ok-first.ensures.keys) c.index_mut.result.now c.index_mut.ensures.value
+    c.take_head-next.new.self c.take_head-next.result.0 t.sent t.last_finish_tag t.arrived t.room in
+    let e =
+    picked_is c.requires.kept.kept (own_slots c.args.self.now) (record { tag = c.in_ok-first.first.tag; slot = c.slot-slot.result })
+    c.pop.new.self.keys (rw c.slot-slot.ensures.value c.in_ok-first.ensures.keys)
+    (rw c.slot-slot.ensures.value c.in_ok-first.ensures.least) c.requires.promoted _ h in
+    rw e (sends c.args.self.now c.requires.kept (record { tag = c.in_ok-first.first.tag; slot = c.slot-slot.result }) c.pop.new.self
+    (rw c.slot-slot.ensures.value c.in_ok-first.ensures.keys) c.index_mut.result.now c.index_mut.ensures.value c.take_head-next.new.self
+    c.take_head-next.result.0 t.sent t.last_finish_tag t.arrived t.room _ refl refl
+    (ap (λ g. c.args.self.now.virtual_time + g) c.growth.ensures.value) refl refl)
 
 pub returns-in_default-clause-kept : goal.returns-in_default-clause-kept
 returns-in_default-clause-kept c =
     let t = c.take_head-next.ensures in
-    rw c.growth.ensures.value (last_kept c.args.self.now c.requires.kept (record { tag = c.in_ok-first.first.tag; slot = c.slot-slot.result }) c.pop.new.self (rw c.slot-slot.ensures.value c.in_ok-first.ensures.keys) c.index_mut.result.now c.index_mut.ensures.value c.take_head-next.new.self c.take_head-next.result.0 t.sent t.last_finish_tag t.arrived t.room c.pop.ensures.keeps_moves c.in_ok-first.ensures.room (next_is_none c.take_head-next.new.self.packets.items (sym t.next ∙ c.in_default.is)))
+    rw c.growth.ensures.value (last_kept c.args.self.now c.requires.kept
+    (record { tag = c.in_ok-first.first.tag; slot = c.slot-slot.result }) c.pop.new.self
+    (rw c.slot-slot.ensures.value c.in_ok-first.ensures.keys) c.index_mut.result.now c.index_mut.ensures.value c.take_head-next.new.self
+    c.take_head-next.result.0 t.sent t.last_finish_tag t.arrived t.room c.pop.ensures.keeps_moves c.in_ok-first.ensures.room
+    (next_is_none c.take_head-next.new.self.packets.items (sym t.next ∙ c.in_default.is)))
