@@ -3,9 +3,9 @@ ghost use Rattle.std.specs.Prelude.{◌≡◌, All, IfOk};
 ghost use Rattle.dn_service.specs.Callers.{IsOf, IsSameCaller};
 
 use crate::calls::{history_of, made, packet, pipe};
+use dn_replay::{Verdict, audit};
 use dn_service::{Caller, CloseFault, OpenFault, Service, TryFault};
-use dn_shaper::Shaper;
-use dn_types::{Call, Entry, Reply};
+use dn_types::{Call, Entry, Reply, Rule};
 use std::alloc::Global;
 use std::process::Abort;
 use std::sync::Wait;
@@ -163,22 +163,12 @@ fn check_thousands<R: Abort>(rt: &R, history: &[Entry]) {
     assert!(rt; next.iter().all(|n| *n == 1000));
 }
 
-/// A shaper that is given the calls of the history again answers each as the history says.
-fn check_replies<R: Abort>(rt: &R, shaper: &mut Shaper, history: &[Entry]) {
-    for entry in history {
-        let reply = shaper.apply(&entry.call);
-        assert!(rt; reply.is_ok_and(|reply| reply == entry.reply));
-    }
-}
-
-/// One caller has configured the pipe, and each of sixteen has submitted a thousand packets.
+/// One caller has configured the pipe, and each of sixteen has submitted a thousand packets. A new shaper that is given
+/// the calls again answers each as the history says.
 fn check_history<R: Abort>(rt: &R, alloc: Global, history: &[Entry]) {
     assert!(rt; history.len() == 16_001);
     check_thousands(rt, history);
-    let mut shaper = Shaper::new(alloc);
-    check_replies(rt, &mut shaper, history);
-    // The proof of a drop by a call has one step, where that of a drop at the end has one for each field.
-    drop(shaper);
+    assert!(rt; audit(alloc, Rule::Ordered, history) == Ok(Verdict::Lawful));
 }
 
 /// A service with sixteen callers, the first of which has configured the pipe.

@@ -20,6 +20,8 @@ mod links;
 #[cfg(test)]
 mod refused_growths;
 #[cfg(test)]
+mod reply_room;
+#[cfg(test)]
 mod sent;
 #[cfg(test)]
 mod shared_links;

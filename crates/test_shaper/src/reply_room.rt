@@ -1,0 +1,59 @@
+//! The room of the next reply by itself: the greater of what is held and the count of flows.
+
+use crate::example::is_wanted;
+use crate::step::{Step, collect, config, to_pipe};
+use crate::wanted::{delivery, queued};
+use dn_shaper::Shaper;
+use dn_types::{Call, Reply};
+use std::alloc::Global;
+use std::io::Print;
+use std::process::Abort;
+use std::test::Fail;
+
+// The reply to a call. Where it is refused, it is made again.
+fn answer(rt: &impl Print, shaper: &mut Shaper, call: &Call) -> Result<Reply, Fail> {
+    if let Ok(reply) = shaper.apply(call) {
+        return Ok(reply);
+    }
+    println!(rt; "a growth was refused")?;
+    Ok(shaper.apply(call)?)
+}
+
+// After each step the next reply has the room that stands beside it.
+fn check_rooms(
+    rt: &(impl Abort + Print),
+    alloc: Global,
+    shaper: &mut Shaper,
+    steps: &[(Step<'_>, usize)],
+) -> Result<(), Fail> {
+    for (place, (step, room)) in steps.iter().enumerate() {
+        let reply = answer(rt, shaper, &step.asked.call()?)?;
+        is_wanted(rt, alloc, place, &reply, step)?;
+        assert!(rt; shaper.reply_room() == *room);
+    }
+    Ok(())
+}
+
+// Packets that wait and packets under way count alike, until they are collected; the flow stays.
+#[test]
+fn room_for_what_is_held_and_for_each_flow(rt: HostRuntime) -> Result<(), Fail> {
+    let first = [delivery(0, 0, 0, 1_000_000)];
+    let rest = [
+        delivery(1, 0, 1_000_000, 2_000_000),
+        delivery(2, 0, 2_000_000, 3_000_000),
+    ];
+    let steps = [
+        (config("pipe 1 config bw 8Mbit/s"), 0),
+        (to_pipe(1, 0, queued(0, 0, 0)), 1),
+        (to_pipe(1, 0, queued(0, 0, 1)), 2),
+        (to_pipe(1, 0, queued(0, 0, 2)), 3),
+        (collect(1_000_000, &first), 2),
+        (collect(3_000_000, &rest), 1),
+    ];
+    let mut shaper = Shaper::new(rt.alloc());
+    assert!(rt; shaper.reply_room() == 0);
+    let held = check_rooms(&rt, rt.alloc(), &mut shaper, &steps);
+    // The proof of a drop by a call has one step, where that of a drop at the end has one for each field.
+    drop(shaper);
+    held
+}
