@@ -1,14 +1,3 @@
-pub mod CallsBack
 pub mod Commands
-pub mod EntriesBack
-pub mod FieldsBack
-pub mod HistoryBack
-pub mod HistoryExample
-pub mod HistoryFaults
-pub mod HistoryReading
-pub mod HistorySteps
-pub mod HistoryWitness
 pub mod Inputs
-pub mod ItemsBack
-pub mod RepliesBack
 pub mod Rows

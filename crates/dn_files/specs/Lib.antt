@@ -1,14 +1,6 @@
 pub mod ConfigFile
-pub mod EntryRecords
 pub mod Faults
 pub mod Fields
-pub mod HistoryFaults
-pub mod HistoryFile
-pub mod HistoryItems
-pub mod HistoryRecords
-pub mod HistoryText
 pub mod PacketFile
-pub mod Ranges
 pub mod Reading
-pub mod RecordsLeft
 pub mod Writing

@@ -7,7 +7,7 @@ use csv::ByteRecord;
 use dn_text::{read_address, read_number};
 
 /// The field of a record at a place, from 1, empty where the record is shorter.
-pub(crate) fn column(fields: &ByteRecord, place: usize) -> &[u8]
+pub fn column(fields: &ByteRecord, place: usize) -> &[u8]
     requires { 1 ≤ place }
     ensures { result.now ≡ column place (fields_of fields.now) }
 {
@@ -18,12 +18,7 @@ pub(crate) fn column(fields: &ByteRecord, place: usize) -> &[u8]
 }
 
 /// The number from `least` to `greatest` in the field at the place, or the place.
-pub(crate) fn number_at(
-    fields: &ByteRecord,
-    place: usize,
-    least: u64,
-    greatest: u64,
-) -> Result<u64, u64>
+pub fn number_at(fields: &ByteRecord, place: usize, least: u64, greatest: u64) -> Result<u64, u64>
     requires { 1 ≤ place }
     ensures value { result ≡ number_at place least greatest (fields_of fields.now) }
     ensures in_range { IfOk result (λ n. (least ≤ n) × (n ≤ greatest)) }
@@ -43,7 +38,7 @@ pub(crate) fn address_at(fields: &ByteRecord, place: usize) -> Result<u32, u64>
 }
 
 /// Whether the field at the place is this name.
-pub(crate) fn is_name(fields: &ByteRecord, place: usize, name: &[u8]) -> bool
+pub fn is_name(fields: &ByteRecord, place: usize, name: &[u8]) -> bool
     requires { 1 ≤ place }
     ensures { result ≡ is_name place (fields_of fields.now) name.now }
 {
@@ -51,7 +46,7 @@ pub(crate) fn is_name(fields: &ByteRecord, place: usize, name: &[u8]) -> bool
 }
 
 /// Whether a record has this name at the place, and this many fields.
-pub(crate) fn is_form(fields: &ByteRecord, place: usize, name: &[u8], count: usize) -> bool
+pub fn is_form(fields: &ByteRecord, place: usize, name: &[u8], count: usize) -> bool
     requires { 1 ≤ place }
     ensures { result ≡ is_form place name.now count (fields_of fields.now) }
 {

@@ -7,7 +7,7 @@ use csv::ByteRecord;
 use dn_types::{FiveTuple, Len, Moment, Number, Packet, Target};
 
 /// The number of a pipe or queue in the field at the place, or the place.
-pub(crate) fn target_number_at(fields: &ByteRecord, place: usize) -> Result<Number, u64>
+pub fn target_number_at(fields: &ByteRecord, place: usize) -> Result<Number, u64>
     requires { 1 ≤ place }
     ensures { result ≡ number_at place 1 65535 (fields_of fields.now) }
 {
@@ -17,7 +17,7 @@ pub(crate) fn target_number_at(fields: &ByteRecord, place: usize) -> Result<Numb
 
 /// Where a packet is sent, in the field at the place and the next, or the place of the first bad one.
 #[tactic(auto, unfolding(crate::specs::Fields::target_at))]
-pub(crate) fn target_at(fields: &ByteRecord, place: usize) -> Result<Target, u64>
+pub fn target_at(fields: &ByteRecord, place: usize) -> Result<Target, u64>
     requires { (1 ≤ place) × (place ≤ 100) }
     ensures { result ≡ target_at place (fields_of fields.now) }
 {
@@ -32,7 +32,7 @@ pub(crate) fn target_at(fields: &ByteRecord, place: usize) -> Result<Target, u64
 
 /// Addresses, protocol and ports in five fields from the place on, or the place of the first bad one.
 #[tactic(auto, unfolding(crate::specs::Fields::tuple_at))]
-pub(crate) fn tuple_at(fields: &ByteRecord, place: usize) -> Result<FiveTuple, u64>
+pub fn tuple_at(fields: &ByteRecord, place: usize) -> Result<FiveTuple, u64>
     requires { (1 ≤ place) × (place ≤ 100) }
     ensures { result ≡ tuple_at place (fields_of fields.now) }
 {
@@ -56,7 +56,7 @@ fn len_at(fields: &ByteRecord, place: usize) -> Result<Len, u64>
 
 /// A packet in seven fields from the place on, or the place of the first bad one.
 #[tactic(auto, unfolding(crate::specs::Fields::packet_at))]
-pub(crate) fn packet_at(fields: &ByteRecord, place: usize) -> Result<Packet, u64>
+pub fn packet_at(fields: &ByteRecord, place: usize) -> Result<Packet, u64>
     requires { (1 ≤ place) × (place ≤ 90) }
     ensures { result ≡ packet_at place (fields_of fields.now) }
 {
@@ -68,7 +68,7 @@ pub(crate) fn packet_at(fields: &ByteRecord, place: usize) -> Result<Packet, u64
 }
 
 /// The moment in the field at the place, or the place.
-pub(crate) fn moment_at(fields: &ByteRecord, place: usize) -> Result<Moment, u64>
+pub fn moment_at(fields: &ByteRecord, place: usize) -> Result<Moment, u64>
     requires { 1 ≤ place }
     ensures { result ≡ number_at place 0 (2 ^ 62) (fields_of fields.now) }
 {

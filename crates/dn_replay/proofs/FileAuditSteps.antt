@@ -4,8 +4,8 @@ use Rattle.dn_types.specs.declared.entry.Entry.{Entry}
 use Rattle.dn_types.specs.declared.rule.Rule.{Rule}
 use Rattle.dn_replay.specs.Audit.{IsVerdict}
 use Rattle.dn_replay.specs.FileAudit.{IsAuditFault, IsTold, IsUnaudited, verdict_line}
-use Rattle.dn_files.specs.HistoryFaults.{IsHistoryFault}
-use Rattle.dn_files.specs.HistoryFile.{history_file}
+use Rattle.dn_history.specs.HistoryFaults.{IsHistoryFault}
+use Rattle.dn_history.specs.HistoryFile.{history_file}
 use Rattle.dn_files.specs.Reading.{IsRefusal, ReadsAs}
 use Rattle.dn_files.specs.Writing.{IsUnwritten}
 use Rattle.dn_files.specs.declared.replay_fault.ReplayFault.{ReplayFault}

@@ -3,7 +3,8 @@ ghost use Rattle.dn_replay.specs.FileAudit.{IsAuditFault, IsAudited, IsUnaudited
 
 use crate::audits::audit;
 use crate::verdict::Verdict;
-use dn_files::{ReplayFault, Source, read_history, write_text};
+use dn_files::{ReplayFault, Source, write_text};
+use dn_history::read_history;
 use dn_records::{Inlet, Outlet};
 use std::alloc::{AllocError, Global};
 

@@ -19,9 +19,8 @@ mod verdict;
 
 pub use audits::audit;
 pub use caller_replays::replay_callers;
-pub use dn_files::{
-    ReplayFault, Row, Source, read_config, read_history, read_packets, write_history,
-};
+pub use dn_files::{ReplayFault, Row, Source, read_config, read_packets};
+pub use dn_history::{read_history, write_history};
 pub use dn_records::{FromReader, FromWriter, Inlet, Outlet};
 pub use file_audits::audit_file;
 pub use gate::Gate;

@@ -1,8 +1,6 @@
 use dn_config::LineFault;
-use dn_files::{
-    ReplayFault, Source, command_at, number, read_history, read_input, rows_of_text, write_history,
-    write_text,
-};
+use dn_files::{ReplayFault, Source, command_at, number, read_input, rows_of_text, write_text};
+use dn_history::{read_history, write_history};
 use dn_records::{FromReader, FromWriter, RecordWriter};
 use dn_types::{Call, Command, Entry, Moment, Number, Reply, Rule};
 use std::alloc::Global;

@@ -1,4 +1,0 @@
-use Rattle.dn_files.proofs.call_records.write_call.Goals as goal
-
-pub returns-in-Submit : goal.returns-in-Submit
-returns-in-Submit c = rw c.in-Submit.is c.write_submit.ensures

@@ -1,5 +1,0 @@
-use Rattle.std.proofs.Common.{◌∙◌}
-use Rattle.dn_files.proofs.call_records.write_configure.Goals as goal
-
-pub returns : goal.returns
-returns c = rw (c.number.ensures, c.as_str.ensures.value ∙ c.in_ok-text.ensures.text) at c.write.ensures.ok

@@ -1,7 +1,0 @@
-use Rattle.std.proofs.Common.{◌≡◌, ◌++◌, take, map}
-use Rattle.dn_records.specs.Records.{text_of}
-use Rattle.dn_files.specs.EntryRecords.{delivery_record}
-use Rattle.dn_files.proofs.item_records.write_deliveries.Given as goal
-
-abbrev pub invariant-loop-delivery : goal.invariant-loop-delivery
-invariant-loop-delivery l = l.writer.text ≡ l.fn.writer.text ++ text_of (map delivery_record (take l.delivery-index l.list))

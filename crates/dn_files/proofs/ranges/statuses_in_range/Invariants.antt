@@ -1,7 +1,0 @@
-use Rattle.std.proofs.Common.{take}
-use Rattle.std.specs.List.{All}
-use Rattle.dn_files.specs.Ranges.{IsStatus}
-use Rattle.dn_files.proofs.ranges.statuses_in_range.Given as goal
-
-abbrev pub invariant-loop-status : goal.invariant-loop-status
-invariant-loop-status l = All IsStatus (take l.status-index l.list)

@@ -1,0 +1,52 @@
+-- The record of a call, read back.
+use Rattle.std.proofs.Common.{◌≡◌, refl, ℕ, ◌^◌, ◌<◌, ◌≤◌, arith}
+use Rattle.std.specs.Prelude.{Some, Ok}
+use Rattle.csv.specs.Records.{field_at}
+use Rattle.dn_types.specs.declared.call.Call.{Call}
+use Rattle.dn_types.specs.declared.call.Call.TheVariants as c
+use Rattle.dn_types.specs.declared.command.Command.{Command}
+use Rattle.dn_types.specs.declared.command.Command.TheVariants.{DeletePipe, DeleteQueue, Pipe, Queue}
+use Rattle.dn_types.specs.declared.packet.Packet.{Packet}
+use Rattle.dn_types.specs.declared.target.Target.{Target}
+use Rattle.dn_config.specs.Commands.{IsInRange}
+use Rattle.dn_config.specs.Text.{text}
+use Rattle.dn_config.proofs.CommandsBack.{text_back}
+use Rattle.dn_config.proofs.TextBytes.{text_utf8}
+use Rattle.dn_files.specs.ConfigFile.{command_at}
+use Rattle.dn_history.specs.EntryRecords.{call_record}
+use Rattle.dn_history.specs.HistoryFile.{call_of, command_by}
+use Rattle.dn_history.specs.HistoryRecords.{caller_of, plain_call, submit_of}
+use Rattle.dn_history.specs.Ranges.{IsCall, IsPacket, IsTarget}
+use Rattle.dn_history.specs.declared.history_version.HistoryVersion.TheVariants.{Third}
+use Rattle.dn_files.proofs.Commands.{said}
+use Rattle.dn_history.proofs.FieldsBack.{HasTuple, number_back, packet_back, target_back}
+
+pub caller_back : (caller : ℕ) (call : Call) → caller < 16 → caller_of (call_record caller call) ≡ Ok caller
+unfolding field_at
+caller_back caller call l = number_back 2 0 15 caller (call_record caller call) refl (omega (arith, l)) (omega arith) (omega (arith, l))
+
+-- The canonical text of a command is a line with this command.
+line_back : (command : Command) → IsInRange command → command_at 1 (text command) ≡ Ok (Some command)
+line_back command h = said 1 (text command) (Ok (Some command)) (text_utf8 command h) (text_back command h)
+
+-- Version 3 has deletes, so each command may stand in it.
+allowed : (number : ℕ) (command : Command) → command_by Third number (Ok (Some command)) ≡ Ok command
+allowed number (Pipe n bw delay limit loss buckets mask) = refl
+allowed number (Queue n pipe weight limit loss buckets mask) = refl
+allowed number (DeletePipe n) = refl
+allowed number (DeleteQueue n) = refl
+
+submit_back : (caller : ℕ) (target : Target) (packet : Packet) (moment : ℕ) → IsTarget target → IsPacket packet → moment ≤ 2 ^ 62 → submit_of (call_record caller (c.Submit target packet moment)) ≡ Ok (c.Submit target packet moment)
+unfolding submit_of field_at
+submit_back caller target packet moment h k l =
+    let fields = call_record caller (c.Submit target packet moment) in
+    let tuple : HasTuple 6 fields packet.tuple = record { src_at = refl; dst_at = refl; proto_at = refl; sport_at = refl; dport_at = refl } in
+    rw (target_back 4 fields target h refl refl, packet_back 6 fields packet k tuple refl refl, number_back 13 0 (2 ^ 62) moment fields refl (omega (arith, l)) (omega arith) l) refl
+
+pub call_back : (number caller : ℕ) (call : Call) → IsCall call → call_of Third number (call_record caller call) ≡ Ok call
+unfolding call_of plain_call field_at
+call_back number caller (c.Configure command) h = rw (line_back command h, allowed number command) refl
+call_back number caller (c.Submit target packet moment) h = rw (submit_back caller target packet moment h.0 h.1 h.2) refl
+call_back number caller (c.Advance moment) h = rw (number_back 4 0 (2 ^ 62) moment (call_record caller (c.Advance moment)) refl (omega (arith, h)) (omega arith) h) refl
+call_back number caller (c.Collect moment) h = rw (number_back 4 0 (2 ^ 62) moment (call_record caller (c.Collect moment)) refl (omega (arith, h)) (omega arith) h) refl
+call_back number caller c.Show h = refl

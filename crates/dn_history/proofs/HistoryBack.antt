@@ -1,0 +1,47 @@
+-- The records of a written history file are those that were written.
+use Rattle.std.proofs.Common.{◌≡◌, refl, List, [], ◌∷◌, ◌++◌, length}
+use Rattle.std.specs.Prelude.{flat_map, map}
+use Rattle.csv.specs.Reading.{strip_bom}
+use Rattle.csv.specs.Writing.{escaped, fields_text, is_blank}
+use Rattle.dn_types.specs.declared.delivery.Delivery.{Delivery}
+use Rattle.dn_types.specs.declared.entry.Entry.{Entry}
+use Rattle.dn_types.specs.declared.flow_status.FlowStatus.{FlowStatus}
+use Rattle.dn_types.specs.declared.reply.Reply.{Reply}
+use Rattle.dn_types.specs.declared.reply.Reply.TheVariants as r
+use Rattle.dn_records.specs.Records.{AllFilled, Fields, HasNoMark, records_of, text_of}
+use Rattle.dn_records.proofs.ReadBack.{read-back}
+use Rattle.dn_history.specs.EntryRecords.{delivery_record, item_records, status_record}
+use Rattle.dn_history.specs.HistoryText.{end_record, entry_records, history_records, history_text}
+
+filled-append : (front back : List Fields) → AllFilled front → AllFilled back → AllFilled (front ++ back)
+filled-append [] back f b = b
+filled-append ([] ∷ front) back f b = absurd f
+filled-append ((field ∷ fields) ∷ front) back f b = filled-append front back f b
+
+deliveries-filled : (list : List Delivery) → AllFilled (map delivery_record list)
+deliveries-filled [] = tt
+deliveries-filled (d ∷ list) = deliveries-filled list
+
+statuses-filled : (list : List FlowStatus) → AllFilled (map status_record list)
+statuses-filled [] = tt
+statuses-filled (s ∷ list) = statuses-filled list
+
+items-filled : (reply : Reply) → AllFilled (item_records reply)
+items-filled (r.Delivered at list) = deliveries-filled list
+items-filled (r.Status list) = statuses-filled list
+items-filled _ = tt
+
+entries-filled : (entries : List Entry) → AllFilled (flat_map entry_records entries)
+entries-filled [] = tt
+entries-filled (e ∷ rest) = filled-append (entry_records e) (flat_map entry_records rest) (items-filled e.reply) (entries-filled rest)
+
+-- A history file begins with a letter.
+no-mark : (entries : List Entry) → HasNoMark (history_text entries)
+unfolding history_text text_of fields_text is_blank escaped strip_bom
+no-mark entries = refl
+
+pub history-back : (entries : List Entry) → records_of (history_text entries) ≡ history_records entries
+unfolding history_text
+history-back entries =
+    let filled = filled-append (flat_map entry_records entries) (end_record (length entries) ∷ []) (entries-filled entries) tt in
+    read-back (history_records entries) filled (no-mark entries)

@@ -1,0 +1,144 @@
+-- The faults that a history file can have of its own: it is too long, or a record is bad.
+use Rattle.std.proofs.Common.{◌≡◌, ℕ, zero, suc, ◌+◌, Bool, true, false, List, [], ◌∷◌, length, Option, Some, None, Result, Ok, Err, refl, nat_le}
+use Rattle.std.specs.Prelude.{cond, ⊤}
+use Rattle.dn_types.specs.declared.command.Command.{Command}
+use Rattle.dn_types.specs.declared.entry.Entry.{Entry}
+use Rattle.dn_records.specs.Records.{Fields}
+use Rattle.dn_history.specs.HistoryFile.{before, call_of, command_by, delivered_from, end_by, entries_from, entry_by, entry_from, history_file, history_from, history_limit, nothing_in, reply_by, reply_from, status_from}
+use Rattle.dn_history.specs.HistoryFaults.{IsHistoryFault}
+use Rattle.dn_files.specs.Reading.{◌>>=◌, IsRefusal}
+use Rattle.dn_history.specs.RecordsLeft.{Rest, first_of, in_record, item_from, items_from, next_record}
+use Rattle.dn_history.specs.declared.history_version.HistoryVersion.{HistoryVersion}
+use Rattle.dn_files.specs.declared.replay_fault.ReplayFault.{ReplayFault}
+use Rattle.dn_files.specs.declared.replay_fault.ReplayFault.TheVariants.{BadRow, Read, Write, TooLong, OutOfMemory, Config, ConfigText, NoSuchPipe, BadRecord, BadCount, PipeHasQueues, NoSuchQueue}
+use Rattle.dn_files.specs.declared.source.Source.TheVariants.{History}
+
+abbrev HasFileFault : {A : Type 0} → Result A ReplayFault → Type 0
+HasFileFault (Ok value) = ⊤
+HasFileFault (Err fault) = IsHistoryFault fault
+
+-- The fault, if there is one, is among those.
+record IsGood {A : Type 0} (r : Result A ReplayFault) : Type 0 where
+  fits : HasFileFault r
+
+bound : {A B : Type 0} (first : Result A ReplayFault) (rest : A → Result B ReplayFault) → IsGood first → ((x : A) → IsGood (rest x)) → IsGood (first >>= rest)
+bound (Ok x) rest good more = more x
+bound (Err fault) rest good more = record { fits = good.fits }
+
+value_good : {A : Type 0} (value : A) → IsGood (Ok value)
+value_good value = record { fits = tt }
+
+record_good : {A : Type 0} (number : ℕ) → IsGood {A = A} (Err (BadRecord number))
+record_good number = record { fits = tt }
+
+chosen : {A : Type 0} (b : Bool) (x y : Result A ReplayFault) → IsGood x → IsGood y → IsGood (cond b x y)
+chosen true x y p q = p
+chosen false x y p q = q
+
+in_one : {A : Type 0} (number : ℕ) (r : Result A ℕ) → IsGood (in_record number r)
+in_one number (Ok value) = record { fits = tt }
+in_one number (Err place) = record { fits = tt }
+
+first_good : (number : ℕ) (records : List Fields) → IsGood (first_of number records)
+first_good number [] = record { fits = tt }
+first_good number (fields ∷ records) = record { fits = tt }
+
+next_good : (rest : Rest) → IsGood (next_record rest)
+unfolding next_record
+next_good rest = first_good rest.number rest.records
+
+command_good : (version : HistoryVersion) (number : ℕ) (r : Result (Option Command) ReplayFault) → IsGood (command_by version number r)
+command_good version number (Ok None) = record { fits = tt }
+command_good version number (Ok (Some command)) = chosen _ _ _ (record_good number) (value_good command)
+command_good version number (Err OutOfMemory) = record { fits = tt }
+command_good version number (Err (BadRecord n)) = record { fits = tt }
+command_good version number (Err (Config line f)) = record { fits = tt }
+command_good version number (Err (ConfigText line)) = record { fits = tt }
+command_good version number (Err (NoSuchPipe line)) = record { fits = tt }
+command_good version number (Err (BadRow row field)) = record { fits = tt }
+command_good version number (Err (TooLong what)) = record { fits = tt }
+command_good version number (Err (Read what)) = record { fits = tt }
+command_good version number (Err (Write what)) = record { fits = tt }
+command_good version number (Err BadCount) = record { fits = tt }
+command_good version number (Err (PipeHasQueues line)) = record { fits = tt }
+command_good version number (Err (NoSuchQueue line)) = record { fits = tt }
+
+call_good : (version : HistoryVersion) (number : ℕ) (fields : Fields) → IsGood (call_of version number fields)
+unfolding call_of
+call_good version number fields = chosen _ _ _ (bound _ _ (command_good version number _) (λ command. value_good _)) (in_one number _)
+
+item_good : {A : Type 0} (item : Fields → Result A ℕ) (rest : Rest) → IsGood (item_from item rest)
+unfolding item_from
+item_good item rest = bound _ _ (next_good rest) (λ first. bound _ _ (in_one rest.number _) (λ value. value_good _))
+
+items_good : {A : Type 0} (item : Fields → Result A ℕ) (count : ℕ) (rest : Rest) → IsGood (items_from item count rest)
+unfolding items_from
+items_good item zero rest = record { fits = tt }
+items_good item (suc count) rest = bound _ _ (item_good item rest) (λ first. bound _ _ (items_good item count first.1) (λ more. value_good _))
+
+delivered_good : (number : ℕ) (fields : Fields) (rest : Rest) → IsGood (delivered_from number fields rest)
+unfolding delivered_from
+delivered_good number fields rest = bound _ _ (in_one number _) (λ head. bound _ _ (items_good _ head.1 rest) (λ list. value_good _))
+
+status_good : (version : HistoryVersion) (number : ℕ) (fields : Fields) (rest : Rest) → IsGood (status_from version number fields rest)
+unfolding status_from
+status_good version number fields rest = bound _ _ (in_one number _) (λ count. bound _ _ (items_good _ count rest) (λ list. value_good _))
+
+reply_good : (version : HistoryVersion) (rest : Rest) → IsGood (reply_from version rest)
+unfolding reply_from reply_by
+reply_good version rest = bound _ _ (next_good rest) (λ first. chosen _ _ _ (delivered_good rest.number first.0 first.1)
+    (chosen _ _ _ (status_good version rest.number first.0 first.1) (bound _ _ (in_one rest.number _) (λ reply. value_good _))))
+
+entry_good : (version : HistoryVersion) (number : ℕ) (fields : Fields) (rest : Rest) → IsGood (entry_by version number fields rest)
+unfolding entry_by
+entry_good version number fields rest = bound _ _ (in_one number _) (λ caller. bound _ _ (call_good version number fields) (λ call. bound _ _ (reply_good version rest) (λ reply. value_good _)))
+
+nothing_good : (rest : Rest) (records : List Fields) → IsGood (nothing_in rest records)
+nothing_good rest [] = record { fits = tt }
+nothing_good rest (fields ∷ records) = record { fits = tt }
+
+end_good : (count number : ℕ) (fields : Fields) (rest : Rest) → IsGood (end_by count number fields rest)
+unfolding end_by
+end_good count number fields rest = bound _ _ (in_one number _) (λ told. nothing_good rest rest.records)
+
+next_entry_good : (version : HistoryVersion) (count : ℕ) (rest : Rest) → IsGood (entry_from version count rest)
+unfolding entry_from
+next_entry_good version count rest = bound _ _ (next_good rest) (λ first. chosen _ _ _ (end_good count rest.number first.0 first.1) (entry_good version rest.number first.0 first.1))
+
+before_good : (entry : Option Entry) (entries : Result (List Entry) ReplayFault) → IsGood entries → IsGood (before entry entries)
+before_good None entries good = record { fits = tt }
+before_good (Some entry) entries good = bound _ _ good (λ more. value_good _)
+
+entries_good : (turns : ℕ) (version : HistoryVersion) (count : ℕ) (rest : Rest) → IsGood (entries_from turns version count rest)
+unfolding entries_from
+entries_good zero version count rest = record { fits = tt }
+entries_good (suc turns) version count rest = bound _ _ (next_entry_good version count rest) (λ first. before_good first.0 _ (entries_good turns version (count + 1) first.1))
+
+history_good : (rest : Rest) → IsGood (history_from rest)
+unfolding history_from
+history_good rest = bound _ _ (next_good rest) (λ first. bound _ _ (in_one rest.number _) (λ version. bound _ _ (entries_good _ version 0 first.1) (λ entries. value_good _)))
+
+limit_good : (b : Bool) (text : List ℕ) → IsGood (cond b (Ok text) (Err (TooLong History)))
+limit_good true text = record { fits = tt }
+limit_good false text = record { fits = refl }
+
+file_good : (text : List ℕ) → IsGood (history_file text)
+file_good text = bound _ _ (limit_good (nat_le (length text) history_limit) text) (λ whole. history_good _)
+
+of_file : (text : List ℕ) (fault : ReplayFault) → history_file text ≡ Err fault → IsHistoryFault fault
+of_file text fault is = (rw is at (file_good text)).fits
+
+-- Why a history file isn't read.
+pub of_reading : (known : Option (List ℕ)) (failed : Bool) (fault : ReplayFault) → IsRefusal History history_file known failed fault → IsHistoryFault fault
+of_reading known failed (Read what) h = h.0
+of_reading known failed (Write what) h = absurd h
+of_reading known failed OutOfMemory h = tt
+of_reading known failed (Config line f) h = of_file h.1.0 (Config line f) h.1.2
+of_reading known failed (ConfigText line) h = of_file h.1.0 (ConfigText line) h.1.2
+of_reading known failed (NoSuchPipe line) h = of_file h.1.0 (NoSuchPipe line) h.1.2
+of_reading known failed (BadRow row field) h = of_file h.1.0 (BadRow row field) h.1.2
+of_reading known failed (BadRecord number) h = of_file h.1.0 (BadRecord number) h.1.2
+of_reading known failed (TooLong what) h = of_file h.1.0 (TooLong what) h.1.2
+of_reading known failed BadCount h = of_file h.1.0 BadCount h.1.2
+of_reading known failed (PipeHasQueues line) h = of_file h.1.0 (PipeHasQueues line) h.1.2
+of_reading known failed (NoSuchQueue line) h = of_file h.1.0 (NoSuchQueue line) h.1.2

@@ -1,0 +1,157 @@
+-- Reading the records of a history one after the other.
+use Rattle.std.proofs.Common.{◌≡◌, ◌∙◌, ℕ, zero, suc, ◌+◌, ◌-◌, ◌<◌, ◌≤◌, true, false, List, [], ◌∷◌, ◌++◌, length, Option, Some, None, Result, Ok, Err, refl, sym, ap, arith, append_assoc, length-append}
+use Rattle.std.proofs.lemmas.List.{append-nil}
+use Rattle.csv.specs.Machine.{Read as ReadOff, next_record as next_read}
+use Rattle.csv.specs.Reading.{default_config, records_from, records_next, strip_bom}
+use Rattle.csv.specs.declared.parser.Config.{Config}
+use Rattle.csv.specs.declared.parser.State.{State}
+use Rattle.csv.specs.declared.parser.State.TheVariants.{StartRecord}
+use Rattle.dn_types.specs.declared.entry.Entry.{Entry}
+use Rattle.dn_records.specs.Records.{Fields, Takes, records_of}
+use Rattle.dn_history.specs.HistoryFile.{before, entries_from, entry_from, nothing_in}
+use Rattle.dn_history.specs.RecordsLeft.{Rest, item_from, items_from, next_record}
+use Rattle.dn_files.specs.Reading.{◌>>=◌, IsFaultOf}
+use Rattle.dn_history.specs.declared.history_version.HistoryVersion.{HistoryVersion}
+use Rattle.dn_files.specs.declared.replay_fault.ReplayFault.{ReplayFault}
+use Rattle.dn_files.specs.declared.replay_fault.ReplayFault.TheVariants.{BadRecord}
+use Rattle.dn_files.proofs.Inputs.{carried}
+
+-- The records of a text are no more than its turns, and so few that they can be numbered.
+records_le : (config : Config) (turns : ℕ) (s : State) (text : List ℕ) → length (records_from config turns s text) ≤ turns
+unfolding records_from
+records_le config zero s text = omega arith
+records_le config (suc turns) s text = go (λ read. records_le config turns read.1 read.2) (next_read config s [] [] text)
+  where
+    go : ((read : ReadOff) → length (records_from config turns read.1 read.2) ≤ turns) → (o : Option ReadOff) → length (records_next (records_from config turns) o) ≤ suc turns
+    go few None = omega arith
+    go few (Some read) = let le = few read in omega (arith, le)
+
+bom_le : (text : List ℕ) → length (strip_bom text) ≤ length text
+unfolding strip_bom
+bom_le [] = omega arith
+bom_le (a ∷ []) = omega arith
+bom_le (a ∷ b ∷ []) = omega arith
+bom_le (a ∷ b ∷ c ∷ rest) = grind arith
+
+pub numbered : (text : List ℕ) → length (records_of text) ≤ length text + 1
+numbered text =
+    let le = records_le default_config (length (strip_bom text) + 1) StartRecord (strip_bom text) in
+    let shorter = bom_le text in
+    omega (arith, le, shorter)
+
+-- One record more, and none.
+pub took : (number : ℕ) (old new : List Fields) (fields : Fields) → Takes old new true fields → next_record (record { number = number; records = old }) ≡ Ok (fields, record { number = number + 1; records = new })
+unfolding next_record
+took number [] new fields takes = let no = takes.0 in cc
+took number (first ∷ rest) new fields takes = rw (takes.1, takes.2) refl
+
+pub missing : (number : ℕ) (old new : List Fields) (fields : Fields) → Takes old new false fields → next_record (record { number = number; records = old }) ≡ Err (BadRecord number)
+unfolding next_record
+missing number [] new fields takes = refl
+missing number (first ∷ rest) new fields takes = let no = takes.0 in cc
+
+pub counts_on : (number : ℕ) (old new : List Fields) (fields : Fields) → Takes old new true fields → number + length old ≡ number + 1 + length new
+counts_on number [] new fields takes = let no = takes.0 in cc
+counts_on number (first ∷ rest) new fields takes = rw takes.2 (omega arith)
+
+pub ended : (number : ℕ) (old new : List Fields) (fields : Fields) → Takes old new false fields → nothing_in (record { number = number; records = old }) old ≡ Ok (None, record { number = number; records = new })
+ended number [] new fields takes = rw takes.1 refl
+ended number (first ∷ rest) new fields takes = let no = takes.0 in cc
+
+pub one_left : (number : ℕ) (old new : List Fields) (fields : Fields) → Takes old new true fields → nothing_in (record { number = number; records = old }) old ≡ Err (BadRecord number)
+one_left number [] new fields takes = let no = takes.0 in cc
+one_left number (first ∷ rest) new fields takes = refl
+
+pub emptied : (old new : List Fields) (fields : Fields) → Takes old new false fields → length new ≤ length old
+emptied [] new fields takes = rw takes.1 (omega arith)
+emptied (first ∷ rest) new fields takes = let no = takes.0 in cc
+
+-- The fault of the first step is that of the whole.
+pub at_first : {A B : Type 0} (read : Result A ReplayFault) (next : A → Result B ReplayFault) (fault : ReplayFault) → IsFaultOf read fault → IsFaultOf (read >>= next) fault
+at_first read next fault is = carried read (read >>= next) fault (λ f e. rw e refl) is
+
+-- A list of items, of which a front was read.
+abbrev pub with_front : {A : Type 0} → List A → Result (List A × Rest) ReplayFault → Result (List A × Rest) ReplayFault
+with_front front read = read >>= λ p. Ok (front ++ p.0, p.1)
+
+pub starts : {A : Type 0} (read : Result (List A × Rest) ReplayFault) → with_front [] read ≡ read
+starts (Ok p) = refl
+starts (Err fault) = refl
+
+regroup : {A : Type 0} (front : List A) (value : A) (read : Result (List A × Rest) ReplayFault) → with_front front (read >>= λ more. Ok (value ∷ more.0, more.1)) ≡ with_front (front ++ value ∷ []) read
+regroup {A} front value (Ok p) = ap (λ (list : List A). Ok (list, p.1)) (simp append_assoc)
+regroup front value (Err fault) = refl
+
+pub one_more : {A : Type 0} (item : Fields → Result A ℕ) (front : List A) (count : ℕ) (old new : Rest) (value : A) (whole : Result (List A × Rest) ReplayFault)
+    → 0 < count → item_from item old ≡ Ok (value, new) → with_front front (items_from item count old) ≡ whole → with_front (front ++ value ∷ []) (items_from item (count - 1) new) ≡ whole
+unfolding items_from
+one_more item front zero old new value whole some is so_far = absurd (omega (arith, some))
+one_more item front (suc count) old new value whole some is so_far =
+    let here = rw is at so_far in
+    let less : suc count - 1 ≡ count = omega arith in
+    rw less (sym (regroup front value (items_from item count new)) ∙ here)
+
+pub all_read : {A : Type 0} (item : Fields → Result A ℕ) (front : List A) (count : ℕ) (rest : Rest) (whole : Result (List A × Rest) ReplayFault)
+    → count ≡ 0 → with_front front (items_from item count rest) ≡ whole → whole ≡ Ok (front, rest)
+unfolding items_from
+all_read {A} item front count rest whole none so_far =
+    let here = rw none at so_far in
+    sym here ∙ ap (λ (list : List A). Ok (list, rest)) (append-nil front)
+
+pub bad_item : {A : Type 0} (item : Fields → Result A ℕ) (front : List A) (count : ℕ) (old : Rest) (fault : ReplayFault) (whole : Result (List A × Rest) ReplayFault)
+    → 0 < count → IsFaultOf (item_from item old) fault → with_front front (items_from item count old) ≡ whole → IsFaultOf whole fault
+unfolding items_from
+bad_item item front zero old fault whole some is so_far = absurd (omega (arith, some))
+bad_item item front (suc count) old fault whole some is so_far =
+    carried (item_from item old) whole fault (λ f e. let here = rw e at so_far in sym here) is
+
+-- The entries, of which a front was read.
+abbrev pub after_front : List Entry → Result (List Entry) ReplayFault → Result (List Entry) ReplayFault
+after_front front read = read >>= λ entries. Ok (front ++ entries)
+
+pub begins : (read : Result (List Entry) ReplayFault) → after_front [] read ≡ read
+begins (Ok entries) = refl
+begins (Err fault) = refl
+
+joined : (front : List Entry) (entry : Entry) (read : Result (List Entry) ReplayFault) → after_front front (before (Some entry) read) ≡ after_front (front ++ entry ∷ []) read
+joined front entry (Ok entries) = ap (λ (es : List Entry). Ok es) (simp append_assoc)
+joined front entry (Err fault) = refl
+
+-- So far these entries were read, and the turns are enough for the records that are left.
+pub record IsSoFar (version : HistoryVersion) (front : List Entry) (rest : Rest) (whole : Result (List Entry) ReplayFault) : Type 0 where
+  pub turns : ℕ
+  pub enough : length rest.records < turns
+  pub so_far : after_front front (entries_from turns version (length front) rest) ≡ whole
+
+pub entry_read : (version : HistoryVersion) (front : List Entry) (old new : Rest) (entry : Entry) (whole : Result (List Entry) ReplayFault)
+    → entry_from version (length front) old ≡ Ok (Some entry, new) → length new.records < length old.records → IsSoFar version front old whole → IsSoFar version (front ++ entry ∷ []) new whole
+unfolding entries_from
+entry_read version front old new entry whole is fewer held = go held.turns held.enough held.so_far
+  where
+    go : (turns : ℕ) → length old.records < turns → after_front front (entries_from turns version (length front) old) ≡ whole → IsSoFar version (front ++ entry ∷ []) new whole
+    go zero enough so_far = absurd (omega (arith, enough))
+    go (suc turns) enough so_far =
+        let here = rw is at so_far in
+        record {
+          turns = turns;
+          enough = omega (arith, enough, fewer);
+          so_far = rw (length-append front (entry ∷ [])) (sym (joined front entry (entries_from turns version (length front + 1) new)) ∙ here);
+        }
+
+pub end_read : (version : HistoryVersion) (front : List Entry) (old new : Rest) (whole : Result (List Entry) ReplayFault)
+    → entry_from version (length front) old ≡ Ok (None, new) → IsSoFar version front old whole → whole ≡ Ok front
+unfolding entries_from
+end_read version front old new whole is held = go held.turns held.enough held.so_far
+  where
+    go : (turns : ℕ) → length old.records < turns → after_front front (entries_from turns version (length front) old) ≡ whole → whole ≡ Ok front
+    go zero enough so_far = absurd (omega (arith, enough))
+    go (suc turns) enough so_far = let here = rw is at so_far in sym here ∙ ap (λ (es : List Entry). Ok es) (append-nil front)
+
+pub bad_entry : (version : HistoryVersion) (front : List Entry) (old : Rest) (fault : ReplayFault) (whole : Result (List Entry) ReplayFault)
+    → IsFaultOf (entry_from version (length front) old) fault → IsSoFar version front old whole → IsFaultOf whole fault
+unfolding entries_from
+bad_entry version front old fault whole is held = go held.turns held.enough held.so_far
+  where
+    go : (turns : ℕ) → length old.records < turns → after_front front (entries_from turns version (length front) old) ≡ whole → IsFaultOf whole fault
+    go zero enough so_far = absurd (omega (arith, enough))
+    go (suc turns) enough so_far = carried (entry_from version (length front) old) whole fault (λ f e. let here = rw e at so_far in sym here) is

@@ -1,0 +1,11 @@
+pub mod CallsBack
+pub mod EntriesBack
+pub mod FieldsBack
+pub mod HistoryBack
+pub mod HistoryExample
+pub mod HistoryFaults
+pub mod HistoryReading
+pub mod HistorySteps
+pub mod HistoryWitness
+pub mod ItemsBack
+pub mod RepliesBack

@@ -1,0 +1,63 @@
+-- What a reply lists: the records of delivered packets and of the states of flows, each by its form.
+use Rattle.std.specs.Prelude.{ℕ, cond, Result, Ok, Err, codes}
+use Rattle.dn_types.specs.declared.delivery.Delivery.{Delivery}
+use Rattle.dn_types.specs.declared.flow_key.FlowKey.{FlowKey}
+use Rattle.dn_types.specs.declared.flow_status.FlowStatus.{FlowStatus}
+use Rattle.dn_types.specs.declared.mask.Mask.{Mask}
+use Rattle.dn_records.specs.Records.{Fields}
+use Rattle.dn_files.specs.Fields.{is_form, number_at, target_at, tuple_at}
+use Rattle.dn_history.specs.HistoryRecords.{long_at}
+use Rattle.dn_files.specs.Reading.{◌>>=◌}
+use Rattle.dn_history.specs.declared.history_version.HistoryVersion.{HistoryVersion}
+use Rattle.dn_history.specs.declared.history_version.HistoryVersion.TheVariants.{First, Second, Third}
+
+-- `d,packet,flow,start,due`
+unfoldable pub delivery_of : Fields → Result Delivery ℕ
+delivery_of fields = cond (is_form 1 (codes "d") 5 fields) (do
+  packet ← long_at 2 fields
+  flow ← long_at 3 fields
+  start ← long_at 4 fields
+  due ← long_at 5 fields
+  Ok (record { due = due; packet = packet; flow = flow; start = start }))
+    (Err 1)
+
+-- The mask of a flow, in the five fields of a tuple.
+unfoldable pub mask_at : ℕ → Fields → Result Mask ℕ
+mask_at place fields = do
+  bits ← tuple_at place fields
+  Ok (record { src = bits.src; dst = bits.dst; proto = bits.proto; sport = bits.sport; dport = bits.dport })
+
+-- The key of a flow: `TARGET,number,pipe,` mask and tuple.
+unfoldable pub key_of : Fields → Result FlowKey ℕ
+key_of fields = do
+  target ← target_at 3 fields
+  pipe ← number_at 5 1 65535 fields
+  mask ← mask_at 6 fields
+  tuple ← tuple_at 11 fields
+  Ok (record { target = target; pipe = pipe; mask = mask; tuple = tuple })
+
+-- How many fields a status has: in version 1 that of the discarded packets is missing.
+abbrev pub status_width : HistoryVersion → ℕ
+status_width First = 20
+status_width Second = 21
+status_width Third = 21
+
+-- The count of discarded packets of a status.
+abbrev pub discarded_of : HistoryVersion → Fields → Result ℕ ℕ
+discarded_of First fields = Ok 0
+discarded_of Second fields = long_at 21 fields
+discarded_of Third fields = long_at 21 fields
+
+-- `f,flow,TARGET,number,pipe,` mask, tuple, `queued,bytes,lost,full,started,discarded`
+unfoldable pub status_of : HistoryVersion → Fields → Result FlowStatus ℕ
+status_of version fields = cond (is_form 1 (codes "f") (status_width version) fields) (do
+  flow ← long_at 2 fields
+  key ← key_of fields
+  queued ← long_at 16 fields
+  bytes ← long_at 17 fields
+  lost ← long_at 18 fields
+  full ← long_at 19 fields
+  started ← long_at 20 fields
+  discarded ← discarded_of version fields
+  Ok (record { flow = flow; key = key; queued = queued; bytes = bytes; lost = lost; full = full; started = started; discarded = discarded }))
+    (Err 1)

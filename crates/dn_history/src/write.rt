@@ -1,0 +1,10 @@
+//! A history file is written record by record.
+
+mod calls;
+mod history;
+mod items;
+mod ranges;
+mod replies;
+mod target;
+
+pub use history::write_history;

@@ -1,0 +1,105 @@
+ghost use Rattle.std.specs.Prelude.{◌≡◌, [], ◌∷◌, ◌++◌, codes, decimal, OnOk};
+ghost use Rattle.dn_types.specs.declared.call.Call.TheVariants.{Configure, Submit};
+ghost use Rattle.dn_records.specs.Records.{line_of};
+ghost use Rattle.dn_history.specs.EntryRecords.{call_record};
+
+use crate::write::target::{target_name, target_number};
+use dn_config::print_command;
+use dn_files::number;
+use dn_records::{Field, RecordWriter};
+use dn_types::{Call, Command, Moment, Packet, Target};
+use std::alloc::{AllocError, Global};
+
+/// Adds the record of a Configure.
+fn write_configure(
+    alloc: Global,
+    writer: &mut RecordWriter,
+    caller: usize,
+    command: &Command,
+) -> Result<(), AllocError>
+    ensures { OnOk result (writer.new.text ≡ writer.old.text ++ line_of (call_record caller (Configure command.now))) }
+{
+    let text = print_command(alloc, command)?;
+    writer.write(&[
+        Field::Text("c"),
+        number(caller as u64),
+        Field::Text("configure"),
+        Field::Text(text.as_str()),
+    ])
+}
+
+/// Adds the record of a Submit.
+fn write_submit(
+    writer: &mut RecordWriter,
+    caller: usize,
+    target: &Target,
+    packet: &Packet,
+    moment: Moment,
+) -> Result<(), AllocError>
+    ensures { OnOk result (writer.new.text
+        ≡ writer.old.text ++ line_of (call_record caller (Submit target.now packet.now moment))) }
+{
+    writer.write(&[
+        Field::Text("c"),
+        number(caller as u64),
+        Field::Text("submit"),
+        Field::Text(target_name(target)),
+        number(target_number(target)),
+        Field::Address(packet.tuple.src),
+        Field::Address(packet.tuple.dst),
+        number(u64::from(packet.tuple.proto)),
+        number(u64::from(packet.tuple.sport)),
+        number(u64::from(packet.tuple.dport)),
+        number(u64::from(packet.len.get())),
+        number(u64::from(packet.word)),
+        number(moment.get()),
+    ])
+}
+
+/// Adds the record of a call that has a moment alone.
+fn write_moment(
+    writer: &mut RecordWriter,
+    caller: usize,
+    name: &str,
+    moment: Moment,
+) -> Result<(), AllocError>
+    ensures { OnOk result (writer.new.text
+        ≡ writer.old.text ++ line_of (codes "c" ∷ decimal caller ∷ name.now ∷ decimal moment ∷ [])) }
+{
+    writer.write(&[
+        Field::Text("c"),
+        number(caller as u64),
+        Field::Text(name),
+        number(moment.get()),
+    ])
+}
+
+/// Adds the record of a Show.
+fn write_show(writer: &mut RecordWriter, caller: usize) -> Result<(), AllocError>
+    ensures { OnOk result (writer.new.text
+        ≡ writer.old.text ++ line_of (codes "c" ∷ decimal caller ∷ codes "show" ∷ [])) }
+{
+    writer.write(&[Field::Text("c"), number(caller as u64), Field::Text("show")])
+}
+
+/// Adds the record of a call.
+pub(crate) fn write_call(
+    alloc: Global,
+    writer: &mut RecordWriter,
+    caller: usize,
+    call: &Call,
+) -> Result<(), AllocError>
+    ensures { OnOk result (writer.new.text ≡ writer.old.text ++ line_of (call_record caller call.now)) }
+{
+    match call {
+        Call::Configure(command) => write_configure(alloc, writer, caller, command),
+        Call::Submit {
+            target,
+            packet,
+            moment,
+        } => write_submit(writer, caller, target, packet, *moment),
+        Call::Advance(moment) => write_moment(writer, caller, "advance", *moment),
+        Call::Collect(moment) => write_moment(writer, caller, "collect", *moment),
+        Call::Show => write_show(writer, caller),
+    }
+}
