@@ -8,7 +8,7 @@ use Rattle.dn_config.specs.Reading.{read_options}
 use Rattle.dn_config.specs.Line.{config_at, command_with}
 use Rattle.dn_config.specs.declared.fault.LineFault.{LineFault}
 use Rattle.dn_config.specs.declared.kind.Kind.{Kind}
-use Rattle.dn_config.specs.declared.setting.Setting.{Setting}
+use Rattle.dn_config.specs.declared.option_group.Setting.{Setting}
 use Rattle.dn_config.specs.declared.options.Options.{Options}
 
 module _ (k : Kind) (at n : ℕ) where

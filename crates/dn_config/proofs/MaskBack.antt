@@ -9,12 +9,12 @@ use Rattle.dn_config.specs.Settings.{set_option}
 use Rattle.dn_config.specs.Commands.{IsMask}
 use Rattle.dn_config.specs.Reading.{read_options, read_fields}
 use Rattle.dn_config.specs.Text.{padded, field_words, fields_words, mask_words}
-use Rattle.dn_config.specs.declared.field.Field.{Field}
-use Rattle.dn_config.specs.declared.field.Field.TheVariants as f
+use Rattle.dn_config.specs.declared.mask_field.Field.{Field}
+use Rattle.dn_config.specs.declared.mask_field.Field.TheVariants as f
 use Rattle.dn_config.specs.declared.kind.Kind.{Kind}
-use Rattle.dn_config.specs.declared.mask_word.MaskWord.TheVariants as m
+use Rattle.dn_config.specs.declared.mask_field.MaskWord.TheVariants as m
 use Rattle.dn_config.specs.declared.options.Options.{Options}
-use Rattle.dn_config.specs.declared.setting.Setting.TheVariants as set
+use Rattle.dn_config.specs.declared.option_group.Setting.TheVariants as set
 use Rattle.dn_config.proofs.MaskSteps.{fields_step, fields_nil, mask_begins}
 use Rattle.dn_config.proofs.OptionSteps.{options_nil}
 use Rattle.dn_config.proofs.OptionsBack.{reads_mask}

@@ -9,9 +9,9 @@ use Rattle.dn_config.specs.Keywords.{field_of, is_left_out_word}
 use Rattle.dn_config.specs.Reading.{read_field, read_fields, read_mask}
 use Rattle.dn_config.specs.declared.fault.LineFault.{LineFault}
 use Rattle.dn_config.specs.declared.fault.LineFault.TheVariants.{MissingValue, LeftOut}
-use Rattle.dn_config.specs.declared.mask_word.MaskWord.{MaskWord}
-use Rattle.dn_config.specs.declared.mask_word.MaskWord.TheVariants as m
-use Rattle.dn_config.specs.declared.field.Field.{Field}
+use Rattle.dn_config.specs.declared.mask_field.MaskWord.{MaskWord}
+use Rattle.dn_config.specs.declared.mask_field.MaskWord.TheVariants as m
+use Rattle.dn_config.specs.declared.mask_field.Field.{Field}
 
 -- where no word is left
 pub fields_nil : (mask : Mask) (at : ℕ) → read_fields mask at [] ≡ Ok (mask, (at, []))

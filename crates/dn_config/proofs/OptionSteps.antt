@@ -3,17 +3,17 @@ use Rattle.std.proofs.Common.{◌≡◌, refl, ◌∙◌, ap, ℕ, zero, suc, �
 use Rattle.std.specs.Prelude.{Option, Some, None, Result, Ok, Err}
 use Rattle.dn_types.specs.declared.mask.Mask.{Mask}
 use Rattle.dn_config.specs.Settings.{filled, set_option}
-use Rattle.dn_config.specs.Groups.{◌>>=◌, mask_len, group_len, groups, groups_after, Group, mask_at, setting_of, settings, belongs, value_of, option_at}
+use Rattle.dn_config.specs.Groups.{◌>>=◌, mask_len, group_len, groups, groups_after, mask_at, setting_of, settings, belongs, value_of, option_at}
 use Rattle.dn_config.specs.Keywords.{option_of, is_left_out_word}
 use Rattle.dn_config.specs.Reading.{read_mask, read_named, read_options}
 use Rattle.dn_config.specs.declared.fault.LineFault.{LineFault}
 use Rattle.dn_config.specs.declared.fault.LineFault.TheVariants.{MissingValue, LeftOut, UnknownWord}
 use Rattle.dn_config.specs.declared.kind.Kind.{Kind}
-use Rattle.dn_config.specs.declared.setting.Setting.{Setting}
-use Rattle.dn_config.specs.declared.setting.Setting.TheVariants as set
-use Rattle.dn_config.specs.declared.option_word.OptionWord.{OptionWord}
-use Rattle.dn_config.specs.declared.option_word.OptionWord.TheVariants as o
-use Rattle.dn_config.specs.declared.parameter.Parameter.{Parameter}
+use Rattle.dn_config.specs.declared.option_group.Setting.{Setting}
+use Rattle.dn_config.specs.declared.option_group.Setting.TheVariants as set
+use Rattle.dn_config.specs.declared.option_group.OptionWord.{OptionWord}
+use Rattle.dn_config.specs.declared.option_group.OptionWord.TheVariants as o
+use Rattle.dn_config.specs.declared.option_group.Parameter.{Parameter}
 use Rattle.dn_config.specs.declared.options.Options.{Options}
 
 -- groups behind a group
@@ -35,12 +35,6 @@ more_filled o (set.Mask n) ss = refl
 one_more : (o : Options) (r : Result (List Setting) LineFault) (s : Setting) → ◌>>=◌ {B = Options} (◌>>=◌ {B = List Setting} r (λ ss. Ok (s ∷ ss))) (λ ss. Ok (filled o ss)) ≡ ◌>>=◌ {B = Options} r (λ ss. Ok (filled (set_option o s) ss))
 one_more o (Ok ss) s = ap Ok (more_filled o s ss)
 one_more o (Err x) s = refl
-
-settings_bind : (k : Kind) (o : Options) (r : Result Setting LineFault) (gs hs : List Group) (y : ℕ × List (List ℕ)) → gs ≡ hs
-    → ◌>>=◌ {B = Options} (r >>= λ s. ◌>>=◌ {B = List Setting} (settings k gs) (λ ss. Ok (s ∷ ss))) (λ ss. Ok (filled o ss))
-    ≡ ◌>>=◌ {B = Options} (◌>>=◌ {B = Setting × (ℕ × List (List ℕ))} r (λ s. Ok (s, y))) (λ x. ◌>>=◌ {B = Options} (settings k hs) (λ ss. Ok (filled (set_option o x.0) ss)))
-settings_bind k o (Ok s) gs hs y e = rw e (one_more o (settings k hs) s)
-settings_bind k o (Err x) gs hs y e = refl
 
 settings_behind : (k : Kind) (o : Options) (r : Result Setting LineFault) (n at : ℕ) (ws : List (List ℕ))
     → ◌>>=◌ {B = Options} (r >>= λ s. ◌>>=◌ {B = List Setting} (settings k (groups_after n (at + 1) ws)) (λ ss. Ok (s ∷ ss))) (λ ss. Ok (filled o ss))

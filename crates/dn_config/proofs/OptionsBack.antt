@@ -13,12 +13,12 @@ use Rattle.dn_config.specs.Reading.{read_options, read_mask}
 use Rattle.dn_config.specs.Text.{number_words, limit_words, limit_text, loss_words, loss_text, buckets_words, link_words, share_words}
 use Rattle.dn_config.specs.declared.kind.Kind.{Kind}
 use Rattle.dn_config.specs.declared.kind.Kind.TheVariants as kind
-use Rattle.dn_config.specs.declared.option_word.OptionWord.TheVariants as o
+use Rattle.dn_config.specs.declared.option_group.OptionWord.TheVariants as o
 use Rattle.dn_config.specs.declared.options.Options.{Options}
-use Rattle.dn_config.specs.declared.parameter.Parameter.{Parameter}
-use Rattle.dn_config.specs.declared.parameter.Parameter.TheVariants as p
-use Rattle.dn_config.specs.declared.setting.Setting.{Setting}
-use Rattle.dn_config.specs.declared.setting.Setting.TheVariants as set
+use Rattle.dn_config.specs.declared.option_group.Parameter.{Parameter}
+use Rattle.dn_config.specs.declared.option_group.Parameter.TheVariants as p
+use Rattle.dn_config.specs.declared.option_group.Setting.{Setting}
+use Rattle.dn_config.specs.declared.option_group.Setting.TheVariants as set
 use Rattle.dn_config.proofs.OptionSteps.{options_step, options_nil, option_valued, option_mask_ok}
 use Rattle.dn_config.proofs.ValuesBack.{number_value_back, weight_back, buckets_back, delay_back, bandwidth_back, limit_back, loss_back}
 

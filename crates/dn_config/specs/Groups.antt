@@ -3,16 +3,16 @@ use Rattle.std.specs.Prelude.{ℕ, zero, suc, ◌+◌, Bool, true, false, cond, 
 use Rattle.dn_config.specs.Keywords.{option_of, field_of, is_left_out_word}
 use Rattle.dn_config.specs.Values.{number_at, weight_at, buckets_at, delay_at, limit_at, bandwidth_at, loss_at, bits_at}
 use Rattle.dn_config.specs.Masks.{no_bits, greatest_of, with_fields}
-use Rattle.dn_config.specs.declared.setting.Setting.{Setting}
-use Rattle.dn_config.specs.declared.setting.Setting.TheVariants as set
+use Rattle.dn_config.specs.declared.option_group.Setting.{Setting}
+use Rattle.dn_config.specs.declared.option_group.Setting.TheVariants as set
 use Rattle.dn_config.specs.declared.fault.LineFault.{LineFault}
 use Rattle.dn_config.specs.declared.fault.LineFault.TheVariants.{UnknownWord, MissingValue, LeftOut}
-use Rattle.dn_config.specs.declared.option_word.OptionWord.{OptionWord}
-use Rattle.dn_config.specs.declared.option_word.OptionWord.TheVariants as o
-use Rattle.dn_config.specs.declared.parameter.Parameter.{Parameter}
-use Rattle.dn_config.specs.declared.parameter.Parameter.TheVariants as p
-use Rattle.dn_config.specs.declared.mask_word.MaskWord.{MaskWord}
-use Rattle.dn_config.specs.declared.mask_word.MaskWord.TheVariants as m
+use Rattle.dn_config.specs.declared.option_group.OptionWord.{OptionWord}
+use Rattle.dn_config.specs.declared.option_group.OptionWord.TheVariants as o
+use Rattle.dn_config.specs.declared.option_group.Parameter.{Parameter}
+use Rattle.dn_config.specs.declared.option_group.Parameter.TheVariants as p
+use Rattle.dn_config.specs.declared.mask_field.MaskWord.{MaskWord}
+use Rattle.dn_config.specs.declared.mask_field.MaskWord.TheVariants as m
 use Rattle.dn_config.specs.declared.kind.Kind.{Kind}
 use Rattle.dn_config.specs.declared.kind.Kind.TheVariants as kind
 use Rattle.dn_types.specs.declared.mask.Mask.{Mask}

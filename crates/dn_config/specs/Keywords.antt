@@ -1,11 +1,11 @@
 -- What the words of a line mean, by their place.
 use Rattle.std.specs.Prelude.{ℕ, Bool, false, ◌||◌, List, [], ◌∷◌, codes, bytes_eq, cond, Option, Some, None}
-use Rattle.dn_config.specs.declared.option_word.OptionWord.{OptionWord}
-use Rattle.dn_config.specs.declared.option_word.OptionWord.TheVariants as o
-use Rattle.dn_config.specs.declared.parameter.Parameter.TheVariants as p
-use Rattle.dn_config.specs.declared.mask_word.MaskWord.{MaskWord}
-use Rattle.dn_config.specs.declared.mask_word.MaskWord.TheVariants as m
-use Rattle.dn_config.specs.declared.field.Field.TheVariants as f
+use Rattle.dn_config.specs.declared.option_group.OptionWord.{OptionWord}
+use Rattle.dn_config.specs.declared.option_group.OptionWord.TheVariants as o
+use Rattle.dn_config.specs.declared.option_group.Parameter.TheVariants as p
+use Rattle.dn_config.specs.declared.mask_field.MaskWord.{MaskWord}
+use Rattle.dn_config.specs.declared.mask_field.MaskWord.TheVariants as m
+use Rattle.dn_config.specs.declared.mask_field.Field.TheVariants as f
 
 -- What a table gives a word.
 abbrev pub at_word : {X : Type 0} → List (List ℕ × X) → List ℕ → Option X

@@ -1,10 +1,10 @@
 -- Masks and the fields that set them.
 use Rattle.std.specs.Prelude.{ℕ, ◌-◌, ◌^◌, ◌==◌, ◌&&◌, Bool, List, [], ◌∷◌}
 use Rattle.dn_types.specs.declared.mask.Mask.{Mask}
-use Rattle.dn_config.specs.declared.field.Field.{Field}
-use Rattle.dn_config.specs.declared.field.Field.TheVariants as f
-use Rattle.dn_config.specs.declared.mask_word.MaskWord.{MaskWord}
-use Rattle.dn_config.specs.declared.mask_word.MaskWord.TheVariants as m
+use Rattle.dn_config.specs.declared.mask_field.Field.{Field}
+use Rattle.dn_config.specs.declared.mask_field.Field.TheVariants as f
+use Rattle.dn_config.specs.declared.mask_field.MaskWord.{MaskWord}
+use Rattle.dn_config.specs.declared.mask_field.MaskWord.TheVariants as m
 
 -- The greatest value of a mask field.
 abbrev pub greatest_of : Field → ℕ

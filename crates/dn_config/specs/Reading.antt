@@ -6,14 +6,14 @@ use Rattle.dn_config.specs.Values.{bits_at}
 use Rattle.dn_config.specs.Settings.{filled}
 use Rattle.dn_config.specs.Masks.{set_field, all_bits, greatest_of, with_fields}
 use Rattle.dn_config.specs.Groups.{◌>>=◌, mask_len, group_len, groups, fields_at, mask_at, settings, option_at}
-use Rattle.dn_config.specs.declared.option_word.OptionWord.{OptionWord}
+use Rattle.dn_config.specs.declared.option_group.OptionWord.{OptionWord}
 use Rattle.dn_text.specs.declared.words.Words.{Words}
 use Rattle.dn_config.specs.declared.fault.LineFault.{LineFault}
 use Rattle.dn_config.specs.declared.fault.LineFault.TheVariants.{MissingValue}
-use Rattle.dn_config.specs.declared.mask_word.MaskWord.{MaskWord}
-use Rattle.dn_config.specs.declared.mask_word.MaskWord.TheVariants as m
+use Rattle.dn_config.specs.declared.mask_field.MaskWord.{MaskWord}
+use Rattle.dn_config.specs.declared.mask_field.MaskWord.TheVariants as m
 use Rattle.dn_config.specs.declared.kind.Kind.{Kind}
-use Rattle.dn_config.specs.declared.setting.Setting.{Setting}
+use Rattle.dn_config.specs.declared.option_group.Setting.{Setting}
 use Rattle.dn_config.specs.declared.options.Options.{Options}
 
 -- The words that are left.

@@ -5,8 +5,8 @@ use Rattle.dn_types.specs.declared.limit.Limit.TheVariants.{Slots}
 use Rattle.dn_types.specs.declared.mask.Mask.{Mask}
 use Rattle.dn_config.specs.Masks.{no_bits}
 use Rattle.dn_config.specs.declared.options.Options.{Options}
-use Rattle.dn_config.specs.declared.setting.Setting.{Setting}
-use Rattle.dn_config.specs.declared.setting.Setting.TheVariants as set
+use Rattle.dn_config.specs.declared.option_group.Setting.{Setting}
+use Rattle.dn_config.specs.declared.option_group.Setting.TheVariants as set
 
 -- What a setting says of an option, if it is a setting of that option: of the bandwidth, and below of each other one.
 abbrev pub bandwidth_in : Setting → Option ℕ

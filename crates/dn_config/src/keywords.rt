@@ -1,16 +1,22 @@
 ghost use Rattle.std.specs.Prelude.{◌≡◌, bytes_eq};
 ghost use Rattle.dn_config.specs.Keywords.{option_of, field_of, is_left_out_word, is_query};
+ghost use Rattle.dn_config.specs.Values.{lower};
 
-use crate::field::Field;
-use crate::mask_word::MaskWord;
-use crate::option_word::OptionWord;
-use crate::parameter::Parameter;
+use crate::mask_field::{Field, MaskWord};
+use crate::option_group::{OptionWord, Parameter};
 
 /// Is the word this keyword?
 pub fn is(word: &[u8], keyword: &str) -> bool
     ensures { result ≡ bytes_eq word.now keyword.now }
 {
     word == keyword.as_bytes()
+}
+
+/// Is the word this unit, in letters of either case? Only ASCII letters have a case here.
+pub fn is_in_any_case(word: &[u8], unit: &str) -> bool
+    ensures { result ≡ bytes_eq (lower word.now) (lower unit.now) }
+{
+    word.eq_ignore_ascii_case(unit.as_bytes())
 }
 
 /// The option that a word begins.

@@ -1,30 +1,23 @@
 //! Configuration lines in the manner of ipfw(8): from a line to a command, and back to its text.
 #![tactic(auto)]
 
-mod bandwidths;
-mod delays;
+mod bandwidth;
+mod delay;
 mod fault;
-mod field;
 mod keywords;
 mod kind;
-mod limits;
+mod limit;
 mod line;
-mod losses;
+mod loss;
 mod mask;
-mod mask_bits;
-mod mask_word;
-mod masks;
+mod mask_field;
 mod numbers;
-mod option;
-mod option_word;
+mod option_group;
 mod options;
-mod parameter;
 mod pieces;
 mod print;
 mod print_options;
 mod read_back;
-mod setting;
-mod units;
 
 pub use fault::LineFault;
 pub use line::parse_line;

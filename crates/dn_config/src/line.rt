@@ -9,8 +9,7 @@ use crate::fault::LineFault;
 use crate::keywords::{asks, is};
 use crate::kind::Kind;
 use crate::numbers::number_value;
-use crate::option::read_options;
-use crate::options::Options;
+use crate::options::{Options, read_options};
 use dn_text::Words;
 use dn_types::{Command, Number};
 

@@ -1,7 +1,13 @@
-ghost use Rattle.std.specs.Prelude.{◌≡◌};
+ghost use Rattle.std.specs.Prelude.{length, ◌<◌, ◌^◌, ◌≡◌, ◌+◌};
+ghost use Rattle.dn_config.specs.Settings.{defaults};
+ghost use Rattle.dn_config.specs.Reading.{read_options, left};
 
-use crate::masks::NO_BITS;
-use crate::setting::Setting;
+use crate::fault::LineFault;
+use crate::keywords::{is_left_out, option_named};
+use crate::kind::Kind;
+use crate::mask::NO_BITS;
+use crate::option_group::{Setting, option};
+use dn_text::Words;
 use dn_types::{Bandwidth, Buckets, Delay, Limit, Loss, Mask, Number, Weight};
 
 /// What the options of a line say together.
@@ -57,4 +63,24 @@ impl Options {
             Setting::Mask(mask) => Options { mask, ..self },
         }
     }
+}
+
+/// What all options of a line say together.
+pub fn read_options(kind: Kind, mut words: Words<'_>) -> Result<Options, LineFault>
+    requires { words.position + length words.rest.now < 2 ^ 64 }
+    ensures { result ≡ read_options kind defaults words.entry.position (left words.entry) }
+{
+    let mut options = Options::none();
+    while let Some((word, behind)) = words.next() {
+        let name = option_named(word);
+        let left_out = is_left_out(word);
+        match option(kind, words.position, name, left_out, behind) {
+            Ok((setting, behind)) => {
+                options = options.with(setting);
+                words = behind;
+            }
+            Err(fault) => return Err(fault),
+        }
+    }
+    Ok(options)
 }

@@ -1,7 +1,7 @@
 ghost use Rattle.std.specs.Prelude.{◌++◌, ◌≡◌, OnOk, string_bytes};
 ghost use Rattle.dn_config.specs.Text.{behind_spaces, limit_words, loss_words, buckets_words, field_words, fields_words, mask_words, both_words};
 
-use crate::masks::{has_all_bits, has_no_bits};
+use crate::mask::{has_all_bits, has_no_bits};
 use crate::pieces::{push_changed, push_option, push_padded, push_word};
 use dn_types::{Buckets, Limit, Loss, Mask};
 use std::alloc::AllocError;

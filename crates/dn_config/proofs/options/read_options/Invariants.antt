@@ -1,7 +1,7 @@
 use Rattle.std.proofs.Common.{◌≡◌, ◌<◌, ◌+◌, ◌^◌, length}
 use Rattle.dn_config.specs.Settings.{defaults}
 use Rattle.dn_config.specs.Reading.{read_options, left}
-use Rattle.dn_config.proofs.option.read_options.Given as goal
+use Rattle.dn_config.proofs.options.read_options.Given as goal
 
 abbrev pub invariant-loop-word : goal.invariant-loop-word
 invariant-loop-word l = (read_options l.kind defaults l.fn.words.position (left l.fn.words) ≡ read_options l.kind l.options l.words.position (left l.words)) × (l.words.position + length l.words.rest.now < 2 ^ 64)

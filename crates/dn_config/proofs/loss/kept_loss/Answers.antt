@@ -1,6 +1,6 @@
 use Rattle.std.proofs.Common.{arith}
 use Rattle.dn_config.proofs.Ranges.{kept_none, kept_high, kept_in}
-use Rattle.dn_config.proofs.losses.kept_loss.Goals as goal
+use Rattle.dn_config.proofs.loss.kept_loss.Goals as goal
 
 pub returns-in_default : goal.returns-in_default
 returns-in_default c = kept_none c.args.at 1000000000000000000 c.args.rate c.in_default.is

@@ -1,22 +1,49 @@
 ghost use Rattle.std.specs.Prelude.{IfOk, length, ◌<◌, ◌^◌, ◌≡◌, ◌+◌};
 ghost use Rattle.dn_config.specs.Groups.{value_of, belongs};
-ghost use Rattle.dn_config.specs.Settings.{defaults};
-ghost use Rattle.dn_config.specs.Reading.{GoesOn, Reads, read_named, read_options, left};
+ghost use Rattle.dn_config.specs.Reading.{GoesOn, Reads, read_named, left};
 
-use crate::bandwidths::bandwidth_value;
-use crate::delays::delay_value;
+use crate::bandwidth::bandwidth_value;
+use crate::delay::delay_value;
 use crate::fault::LineFault;
-use crate::keywords::{is_left_out, option_named};
 use crate::kind::Kind;
-use crate::limits::limit_value;
-use crate::losses::loss_value;
+use crate::limit::limit_value;
+use crate::loss::loss_value;
 use crate::mask::read_mask;
 use crate::numbers::{buckets_value, number_value, weight_value};
-use crate::option_word::OptionWord;
-use crate::options::Options;
-use crate::parameter::Parameter;
-use crate::setting::Setting;
 use dn_text::Words;
+use dn_types::{Bandwidth, Buckets, Delay, Limit, Loss, Mask, Number, Weight};
+
+/// An option with one value.
+#[derive(Clone, Copy, Debug, PartialEq, Eq)]
+pub enum Parameter {
+    Bandwidth,
+    Delay,
+    Queue,
+    Loss,
+    Buckets,
+    Weight,
+    Pipe,
+}
+
+/// A word that begins an option.
+#[derive(Clone, Copy, Debug, PartialEq, Eq)]
+pub enum OptionWord {
+    Valued(Parameter),
+    Mask,
+}
+
+/// What one option says.
+#[derive(Clone, Copy, Debug, PartialEq, Eq)]
+pub enum Setting {
+    Bandwidth(Bandwidth),
+    Delay(Delay),
+    Limit(Limit),
+    Loss(Loss),
+    Buckets(Buckets),
+    Weight(Weight),
+    Pipe(Number),
+    Mask(Mask),
+}
 
 /// May a line of this kind have this option?
 fn belongs_to(kind: Kind, parameter: Parameter) -> bool
@@ -45,7 +72,7 @@ fn valued(parameter: Parameter, value: &[u8], at: usize) -> Result<Setting, Line
 }
 
 /// What the option at this position says, by its keyword, and the words behind it.
-fn option(
+pub fn option(
     kind: Kind,
     at: usize,
     name: Option<OptionWord>,
@@ -80,24 +107,4 @@ fn option(
             Ok((setting, behind))
         }
     }
-}
-
-/// What all options of a line say together.
-pub fn read_options(kind: Kind, mut words: Words<'_>) -> Result<Options, LineFault>
-    requires { words.position + length words.rest.now < 2 ^ 64 }
-    ensures { result ≡ read_options kind defaults words.entry.position (left words.entry) }
-{
-    let mut options = Options::none();
-    while let Some((word, behind)) = words.next() {
-        let name = option_named(word);
-        let left_out = is_left_out(word);
-        match option(kind, words.position, name, left_out, behind) {
-            Ok((setting, behind)) => {
-                options = options.with(setting);
-                words = behind;
-            }
-            Err(fault) => return Err(fault),
-        }
-    }
-    Ok(options)
 }

@@ -2,7 +2,7 @@ use Rattle.std.proofs.Common.{◌+◌, ◌∙◌, ap, sym}
 use Rattle.std.specs.Prelude.{Some}
 use Rattle.std.proofs.lemmas.Result.{err_from_is_err_and}
 use Rattle.dn_config.proofs.OptionSteps.{option_unknown, option_left, option_foreign, option_missing, option_valued, option_bad, option_mask_ok, option_mask_err}
-use Rattle.dn_config.proofs.option.option.Goals as goal
+use Rattle.dn_config.proofs.option_group.option.Goals as goal
 
 pub returns-then-left_out-clause-reads : goal.returns-then-left_out-clause-reads
 returns-then-left_out-clause-reads c = option_left c.args.kind c.args.at c.args.name c.args.left_out _ c.in_default.is c.if-left_out.true

@@ -1,10 +1,41 @@
 ghost use Rattle.std.specs.Prelude.{◌≡◌, ◌≤◌, ◌<◌, ◌==◌, ◌&&◌, ◌||◌, IfOk, IsTrue, slice_index, length};
 ghost use Rattle.dn_text.specs.Numbers.{within};
+ghost use Rattle.dn_config.specs.Masks.{greatest_of};
 ghost use Rattle.dn_config.specs.Values.{placed, bits_of, bits_at};
 
 use crate::fault::LineFault;
 use crate::numbers::number_fault;
 use dn_text::{NumberFault, read_number, read_numeral};
+
+/// A field of a mask.
+#[derive(Clone, Copy, Debug, PartialEq, Eq)]
+pub enum Field {
+    DstIp,
+    SrcIp,
+    DstPort,
+    SrcPort,
+    Proto,
+}
+
+impl Field {
+    /// The value of the field with all bits set.
+    pub fn greatest(self) -> u32
+        ensures { result ≡ greatest_of self }
+    {
+        match self {
+            Field::DstIp | Field::SrcIp => 0xffff_ffff,
+            Field::DstPort | Field::SrcPort => 0xffff,
+            Field::Proto => 0xff,
+        }
+    }
+}
+
+/// A word of a mask.
+#[derive(Clone, Copy, Debug, PartialEq, Eq)]
+pub enum MaskWord {
+    Valued(Field),
+    All,
+}
 
 /// Does the word begin with a slash?
 fn begins_with_slash(word: &[u8]) -> bool

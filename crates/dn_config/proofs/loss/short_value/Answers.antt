@@ -1,6 +1,6 @@
 use Rattle.std.proofs.Common.{arith, ◌∙◌}
 use Rattle.dn_config.proofs.Ranges.{short_ok, short_err, short_bound}
-use Rattle.dn_config.proofs.losses.short_value.Goals as goal
+use Rattle.dn_config.proofs.loss.short_value.Goals as goal
 
 pub returns-in-Ok-clause-value : goal.returns-in-Ok-clause-value
 returns-in-Ok-clause-value c = c.from.ensures ∙ short_ok c.args.digits.now _ c.in-Ok.value c.in-Ok.ensures.value

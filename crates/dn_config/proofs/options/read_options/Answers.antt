@@ -1,6 +1,6 @@
 use Rattle.std.proofs.Common.{arith, sym}
 use Rattle.dn_config.proofs.OptionSteps.{options_ok, options_err, options_done}
-use Rattle.dn_config.proofs.option.read_options.Goals as goal
+use Rattle.dn_config.proofs.options.read_options.Goals as goal
 
 pub returns-in-Err : goal.returns-in-Err
 returns-in-Err c = sym (options_err _ c.args.kind c.loop-word.options c.loop-word.words.position _ c.loop-word.invariant.0 _ _ _ _ _ c.in-Some.ensures.0 c.option_named-name.ensures c.is_left_out-left_out.ensures c.in-Err.ensures.reads)

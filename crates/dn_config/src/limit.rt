@@ -4,9 +4,8 @@ ghost use Rattle.dn_text.specs.Numbers.{number_within};
 ghost use Rattle.dn_config.specs.Values.{placed, limited, limit_at};
 
 use crate::fault::LineFault;
-use crate::keywords::is;
+use crate::keywords::{is, is_in_any_case};
 use crate::numbers::number_between;
-use crate::units::is_in_any_case;
 use dn_text::split_digits;
 use dn_types::Limit;
 
