@@ -67,7 +67,8 @@ fn keep(
     }
 }
 
-/// The commands of a configuration's text with the numbers of their lines.
+/// The commands of a configuration's text with the numbers of their lines. All lines are read before any
+/// command is made. A replay has a loop of its own, which makes each command before it reads on.
 fn commands_of_text(alloc: Global, text: &[u8]) -> Result<Vec<(usize, Command)>, ReplayFault>
     ensures ok { IfOk result (λ commands. commands_of text.now ≡ Ok commands.items) }
     ensures err { IfErr result (λ fault. IsFaultOf (commands_of text.now) fault) }

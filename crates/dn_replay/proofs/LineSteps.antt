@@ -11,7 +11,7 @@ use Rattle.dn_types.specs.declared.entry.Entry.{Entry}
 use Rattle.dn_records.specs.Records.{line_of, text_of}
 use Rattle.dn_replay.specs.Report.{entry_line, in_order, is_other, is_out, is_submit, line_fields, lines_after, lines_of, outs_in_order, report, report_header, row_number, submits_by}
 use Rattle.dn_replay.specs.Tables.{counts_after}
-use Rattle.dn_replay.specs.declared.line.Line.{Line}
+use Rattle.dn_replay.specs.declared.report.report_line.ReportLine.{ReportLine}
 use Rattle.dn_records.proofs.TextSteps.{text-append}
 
 same : (a b : ℕ) → nat_eq a b ≡ true → a ≡ b
@@ -54,7 +54,7 @@ lines-step n given entries i e lt is =
     rw (cut, more) refl
 
 -- The same of the lines that pass a test.
-pub passed : (test : Line → Bool) (n : ℕ) (given : List Delivery) (entries : List Entry) (i : ℕ) (e : Entry) (front total : List Line) (one : Option Line) → i < length entries → e ≡ get_or entries i e
+pub passed : (test : ReportLine → Bool) (n : ℕ) (given : List Delivery) (entries : List Entry) (i : ℕ) (e : Entry) (front total : List ReportLine) (one : Option ReportLine) → i < length entries → e ≡ get_or entries i e
     → one ≡ entry_line n given (submits_by e.caller (take i entries)) e
     → front ++ filter test (lines_after n given (take i entries) (drop i entries)) ≡ total
     → (front ++ filter test (option_to_list one)) ++ filter test (lines_after n given (take (i + 1) entries) (drop (i + 1) entries)) ≡ total
@@ -63,7 +63,7 @@ passed test n given entries i e front total one lt is line so_far =
     append_assoc front _ _ ∙ whole
 
 -- No entry is left.
-pub all : (test : Line → Bool) (n : ℕ) (given : List Delivery) (entries : List Entry) (i : ℕ) (front total : List Line) → length entries ≤ i
+pub all : (test : ReportLine → Bool) (n : ℕ) (given : List Delivery) (entries : List Entry) (i : ℕ) (front total : List ReportLine) → length entries ≤ i
     → front ++ filter test (lines_after n given (take i entries) (drop i entries)) ≡ total → front ≡ total
 unfolding lines_after
 all test n given entries i front total le so_far =
@@ -71,7 +71,7 @@ all test n given entries i front total le so_far =
     sym (append-nil front) ∙ whole
 
 -- The header, the lines of delivered packets and the others are the report.
-pub report_is : (n : ℕ) (history : List Entry) (outs others : List Line) → outs ≡ outs_in_order (filter is_out (lines_of n history)) → others ≡ in_order row_number (filter is_other (lines_of n history))
+pub report_is : (n : ℕ) (history : List Entry) (outs others : List ReportLine) → outs ≡ outs_in_order (filter is_out (lines_of n history)) → others ≡ in_order row_number (filter is_other (lines_of n history))
     → (line_of report_header ++ text_of (map line_fields outs)) ++ text_of (map line_fields others) ≡ report n history
 unfolding report text_of
 report_is n history outs others is_outs is_others =

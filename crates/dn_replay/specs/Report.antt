@@ -8,8 +8,8 @@ use Rattle.dn_types.specs.declared.entry.Entry.{Entry}
 use Rattle.dn_types.specs.declared.reply.Reply.{Reply}
 use Rattle.dn_types.specs.declared.reply.Reply.TheVariants.{Queued, Lost, Full, NoTarget, Delivered}
 use Rattle.dn_records.specs.Records.{Fields, text_of}
-use Rattle.dn_replay.specs.declared.line.Line.{Line}
-use Rattle.dn_replay.specs.declared.line.Line.TheVariants as line
+use Rattle.dn_replay.specs.declared.report.report_line.ReportLine.{ReportLine}
+use Rattle.dn_replay.specs.declared.report.report_line.ReportLine.TheVariants as line
 
 -- What a reply delivers.
 abbrev pub delivered : Reply → List Delivery
@@ -26,12 +26,12 @@ abbrev pub delivery_of : ℕ → List Delivery → Option Delivery
 delivery_of packet list = find (λ d. nat_eq d.packet packet) list
 
 -- The line of an accepted packet.
-abbrev pub queued_line : ℕ → ℕ → ℕ → ℕ → Option Delivery → Line
+abbrev pub queued_line : ℕ → ℕ → ℕ → ℕ → Option Delivery → ReportLine
 queued_line row at flow packet None = line.Held row flow packet at
 queued_line row at flow packet (Some d) = line.Out row flow packet at d.start d.due
 
 -- The line of a Submit of this row by its reply.
-abbrev pub reply_line : ℕ → List Delivery → Reply → Option Line
+abbrev pub reply_line : ℕ → List Delivery → Reply → Option ReportLine
 reply_line row given (Queued at flow packet) = Some (queued_line row at flow packet (delivery_of packet given))
 reply_line row given (Lost at flow) = Some (line.Lost row flow at)
 reply_line row given (Full at flow) = Some (line.Full row flow at)
@@ -47,36 +47,36 @@ abbrev pub submits_by : ℕ → List Entry → ℕ
 submits_by caller entries = count_by (λ e. is_submit e.call && nat_eq e.caller caller) entries
 
 -- The line of an entry whose caller has made this many Submits before it. With n callers, the rows of a caller are n apart.
-abbrev pub entry_line : ℕ → List Delivery → ℕ → Entry → Option Line
+abbrev pub entry_line : ℕ → List Delivery → ℕ → Entry → Option ReportLine
 entry_line n given before e = cond (is_submit e.call) (reply_line (e.caller + before * n + 1) given e.reply) None
 
 -- The lines of the entries that follow those before them.
-unfoldable pub lines_after : ℕ → List Delivery → List Entry → List Entry → List Line
+unfoldable pub lines_after : ℕ → List Delivery → List Entry → List Entry → List ReportLine
 lines_after n given before [] = []
 lines_after n given before (e ∷ rest) = option_to_list (entry_line n given (submits_by e.caller before) e) ++ lines_after n given (before ++ e ∷ []) rest
 
 -- The lines of a history with n callers, as its Submits follow each other.
-abbrev pub lines_of : ℕ → List Entry → List Line
+abbrev pub lines_of : ℕ → List Entry → List ReportLine
 lines_of n history = lines_after n (deliveries history) [] history
 
-abbrev pub is_out : Line → Bool
+abbrev pub is_out : ReportLine → Bool
 is_out (line.Out row flow packet at start due) = true
 is_out _ = false
 
-abbrev pub is_other : Line → Bool
+abbrev pub is_other : ReportLine → Bool
 is_other l = not (is_out l)
 
 -- When the packet of an `out` line is due, and its number. Other lines are never asked.
-abbrev pub due_of : Line → ℕ
+abbrev pub due_of : ReportLine → ℕ
 due_of (line.Out row flow packet at start due) = due
 due_of _ = 0
 
-abbrev pub packet_of : Line → ℕ
+abbrev pub packet_of : ReportLine → ℕ
 packet_of (line.Out row flow packet at start due) = packet
 packet_of _ = 0
 
 -- The row of a line.
-abbrev pub row_number : Line → ℕ
+abbrev pub row_number : ReportLine → ℕ
 row_number (line.Out row flow packet at start due) = row
 row_number (line.Held row flow packet at) = row
 row_number (line.Lost row flow at) = row
@@ -94,15 +94,15 @@ in_order place [] = []
 in_order place (x ∷ xs) = with_placed place x (in_order place xs)
 
 -- The `out` lines by their due moments, and those of one due moment by packet number.
-abbrev pub outs_in_order : List Line → List Line
+abbrev pub outs_in_order : List ReportLine → List ReportLine
 outs_in_order outs = in_order due_of (in_order packet_of outs)
 
 -- The lines of a report: the `out` lines in the order of their deliveries, and then the others by row.
-abbrev pub report_lines : ℕ → List Entry → List Line
+abbrev pub report_lines : ℕ → List Entry → List ReportLine
 report_lines n history = outs_in_order (filter is_out (lines_of n history)) ++ in_order row_number (filter is_other (lines_of n history))
 
 -- The fields of a line. What doesn't apply is empty.
-abbrev pub line_fields : Line → Fields
+abbrev pub line_fields : ReportLine → Fields
 line_fields (line.Out row flow packet at start due) = codes "out" ∷ decimal row ∷ decimal flow ∷ decimal packet ∷ decimal at ∷ decimal start ∷ decimal due ∷ []
 line_fields (line.Held row flow packet at) = codes "held" ∷ decimal row ∷ decimal flow ∷ decimal packet ∷ decimal at ∷ [] ∷ [] ∷ []
 line_fields (line.Lost row flow at) = codes "lost" ∷ decimal row ∷ decimal flow ∷ [] ∷ decimal at ∷ [] ∷ [] ∷ []

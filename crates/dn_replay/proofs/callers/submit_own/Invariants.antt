@@ -1,6 +1,0 @@
-use Rattle.std.proofs.Common.{◌≤◌, take}
-use Rattle.dn_replay.specs.Callers.{HasSubmitted}
-use Rattle.dn_replay.proofs.callers.submit_own.Given as goal
-
-abbrev pub invariant-loop-place : goal.invariant-loop-place
-invariant-loop-place g l = (l.turn ≤ l.place) × HasSubmitted l.n (take l.place l.rows) l.fn.caller l.caller

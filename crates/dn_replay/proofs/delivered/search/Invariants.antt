@@ -1,6 +1,0 @@
-use Rattle.std.proofs.Common.{◌≡◌, take, None}
-use Rattle.dn_replay.specs.Report.{deliveries, delivery_of}
-use Rattle.dn_replay.proofs.delivered.search.Given as goal
-
-abbrev pub invariant-loop-entry : goal.invariant-loop-entry
-invariant-loop-entry l = delivery_of l.packet (deliveries (take l.entry-index l.entries)) ≡ None

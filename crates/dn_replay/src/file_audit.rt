@@ -1,0 +1,54 @@
+ghost use Rattle.std.specs.Prelude.{◌≡◌, false, string_bytes, IfOk, IfErr};
+ghost use Rattle.dn_replay.specs.FileAudit.{IsAuditFault, IsAudited, IsUnaudited, verdict_line};
+
+use crate::history_audit::audit;
+use crate::verdict::Verdict;
+use dn_files::{ReplayFault, Source, write_text};
+use dn_history::read_history;
+use dn_records::{Inlet, Outlet};
+use std::alloc::{AllocError, Global};
+
+/// The line that tells a verdict on a history of this many entries.
+fn verdict_line(alloc: Global, entries: usize, verdict: Verdict) -> Result<String, AllocError>
+    ensures { IfOk result (λ line. string_bytes line ≡ verdict_line entries verdict) }
+{
+    match verdict {
+        Verdict::Lawful => format!(in alloc; "lawful {entries}\n"),
+        Verdict::Differs(index) => format!(in alloc; "differs {index}\n"),
+    }
+}
+
+/// Reads a history file, audits it by the rule of its version, and writes one line: `lawful` and the
+/// count of the entries, or `differs` and the first entry that differs, counted from 0. A history file has
+/// at most 268,435,456 bytes, and that of a large replay can be longer. The faults are those of
+/// `read_history`, `OutOfMemory` also where an audit or the line was refused memory, and `Write(Report)`
+/// where a write of the line failed.
+pub fn audit_file<I: Inlet, O: Outlet>(
+    alloc: Global,
+    history: &mut I,
+    out: &mut O,
+) -> Result<Verdict, ReplayFault>
+    requires input { I.has_failed history.old ≡ false }
+    requires out { O.has_failed out.old ≡ false }
+    ensures ok { IfOk result (λ verdict. IsAudited (I.remaining history.old) verdict
+        (O.contents out.old) (O.contents out.new)) }
+
+    // No read and no write failed.
+    ensures inputs { IfOk result (λ _. I.has_failed history.new ≡ false) }
+    ensures sound { IfOk result (λ _. O.has_failed out.new ≡ false) }
+    ensures err { IfErr result (λ fault. IsUnaudited (I.remaining history.old) (I.has_failed history.new)
+        (O.contents out.old) (O.contents out.new) (O.has_failed out.new) fault) }
+    ensures faults { IfErr result (λ fault. IsAuditFault fault) }
+{
+    let (rule, entries) = read_history(alloc, history)?;
+    let Ok(verdict) = audit(alloc, rule, entries.as_slice()) else {
+        return Err(ReplayFault::OutOfMemory);
+    };
+    let Ok(line) = verdict_line(alloc, entries.len(), verdict) else {
+        return Err(ReplayFault::OutOfMemory);
+    };
+    match write_text(out, Source::Report, line.as_bytes()) {
+        Ok(()) => Ok(verdict),
+        Err(fault) => Err(fault),
+    }
+}

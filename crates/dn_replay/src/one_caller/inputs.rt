@@ -1,0 +1,72 @@
+ghost use Rattle.std.specs.Prelude.{◌≡◌, List, [], false, None, Ok, OnOk, IfOk, IfErr};
+ghost use Rattle.dn_types.specs.declared.call.Call.{Call};
+ghost use Rattle.dn_files.specs.PacketFile.{packet_file};
+ghost use Rattle.dn_files.specs.Reading.{IsRefusal, ReadsAs};
+ghost use Rattle.dn_files.specs.declared.source.Source.TheVariants.{Config};
+ghost use Rattle.dn_replay.specs.Replays.{AskFor, AsksFor, config_calls, EitherFailed, InputFailed, IsUnread};
+ghost use Rattle.dn_replay.specs.Runs.{HasMade, replayed};
+
+use crate::one_caller::apply_lines::configure;
+use crate::one_caller::run::Run;
+use dn_files::{
+    CONFIG_LIMIT, PACKET_LIMIT, ReplayFault, Row, Source, read_input, read_packets, rows_of_text,
+};
+use dn_records::Inlet;
+use dn_text::split_joined;
+use std::alloc::Global;
+
+/// Makes the commands of a configuration by a run before its first call.
+fn configure_from<I: Inlet>(alloc: Global, run: &mut Run, config: &mut I) -> Result<(), ReplayFault>
+    requires made { HasMade run.old [] }
+    requires sound { I.has_failed config.old ≡ false }
+    ensures ok { OnOk result ((calls : List Call) × ReadsAs config_calls (I.remaining config.old) calls × HasMade run.new calls) }
+    ensures sound { OnOk result (I.has_failed config.new ≡ false) }
+    ensures err { IfErr result (λ fault.
+        IsRefusal Config config_calls (I.remaining config.old) (I.has_failed config.new) fault) }
+{
+    let text = read_input(alloc, config, CONFIG_LIMIT, Source::Config)?;
+    configure(run, text.as_slice())
+}
+
+/// Makes the commands of a configuration by a run before its first call, and reads the rows of a packet
+/// file.
+pub(crate) fn read_inputs<C: Inlet, P: Inlet>(
+    alloc: Global,
+    run: &mut Run,
+    config: &mut C,
+    packets: &mut P,
+) -> Result<Vec<Row>, ReplayFault>
+    requires made { HasMade run.old [] }
+    requires config { C.has_failed config.old ≡ false }
+    requires packets { P.has_failed packets.old ≡ false }
+    ensures ok { IfOk result (λ rows. (calls : List Call) × ReadsAs config_calls (C.remaining config.old) calls
+        × ReadsAs packet_file (P.remaining packets.old) rows.items × HasMade run.new calls) }
+    ensures inputs { IfOk result (λ _. EitherFailed (C.remaining config.old)
+        (C.has_failed config.new) (P.has_failed packets.new) None) }
+    ensures err { IfErr result (λ fault.
+        IsUnread (EitherFailed (C.remaining config.old) (C.has_failed config.new) (P.has_failed packets.new))
+        (AskFor (C.remaining config.old) (P.remaining packets.old)) fault) }
+{
+    configure_from(alloc, run, config)?;
+    read_packets(alloc, packets)
+}
+
+/// The same of the two parts of one joined input.
+pub(crate) fn read_joined<I: Inlet>(
+    alloc: Global,
+    run: &mut Run,
+    input: &mut I,
+) -> Result<Vec<Row>, ReplayFault>
+    requires made { HasMade run.old [] }
+    requires sound { I.has_failed input.old ≡ false }
+    ensures ok { IfOk result (λ rows. (calls : List Call) × AsksFor (I.remaining input.old) (Ok (replayed calls rows.items))
+        × HasMade run.new calls) }
+    ensures inputs { IfOk result (λ _. InputFailed (I.has_failed input.new) None) }
+    ensures err { IfErr result (λ fault.
+        IsUnread (InputFailed (I.has_failed input.new)) (AsksFor (I.remaining input.old)) fault) }
+{
+    let text = read_input(alloc, input, PACKET_LIMIT, Source::Input)?;
+    let (config, packets) = split_joined(text.as_slice());
+    configure(run, config)?;
+    rows_of_text(alloc, packets)
+}
