@@ -3,6 +3,7 @@ use crate::histories::one_caller;
 use dn_replay::{FromReader, Inlet, ReplayFault, Source, read_history};
 use dn_types::{Deliveries, Delivery, Entry, FlowKey, FlowStatus, Reply, Rule, Statuses, Target};
 use std::alloc::Global;
+use std::io;
 use std::test::Fail;
 
 // The file of one caller's history, record by record.
@@ -208,4 +209,12 @@ fn a_failed_read_of_a_history_is_told(rt: HostRuntime) {
     let fault = ReplayFault::Read(Source::History);
     assert!(rt; read_history(rt.alloc(), &mut failing).err() == Some(fault));
     assert!(rt; failing.failed());
+}
+
+#[test]
+fn a_history_that_never_ends_is_too_long(rt: HostRuntime) {
+    let mut input = FromReader::new(io::repeat(b'\n'));
+    let fault = ReplayFault::TooLong(Source::History);
+    assert!(rt; read_history(rt.alloc(), &mut input).err() == Some(fault));
+    assert!(rt; !input.failed());
 }

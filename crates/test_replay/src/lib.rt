@@ -8,6 +8,8 @@ mod broken;
 #[cfg(test)]
 mod callers;
 #[cfg(test)]
+mod closed;
+#[cfg(test)]
 mod example;
 #[cfg(test)]
 mod fakes;

@@ -1,6 +1,8 @@
 use crate::headers::{PACKET_HEADER, REPORT_HEADER};
+use crate::histories::NO_BITS;
 use dn_records::{FromReader, FromWriter};
 use dn_replay::{ReplayFault, read_config, read_packets, replay, replay_joined};
+use dn_types::{Command, Limit, Loss, Number, Weight};
 use std::alloc::{AllocError, Global};
 use std::io::Read;
 use std::test::Fail;
@@ -172,6 +174,19 @@ fn packet_rows(rt: HostRuntime) -> Result<(), Fail> {
     Ok(())
 }
 
+// The command of `queue 1 config pipe 3`.
+fn queue_of_pipe_three() -> Option<Command> {
+    Some(Command::Queue {
+        number: Number::new(1)?,
+        pipe: Number::new(3)?,
+        weight: Weight::new(1)?,
+        limit: Limit::slots(50)?,
+        loss: Loss::new(0)?,
+        buckets: None,
+        mask: NO_BITS,
+    })
+}
+
 #[test]
 fn a_queue_without_its_pipe(rt: HostRuntime) -> Result<(), Fail> {
     let alloc = rt.alloc();
@@ -183,7 +198,8 @@ fn a_queue_without_its_pipe(rt: HostRuntime) -> Result<(), Fail> {
     let Ok(commands) = read_config(alloc, &mut file) else {
         panic!(rt; "the line is a command")
     };
-    assert!(rt; commands.len() == 1 && commands[0].0 == 1);
+    let queue = queue_of_pipe_three().ok_or("the values are in range")?;
+    assert!(rt; commands.as_slice() == [(1, queue)].as_slice());
     Ok(())
 }
 
