@@ -12,9 +12,9 @@ use Rattle.dn_types.specs.declared.mask.Mask.{Mask}
 use Rattle.dn_config.specs.Masks.{no_bits}
 use Rattle.dn_types.specs.declared.command.Command.{Command}
 use Rattle.dn_types.specs.declared.command.Command.TheVariants as c
-use Rattle.dn_config.specs.Commands.{IsInRange, IsBetween, AreShared}
+use Rattle.dn_config.specs.Commands.{IsTyped, IsBetween, AreShared}
 use Rattle.dn_config.specs.Reading.{read_options}
-use Rattle.dn_config.specs.Line.{answer, command_of, config_at, target_at, deletes}
+use Rattle.dn_config.specs.Line.{answer, command_of, config_at, behind_kind, deletes}
 use Rattle.dn_config.specs.Text.{text, text_words, loss_words, buckets_words, mask_words, both_words, link_words, share_words}
 use Rattle.dn_config.specs.declared.fault.LineFault.{LineFault}
 use Rattle.dn_config.specs.declared.kind.Kind.{Kind}
@@ -53,16 +53,16 @@ no_keyword (d ∷ ds) c cs l h =
     other_byte d c l h = grind (arith, nat_tests)
 
 -- the head of a line whose second word is a number
-head_back : (k : Kind) (at n : ℕ) (ws : List (List ℕ)) (r : Result Command LineFault) → IsBetween 1 65535 n → config_at k at n ws ≡ r → target_at k at (decimal n ∷ codes "config" ∷ ws) ≡ r
+head_back : (k : Kind) (at n : ℕ) (ws : List (List ℕ)) (r : Result Command LineFault) → IsBetween 1 65535 n → config_at k at n ws ≡ r → behind_kind k at (decimal n ∷ codes "config" ∷ ws) ≡ r
 head_back k at n ws r h e =
     let digits = ascii_digits (decimal n) (decimal_is_IsNumeral n (omega (arith, h))).0.1 in
     rw (no_keyword (decimal n) 100 _ (omega arith) digits, no_keyword (decimal n) 115 _ (omega arith) digits, no_keyword (decimal n) 108 _ (omega arith) digits, number_value_back (at + 1) n h.0 h.1) e
 
-delete_back : (k : Kind) (n : ℕ) → IsBetween 1 65535 n → target_at k 1 (codes "delete" ∷ decimal n ∷ []) ≡ Ok (deletes k n)
+delete_back : (k : Kind) (n : ℕ) → IsBetween 1 65535 n → behind_kind k 1 (codes "delete" ∷ decimal n ∷ []) ≡ Ok (deletes k n)
 delete_back k n h = rw (number_value_back 3 n h.0 h.1) refl
 
 pipe_back : (n bw delay : ℕ) (limit : Limit) (loss : ℕ) (buckets : Option ℕ) (mask : Mask) → IsBetween 1 65535 n → bw ≤ 1000000000000 → delay ≤ 3600000 → AreShared limit loss buckets mask
-    → target_at kind.Pipe 1 (decimal n ∷ codes "config" ∷ (link_words bw delay ++ both_words limit loss buckets mask)) ≡ Ok (c.Pipe n bw delay limit loss buckets mask)
+    → behind_kind kind.Pipe 1 (decimal n ∷ codes "config" ∷ (link_words bw delay ++ both_words limit loss buckets mask)) ≡ Ok (c.Pipe n bw delay limit loss buckets mask)
 pipe_back n bw delay limit loss buckets mask h a b s =
     let ws = link_words bw delay ++ both_words limit loss buckets mask in
     let link = gives_link bw delay a b 4 (both_words limit loss buckets mask) in
@@ -71,7 +71,7 @@ pipe_back n bw delay limit loss buckets mask h a b s =
     (sym (config_ok kind.Pipe 1 n 4 ws (said bw delay None 1 limit loss buckets mask) refl (sym options)))
 
 queue_back : (n pipe weight : ℕ) (limit : Limit) (loss : ℕ) (buckets : Option ℕ) (mask : Mask) → IsBetween 1 65535 n → IsBetween 1 65535 pipe → IsBetween 1 100 weight → AreShared limit loss buckets mask
-    → target_at kind.Queue 1 (decimal n ∷ codes "config" ∷ (share_words pipe weight ++ both_words limit loss buckets mask)) ≡ Ok (c.Queue n pipe weight limit loss buckets mask)
+    → behind_kind kind.Queue 1 (decimal n ∷ codes "config" ∷ (share_words pipe weight ++ both_words limit loss buckets mask)) ≡ Ok (c.Queue n pipe weight limit loss buckets mask)
 queue_back n pipe weight limit loss buckets mask h a b s =
     let ws = share_words pipe weight ++ both_words limit loss buckets mask in
     let share = gives_share pipe weight a b 4 (both_words limit loss buckets mask) in
@@ -79,7 +79,7 @@ queue_back n pipe weight limit loss buckets mask h a b s =
     head_back kind.Queue 1 n ws (Ok (c.Queue n pipe weight limit loss buckets mask)) h
     (sym (config_ok kind.Queue 1 n 4 ws (said 0 0 (Some pipe) weight limit loss buckets mask) refl (sym options)))
 
-words_command : (command : Command) → IsInRange command → command_of (text_words command) ≡ Ok (Some command)
+words_command : (command : Command) → IsTyped command → command_of (text_words command) ≡ Ok (Some command)
 unfolding text_words
 words_command (c.Pipe n bw delay limit loss buckets mask) h = rw (pipe_back n bw delay limit loss buckets mask h.0 h.1 h.2 h.3) refl
 words_command (c.Queue n pipe weight limit loss buckets mask) h = rw (queue_back n pipe weight limit loss buckets mask h.0 h.1 h.2 h.3) refl
@@ -87,6 +87,6 @@ words_command (c.DeletePipe n) h = rw (delete_back kind.Pipe n h) refl
 words_command (c.DeleteQueue n) h = rw (delete_back kind.Queue n h) refl
 
 -- the law
-pub text_back : (command : Command) → IsInRange command → answer (text command) ≡ Ok (Some command)
+pub text_back : (command : Command) → IsTyped command → answer (text command) ≡ Ok (Some command)
 unfolding answer text
 text_back command h = ap command_of (words_back (text_words command) (text_plain command h).plain) ∙ words_command command h

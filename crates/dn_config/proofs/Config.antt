@@ -3,7 +3,7 @@ use Rattle.std.proofs.Common.{◌≡◌, refl, sym, ◌∙◌, ℕ, ◌+◌, Lis
 use Rattle.std.specs.Prelude.{Result, Ok, Err}
 use Rattle.dn_types.specs.declared.command.Command.{Command}
 use Rattle.dn_config.specs.Settings.{filled, defaults}
-use Rattle.dn_config.specs.Groups.{◌>>=◌, groups, settings}
+use Rattle.dn_config.specs.Groups.{◌>>=◌, groups, group_settings}
 use Rattle.dn_config.specs.Reading.{read_options}
 use Rattle.dn_config.specs.Line.{config_at, command_with}
 use Rattle.dn_config.specs.declared.fault.LineFault.{LineFault}
@@ -20,7 +20,7 @@ module _ (k : Kind) (at n : ℕ) where
 
   config_is : (place : ℕ) (ws : List (List ℕ)) → place ≡ at + 3 → config_at k at n ws ≡ ◌>>=◌ {B = Command} (read_options k defaults place ws) (λ o. command_with k at n o)
   unfolding read_options
-  config_is place ws e = rw e (then_command (settings k (groups (at + 3) ws)))
+  config_is place ws e = rw e (then_command (group_settings k (groups (at + 3) ws)))
 
   pub config_ok : (place : ℕ) (ws : List (List ℕ)) (o : Options) → place ≡ at + 3 → Ok o ≡ read_options k defaults place ws → command_with k at n o ≡ config_at k at n ws
   config_ok place ws o e h = sym (config_is place ws e ∙ rw (← h) refl)

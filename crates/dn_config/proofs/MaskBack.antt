@@ -4,11 +4,11 @@ use Rattle.std.specs.Prelude.{◌==◌, codes, Some, Ok, is_some, ◌||◌}
 use Rattle.std.proofs.lemmas.Bool.{eqb-true, and_parts, and_from}
 use Rattle.dn_types.specs.declared.mask.Mask.{Mask}
 use Rattle.dn_config.specs.Keywords.{field_of, is_left_out_word}
-use Rattle.dn_config.specs.Masks.{is_clear, is_full, no_bits, all_bits, set_field, greatest_of}
+use Rattle.dn_config.specs.Masks.{has_no_bits, has_all_bits, no_bits, all_bits, set_field, greatest_of}
 use Rattle.dn_config.specs.Settings.{set_option}
 use Rattle.dn_config.specs.Commands.{IsMask}
 use Rattle.dn_config.specs.Reading.{read_options, read_fields}
-use Rattle.dn_config.specs.Text.{padded, field_words, fields_words, mask_words}
+use Rattle.dn_config.specs.Text.{zero_padded, field_words, fields_words, mask_words}
 use Rattle.dn_config.specs.declared.mask_field.Field.{Field}
 use Rattle.dn_config.specs.declared.mask_field.Field.TheVariants as f
 use Rattle.dn_config.specs.declared.kind.Kind.{Kind}
@@ -31,10 +31,10 @@ fields_append a b c xs ys g h at rest =
     (second.0, ap (read_fields a at) (append_assoc xs ys rest) ∙ first.1 ∙ second.1)
 
 gives_set : (before : Mask) (name : List ℕ) (field : Field) (k n : ℕ) → field_of name ≡ Some (m.Valued field) → n ≤ greatest_of field → n < 16 ^ suc k
-    → FieldsGive before (name ∷ (codes "0x" ++ padded 16 (suc k) n) ∷ []) (set_field before (m.Valued field) n)
+    → FieldsGive before (name ∷ (codes "0x" ++ zero_padded 16 (suc k) n) ∷ []) (set_field before (m.Valued field) n)
 gives_set before name field k n e l b at rest = (
   at + 2,
-  fields_step before at name (m.Valued field) ((codes "0x" ++ padded 16 (suc k) n) ∷ rest) e ∙ rw (bits_back (at + 1) (greatest_of field) k n l b) refl,
+  fields_step before at name (m.Valued field) ((codes "0x" ++ zero_padded 16 (suc k) n) ∷ rest) e ∙ rw (bits_back (at + 1) (greatest_of field) k n l b) refl,
 )
 
 gives_unless : (before after : Mask) (ws : List (List ℕ)) (b : Bool) → (b ≡ true → before ≡ after) → FieldsGive before ws after → FieldsGive before (cond b [] ws) after
@@ -45,7 +45,7 @@ gives_unless before after ws false same g = g
 gives_field : (before : Mask) (name : List ℕ) (field : Field) (k n : ℕ) → field_of name ≡ Some (m.Valued field) → n ≤ greatest_of field → n < 16 ^ suc k
     → before ≡ set_field before (m.Valued field) 0 → FieldsGive before (field_words name (suc k) n) (set_field before (m.Valued field) n)
 gives_field before name field k n e l b same =
-    gives_unless before (set_field before (m.Valued field) n) (name ∷ (codes "0x" ++ padded 16 (suc k) n) ∷ []) (n == 0)
+    gives_unless before (set_field before (m.Valued field) n) (name ∷ (codes "0x" ++ zero_padded 16 (suc k) n) ∷ []) (n == 0)
     (λ test. same ∙ ap (λ (x : ℕ). set_field before (m.Valued field) x) (sym (eqb-true n 0 test))) (gives_set before name field k n e l b)
 
 -- what the words of a mask name
@@ -103,7 +103,7 @@ begins_append (x ∷ xs) ys h e = h
 begins_field : (name : List ℕ) (field : Field) (width n : ℕ) → field_of name ≡ Some (m.Valued field) → begins_mask (field_words name width n) ≡ true
 begins_field name field width n e = by_test (n == 0)
   where
-    by_test : (b : Bool) → begins_mask (cond b [] (name ∷ (codes "0x" ++ padded 16 width n) ∷ [])) ≡ true
+    by_test : (b : Bool) → begins_mask (cond b [] (name ∷ (codes "0x" ++ zero_padded 16 width n) ∷ [])) ≡ true
     by_test true = refl
     by_test false = rw e refl
 
@@ -123,11 +123,11 @@ append_empty (x ∷ xs) ys e = absurd (cc)
 empty_field : (name : List ℕ) (width n : ℕ) → field_words name width n ≡ [] → n == 0 ≡ true
 empty_field name width n e = by_test (n == 0) e
   where
-    by_test : (b : Bool) → cond b [] (name ∷ (codes "0x" ++ padded 16 width n) ∷ []) ≡ [] → b ≡ true
+    by_test : (b : Bool) → cond b [] (name ∷ (codes "0x" ++ zero_padded 16 width n) ∷ []) ≡ [] → b ≡ true
     by_test true e = refl
     by_test false e = absurd (cc)
 
-empty_is_clear : (mask : Mask) → fields_words mask ≡ [] → is_clear mask ≡ true
+empty_is_clear : (mask : Mask) → fields_words mask ≡ [] → has_no_bits mask ≡ true
 empty_is_clear mask e =
     let a = append_empty (field_words (codes "dst-ip") 8 mask.dst) _ e in
     let b = append_empty (field_words (codes "src-ip") 8 mask.src) _ a.1 in
@@ -144,7 +144,7 @@ fields_back k before at mask (w ∷ ws) h some g =
     let read = g (at + 1) [] in
     reads_mask k before at read.0 mask (w ∷ ws) (mask_begins at w ws h ∙ ap (read_fields no_bits (at + 1)) (sym (append-nil (w ∷ ws))) ∙ read.1 ∙ fields_nil mask read.0)
 
-clear_is : (mask : Mask) → is_clear mask ≡ true → mask ≡ no_bits
+clear_is : (mask : Mask) → has_no_bits mask ≡ true → mask ≡ no_bits
 clear_is mask h =
     let a = and_parts (mask.dst == 0) _ h in
     let b = and_parts (mask.src == 0) _ a.1 in
@@ -155,7 +155,7 @@ clear_is mask h =
     same : (src dst proto sport dport : ℕ) → src ≡ 0 → dst ≡ 0 → proto ≡ 0 → sport ≡ 0 → dport ≡ 0 → record { src = src; dst = dst; proto = proto; sport = sport; dport = dport } ≡ no_bits
     same src dst proto sport dport a b c d e = rw (a, b, c, d, e) refl
 
-full_is : (mask : Mask) → is_full mask ≡ true → mask ≡ all_bits
+full_is : (mask : Mask) → has_all_bits mask ≡ true → mask ≡ all_bits
 full_is mask h =
     let a = and_parts (mask.dst == 2 ^ 32 - 1) _ h in
     let b = and_parts (mask.src == 2 ^ 32 - 1) _ a.1 in
@@ -170,14 +170,14 @@ full_is mask h =
 -- the mask of a canonical text
 pub mask_back : (k : Kind) (before : Options) (mask : Mask) → IsMask mask → before ≡ set_option before (set.Mask no_bits) → (at : ℕ)
     → read_options k before at (mask_words mask) ≡ Ok (set_option before (set.Mask mask))
-mask_back k before mask h same at = by_clear (is_clear mask) refl
+mask_back k before mask h same at = by_clear (has_no_bits mask) refl
   where
-    by_full : (b : Bool) → is_full mask ≡ b → is_clear mask ≡ false → read_options k before at (codes "mask" ∷ cond b (codes "all" ∷ []) (fields_words mask)) ≡ Ok (set_option before (set.Mask mask))
+    by_full : (b : Bool) → has_all_bits mask ≡ b → has_no_bits mask ≡ false → read_options k before at (codes "mask" ∷ cond b (codes "all" ∷ []) (fields_words mask)) ≡ Ok (set_option before (set.Mask mask))
     by_full true e some = rw (full_is mask e) (fields_back k before at all_bits (codes "all" ∷ []) (rw all_named refl) (λ z. absurd (cc)) gives_all)
     by_full false e some =
         fields_back k before at mask (fields_words mask) (begins_fields mask) (λ z. let clear = empty_is_clear mask z in absurd (cc)) (gives_fields mask h)
 
-    by_clear : (b : Bool) → is_clear mask ≡ b
-        → read_options k before at (cond b [] (codes "mask" ∷ cond (is_full mask) (codes "all" ∷ []) (fields_words mask))) ≡ Ok (set_option before (set.Mask mask))
+    by_clear : (b : Bool) → has_no_bits mask ≡ b
+        → read_options k before at (cond b [] (codes "mask" ∷ cond (has_all_bits mask) (codes "all" ∷ []) (fields_words mask))) ≡ Ok (set_option before (set.Mask mask))
     by_clear true e = options_nil k before at ∙ ap Ok (same ∙ ap (λ (x : Mask). set_option before (set.Mask x)) (sym (clear_is mask e)))
-    by_clear false e = by_full (is_full mask) refl e
+    by_clear false e = by_full (has_all_bits mask) refl e

@@ -3,7 +3,7 @@ use Rattle.std.proofs.Common.{◌≡◌, refl, ◌∙◌, ap, ℕ, zero, suc, �
 use Rattle.std.specs.Prelude.{Option, Some, None, Result, Ok, Err}
 use Rattle.dn_types.specs.declared.mask.Mask.{Mask}
 use Rattle.dn_config.specs.Settings.{filled, set_option}
-use Rattle.dn_config.specs.Groups.{◌>>=◌, mask_len, group_len, groups, groups_after, mask_at, setting_of, settings, belongs, value_of, option_at}
+use Rattle.dn_config.specs.Groups.{◌>>=◌, mask_len, group_len, groups, groups_after, mask_at, setting_of, group_settings, belongs, value_of, option_at}
 use Rattle.dn_config.specs.Keywords.{option_of, is_left_out_word}
 use Rattle.dn_config.specs.Reading.{read_mask, read_named, read_options}
 use Rattle.dn_config.specs.declared.fault.LineFault.{LineFault}
@@ -37,10 +37,10 @@ one_more o (Ok ss) s = ap Ok (more_filled o s ss)
 one_more o (Err x) s = refl
 
 settings_behind : (k : Kind) (o : Options) (r : Result Setting LineFault) (n at : ℕ) (ws : List (List ℕ))
-    → ◌>>=◌ {B = Options} (r >>= λ s. ◌>>=◌ {B = List Setting} (settings k (groups_after n (at + 1) ws)) (λ ss. Ok (s ∷ ss))) (λ ss. Ok (filled o ss))
+    → ◌>>=◌ {B = Options} (r >>= λ s. ◌>>=◌ {B = List Setting} (group_settings k (groups_after n (at + 1) ws)) (λ ss. Ok (s ∷ ss))) (λ ss. Ok (filled o ss))
     ≡ ◌>>=◌ {B = Options} (◌>>=◌ {B = Setting × (ℕ × List (List ℕ))} r (λ s. Ok (s, (at + 1 + n, drop n ws)))) (λ x. read_options k (set_option o x.0) x.1.0 x.1.1)
 unfolding read_options groups
-settings_behind k o (Ok s) n at ws = rw (groups_skip n (at + 1) ws) (one_more o (settings k (groups_after 0 (at + 1 + n) (drop n ws))) s)
+settings_behind k o (Ok s) n at ws = rw (groups_skip n (at + 1) ws) (one_more o (group_settings k (groups_after 0 (at + 1 + n) (drop n ws))) s)
 settings_behind k o (Err x) n at ws = refl
 
 -- where a word is left

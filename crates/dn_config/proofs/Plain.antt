@@ -12,9 +12,9 @@ use Rattle.dn_types.specs.declared.limit.Limit.TheVariants.{Slots, Kbytes}
 use Rattle.dn_types.specs.declared.mask.Mask.{Mask}
 use Rattle.dn_types.specs.declared.command.Command.{Command}
 use Rattle.dn_types.specs.declared.command.Command.TheVariants as c
-use Rattle.dn_config.specs.Masks.{is_clear, is_full}
-use Rattle.dn_config.specs.Commands.{IsInRange, AreShared, IsLimit, IsBuckets}
-use Rattle.dn_config.specs.Text.{padded, rate_up, loss_text, number_words, limit_words, loss_words, buckets_words, field_words, fields_words, mask_words, both_words, link_words, share_words, text_words}
+use Rattle.dn_config.specs.Masks.{has_no_bits, has_all_bits}
+use Rattle.dn_config.specs.Commands.{IsTyped, AreShared, IsLimit, IsBuckets}
+use Rattle.dn_config.specs.Text.{zero_padded, rate_up, loss_text, number_words, limit_words, loss_words, buckets_words, field_words, fields_words, mask_words, both_words, link_words, share_words, text_words}
 use Rattle.dn_text.specs.Words.{is_nonempty}
 use Rattle.dn_config.proofs.Back.{is_plain_byte, is_plain, all_plain}
 use Rattle.dn_text.proofs.NumbersBack.{ascii_digits}
@@ -43,13 +43,13 @@ decimal_plain n u l h =
 char_plain : (d : ℕ) → d < 36 → is_plain_byte (digit_char d) ≡ true
 char_plain d l = grind (arith, nat_tests)
 
-padded_plain : (radix k n : ℕ) → 0 < radix → radix ≤ 36 → list_all is_plain_byte (padded radix k n) ≡ true
-unfolding padded
+padded_plain : (radix k n : ℕ) → 0 < radix → radix ≤ 36 → list_all is_plain_byte (zero_padded radix k n) ≡ true
+unfolding zero_padded
 padded_plain radix zero n p h = refl
 padded_plain radix (suc k) n p h =
     let small : n % radix < radix = mod-lt n p in
     let char : is_plain_byte (digit_char (n % radix)) ≡ true = char_plain (n % radix) (omega arith) in
-    all_append (padded radix k (n / radix)) (digit_char (n % radix) ∷ []) (padded_plain radix k (n / radix) p h) (rw char refl)
+    all_append (zero_padded radix k (n / radix)) (digit_char (n % radix) ∷ []) (padded_plain radix k (n / radix) p h) (rw char refl)
 
 -- every word is plain
 pub record ArePlain (ws : List (List ℕ)) : Type 0 where
@@ -85,9 +85,9 @@ limit_plain : (limit : Limit) → IsLimit limit → ArePlain (limit_words limit)
 limit_plain (Slots n) h = plain_cond (n == 50) (plain_two (codes "queue") (decimal n) refl (decimal_alone n (omega (arith, h))))
 limit_plain (Kbytes n) h = plain_two (codes "queue") (decimal n ++ codes "Kbytes") refl (decimal_plain n (codes "Kbytes") (omega (arith, h)) refl)
 
-loss_text_plain : (t : ℕ) (b : Bool) → is_plain (cond b (codes "1") (codes "0." ++ padded 10 18 (rate_up t))) ≡ true
+loss_text_plain : (t : ℕ) (b : Bool) → is_plain (cond b (codes "1") (codes "0." ++ zero_padded 10 18 (rate_up t))) ≡ true
 loss_text_plain t true = refl
-loss_text_plain t false = all_append (codes "0.") (padded 10 18 (rate_up t)) refl (padded_plain 10 18 (rate_up t) (omega arith) (omega arith))
+loss_text_plain t false = all_append (codes "0.") (zero_padded 10 18 (rate_up t)) refl (padded_plain 10 18 (rate_up t) (omega arith) (omega arith))
 
 loss_plain : (t : ℕ) → ArePlain (loss_words t)
 loss_plain t = plain_cond (t == 0) (plain_two (codes "plr") (loss_text t) refl (loss_text_plain t (t == 2 ^ 31)))
@@ -98,7 +98,7 @@ buckets_plain (Some n) h = plain_two (codes "buckets") (decimal n) refl (decimal
 
 field_plain : (name : List ℕ) (width n : ℕ) → is_plain name ≡ true → ArePlain (field_words name width n)
 field_plain name width n a =
-    plain_cond (n == 0) (plain_two name (codes "0x" ++ padded 16 width n) a (all_append (codes "0x") (padded 16 width n) refl (padded_plain 16 width n (omega arith) (omega arith))))
+    plain_cond (n == 0) (plain_two name (codes "0x" ++ zero_padded 16 width n) a (all_append (codes "0x") (zero_padded 16 width n) refl (padded_plain 16 width n (omega arith) (omega arith))))
 
 fields_plain : (m : Mask) → ArePlain (fields_words m)
 fields_plain m =
@@ -112,14 +112,14 @@ bits_plain m true = record { plain = refl }
 bits_plain m false = plain_cons refl (fields_plain m)
 
 mask_plain : (m : Mask) → ArePlain (mask_words m)
-mask_plain m = plain_cond (is_clear m) (bits_plain m (is_full m))
+mask_plain m = plain_cond (has_no_bits m) (bits_plain m (has_all_bits m))
 
 both_plain : (limit : Limit) (loss : ℕ) (buckets : Option ℕ) (mask : Mask) → AreShared limit loss buckets mask → ArePlain (both_words limit loss buckets mask)
 both_plain limit loss buckets mask h =
     plain_append (limit_plain limit h.limit_in_range) (plain_append (loss_plain loss) (plain_append (buckets_plain buckets h.buckets_in_range) (mask_plain mask)))
 
 -- the words of each canonical text
-pub text_plain : (command : Command) → IsInRange command → ArePlain (text_words command)
+pub text_plain : (command : Command) → IsTyped command → ArePlain (text_words command)
 unfolding text_words link_words share_words
 text_plain (c.Pipe n bw delay limit loss buckets mask) h =
     plain_cons refl (plain_cons (decimal_alone n (omega (arith, h.0))) (plain_cons refl

@@ -8,7 +8,7 @@ use Rattle.std.proofs.lemmas.Str.{IsAscii-append, IsUtf8-from_ascii}
 use Rattle.std.proofs.lemmas.Str.Ascii.{IsAscii-cons, IsAscii-nil}
 use Rattle.dn_types.specs.declared.command.Command.{Command}
 use Rattle.dn_text.specs.Words.{is_nonempty, is_separator}
-use Rattle.dn_config.specs.Commands.{IsInRange}
+use Rattle.dn_config.specs.Commands.{IsTyped}
 use Rattle.dn_config.specs.Text.{behind_spaces, spaced, text, text_words}
 use Rattle.dn_config.specs.Words.{is_hash}
 use Rattle.dn_config.proofs.Back.{all_plain, is_plain, is_plain_byte}
@@ -40,6 +40,6 @@ spaced_ascii (w ∷ ws) h =
     IsAscii-append w (behind_spaces ws) (word_ascii w plain.0) (behind_ascii ws plain.1)
 
 -- the canonical text of each command
-pub text_utf8 : (command : Command) → IsInRange command → IsUtf8 (text command)
+pub text_utf8 : (command : Command) → IsTyped command → IsUtf8 (text command)
 unfolding text
 text_utf8 command h = IsUtf8-from_ascii (spaced (text_words command)) (spaced_ascii (text_words command) (text_plain command h).plain)

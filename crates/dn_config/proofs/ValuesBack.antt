@@ -9,7 +9,7 @@ use Rattle.std.proofs.lemmas.Str.{digit_value-digit_char}
 use Rattle.std.proofs.lemmas.Bool.{eqb-true, eqb-false, lt-ltb, and_parts}
 use Rattle.std.proofs.lemmas.Bool.Decides.{nat_tests}
 use Rattle.dn_text.specs.Numbers.{numeral_of, number_within, within, all_digits, digits, unit}
-use Rattle.dn_config.specs.Values.{placed, number_at, weight_at, buckets_at, delay_at, bandwidth_at, rate_of, limit_at, limited, loss_at, bits_of, bits_at, kept, behind_point, rate_parts_of}
+use Rattle.dn_config.specs.Values.{placed, pipe_or_queue_at, weight_at, buckets_at, delay_at, bandwidth_at, rate_of, limit_at, limited, loss_at, bits_of, bits_at, kept, behind_point, rate_parts_of}
 use Rattle.dn_types.specs.declared.limit.Limit.{Limit}
 use Rattle.dn_types.specs.declared.limit.Limit.TheVariants.{Slots, Kbytes}
 use Rattle.dn_config.specs.Commands.{IsLimit}
@@ -19,27 +19,27 @@ use Rattle.std.specs.Char.{is_ascii_alphabetic}
 use Rattle.std.proofs.lemmas.Fmt.{decimal_is_IsNumeral}
 use Rattle.std.proofs.Math.Nat.{div-lt_iff_lt-mul, pow-suc, pow-zero, mod-lt}
 use Rattle.std.proofs.lemmas.Nat.{div-add-mod'}
-use Rattle.dn_config.specs.Text.{padded, rate_up, limit_text, loss_text}
+use Rattle.dn_config.specs.Text.{zero_padded, rate_up, limit_text, loss_text}
 
 -- a loss number below 2^31 is printed as a rate that is kept as that number
 pub rate_law : (t : ℕ) → t < 2147483648 → (rate_up t < 1000000000000000000) × (rate_up t * 2147483648 / 1000000000000000000 ≡ t)
 rate_law t l = (omega arith, omega arith)
 
-pub length-padded : (radix k n : ℕ) → length (padded radix k n) ≡ k
-unfolding padded
+pub length-padded : (radix k n : ℕ) → length (zero_padded radix k n) ≡ k
+unfolding zero_padded
 length-padded radix zero n = refl
-length-padded radix (suc k) n = length-append (padded radix k (n / radix)) _ ∙ ap (λ m. m + 1) (length-padded radix k (n / radix)) ∙ add-one k
+length-padded radix (suc k) n = length-append (zero_padded radix k (n / radix)) _ ∙ ap (λ m. m + 1) (length-padded radix k (n / radix)) ∙ add-one k
 
 div_below : (radix k n : ℕ) → 0 < radix → n < radix ^ suc k → n / radix < radix ^ k
 div_below radix k n p l = (div-lt_iff_lt-mul p).1 (rw pow-suc at l)
 
-pub value-padded : (radix k n : ℕ) → 0 < radix → radix ≤ 36 → n < radix ^ k → digits_value radix (padded radix k n) ≡ n
-unfolding padded
+pub value-padded : (radix k n : ℕ) → 0 < radix → radix ≤ 36 → n < radix ^ k → digits_value radix (zero_padded radix k n) ≡ n
+unfolding zero_padded
 value-padded radix zero n p h l = let one : n < 1 = rw pow-zero at l in omega arith
 value-padded radix (suc k) n p h l =
     let small : n % radix < radix = mod-lt n p in
     let below : n % radix < 36 = omega arith in
-    digits_value_push radix (padded radix k (n / radix)) (digit_char (n % radix))
+    digits_value_push radix (zero_padded radix k (n / radix)) (digit_char (n % radix))
     ∙ rw (value-padded radix k (n / radix) p h (div_below radix k n p l), digit_value-digit_char (n % radix) below) (div-add-mod' n radix)
 
 -- digits before a unit that begins with no digit
@@ -70,7 +70,7 @@ ranged_back : (at low high n : ℕ) → low ≤ n → n ≤ high → n < 2 ^ 64 
 ranged_back at low high n a b l = rw (number_back n l) (placed_in at low high n a b)
 
 -- the values of options read back
-pub number_value_back : (at n : ℕ) → 1 ≤ n → n ≤ 65535 → number_at at (decimal n) ≡ Ok n
+pub number_value_back : (at n : ℕ) → 1 ≤ n → n ≤ 65535 → pipe_or_queue_at at (decimal n) ≡ Ok n
 number_value_back at n a b = ranged_back at 1 65535 n a b (omega arith)
 
 pub weight_back : (at n : ℕ) → 1 ≤ n → n ≤ 100 → weight_at at (decimal n) ≡ Ok n
@@ -121,10 +121,10 @@ last_digit (x ∷ ds) d h e = let both = and_parts (is_ascii_digit x) (list_all 
 digit_is : (d : ℕ) → d < 10 → is_ascii_digit (digit_char d) ≡ true
 digit_is d l = grind (arith, nat_tests)
 
-padded_digits : (k n : ℕ) → list_all is_ascii_digit (padded 10 k n) ≡ true
-unfolding padded
+padded_digits : (k n : ℕ) → list_all is_ascii_digit (zero_padded 10 k n) ≡ true
+unfolding zero_padded
 padded_digits zero n = refl
-padded_digits (suc k) n = last_digit (padded 10 k (n / 10)) (digit_char (n % 10)) (padded_digits k (n / 10)) (digit_is (n % 10) (omega arith))
+padded_digits (suc k) n = last_digit (zero_padded 10 k (n / 10)) (digit_char (n % 10)) (padded_digits k (n / 10)) (digit_is (n % 10) (omega arith))
 
 fraction_back : (fs : List ℕ) → list_all is_ascii_digit fs ≡ true → behind_point (46 ∷ fs) ≡ Some fs
 fraction_back fs h =
@@ -151,17 +151,17 @@ loss_is : (at t : ℕ) (fs : List ℕ) → list_all is_ascii_digit fs ≡ true �
 unfolding loss_at
 loss_is at t fs h l b e = rw (fraction_back fs h, parts_back fs l) (kept_is at (digits_value 10 fs) t b e)
 
-small_loss : (at t : ℕ) → t < 2147483648 → loss_at at (codes "0." ++ padded 10 18 (rate_up t)) ≡ Ok t
+small_loss : (at t : ℕ) → t < 2147483648 → loss_at at (codes "0." ++ zero_padded 10 18 (rate_up t)) ≡ Ok t
 small_loss at t l =
     let law = rate_law t l in
     let value = value-padded 10 18 (rate_up t) (omega arith) (omega arith) law.0 in
-    loss_is at t (padded 10 18 (rate_up t)) (padded_digits 18 (rate_up t)) (length-padded 10 18 (rate_up t)) (rw value law.0) (rw value law.1)
+    loss_is at t (zero_padded 10 18 (rate_up t)) (padded_digits 18 (rate_up t)) (length-padded 10 18 (rate_up t)) (rw value law.0) (rw value law.1)
 
 one_loss : (at t : ℕ) → t ≡ 2147483648 → loss_at at (codes "1") ≡ Ok t
 unfolding loss_at within
 one_loss at t e = ap Ok (sym e)
 
-loss_cases : (at t : ℕ) (b : Bool) → t == 2147483648 ≡ b → t ≤ 2147483648 → loss_at at (cond b (codes "1") (codes "0." ++ padded 10 18 (rate_up t))) ≡ Ok t
+loss_cases : (at t : ℕ) (b : Bool) → t == 2147483648 ≡ b → t ≤ 2147483648 → loss_at at (cond b (codes "1") (codes "0." ++ zero_padded 10 18 (rate_up t))) ≡ Ok t
 loss_cases at t true e l = one_loss at t (eqb-true t 2147483648 e)
 loss_cases at t false e l = let other = eqb-false t 2147483648 e in small_loss at t (omega (arith, other))
 
@@ -173,13 +173,13 @@ last_in : (radix : ℕ) (ds : List ℕ) (d : ℕ) → all_digits radix ds ≡ tr
 last_in radix [] d h e = let first : nat_lt (digit_value d) radix ≡ true = lt-ltb _ _ e in rw first refl
 last_in radix (x ∷ ds) d h e = let both = and_parts (nat_lt (digit_value x) radix) (all_digits radix ds) h in rw both.0 (last_in radix ds d both.1 e)
 
-padded_in : (radix k n : ℕ) → 0 < radix → radix ≤ 36 → all_digits radix (padded radix k n) ≡ true
-unfolding padded
+padded_in : (radix k n : ℕ) → 0 < radix → radix ≤ 36 → all_digits radix (zero_padded radix k n) ≡ true
+unfolding zero_padded
 padded_in radix zero n p h = refl
 padded_in radix (suc k) n p h =
     let small : n % radix < radix = mod-lt n p in
     let below : n % radix < 36 = omega arith in
-    last_in radix (padded radix k (n / radix)) (digit_char (n % radix)) (padded_in radix k (n / radix) p h) (rw (digit_value-digit_char (n % radix) below) small)
+    last_in radix (zero_padded radix k (n / radix)) (digit_char (n % radix)) (padded_in radix k (n / radix) p h) (rw (digit_value-digit_char (n % radix) below) small)
 
 numeral_is : (radix n : ℕ) (ds : List ℕ) → 0 < length ds → all_digits radix ds ≡ true → digits_value radix ds ≡ n → numeral_of radix ds ≡ Some n
 unfolding numeral_of
@@ -194,8 +194,8 @@ unfolding bits_at
 hex_at at high n ds e l = rw e (placed_in at 0 high n (omega arith) l)
 
 -- a mask field reads back
-pub bits_back : (at high k n : ℕ) → n ≤ high → n < 16 ^ suc k → bits_at at high (codes "0x" ++ padded 16 (suc k) n) ≡ Ok n
+pub bits_back : (at high k n : ℕ) → n ≤ high → n < 16 ^ suc k → bits_at at high (codes "0x" ++ zero_padded 16 (suc k) n) ≡ Ok n
 bits_back at high k n l b =
-    let long : 0 < length (padded 16 (suc k) n) = omega (arith, length-padded 16 (suc k) n) in
-    hex_at at high n (padded 16 (suc k) n)
-    (hex_bits (padded 16 (suc k) n) n (numeral_is 16 n (padded 16 (suc k) n) long (padded_in 16 (suc k) n (omega arith) (omega arith)) (value-padded 16 (suc k) n (omega arith) (omega arith) b))) l
+    let long : 0 < length (zero_padded 16 (suc k) n) = omega (arith, length-padded 16 (suc k) n) in
+    hex_at at high n (zero_padded 16 (suc k) n)
+    (hex_bits (zero_padded 16 (suc k) n) n (numeral_is 16 n (zero_padded 16 (suc k) n) long (padded_in 16 (suc k) n (omega arith) (omega arith)) (value-padded 16 (suc k) n (omega arith) (omega arith) b))) l

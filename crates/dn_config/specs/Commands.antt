@@ -36,8 +36,8 @@ pub record AreShared (limit : Limit) (loss : ℕ) (buckets : Option ℕ) (mask :
   pub mask_in_range : IsMask mask
 
 -- The values of a command are those that its types can hold.
-abbrev pub IsInRange : Command → Type 0
-IsInRange (c.Pipe n bw delay limit loss buckets mask) = IsBetween 1 65535 n × (bw ≤ 1000000000000) × (delay ≤ 3600000) × AreShared limit loss buckets mask
-IsInRange (c.Queue n pipe weight limit loss buckets mask) = IsBetween 1 65535 n × IsBetween 1 65535 pipe × IsBetween 1 100 weight × AreShared limit loss buckets mask
-IsInRange (c.DeletePipe n) = IsBetween 1 65535 n
-IsInRange (c.DeleteQueue n) = IsBetween 1 65535 n
+abbrev pub IsTyped : Command → Type 0
+IsTyped (c.Pipe n bw delay limit loss buckets mask) = IsBetween 1 65535 n × (bw ≤ 1000000000000) × (delay ≤ 3600000) × AreShared limit loss buckets mask
+IsTyped (c.Queue n pipe weight limit loss buckets mask) = IsBetween 1 65535 n × IsBetween 1 65535 pipe × IsBetween 1 100 weight × AreShared limit loss buckets mask
+IsTyped (c.DeletePipe n) = IsBetween 1 65535 n
+IsTyped (c.DeleteQueue n) = IsBetween 1 65535 n

@@ -1,7 +1,7 @@
 -- The option groups of a line: which words belong together, and what each group says.
 use Rattle.std.specs.Prelude.{ℕ, zero, suc, ◌+◌, Bool, true, false, cond, List, [], ◌∷◌, length, take, Option, Some, None, Result, Ok, Err}
 use Rattle.dn_config.specs.Keywords.{option_of, field_of, is_left_out_word}
-use Rattle.dn_config.specs.Values.{number_at, weight_at, buckets_at, delay_at, limit_at, bandwidth_at, loss_at, bits_at}
+use Rattle.dn_config.specs.Values.{pipe_or_queue_at, weight_at, buckets_at, delay_at, limit_at, bandwidth_at, loss_at, bits_at}
 use Rattle.dn_config.specs.Masks.{no_bits, greatest_of, with_fields}
 use Rattle.dn_config.specs.declared.option_group.Setting.{Setting}
 use Rattle.dn_config.specs.declared.option_group.Setting.TheVariants as set
@@ -93,7 +93,7 @@ value_of at p.Queue v = limit_at at v >>= λ n. Ok (set.Limit n)
 value_of at p.Loss v = loss_at at v >>= λ n. Ok (set.Loss n)
 value_of at p.Buckets v = buckets_at at v >>= λ n. Ok (set.Buckets n)
 value_of at p.Weight v = weight_at at v >>= λ n. Ok (set.Weight n)
-value_of at p.Pipe v = number_at at v >>= λ n. Ok (set.Pipe n)
+value_of at p.Pipe v = pipe_or_queue_at at v >>= λ n. Ok (set.Pipe n)
 
 -- The setting of an option with one value.
 abbrev pub parameter_at : ℕ → Parameter → List (List ℕ) → Result Setting LineFault
@@ -125,6 +125,6 @@ unfoldable pub setting_of : Kind → Group → Result Setting LineFault
 setting_of k g = option_at k g.at (option_of g.name) (is_left_out_word g.name) g.rest
 
 -- What all groups say, or the first fault.
-abbrev pub settings : Kind → List Group → Result (List Setting) LineFault
-settings k [] = Ok []
-settings k (g ∷ gs) = setting_of k g >>= λ s. settings k gs >>= λ ss. Ok (s ∷ ss)
+abbrev pub group_settings : Kind → List Group → Result (List Setting) LineFault
+group_settings k [] = Ok []
+group_settings k (g ∷ gs) = setting_of k g >>= λ s. group_settings k gs >>= λ ss. Ok (s ∷ ss)

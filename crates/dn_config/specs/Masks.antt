@@ -37,9 +37,9 @@ with_fields mask [] = mask
 with_fields mask (f ∷ fs) = with_fields (set_field mask f.0 f.1) fs
 
 -- Whether the mask has every bit.
-abbrev pub is_full : Mask → Bool
-is_full m = m.dst == 2 ^ 32 - 1 && (m.src == 2 ^ 32 - 1 && (m.dport == 65535 && (m.sport == 65535 && m.proto == 255)))
+abbrev pub has_all_bits : Mask → Bool
+has_all_bits m = m.dst == 2 ^ 32 - 1 && (m.src == 2 ^ 32 - 1 && (m.dport == 65535 && (m.sport == 65535 && m.proto == 255)))
 
 -- Whether the mask has no bit.
-abbrev pub is_clear : Mask → Bool
-is_clear m = m.dst == 0 && (m.src == 0 && (m.dport == 0 && (m.sport == 0 && m.proto == 0)))
+abbrev pub has_no_bits : Mask → Bool
+has_no_bits m = m.dst == 0 && (m.src == 0 && (m.dport == 0 && (m.sport == 0 && m.proto == 0)))

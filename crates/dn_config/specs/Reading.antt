@@ -5,7 +5,7 @@ use Rattle.dn_text.specs.Words.{words_of}
 use Rattle.dn_config.specs.Values.{bits_at}
 use Rattle.dn_config.specs.Settings.{filled}
 use Rattle.dn_config.specs.Masks.{set_field, all_bits, greatest_of, with_fields}
-use Rattle.dn_config.specs.Groups.{◌>>=◌, mask_len, group_len, groups, fields_at, mask_at, settings, option_at}
+use Rattle.dn_config.specs.Groups.{◌>>=◌, mask_len, group_len, groups, fields_at, mask_at, group_settings, option_at}
 use Rattle.dn_config.specs.declared.option_group.OptionWord.{OptionWord}
 use Rattle.dn_text.specs.declared.words.Words.{Words}
 use Rattle.dn_config.specs.declared.fault.LineFault.{LineFault}
@@ -25,8 +25,8 @@ abbrev pub GoesOn : Words → Words → Type 0
 GoesOn from to = (length to.rest.now ≤ length from.rest.now) × (to.position + length to.rest.now ≤ from.position + length from.rest.now)
 
 -- A function answered the value and the rest that reading gives, or its fault.
-abbrev pub Reads : {X : Type 0} → Result (X × Words) LineFault → Result (X × (ℕ × List (List ℕ))) LineFault → Type 0
-Reads r read = MatchResult r (λ x. read ≡ Ok (x.0, (x.1.position, left x.1))) (λ e. read ≡ Err e)
+abbrev pub ReadsWords : {X : Type 0} → Result (X × Words) LineFault → Result (X × (ℕ × List (List ℕ))) LineFault → Type 0
+ReadsWords r read = MatchResult r (λ x. read ≡ Ok (x.0, (x.1.position, left x.1))) (λ e. read ≡ Err e)
 
 -- One field of a mask; `at` is its position, and ws are the words behind it.
 abbrev pub read_field : Mask → ℕ → MaskWord → List (List ℕ) → Result (Mask × (ℕ × List (List ℕ))) LineFault
@@ -49,4 +49,4 @@ read_named k at name left_out ws =
 
 -- All options from a position on, over those before.
 unfoldable pub read_options : Kind → Options → ℕ → List (List ℕ) → Result Options LineFault
-read_options k o at ws = settings k (groups at ws) >>= λ ss. Ok (filled o ss)
+read_options k o at ws = group_settings k (groups at ws) >>= λ ss. Ok (filled o ss)

@@ -4,14 +4,14 @@ use Rattle.std.specs.Char.{digit_char}
 use Rattle.dn_types.specs.declared.limit.Limit.{Limit}
 use Rattle.dn_types.specs.declared.limit.Limit.TheVariants.{Slots, Kbytes}
 use Rattle.dn_types.specs.declared.mask.Mask.{Mask}
-use Rattle.dn_config.specs.Masks.{is_full, is_clear}
+use Rattle.dn_config.specs.Masks.{has_all_bits, has_no_bits}
 use Rattle.dn_types.specs.declared.command.Command.{Command}
 use Rattle.dn_types.specs.declared.command.Command.TheVariants as c
 
 -- The last so many digits of a number in a radix.
-unfoldable pub padded : ℕ → ℕ → ℕ → List ℕ
-padded radix zero n = []
-padded radix (suc k) n = padded radix k (n / radix) ++ digit_char (n % radix) ∷ []
+unfoldable pub zero_padded : ℕ → ℕ → ℕ → List ℕ
+zero_padded radix zero n = []
+zero_padded radix (suc k) n = zero_padded radix k (n / radix) ++ digit_char (n % radix) ∷ []
 
 -- The rate t / 2^31 in units of 10^-18, rounded up.
 abbrev pub rate_up : ℕ → ℕ
@@ -19,7 +19,7 @@ rate_up t = (t * 10 ^ 18 + (2 ^ 31 - 1)) / 2 ^ 31
 
 -- A loss rate: 1, or 0 and 18 digits behind a point.
 abbrev pub loss_text : ℕ → List ℕ
-loss_text t = cond (t == 2 ^ 31) (codes "1") (codes "0." ++ padded 10 18 (rate_up t))
+loss_text t = cond (t == 2 ^ 31) (codes "1") (codes "0." ++ zero_padded 10 18 (rate_up t))
 
 -- A limit of a queue, in packets or in units of 1,024 bytes.
 abbrev pub limit_text : Limit → List ℕ
@@ -46,7 +46,7 @@ buckets_words (Some n) = codes "buckets" ∷ decimal n ∷ []
 
 -- A field of a mask, where it isn't 0.
 abbrev pub field_words : List ℕ → ℕ → ℕ → List (List ℕ)
-field_words name width n = cond (n == 0) [] (name ∷ (codes "0x" ++ padded 16 width n) ∷ [])
+field_words name width n = cond (n == 0) [] (name ∷ (codes "0x" ++ zero_padded 16 width n) ∷ [])
 
 -- The fields of a mask, each with a digit for four bits.
 abbrev pub fields_words : Mask → List (List ℕ)
@@ -56,7 +56,7 @@ fields_words m =
 
 -- A mask, where it has bits.
 abbrev pub mask_words : Mask → List (List ℕ)
-mask_words m = cond (is_clear m) [] (codes "mask" ∷ cond (is_full m) (codes "all" ∷ []) (fields_words m))
+mask_words m = cond (has_no_bits m) [] (codes "mask" ∷ cond (has_all_bits m) (codes "all" ∷ []) (fields_words m))
 
 -- The options that both kinds of line have.
 abbrev pub both_words : Limit → ℕ → Option ℕ → Mask → List (List ℕ)

@@ -12,22 +12,22 @@ use Rattle.dn_config.specs.declared.fault.LineFault.{LineFault}
 use Rattle.dn_config.specs.declared.fault.LineFault.TheVariants.{BadNumber, OutOfRange, LeftOut}
 
 -- The fault of a line whose number at the position has this fault.
-abbrev pub fault_at : ℕ → NumberFault → LineFault
-fault_at at Shape = BadNumber at
-fault_at at Range = OutOfRange at
+abbrev pub number_fault : ℕ → NumberFault → LineFault
+number_fault at Shape = BadNumber at
+number_fault at Range = OutOfRange at
 
 -- A number of a line, or its fault at the position.
 abbrev pub placed : ℕ → Result ℕ NumberFault → Result ℕ LineFault
 placed at (Ok n) = Ok n
-placed at (Err fault) = Err (fault_at at fault)
+placed at (Err fault) = Err (number_fault at fault)
 
 -- A word in lower case, by ASCII's letters alone.
 abbrev pub lower : List ℕ → List ℕ
 lower w = map to_ascii_lowercase w
 
 -- The number of a pipe or of a queue.
-abbrev pub number_at : ℕ → List ℕ → Result ℕ LineFault
-number_at at w = placed at (number_within 1 65535 w)
+abbrev pub pipe_or_queue_at : ℕ → List ℕ → Result ℕ LineFault
+pipe_or_queue_at at w = placed at (number_within 1 65535 w)
 
 -- The weight of a queue.
 abbrev pub weight_at : ℕ → List ℕ → Result ℕ LineFault

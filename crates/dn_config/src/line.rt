@@ -1,5 +1,5 @@
 ghost use Rattle.std.specs.Prelude.{bytes_eq, if◌then◌else◌, ◌≡◌, ◌∷◌, ◌+◌, ◌<◌, ◌^◌, length, codes, ◌||◌, IfOk};
-ghost use Rattle.dn_config.specs.Line.{answer, config_at, deletes, whole_at, verb_at, delete_at, target_at, command_at, command_with, behind_ipfw, command_of};
+ghost use Rattle.dn_config.specs.Line.{answer, config_at, deletes, whole_at, verb_at, delete_at, behind_kind, command_from, command_with, behind_ipfw, command_of};
 ghost use Rattle.std.specs.List.{before_first};
 ghost use Rattle.std.specs.Prelude.{◌≤◌};
 ghost use Rattle.dn_config.specs.Words.{is_hash};
@@ -115,7 +115,7 @@ fn delete(kind: Kind, at: usize, words: Words<'_>) -> Result<Command, LineFault>
 fn target(kind: Kind, at: usize, words: Words<'_>) -> Result<Command, LineFault>
     requires place { words.position ≡ at + 1 }
     requires room { words.position + length words.rest.now < 2 ^ 64 }
-    ensures { result ≡ target_at kind at (left words.entry) }
+    ensures { result ≡ behind_kind kind at (left words.entry) }
 {
     let Some((word, behind)) = words.next() else {
         return Err(LineFault::MissingValue(at));
@@ -134,7 +134,7 @@ fn target(kind: Kind, at: usize, words: Words<'_>) -> Result<Command, LineFault>
 fn command(at: usize, word: &[u8], words: Words<'_>) -> Result<Command, LineFault>
     requires place { words.position ≡ at + 1 }
     requires room { words.position + length words.rest.now < 2 ^ 64 }
-    ensures { result ≡ command_at at (word.now ∷ left words.entry) }
+    ensures { result ≡ command_from at (word.now ∷ left words.entry) }
 {
     if is(word, "pipe") {
         target(Kind::Pipe, at, words)
@@ -151,7 +151,7 @@ fn command(at: usize, word: &[u8], words: Words<'_>) -> Result<Command, LineFaul
 fn line_command(word: &[u8], words: Words<'_>) -> Result<Command, LineFault>
     requires place { words.position ≡ 2 }
     requires room { words.position + length words.rest.now < 2 ^ 64 }
-    ensures { result ≡ (if bytes_eq word.now (codes "ipfw") then behind_ipfw (left words.entry) else command_at 1 (word.now ∷ left words.entry)) }
+    ensures { result ≡ (if bytes_eq word.now (codes "ipfw") then behind_ipfw (left words.entry) else command_from 1 (word.now ∷ left words.entry)) }
 {
     if !is(word, "ipfw") {
         return command(1, word, words);

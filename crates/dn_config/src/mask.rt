@@ -1,7 +1,7 @@
 ghost use Rattle.std.specs.Prelude.{is_some, ◌||◌, IfOk, length, ◌<◌, ◌≤◌, ◌^◌, ◌≡◌, ◌+◌};
-ghost use Rattle.dn_config.specs.Masks.{greatest_of, no_bits, set_field, is_clear, is_full};
+ghost use Rattle.dn_config.specs.Masks.{greatest_of, no_bits, set_field, has_no_bits, has_all_bits};
 ghost use Rattle.dn_config.specs.Keywords.{field_of, is_left_out_word};
-ghost use Rattle.dn_config.specs.Reading.{GoesOn, Reads, read_field, read_fields, read_mask, left};
+ghost use Rattle.dn_config.specs.Reading.{GoesOn, ReadsWords, read_field, read_fields, read_mask, left};
 ghost use Rattle.dn_config.specs.declared.mask_field.MaskWord.TheVariants.{Valued};
 
 use crate::fault::LineFault;
@@ -53,14 +53,14 @@ pub fn with_field(mask: Mask, field: Field, bits: u32) -> Mask
 
 /// Has the mask no bits?
 pub fn has_no_bits(mask: Mask) -> bool
-    ensures { result ≡ is_clear mask }
+    ensures { result ≡ has_no_bits mask }
 {
     mask.dst == 0 && mask.src == 0 && mask.dport == 0 && mask.sport == 0 && mask.proto == 0
 }
 
 /// Has the mask all bits?
 pub fn has_all_bits(mask: Mask) -> bool
-    ensures { result ≡ is_full mask }
+    ensures { result ≡ has_all_bits mask }
 {
     mask.dst == 0xffff_ffff
         && mask.src == 0xffff_ffff
@@ -78,7 +78,7 @@ fn field(
 ) -> Result<(Mask, Words<'_>), LineFault>
     requires place { words.position ≡ at + 1 }
     requires room { words.position + length words.rest.now < 2 ^ 64 }
-    ensures reads { Reads result (read_field mask at word (left words.entry)) }
+    ensures reads { ReadsWords result (read_field mask at word (left words.entry)) }
     ensures behind { IfOk result (λ x. GoesOn words.entry x.1) }
 {
     match word {
@@ -96,7 +96,7 @@ fn field(
 /// The mask that its fields make, and the words behind them.
 fn fields(mut words: Words<'_>) -> Result<(Mask, Words<'_>), LineFault>
     requires { words.position + length words.rest.now < 2 ^ 64 }
-    ensures reads { Reads result (read_fields no_bits words.entry.position (left words.entry)) }
+    ensures reads { ReadsWords result (read_fields no_bits words.entry.position (left words.entry)) }
     ensures behind { IfOk result (λ x. GoesOn words.entry x.1) }
 {
     let mut mask = NO_BITS;
@@ -124,7 +124,7 @@ fn continues_mask(word: &[u8]) -> bool
 pub fn read_mask(at: usize, words: Words<'_>) -> Result<(Mask, Words<'_>), LineFault>
     requires place { words.position ≡ at + 1 }
     requires room { words.position + length words.rest.now < 2 ^ 64 }
-    ensures reads { Reads result (read_mask at (left words.entry)) }
+    ensures reads { ReadsWords result (read_mask at (left words.entry)) }
     ensures behind { IfOk result (λ x. GoesOn words.entry x.1) }
 {
     let Some((word, _)) = words.next() else {

@@ -1,6 +1,6 @@
 ghost use Rattle.std.specs.Prelude.{◌≡◌, ◌≤◌, IfOk};
 ghost use Rattle.dn_text.specs.Numbers.{number_within};
-ghost use Rattle.dn_config.specs.Values.{fault_at, placed, number_at, weight_at, buckets_at};
+ghost use Rattle.dn_config.specs.Values.{number_fault, placed, pipe_or_queue_at, weight_at, buckets_at};
 
 use crate::fault::LineFault;
 use dn_text::{NumberFault, read_number};
@@ -8,7 +8,7 @@ use dn_types::{Buckets, Number, Weight};
 
 /// The fault of a line whose number at this position has this fault.
 pub fn number_fault(fault: NumberFault, at: usize) -> LineFault
-    ensures { result ≡ fault_at at fault }
+    ensures { result ≡ number_fault at fault }
 {
     match fault {
         NumberFault::Shape => LineFault::BadNumber(at),
@@ -29,7 +29,7 @@ pub fn number_between(word: &[u8], at: usize, least: u64, greatest: u64) -> Resu
 
 /// The number of a pipe or of a queue.
 pub fn number_value(word: &[u8], at: usize) -> Result<Number, LineFault>
-    ensures { result ≡ number_at at word.now }
+    ensures { result ≡ pipe_or_queue_at at word.now }
 {
     let value = number_between(word, at, 1, 65_535)?;
     Number::new(value as u32).ok_or(LineFault::OutOfRange(at))

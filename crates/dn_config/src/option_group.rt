@@ -1,6 +1,6 @@
 ghost use Rattle.std.specs.Prelude.{IfOk, length, ◌<◌, ◌^◌, ◌≡◌, ◌+◌};
 ghost use Rattle.dn_config.specs.Groups.{value_of, belongs};
-ghost use Rattle.dn_config.specs.Reading.{GoesOn, Reads, read_named, left};
+ghost use Rattle.dn_config.specs.Reading.{GoesOn, ReadsWords, read_named, left};
 
 use crate::bandwidth::bandwidth_value;
 use crate::delay::delay_value;
@@ -81,7 +81,7 @@ pub fn option(
 ) -> Result<(Setting, Words<'_>), LineFault>
     requires place { words.position ≡ at + 1 }
     requires room { words.position + length words.rest.now < 2 ^ 64 }
-    ensures reads { Reads result (read_named kind at name left_out (left words.entry)) }
+    ensures reads { ReadsWords result (read_named kind at name left_out (left words.entry)) }
     ensures behind { IfOk result (λ x. GoesOn words.entry x.1) }
 {
     let Some(name) = name else {

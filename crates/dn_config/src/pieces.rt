@@ -1,5 +1,5 @@
 ghost use Rattle.std.specs.Prelude.{[], ◌∷◌, ◌++◌, ◌≡◌, ◌≤◌, OnOk, decimal, string_bytes};
-ghost use Rattle.dn_config.specs.Text.{padded, behind_spaces, number_words};
+ghost use Rattle.dn_config.specs.Text.{zero_padded, behind_spaces, number_words};
 
 use itoa::Buffer;
 use std::alloc::AllocError;
@@ -13,11 +13,11 @@ fn push_number(text: &mut String, number: u64) -> Result<(), AllocError>
 }
 
 /// Writes the last `width` digits of a number in a radix.
-#[tactic(auto, unfolding(crate::specs::Text::padded))]
+#[tactic(auto, unfolding(crate::specs::Text::zero_padded))]
 pub fn push_padded(text: &mut String, radix: u32, width: u32, number: u64) -> Result<(), AllocError>
     requires radix_from { 2 ≤ radix }
     requires radix_to { radix ≤ 36 }
-    ensures { OnOk result (string_bytes text.new ≡ string_bytes text.old ++ padded radix width number) }
+    ensures { OnOk result (string_bytes text.new ≡ string_bytes text.old ++ zero_padded radix width number) }
 {
     if width == 0 {
         return Ok(());

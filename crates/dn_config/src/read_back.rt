@@ -1,6 +1,6 @@
 ghost use Rattle.std.specs.Prelude.{◌≡◌, Ok, Some, IfOk};
 ghost use Rattle.dn_types.specs.declared.command.Command.{Command};
-ghost use Rattle.dn_config.specs.Commands.{IsInRange};
+ghost use Rattle.dn_config.specs.Commands.{IsTyped};
 ghost use Rattle.dn_config.specs.Line.{answer};
 ghost use Rattle.dn_config.specs.Text.{text};
 
@@ -13,13 +13,13 @@ use std::alloc::{AllocError, Global};
 /// The law of both directions: the canonical text of every command is a line whose command it is.
 /// The function computes nothing.
 pub fn each_text_reads_back()
-    ensures { (command : Command) → IsInRange command → answer (text command) ≡ Ok (Some command) }
+    ensures { (command : Command) → IsTyped command → answer (text command) ≡ Ok (Some command) }
 {}
 
 /// The values of a command are in range, since its types hold no others. The function computes
 /// nothing.
 fn command_in_range(command: Command)
-    ensures { IsInRange command }
+    ensures { IsTyped command }
 {}
 
 /// Prints a command and parses its text, which gives the command again. Want of memory in the

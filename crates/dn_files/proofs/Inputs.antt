@@ -3,14 +3,14 @@ use Rattle.std.proofs.Common.{◌≡◌, ℕ, Bool, true, false, List, Option, S
 use Rattle.std.specs.Prelude.{IfSome}
 use Rattle.std.proofs.lemmas.Bool.Decides.{nat_tests}
 use Rattle.std.proofs.lemmas.List.{length-replicate}
-use Rattle.dn_files.specs.Reading.{◌>>=◌, within, IsFaultOf, IsRefusedFor, IsTextOf, IsRefusal}
+use Rattle.dn_files.specs.Reading.{◌>>=◌, within_limit, IsFaultOf, IsRefusedFor, IsTextOf, IsRefusal}
 use Rattle.dn_files.specs.declared.replay_fault.ReplayFault.{ReplayFault}
 use Rattle.dn_files.specs.declared.replay_fault.ReplayFault.TheVariants.{BadRow, Read, Write, TooLong, OutOfMemory, Config, ConfigText, NoSuchPipe, BadRecord, BadCount, PipeHasQueues, NoSuchQueue}
 use Rattle.dn_files.specs.declared.source.Source.{Source}
 
 -- The fault of a text that was read whole is one of the input.
 pub refused : {A : Type 0} (source : Source) (limit : ℕ) (read : List ℕ → Result A ReplayFault) (known : Option (List ℕ)) (failed : Bool) (text : List ℕ) (fault : ReplayFault)
-    → failed ≡ false → IsTextOf known text → within limit source text ≡ Ok text → IsFaultOf (read text) fault → IsRefusal source (λ t. within limit source t >>= read) known failed fault
+    → failed ≡ false → IsTextOf known text → within_limit limit source text ≡ Ok text → IsFaultOf (read text) fault → IsRefusal source (λ t. within_limit limit source t >>= read) known failed fault
 refused source limit read known failed text OutOfMemory sound is whole fault = sound
 refused source limit read known failed text (Read what) sound is whole fault = absurd fault
 refused source limit read known failed text (Write what) sound is whole fault = absurd fault
@@ -26,7 +26,7 @@ refused source limit read known failed text (NoSuchQueue line) sound is whole fa
 
 -- A refusal before the text was read is one of the whole input.
 pub passed_on : {A : Type 0} (source : Source) (limit : ℕ) (read : List ℕ → Result A ReplayFault) (known : Option (List ℕ)) (failed : Bool) (fault : ReplayFault)
-    → IsRefusal source (within limit source) known failed fault → IsRefusal source (λ t. within limit source t >>= read) known failed fault
+    → IsRefusal source (within_limit limit source) known failed fault → IsRefusal source (λ t. within_limit limit source t >>= read) known failed fault
 passed_on source limit read known failed OutOfMemory is = is
 passed_on source limit read known failed (Read what) is = is
 passed_on source limit read known failed (Write what) is = is
@@ -41,15 +41,15 @@ passed_on source limit read known failed (PipeHasQueues line) is = (is.0, (is.1.
 passed_on source limit read known failed (NoSuchQueue line) is = (is.0, (is.1.0, is.1.1, rw is.1.2 refl))
 
 -- A text that is longer than its limit.
-longer : (source : Source) (limit : ℕ) (text : List ℕ) → limit < length text → within limit source text ≡ Err (TooLong source)
+longer : (source : Source) (limit : ℕ) (text : List ℕ) → limit < length text → within_limit limit source text ≡ Err (TooLong source)
 longer source limit text long = let over : nat_le (length text) limit ≡ false = grind (arith, nat_tests) in rw over refl
 
-pub too_long : (source : Source) (limit : ℕ) (known : Option (List ℕ)) → IfSome known (λ bytes. limit < length bytes) → IsRefusedFor (within limit source) known (TooLong source)
+pub too_long : (source : Source) (limit : ℕ) (known : Option (List ℕ)) → IfSome known (λ bytes. limit < length bytes) → IsRefusedFor (within_limit limit source) known (TooLong source)
 too_long source limit None long = (replicate (limit + 1) 0, tt, longer source limit (replicate (limit + 1) 0) (rw (length-replicate {A = ℕ} (limit + 1) 0) (omega arith)))
 too_long source limit (Some bytes) long = (bytes, refl, longer source limit bytes long)
 
 -- A text within its limit.
-pub short : (source : Source) (limit : ℕ) (text : List ℕ) → length text ≤ limit → within limit source text ≡ Ok text
+pub short : (source : Source) (limit : ℕ) (text : List ℕ) → length text ≤ limit → within_limit limit source text ≡ Ok text
 short source limit text le = let under : nat_le (length text) limit ≡ true = grind (arith, nat_tests) in rw under refl
 
 -- The fault of a part is that of the whole, where each fault of the part is.

@@ -6,7 +6,7 @@ use Rattle.dn_config.specs.Line.{answer}
 use Rattle.dn_config.specs.Positions.{position_of}
 use Rattle.dn_config.specs.declared.fault.LineFault.{LineFault}
 use Rattle.dn_text.specs.Lines.{lines_of}
-use Rattle.dn_files.specs.Reading.{◌>>=◌, within}
+use Rattle.dn_files.specs.Reading.{◌>>=◌, within_limit}
 use Rattle.dn_files.specs.declared.replay_fault.ReplayFault.{ReplayFault}
 use Rattle.dn_files.specs.declared.replay_fault.ReplayFault.TheVariants.{Config, ConfigText, OutOfMemory}
 use Rattle.dn_files.specs.declared.source.Source.TheVariants.{Config as TheConfig}
@@ -39,8 +39,8 @@ commands_from number (line ∷ rest) = do
   Ok (numbered number command ++ commands)
 
 -- The commands of a configuration's text.
-abbrev pub commands_of : List ℕ → Result (List (ℕ × Command)) ReplayFault
-commands_of text = commands_from 1 (lines_of text)
+abbrev pub commands_in : List ℕ → Result (List (ℕ × Command)) ReplayFault
+commands_in text = commands_from 1 (lines_of text)
 
 -- The greatest length of a configuration in bytes.
 abbrev pub config_limit : ℕ
@@ -48,4 +48,4 @@ config_limit = 1048576
 
 -- What a configuration is read as.
 abbrev pub config_file : List ℕ → Result (List (ℕ × Command)) ReplayFault
-config_file text = within config_limit TheConfig text >>= commands_of
+config_file text = within_limit config_limit TheConfig text >>= commands_in

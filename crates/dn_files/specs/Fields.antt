@@ -16,13 +16,13 @@ abbrev pub column : ℕ → Fields → List ℕ
 column place fields = unwrap_or (field_at fields (place - 1)) []
 
 -- A value, or the place of the field that says none.
-abbrev pub at_place : {A : Type 0} → ℕ → Option A → Result A ℕ
-at_place place None = Err place
-at_place place (Some value) = Ok value
+abbrev pub or_place : {A : Type 0} → ℕ → Option A → Result A ℕ
+or_place place None = Err place
+or_place place (Some value) = Ok value
 
 -- The number of a range in the field at the place, or the place.
 abbrev pub number_at : ℕ → ℕ → ℕ → Fields → Result ℕ ℕ
-number_at place least greatest fields = at_place place (result_ok (number_within least greatest (column place fields)))
+number_at place least greatest fields = or_place place (result_ok (number_within least greatest (column place fields)))
 
 -- Whether the field at the place is this name.
 abbrev pub is_name : ℕ → Fields → List ℕ → Bool
@@ -41,8 +41,8 @@ target_at place fields =
 -- Addresses, protocol and ports, in five fields.
 unfoldable pub tuple_at : ℕ → Fields → Result FiveTuple ℕ
 tuple_at place fields = do
-  src ← at_place place (address_of (column place fields))
-  dst ← at_place (place + 1) (address_of (column (place + 1) fields))
+  src ← or_place place (address_of (column place fields))
+  dst ← or_place (place + 1) (address_of (column (place + 1) fields))
   proto ← number_at (place + 2) 0 255 fields
   sport ← number_at (place + 3) 0 65535 fields
   dport ← number_at (place + 4) 0 65535 fields

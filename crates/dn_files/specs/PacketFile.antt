@@ -2,7 +2,7 @@
 use Rattle.std.specs.Prelude.{◌≡◌, IfSome, IsSome, ℕ, ◌+◌, ◌^◌, ◌==◌, ◌&&◌, Bool, cond, List, [], ◌∷◌, length, Option, None, Result, Ok, Err, codes}
 use Rattle.dn_records.specs.Records.{Fields, records_of}
 use Rattle.dn_files.specs.Fields.{is_name, number_at, packet_at, target_at}
-use Rattle.dn_files.specs.Reading.{◌>>=◌, within}
+use Rattle.dn_files.specs.Reading.{◌>>=◌, within_limit}
 use Rattle.dn_files.specs.declared.replay_fault.ReplayFault.{ReplayFault}
 use Rattle.dn_files.specs.declared.replay_fault.ReplayFault.TheVariants.{BadRow}
 use Rattle.dn_files.specs.declared.row.Row.{Row}
@@ -57,4 +57,4 @@ packet_limit = 67108864
 
 -- What a packet file is read as.
 abbrev pub packet_file : List ℕ → Result (List Row) ReplayFault
-packet_file text = within packet_limit Packets text >>= rows_of
+packet_file text = within_limit packet_limit Packets text >>= rows_of

@@ -11,8 +11,8 @@ abbrev pub ◌>>=◌ : {A B E : Type 0} → Result A E → (A → Result B E) �
 (Err fault) >>= read = Err fault
 
 -- The text of an input that has a limit.
-abbrev pub within : ℕ → Source → List ℕ → Result (List ℕ) ReplayFault
-within limit source text = cond (nat_le (length text) limit) (Ok text) (Err (TooLong source))
+abbrev pub within_limit : ℕ → Source → List ℕ → Result (List ℕ) ReplayFault
+within_limit limit source text = cond (nat_le (length text) limit) (Ok text) (Err (TooLong source))
 
 -- Why a text was refused: memory was refused, or it is the text's own fault.
 abbrev pub IsFaultOf : {A : Type 0} → Result A ReplayFault → ReplayFault → Type 0

@@ -2,7 +2,7 @@ ghost use Rattle.std.specs.Prelude.{◌≡◌, ◌≤◌, ◌+◌, ◌++◌, fal
 ghost use Rattle.std.specs.Prelude.{Err, Option};
 ghost use Rattle.dn_types.specs.declared.command.Command.{Command};
 ghost use Rattle.dn_config.specs.Positions.{position_of};
-ghost use Rattle.dn_files.specs.ConfigFile.{command_at, commands_of, config_file, fault_at, numbered};
+ghost use Rattle.dn_files.specs.ConfigFile.{command_at, commands_in, config_file, fault_at, numbered};
 ghost use Rattle.dn_files.specs.Reading.{IsFaultOf, IsRefusal, ReadsAs};
 ghost use Rattle.dn_files.specs.declared.replay_fault.ReplayFault.TheVariants.{OutOfMemory};
 ghost use Rattle.dn_files.specs.declared.source.Source.TheVariants.{Config};
@@ -70,8 +70,8 @@ fn keep(
 /// The commands of a configuration's text with the numbers of their lines. All lines are read before any
 /// command is made. A replay has a loop of its own, which makes each command before it reads on.
 fn commands_of_text(alloc: Global, text: &[u8]) -> Result<Vec<(usize, Command)>, ReplayFault>
-    ensures ok { IfOk result (λ commands. commands_of text.now ≡ Ok commands.items) }
-    ensures err { IfErr result (λ fault. IsFaultOf (commands_of text.now) fault) }
+    ensures ok { IfOk result (λ commands. commands_in text.now ≡ Ok commands.items) }
+    ensures err { IfErr result (λ fault. IsFaultOf (commands_in text.now) fault) }
 {
     let mut commands = Vec::new(alloc);
     let mut lines = Lines::new(text);

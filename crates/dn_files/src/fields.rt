@@ -1,7 +1,7 @@
 ghost use Rattle.std.specs.Prelude.{◌≡◌, ◌≤◌, ◌<◌, IfOk};
 ghost use Rattle.csv.specs.Records.{fields_of};
 ghost use Rattle.dn_text.specs.Addresses.{address_of};
-ghost use Rattle.dn_files.specs.Fields.{at_place, column, is_form, is_name, number_at};
+ghost use Rattle.dn_files.specs.Fields.{or_place, column, is_form, is_name, number_at};
 
 use csv::ByteRecord;
 use dn_text::{read_address, read_number};
@@ -32,7 +32,7 @@ pub fn number_at(fields: &ByteRecord, place: usize, least: u64, greatest: u64) -
 /// The address in the field at the place, or the place.
 pub(crate) fn address_at(fields: &ByteRecord, place: usize) -> Result<u32, u64>
     requires { 1 ≤ place }
-    ensures { result ≡ at_place place (address_of (column place (fields_of fields.now))) }
+    ensures { result ≡ or_place place (address_of (column place (fields_of fields.now))) }
 {
     read_address(column(fields, place)).ok_or(place as u64)
 }

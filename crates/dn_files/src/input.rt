@@ -1,5 +1,5 @@
 ghost use Rattle.std.specs.Prelude.{◌≡◌, false, Ok, IfOk, IfErr};
-ghost use Rattle.dn_files.specs.Reading.{IsRefusal, IsTextOf, within};
+ghost use Rattle.dn_files.specs.Reading.{IsRefusal, IsTextOf, within_limit};
 
 use crate::replay_fault::ReplayFault;
 use crate::source::Source;
@@ -16,9 +16,9 @@ pub fn read_input<I: Inlet>(
 ) -> Result<Vec<u8>, ReplayFault>
     requires { I.has_failed reader.old ≡ false }
     ensures text { IfOk result (λ text. IsTextOf (I.remaining reader.old) text.items) }
-    ensures within { IfOk result (λ text. within limit source text.items ≡ Ok text.items) }
+    ensures within { IfOk result (λ text. within_limit limit source text.items ≡ Ok text.items) }
     ensures sound { IfOk result (λ _. I.has_failed reader.new ≡ false) }
-    ensures err { IfErr result (λ fault. IsRefusal source (within limit source)
+    ensures err { IfErr result (λ fault. IsRefusal source (within_limit limit source)
         (I.remaining reader.old) (I.has_failed reader.new) fault) }
 {
     match read_whole(alloc, reader, limit) {

@@ -8,7 +8,7 @@ use Rattle.dn_types.specs.declared.command.Command.{Command}
 use Rattle.dn_types.specs.declared.command.Command.TheVariants.{DeletePipe, DeleteQueue, Pipe, Queue}
 use Rattle.dn_types.specs.declared.packet.Packet.{Packet}
 use Rattle.dn_types.specs.declared.target.Target.{Target}
-use Rattle.dn_config.specs.Commands.{IsInRange}
+use Rattle.dn_config.specs.Commands.{IsTyped}
 use Rattle.dn_config.specs.Text.{text}
 use Rattle.dn_config.proofs.CommandsBack.{text_back}
 use Rattle.dn_config.proofs.TextBytes.{text_utf8}
@@ -26,7 +26,7 @@ unfolding field_at
 caller_back caller call l = number_back 2 0 15 caller (call_record caller call) refl (omega (arith, l)) (omega arith) (omega (arith, l))
 
 -- The canonical text of a command is a line with this command.
-line_back : (command : Command) → IsInRange command → command_at 1 (text command) ≡ Ok (Some command)
+line_back : (command : Command) → IsTyped command → command_at 1 (text command) ≡ Ok (Some command)
 line_back command h = said 1 (text command) (Ok (Some command)) (text_utf8 command h) (text_back command h)
 
 -- Version 3 has deletes, so each command may stand in it.

@@ -7,7 +7,7 @@ use Rattle.dn_records.specs.Records.{Fields}
 use Rattle.dn_history.specs.HistoryFile.{before, call_of, command_by, delivered_from, end_by, entries_from, entry_by, entry_from, history_file, history_from, history_limit, nothing_in, reply_by, reply_from, status_from}
 use Rattle.dn_history.specs.HistoryFaults.{IsHistoryFault}
 use Rattle.dn_files.specs.Reading.{◌>>=◌, IsRefusal}
-use Rattle.dn_history.specs.RecordsLeft.{Rest, first_of, in_record, item_from, items_from, next_record}
+use Rattle.dn_history.specs.RecordsLeft.{Rest, first_record, in_record, item_from, items_from, next_record}
 use Rattle.dn_history.specs.declared.history_version.HistoryVersion.{HistoryVersion}
 use Rattle.dn_files.specs.declared.replay_fault.ReplayFault.{ReplayFault}
 use Rattle.dn_files.specs.declared.replay_fault.ReplayFault.TheVariants.{BadRow, Read, Write, TooLong, OutOfMemory, Config, ConfigText, NoSuchPipe, BadRecord, BadCount, PipeHasQueues, NoSuchQueue}
@@ -39,7 +39,7 @@ in_one : {A : Type 0} (number : ℕ) (r : Result A ℕ) → IsGood (in_record nu
 in_one number (Ok value) = record { fits = tt }
 in_one number (Err place) = record { fits = tt }
 
-first_good : (number : ℕ) (records : List Fields) → IsGood (first_of number records)
+first_good : (number : ℕ) (records : List Fields) → IsGood (first_record number records)
 first_good number [] = record { fits = tt }
 first_good number (fields ∷ records) = record { fits = tt }
 

@@ -13,7 +13,7 @@ use Rattle.dn_records.specs.Records.{Fields}
 use Rattle.dn_history.specs.EntryRecords.{delivery_record, status_record}
 use Rattle.dn_files.specs.Fields.{column}
 use Rattle.dn_history.specs.RecordsLeft.{Read, item_from, items_from, next_record}
-use Rattle.dn_history.specs.HistoryItems.{delivery_of, key_of, mask_at, status_of}
+use Rattle.dn_history.specs.HistoryItems.{delivery_item, key_item, mask_item, status_item}
 use Rattle.dn_history.specs.HistoryRecords.{long_at}
 use Rattle.dn_history.specs.Ranges.{IsDelivery, IsLong, IsStatus, IsTuple}
 use Rattle.dn_history.specs.declared.history_version.HistoryVersion.TheVariants.{Third}
@@ -26,8 +26,8 @@ Reads read value left = (number : ℕ) × (read ≡ Ok (value, record { number =
 pub long_back : (place n : ℕ) (fields : Fields) → column place fields ≡ decimal n → IsLong n → long_at place fields ≡ Ok n
 long_back place n fields is l = number_back place 0 18446744073709551615 n fields is l (omega arith) (omega (arith, l))
 
-delivery_back : (d : Delivery) → IsDelivery d → delivery_of (delivery_record d) ≡ Ok d
-unfolding delivery_of field_at
+delivery_back : (d : Delivery) → IsDelivery d → delivery_item (delivery_record d) ≡ Ok d
+unfolding delivery_item field_at
 delivery_back d h =
     let fields = delivery_record d in
     rw (long_back 2 d.packet fields refl h.packet, long_back 3 d.flow fields refl h.flow, long_back 4 d.start fields refl h.start, long_back 5 d.due fields refl h.due) refl
@@ -36,14 +36,14 @@ delivery_back d h =
 abbrev bits_of : Mask → FiveTuple
 bits_of m = record { src = m.src; dst = m.dst; proto = m.proto; sport = m.sport; dport = m.dport }
 
-mask_back : (place : ℕ) (fields : Fields) (m : Mask) → IsMask m → HasTuple place fields (bits_of m) → mask_at place fields ≡ Ok m
-unfolding mask_at
+mask_back : (place : ℕ) (fields : Fields) (m : Mask) → IsMask m → HasTuple place fields (bits_of m) → mask_item place fields ≡ Ok m
+unfolding mask_item
 mask_back place fields m h at =
     let inside : IsTuple (bits_of m) = record { src = h.src; dst = h.dst; proto = h.proto; sport = h.sport; dport = h.dport } in
     rw (tuple_back place fields (bits_of m) inside at) refl
 
-key_back : (s : FlowStatus) → IsStatus s → key_of (status_record s) ≡ Ok s.key
-unfolding key_of field_at
+key_back : (s : FlowStatus) → IsStatus s → key_item (status_record s) ≡ Ok s.key
+unfolding key_item field_at
 key_back s h =
     let fields = status_record s in
     let at_six : HasTuple 6 fields (bits_of s.key.mask) = record { src_at = refl; dst_at = refl; proto_at = refl; sport_at = refl; dport_at = refl } in
@@ -51,8 +51,8 @@ key_back s h =
     let pipe = number_back 5 1 65535 s.key.pipe fields refl (omega (arith, h.key.pipe)) h.key.pipe.0 h.key.pipe.1 in
     rw (target_back 3 fields s.key.target h.key.target refl refl, pipe, mask_back 6 fields s.key.mask h.key.mask at_six, tuple_back 11 fields s.key.tuple h.key.tuple at_eleven) refl
 
-status_back : (s : FlowStatus) → IsStatus s → status_of Third (status_record s) ≡ Ok s
-unfolding status_of field_at
+status_back : (s : FlowStatus) → IsStatus s → status_item Third (status_record s) ≡ Ok s
+unfolding status_item field_at
 status_back s h =
     let fields = status_record s in
     let flow = long_back 2 s.flow fields refl h.flow in
@@ -73,8 +73,8 @@ listed P item fields_of back (x ∷ list) all number left =
     let more = listed P item fields_of back list (All-tail P x list all) (number + 1) left in
     (more.0, rw (back x (All-head P x list all), more.1) refl)
 
-pub deliveries_back : (list : List Delivery) → All IsDelivery list → (number : ℕ) (left : List Fields) → Reads (items_from delivery_of (length list) (record { number = number; records = map delivery_record list ++ left })) list left
-deliveries_back = listed IsDelivery delivery_of delivery_record delivery_back
+pub deliveries_back : (list : List Delivery) → All IsDelivery list → (number : ℕ) (left : List Fields) → Reads (items_from delivery_item (length list) (record { number = number; records = map delivery_record list ++ left })) list left
+deliveries_back = listed IsDelivery delivery_item delivery_record delivery_back
 
-pub statuses_back : (list : List FlowStatus) → All IsStatus list → (number : ℕ) (left : List Fields) → Reads (items_from (status_of Third) (length list) (record { number = number; records = map status_record list ++ left })) list left
-statuses_back = listed IsStatus (status_of Third) status_record status_back
+pub statuses_back : (list : List FlowStatus) → All IsStatus list → (number : ℕ) (left : List Fields) → Reads (items_from (status_item Third) (length list) (record { number = number; records = map status_record list ++ left })) list left
+statuses_back = listed IsStatus (status_item Third) status_record status_back

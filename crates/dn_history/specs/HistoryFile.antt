@@ -10,9 +10,9 @@ use Rattle.dn_types.specs.declared.rule.Rule.{Rule}
 use Rattle.dn_records.specs.Records.{Fields, records_of}
 use Rattle.dn_files.specs.ConfigFile.{command_at}
 use Rattle.dn_files.specs.Fields.{column}
-use Rattle.dn_history.specs.HistoryItems.{delivery_of, status_of}
+use Rattle.dn_history.specs.HistoryItems.{delivery_item, status_item}
 use Rattle.dn_history.specs.HistoryRecords.{caller_of, has_deletes, is_call, is_delete, is_end, is_reply, long_at, plain_call, plain_reply, rule_of, told_count, two_of, version_of}
-use Rattle.dn_files.specs.Reading.{◌>>=◌, within}
+use Rattle.dn_files.specs.Reading.{◌>>=◌, within_limit}
 use Rattle.dn_history.specs.RecordsLeft.{Read, Rest, in_record, items_from, next_record}
 use Rattle.dn_history.specs.declared.history_version.HistoryVersion.{HistoryVersion}
 use Rattle.dn_files.specs.declared.replay_fault.ReplayFault.{ReplayFault}
@@ -37,14 +37,14 @@ call_of version number fields =
 unfoldable pub delivered_from : ℕ → Fields → Rest → Read Reply
 delivered_from number fields rest = do
   head ← in_record number (two_of fields)
-  list ← items_from delivery_of head.1 rest
+  list ← items_from delivery_item head.1 rest
   Ok (Delivered head.0 list.0, list.1)
 
 -- The rest of a reply with the states of flows.
 unfoldable pub status_from : HistoryVersion → ℕ → Fields → Rest → Read Reply
 status_from version number fields rest = do
   count ← in_record number (long_at 3 fields)
-  list ← items_from (status_of version) count rest
+  list ← items_from (status_item version) count rest
   Ok (Status list.0, list.1)
 
 -- A reply by its record, which has this number, and the items behind it.
@@ -117,4 +117,4 @@ history_limit = 268435456
 
 -- What a history file is read as.
 abbrev pub history_file : List ℕ → Result (Rule × List Entry) ReplayFault
-history_file text = within history_limit History text >>= history_in
+history_file text = within_limit history_limit History text >>= history_in

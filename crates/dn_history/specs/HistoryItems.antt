@@ -12,8 +12,8 @@ use Rattle.dn_history.specs.declared.history_version.HistoryVersion.{HistoryVers
 use Rattle.dn_history.specs.declared.history_version.HistoryVersion.TheVariants.{First, Second, Third}
 
 -- `d,packet,flow,start,due`
-unfoldable pub delivery_of : Fields → Result Delivery ℕ
-delivery_of fields = cond (is_form 1 (codes "d") 5 fields) (do
+unfoldable pub delivery_item : Fields → Result Delivery ℕ
+delivery_item fields = cond (is_form 1 (codes "d") 5 fields) (do
   packet ← long_at 2 fields
   flow ← long_at 3 fields
   start ← long_at 4 fields
@@ -22,17 +22,17 @@ delivery_of fields = cond (is_form 1 (codes "d") 5 fields) (do
     (Err 1)
 
 -- The mask of a flow, in the five fields of a tuple.
-unfoldable pub mask_at : ℕ → Fields → Result Mask ℕ
-mask_at place fields = do
+unfoldable pub mask_item : ℕ → Fields → Result Mask ℕ
+mask_item place fields = do
   bits ← tuple_at place fields
   Ok (record { src = bits.src; dst = bits.dst; proto = bits.proto; sport = bits.sport; dport = bits.dport })
 
 -- The key of a flow: `TARGET,number,pipe,` mask and tuple.
-unfoldable pub key_of : Fields → Result FlowKey ℕ
-key_of fields = do
+unfoldable pub key_item : Fields → Result FlowKey ℕ
+key_item fields = do
   target ← target_at 3 fields
   pipe ← number_at 5 1 65535 fields
-  mask ← mask_at 6 fields
+  mask ← mask_item 6 fields
   tuple ← tuple_at 11 fields
   Ok (record { target = target; pipe = pipe; mask = mask; tuple = tuple })
 
@@ -43,21 +43,21 @@ status_width Second = 21
 status_width Third = 21
 
 -- The count of discarded packets of a status.
-abbrev pub discarded_of : HistoryVersion → Fields → Result ℕ ℕ
-discarded_of First fields = Ok 0
-discarded_of Second fields = long_at 21 fields
-discarded_of Third fields = long_at 21 fields
+abbrev pub discarded_item : HistoryVersion → Fields → Result ℕ ℕ
+discarded_item First fields = Ok 0
+discarded_item Second fields = long_at 21 fields
+discarded_item Third fields = long_at 21 fields
 
 -- `f,flow,TARGET,number,pipe,` mask, tuple, `queued,bytes,lost,full,started,discarded`
-unfoldable pub status_of : HistoryVersion → Fields → Result FlowStatus ℕ
-status_of version fields = cond (is_form 1 (codes "f") (status_width version) fields) (do
+unfoldable pub status_item : HistoryVersion → Fields → Result FlowStatus ℕ
+status_item version fields = cond (is_form 1 (codes "f") (status_width version) fields) (do
   flow ← long_at 2 fields
-  key ← key_of fields
+  key ← key_item fields
   queued ← long_at 16 fields
   bytes ← long_at 17 fields
   lost ← long_at 18 fields
   full ← long_at 19 fields
   started ← long_at 20 fields
-  discarded ← discarded_of version fields
+  discarded ← discarded_item version fields
   Ok (record { flow = flow; key = key; queued = queued; bytes = bytes; lost = lost; full = full; started = started; discarded = discarded }))
     (Err 1)

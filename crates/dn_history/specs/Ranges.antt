@@ -14,7 +14,7 @@ use Rattle.dn_types.specs.declared.reply.Reply.{Reply}
 use Rattle.dn_types.specs.declared.reply.Reply.TheVariants as r
 use Rattle.dn_types.specs.declared.target.Target.{Target}
 use Rattle.dn_types.specs.declared.target.Target.TheVariants.{Pipe, Queue}
-use Rattle.dn_config.specs.Commands.{IsBetween, IsInRange, IsMask}
+use Rattle.dn_config.specs.Commands.{IsBetween, IsTyped, IsMask}
 
 -- A number of 64 bits.
 abbrev pub IsLong : ℕ → Type 0
@@ -41,7 +41,7 @@ pub record IsPacket (p : Packet) : Type 0 where
 
 -- A moment is at most 2^62 ns.
 abbrev pub IsCall : Call → Type 0
-IsCall (c.Configure command) = IsInRange command
+IsCall (c.Configure command) = IsTyped command
 IsCall (c.Submit target packet moment) = IsTarget target × IsPacket packet × (moment ≤ 2 ^ 62)
 IsCall (c.Advance moment) = moment ≤ 2 ^ 62
 IsCall (c.Collect moment) = moment ≤ 2 ^ 62

@@ -14,13 +14,13 @@ pub record Rest : Type 0 where
 abbrev pub Read : Type 0 → Type 0
 Read A = Result (A × Rest) ReplayFault
 
-abbrev pub first_of : ℕ → List Fields → Read Fields
-first_of number [] = Err (BadRecord number)
-first_of number (fields ∷ records) = Ok (fields, record { number = number + 1; records = records })
+abbrev pub first_record : ℕ → List Fields → Read Fields
+first_record number [] = Err (BadRecord number)
+first_record number (fields ∷ records) = Ok (fields, record { number = number + 1; records = records })
 
 -- The next record. One that is missing has the number that it would have.
 unfoldable pub next_record : Rest → Read Fields
-next_record rest = first_of rest.number rest.records
+next_record rest = first_record rest.number rest.records
 
 -- What the record with this number says. Of a bad one the number is told.
 abbrev pub in_record : {A : Type 0} → ℕ → Result A ℕ → Result A ReplayFault

@@ -9,7 +9,7 @@ use Rattle.std.proofs.lemmas.List.Sums.{count_by_more_yes, count_by_more_no}
 use Rattle.dn_types.specs.declared.delivery.Delivery.{Delivery}
 use Rattle.dn_types.specs.declared.entry.Entry.{Entry}
 use Rattle.dn_records.specs.Records.{line_of, text_of}
-use Rattle.dn_replay.specs.Report.{entry_line, in_order, is_other, is_out, is_submit, line_fields, lines_after, lines_of, outs_in_order, report, report_header, row_number, submits_by}
+use Rattle.dn_replay.specs.Report.{entry_line, sorted_by, is_other, is_out, is_submit, line_fields, lines_after, submit_lines, outs_in_order, report, report_header, row_number, submits_by}
 use Rattle.dn_replay.specs.Tables.{counts_after}
 use Rattle.dn_replay.specs.declared.report.report_line.ReportLine.{ReportLine}
 use Rattle.dn_records.proofs.TextSteps.{text-append}
@@ -71,11 +71,11 @@ all test n given entries i front total le so_far =
     sym (append-nil front) ∙ whole
 
 -- The header, the lines of delivered packets and the others are the report.
-pub report_is : (n : ℕ) (history : List Entry) (outs others : List ReportLine) → outs ≡ outs_in_order (filter is_out (lines_of n history)) → others ≡ in_order row_number (filter is_other (lines_of n history))
+pub report_is : (n : ℕ) (history : List Entry) (outs others : List ReportLine) → outs ≡ outs_in_order (filter is_out (submit_lines n history)) → others ≡ sorted_by row_number (filter is_other (submit_lines n history))
     → (line_of report_header ++ text_of (map line_fields outs)) ++ text_of (map line_fields others) ≡ report n history
 unfolding report text_of
 report_is n history outs others is_outs is_others =
-    let first = outs_in_order (filter is_out (lines_of n history)) in
-    let then = in_order row_number (filter is_other (lines_of n history)) in
+    let first = outs_in_order (filter is_out (submit_lines n history)) in
+    let then = sorted_by row_number (filter is_other (submit_lines n history)) in
     rw (is_outs, is_others) (append_assoc (line_of report_header) (text_of (map line_fields first)) (text_of (map line_fields then))
     ∙ ap (λ (t : List ℕ). line_of report_header ++ t) (sym (text-append (map line_fields first) (map line_fields then)) ∙ ap text_of (sym (map-append line_fields first then))))

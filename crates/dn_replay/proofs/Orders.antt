@@ -11,7 +11,7 @@ use Rattle.std.proofs.lemmas.List.Sorted.{IsNonDecreasingBy-from_sort_by_key}
 use denote.Param.Members.{Mut}
 use Rattle.std.proofs.lemmas.Bool.{cases_Bool}
 use Rattle.std.proofs.lemmas.Bool.Decides.{nat_tests}
-use Rattle.dn_replay.specs.Report.{in_order, with_placed}
+use Rattle.dn_replay.specs.Report.{sorted_by, with_placed}
 
 -- Each element's place is at least n.
 abbrev pub AtLeast : {X : Type 0} → (X → ℕ) → ℕ → List X → Type 0
@@ -122,15 +122,15 @@ placed-level place n x (y ∷ ys) = elim (cases_Bool (nat_lt (place y) (place x)
   | inr behind ↦ rw behind refl
 ]
 
-in_order-rises : {X : Type 0} (place : X → ℕ) (xs : List X) → Rises place (in_order place xs)
-unfolding in_order
+in_order-rises : {X : Type 0} (place : X → ℕ) (xs : List X) → Rises place (sorted_by place xs)
+unfolding sorted_by
 in_order-rises place [] = tt
-in_order-rises place (x ∷ xs) = placed-rises place x (in_order place xs) (in_order-rises place xs)
+in_order-rises place (x ∷ xs) = placed-rises place x (sorted_by place xs) (in_order-rises place xs)
 
-in_order-level : {X : Type 0} (place : X → ℕ) (n : ℕ) (xs : List X) → at place n (in_order place xs) ≡ at place n xs
-unfolding in_order
+in_order-level : {X : Type 0} (place : X → ℕ) (n : ℕ) (xs : List X) → at place n (sorted_by place xs) ≡ at place n xs
+unfolding sorted_by
 in_order-level place n [] = refl
-in_order-level place n (x ∷ xs) = placed-level place n x (in_order place xs) ∙ ap (λ (l : List _). cond (nat_eq n (place x)) (x ∷ l) l) (in_order-level place n xs)
+in_order-level place n (x ∷ xs) = placed-level place n x (sorted_by place xs) ∙ ap (λ (l : List _). cond (nat_eq n (place x)) (x ∷ l) l) (in_order-level place n xs)
 
 -- std's test of what is level.
 level : (a b : ℕ) → not (is_lt (nat_cmp a b)) && not (is_lt (nat_cmp b a)) ≡ nat_eq a b
@@ -141,15 +141,15 @@ level-at place x [] = refl
 level-at place x (y ∷ ys) = rw (level (place x) (place y), level-at place x ys) refl
 
 -- What a stable sort gives is the list in order.
-pub sorted_is : {X : Type 0} (place : X → ℕ) (xs ys : List X) → IsNonDecreasingBy place ys → IsStableByKey place nat_cmp xs ys → ys ≡ in_order place xs
+pub sorted_is : {X : Type 0} (place : X → ℕ) (xs ys : List X) → IsNonDecreasingBy place ys → IsStableByKey place nat_cmp xs ys → ys ≡ sorted_by place xs
 unfolding Agree
 sorted_is place xs ys up stable =
-    unique place ys (in_order place xs) (rises-from place ys up) (in_order-rises place xs)
+    unique place ys (sorted_by place xs) (rises-from place ys up) (in_order-rises place xs)
     (λ x. in_order-level place (place x) xs ∙ sym (level-at place x xs) ∙ sym (stable x) ∙ level-at place x ys)
 
 -- The same by the clauses of `sort_by_key`, where each call gives the place of the element.
 pub sorted_by_key : {X : Type 0} (place : X → ℕ) {F : Type 0} {g : Mut F (Bor X × Unit {0}) ℕ} {f : F} (xs ys : List X)
     → ((key : X → ℕ) → ComputesKey g key f → IsSortedByKey key nat_cmp ys) → ((key : X → ℕ) → ComputesKey g key f → IsStableByKey key nat_cmp xs ys)
-    → ((a : Bor X × Unit {0}) (r : ℕ) (f' : F) → Called g f a r f' → (r ≡ place a.0.now) × (f' ≡ f)) → ys ≡ in_order place xs
+    → ((a : Bor X × Unit {0}) (r : ℕ) (f' : F) → Called g f a r f' → (r ≡ place a.0.now) × (f' ≡ f)) → ys ≡ sorted_by place xs
 sorted_by_key place {g = g} {f = f} xs ys sorted stable calls =
     sorted_is place xs ys (IsNonDecreasingBy-from_sort_by_key place ys sorted calls) (stable place (always_returns_same g (λ a r. r ≡ place a.0.now) f calls))

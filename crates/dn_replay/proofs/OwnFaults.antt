@@ -17,8 +17,8 @@ use Rattle.dn_text.specs.Lines.{lines_of}
 use Rattle.dn_files.specs.ConfigFile.{command_at, config_limit, fault_at, said_at}
 use Rattle.dn_replay.specs.Configuring.{applied, configured_by, configured_from, refusal, unless}
 use Rattle.dn_files.specs.PacketFile.{is_header, packet_file, packet_limit, row_at, row_of, rows_below, rows_from, rows_of}
-use Rattle.dn_files.specs.Reading.{◌>>=◌, within}
-use Rattle.dn_replay.specs.Replays.{AskFor, calls_of, config_calls}
+use Rattle.dn_files.specs.Reading.{◌>>=◌, within_limit}
+use Rattle.dn_replay.specs.Replays.{AskFor, calls_of_inputs, config_calls}
 use Rattle.dn_replay.specs.Runs.{replayed}
 use Rattle.dn_files.specs.declared.replay_fault.ReplayFault.{ReplayFault}
 use Rattle.dn_files.specs.declared.replay_fault.ReplayFault.TheVariants.{BadCount, BadRow, ConfigText, TooLong}
@@ -34,7 +34,7 @@ chained : {A B : Type 0} (first : Result A ReplayFault) (next : A → Result B R
 chained (Ok x) next other others = others x
 chained (Err fault) next other others = other
 
-limited : (limit : ℕ) (source : Source) (text : List ℕ) → IfErr (within limit source text) IsOther
+limited : (limit : ℕ) (source : Source) (text : List ℕ) → IfErr (within_limit limit source text) IsOther
 limited limit source text = elim (nat_le (length text) limit) as (λ b. IfErr (cond {A = Result (List ℕ) ReplayFault} b (Ok text) (Err (TooLong source))) IsOther) [
   | true ↦ tt
   | false ↦ tt
@@ -104,16 +104,16 @@ no_count : {A : Type 0} (read : Result A ReplayFault) → IfErr read IsOther →
 no_count read other is = rw is at other
 
 in_config : (text : List ℕ) → IfErr (config_calls text) IsOther
-in_config text = chained (within config_limit Config text) configured_by (limited config_limit Config text) (λ whole. in_lines [] 1 (lines_of whole))
+in_config text = chained (within_limit config_limit Config text) configured_by (limited config_limit Config text) (λ whole. in_lines [] 1 (lines_of whole))
 
 in_packets : (text : List ℕ) → IfErr (packet_file text) IsOther
-in_packets text = chained (within packet_limit Packets text) rows_of (limited packet_limit Packets text) (λ whole. in_records (records_of whole))
+in_packets text = chained (within_limit packet_limit Packets text) rows_of (limited packet_limit Packets text) (λ whole. in_records (records_of whole))
 
-in_both : (config packets : List ℕ) → IfErr (calls_of config packets) IsOther
-unfolding calls_of
+in_both : (config packets : List ℕ) → IfErr (calls_of_inputs config packets) IsOther
+unfolding calls_of_inputs
 in_both config packets =
     chained (config_calls config) (λ calls. packet_file packets >>= λ rows. Ok (replayed calls rows)) (in_config config)
     (λ calls. chained (packet_file packets) (λ rows. Ok (replayed calls rows)) (in_packets packets) (λ rows. tt))
 
 pub no_count_asked : (config packets : Option (List ℕ)) → AskFor config packets (Err BadCount) → ⊥
-no_count_asked config packets (c, p, of_config, of_packets, asked) = no_count (calls_of c p) (in_both c p) asked
+no_count_asked config packets (c, p, of_config, of_packets, asked) = no_count (calls_of_inputs c p) (in_both c p) asked

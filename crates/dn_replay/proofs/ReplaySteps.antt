@@ -2,7 +2,7 @@
 use Rattle.std.proofs.Common.{◌≡◌, ◌∙◌, ℕ, ◌<◌, Bool, true, false, List, [], ◌∷◌, Option, Some, None, Result, Ok, Err, refl, sym, ap, All, arith}
 use Rattle.std.specs.Io.KnownBytes.{Keeps}
 use Rattle.std.proofs.lemmas.List.Elements.{All-nil, All-push}
-use Rattle.dn_types.specs.History.{IsLawful, calls_of as calls_of_history}
+use Rattle.dn_types.specs.History.{IsLawful, calls_of}
 use Rattle.dn_types.specs.Replies.{reply}
 use Rattle.dn_types.specs.declared.call.Call.{Call}
 use Rattle.dn_types.specs.declared.entry.Entry.{Entry}
@@ -10,8 +10,8 @@ use Rattle.dn_types.specs.declared.rule.Rule.TheVariants.{Ordered}
 use Rattle.dn_text.specs.Joined.{joined_parts}
 use Rattle.dn_replay.specs.Configuring.{configured_by}
 use Rattle.dn_files.specs.PacketFile.{packet_file, packet_limit, rows_of}
-use Rattle.dn_files.specs.Reading.{within, IsFaultOf, IsRefusal, IsRefusedFor, IsTextOf, ReadsAs}
-use Rattle.dn_replay.specs.Replays.{AskFor, calls_of, calls_of_joined, config_calls, IsReplayed, IsUnread, IsUnreplayed, IsUnreported}
+use Rattle.dn_files.specs.Reading.{within_limit, IsFaultOf, IsRefusal, IsRefusedFor, IsTextOf, ReadsAs}
+use Rattle.dn_replay.specs.Replays.{AskFor, calls_of_inputs, calls_of_joined, config_calls, IsReplayed, IsUnread, IsUnreplayed, IsUnreported}
 use Rattle.dn_replay.specs.Runs.{entry_after, history_of, replayed}
 use Rattle.dn_files.specs.declared.replay_fault.ReplayFault.{ReplayFault}
 use Rattle.dn_files.specs.declared.replay_fault.ReplayFault.TheVariants.{BadRow, Read, Write, TooLong, OutOfMemory, Config, ConfigText, NoSuchPipe, BadRecord, BadCount, PipeHasQueues, NoSuchQueue}
@@ -32,7 +32,7 @@ by_one (c ∷ calls) =
     let zero_below : 0 < 1 = omega arith in
     All-push (λ (e : Entry). e.caller < 1) (history_of calls) (entry_after calls c) (by_one calls) zero_below
 
-pub made : (calls : List Call) → calls_of_history (history_of calls) ≡ calls
+pub made : (calls : List Call) → calls_of (history_of calls) ≡ calls
 unfolding history_of
 made [] = refl
 made (c ∷ calls) = calls_of-more (history_of calls) (entry_after calls c) ∙ ap (λ (before : List Call). c ∷ before) (made calls)
@@ -124,32 +124,32 @@ unreplayed ReadFailed Asked known failed (NoSuchQueue l) whole h = (h.0, h.1, (w
 
 -- What two inputs ask for.
 pub asks : (config packets : Option (List ℕ)) (calls : List Call) (rows : List Row) → ReadsAs config_calls config calls → ReadsAs packet_file packets rows → AskFor config packets (Ok (replayed calls rows))
-unfolding calls_of
+unfolding calls_of_inputs
 asks config packets calls rows c p = (c.0, p.0, c.1, p.1, rw (c.2, p.2) refl)
 
 pub config_fault : (config packets : Option (List ℕ)) (fault : ReplayFault) → IsRefusedFor config_calls config fault → AskFor config packets (Err fault)
-unfolding calls_of
+unfolding calls_of_inputs
 config_fault config packets fault c = let (text, is) = some_text packets in (c.0, text, c.1, is, rw c.2 refl)
 
 pub packet_fault : (config packets : Option (List ℕ)) (calls : List Call) (fault : ReplayFault) → ReadsAs config_calls config calls → IsRefusedFor packet_file packets fault → AskFor config packets (Err fault)
-unfolding calls_of
+unfolding calls_of_inputs
 packet_fault config packets calls fault c p = (c.0, p.0, c.1, p.1, rw (c.2, p.2) refl)
 
 -- What one joined input asks for.
-pub joined_asks : (text : List ℕ) (calls : List Call) (rows : List Row) → within packet_limit Input text ≡ Ok text → configured_by (joined_parts text).0 ≡ Ok calls → rows_of (joined_parts text).1 ≡ Ok rows
+pub joined_asks : (text : List ℕ) (calls : List Call) (rows : List Row) → within_limit packet_limit Input text ≡ Ok text → configured_by (joined_parts text).0 ≡ Ok calls → rows_of (joined_parts text).1 ≡ Ok rows
     → calls_of_joined text ≡ Ok (replayed calls rows)
 unfolding calls_of_joined
 joined_asks text calls rows whole c p = rw (whole, c, p) refl
 
-pub joined_config_fault : (text : List ℕ) (fault : ReplayFault) → within packet_limit Input text ≡ Ok text → configured_by (joined_parts text).0 ≡ Err fault → calls_of_joined text ≡ Err fault
+pub joined_config_fault : (text : List ℕ) (fault : ReplayFault) → within_limit packet_limit Input text ≡ Ok text → configured_by (joined_parts text).0 ≡ Err fault → calls_of_joined text ≡ Err fault
 unfolding calls_of_joined
 joined_config_fault text fault whole c = rw (whole, c) refl
 
-pub joined_packet_fault : (text : List ℕ) (calls : List Call) (fault : ReplayFault) → within packet_limit Input text ≡ Ok text → configured_by (joined_parts text).0 ≡ Ok calls → rows_of (joined_parts text).1 ≡ Err fault
+pub joined_packet_fault : (text : List ℕ) (calls : List Call) (fault : ReplayFault) → within_limit packet_limit Input text ≡ Ok text → configured_by (joined_parts text).0 ≡ Ok calls → rows_of (joined_parts text).1 ≡ Err fault
     → calls_of_joined text ≡ Err fault
 unfolding calls_of_joined
 joined_packet_fault text calls fault whole c p = rw (whole, c, p) refl
 
-pub joined_input_fault : (text : List ℕ) (fault : ReplayFault) → within packet_limit Input text ≡ Err fault → calls_of_joined text ≡ Err fault
+pub joined_input_fault : (text : List ℕ) (fault : ReplayFault) → within_limit packet_limit Input text ≡ Err fault → calls_of_joined text ≡ Err fault
 unfolding calls_of_joined
 joined_input_fault text fault whole = rw whole refl

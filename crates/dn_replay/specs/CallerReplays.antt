@@ -8,7 +8,7 @@ use Rattle.dn_types.specs.declared.rule.Rule.TheVariants.{Ordered}
 use Rattle.dn_replay.specs.Callers.{calls_given}
 use Rattle.dn_files.specs.PacketFile.{packet_file}
 use Rattle.dn_files.specs.Reading.{ReadsAs}
-use Rattle.dn_replay.specs.Replays.{AskFor, config_calls, IsUnreplayed, IsUntouched}
+use Rattle.dn_replay.specs.Replays.{AskFor, config_calls, IsUnreplayed, NothingWritten}
 use Rattle.dn_replay.specs.Report.{report}
 use Rattle.dn_files.specs.Writing.{IsUnwritten}
 use Rattle.dn_files.specs.declared.replay_fault.ReplayFault.{ReplayFault}
@@ -56,7 +56,7 @@ AreUnread config config_left packets packets_left = (config_left ≡ config) × 
 -- Why nothing was answered. A bad count of callers is told before anything is read. Before a failed write a part of the report of such a
 -- history was written. All other faults are those of a replay by one caller.
 abbrev pub IsUnreplayedByCallers : ℕ → Type 0 → (Option Source → Type 0) → Option (List ℕ) → Option (List ℕ) → Option (List ℕ) → Option (List ℕ) → Bool → ReplayFault → Type 0
-IsUnreplayedByCallers n Unread ReadFailed config packets old new failed BadCount = IsBadCount n × Unread × ReadFailed None × IsUntouched old new failed
+IsUnreplayedByCallers n Unread ReadFailed config packets old new failed BadCount = IsBadCount n × Unread × ReadFailed None × NothingWritten old new failed
 IsUnreplayedByCallers n Unread ReadFailed config packets old new failed (Write what) =
     IsCount n × ReadFailed None × ((entries : List Entry) × IsReplayOfCallers n config packets entries × IsUnwritten Report (report n entries) old new failed (Write what))
 IsUnreplayedByCallers n Unread ReadFailed config packets old new failed fault = IsCount n × IsUnreplayed ReadFailed (AskFor config packets) old new failed fault

@@ -7,7 +7,7 @@ use Rattle.dn_replay.specs.Audit.{IsVerdict}
 use Rattle.dn_history.specs.HistoryFaults.{IsHistoryFault}
 use Rattle.dn_history.specs.HistoryFile.{history_file}
 use Rattle.dn_files.specs.Reading.{IsRefusal, ReadsAs}
-use Rattle.dn_replay.specs.Replays.{IsUntouched}
+use Rattle.dn_replay.specs.Replays.{NothingWritten}
 use Rattle.dn_files.specs.Writing.{IsUnwritten}
 use Rattle.dn_files.specs.declared.replay_fault.ReplayFault.{ReplayFault}
 use Rattle.dn_files.specs.declared.replay_fault.ReplayFault.TheVariants.{Write}
@@ -32,7 +32,7 @@ IsAudited known verdict old new = (line : List ℕ) × IsTold known verdict line
 -- line was written. Any other fault is one of reading, or a want of memory, and nothing was written.
 abbrev pub IsUnaudited : Option (List ℕ) → Bool → Option (List ℕ) → Option (List ℕ) → Bool → ReplayFault → Type 0
 IsUnaudited known read_failed old new failed (Write what) = (read_failed ≡ false) × ((verdict : Verdict) × (line : List ℕ) × IsTold known verdict line × IsUnwritten Report line old new failed (Write what))
-IsUnaudited known read_failed old new failed fault = IsRefusal History history_file known read_failed fault × IsUntouched old new failed
+IsUnaudited known read_failed old new failed fault = IsRefusal History history_file known read_failed fault × NothingWritten old new failed
 
 -- The faults of an audit of a file: those of its reading, and of the writing of the line. No other comes.
 abbrev pub IsAuditFault : ReplayFault → Type 0

@@ -7,7 +7,7 @@ use Rattle.dn_text.specs.Joined.{joined_parts}
 use Rattle.dn_files.specs.ConfigFile.{config_limit}
 use Rattle.dn_replay.specs.Configuring.{configured_by}
 use Rattle.dn_files.specs.PacketFile.{packet_file, packet_limit, rows_of}
-use Rattle.dn_files.specs.Reading.{◌>>=◌, within, IsTextOf, ReadsAs}
+use Rattle.dn_files.specs.Reading.{◌>>=◌, within_limit, IsTextOf, ReadsAs}
 use Rattle.dn_replay.specs.Report.{report}
 use Rattle.dn_replay.specs.Runs.{history_of, replayed}
 use Rattle.dn_files.specs.Writing.{IsUnwritten}
@@ -18,22 +18,22 @@ use Rattle.dn_files.specs.declared.source.Source.TheVariants.{Input, Config, Pac
 
 -- The calls of a configuration.
 abbrev pub config_calls : List ℕ → Result (List Call) ReplayFault
-config_calls text = within config_limit Config text >>= configured_by
+config_calls text = within_limit config_limit Config text >>= configured_by
 
 -- The calls of two inputs, newest first, or their first fault. The configuration comes before the packets.
-unfoldable pub calls_of : List ℕ → List ℕ → Result (List Call) ReplayFault
-calls_of config packets = config_calls config >>= λ calls. packet_file packets >>= λ rows. Ok (replayed calls rows)
+unfoldable pub calls_of_inputs : List ℕ → List ℕ → Result (List Call) ReplayFault
+calls_of_inputs config packets = config_calls config >>= λ calls. packet_file packets >>= λ rows. Ok (replayed calls rows)
 
 -- The same of the two parts of one input, which has one limit.
 abbrev pub calls_of_parts : List ℕ × List ℕ → Result (List Call) ReplayFault
 calls_of_parts parts = configured_by parts.0 >>= λ calls. rows_of parts.1 >>= λ rows. Ok (replayed calls rows)
 
 unfoldable pub calls_of_joined : List ℕ → Result (List Call) ReplayFault
-calls_of_joined text = within packet_limit Input text >>= λ whole. calls_of_parts (joined_parts whole)
+calls_of_joined text = within_limit packet_limit Input text >>= λ whole. calls_of_parts (joined_parts whole)
 
 -- What two inputs may have held asks for these calls, or has this fault.
 abbrev pub AskFor : Option (List ℕ) → Option (List ℕ) → Result (List Call) ReplayFault → Type 0
-AskFor config packets asked = (c : List ℕ) × (p : List ℕ) × IsTextOf config c × IsTextOf packets p × (calls_of c p ≡ asked)
+AskFor config packets asked = (c : List ℕ) × (p : List ℕ) × IsTextOf config c × IsTextOf packets p × (calls_of_inputs c p ≡ asked)
 
 -- What one joined input may have held does.
 abbrev pub AsksFor : Option (List ℕ) → Result (List Call) ReplayFault → Type 0
@@ -75,13 +75,13 @@ abbrev pub IsReplayed : (Result (List Call) ReplayFault → Type 0) → List Ent
 IsReplayed Asked entries old new = (calls : List Call) × Asked (Ok calls) × IsReported calls entries old new
 
 -- Nothing was written, and no write failed.
-abbrev pub IsUntouched : Option (List ℕ) → Option (List ℕ) → Bool → Type 0
-IsUntouched old new failed = (failed ≡ false) × Keeps old new
+abbrev pub NothingWritten : Option (List ℕ) → Option (List ℕ) → Bool → Type 0
+NothingWritten old new failed = (failed ≡ false) × Keeps old new
 
 -- Why nothing was answered. Before a failed write a part of the report was written, and before any other fault nothing.
 -- Each fault but a failed read comes only where no read failed.
 abbrev pub IsUnreplayed : (Option Source → Type 0) → (Result (List Call) ReplayFault → Type 0) → Option (List ℕ) → Option (List ℕ) → Bool → ReplayFault → Type 0
-IsUnreplayed ReadFailed Asked old new failed (Read what) = ReadFailed (Some what) × IsUntouched old new failed
+IsUnreplayed ReadFailed Asked old new failed (Read what) = ReadFailed (Some what) × NothingWritten old new failed
 IsUnreplayed ReadFailed Asked old new failed (Write what) = ReadFailed None × ((calls : List Call) × Asked (Ok calls) × IsUnreported calls old new failed (Write what))
-IsUnreplayed ReadFailed Asked old new failed OutOfMemory = ReadFailed None × IsUntouched old new failed
-IsUnreplayed ReadFailed Asked old new failed fault = ReadFailed None × Asked (Err fault) × IsUntouched old new failed
+IsUnreplayed ReadFailed Asked old new failed OutOfMemory = ReadFailed None × NothingWritten old new failed
+IsUnreplayed ReadFailed Asked old new failed fault = ReadFailed None × Asked (Err fault) × NothingWritten old new failed

@@ -22,8 +22,8 @@ deliveries [] = []
 deliveries (e ∷ rest) = delivered e.reply ++ deliveries rest
 
 -- The delivery of a packet, if there is one.
-abbrev pub delivery_of : ℕ → List Delivery → Option Delivery
-delivery_of packet list = find (λ d. nat_eq d.packet packet) list
+abbrev pub delivery_of_packet : ℕ → List Delivery → Option Delivery
+delivery_of_packet packet list = find (λ d. nat_eq d.packet packet) list
 
 -- The line of an accepted packet.
 abbrev pub queued_line : ℕ → ℕ → ℕ → ℕ → Option Delivery → ReportLine
@@ -32,7 +32,7 @@ queued_line row at flow packet (Some d) = line.Out row flow packet at d.start d.
 
 -- The line of a Submit of this row by its reply.
 abbrev pub reply_line : ℕ → List Delivery → Reply → Option ReportLine
-reply_line row given (Queued at flow packet) = Some (queued_line row at flow packet (delivery_of packet given))
+reply_line row given (Queued at flow packet) = Some (queued_line row at flow packet (delivery_of_packet packet given))
 reply_line row given (Lost at flow) = Some (line.Lost row flow at)
 reply_line row given (Full at flow) = Some (line.Full row flow at)
 reply_line row given (NoTarget at) = Some (line.NoTarget row at)
@@ -56,8 +56,8 @@ lines_after n given before [] = []
 lines_after n given before (e ∷ rest) = option_to_list (entry_line n given (submits_by e.caller before) e) ++ lines_after n given (before ++ e ∷ []) rest
 
 -- The lines of a history with n callers, as its Submits follow each other.
-abbrev pub lines_of : ℕ → List Entry → List ReportLine
-lines_of n history = lines_after n (deliveries history) [] history
+abbrev pub submit_lines : ℕ → List Entry → List ReportLine
+submit_lines n history = lines_after n (deliveries history) [] history
 
 abbrev pub is_out : ReportLine → Bool
 is_out (line.Out row flow packet at start due) = true
@@ -89,17 +89,17 @@ with_placed place x [] = x ∷ []
 with_placed place x (y ∷ ys) = cond (nat_lt (place y) (place x)) (y ∷ with_placed place x ys) (x ∷ y ∷ ys)
 
 -- A list in order. What is level stays as it stands.
-unfoldable pub in_order : {X : Type 0} → (X → ℕ) → List X → List X
-in_order place [] = []
-in_order place (x ∷ xs) = with_placed place x (in_order place xs)
+unfoldable pub sorted_by : {X : Type 0} → (X → ℕ) → List X → List X
+sorted_by place [] = []
+sorted_by place (x ∷ xs) = with_placed place x (sorted_by place xs)
 
 -- The `out` lines by their due moments, and those of one due moment by packet number.
 abbrev pub outs_in_order : List ReportLine → List ReportLine
-outs_in_order outs = in_order due_of (in_order packet_of outs)
+outs_in_order outs = sorted_by due_of (sorted_by packet_of outs)
 
 -- The lines of a report: the `out` lines in the order of their deliveries, and then the others by row.
 abbrev pub report_lines : ℕ → List Entry → List ReportLine
-report_lines n history = outs_in_order (filter is_out (lines_of n history)) ++ in_order row_number (filter is_other (lines_of n history))
+report_lines n history = outs_in_order (filter is_out (submit_lines n history)) ++ sorted_by row_number (filter is_other (submit_lines n history))
 
 -- The fields of a line. What doesn't apply is empty.
 abbrev pub line_fields : ReportLine → Fields

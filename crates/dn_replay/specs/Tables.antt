@@ -2,11 +2,11 @@
 use Rattle.std.specs.Prelude.{◌≡◌, ℕ, ◌+◌, ◌<◌, cond, List, length, Option, None, slice_index, slice_index_or, slice_set}
 use Rattle.dn_types.specs.declared.entry.Entry.{Entry}
 use Rattle.dn_types.specs.declared.delivery.Delivery.{Delivery}
-use Rattle.dn_replay.specs.Report.{delivery_of, is_submit}
+use Rattle.dn_replay.specs.Report.{delivery_of_packet, is_submit}
 
 -- The table has the deliveries of all packets with numbers below its length.
 abbrev pub IsTableOf : List (Option Delivery) → List Delivery → Type 0
-IsTableOf table given = (packet : ℕ) → packet < length table → slice_index_or table packet None ≡ delivery_of packet given
+IsTableOf table given = (packet : ℕ) → packet < length table → slice_index_or table packet None ≡ delivery_of_packet packet given
 
 -- The counts of the callers' Submits after one entry more.
 abbrev pub counts_after : List ℕ → Entry → List ℕ

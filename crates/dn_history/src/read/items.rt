@@ -1,7 +1,7 @@
 ghost use Rattle.std.specs.Prelude.{◌≡◌, ◌≤◌, ◌<◌, length, Ok, IfOk, IfErr};
 ghost use Rattle.csv.specs.Records.{fields_of};
 ghost use Rattle.dn_files.specs.Reading.{IsFaultOf};
-ghost use Rattle.dn_history.specs.HistoryItems.{delivery_of, discarded_of, key_of, mask_at, status_of, status_width};
+ghost use Rattle.dn_history.specs.HistoryItems.{delivery_item, discarded_item, key_item, mask_item, status_item, status_width};
 ghost use Rattle.dn_history.specs.RecordsLeft.{item_from, items_from};
 
 use crate::history_version::HistoryVersion;
@@ -13,9 +13,9 @@ use dn_types::{Delivery, FlowKey, FlowStatus, Mask, Target};
 use std::alloc::Global;
 
 /// The delivery of an item record, or the place of the first bad field.
-#[tactic(auto, unfolding(crate::specs::HistoryItems::delivery_of))]
+#[tactic(auto, unfolding(crate::specs::HistoryItems::delivery_item))]
 fn read_delivery(fields: &ByteRecord) -> Result<Delivery, u64>
-    ensures { result ≡ delivery_of (fields_of fields.now) }
+    ensures { result ≡ delivery_item (fields_of fields.now) }
 {
     if !is_form(fields, 1, b"d", 5) {
         return Err(1);
@@ -29,10 +29,10 @@ fn read_delivery(fields: &ByteRecord) -> Result<Delivery, u64>
 }
 
 /// The mask in five fields from the place on, or the place of the first bad one.
-#[tactic(auto, unfolding(crate::specs::HistoryItems::mask_at))]
+#[tactic(auto, unfolding(crate::specs::HistoryItems::mask_item))]
 fn mask_at(fields: &ByteRecord, place: usize) -> Result<Mask, u64>
     requires { (1 ≤ place) × (place ≤ 100) }
-    ensures { result ≡ mask_at place (fields_of fields.now) }
+    ensures { result ≡ mask_item place (fields_of fields.now) }
 {
     let bits = tuple_at(fields, place)?;
     Ok(Mask {
@@ -45,9 +45,9 @@ fn mask_at(fields: &ByteRecord, place: usize) -> Result<Mask, u64>
 }
 
 /// The key of a flow, or the place of the first bad field.
-#[tactic(auto, unfolding(crate::specs::HistoryItems::key_of))]
+#[tactic(auto, unfolding(crate::specs::HistoryItems::key_item))]
 fn read_key(fields: &ByteRecord) -> Result<FlowKey, u64>
-    ensures { result ≡ key_of (fields_of fields.now) }
+    ensures { result ≡ key_item (fields_of fields.now) }
 {
     Ok(FlowKey {
         target: target_at(fields, 3)?,
@@ -69,7 +69,7 @@ fn status_width(version: HistoryVersion) -> usize
 
 /// The count of discarded packets of a status, 0 where the version has none, or the field's place.
 fn read_discarded(version: HistoryVersion, fields: &ByteRecord) -> Result<u64, u64>
-    ensures { result ≡ discarded_of version (fields_of fields.now) }
+    ensures { result ≡ discarded_item version (fields_of fields.now) }
 {
     match version {
         HistoryVersion::First => Ok(0),
@@ -78,9 +78,9 @@ fn read_discarded(version: HistoryVersion, fields: &ByteRecord) -> Result<u64, u
 }
 
 /// The state of a flow in an item record, or the place of the first bad field.
-#[tactic(auto, unfolding(crate::specs::HistoryItems::status_of))]
+#[tactic(auto, unfolding(crate::specs::HistoryItems::status_item))]
 fn read_status(version: HistoryVersion, fields: &ByteRecord) -> Result<FlowStatus, u64>
-    ensures { result ≡ status_of version (fields_of fields.now) }
+    ensures { result ≡ status_item version (fields_of fields.now) }
 {
     if !is_form(fields, 1, b"f", status_width(version)) {
         return Err(1);
@@ -103,9 +103,9 @@ fn next_delivery(
     records: &mut NumberedRecords<'_>,
     fields: &mut ByteRecord,
 ) -> Result<Delivery, ReplayFault>
-    ensures ok { IfOk result (λ item. item_from delivery_of records.old ≡ Ok (item, records.new)) }
+    ensures ok { IfOk result (λ item. item_from delivery_item records.old ≡ Ok (item, records.new)) }
     ensures fewer { IfOk result (λ _. length records.new.records < length records.old.records) }
-    ensures err { IfErr result (λ fault. IsFaultOf (item_from delivery_of records.old) fault) }
+    ensures err { IfErr result (λ fault. IsFaultOf (item_from delivery_item records.old) fault) }
 {
     let number = records.number();
     match records.next(fields) {
@@ -121,9 +121,9 @@ fn next_status(
     records: &mut NumberedRecords<'_>,
     fields: &mut ByteRecord,
 ) -> Result<FlowStatus, ReplayFault>
-    ensures ok { IfOk result (λ item. item_from (status_of version) records.old ≡ Ok (item, records.new)) }
+    ensures ok { IfOk result (λ item. item_from (status_item version) records.old ≡ Ok (item, records.new)) }
     ensures fewer { IfOk result (λ _. length records.new.records < length records.old.records) }
-    ensures err { IfErr result (λ fault. IsFaultOf (item_from (status_of version) records.old) fault) }
+    ensures err { IfErr result (λ fault. IsFaultOf (item_from (status_item version) records.old) fault) }
 {
     // The prover has to meet the modules of these types here.
     let _key: Option<FlowKey> = None;
@@ -143,9 +143,9 @@ pub(crate) fn read_deliveries(
     records: &mut NumberedRecords<'_>,
     fields: &mut ByteRecord,
 ) -> Result<Vec<Delivery>, ReplayFault>
-    ensures ok { IfOk result (λ list. items_from delivery_of count records.old ≡ Ok (list.items, records.new)) }
+    ensures ok { IfOk result (λ list. items_from delivery_item count records.old ≡ Ok (list.items, records.new)) }
     ensures fewer { IfOk result (λ _. length records.new.records ≤ length records.old.records) }
-    ensures err { IfErr result (λ fault. IsFaultOf (items_from delivery_of count records.old) fault) }
+    ensures err { IfErr result (λ fault. IsFaultOf (items_from delivery_item count records.old) fault) }
 {
     let mut list = Vec::new(alloc);
     let mut left = count;
@@ -171,9 +171,9 @@ pub(crate) fn read_statuses(
     records: &mut NumberedRecords<'_>,
     fields: &mut ByteRecord,
 ) -> Result<Vec<FlowStatus>, ReplayFault>
-    ensures ok { IfOk result (λ list. items_from (status_of version) count records.old ≡ Ok (list.items, records.new)) }
+    ensures ok { IfOk result (λ list. items_from (status_item version) count records.old ≡ Ok (list.items, records.new)) }
     ensures fewer { IfOk result (λ _. length records.new.records ≤ length records.old.records) }
-    ensures err { IfErr result (λ fault. IsFaultOf (items_from (status_of version) count records.old) fault) }
+    ensures err { IfErr result (λ fault. IsFaultOf (items_from (status_item version) count records.old) fault) }
 {
     // The prover has to meet the modules of these types here.
     let _key: Option<FlowKey> = None;

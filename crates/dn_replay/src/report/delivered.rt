@@ -1,6 +1,6 @@
 ghost use Rattle.std.specs.Prelude.{◌≡◌, ℕ, ◌<◌, [], ◌∷◌, length, slice_index_or, IfOk, None};
 ghost use Rattle.std.specs.Option.{option_or};
-ghost use Rattle.dn_replay.specs.Report.{delivered, deliveries, delivery_of};
+ghost use Rattle.dn_replay.specs.Report.{delivered, deliveries, delivery_of_packet};
 ghost use Rattle.dn_replay.specs.Tables.{IsTableOf};
 
 use dn_types::{Delivery, Entry, Reply};
@@ -21,7 +21,7 @@ fn note(table: &mut Vec<Option<Delivery>>, delivery: Delivery)
     ensures len { length table.new.items ≡ length table.old.items }
     ensures noted { (packet : ℕ) → packet < length table.old.items →
         slice_index_or table.new.items packet None
-        ≡ option_or (slice_index_or table.old.items packet None) (delivery_of packet (delivery ∷ [])) }
+        ≡ option_or (slice_index_or table.old.items packet None) (delivery_of_packet packet (delivery ∷ [])) }
 {
     let place = delivery.packet as usize;
     if place >= table.len() || table[place].is_some() {
@@ -35,7 +35,7 @@ fn note_all(table: &mut Vec<Option<Delivery>>, list: &[Delivery])
     ensures len { length table.new.items ≡ length table.old.items }
     ensures noted { (packet : ℕ) → packet < length table.old.items →
         slice_index_or table.new.items packet None
-        ≡ option_or (slice_index_or table.old.items packet None) (delivery_of packet list.now) }
+        ≡ option_or (slice_index_or table.old.items packet None) (delivery_of_packet packet list.now) }
 {
     for delivery in list {
         note(table, *delivery);
@@ -59,7 +59,7 @@ pub(crate) fn delivery_table(
 
 /// The first delivery of a packet among these.
 fn find_in(list: &[Delivery], packet: u64) -> Option<Delivery>
-    ensures { result ≡ delivery_of packet list.now }
+    ensures { result ≡ delivery_of_packet packet list.now }
 {
     for delivery in list {
         if delivery.packet == packet {
@@ -71,7 +71,7 @@ fn find_in(list: &[Delivery], packet: u64) -> Option<Delivery>
 
 /// The delivery of a packet, entry by entry.
 fn search(entries: &[Entry], packet: u64) -> Option<Delivery>
-    ensures { result ≡ delivery_of packet (deliveries entries.now) }
+    ensures { result ≡ delivery_of_packet packet (deliveries entries.now) }
 {
     for entry in entries {
         let found = find_in(delivered_by(&entry.reply), packet);
@@ -89,7 +89,7 @@ pub(crate) fn delivery_of(
     packet: u64,
 ) -> Option<Delivery>
     requires { IsTableOf table.now (deliveries entries.now) }
-    ensures { result ≡ delivery_of packet (deliveries entries.now) }
+    ensures { result ≡ delivery_of_packet packet (deliveries entries.now) }
 {
     let place = packet as usize;
     if place < table.len() {

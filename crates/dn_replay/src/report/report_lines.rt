@@ -1,6 +1,6 @@
 ghost use Rattle.std.specs.Prelude.{◌≡◌, ◌<◌, ◌+◌, ◌^◌, ◌++◌, All, Some, length, filter, option_to_list, slice_index, OnOk, IfOk};
 ghost use Rattle.dn_types.specs.declared.entry.Entry.{Entry};
-ghost use Rattle.dn_replay.specs.Report.{deliveries, entry_line, in_order, is_other, is_out, is_submit, lines_of, outs_in_order, queued_line, delivery_of, reply_line, row_number};
+ghost use Rattle.dn_replay.specs.Report.{deliveries, entry_line, sorted_by, is_other, is_out, is_submit, submit_lines, outs_in_order, queued_line, delivery_of_packet, reply_line, row_number};
 ghost use Rattle.dn_replay.specs.Tables.{IsTableOf, counts_after};
 
 use crate::report::delivered::{delivery_of, delivery_table};
@@ -35,7 +35,7 @@ impl ReportLines {
     /// Brings the lines into the order of a report.
     pub(crate) fn sort(&mut self) -> Result<(), AllocError>
         ensures outs { OnOk result (self.new.outs.items ≡ outs_in_order self.old.outs.items) }
-        ensures others { OnOk result (self.new.others.items ≡ in_order row_number self.old.others.items) }
+        ensures others { OnOk result (self.new.others.items ≡ sorted_by row_number self.old.others.items) }
     {
         // The sorts are stable. In the history of one caller the first finds the packets in order.
         self.outs.sort_by_key(|line| line.packet())?;
@@ -135,8 +135,8 @@ pub(crate) fn lines_of_history(
     entries: &[Entry],
 ) -> Result<ReportLines, AllocError>
     requires { All (λ e. e.caller < n) entries.now }
-    ensures outs { IfOk result (λ lines. lines.outs.items ≡ filter is_out (lines_of n entries.now)) }
-    ensures others { IfOk result (λ lines. lines.others.items ≡ filter is_other (lines_of n entries.now)) }
+    ensures outs { IfOk result (λ lines. lines.outs.items ≡ filter is_out (submit_lines n entries.now)) }
+    ensures others { IfOk result (λ lines. lines.others.items ≡ filter is_other (submit_lines n entries.now)) }
 {
     let table = delivery_table(alloc, entries)?;
     let mut counts = vec![in alloc; 0u64; n]?;

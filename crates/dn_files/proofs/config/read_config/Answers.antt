@@ -1,5 +1,5 @@
 use Rattle.std.proofs.lemmas.Result.{IfErr-weaker, IfOk-weaker}
-use Rattle.dn_files.specs.ConfigFile.{commands_of, config_limit}
+use Rattle.dn_files.specs.ConfigFile.{commands_in, config_limit}
 use Rattle.dn_files.specs.declared.source.Source.TheVariants.{Config}
 use Rattle.dn_files.proofs.Inputs.{refused}
 use Rattle.dn_files.proofs.config.read_config.Goals as goal
@@ -12,5 +12,5 @@ returns-clause-ok g c =
 pub returns-clause-err : goal.returns-clause-err
 returns-clause-err g c =
     let text = c.in_ok-text.text.items in
-    IfErr-weaker c.commands_of_text.result _ _ (λ fault own. refused Config config_limit commands_of (g.I.Inlet.remaining c.args.reader.now) (g.I.Inlet.has_failed c.read_input.new.reader) text fault
+    IfErr-weaker c.commands_of_text.result _ _ (λ fault own. refused Config config_limit commands_in (g.I.Inlet.remaining c.args.reader.now) (g.I.Inlet.has_failed c.read_input.new.reader) text fault
     c.in_ok-text.ensures.sound c.in_ok-text.ensures.text c.in_ok-text.ensures.within (rw c.as_slice.ensures.value at own)) c.commands_of_text.ensures.err

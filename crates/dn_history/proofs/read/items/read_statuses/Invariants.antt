@@ -1,12 +1,12 @@
 use Rattle.std.proofs.Common.{◌≡◌, ◌≤◌, length}
 use Rattle.dn_history.specs.RecordsLeft.{items_from}
-use Rattle.dn_history.specs.HistoryItems.{status_of}
+use Rattle.dn_history.specs.HistoryItems.{status_item}
 use Rattle.dn_history.proofs.HistoryReading.{with_front}
 use Rattle.dn_history.proofs.read.items.read_statuses.Given as goal
 
 abbrev pub invariant-loop-left : goal.invariant-loop-left
 invariant-loop-left l = record {
-  so_far : with_front l.list.items (items_from (status_of l.fn.version) l.left l.records) ≡ items_from (status_of l.fn.version) l.fn.count l.fn.records;
+  so_far : with_front l.list.items (items_from (status_item l.fn.version) l.left l.records) ≡ items_from (status_item l.fn.version) l.fn.count l.fn.records;
   fewer : length l.records.records ≤ length l.fn.records.records;
 }
 

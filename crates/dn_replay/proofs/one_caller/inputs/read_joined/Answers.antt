@@ -2,7 +2,7 @@ use Rattle.std.proofs.Common.{refl}
 use Rattle.std.proofs.lemmas.Result.{err_from_is_err_and, IfErr-weaker, IfOk-weaker}
 use Rattle.dn_text.specs.Joined.{joined_parts}
 use Rattle.dn_files.specs.PacketFile.{packet_limit, rows_of}
-use Rattle.dn_files.specs.Reading.{within}
+use Rattle.dn_files.specs.Reading.{within_limit}
 use Rattle.dn_files.specs.declared.source.Source.TheVariants.{Input}
 use Rattle.dn_replay.specs.Configuring.{configured_by}
 use Rattle.dn_replay.specs.Replays.{AsksFor, InputFailed}
@@ -14,7 +14,7 @@ returns-in_err-text-clause-err g c =
     let input = g.I.Inlet.remaining c.args.input.now in
     let failed = g.I.Inlet.has_failed c.read_input.new.reader in
     let p = err_from_is_err_and c.from_residual.result c.from_residual.ensures.1 in
-    rw (p.1, p.2) (unread_input (InputFailed failed) (AsksFor input) Input (within packet_limit Input) input failed _
+    rw (p.1, p.2) (unread_input (InputFailed failed) (AsksFor input) Input (within_limit packet_limit Input) input failed _
     (λ f r. (r.0, r.1, joined_input_fault r.0 f r.2)) (λ sound. sound) (λ bad. (refl, bad)) c.in_err-text.ensures.err)
 
 pub returns-in_err-configure-clause-err : goal.returns-in_err-configure-clause-err

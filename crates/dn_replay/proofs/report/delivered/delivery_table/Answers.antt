@@ -1,6 +1,6 @@
 use Rattle.std.proofs.Common.{◌∙◌, ap, rules, None, List, take_all}
 use Rattle.dn_types.specs.declared.entry.Entry.{Entry}
-use Rattle.dn_replay.specs.Report.{deliveries, delivery_of}
+use Rattle.dn_replay.specs.Report.{deliveries, delivery_of_packet}
 use Rattle.dn_replay.proofs.Deliveries.{empty_table, further, nothing-yet}
 use Rattle.dn_replay.proofs.report.delivered.delivery_table.Goals as goal
 
@@ -17,4 +17,4 @@ loop-entry-preserved c = λ packet below.
 
 pub returns : goal.returns
 returns c = λ packet below.
-    c.loop-entry.invariant packet below ∙ ap (λ (es : List Entry). delivery_of packet (deliveries es)) (take_all c.loop-entry.entry-index c.args.entries.now c.loop-entry-test.false)
+    c.loop-entry.invariant packet below ∙ ap (λ (es : List Entry). delivery_of_packet packet (deliveries es)) (take_all c.loop-entry.entry-index c.args.entries.now c.loop-entry-test.false)

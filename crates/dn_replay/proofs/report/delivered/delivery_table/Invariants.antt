@@ -1,6 +1,6 @@
 use Rattle.std.proofs.Common.{◌≡◌, ℕ, ◌<◌, length, get_or, take, None}
-use Rattle.dn_replay.specs.Report.{deliveries, delivery_of}
+use Rattle.dn_replay.specs.Report.{deliveries, delivery_of_packet}
 use Rattle.dn_replay.proofs.report.delivered.delivery_table.Given as goal
 
 abbrev pub invariant-loop-entry : goal.invariant-loop-entry
-invariant-loop-entry l = (packet : ℕ) → packet < length l.table.items → get_or l.table.items packet None ≡ delivery_of packet (deliveries (take l.entry-index l.entries))
+invariant-loop-entry l = (packet : ℕ) → packet < length l.table.items → get_or l.table.items packet None ≡ delivery_of_packet packet (deliveries (take l.entry-index l.entries))

@@ -1,6 +1,6 @@
 use Rattle.std.proofs.Common.{◌≡◌, take, None}
-use Rattle.dn_replay.specs.Report.{delivery_of}
+use Rattle.dn_replay.specs.Report.{delivery_of_packet}
 use Rattle.dn_replay.proofs.report.delivered.find_in.Given as goal
 
 abbrev pub invariant-loop-delivery : goal.invariant-loop-delivery
-invariant-loop-delivery l = delivery_of l.packet (take l.delivery-index l.list) ≡ None
+invariant-loop-delivery l = delivery_of_packet l.packet (take l.delivery-index l.list) ≡ None

@@ -1,11 +1,11 @@
 use Rattle.std.proofs.Common.{◌∙◌, ap}
-use Rattle.dn_replay.specs.Report.{in_order, outs_in_order, row_number}
+use Rattle.dn_replay.specs.Report.{sorted_by, outs_in_order, row_number}
 use Rattle.dn_replay.proofs.LineSteps.{report_is}
 use Rattle.dn_replay.proofs.report.write.report_text.Goals as goal
 
 pub returns : goal.returns
 returns c =
     let outs = c.as_slice.ensures.value ∙ c.in_ok-sort.ensures.outs ∙ ap outs_in_order c.in_ok-lines.ensures.outs in
-    let others = c.as_slice-2.ensures.value ∙ c.in_ok-sort.ensures.others ∙ ap (in_order row_number) c.in_ok-lines.ensures.others in
+    let others = c.as_slice-2.ensures.value ∙ c.in_ok-sort.ensures.others ∙ ap (sorted_by row_number) c.in_ok-lines.ensures.others in
     let text = rw (c.in_ok-write_lines.ensures, c.in_ok-write_header.ensures, c.reserve.ensures.keeps_text, c.new-writer.ensures.empty) at c.in_ok-write_lines-2.ensures in
     c.into_text.ensures.text ∙ text ∙ report_is c.args.n c.args.entries.now c.as_slice.result.now c.as_slice-2.result.now outs others
