@@ -50,25 +50,13 @@ unfolding next_record
 missing number [] new fields takes = refl
 missing number (first ∷ rest) new fields takes = let no = takes.0 in cc
 
-pub counts_on : (number : ℕ) (old new : List Fields) (fields : Fields) → Takes old new true fields → number + length old ≡ number + 1 + length new
-counts_on number [] new fields takes = let no = takes.0 in cc
-counts_on number (first ∷ rest) new fields takes = rw takes.2 (omega arith)
-
 pub ended : (number : ℕ) (old new : List Fields) (fields : Fields) → Takes old new false fields → nothing_in (record { number = number; records = old }) old ≡ Ok (None, record { number = number; records = new })
 ended number [] new fields takes = rw takes.1 refl
 ended number (first ∷ rest) new fields takes = let no = takes.0 in cc
 
-pub one_left : (number : ℕ) (old new : List Fields) (fields : Fields) → Takes old new true fields → nothing_in (record { number = number; records = old }) old ≡ Err (BadRecord number)
-one_left number [] new fields takes = let no = takes.0 in cc
-one_left number (first ∷ rest) new fields takes = refl
-
 pub emptied : (old new : List Fields) (fields : Fields) → Takes old new false fields → length new ≤ length old
 emptied [] new fields takes = rw takes.1 (omega arith)
 emptied (first ∷ rest) new fields takes = let no = takes.0 in cc
-
--- The fault of the first step is that of the whole.
-pub at_first : {A B : Type 0} (read : Result A ReplayFault) (next : A → Result B ReplayFault) (fault : ReplayFault) → IsFaultOf read fault → IsFaultOf (read >>= next) fault
-at_first read next fault is = carried read (read >>= next) fault (λ f e. rw e refl) is
 
 -- A list of items, of which a front was read.
 abbrev pub with_front : {A : Type 0} → List A → Result (List A × Rest) ReplayFault → Result (List A × Rest) ReplayFault
