@@ -70,7 +70,8 @@ pipe_back n bw delay limit loss buckets mask h a b s =
     head_back kind.Pipe 1 n ws (Ok (c.Pipe n bw delay limit loss buckets mask)) h
     (sym (config_ok kind.Pipe 1 n 4 ws (said bw delay None 1 limit loss buckets mask) refl (sym options)))
 
-queue_back : (n pipe weight : ℕ) (limit : Limit) (loss : ℕ) (buckets : Option ℕ) (mask : Mask) → IsBetween 1 65535 n → IsBetween 1 65535 pipe → IsBetween 1 100 weight → AreShared limit loss buckets mask
+queue_back : (n pipe weight : ℕ) (limit : Limit) (loss : ℕ) (buckets : Option ℕ) (mask : Mask) → IsBetween 1 65535 n → IsBetween 1 65535 pipe → IsBetween 1 100 weight
+    → AreShared limit loss buckets mask
     → behind_kind kind.Queue 1 (decimal n ∷ codes "config" ∷ (share_words pipe weight ++ both_words limit loss buckets mask)) ≡ Ok (c.Queue n pipe weight limit loss buckets mask)
 queue_back n pipe weight limit loss buckets mask h a b s =
     let ws = share_words pipe weight ++ both_words limit loss buckets mask in

@@ -84,8 +84,10 @@ gives_fields mask h =
     let d = record c { sport = mask.sport } in
     fields_append no_bits a mask (field_words (codes "dst-ip") 8 mask.dst) _ (gives_field no_bits (codes "dst-ip") f.DstIp 7 mask.dst dst_ip_named (omega (arith, h.dst)) (omega (arith, h.dst)) refl)
     (fields_append a b mask (field_words (codes "src-ip") 8 mask.src) _ (gives_field a (codes "src-ip") f.SrcIp 7 mask.src src_ip_named (omega (arith, h.src)) (omega (arith, h.src)) refl)
-    (fields_append b c mask (field_words (codes "dst-port") 4 mask.dport) _ (gives_field b (codes "dst-port") f.DstPort 3 mask.dport dst_port_named (omega (arith, h.dport)) (omega (arith, h.dport)) refl)
-    (fields_append c d mask (field_words (codes "src-port") 4 mask.sport) _ (gives_field c (codes "src-port") f.SrcPort 3 mask.sport src_port_named (omega (arith, h.sport)) (omega (arith, h.sport)) refl)
+    (fields_append b c mask (field_words (codes "dst-port") 4 mask.dport) _
+    (gives_field b (codes "dst-port") f.DstPort 3 mask.dport dst_port_named (omega (arith, h.dport)) (omega (arith, h.dport)) refl)
+    (fields_append c d mask (field_words (codes "src-port") 4 mask.sport) _
+    (gives_field c (codes "src-port") f.SrcPort 3 mask.sport src_port_named (omega (arith, h.sport)) (omega (arith, h.sport)) refl)
     (gives_field d (codes "proto") f.Proto 1 mask.proto proto_named (omega (arith, h.proto)) (omega (arith, h.proto)) refl))))
 
 gives_all : FieldsGive no_bits (codes "all" ∷ []) all_bits
@@ -172,7 +174,8 @@ pub mask_back : (k : Kind) (before : Options) (mask : Mask) → IsMask mask → 
     → read_options k before at (mask_words mask) ≡ Ok (set_option before (set.Mask mask))
 mask_back k before mask h same at = by_clear (has_no_bits mask) refl
   where
-    by_full : (b : Bool) → has_all_bits mask ≡ b → has_no_bits mask ≡ false → read_options k before at (codes "mask" ∷ cond b (codes "all" ∷ []) (fields_words mask)) ≡ Ok (set_option before (set.Mask mask))
+    by_full : (b : Bool) → has_all_bits mask ≡ b → has_no_bits mask ≡ false
+        → read_options k before at (codes "mask" ∷ cond b (codes "all" ∷ []) (fields_words mask)) ≡ Ok (set_option before (set.Mask mask))
     by_full true e some = rw (full_is mask e) (fields_back k before at all_bits (codes "all" ∷ []) (rw all_named refl) (λ z. absurd (cc)) gives_all)
     by_full false e some =
         fields_back k before at mask (fields_words mask) (begins_fields mask) (λ z. let clear = empty_is_clear mask z in absurd (cc)) (gives_fields mask h)

@@ -67,7 +67,8 @@ valued_bind mask f (Err e) r x y h = refl
 valued_step : (mask : Mask) (at : ℕ) (w : List ℕ) (f : Field) (v : List ℕ) (ws : List (List ℕ)) → field_of w ≡ Some (m.Valued f)
     → read_fields mask at (w ∷ v ∷ ws) ≡ (bits_at (at + 1) (greatest_of f) v >>= λ n. read_fields (set_field mask (m.Valued f) n) (at + 2) ws)
 unfolding read_fields mask_len
-valued_step mask at w f v ws e = rw (e, e) (valued_bind mask f (bits_at (at + 1) (greatest_of f) v) (fields_at (at + 2) (take (mask_len_after 0 ws) ws)) _ _ (ap (λ k. (k, drop (mask_len_after 0 ws) ws)) (omega arith)))
+valued_step mask at w f v ws e = rw (e, e)
+    (valued_bind mask f (bits_at (at + 1) (greatest_of f) v) (fields_at (at + 2) (take (mask_len_after 0 ws) ws)) _ _ (ap (λ k. (k, drop (mask_len_after 0 ws) ws)) (omega arith)))
 
 then_fields : (mask : Mask) (at : ℕ) (f : Field) (b : Result ℕ LineFault) (ws : List (List ℕ))
     → (b >>= λ n. read_fields (set_field mask (m.Valued f) n) (at + 2) ws)
@@ -84,7 +85,8 @@ fields_step mask at w (m.Valued f) (v ∷ ws) e = valued_step mask at w f v ws e
 
 -- what the loop over the fields of a mask keeps, at each of its ends
 module _ (whole : Result (Mask × (ℕ × List (List ℕ))) LineFault) (mask : Mask) (at : ℕ) (now : List (List ℕ)) (so_far : whole ≡ read_fields mask at now) where
-  pub fields_ok : (w : List ℕ) (ws : List (List ℕ)) (f : MaskWord) (x : Mask) (y : ℕ) (z : List (List ℕ)) → now ≡ w ∷ ws → Some f ≡ field_of w → read_field mask at f ws ≡ Ok (x, (y, z)) → whole ≡ read_fields x y z
+  pub fields_ok : (w : List ℕ) (ws : List (List ℕ)) (f : MaskWord) (x : Mask) (y : ℕ) (z : List (List ℕ)) → now ≡ w ∷ ws → Some f ≡ field_of w → read_field mask at f ws ≡ Ok (x, (y, z))
+      → whole ≡ read_fields x y z
   fields_ok w ws f x y z e g h = so_far ∙ ap (read_fields mask at) e ∙ fields_step mask at w f ws (sym g) ∙ rw h refl
 
   pub fields_err : (w : List ℕ) (ws : List (List ℕ)) (f : MaskWord) (x : LineFault) → now ≡ w ∷ ws → Some f ≡ field_of w → read_field mask at f ws ≡ Err x → whole ≡ Err x

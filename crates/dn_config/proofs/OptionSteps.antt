@@ -32,7 +32,8 @@ more_filled o (set.Weight n) ss = refl
 more_filled o (set.Pipe n) ss = refl
 more_filled o (set.Mask n) ss = refl
 
-one_more : (o : Options) (r : Result (List Setting) LineFault) (s : Setting) → ◌>>=◌ {B = Options} (◌>>=◌ {B = List Setting} r (λ ss. Ok (s ∷ ss))) (λ ss. Ok (filled o ss)) ≡ ◌>>=◌ {B = Options} r (λ ss. Ok (filled (set_option o s) ss))
+one_more : (o : Options) (r : Result (List Setting) LineFault) (s : Setting)
+    → ◌>>=◌ {B = Options} (◌>>=◌ {B = List Setting} r (λ ss. Ok (s ∷ ss))) (λ ss. Ok (filled o ss)) ≡ ◌>>=◌ {B = Options} r (λ ss. Ok (filled (set_option o s) ss))
 one_more o (Ok ss) s = ap Ok (more_filled o s ss)
 one_more o (Err x) s = refl
 
@@ -56,7 +57,8 @@ options_nil k o at = refl
 
 -- what the loop over the options keeps
 module _ (whole : Result Options LineFault) (k : Kind) (o : Options) (at : ℕ) (now : List (List ℕ)) (so_far : whole ≡ read_options k o at now) where
-  pub options_ok : (w : List ℕ) (ws : List (List ℕ)) (name : Option OptionWord) (left_out : Bool) (s : Setting) (y : ℕ) (z : List (List ℕ)) → now ≡ w ∷ ws → name ≡ option_of w → left_out ≡ is_left_out_word w
+  pub options_ok : (w : List ℕ) (ws : List (List ℕ)) (name : Option OptionWord) (left_out : Bool) (s : Setting) (y : ℕ) (z : List (List ℕ)) → now ≡ w ∷ ws → name ≡ option_of w
+      → left_out ≡ is_left_out_word w
       → read_named k at name left_out ws ≡ Ok (s, (y, z)) → whole ≡ read_options k (set_option o s) y z
   options_ok w ws name left_out s y z e f g h = so_far ∙ ap (read_options k o at) e ∙ options_step k o at w ws name left_out f g ∙ rw h refl
 
@@ -76,15 +78,18 @@ pub option_left : (k : Kind) (at : ℕ) (name : Option OptionWord) (left_out : B
 unfolding read_named
 option_left k at name left_out ws e h = rw (e, h) refl
 
-pub option_foreign : (k : Kind) (at : ℕ) (name : Option OptionWord) (left_out : Bool) (ws : List (List ℕ)) (p : Parameter) → name ≡ Some (o.Valued p) → belongs k p ≡ false → read_named k at name left_out ws ≡ Err (UnknownWord at)
+pub option_foreign : (k : Kind) (at : ℕ) (name : Option OptionWord) (left_out : Bool) (ws : List (List ℕ)) (p : Parameter) → name ≡ Some (o.Valued p) → belongs k p ≡ false
+    → read_named k at name left_out ws ≡ Err (UnknownWord at)
 unfolding read_named
 option_foreign k at name left_out ws p e h = rw (e, h) refl
 
-pub option_missing : (k : Kind) (at : ℕ) (name : Option OptionWord) (left_out : Bool) (ws : List (List ℕ)) (p : Parameter) → name ≡ Some (o.Valued p) → belongs k p ≡ true → ws ≡ [] → read_named k at name left_out ws ≡ Err (MissingValue at)
+pub option_missing : (k : Kind) (at : ℕ) (name : Option OptionWord) (left_out : Bool) (ws : List (List ℕ)) (p : Parameter) → name ≡ Some (o.Valued p) → belongs k p ≡ true → ws ≡ []
+    → read_named k at name left_out ws ≡ Err (MissingValue at)
 unfolding read_named
 option_missing k at name left_out ws p e h f = rw (e, h, f) refl
 
-module _ (k : Kind) (at : ℕ) (name : Option OptionWord) (left_out : Bool) (now : List (List ℕ)) (v : List ℕ) (ws : List (List ℕ)) (p : Parameter) (e : name ≡ Some (o.Valued p)) (h : belongs k p ≡ true) (f : now ≡ v ∷ ws) where
+module _ (k : Kind) (at : ℕ) (name : Option OptionWord) (left_out : Bool) (now : List (List ℕ)) (v : List ℕ) (ws : List (List ℕ)) (p : Parameter) (e : name ≡ Some (o.Valued p))
+    (h : belongs k p ≡ true) (f : now ≡ v ∷ ws) where
   pub option_valued : (s : Setting) (place : ℕ) → place ≡ at + 1 + 1 → value_of (at + 1) p v ≡ Ok s → read_named k at name left_out now ≡ Ok (s, (place, ws))
   unfolding read_named
   option_valued s place a b = rw (e, h, f, b, a) refl

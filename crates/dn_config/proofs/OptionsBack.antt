@@ -103,7 +103,8 @@ gives_limit_value : (k : Kind) (before : Options) (limit : Limit) → IsLimit li
 gives_limit_value k before limit h =
     gives_option k before (codes "queue") (limit_text limit) p.Queue (set.Limit limit) queue_named (queue_belongs k) (λ at. rw (limit_back at limit h) refl)
 
-pub gives_limit : (k : Kind) (before : Options) (limit : Limit) → IsLimit limit → before ≡ set_option before (set.Limit (Slots 50)) → Gives k before (limit_words limit) (set_option before (set.Limit limit))
+pub gives_limit : (k : Kind) (before : Options) (limit : Limit) → IsLimit limit → before ≡ set_option before (set.Limit (Slots 50))
+    → Gives k before (limit_words limit) (set_option before (set.Limit limit))
 gives_limit k before (Slots n) h same =
     gives_cond k before (set_option before (set.Limit (Slots n))) (codes "queue" ∷ limit_text (Slots n) ∷ []) (n == 50)
     (λ test. same ∙ ap (λ (x : ℕ). set_option before (set.Limit (Slots x))) (sym (eqb-true n 50 test))) (gives_limit_value k before (Slots n) h)
@@ -115,7 +116,8 @@ gives_loss k before t h same =
     (λ test. same ∙ ap (λ (x : ℕ). set_option before (set.Loss x)) (sym (eqb-true t 0 test)))
     (gives_option k before (codes "plr") (loss_text t) p.Loss (set.Loss t) plr_named (loss_belongs k) (λ at. rw (loss_back at t h) refl))
 
-pub gives_buckets : (k : Kind) (before : Options) (buckets : Option ℕ) → IsBuckets buckets → before ≡ record before { buckets = None } → Gives k before (buckets_words buckets) (record before { buckets = buckets })
+pub gives_buckets : (k : Kind) (before : Options) (buckets : Option ℕ) → IsBuckets buckets → before ≡ record before { buckets = None }
+    → Gives k before (buckets_words buckets) (record before { buckets = buckets })
 gives_buckets k before None h same = λ at rest. (at, ap (λ (x : Options). read_options k x at rest) same)
 gives_buckets k before (Some n) h same =
     gives_option k before (codes "buckets") (decimal n) p.Buckets (set.Buckets n) buckets_named (buckets_belongs k) (λ at. rw (buckets_back at n h.0 h.1) refl)

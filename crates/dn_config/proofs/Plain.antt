@@ -14,7 +14,8 @@ use Rattle.dn_types.specs.declared.command.Command.{Command}
 use Rattle.dn_types.specs.declared.command.Command.TheVariants as c
 use Rattle.dn_config.specs.Masks.{has_no_bits, has_all_bits}
 use Rattle.dn_config.specs.Commands.{IsTyped, AreShared, IsLimit, IsBuckets}
-use Rattle.dn_config.specs.Text.{zero_padded, rate_up, loss_text, number_words, limit_words, loss_words, buckets_words, field_words, fields_words, mask_words, both_words, link_words, share_words, text_words}
+use Rattle.dn_config.specs.Text.{zero_padded, rate_up, loss_text, number_words, limit_words, loss_words, buckets_words}
+use Rattle.dn_config.specs.Text.{field_words, fields_words, mask_words, both_words, link_words, share_words, text_words}
 use Rattle.dn_text.specs.Words.{is_nonempty}
 use Rattle.dn_config.proofs.Back.{is_plain_byte, is_plain, all_plain}
 use Rattle.dn_text.proofs.NumbersBack.{ascii_digits}

@@ -1,5 +1,6 @@
 -- The values that a canonical text writes, read back.
-use Rattle.std.proofs.Common.{◌≡◌, refl, sym, ◌∙◌, ap, ℕ, zero, suc, ◌+◌, ◌*◌, ◌/◌, ◌%◌, ◌^◌, ◌<◌, ◌≤◌, Bool, true, false, cond, List, [], ◌∷◌, ◌++◌, length, take, drop, arith, add-one, one-add, length-append, append-nil}
+use Rattle.std.proofs.Common.{◌≡◌, refl, sym, ◌∙◌, ap, ℕ, zero, suc, ◌+◌, ◌*◌, ◌/◌, ◌%◌, ◌^◌, ◌<◌, ◌≤◌}
+use Rattle.std.proofs.Common.{Bool, true, false, cond, List, [], ◌∷◌, ◌++◌, length, take, drop, arith, add-one, one-add, length-append, append-nil}
 use Rattle.std.specs.Prelude.{Some, Ok, nat_lt, slice_index, decimal, codes, ◌==◌}
 use Rattle.std.specs.List.{prefix_len, list_all}
 use Rattle.std.specs.Char.{digit_char, digit_value, is_ascii_digit}
@@ -198,4 +199,5 @@ pub bits_back : (at high k n : ℕ) → n ≤ high → n < 16 ^ suc k → bits_a
 bits_back at high k n l b =
     let long : 0 < length (zero_padded 16 (suc k) n) = omega (arith, length-padded 16 (suc k) n) in
     hex_at at high n (zero_padded 16 (suc k) n)
-    (hex_bits (zero_padded 16 (suc k) n) n (numeral_is 16 n (zero_padded 16 (suc k) n) long (padded_in 16 (suc k) n (omega arith) (omega arith)) (value-padded 16 (suc k) n (omega arith) (omega arith) b))) l
+    (hex_bits (zero_padded 16 (suc k) n) n (numeral_is 16 n (zero_padded 16 (suc k) n) long (padded_in 16 (suc k) n (omega arith) (omega arith))
+    (value-padded 16 (suc k) n (omega arith) (omega arith) b))) l

@@ -27,14 +27,16 @@ regroup front one (Err fault) = refl
 
 -- One line more.
 pub one_more : (front : List (ℕ × Command)) (number : ℕ) (line : List ℕ) (lines all : List (List ℕ)) (command : Option Command) (whole : Result (List (ℕ × Command)) ReplayFault)
-    → all ≡ line ∷ lines → command_at number line ≡ Ok command → with_front front (commands_from number all) ≡ whole → with_front (front ++ numbered number command) (commands_from (number + 1) lines) ≡ whole
+    → all ≡ line ∷ lines → command_at number line ≡ Ok command → with_front front (commands_from number all) ≡ whole
+    → with_front (front ++ numbered number command) (commands_from (number + 1) lines) ≡ whole
 unfolding commands_from
 one_more front number line lines all command whole is said so_far =
     let here = rw (is, said) at so_far in
     sym (regroup front (numbered number command) (commands_from (number + 1) lines)) ∙ here
 
 -- No line is left.
-pub no_more : (front : List (ℕ × Command)) (number : ℕ) (all : List (List ℕ)) (whole : Result (List (ℕ × Command)) ReplayFault) → all ≡ [] → with_front front (commands_from number all) ≡ whole → whole ≡ Ok front
+pub no_more : (front : List (ℕ × Command)) (number : ℕ) (all : List (List ℕ)) (whole : Result (List (ℕ × Command)) ReplayFault) → all ≡ []
+    → with_front front (commands_from number all) ≡ whole → whole ≡ Ok front
 unfolding commands_from
 no_more front number all whole is so_far = let here = rw is at so_far in sym here ∙ ap (λ (cs : List (ℕ × Command)). Ok cs) (append-nil front)
 

@@ -53,7 +53,8 @@ pub short : (source : Source) (limit : ℕ) (text : List ℕ) → length text �
 short source limit text le = let under : nat_le (length text) limit ≡ true = grind (arith, nat_tests) in rw under refl
 
 -- The fault of a part is that of the whole, where each fault of the part is.
-pub carried : {A B : Type 0} (read : Result A ReplayFault) (whole : Result B ReplayFault) (fault : ReplayFault) → ((f : ReplayFault) → read ≡ Err f → whole ≡ Err f) → IsFaultOf read fault → IsFaultOf whole fault
+pub carried : {A B : Type 0} (read : Result A ReplayFault) (whole : Result B ReplayFault) (fault : ReplayFault) → ((f : ReplayFault) → read ≡ Err f → whole ≡ Err f)
+    → IsFaultOf read fault → IsFaultOf whole fault
 carried read whole OutOfMemory h is = tt
 carried read whole (Read source) h is = absurd is
 carried read whole (Write source) h is = absurd is

@@ -28,7 +28,8 @@ starts (Ok rows) = refl
 starts (Err fault) = refl
 
 -- One row more.
-pub one_more : (front : List Row) (number : ℕ) (old new : List Fields) (row : Row) → TakesRow old new (Some row) → with_front front (rows_from number old) ≡ with_front (front ++ row ∷ []) (rows_from (number + 1) new)
+pub one_more : (front : List Row) (number : ℕ) (old new : List Fields) (row : Row) → TakesRow old new (Some row)
+    → with_front front (rows_from number old) ≡ with_front (front ++ row ∷ []) (rows_from (number + 1) new)
 unfolding rows_from
 one_more front number [] new row takes = let no : Some row ≡ None = takes in cc
 one_more front number (first ∷ rest) new row takes = rw (takes.0, takes.2) (regroup front row (rows_from (number + 1) rest))

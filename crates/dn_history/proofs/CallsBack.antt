@@ -36,7 +36,8 @@ allowed number (Queue n pipe weight limit loss buckets mask) = refl
 allowed number (DeletePipe n) = refl
 allowed number (DeleteQueue n) = refl
 
-submit_back : (caller : ℕ) (target : Target) (packet : Packet) (moment : ℕ) → IsTarget target → IsPacket packet → moment ≤ 2 ^ 62 → submit_of (call_record caller (c.Submit target packet moment)) ≡ Ok (c.Submit target packet moment)
+submit_back : (caller : ℕ) (target : Target) (packet : Packet) (moment : ℕ) → IsTarget target → IsPacket packet → moment ≤ 2 ^ 62
+    → submit_of (call_record caller (c.Submit target packet moment)) ≡ Ok (c.Submit target packet moment)
 unfolding submit_of field_at
 submit_back caller target packet moment h k l =
     let fields = call_record caller (c.Submit target packet moment) in

@@ -20,7 +20,8 @@ use Rattle.dn_history.proofs.ItemsBack.{Reads}
 use Rattle.dn_history.proofs.RepliesBack.{reply_back}
 
 -- The next entry.
-entry_back : (e : Entry) → e.caller < 16 → IsEntry e → (count number : ℕ) (left : List Fields) → Reads (entry_from Third count (record { number = number; records = entry_records e ++ left })) (Some e) left
+entry_back : (e : Entry) → e.caller < 16 → IsEntry e → (count number : ℕ) (left : List Fields)
+    → Reads (entry_from Third count (record { number = number; records = entry_records e ++ left })) (Some e) left
 unfolding entry_from entry_by reply_from next_record field_at
 entry_back e l h count number left =
     let reply = reply_back e.reply h.reply (number + 1) (number + 1 + 1) left in

@@ -48,7 +48,16 @@ address_back a l =
     let second : a / 65536 % 256 < 256 = omega arith in
     let third : a / 256 % 256 < 256 = omega arith in
     let fourth : a % 256 < 256 = omega arith in
-    rw (to_point (a / 16777216) _ first, to_point (a / 65536 % 256) _ second, to_point (a / 256 % 256) _ third, octet_back (a / 16777216) first, octet_back (a / 65536 % 256) second, octet_back (a / 256 % 256) third, octet_back (a % 256) fourth)
+    rw (
+      to_point (a / 16777216) _ first,
+      to_point (a / 65536 % 256) _ second,
+      to_point (a / 256 % 256) _ third,
+      octet_back (a / 16777216) first,
+      octet_back
+          (a / 65536 % 256) second,
+      octet_back (a / 256 % 256) third,
+      octet_back (a % 256) fourth,
+    )
     (ap Some (omega arith))
 
 -- Where five fields are those of a five-tuple.
@@ -67,7 +76,8 @@ tuple_back place fields t h at =
     let dport = number_back (place + 4) 0 65535 t.dport fields at.dport_at (omega (arith, h.dport)) (omega arith) (omega (arith, h.dport)) in
     rw (at.src_at, at.dst_at, address_back t.src h.src, address_back t.dst h.dst, proto, sport, dport) refl
 
-pub packet_back : (place : ℕ) (fields : Fields) (p : Packet) → IsPacket p → HasTuple place fields p.tuple → column (place + 5) fields ≡ decimal p.len → column (place + 6) fields ≡ decimal p.word → packet_at place fields ≡ Ok p
+pub packet_back : (place : ℕ) (fields : Fields) (p : Packet) → IsPacket p → HasTuple place fields p.tuple → column (place + 5) fields ≡ decimal p.len
+    → column (place + 6) fields ≡ decimal p.word → packet_at place fields ≡ Ok p
 unfolding packet_at
 packet_back place fields p h at len_at word_at =
     let len = number_back (place + 5) 1 65535 p.len fields len_at (omega (arith, h.len)) h.len.0 h.len.1 in

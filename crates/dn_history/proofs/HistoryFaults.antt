@@ -4,7 +4,8 @@ use Rattle.std.specs.Prelude.{cond, ⊤}
 use Rattle.dn_types.specs.declared.command.Command.{Command}
 use Rattle.dn_types.specs.declared.entry.Entry.{Entry}
 use Rattle.dn_records.specs.Records.{Fields}
-use Rattle.dn_history.specs.HistoryFile.{before, call_of, command_by, delivered_from, end_by, entries_from, entry_by, entry_from, history_file, history_from, history_limit, nothing_in, reply_by, reply_from, status_from}
+use Rattle.dn_history.specs.HistoryFile.{before, call_of, command_by, delivered_from, end_by, entries_from, entry_by}
+use Rattle.dn_history.specs.HistoryFile.{entry_from, history_file, history_from, history_limit, nothing_in, reply_by, reply_from, status_from}
 use Rattle.dn_history.specs.HistoryFaults.{IsHistoryFault}
 use Rattle.dn_files.specs.Reading.{◌>>=◌, IsRefusal}
 use Rattle.dn_history.specs.RecordsLeft.{Rest, first_record, in_record, item_from, items_from, next_record}

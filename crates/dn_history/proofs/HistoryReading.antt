@@ -1,5 +1,6 @@
 -- Reading the records of a history one after the other.
-use Rattle.std.proofs.Common.{◌≡◌, ◌∙◌, ℕ, zero, suc, ◌+◌, ◌-◌, ◌<◌, ◌≤◌, true, false, List, [], ◌∷◌, ◌++◌, length, Option, Some, None, Result, Ok, Err, refl, sym, ap, arith, append_assoc, length-append}
+use Rattle.std.proofs.Common.{◌≡◌, ◌∙◌, ℕ, zero, suc, ◌+◌, ◌-◌, ◌<◌, ◌≤◌, true, false, List, [], ◌∷◌}
+use Rattle.std.proofs.Common.{◌++◌, length, Option, Some, None, Result, Ok, Err, refl, sym, ap, arith, append_assoc, length-append}
 use Rattle.std.proofs.lemmas.List.{append-nil}
 use Rattle.csv.specs.Machine.{Read as ReadOff, next_record as next_read}
 use Rattle.csv.specs.Reading.{default_config, records_from, records_next, strip_bom}
@@ -40,7 +41,8 @@ numbered text =
     omega (arith, le, shorter)
 
 -- One record more, and none.
-pub took : (number : ℕ) (old new : List Fields) (fields : Fields) → Takes old new true fields → next_record (record { number = number; records = old }) ≡ Ok (fields, record { number = number + 1; records = new })
+pub took : (number : ℕ) (old new : List Fields) (fields : Fields) → Takes old new true fields
+    → next_record (record { number = number; records = old }) ≡ Ok (fields, record { number = number + 1; records = new })
 unfolding next_record
 took number [] new fields takes = let no = takes.0 in cc
 took number (first ∷ rest) new fields takes = rw (takes.1, takes.2) refl
@@ -50,7 +52,8 @@ unfolding next_record
 missing number [] new fields takes = refl
 missing number (first ∷ rest) new fields takes = let no = takes.0 in cc
 
-pub ended : (number : ℕ) (old new : List Fields) (fields : Fields) → Takes old new false fields → nothing_in (record { number = number; records = old }) old ≡ Ok (None, record { number = number; records = new })
+pub ended : (number : ℕ) (old new : List Fields) (fields : Fields) → Takes old new false fields
+    → nothing_in (record { number = number; records = old }) old ≡ Ok (None, record { number = number; records = new })
 ended number [] new fields takes = rw takes.1 refl
 ended number (first ∷ rest) new fields takes = let no = takes.0 in cc
 
@@ -66,7 +69,8 @@ pub starts : {A : Type 0} (read : Result (List A × Rest) ReplayFault) → with_
 starts (Ok p) = refl
 starts (Err fault) = refl
 
-regroup : {A : Type 0} (front : List A) (value : A) (read : Result (List A × Rest) ReplayFault) → with_front front (read >>= λ more. Ok (value ∷ more.0, more.1)) ≡ with_front (front ++ value ∷ []) read
+regroup : {A : Type 0} (front : List A) (value : A) (read : Result (List A × Rest) ReplayFault)
+    → with_front front (read >>= λ more. Ok (value ∷ more.0, more.1)) ≡ with_front (front ++ value ∷ []) read
 regroup {A} front value (Ok p) = ap (λ (list : List A). Ok (list, p.1)) (simp append_assoc)
 regroup front value (Err fault) = refl
 

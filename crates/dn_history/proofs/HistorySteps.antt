@@ -8,7 +8,8 @@ use Rattle.dn_history.specs.HistoryText.{end_record, entry_records, history_head
 use Rattle.dn_records.proofs.TextSteps.{text-push}
 
 -- A call, its reply and what the reply lists are an entry.
-pub entry_is : (start : List ℕ) (e : Entry) → ((start ++ line_of (call_record e.caller e.call)) ++ line_of (reply_record e.reply)) ++ text_of (item_records e.reply) ≡ start ++ text_of (entry_records e)
+pub entry_is : (start : List ℕ) (e : Entry)
+    → ((start ++ line_of (call_record e.caller e.call)) ++ line_of (reply_record e.reply)) ++ text_of (item_records e.reply) ≡ start ++ text_of (entry_records e)
 unfolding text_of
 entry_is start e =
     let call = line_of (call_record e.caller e.call) in

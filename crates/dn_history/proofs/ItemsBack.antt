@@ -73,8 +73,10 @@ listed P item fields_of back (x ∷ list) all number left =
     let more = listed P item fields_of back list (All-tail P x list all) (number + 1) left in
     (more.0, rw (back x (All-head P x list all), more.1) refl)
 
-pub deliveries_back : (list : List Delivery) → All IsDelivery list → (number : ℕ) (left : List Fields) → Reads (items_from delivery_item (length list) (record { number = number; records = map delivery_record list ++ left })) list left
+pub deliveries_back : (list : List Delivery) → All IsDelivery list → (number : ℕ) (left : List Fields)
+    → Reads (items_from delivery_item (length list) (record { number = number; records = map delivery_record list ++ left })) list left
 deliveries_back = listed IsDelivery delivery_item delivery_record delivery_back
 
-pub statuses_back : (list : List FlowStatus) → All IsStatus list → (number : ℕ) (left : List Fields) → Reads (items_from (status_item Third) (length list) (record { number = number; records = map status_record list ++ left })) list left
+pub statuses_back : (list : List FlowStatus) → All IsStatus list → (number : ℕ) (left : List Fields)
+    → Reads (items_from (status_item Third) (length list) (record { number = number; records = map status_record list ++ left })) list left
 statuses_back = listed IsStatus (status_item Third) status_record status_back

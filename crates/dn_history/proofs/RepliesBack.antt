@@ -24,7 +24,8 @@ queued_back at flow packet h k l =
     rw (long_back 3 at fields refl h, long_back 4 flow fields refl k, long_back 5 packet fields refl l) refl
 
 -- The record of a reply, and those of its list behind it.
-pub reply_back : (reply : Reply) → IsReply reply → (number start : ℕ) (left : List Fields) → Reads (reply_by Third number (reply_record reply) (record { number = start; records = item_records reply ++ left })) reply left
+pub reply_back : (reply : Reply) → IsReply reply → (number start : ℕ) (left : List Fields)
+    → Reads (reply_by Third number (reply_record reply) (record { number = start; records = item_records reply ++ left })) reply left
 unfolding reply_by plain_reply timed_reply delivered_from status_from field_at
 reply_back r.Configured h number start left = (start, refl)
 reply_back r.NoSuchPipe h number start left = (start, refl)

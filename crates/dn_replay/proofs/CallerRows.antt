@@ -33,7 +33,8 @@ own_row n k place [] row is =
 own_row n k place (first ∷ rest) row is =
     let moved : (place + 1) + length rest ≡ place + length (first ∷ rest) = omega arith in
     let behind = own_row n k (place + 1) rest row (ap (λ (p : ℕ). p % n) moved ∙ is) in
-    elim (eqb (place % n) k) as (λ b. cond {A = List Row} b (first ∷ rows_at n k (place + 1) (rest ++ row ∷ [])) (rows_at n k (place + 1) (rest ++ row ∷ [])) ≡ cond {A = List Row} b (first ∷ rows_at n k (place + 1) rest) (rows_at n k (place + 1) rest) ++ row ∷ []) [
+    elim (eqb (place % n) k) as (λ b. cond {A = List Row} b (first ∷ rows_at n k (place + 1) (rest ++ row ∷ [])) (rows_at n k (place + 1) (rest ++ row ∷ [])) ≡ cond {A = List Row} b
+    (first ∷ rows_at n k (place + 1) rest) (rows_at n k (place + 1) rest) ++ row ∷ []) [
       | true ↦ ap (λ (l : List Row). first ∷ l) behind
       | false ↦ behind
     ]
@@ -45,7 +46,8 @@ other_row n k place [] row other =
 other_row n k place (first ∷ rest) row other =
     let moved : place + length (first ∷ rest) ≡ (place + 1) + length rest = omega arith in
     let behind = other_row n k (place + 1) rest row (λ is. other (ap (λ (p : ℕ). p % n) moved ∙ is)) in
-    elim (eqb (place % n) k) as (λ b. cond {A = List Row} b (first ∷ rows_at n k (place + 1) (rest ++ row ∷ [])) (rows_at n k (place + 1) (rest ++ row ∷ [])) ≡ cond {A = List Row} b (first ∷ rows_at n k (place + 1) rest) (rows_at n k (place + 1) rest)) [
+    elim (eqb (place % n) k) as (λ b. cond {A = List Row} b (first ∷ rows_at n k (place + 1) (rest ++ row ∷ [])) (rows_at n k (place + 1) (rest ++ row ∷ [])) ≡ cond {A = List Row} b
+    (first ∷ rows_at n k (place + 1) rest) (rows_at n k (place + 1) rest)) [
       | true ↦ ap (λ (l : List Row). first ∷ l) behind
       | false ↦ behind
     ]
@@ -80,7 +82,8 @@ some_row [] i inside = absurd (omega arith)
 some_row (first ∷ rest) i inside = first
 
 -- The row falls to another caller.
-pub submitted_other : (n i : ℕ) (rows : List Row) (first before : CallerView) → i < length rows → HasSubmitted n (take i rows) first before → i % n ≢ first.number → HasSubmitted n (take (i + 1) rows) first before
+pub submitted_other : (n i : ℕ) (rows : List Row) (first before : CallerView) → i < length rows → HasSubmitted n (take i rows) first before → i % n ≢ first.number
+    → HasSubmitted n (take (i + 1) rows) first before
 submitted_other n i rows first before inside so_far other =
     let some = some_row rows i inside in
     let place : length (take i rows) ≡ i = length-take-le i rows (omega arith) in
@@ -88,5 +91,6 @@ submitted_other n i rows first before inside so_far other =
       same = so_far.same;
       calls = so_far.calls
           ∙ sym (ap (λ (l : List Row). submitted (calls_by first) (rows_of_caller n first.number l)) (take_more rows i some inside)
-          ∙ ap (submitted (calls_by first)) (other_row n first.number 0 (take i rows) (get_or rows i some) (λ mine. other (ap (λ (p : ℕ). p % n) (let here : i ≡ 0 + length (take i rows) = omega (arith, place) in here) ∙ mine))));
+          ∙ ap (submitted (calls_by first)) (other_row n first.number 0 (take i rows) (get_or rows i some)
+          (λ mine. other (ap (λ (p : ℕ). p % n) (let here : i ≡ 0 + length (take i rows) = omega (arith, place) in here) ∙ mine))));
     }

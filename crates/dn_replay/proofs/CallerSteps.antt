@@ -19,7 +19,8 @@ use Rattle.dn_replay.proofs.OwnFaults.{no_count_asked}
 use Rattle.dn_replay.proofs.ReplaySteps.{keeps, made, unreplayed}
 
 -- The callers' history is one of what two inputs were read as, where the commands are those of the configuration's run.
-pub callers_replay : (n : ℕ) (config packets : Option (List ℕ)) (calls : List Call) (rows : List Row) (commands entries : List Entry) → ReadsAs config_calls config calls → ReadsAs packet_file packets rows
+pub callers_replay : (n : ℕ) (config packets : Option (List ℕ)) (calls : List Call) (rows : List Row) (commands entries : List Entry) → ReadsAs config_calls config calls
+    → ReadsAs packet_file packets rows
     → commands ≡ history_of calls → IsHistoryOfCallers n (calls_of commands) rows entries → IsReplayOfCallers n config packets entries
 callers_replay n config packets calls rows commands entries config_reads packets_read is history = record {
   calls = calls;
@@ -31,7 +32,8 @@ callers_replay n config packets calls rows commands entries config_reads packets
 
 module _ (n : ℕ) (Unread : Type 0) (ReadFailed : Option Source → Type 0) (config packets : Option (List ℕ)) where
   -- There are no callers.
-  pub unopened : (known : Option (List ℕ)) (failed : Bool) (fault : ReplayFault) → Unread → ReadFailed None → failed ≡ false → IsUnopened n fault → IsUnreplayedByCallers n Unread ReadFailed config packets known known failed fault
+  pub unopened : (known : Option (List ℕ)) (failed : Bool) (fault : ReplayFault) → Unread → ReadFailed None → failed ≡ false → IsUnopened n fault
+      → IsUnreplayedByCallers n Unread ReadFailed config packets known known failed fault
   unopened known failed BadCount unread sound whole h = (h, unread, sound, (whole, keeps known))
   unopened known failed OutOfMemory unread sound whole h = (h, (sound, (whole, keeps known)))
   unopened known failed (Write what) unread sound whole h = absurd h

@@ -1,5 +1,6 @@
 -- The table of deliveries, one delivery and one entry at a time.
-use Rattle.std.proofs.Common.{◌≡◌, ◌∙◌, ◌≢◌, sym, ap, refl, ℕ, ◌+◌, ◌<◌, ◌≤◌, nat_eq, arith, take, drop, length, get_or, set, Some, None, Option, List, [], ◌∷◌, ◌++◌, true, false, inl, inr, append_assoc, replicate, take-append-drop}
+use Rattle.std.proofs.Common.{◌≡◌, ◌∙◌, ◌≢◌, sym, ap, refl, ℕ, ◌+◌, ◌<◌, ◌≤◌, nat_eq, arith, take, drop, length}
+use Rattle.std.proofs.Common.{get_or, set, Some, None, Option, List, [], ◌∷◌, ◌++◌, true, false, inl, inr, append_assoc, replicate, take-append-drop}
 use Rattle.std.specs.Option.{option_or, is_some}
 use Rattle.std.specs.Prelude.{nat_lt}
 use Rattle.std.proofs.lemmas.List.{length-replicate, get_or-replicate}

@@ -1,5 +1,6 @@
 -- One entry more of a history, and the lines of a report.
-use Rattle.std.proofs.Common.{◌≡◌, ◌≢◌, ◌∙◌, sym, ap, refl, ℕ, suc, ◌+◌, ◌<◌, ◌≤◌, nat_eq, arith, take, drop, length, get_or, Option, List, [], ◌∷◌, ◌++◌, Bool, true, false, inl, inr, append_assoc, add-one, drop-cons}
+use Rattle.std.proofs.Common.{◌≡◌, ◌≢◌, ◌∙◌, sym, ap, refl, ℕ, suc, ◌+◌, ◌<◌, ◌≤◌, nat_eq, arith, take, drop}
+use Rattle.std.proofs.Common.{length, get_or, Option, List, [], ◌∷◌, ◌++◌, Bool, true, false, inl, inr, append_assoc, add-one, drop-cons}
 use Rattle.std.specs.Prelude.{◌&&◌, option_to_list, filter, map}
 use Rattle.std.proofs.lemmas.Bool.{cases_Bool}
 use Rattle.std.proofs.lemmas.Bool.Decides.{nat_tests}
@@ -46,7 +47,8 @@ counts-step entries i e counts lt is caller counted k below =
 
 -- The lines of the entries that are left, at one more.
 pub lines-step : (n : ℕ) (given : List Delivery) (entries : List Entry) (i : ℕ) (e : Entry) → i < length entries → e ≡ get_or entries i e
-    → lines_after n given (take i entries) (drop i entries) ≡ option_to_list (entry_line n given (submits_by e.caller (take i entries)) e) ++ lines_after n given (take (i + 1) entries) (drop (i + 1) entries)
+    → lines_after n given (take i entries) (drop i entries) ≡ option_to_list (entry_line n given (submits_by e.caller (take i entries)) e) ++ lines_after n given (take (i + 1) entries)
+    (drop (i + 1) entries)
 unfolding lines_after
 lines-step n given entries i e lt is =
     let cut : drop i entries ≡ e ∷ drop (i + 1) entries = drop-cons entries i e lt ∙ ap (λ (x : Entry). x ∷ drop (suc i) entries) (sym is) ∙ ap (λ (m : ℕ). e ∷ drop m entries) (sym (add-one i)) in
@@ -54,7 +56,8 @@ lines-step n given entries i e lt is =
     rw (cut, more) refl
 
 -- The same of the lines that pass a test.
-pub passed : (test : ReportLine → Bool) (n : ℕ) (given : List Delivery) (entries : List Entry) (i : ℕ) (e : Entry) (front total : List ReportLine) (one : Option ReportLine) → i < length entries → e ≡ get_or entries i e
+pub passed : (test : ReportLine → Bool) (n : ℕ) (given : List Delivery) (entries : List Entry) (i : ℕ) (e : Entry) (front total : List ReportLine) (one : Option ReportLine)
+    → i < length entries → e ≡ get_or entries i e
     → one ≡ entry_line n given (submits_by e.caller (take i entries)) e
     → front ++ filter test (lines_after n given (take i entries) (drop i entries)) ≡ total
     → (front ++ filter test (option_to_list one)) ++ filter test (lines_after n given (take (i + 1) entries) (drop (i + 1) entries)) ≡ total
@@ -71,7 +74,8 @@ all test n given entries i front total le so_far =
     sym (append-nil front) ∙ whole
 
 -- The header, the lines of delivered packets and the others are the report.
-pub report_is : (n : ℕ) (history : List Entry) (outs others : List ReportLine) → outs ≡ outs_in_order (filter is_out (submit_lines n history)) → others ≡ sorted_by row_number (filter is_other (submit_lines n history))
+pub report_is : (n : ℕ) (history : List Entry) (outs others : List ReportLine) → outs ≡ outs_in_order (filter is_out (submit_lines n history))
+    → others ≡ sorted_by row_number (filter is_other (submit_lines n history))
     → (line_of report_header ++ text_of (map line_fields outs)) ++ text_of (map line_fields others) ≡ report n history
 unfolding report text_of
 report_is n history outs others is_outs is_others =

@@ -90,7 +90,8 @@ unread_text ReadFailed Asked read (PipeHasQueues l) sound asked h = (sound, aske
 unread_text ReadFailed Asked read (NoSuchQueue l) sound asked h = (sound, asked (NoSuchQueue l) h)
 
 -- An input is refused.
-pub unread_input : {A : Type 0} (ReadFailed : Option Source → Type 0) (Asked : Result (List Call) ReplayFault → Type 0) (source : Source) (read : List ℕ → Result A ReplayFault) (input : Option (List ℕ)) (input_failed : Bool) (fault : ReplayFault)
+pub unread_input : {A : Type 0} (ReadFailed : Option Source → Type 0) (Asked : Result (List Call) ReplayFault → Type 0) (source : Source) (read : List ℕ → Result A ReplayFault)
+    (input : Option (List ℕ)) (input_failed : Bool) (fault : ReplayFault)
     → ((f : ReplayFault) → IsRefusedFor read input f → Asked (Err f)) → (input_failed ≡ false → ReadFailed None) → (input_failed ≡ true → ReadFailed (Some source))
     → IsRefusal source read input input_failed fault → IsUnread ReadFailed Asked fault
 unread_input ReadFailed Asked source read input input_failed (Write what) asked sound reads h = absurd h
@@ -123,7 +124,8 @@ unreplayed ReadFailed Asked known failed (PipeHasQueues l) whole h = (h.0, h.1, 
 unreplayed ReadFailed Asked known failed (NoSuchQueue l) whole h = (h.0, h.1, (whole, keeps known))
 
 -- What two inputs ask for.
-pub asks : (config packets : Option (List ℕ)) (calls : List Call) (rows : List Row) → ReadsAs config_calls config calls → ReadsAs packet_file packets rows → AskFor config packets (Ok (replayed calls rows))
+pub asks : (config packets : Option (List ℕ)) (calls : List Call) (rows : List Row) → ReadsAs config_calls config calls → ReadsAs packet_file packets rows
+    → AskFor config packets (Ok (replayed calls rows))
 unfolding calls_of_inputs
 asks config packets calls rows c p = (c.0, p.0, c.1, p.1, rw (c.2, p.2) refl)
 
@@ -131,12 +133,14 @@ pub config_fault : (config packets : Option (List ℕ)) (fault : ReplayFault) �
 unfolding calls_of_inputs
 config_fault config packets fault c = let (text, is) = some_text packets in (c.0, text, c.1, is, rw c.2 refl)
 
-pub packet_fault : (config packets : Option (List ℕ)) (calls : List Call) (fault : ReplayFault) → ReadsAs config_calls config calls → IsRefusedFor packet_file packets fault → AskFor config packets (Err fault)
+pub packet_fault : (config packets : Option (List ℕ)) (calls : List Call) (fault : ReplayFault) → ReadsAs config_calls config calls → IsRefusedFor packet_file packets fault
+    → AskFor config packets (Err fault)
 unfolding calls_of_inputs
 packet_fault config packets calls fault c p = (c.0, p.0, c.1, p.1, rw (c.2, p.2) refl)
 
 -- What one joined input asks for.
-pub joined_asks : (text : List ℕ) (calls : List Call) (rows : List Row) → within_limit packet_limit Input text ≡ Ok text → configured_by (joined_parts text).0 ≡ Ok calls → rows_of (joined_parts text).1 ≡ Ok rows
+pub joined_asks : (text : List ℕ) (calls : List Call) (rows : List Row) → within_limit packet_limit Input text ≡ Ok text → configured_by (joined_parts text).0 ≡ Ok calls
+    → rows_of (joined_parts text).1 ≡ Ok rows
     → calls_of_joined text ≡ Ok (replayed calls rows)
 unfolding calls_of_joined
 joined_asks text calls rows whole c p = rw (whole, c, p) refl
@@ -145,7 +149,8 @@ pub joined_config_fault : (text : List ℕ) (fault : ReplayFault) → within_lim
 unfolding calls_of_joined
 joined_config_fault text fault whole c = rw (whole, c) refl
 
-pub joined_packet_fault : (text : List ℕ) (calls : List Call) (fault : ReplayFault) → within_limit packet_limit Input text ≡ Ok text → configured_by (joined_parts text).0 ≡ Ok calls → rows_of (joined_parts text).1 ≡ Err fault
+pub joined_packet_fault : (text : List ℕ) (calls : List Call) (fault : ReplayFault) → within_limit packet_limit Input text ≡ Ok text → configured_by (joined_parts text).0 ≡ Ok calls
+    → rows_of (joined_parts text).1 ≡ Err fault
     → calls_of_joined text ≡ Err fault
 unfolding calls_of_joined
 joined_packet_fault text calls fault whole c p = rw (whole, c, p) refl

@@ -19,15 +19,21 @@ pub returns-in_ok-mask-in-Mask-clause-reads : goal.returns-in_ok-mask-in-Mask-cl
 returns-in_ok-mask-in-Mask-clause-reads c = option_mask_ok c.args.kind c.args.at c.args.name c.args.left_out _ _ _ (c.in-Some.is ∙ ap Some c.in-Mask.is) c.in_ok-mask-in-Mask.ensures.reads
 
 pub returns-then-not-belongs_to-clause-reads : goal.returns-then-not-belongs_to-clause-reads
-returns-then-not-belongs_to-clause-reads c = option_foreign c.args.kind c.args.at c.args.name c.args.left_out _ _ (c.in-Some.is ∙ ap Some c.in-Valued.is) (sym c.belongs_to.ensures ∙ c.if-not-belongs_to.true)
+returns-then-not-belongs_to-clause-reads c =
+    option_foreign c.args.kind c.args.at c.args.name c.args.left_out _ _ (c.in-Some.is ∙ ap Some c.in-Valued.is) (sym c.belongs_to.ensures ∙ c.if-not-belongs_to.true)
 
 pub returns-in_default-next-clause-reads : goal.returns-in_default-next-clause-reads
-returns-in_default-next-clause-reads c = option_missing c.args.kind c.args.at c.args.name c.args.left_out _ _ (c.in-Some.is ∙ ap Some c.in-Valued.is) (sym c.belongs_to.ensures ∙ c.if-not-belongs_to.false) c.in_default-next.ensures
+returns-in_default-next-clause-reads c =
+    option_missing c.args.kind c.args.at c.args.name c.args.left_out _ _ (c.in-Some.is ∙ ap Some c.in-Valued.is) (sym c.belongs_to.ensures ∙ c.if-not-belongs_to.false) c.in_default-next.ensures
 
 pub returns-in_err-setting-in-Valued-clause-reads : goal.returns-in_err-setting-in-Valued-clause-reads
 returns-in_err-setting-in-Valued-clause-reads c =
     let p = err_from_is_err_and c.from_residual-in_err-setting-in-Valued.result c.from_residual-in_err-setting-in-Valued.ensures.1 in
-    rw (p.1, p.2) (option_bad c.args.kind c.args.at c.args.name c.args.left_out _ _ _ _ (c.in-Some.is ∙ ap Some c.in-Valued.is) (sym c.belongs_to.ensures ∙ c.if-not-belongs_to.false) c.in-Some-next.ensures.0 _ (rw (← c.requires.place) (sym c.in_err-setting-in-Valued.ensures)))
+    rw (p.1, p.2) (option_bad c.args.kind c.args.at c.args.name c.args.left_out _ _ _ _ (c.in-Some.is ∙ ap Some c.in-Valued.is)
+    (sym c.belongs_to.ensures ∙ c.if-not-belongs_to.false) c.in-Some-next.ensures.0 _ (rw (← c.requires.place) (sym c.in_err-setting-in-Valued.ensures)))
 
 pub returns-in_ok-setting-in-Valued-clause-reads : goal.returns-in_ok-setting-in-Valued-clause-reads
-returns-in_ok-setting-in-Valued-clause-reads c = option_valued c.args.kind c.args.at c.args.name c.args.left_out _ _ _ _ (c.in-Some.is ∙ ap Some c.in-Valued.is) (sym c.belongs_to.ensures ∙ c.if-not-belongs_to.false) c.in-Some-next.ensures.0 _ _ (c.in-Some-next.ensures.1 ∙ ap (λ n. n + 1) c.requires.place) (rw (← c.requires.place) (sym c.in_ok-setting-in-Valued.ensures))
+returns-in_ok-setting-in-Valued-clause-reads c =
+    option_valued c.args.kind c.args.at c.args.name c.args.left_out _ _ _ _ (c.in-Some.is ∙ ap Some c.in-Valued.is)
+    (sym c.belongs_to.ensures ∙ c.if-not-belongs_to.false) c.in-Some-next.ensures.0 _ _ (c.in-Some-next.ensures.1 ∙ ap (λ n. n + 1) c.requires.place)
+    (rw (← c.requires.place) (sym c.in_ok-setting-in-Valued.ensures))

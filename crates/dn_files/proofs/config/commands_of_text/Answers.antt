@@ -6,7 +6,9 @@ use Rattle.dn_files.proofs.config.commands_of_text.Goals as goal
 
 pub loop-line-preserved : goal.loop-line-preserved
 loop-line-preserved c = record {
-  so_far = rw c.in-Ok-keep.ensures.ok (rw c.in-Some.ensures.1 (one_more c.loop-line.commands.items c.loop-line.lines.number c.in-Some.line.now (lines_of c.in-Some.rest.rest.now) _ c.in-Ok.command (commands_in c.args.text.now) c.in-Some.ensures.0 (sym c.in-Ok.ensures.value) c.loop-line.invariant.so_far));
+  so_far = rw c.in-Ok-keep.ensures.ok (rw c.in-Some.ensures.1
+      (one_more c.loop-line.commands.items c.loop-line.lines.number c.in-Some.line.now (lines_of c.in-Some.rest.rest.now) _ c.in-Ok.command
+      (commands_in c.args.text.now) c.in-Some.ensures.0 (sym c.in-Ok.ensures.value) c.loop-line.invariant.so_far));
   room = omega (arith, c.loop-line.invariant.room, c.in-Some.ensures.1, c.in-Some.ensures.2);
 }
 

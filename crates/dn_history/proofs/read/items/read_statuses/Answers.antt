@@ -17,7 +17,8 @@ loop-left-preserved c =
 pub returns-clause-ok : goal.returns-clause-ok
 returns-clause-ok c =
     let none : c.loop-left.left ≡ 0 = omega (arith, c.loop-left-test.false) in
-    all_read (status_item c.args.version) c.loop-left.list.items c.loop-left.left c.loop-left.records (items_from (status_item c.args.version) c.args.count c.args.records.now) none c.loop-left.invariant.so_far
+    all_read (status_item c.args.version) c.loop-left.list.items c.loop-left.left c.loop-left.records
+    (items_from (status_item c.args.version) c.args.count c.args.records.now) none c.loop-left.invariant.so_far
 
 pub returns-in-Err-clause-err : goal.returns-in-Err-clause-err
 returns-in-Err-clause-err c =

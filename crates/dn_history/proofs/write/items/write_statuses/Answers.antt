@@ -12,4 +12,5 @@ pub loop-status-preserved : goal.loop-status-preserved
 loop-status-preserved c =
     let one = rw c.loop-status.invariant at c.in_ok-write_status.ensures in
     let before = c.args.writer.now.text ++ text_of (map status_record (take c.loop-status.status-index c.args.list.now)) in
-    one ∙ ap (λ (s : FlowStatus). before ++ line_of (status_record s)) c.status-item.is ∙ text-more status_record c.args.writer.now.text c.args.list.now c.loop-status.status-index _ c.loop-status-test.true
+    one ∙ ap (λ (s : FlowStatus). before ++ line_of (status_record s)) c.status-item.is
+    ∙ text-more status_record c.args.writer.now.text c.args.list.now c.loop-status.status-index _ c.loop-status-test.true

@@ -12,4 +12,5 @@ returns g c =
     let kept = length-set callers 0 c.repeat.new.caller in
     let some_left : 0 < length left = omega (arith, some_callers, size, kept) in
     callers_done c.args.n (calls_of c.args.config.now) c.args.rows.now callers left _ c.repeat.new.caller _ c.collect.new.caller
-    c.index_mut.ensures.value c.repeat.ensures.same c.in_ok-repeat.ensures.calls c.in_ok-callers.ensures c.index_mut-2.ensures.value c.collect.ensures.same c.in_ok-collect.ensures.calls some_callers some_left
+    c.index_mut.ensures.value c.repeat.ensures.same c.in_ok-repeat.ensures.calls c.in_ok-callers.ensures c.index_mut-2.ensures.value c.collect.ensures.same c.in_ok-collect.ensures.calls
+    some_callers some_left

@@ -14,7 +14,8 @@ loop-place-preserved g c =
       | then-place-n+in_ok-call w ↦ let few = was.0 in let turn = w.turn-is in (
         omega arith,
         subst (λ x. HasSubmitted n (take (place + 1) rows) c.args.caller x) (sym w.caller-is)
-            (submitted_own n place rows w.index-rows-place.result c.args.caller c.loop-place.caller c.loop-place-test.true w.index-rows-place.is was.1 w.call.new.self _ (w.if-place-n.true ∙ c.number-number.ensures) w.call.ensures.same_caller (rw w.submit.ensures at w.in_ok-call.ensures.ok)),
+            (submitted_own n place rows w.index-rows-place.result c.args.caller c.loop-place.caller c.loop-place-test.true w.index-rows-place.is was.1 w.call.new.self _
+            (w.if-place-n.true ∙ c.number-number.ensures) w.call.ensures.same_caller (rw w.submit.ensures at w.in_ok-call.ensures.ok)),
       )
       | else-place-n w ↦ let few = was.0 in let turn = w.turn-is in (
         omega arith,

@@ -33,5 +33,7 @@ returns g c =
     record {
       lawful = closes.lawful;
       callers = subst (λ n. All (λ (e : Entry). e.caller < n) c.in-Ok.closed.history.items) c.requires.count.1 closes.below;
-      own = λ k lt. callers_calls c.args.opened.0 (calls_given c.args.n (calls_of c.args.config.now) c.args.rows.now) c.in-Ok.closed.history.items 0 c.in_ok-callers.callers.items closes.accounts left.1 k (omega arith) (omega (arith, size, lt));
+      own = λ k lt. callers_calls c.args.opened.0
+          (calls_given c.args.n (calls_of c.args.config.now) c.args.rows.now) c.in-Ok.closed.history.items 0 c.in_ok-callers.callers.items closes.accounts left.1 k (omega arith)
+          (omega (arith, size, lt));
     }

@@ -19,7 +19,9 @@ returns-in_err-commands-clause-err g c =
     let config = g.C.Inlet.remaining c.args.config.now in
     let packets = g.P.Inlet.remaining c.args.packets.now in
     let p = err_from_is_err_and c.from_residual-in_err-commands.result c.from_residual-in_err-commands.ensures.1 in
-    rw (p.1, p.2) (callers_unread c.args.n (AreUnread config (g.C.Inlet.remaining c.commands_and_rows-read.new.config) packets (g.P.Inlet.remaining c.commands_and_rows-read.new.packets)) (EitherFailed config (g.C.Inlet.has_failed c.commands_and_rows-read.new.config) (g.P.Inlet.has_failed c.commands_and_rows-read.new.packets)) config packets
+    rw (p.1, p.2) (callers_unread c.args.n (AreUnread config (g.C.Inlet.remaining c.commands_and_rows-read.new.config) packets
+    (g.P.Inlet.remaining c.commands_and_rows-read.new.packets))
+    (EitherFailed config (g.C.Inlet.has_failed c.commands_and_rows-read.new.config) (g.P.Inlet.has_failed c.commands_and_rows-read.new.packets)) config packets
     (g.O.Outlet.contents c.args.out.now) (g.O.Outlet.has_failed c.args.out.now) _ c.in_ok-opened.ensures.count.0 c.requires.out c.in_err-commands.ensures.err)
 
 pub returns-in_default-clause-err : goal.returns-in_default-clause-err
@@ -37,7 +39,9 @@ returns-in_err-write_report-clause-err g c =
     let replay = callers_replay c.args.n config packets calls c.in_ok-commands.rows.items c.in_ok-commands.commands.items c.in-Ok.entries.items reads read made
     (rw (c.as_slice.ensures.value, c.as_slice-2.ensures.value) at c.in-Ok.ensures) in
     let p = err_from_is_err_and c.from_residual-in_err-write_report.result c.from_residual-in_err-write_report.ensures.1 in
-    rw (p.1, p.2) (callers_unreported c.args.n (AreUnread config (g.C.Inlet.remaining c.commands_and_rows-read.new.config) packets (g.P.Inlet.remaining c.commands_and_rows-read.new.packets)) (EitherFailed config (g.C.Inlet.has_failed c.commands_and_rows-read.new.config) (g.P.Inlet.has_failed c.commands_and_rows-read.new.packets)) config packets
+    rw (p.1, p.2) (callers_unreported c.args.n
+    (AreUnread config (g.C.Inlet.remaining c.commands_and_rows-read.new.config) packets (g.P.Inlet.remaining c.commands_and_rows-read.new.packets))
+    (EitherFailed config (g.C.Inlet.has_failed c.commands_and_rows-read.new.config) (g.P.Inlet.has_failed c.commands_and_rows-read.new.packets)) config packets
     c.in-Ok.entries.items (g.O.Outlet.contents c.args.out.now) (g.O.Outlet.contents c.write_report.new.out) (g.O.Outlet.has_failed c.write_report.new.out) _
     c.in_ok-opened.ensures.count.0 c.in_ok-commands.ensures.inputs replay (rw c.as_slice-3.ensures.value at c.in_err-write_report.ensures.err))
 

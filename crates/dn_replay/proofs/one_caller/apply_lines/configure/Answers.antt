@@ -20,7 +20,12 @@ loop-line-preserved c =
     let (calls, so_far, made) = c.loop-line.invariant.made in
     let (after, applied, now) = c.in-Ok-apply_line.ensures.ok calls made in
     record {
-      made = (after, rw c.in-Some.ensures.1 (line-more calls after c.loop-line.lines.number c.in-Some.line.now (lines_of c.in-Some.rest.rest.now) _ c.in-Ok.command (configured_by c.args.text.now) c.in-Some.ensures.0 (sym c.in-Ok.ensures.value) applied so_far), now);
+      made = (
+        after,
+        rw c.in-Some.ensures.1 (line-more calls after c.loop-line.lines.number c.in-Some.line.now (lines_of c.in-Some.rest.rest.now) _ c.in-Ok.command
+            (configured_by c.args.text.now) c.in-Some.ensures.0 (sym c.in-Ok.ensures.value) applied so_far),
+        now,
+      );
       room = omega (arith, c.loop-line.invariant.room, c.in-Some.ensures.1, c.in-Some.ensures.2);
     }
 

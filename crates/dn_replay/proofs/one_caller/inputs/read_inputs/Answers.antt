@@ -29,5 +29,6 @@ returns-clause-err g c =
     let failed = g.P.Inlet.has_failed c.read_packets.new.reader in
     let (calls, reads, made) = c.in_ok-configure_from.ensures.ok in
     let whole = c.in_ok-configure_from.ensures.sound in
-    IfErr-weaker c.read_packets.result _ _ (λ fault refused. unread_input (EitherFailed config (g.C.Inlet.has_failed c.configure_from.new.config) failed) (AskFor config packets) Packets packet_file packets failed fault
+    IfErr-weaker c.read_packets.result _ _ (λ fault refused. unread_input (EitherFailed config (g.C.Inlet.has_failed c.configure_from.new.config) failed)
+    (AskFor config packets) Packets packet_file packets failed fault
     (λ f r. packet_fault config packets calls f reads r) (λ sound. (whole, sound)) (λ bad. (whole, bad, (calls, reads))) refused) c.read_packets.ensures.err

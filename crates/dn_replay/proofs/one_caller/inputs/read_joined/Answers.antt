@@ -37,5 +37,6 @@ returns-clause-err g c =
     let text = c.in_ok-text.text.items in
     let (calls, configured, made) = rw (c.split_joined.ensures.config, c.as_slice.ensures.value) at c.in_ok-configure.ensures.ok in
     let refused = rw (c.split_joined.ensures.packets, c.as_slice.ensures.value) at c.rows_of_text.ensures.err in
-    IfErr-weaker c.rows_of_text.result _ _ (λ fault bad. unread_text (InputFailed (g.I.Inlet.has_failed c.read_input.new.reader)) (AsksFor (g.I.Inlet.remaining c.args.input.now)) (rows_of (joined_parts text).1) fault
+    IfErr-weaker c.rows_of_text.result _ _ (λ fault bad. unread_text (InputFailed (g.I.Inlet.has_failed c.read_input.new.reader)) (AsksFor (g.I.Inlet.remaining c.args.input.now))
+    (rows_of (joined_parts text).1) fault
     c.in_ok-text.ensures.sound (λ f e. (text, c.in_ok-text.ensures.text, joined_packet_fault text calls f c.in_ok-text.ensures.within configured e)) bad) refused

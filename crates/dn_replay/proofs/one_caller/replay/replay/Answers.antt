@@ -5,8 +5,12 @@ use Rattle.dn_replay.proofs.one_caller.replay.replay.Goals as goal
 
 pub returns-clause-lawful : goal.returns-clause-lawful
 returns-clause-lawful g c =
-    IfOk-weaker c.replay_by-history.result _ _ (λ entries replay. lawful_replay (AskFor (g.C.Inlet.remaining c.args.config.now) (g.P.Inlet.remaining c.args.packets.now)) entries.items (g.O.Outlet.contents c.args.out.now) (g.O.Outlet.contents c.replay_by-history.new.out) replay) c.replay_by-history.ensures.ok
+    IfOk-weaker c.replay_by-history.result _ _
+    (λ entries replay. lawful_replay (AskFor (g.C.Inlet.remaining c.args.config.now) (g.P.Inlet.remaining c.args.packets.now)) entries.items (g.O.Outlet.contents c.args.out.now)
+    (g.O.Outlet.contents c.replay_by-history.new.out) replay) c.replay_by-history.ensures.ok
 
 pub returns-clause-callers : goal.returns-clause-callers
 returns-clause-callers g c =
-    IfOk-weaker c.replay_by-history.result _ _ (λ entries replay. one_replays (AskFor (g.C.Inlet.remaining c.args.config.now) (g.P.Inlet.remaining c.args.packets.now)) entries.items (g.O.Outlet.contents c.args.out.now) (g.O.Outlet.contents c.replay_by-history.new.out) replay) c.replay_by-history.ensures.ok
+    IfOk-weaker c.replay_by-history.result _ _
+    (λ entries replay. one_replays (AskFor (g.C.Inlet.remaining c.args.config.now) (g.P.Inlet.remaining c.args.packets.now)) entries.items (g.O.Outlet.contents c.args.out.now)
+    (g.O.Outlet.contents c.replay_by-history.new.out) replay) c.replay_by-history.ensures.ok

@@ -26,6 +26,7 @@ returns-clause-err g c =
     let packets = g.P.Inlet.remaining c.args.packets.now in
     let rows = c.in_ok-rows.rows.items in
     let (calls, reads, read, made) = c.in_ok-rows.ensures.ok in
-    IfErr-weaker c.finish.result _ _ (λ fault unwritten. unreported (EitherFailed config (g.C.Inlet.has_failed c.read_inputs.new.config) (g.P.Inlet.has_failed c.read_inputs.new.packets)) (AskFor config packets) (replayed calls rows)
+    IfErr-weaker c.finish.result _ _ (λ fault unwritten. unreported
+    (EitherFailed config (g.C.Inlet.has_failed c.read_inputs.new.config) (g.P.Inlet.has_failed c.read_inputs.new.packets)) (AskFor config packets) (replayed calls rows)
     (g.O.Outlet.contents c.args.out.now) (g.O.Outlet.contents c.finish.new.out) (g.O.Outlet.has_failed c.finish.new.out) fault
     c.in_ok-rows.ensures.inputs (asks config packets calls rows reads read) (rw c.as_slice.ensures.value at (unwritten calls made))) c.finish.ensures.err

@@ -5,8 +5,12 @@ use Rattle.dn_replay.proofs.one_caller.replay.replay_joined.Goals as goal
 
 pub returns-clause-lawful : goal.returns-clause-lawful
 returns-clause-lawful g c =
-    IfOk-weaker c.replay_joined_by-history.result _ _ (λ entries replay. lawful_replay (AsksFor (g.I.Inlet.remaining c.args.input.now)) entries.items (g.O.Outlet.contents c.args.out.now) (g.O.Outlet.contents c.replay_joined_by-history.new.out) replay) c.replay_joined_by-history.ensures.ok
+    IfOk-weaker c.replay_joined_by-history.result _ _
+    (λ entries replay. lawful_replay (AsksFor (g.I.Inlet.remaining c.args.input.now)) entries.items (g.O.Outlet.contents c.args.out.now)
+    (g.O.Outlet.contents c.replay_joined_by-history.new.out) replay) c.replay_joined_by-history.ensures.ok
 
 pub returns-clause-callers : goal.returns-clause-callers
 returns-clause-callers g c =
-    IfOk-weaker c.replay_joined_by-history.result _ _ (λ entries replay. one_replays (AsksFor (g.I.Inlet.remaining c.args.input.now)) entries.items (g.O.Outlet.contents c.args.out.now) (g.O.Outlet.contents c.replay_joined_by-history.new.out) replay) c.replay_joined_by-history.ensures.ok
+    IfOk-weaker c.replay_joined_by-history.result _ _
+    (λ entries replay. one_replays (AsksFor (g.I.Inlet.remaining c.args.input.now)) entries.items (g.O.Outlet.contents c.args.out.now)
+    (g.O.Outlet.contents c.replay_joined_by-history.new.out) replay) c.replay_joined_by-history.ensures.ok

@@ -18,6 +18,7 @@ returns-clause-ok g c =
 pub returns-clause-err : goal.returns-clause-err
 returns-clause-err g c =
     let (calls, asked, made) = c.in_ok-rows.ensures.ok in
-    IfErr-weaker c.finish.result _ _ (λ fault unwritten. unreported (InputFailed (g.I.Inlet.has_failed c.read_joined.new.input)) (AsksFor (g.I.Inlet.remaining c.args.input.now)) (replayed calls c.in_ok-rows.rows.items)
+    IfErr-weaker c.finish.result _ _ (λ fault unwritten. unreported (InputFailed (g.I.Inlet.has_failed c.read_joined.new.input)) (AsksFor (g.I.Inlet.remaining c.args.input.now))
+    (replayed calls c.in_ok-rows.rows.items)
     (g.O.Outlet.contents c.args.out.now) (g.O.Outlet.contents c.finish.new.out) (g.O.Outlet.has_failed c.finish.new.out) fault
     c.in_ok-rows.ensures.inputs asked (rw c.as_slice.ensures.value at (unwritten calls made))) c.finish.ensures.err
