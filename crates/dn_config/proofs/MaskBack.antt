@@ -9,8 +9,8 @@ use Rattle.dn_config.specs.Settings.{set_option}
 use Rattle.dn_config.specs.Commands.{IsMask}
 use Rattle.dn_config.specs.Reading.{read_options, read_fields}
 use Rattle.dn_config.specs.Text.{zero_padded, field_words, fields_words, mask_words}
-use Rattle.dn_config.specs.declared.mask_field.Field.{Field}
-use Rattle.dn_config.specs.declared.mask_field.Field.TheVariants as f
+use Rattle.dn_config.specs.declared.mask_field.MaskField.{MaskField}
+use Rattle.dn_config.specs.declared.mask_field.MaskField.TheVariants as f
 use Rattle.dn_config.specs.declared.kind.Kind.{Kind}
 use Rattle.dn_config.specs.declared.mask_field.MaskWord.TheVariants as m
 use Rattle.dn_config.specs.declared.options.Options.{Options}
@@ -30,7 +30,7 @@ fields_append a b c xs ys g h at rest =
     let second = h first.0 rest in
     (second.0, ap (read_fields a at) (append_assoc xs ys rest) ∙ first.1 ∙ second.1)
 
-gives_set : (before : Mask) (name : List ℕ) (field : Field) (k n : ℕ) → field_of name ≡ Some (m.Valued field) → n ≤ greatest_of field → n < 16 ^ suc k
+gives_set : (before : Mask) (name : List ℕ) (field : MaskField) (k n : ℕ) → field_of name ≡ Some (m.Valued field) → n ≤ greatest_of field → n < 16 ^ suc k
     → FieldsGive before (name ∷ (codes "0x" ++ zero_padded 16 (suc k) n) ∷ []) (set_field before (m.Valued field) n)
 gives_set before name field k n e l b at rest = (
   at + 2,
@@ -42,7 +42,7 @@ gives_unless before after ws true same g = λ at rest. (at, ap (λ (x : Mask). r
 gives_unless before after ws false same g = g
 
 -- a field, where it isn't 0
-gives_field : (before : Mask) (name : List ℕ) (field : Field) (k n : ℕ) → field_of name ≡ Some (m.Valued field) → n ≤ greatest_of field → n < 16 ^ suc k
+gives_field : (before : Mask) (name : List ℕ) (field : MaskField) (k n : ℕ) → field_of name ≡ Some (m.Valued field) → n ≤ greatest_of field → n < 16 ^ suc k
     → before ≡ set_field before (m.Valued field) 0 → FieldsGive before (field_words name (suc k) n) (set_field before (m.Valued field) n)
 gives_field before name field k n e l b same =
     gives_unless before (set_field before (m.Valued field) n) (name ∷ (codes "0x" ++ zero_padded 16 (suc k) n) ∷ []) (n == 0)
@@ -102,7 +102,7 @@ begins_append : (xs ys : List (List ℕ)) → begins_mask xs ≡ true → begins
 begins_append [] ys h e = e
 begins_append (x ∷ xs) ys h e = h
 
-begins_field : (name : List ℕ) (field : Field) (width n : ℕ) → field_of name ≡ Some (m.Valued field) → begins_mask (field_words name width n) ≡ true
+begins_field : (name : List ℕ) (field : MaskField) (width n : ℕ) → field_of name ≡ Some (m.Valued field) → begins_mask (field_words name width n) ≡ true
 begins_field name field width n e = by_test (n == 0)
   where
     by_test : (b : Bool) → begins_mask (cond b [] (name ∷ (codes "0x" ++ zero_padded 16 width n) ∷ [])) ≡ true

@@ -11,7 +11,7 @@ use Rattle.dn_config.specs.declared.fault.LineFault.{LineFault}
 use Rattle.dn_config.specs.declared.fault.LineFault.TheVariants.{MissingValue, LeftOut}
 use Rattle.dn_config.specs.declared.mask_field.MaskWord.{MaskWord}
 use Rattle.dn_config.specs.declared.mask_field.MaskWord.TheVariants as m
-use Rattle.dn_config.specs.declared.mask_field.Field.{Field}
+use Rattle.dn_config.specs.declared.mask_field.MaskField.{MaskField}
 
 -- where no word is left
 pub fields_nil : (mask : Mask) (at : ℕ) → read_fields mask at [] ≡ Ok (mask, (at, []))
@@ -53,24 +53,24 @@ all_step mask at w (v ∷ ws) e = rw e (all_more (mask_len_after 0 (v ∷ ws)) r
     all_more zero h = rw e (ap (λ n. Ok (all_bits, (n, v ∷ ws))) (omega arith))
     all_more (suc n) h = rw e (goes_on mask m.All 0 (fields_at (at + 1) (v ∷ take n ws)) _ _ (ap (λ k. (k, drop n ws)) (omega arith)))
 
-valued_end : (mask : Mask) (at : ℕ) (w : List ℕ) (f : Field) → field_of w ≡ Some (m.Valued f)
+valued_end : (mask : Mask) (at : ℕ) (w : List ℕ) (f : MaskField) → field_of w ≡ Some (m.Valued f)
     → read_fields mask at (w ∷ []) ≡ Err (MissingValue at)
 unfolding read_fields mask_len
 valued_end mask at w f e = rw (e, e) refl
 
-valued_bind : (mask : Mask) (f : Field) (b : Result ℕ LineFault) (r : Result (List (MaskWord × ℕ)) LineFault) (x y : ℕ × List (List ℕ)) → x ≡ y
+valued_bind : (mask : Mask) (f : MaskField) (b : Result ℕ LineFault) (r : Result (List (MaskWord × ℕ)) LineFault) (x y : ℕ × List (List ℕ)) → x ≡ y
     → ◌>>=◌ {B = Mask × (ℕ × List (List ℕ))} (b >>= λ n. ◌>>=◌ {B = List (MaskWord × ℕ)} r (λ more. Ok ((m.Valued f, n) ∷ more))) (λ fs. Ok (with_fields mask fs, x))
     ≡ ◌>>=◌ {B = Mask × (ℕ × List (List ℕ))} b (λ n. ◌>>=◌ {B = Mask × (ℕ × List (List ℕ))} r (λ fs. Ok (with_fields (set_field mask (m.Valued f) n) fs, y)))
 valued_bind mask f (Ok n) r x y h = goes_on mask (m.Valued f) n r x y h
 valued_bind mask f (Err e) r x y h = refl
 
-valued_step : (mask : Mask) (at : ℕ) (w : List ℕ) (f : Field) (v : List ℕ) (ws : List (List ℕ)) → field_of w ≡ Some (m.Valued f)
+valued_step : (mask : Mask) (at : ℕ) (w : List ℕ) (f : MaskField) (v : List ℕ) (ws : List (List ℕ)) → field_of w ≡ Some (m.Valued f)
     → read_fields mask at (w ∷ v ∷ ws) ≡ (bits_at (at + 1) (greatest_of f) v >>= λ n. read_fields (set_field mask (m.Valued f) n) (at + 2) ws)
 unfolding read_fields mask_len
 valued_step mask at w f v ws e = rw (e, e)
     (valued_bind mask f (bits_at (at + 1) (greatest_of f) v) (fields_at (at + 2) (take (mask_len_after 0 ws) ws)) _ _ (ap (λ k. (k, drop (mask_len_after 0 ws) ws)) (omega arith)))
 
-then_fields : (mask : Mask) (at : ℕ) (f : Field) (b : Result ℕ LineFault) (ws : List (List ℕ))
+then_fields : (mask : Mask) (at : ℕ) (f : MaskField) (b : Result ℕ LineFault) (ws : List (List ℕ))
     → (b >>= λ n. read_fields (set_field mask (m.Valued f) n) (at + 2) ws)
     ≡ ◌>>=◌ {B = Mask × (ℕ × List (List ℕ))} (◌>>=◌ {B = Mask × (ℕ × List (List ℕ))} b (λ n. Ok (set_field mask (m.Valued f) n, (at + 2, ws)))) (λ x. read_fields x.0 x.1.0 x.1.1)
 then_fields mask at f (Ok n) ws = refl

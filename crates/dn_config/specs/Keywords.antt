@@ -5,7 +5,7 @@ use Rattle.dn_config.specs.declared.option_group.OptionWord.TheVariants as o
 use Rattle.dn_config.specs.declared.option_group.Parameter.TheVariants as p
 use Rattle.dn_config.specs.declared.mask_field.MaskWord.{MaskWord}
 use Rattle.dn_config.specs.declared.mask_field.MaskWord.TheVariants as m
-use Rattle.dn_config.specs.declared.mask_field.Field.TheVariants as f
+use Rattle.dn_config.specs.declared.mask_field.MaskField.TheVariants as f
 
 -- What a table gives a word.
 abbrev pub at_word : {X : Type 0} → List (List ℕ × X) → List ℕ → Option X

@@ -1,13 +1,13 @@
 -- Masks and the fields that set them.
 use Rattle.std.specs.Prelude.{ℕ, ◌-◌, ◌^◌, ◌==◌, ◌&&◌, Bool, List, [], ◌∷◌}
 use Rattle.dn_types.specs.declared.mask.Mask.{Mask}
-use Rattle.dn_config.specs.declared.mask_field.Field.{Field}
-use Rattle.dn_config.specs.declared.mask_field.Field.TheVariants as f
+use Rattle.dn_config.specs.declared.mask_field.MaskField.{MaskField}
+use Rattle.dn_config.specs.declared.mask_field.MaskField.TheVariants as f
 use Rattle.dn_config.specs.declared.mask_field.MaskWord.{MaskWord}
 use Rattle.dn_config.specs.declared.mask_field.MaskWord.TheVariants as m
 
 -- The greatest value of a mask field.
-abbrev pub greatest_of : Field → ℕ
+abbrev pub greatest_of : MaskField → ℕ
 greatest_of f.DstIp = 2 ^ 32 - 1
 greatest_of f.SrcIp = 2 ^ 32 - 1
 greatest_of f.DstPort = 65535

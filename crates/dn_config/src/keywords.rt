@@ -2,7 +2,7 @@ ghost use Rattle.std.specs.Prelude.{◌≡◌, bytes_eq};
 ghost use Rattle.dn_config.specs.Keywords.{option_of, field_of, is_left_out_word, is_query};
 ghost use Rattle.dn_config.specs.Values.{lower};
 
-use crate::mask_field::{Field, MaskWord};
+use crate::mask_field::{MaskField, MaskWord};
 use crate::option_group::{OptionWord, Parameter};
 
 /// Is the word this keyword?
@@ -51,15 +51,15 @@ pub fn field_named(word: &[u8]) -> Option<MaskWord>
     ensures { result ≡ field_of word.now }
 {
     if is(word, "dst-ip") {
-        Some(MaskWord::Valued(Field::DstIp))
+        Some(MaskWord::Valued(MaskField::DstIp))
     } else if is(word, "src-ip") {
-        Some(MaskWord::Valued(Field::SrcIp))
+        Some(MaskWord::Valued(MaskField::SrcIp))
     } else if is(word, "dst-port") {
-        Some(MaskWord::Valued(Field::DstPort))
+        Some(MaskWord::Valued(MaskField::DstPort))
     } else if is(word, "src-port") {
-        Some(MaskWord::Valued(Field::SrcPort))
+        Some(MaskWord::Valued(MaskField::SrcPort))
     } else if is(word, "proto") {
-        Some(MaskWord::Valued(Field::Proto))
+        Some(MaskWord::Valued(MaskField::Proto))
     } else if is(word, "all") {
         Some(MaskWord::All)
     } else {

@@ -6,7 +6,7 @@ ghost use Rattle.dn_config.specs.declared.mask_field.MaskWord.TheVariants.{Value
 
 use crate::fault::LineFault;
 use crate::keywords::{field_named, is_left_out};
-use crate::mask_field::{Field, MaskWord, bits_value};
+use crate::mask_field::{MaskField, MaskWord, bits_value};
 use dn_text::Words;
 use dn_types::Mask;
 
@@ -29,22 +29,22 @@ pub const ALL_BITS: Mask = Mask {
 };
 
 /// The mask with one field set, in place of what the field had.
-pub fn with_field(mask: Mask, field: Field, bits: u32) -> Mask
+pub fn with_field(mask: Mask, field: MaskField, bits: u32) -> Mask
     requires { bits ≤ greatest_of field }
     ensures { result ≡ set_field mask (Valued field) bits }
 {
     match field {
-        Field::DstIp => Mask { dst: bits, ..mask },
-        Field::SrcIp => Mask { src: bits, ..mask },
-        Field::DstPort => Mask {
+        MaskField::DstIp => Mask { dst: bits, ..mask },
+        MaskField::SrcIp => Mask { src: bits, ..mask },
+        MaskField::DstPort => Mask {
             dport: bits as u16,
             ..mask
         },
-        Field::SrcPort => Mask {
+        MaskField::SrcPort => Mask {
             sport: bits as u16,
             ..mask
         },
-        Field::Proto => Mask {
+        MaskField::Proto => Mask {
             proto: bits as u8,
             ..mask
         },

@@ -9,7 +9,7 @@ use dn_text::{NumberFault, read_number, read_numeral};
 
 /// A field of a mask.
 #[derive(Clone, Copy, Debug, PartialEq, Eq)]
-pub enum Field {
+pub enum MaskField {
     DstIp,
     SrcIp,
     DstPort,
@@ -17,15 +17,15 @@ pub enum Field {
     Proto,
 }
 
-impl Field {
+impl MaskField {
     /// The value of the field with all bits set.
     pub fn greatest(self) -> u32
         ensures { result ≡ greatest_of self }
     {
         match self {
-            Field::DstIp | Field::SrcIp => 0xffff_ffff,
-            Field::DstPort | Field::SrcPort => 0xffff,
-            Field::Proto => 0xff,
+            MaskField::DstIp | MaskField::SrcIp => 0xffff_ffff,
+            MaskField::DstPort | MaskField::SrcPort => 0xffff,
+            MaskField::Proto => 0xff,
         }
     }
 }
@@ -33,7 +33,7 @@ impl Field {
 /// A word of a mask.
 #[derive(Clone, Copy, Debug, PartialEq, Eq)]
 pub enum MaskWord {
-    Valued(Field),
+    Valued(MaskField),
     All,
 }
 
