@@ -12,7 +12,6 @@ mod make;
 mod next_start;
 mod parts;
 mod prepare;
-mod read_ahead;
 mod reserve;
 mod runs;
 mod settle;

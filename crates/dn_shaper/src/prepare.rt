@@ -8,7 +8,6 @@ ghost use Rattle.dn_shaper.specs.Starting.{IsReady};
 ghost use Rattle.dn_shaper.specs.Submitting.{GoesTo};
 
 use crate::make::house_last;
-use crate::read_ahead::ReadAhead;
 use crate::reserve::reserve_known;
 use crate::state::State;
 use dn_types::FlowKey;
@@ -16,12 +15,7 @@ use std::alloc::{AllocError, Global};
 
 /// The number of the flow with the key, which is made where no flow has it, with room for one more
 /// packet. A flow that was made for a packet that then finds no memory is taken out again.
-pub fn prepare(
-    state: &mut State,
-    ahead: &mut ReadAhead,
-    alloc: Global,
-    key: FlowKey,
-) -> Result<usize, AllocError>
+pub fn prepare(state: &mut State, alloc: Global, key: FlowKey) -> Result<usize, AllocError>
     requires sound { IsSound state.old }
     requires few { state.old.calls < 2 ^ 62 }
     requires seen { (trace : List Event) × AgreesWith state.old.parts [] trace }
@@ -38,7 +32,6 @@ pub fn prepare(
     let known = state.parts.flows.len();
     let flow = state.parts.flows.find_or_make(key)?;
     if flow < known {
-        ahead.read(&state.parts, &state.heap, flow);
         reserve_known(&mut state.parts, flow, &key.target)?;
     } else {
         house_last(state, alloc, &key, flow)?;

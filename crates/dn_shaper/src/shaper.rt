@@ -10,7 +10,6 @@ ghost use Rattle.dn_types.specs.declared.rule.Rule.TheVariants.{Ordered};
 ghost use Rattle.dn_shaper.specs.Shaper.{CanNeedMemory, StandsAfter, held, items_in};
 
 use crate::configure::configure;
-use crate::read_ahead::ReadAhead;
 use crate::show::show;
 use crate::state::{State, new_state};
 use crate::submitted::submit_call;
@@ -31,8 +30,6 @@ pub struct Shaper {
     state: State,
     /// What a Collect gathers its deliveries in, whose memory serves the next one.
     given: Vec<Delivery>,
-    /// What the last Submit read ahead.
-    ahead: ReadAhead,
     alloc: Global,
 }
 
@@ -66,7 +63,6 @@ impl Shaper {
         Shaper {
             state: new_state(alloc, rule),
             given: Vec::new(alloc),
-            ahead: ReadAhead::new(),
             alloc,
         }
     }
@@ -90,14 +86,7 @@ impl Shaper {
                 target,
                 packet,
                 moment,
-            } => submit_call(
-                &mut self.state,
-                &mut self.ahead,
-                self.alloc,
-                *target,
-                packet,
-                *moment,
-            ),
+            } => submit_call(&mut self.state, self.alloc, *target, packet, *moment),
             Call::Advance(moment) => Ok(advance(&mut self.state, *moment)),
             Call::Collect(moment) => {
                 collect(&mut self.state, &mut self.given, self.alloc, *moment)

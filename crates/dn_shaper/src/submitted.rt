@@ -10,7 +10,6 @@ ghost use Rattle.dn_shaper.specs.Settings.{settings_of};
 ghost use Rattle.dn_shaper.specs.Standing.{Does, IsSound, StandsAt, StillStands};
 
 use crate::prepare::prepare;
-use crate::read_ahead::ReadAhead;
 use crate::settle::settle;
 use crate::state::State;
 use crate::submit::submit;
@@ -22,7 +21,6 @@ use std::alloc::{AllocError, Global};
 /// change.
 fn send_packet(
     state: &mut State,
-    ahead: &mut ReadAhead,
     alloc: Global,
     target: &Target,
     packet: &Packet,
@@ -45,7 +43,7 @@ fn send_packet(
             Ok(Reply::NoTarget { at })
         }
         Some(how) => {
-            let flow = prepare(state, ahead, alloc, how.key(packet))?;
+            let flow = prepare(state, alloc, how.key(packet))?;
             let reply = submit(
                 &mut state.parts,
                 &mut state.heap,
@@ -64,7 +62,6 @@ fn send_packet(
 /// its flow where that is new, before any change.
 pub fn submit_call(
     state: &mut State,
-    ahead: &mut ReadAhead,
     alloc: Global,
     target: Target,
     packet: &Packet,
@@ -79,7 +76,7 @@ pub fn submit_call(
     ensures only_treated { OnErr result (is_some (treatment (settings_of state.old.configured target)) ≡ true) }
 {
     let at = state.now.max(moment.get());
-    let reply = send_packet(state, ahead, alloc, &target, packet, at)?;
+    let reply = send_packet(state, alloc, &target, packet, at)?;
     state.now = at;
     state.calls += 1;
     Ok(reply)
