@@ -13,15 +13,15 @@ use Rattle.dn_types.specs.Starts.{next_start, start_at}
 use Rattle.dn_types.specs.Trace.{Link, Event, arrived, started, links, with_link, pipe_of}
 use Rattle.dn_types.specs.declared.limit.Limit.TheVariants.{Slots}
 use Rattle.dn_types.specs.declared.packet.Packet.{Packet}
-use Rattle.dn_shaper.specs.declared.next_start.NextStart.{NextStart}
-use Rattle.dn_shaper.specs.declared.parts.Home.{Home}
-use Rattle.dn_shaper.specs.declared.parts.Parts.{Parts}
-use Rattle.dn_shaper.specs.Agreement.{AgreesWith, Agrees, GivesRates, link_names}
-use Rattle.dn_shaper.specs.Arriving.{ArrivesAt, Accepts, CanAccept, KeepsFlows}
-use Rattle.dn_shaper.specs.NextStarts.{Holds, one_backlogged, backlogged}
-use Rattle.dn_shaper.specs.Settling.{IsKept}
-use Rattle.dn_shaper.specs.Starting.{Within, IsReady, CanStart, StartsAt}
-use Rattle.dn_shaper.specs.Views.{LinkView, views_of, home, next_starts, next_start_of}
+use Rattle.dn_shaper.specs.declared.links.next_start.NextStart.{NextStart}
+use Rattle.dn_shaper.specs.declared.links.home.Home.{Home}
+use Rattle.dn_shaper.specs.declared.links.parts.Parts.{Parts}
+use Rattle.dn_shaper.specs.Refinement.Agreement.{AgreesWith, Agrees, GivesRates, link_names}
+use Rattle.dn_shaper.specs.Refinement.Arriving.{ArrivesAt, Accepts, CanAccept, KeepsFlows}
+use Rattle.dn_shaper.specs.Refinement.NextStarts.{Holds, one_backlogged, backlogged}
+use Rattle.dn_shaper.specs.Refinement.Settling.{IsKept}
+use Rattle.dn_shaper.specs.Refinement.Starting.{Within, IsReady, CanStart, StartsAt}
+use Rattle.dn_shaper.specs.Refinement.Views.{LinkView, views_of, home, next_starts, next_start_of}
 use Rattle.dn_shaper.proofs.Arriving.{set-self, set-set, link-home, arrives-agree, next-alone, starts-at-once, arrives-nexts, arrives-names, arrives-within}
 use Rattle.dn_shaper.proofs.Events.{length-set}
 use Rattle.dn_flows.proofs.Places.{get-set, sum-set, get-map, map-set-same, get-below}

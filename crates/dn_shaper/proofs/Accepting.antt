@@ -9,15 +9,15 @@ use Rattle.std.proofs.lemmas.List.Sums.{sum_by-cons}
 use Rattle.dn_heap.specs.Heap.{Heap}
 use Rattle.dn_types.specs.Configuration.{Settings}
 use Rattle.dn_types.specs.Trace.{Link, own, shared}
-use Rattle.dn_shaper.specs.declared.next_start.NextStart.{NextStart}
-use Rattle.dn_shaper.specs.declared.parts.Home.{Home}
-use Rattle.dn_shaper.specs.declared.parts.Parts.{Parts}
-use Rattle.dn_shaper.specs.Agreement.{IsHomeOf}
-use Rattle.dn_shaper.specs.Arriving.{CanJoin, CanAccept}
-use Rattle.dn_shaper.specs.NextStarts.{next_at, standing, Holds, one_backlogged, backlogged}
-use Rattle.dn_shaper.specs.Settling.{IsKept}
-use Rattle.dn_shaper.specs.Starting.{Within, IsReady}
-use Rattle.dn_shaper.specs.Views.{LinkView, IsAlone, views_of, home, next_start_of}
+use Rattle.dn_shaper.specs.declared.links.next_start.NextStart.{NextStart}
+use Rattle.dn_shaper.specs.declared.links.home.Home.{Home}
+use Rattle.dn_shaper.specs.declared.links.parts.Parts.{Parts}
+use Rattle.dn_shaper.specs.Refinement.Agreement.{IsHomeOf}
+use Rattle.dn_shaper.specs.Refinement.Arriving.{CanJoin, CanAccept}
+use Rattle.dn_shaper.specs.Refinement.NextStarts.{next_at, standing, Holds, one_backlogged, backlogged}
+use Rattle.dn_shaper.specs.Refinement.Settling.{IsKept}
+use Rattle.dn_shaper.specs.Refinement.Starting.{Within, IsReady}
+use Rattle.dn_shaper.specs.Refinement.Views.{LinkView, IsAlone, views_of, home, next_start_of}
 use Rattle.dn_shaper.proofs.Alone.{is-alone}
 use Rattle.dn_shaper.proofs.NextStarts.{same_place, other_place, pushed, none_standing}
 

@@ -12,15 +12,15 @@ use Rattle.dn_flows.specs.Table.{FlowState, flow_at, pushed}
 use Rattle.dn_flows.specs.declared.waiting.Waiting.{Waiting}
 use Rattle.dn_flows.proofs.Places.{eq-no, eq-yes, get-map, length-more, map-set-but}
 use Rattle.dn_flows.proofs.Views.{flow_after_set}
-use Rattle.dn_shaper.specs.declared.parts.Carries.{Carries}
-use Rattle.dn_shaper.specs.declared.parts.Carries.TheVariants.{Own, Shared}
-use Rattle.dn_shaper.specs.declared.parts.LinkParts.{LinkParts}
-use Rattle.dn_shaper.specs.declared.parts.Parts.{Parts}
-use Rattle.dn_shaper.specs.Agreement.{AgreesWith}
-use Rattle.dn_shaper.specs.Arriving.{HasOneMore}
-use Rattle.dn_shaper.specs.Discarding.{HoldsCount, LosesCount}
-use Rattle.dn_shaper.specs.Submitting.{GoesTo}
-use Rattle.dn_shaper.specs.Views.{LinkView, IsAlone, carried_link, carried_slots, carried_waits, home, home_by, queue_lengths, view_of, views_of}
+use Rattle.dn_shaper.specs.declared.links.link_parts.Carries.{Carries}
+use Rattle.dn_shaper.specs.declared.links.link_parts.Carries.TheVariants.{Own, Shared}
+use Rattle.dn_shaper.specs.declared.links.link_parts.LinkParts.{LinkParts}
+use Rattle.dn_shaper.specs.declared.links.parts.Parts.{Parts}
+use Rattle.dn_shaper.specs.Refinement.Agreement.{AgreesWith}
+use Rattle.dn_shaper.specs.Refinement.Arriving.{HasOneMore}
+use Rattle.dn_shaper.specs.Refinement.Discarding.{HoldsCount, LosesCount}
+use Rattle.dn_shaper.specs.Refinement.Submitting.{GoesTo}
+use Rattle.dn_shaper.specs.Refinement.Views.{LinkView, IsAlone, carried_link, carried_slots, carried_waits, home, home_by, queue_lengths, view_of, views_of}
 
 -- ---- A flow's own link is at one place
 

@@ -12,9 +12,9 @@ use Rattle.dn_types.specs.declared.rule.Rule.{Rule}
 use Rattle.dn_flows.specs.Table.{FlowState, flow_at, pushed}
 use Rattle.dn_flows.specs.declared.waiting.Waiting.{Waiting}
 use Rattle.dn_flows.proofs.Views.{flow_after_set}
-use Rattle.dn_shaper.specs.declared.parts.Home.{Home}
-use Rattle.dn_shaper.specs.Views.{LinkView, home, waiting_of, stamped_of, at_slot}
-use Rattle.dn_shaper.specs.Agreement.{AreDistinct, IsAt, IsLinkAt, IsFlowAt, IsScheduleAt, IsSlotAt, link_names}
+use Rattle.dn_shaper.specs.declared.links.home.Home.{Home}
+use Rattle.dn_shaper.specs.Refinement.Views.{LinkView, home, waiting_of, stamped_of, at_slot}
+use Rattle.dn_shaper.specs.Refinement.Agreement.{AreDistinct, IsAt, IsLinkAt, IsFlowAt, IsScheduleAt, IsSlotAt, link_names}
 use Rattle.dn_shaper.proofs.Events.{uncounted, counted-once, read-set, append-none, length-set}
 use Rattle.dn_flows.proofs.Places.{eq-no, eq-yes, get-set, get-set-other, map-set-same, get-below}
 use Rattle.dn_types.proofs.Settled.{link_eq-refl}
@@ -22,7 +22,7 @@ use Rattle.dn_shaper.proofs.Unseen.{not_with}
 use Rattle.dn_types.proofs.Settling.{and-no}
 use Rattle.dn_wf2q.specs.Schedule.{Flow, flow_at as slot_at, no_packets, joined_by}
 use Rattle.std.proofs.lemmas.List.{map-append}
-use Rattle.dn_shaper.specs.Slots.{Ascends, top}
+use Rattle.dn_shaper.specs.Refinement.Slots.{Ascends, top}
 use Rattle.dn_shaper.proofs.Homes.{home-after, slots-apart, slots_home-after}
 use Rattle.dn_shaper.proofs.Next.{distinct_views}
 use Rattle.dn_shaper.proofs.Waiting.{waiting-arrived, waiting-other}

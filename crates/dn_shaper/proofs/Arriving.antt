@@ -18,12 +18,12 @@ use Rattle.dn_flows.specs.Table.{FlowState, flow_at, pushed}
 use Rattle.dn_flows.specs.declared.waiting.Waiting.{Waiting}
 use Rattle.dn_flows.proofs.Views.{flow_after_set}
 use Rattle.dn_wf2q.specs.Schedule.{Flow, Schedule, flow_at as slot_at, waiting_of as waiting_in, joined_by, stamped}
-use Rattle.dn_shaper.specs.declared.parts.Home.{Home}
-use Rattle.dn_shaper.specs.declared.parts.Parts.{Parts}
-use Rattle.dn_shaper.specs.Agreement.{AgreesWith, IsAt, IsHomeOf, link_names}
-use Rattle.dn_shaper.specs.Arriving.{begun_flows, begun_time, Arrives, ArrivesOn, ArrivesAt}
-use Rattle.dn_shaper.specs.Starting.{IsFlowWithin, Within}
-use Rattle.dn_shaper.specs.Views.{LinkView, views_of, home, waiting_of, stamped_of, at_slot, next_starts, next_start_of}
+use Rattle.dn_shaper.specs.declared.links.home.Home.{Home}
+use Rattle.dn_shaper.specs.declared.links.parts.Parts.{Parts}
+use Rattle.dn_shaper.specs.Refinement.Agreement.{AgreesWith, IsAt, IsHomeOf, link_names}
+use Rattle.dn_shaper.specs.Refinement.Arriving.{begun_flows, begun_time, Arrives, ArrivesOn, ArrivesAt}
+use Rattle.dn_shaper.specs.Refinement.Starting.{IsFlowWithin, Within}
+use Rattle.dn_shaper.specs.Refinement.Views.{LinkView, views_of, home, waiting_of, stamped_of, at_slot, next_starts, next_start_of}
 use Rattle.dn_shaper.proofs.Arrived.{arrived-agrees}
 use Rattle.dn_shaper.proofs.Next.{home-here, next_exists}
 use Rattle.dn_shaper.proofs.Opened.{opened-agrees}
@@ -31,7 +31,7 @@ use Rattle.dn_flows.proofs.Places.{eq-yes, get-set, get-set-other, map-set, map-
 use Rattle.dn_types.proofs.Settling.{next_packet-first}
 use Rattle.dn_shaper.proofs.Waiting.{empty-all}
 use Rattle.std.proofs.lemmas.Bool.{eqb-true}
-use Rattle.dn_shaper.specs.Views.{waits_in_all}
+use Rattle.dn_shaper.specs.Refinement.Views.{waits_in_all}
 
 pub set-set : {X : Type 0} (xs : List X) (k : ℕ) (x y : X) → set (set xs k x) k y ≡ set xs k y
 set-set [] k x y = refl

@@ -9,15 +9,16 @@ use Rattle.dn_types.specs.declared.flow_key.FlowKey.{FlowKey}
 use Rattle.dn_types.specs.declared.rule.Rule.{Rule}
 use Rattle.dn_types.specs.declared.target.Target.{Target}
 use Rattle.dn_flows.specs.Table.{FlowState, flow_at}
-use Rattle.dn_shaper.specs.declared.next_start.NextStart.{NextStart}
-use Rattle.dn_shaper.specs.declared.parts.Home.{Home}
+use Rattle.dn_shaper.specs.declared.links.next_start.NextStart.{NextStart}
+use Rattle.dn_shaper.specs.declared.links.home.Home.{Home}
 use Rattle.dn_shaper.specs.declared.state.State.{State}
-use Rattle.dn_shaper.specs.Agreement.{AgreesWith, IsAt, link_names}
-use Rattle.dn_shaper.specs.NextStarts.{Holds, next_at, backlogged}
-use Rattle.dn_shaper.specs.Settings.{settings_of}
-use Rattle.dn_shaper.specs.Standing.{StandsAt, IsIndexed, IsSound}
-use Rattle.dn_shaper.specs.Starting.{IsFlowWithin, Within}
-use Rattle.dn_shaper.specs.Views.{LinkView, queue_lengths, view_of, views_of, next_starts, waits_in_all}
+use Rattle.dn_shaper.specs.Refinement.Agreement.{AgreesWith, IsAt, link_names}
+use Rattle.dn_shaper.specs.Refinement.NextStarts.{Holds, next_at, backlogged}
+use Rattle.dn_shaper.specs.Refinement.Settings.{settings_of}
+use Rattle.dn_shaper.specs.Refinement.Sound.{IsIndexed, IsSound}
+use Rattle.dn_shaper.specs.Standing.{StandsAt}
+use Rattle.dn_shaper.specs.Refinement.Starting.{IsFlowWithin, Within}
+use Rattle.dn_shaper.specs.Refinement.Views.{LinkView, queue_lengths, view_of, views_of, next_starts, waits_in_all}
 
 nothing-agrees : (rule : Rule) → IsAt rule 0 [] [] [] [] [] [] []
 nothing-agrees rule = record {

@@ -5,14 +5,14 @@ use Rattle.dn_types.specs.Trace.{Link, own, shared, Event}
 use Rattle.dn_flows.specs.Table.{flow_at, pushed}
 use Rattle.dn_flows.specs.declared.waiting.Waiting.{Waiting}
 use Rattle.dn_flows.proofs.Places.{eq-no, get-map}
-use Rattle.dn_shaper.specs.declared.parts.Carries.{Carries}
-use Rattle.dn_shaper.specs.declared.parts.Carries.TheVariants.{Own, Shared}
-use Rattle.dn_shaper.specs.declared.parts.Home.{Home}
-use Rattle.dn_shaper.specs.declared.parts.LinkParts.{LinkParts}
-use Rattle.dn_shaper.specs.declared.parts.Parts.{Parts}
-use Rattle.dn_shaper.specs.Agreement.{AgreesWith, IsHomeOf}
-use Rattle.dn_shaper.specs.Arriving.{ArrivesAt, ArrivesOn, JoinsQueue}
-use Rattle.dn_shaper.specs.Views.{LinkView, carried_link, carried_waits, home, queue_lengths, view_of, views_of}
+use Rattle.dn_shaper.specs.declared.links.link_parts.Carries.{Carries}
+use Rattle.dn_shaper.specs.declared.links.link_parts.Carries.TheVariants.{Own, Shared}
+use Rattle.dn_shaper.specs.declared.links.home.Home.{Home}
+use Rattle.dn_shaper.specs.declared.links.link_parts.LinkParts.{LinkParts}
+use Rattle.dn_shaper.specs.declared.links.parts.Parts.{Parts}
+use Rattle.dn_shaper.specs.Refinement.Agreement.{AgreesWith, IsHomeOf}
+use Rattle.dn_shaper.specs.Refinement.Arriving.{ArrivesAt, ArrivesOn, JoinsQueue}
+use Rattle.dn_shaper.specs.Refinement.Views.{LinkView, carried_link, carried_waits, home, queue_lengths, view_of, views_of}
 use Rattle.dn_shaper.proofs.Alone.{is-alone, push-longer, set-seen}
 use Rattle.dn_shaper.proofs.Arriving.{set-self}
 

@@ -16,9 +16,9 @@ use Rattle.dn_types.specs.declared.target.Target.{Target}
 use Rattle.dn_types.specs.declared.target.Target.TheVariants.{Pipe as ToPipe, Queue as ToQueue}
 use Rattle.dn_types.specs.contracts.target.TargetPartialEq.TheImpl as impl
 use Rattle.dn_types.proofs.Settled.{true_or_false}
-use Rattle.dn_shaper.specs.Configuring.{Lists}
+use Rattle.dn_shaper.specs.Refinement.Configuring.{Lists}
 use Rattle.dn_flows.proofs.Places.{eq-no, eq-yes}
-use Rattle.dn_shaper.specs.QueueCounts.{names_pipe}
+use Rattle.dn_shaper.specs.Refinement.QueueCounts.{names_pipe}
 
 abbrev pub Entry : Type 0
 Entry = Target × Command

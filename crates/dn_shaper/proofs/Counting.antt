@@ -12,7 +12,9 @@ use Rattle.dn_types.specs.declared.reply.Reply.TheVariants.{Exhausted}
 use Rattle.dn_types.specs.declared.rule.Rule.{Rule}
 use Rattle.dn_shaper.specs.declared.state.State.{State}
 use Rattle.dn_shaper.specs.Shaper.{CanNeedMemory, StandsAfter}
-use Rattle.dn_shaper.specs.Standing.{Does, IsSound, StandsAt, StillStands}
+use Rattle.dn_shaper.specs.Refinement.Calls.{Does, StillStands}
+use Rattle.dn_shaper.specs.Refinement.Sound.{IsSound}
+use Rattle.dn_shaper.specs.Standing.{StandsAt}
 
 all-count : (calls : List Call) → length calls ≤ 2 ^ 62 → counted calls ≡ calls
 all-count calls le = let none : length calls - 2 ^ 62 ≡ 0 = omega arith in ap (λ n. drop n calls) none

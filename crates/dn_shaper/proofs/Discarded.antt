@@ -11,14 +11,14 @@ use Rattle.dn_types.specs.declared.rule.Rule.{Rule}
 use Rattle.dn_flows.specs.Table.{FlowState, flow_at, emptied}
 use Rattle.dn_flows.specs.declared.waiting.Waiting.{Waiting}
 use Rattle.dn_flows.proofs.Views.{flow_after_set}
-use Rattle.dn_shaper.specs.declared.parts.Home.{Home}
-use Rattle.dn_shaper.specs.Views.{LinkView, home, waiting_of, stamped_of, at_slot}
-use Rattle.dn_shaper.specs.Agreement.{AreDistinct, IsAt, IsLinkAt, IsFlowAt, IsScheduleAt, IsSlotAt, link_names}
+use Rattle.dn_shaper.specs.declared.links.home.Home.{Home}
+use Rattle.dn_shaper.specs.Refinement.Views.{LinkView, home, waiting_of, stamped_of, at_slot}
+use Rattle.dn_shaper.specs.Refinement.Agreement.{AreDistinct, IsAt, IsLinkAt, IsFlowAt, IsScheduleAt, IsSlotAt, link_names}
 use Rattle.dn_shaper.proofs.Events.{uncounted, length-set}
 use Rattle.dn_flows.proofs.Places.{eq-no, eq-yes, get-set, get-set-other, map-set-same, get-below}
 use Rattle.dn_types.proofs.Settled.{link_eq-refl}
 use Rattle.dn_wf2q.specs.Schedule.{Flow, flow_at as slot_at, no_packets, after_discard}
-use Rattle.dn_shaper.specs.Slots.{Ascends, top}
+use Rattle.dn_shaper.specs.Refinement.Slots.{Ascends, top}
 use Rattle.dn_shaper.proofs.Homes.{home-after, slots-apart, slots_home-after}
 use Rattle.dn_shaper.proofs.Next.{distinct_views}
 use Rattle.dn_shaper.proofs.Waiting.{waiting-discarded}

@@ -12,14 +12,14 @@ use Rattle.dn_flows.specs.Table.{FlowState, flow_at, emptied}
 use Rattle.dn_flows.specs.declared.waiting.Waiting.{Waiting}
 use Rattle.dn_flows.proofs.Views.{flow_after_set}
 use Rattle.dn_wf2q.specs.Schedule.{Schedule}
-use Rattle.dn_shaper.specs.declared.parts.Home.{Home}
-use Rattle.dn_shaper.specs.declared.parts.Parts.{Parts}
-use Rattle.dn_shaper.specs.Agreement.{Agrees, IsAt, IsHomeOf, link_names}
-use Rattle.dn_shaper.specs.Arriving.{KeepsFlows}
-use Rattle.dn_shaper.specs.Discarding.{DiscardsOn, DiscardsAt, Discards, HoldsCount, OnlyEmpties}
-use Rattle.dn_shaper.specs.NextStarts.{next_at}
-use Rattle.dn_shaper.specs.Starting.{IsFlowWithin, Within}
-use Rattle.dn_shaper.specs.Views.{LinkView, IsAlone, views_of, home, at_slot, next_starts, next_start_of, stamped_of, waits_in_all}
+use Rattle.dn_shaper.specs.declared.links.home.Home.{Home}
+use Rattle.dn_shaper.specs.declared.links.parts.Parts.{Parts}
+use Rattle.dn_shaper.specs.Refinement.Agreement.{Agrees, IsAt, IsHomeOf, link_names}
+use Rattle.dn_shaper.specs.Refinement.Arriving.{KeepsFlows}
+use Rattle.dn_shaper.specs.Refinement.Discarding.{DiscardsOn, DiscardsAt, Discards, HoldsCount, OnlyEmpties}
+use Rattle.dn_shaper.specs.Refinement.NextStarts.{next_at}
+use Rattle.dn_shaper.specs.Refinement.Starting.{IsFlowWithin, Within}
+use Rattle.dn_shaper.specs.Refinement.Views.{LinkView, IsAlone, views_of, home, at_slot, next_starts, next_start_of, stamped_of, waits_in_all}
 use Rattle.dn_shaper.proofs.Accepting.{next-some, next-none, next-listed}
 use Rattle.dn_shaper.proofs.Alone.{is-alone}
 use Rattle.dn_shaper.proofs.Discarded.{discarded-agrees, length-waiting}

@@ -3,7 +3,7 @@ use Rattle.std.proofs.Common.{◌≡◌, ◌∙◌, ◌⊎◌, ℕ, zero, suc, B
 use Rattle.std.specs.Prelude.{Some, slice_get}
 use Rattle.std.specs.List.{list_any}
 use Rattle.dn_types.specs.Trace.{Link, link_eq, Event, opened, arrived, started, lost, refused, discarded, collected, links, with_link}
-use Rattle.dn_shaper.specs.Agreement.{AreDistinct}
+use Rattle.dn_shaper.specs.Refinement.Agreement.{AreDistinct}
 use Rattle.dn_types.proofs.Settled.{link_eq-true, link_eq-refl, true_or_false}
 
 in_append : (ls : List Link) (m : Link) (i : ℕ) (l : Link) → slice_get (ls ++ m ∷ []) i ≡ Some l → (slice_get ls i ≡ Some l) ⊎ ((i ≡ length ls) × (l ≡ m))

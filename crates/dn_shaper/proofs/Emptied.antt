@@ -5,10 +5,10 @@ use Rattle.std.proofs.lemmas.Bool.{cases_Bool}
 use Rattle.std.proofs.lemmas.List.Elements.{All-filter, filter_passes}
 use Rattle.std.proofs.lemmas.List.Sorted.{All-permutation, IsPermutation-refl, sum_by-IsPermutation}
 use Rattle.std.proofs.lemmas.List.Sums.{sum_by-cons}
-use Rattle.dn_shaper.specs.declared.next_start.NextStart.{NextStart}
-use Rattle.dn_shaper.specs.NextStarts.{next_at, at_place, standing, is_backlogged, one_backlogged, backlogged, Holds}
-use Rattle.dn_shaper.specs.declared.parts.LinkParts.{LinkParts}
-use Rattle.dn_shaper.specs.Views.{next_starts, next_start_of, view_of}
+use Rattle.dn_shaper.specs.declared.links.next_start.NextStart.{NextStart}
+use Rattle.dn_shaper.specs.Refinement.NextStarts.{next_at, at_place, standing, is_backlogged, one_backlogged, backlogged, Holds}
+use Rattle.dn_shaper.specs.declared.links.link_parts.LinkParts.{LinkParts}
+use Rattle.dn_shaper.specs.Refinement.Views.{next_starts, next_start_of, view_of}
 use Rattle.dn_shaper.proofs.Accepting.{next-listed}
 use Rattle.dn_shaper.proofs.NextStarts.{other_place, popped_next, holds_none}
 use Rattle.dn_flows.proofs.Places.{get-map, sum-set}

@@ -9,8 +9,8 @@ use Rattle.dn_types.specs.Trace.{Link, Accepted, Event, started, Start, links}
 use Rattle.dn_types.specs.Links.{free}
 use Rattle.dn_types.specs.SharedLinks.{next_packet}
 use Rattle.dn_types.specs.Starts.{next_start, sooner, first_start, start_at, settle}
-use Rattle.dn_shaper.specs.declared.next_start.NextStart.{NextStart}
-use Rattle.dn_shaper.specs.NextStarts.{next_start_cmp, next_at, Holds}
+use Rattle.dn_shaper.specs.declared.links.next_start.NextStart.{NextStart}
+use Rattle.dn_shaper.specs.Refinement.NextStarts.{next_start_cmp, next_at, Holds}
 use Rattle.dn_shaper.proofs.NextStarts.{not_before, held_by, popped_next}
 
 -- The moment from which the link is free, where a packet waits for it.

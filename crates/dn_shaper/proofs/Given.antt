@@ -5,12 +5,12 @@ use Rattle.dn_types.specs.Trace.{Event}
 use Rattle.dn_types.specs.declared.flow_key.FlowKey.{FlowKey}
 use Rattle.dn_flows.specs.Table.{Table}
 use Rattle.dn_shaper.specs.declared.state.State.{State}
-use Rattle.dn_shaper.specs.Agreement.{AgreesWith}
-use Rattle.dn_shaper.specs.Homing.{GivesHome, Houses, place_for}
-use Rattle.dn_shaper.specs.Making.{Prepares}
-use Rattle.dn_shaper.specs.Standing.{IsSound}
-use Rattle.dn_shaper.specs.Starting.{IsReady}
-use Rattle.dn_shaper.specs.Views.{LinkView, queue_lengths, views_of}
+use Rattle.dn_shaper.specs.Refinement.Agreement.{AgreesWith}
+use Rattle.dn_shaper.specs.Refinement.Homing.{GivesHome, Houses, place_for}
+use Rattle.dn_shaper.specs.Refinement.Making.{Prepares}
+use Rattle.dn_shaper.specs.Refinement.Sound.{IsSound}
+use Rattle.dn_shaper.specs.Refinement.Starting.{IsReady}
+use Rattle.dn_shaper.specs.Refinement.Views.{LinkView, queue_lengths, views_of}
 use Rattle.dn_shaper.proofs.Alone.{all-seen-same}
 use Rattle.dn_shaper.proofs.Preparing.{IsOneMore, lengths-more, with_flows}
 use Rattle.dn_shaper.proofs.SharedHome.{shared-ready, shared-prepares, shared-sound}

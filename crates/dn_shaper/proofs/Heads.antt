@@ -9,10 +9,10 @@ use Rattle.dn_types.specs.Wf2q.{Stamped, heads, pick, raised, first_to_go, earli
 use Rattle.dn_types.specs.Trace.{Link, link_eq, Accepted, Event, backlog, flow_bound}
 use Rattle.dn_types.specs.SharedLinks.{virtual_time, link_heads}
 use Rattle.dn_wf2q.specs.Schedule.{Flow, Schedule, flow_at as slot_at, heads_of}
-use Rattle.dn_shaper.specs.Slots.{Ascends}
+use Rattle.dn_shaper.specs.Refinement.Slots.{Ascends}
 use Rattle.dn_shaper.proofs.Slots.{flow_from}
-use Rattle.dn_shaper.specs.Views.{stamped_of, at_slot}
-use Rattle.dn_shaper.specs.Agreement.{IsScheduleAt}
+use Rattle.dn_shaper.specs.Refinement.Views.{stamped_of, at_slot}
+use Rattle.dn_shaper.specs.Refinement.Agreement.{IsScheduleAt}
 use Rattle.dn_types.proofs.Settling.{backlog-own, backlog-above, and-right, IsOwn}
 use Rattle.dn_shaper.proofs.Slots.{flows-rise, flow-at, moved, heads-moved, heads-between, pick-moved, grown-moved, le-to}
 

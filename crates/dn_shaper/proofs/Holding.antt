@@ -25,10 +25,11 @@ use Rattle.dn_types.specs.declared.rule.Rule.{Rule}
 use Rattle.dn_types.specs.declared.target.Target.TheVariants.{Pipe as ToPipe, Queue as ToQueue}
 use Rattle.dn_types.proofs.Settled.{waiting_all-first}
 use Rattle.dn_shaper.specs.declared.state.State.{State}
-use Rattle.dn_shaper.specs.Agreement.{link_names}
+use Rattle.dn_shaper.specs.Refinement.Agreement.{link_names}
 use Rattle.dn_shaper.specs.Shaper.{held, items_in}
-use Rattle.dn_shaper.specs.Standing.{IsSound, StandsAt}
-use Rattle.dn_shaper.specs.Views.{LinkView, views_of, waits_in_all}
+use Rattle.dn_shaper.specs.Refinement.Sound.{IsSound}
+use Rattle.dn_shaper.specs.Standing.{StandsAt}
+use Rattle.dn_shaper.specs.Refinement.Views.{LinkView, views_of, waits_in_all}
 use Rattle.dn_shaper.proofs.Counting.{counts}
 use Rattle.dn_shaper.proofs.FirstStart.{settle-none, settle-some}
 use Rattle.dn_shaper.proofs.Starting.{length-in_order}

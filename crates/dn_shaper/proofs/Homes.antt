@@ -3,10 +3,10 @@ use Rattle.std.proofs.Common.{◌≡◌, ◌∙◌, ◌≤◌, ◌<◌, ◌⊎�
 use Rattle.std.specs.Prelude.{Some, slice_get}
 use Rattle.std.proofs.lemmas.Bool.{cases_eq, cases_lt}
 use Rattle.dn_types.specs.declared.flow_key.FlowKey.{FlowKey}
-use Rattle.dn_shaper.specs.declared.parts.Home.{Home}
-use Rattle.dn_shaper.specs.Slots.{Ascends}
-use Rattle.dn_shaper.specs.Views.{LinkView, home}
-use Rattle.dn_shaper.specs.Agreement.{IsHomeOf, AreSlotsAtHome}
+use Rattle.dn_shaper.specs.declared.links.home.Home.{Home}
+use Rattle.dn_shaper.specs.Refinement.Slots.{Ascends}
+use Rattle.dn_shaper.specs.Refinement.Views.{LinkView, home}
+use Rattle.dn_shaper.specs.Refinement.Agreement.{IsHomeOf, AreSlotsAtHome}
 use Rattle.dn_flows.proofs.Places.{get-set, get-set-other}
 use Rattle.dn_shaper.proofs.Slots.{flow-at, flows-rise}
 

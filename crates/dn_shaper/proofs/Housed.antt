@@ -9,16 +9,16 @@ use Rattle.dn_flows.specs.Table.{FlowState, Table, new_flow, flow_at, with_place
 use Rattle.dn_flows.specs.declared.waiting.Waiting.{Waiting}
 use Rattle.dn_flows.proofs.Views.{flow_after_set}
 use Rattle.dn_wf2q.specs.Schedule.{room_at}
-use Rattle.dn_shaper.specs.declared.next_start.NextStart.{NextStart}
-use Rattle.dn_shaper.specs.declared.parts.Home.{Home}
+use Rattle.dn_shaper.specs.declared.links.next_start.NextStart.{NextStart}
+use Rattle.dn_shaper.specs.declared.links.home.Home.{Home}
 use Rattle.dn_shaper.specs.declared.state.State.{State}
-use Rattle.dn_shaper.specs.Agreement.{AgreesWith, IsAt, link_names}
-use Rattle.dn_shaper.specs.NextStarts.{Holds, backlogged}
-use Rattle.dn_shaper.specs.Homing.{GivesHome}
-use Rattle.dn_shaper.specs.Making.{SameFlow}
-use Rattle.dn_shaper.specs.Standing.{IsIndexed, IsSound}
-use Rattle.dn_shaper.specs.Starting.{IsReady, Within}
-use Rattle.dn_shaper.specs.Views.{LinkView, views_of, next_starts, waits_in_all}
+use Rattle.dn_shaper.specs.Refinement.Agreement.{AgreesWith, IsAt, link_names}
+use Rattle.dn_shaper.specs.Refinement.NextStarts.{Holds, backlogged}
+use Rattle.dn_shaper.specs.Refinement.Homing.{GivesHome}
+use Rattle.dn_shaper.specs.Refinement.Making.{SameFlow}
+use Rattle.dn_shaper.specs.Refinement.Sound.{IsIndexed, IsSound}
+use Rattle.dn_shaper.specs.Refinement.Starting.{IsReady, Within}
+use Rattle.dn_shaper.specs.Refinement.Views.{LinkView, views_of, next_starts, waits_in_all}
 use Rattle.dn_shaper.proofs.Events.{length-set}
 use Rattle.dn_flows.proofs.Places.{eq-yes, get-last, length-more}
 use Rattle.dn_shaper.proofs.Preparing.{IsOneMore, flow-more, with_flows}

@@ -9,15 +9,15 @@ use Rattle.dn_types.specs.Calls.{link_of}
 use Rattle.dn_types.specs.Trace.{Link, own, shared, link_eq, links}
 use Rattle.dn_types.specs.declared.target.Target.{Target}
 use Rattle.dn_types.specs.declared.target.Target.TheVariants.{Pipe as ToPipe, Queue as ToQueue}
-use Rattle.dn_shaper.specs.declared.parts.Carries.{Carries}
-use Rattle.dn_shaper.specs.declared.parts.Carries.TheVariants.{Own, Shared}
-use Rattle.dn_shaper.specs.declared.parts.LinkParts.{LinkParts}
+use Rattle.dn_shaper.specs.declared.links.link_parts.Carries.{Carries}
+use Rattle.dn_shaper.specs.declared.links.link_parts.Carries.TheVariants.{Own, Shared}
+use Rattle.dn_shaper.specs.declared.links.link_parts.LinkParts.{LinkParts}
 use Rattle.dn_shaper.specs.declared.state.State.{State}
-use Rattle.dn_shaper.specs.Agreement.{link_names}
-use Rattle.dn_shaper.specs.Homing.{NotesFor, shared_only}
-use Rattle.dn_shaper.specs.Slots.{top}
-use Rattle.dn_shaper.specs.Standing.{IsIndexed}
-use Rattle.dn_shaper.specs.Views.{LinkView, carried_link, carried_slots, view_of}
+use Rattle.dn_shaper.specs.Refinement.Agreement.{link_names}
+use Rattle.dn_shaper.specs.Refinement.Homing.{NotesFor, shared_only}
+use Rattle.dn_shaper.specs.Refinement.Slots.{top}
+use Rattle.dn_shaper.specs.Refinement.Sound.{IsIndexed}
+use Rattle.dn_shaper.specs.Refinement.Views.{LinkView, carried_link, carried_slots, view_of}
 use Rattle.dn_flows.proofs.Places.{eq-no, eq-yes, get-kept, get-last}
 use Rattle.dn_types.proofs.Settling.{and-no}
 

@@ -3,11 +3,11 @@ use Rattle.std.proofs.Common.{◌≡◌, ◌<◌, ℕ, [], ◌∷◌, refl, arit
 use Rattle.dn_types.specs.Trace.{own, shared}
 use Rattle.dn_link.specs.LinkState.{LinkState}
 use Rattle.dn_wf2q.specs.Schedule.{room_at}
-use Rattle.dn_shaper.specs.declared.parts.Carries.TheVariants.{Own, Shared}
-use Rattle.dn_shaper.specs.declared.parts.SharedLink.{SharedLink}
-use Rattle.dn_shaper.specs.Homing.{IsNewLink}
-use Rattle.dn_shaper.specs.Making.{OnlyRoom}
-use Rattle.dn_shaper.specs.Views.{no_schedule, view_of}
+use Rattle.dn_shaper.specs.declared.links.link_parts.Carries.TheVariants.{Own, Shared}
+use Rattle.dn_shaper.specs.declared.links.shared_link.SharedLink.{SharedLink}
+use Rattle.dn_shaper.specs.Refinement.Homing.{IsNewLink}
+use Rattle.dn_shaper.specs.Refinement.Making.{OnlyRoom}
+use Rattle.dn_shaper.specs.Refinement.Views.{no_schedule, view_of}
 use Rattle.dn_shaper.proofs.Scheduled.{waits_roomy}
 
 module _ (queues : ℕ → ℕ) (flow pipe : ℕ) (times : LinkState) (free : times.free ≡ 0) (last_due : times.last_due ≡ 0) where

@@ -10,18 +10,18 @@ use Rattle.dn_types.specs.declared.delivery.Delivery.{Delivery}
 use Rattle.dn_types.specs.declared.flow_key.FlowKey.{FlowKey}
 use Rattle.dn_types.specs.declared.rule.Rule.{Rule}
 use Rattle.dn_flows.specs.Table.{FlowState, flow_at}
-use Rattle.dn_shaper.specs.declared.parts.Home.{Home}
-use Rattle.dn_shaper.specs.Views.{LinkView, home, waiting_of, stamped_of, at_slot}
-use Rattle.dn_shaper.specs.Agreement.{AreDistinct, IsAt, IsLinkAt, IsFlowAt, IsHomeOf, IsScheduleAt, IsSlotAt, link_names}
+use Rattle.dn_shaper.specs.declared.links.home.Home.{Home}
+use Rattle.dn_shaper.specs.Refinement.Views.{LinkView, home, waiting_of, stamped_of, at_slot}
+use Rattle.dn_shaper.specs.Refinement.Agreement.{AreDistinct, IsAt, IsLinkAt, IsFlowAt, IsHomeOf, IsScheduleAt, IsSlotAt, link_names}
 use Rattle.dn_shaper.proofs.Events.{append-none}
 use Rattle.dn_flows.proofs.Places.{get-set, get-set-other, map-set-same}
 use Rattle.std.proofs.lemmas.List.{map-append}
 use Rattle.dn_types.specs.Calls.{link_of}
 use Rattle.dn_wf2q.specs.Schedule.{Flow, Schedule, flow_at as slot_at, no_packets}
-use Rattle.dn_shaper.specs.Agreement.{AreSlotsAtHome}
-use Rattle.dn_shaper.specs.Making.{SameFlow}
-use Rattle.dn_shaper.specs.Slots.{Ascends, top}
-use Rattle.dn_shaper.specs.Views.{home_by}
+use Rattle.dn_shaper.specs.Refinement.Agreement.{AreSlotsAtHome}
+use Rattle.dn_shaper.specs.Refinement.Making.{SameFlow}
+use Rattle.dn_shaper.specs.Refinement.Slots.{Ascends, top}
+use Rattle.dn_shaper.specs.Refinement.Views.{home_by}
 use Rattle.dn_shaper.proofs.Above.{last_finish-above, discarded-above}
 use Rattle.dn_shaper.proofs.Distinct.{distinct-more}
 use Rattle.dn_flows.proofs.Places.{get-more, get-kept, get-last, length-more}

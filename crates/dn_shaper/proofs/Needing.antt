@@ -12,8 +12,8 @@ use Rattle.dn_types.specs.declared.reply.Reply.TheVariants.{Configured}
 use Rattle.dn_types.specs.declared.rule.Rule.{Rule}
 use Rattle.dn_types.specs.declared.target.Target.{Target}
 use Rattle.dn_shaper.specs.declared.state.State.{State}
-use Rattle.dn_shaper.specs.Configuring.{IsAnswered, Lists}
-use Rattle.dn_shaper.specs.Settings.{settings_of}
+use Rattle.dn_shaper.specs.Refinement.Configuring.{IsAnswered, Lists}
+use Rattle.dn_shaper.specs.Refinement.Settings.{settings_of}
 use Rattle.dn_shaper.specs.Shaper.{CanNeedMemory}
 use Rattle.dn_shaper.specs.Standing.{StandsAt}
 use Rattle.dn_shaper.proofs.Commands.{numbers-listed}

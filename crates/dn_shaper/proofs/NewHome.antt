@@ -8,17 +8,17 @@ use Rattle.dn_types.specs.Trace.{Link, link_eq, Event, links, with_link}
 use Rattle.dn_types.specs.declared.flow_key.FlowKey.{FlowKey}
 use Rattle.dn_flows.specs.Table.{Table}
 use Rattle.dn_wf2q.specs.Schedule.{room_at}
-use Rattle.dn_shaper.specs.declared.next_start.NextStart.{NextStart}
+use Rattle.dn_shaper.specs.declared.links.next_start.NextStart.{NextStart}
 use Rattle.dn_shaper.specs.declared.state.State.{State}
-use Rattle.dn_shaper.specs.Agreement.{AgreesWith, link_names}
-use Rattle.dn_shaper.specs.NextStarts.{Holds, next_at, backlogged, one_backlogged}
-use Rattle.dn_shaper.specs.Homing.{GivesHome, Opens, NotesFor, place_for}
-use Rattle.dn_shaper.specs.Making.{HasRoom}
-use Rattle.dn_shaper.specs.Slots.{Ascends, top}
-use Rattle.dn_shaper.specs.Standing.{IsIndexed, IsSound}
-use Rattle.dn_shaper.specs.Starting.{IsReady, Within}
-use Rattle.dn_shaper.specs.Submitting.{IsMade}
-use Rattle.dn_shaper.specs.Views.{LinkView, views_of, home, home_by, next_starts, next_start_of, queue_lengths, waits_in_all}
+use Rattle.dn_shaper.specs.Refinement.Agreement.{AgreesWith, link_names}
+use Rattle.dn_shaper.specs.Refinement.NextStarts.{Holds, next_at, backlogged, one_backlogged}
+use Rattle.dn_shaper.specs.Refinement.Homing.{GivesHome, Opens, NotesFor, place_for}
+use Rattle.dn_shaper.specs.Refinement.Making.{HasRoom}
+use Rattle.dn_shaper.specs.Refinement.Slots.{Ascends, top}
+use Rattle.dn_shaper.specs.Refinement.Sound.{IsIndexed, IsSound}
+use Rattle.dn_shaper.specs.Refinement.Starting.{IsReady, Within}
+use Rattle.dn_shaper.specs.Refinement.Submitting.{IsMade}
+use Rattle.dn_shaper.specs.Refinement.Views.{LinkView, views_of, home, home_by, next_starts, next_start_of, queue_lengths, waits_in_all}
 use Rattle.dn_shaper.proofs.Events.{append-none}
 use Rattle.dn_shaper.proofs.Indexed.{noted-more, unnoted-unknown}
 use Rattle.dn_shaper.proofs.Made.{linked-agrees}

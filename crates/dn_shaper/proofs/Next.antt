@@ -14,9 +14,9 @@ use Rattle.dn_types.specs.declared.target.Target.TheVariants.{Pipe as ToPipe, Qu
 use Rattle.dn_flows.specs.Table.{FlowState, flow_at}
 use Rattle.dn_flows.specs.declared.waiting.Waiting.{Waiting}
 use Rattle.dn_wf2q.specs.Schedule.{heads_of}
-use Rattle.dn_shaper.specs.declared.parts.Home.{Home}
-use Rattle.dn_shaper.specs.Views.{LinkView, home, home_by, waiting_of, stamped_of, Sends, CanSend, next_start_of, next_starts}
-use Rattle.dn_shaper.specs.Agreement.{IsAt, IsHomeOf, IsScheduleAt, link_names}
+use Rattle.dn_shaper.specs.declared.links.home.Home.{Home}
+use Rattle.dn_shaper.specs.Refinement.Views.{LinkView, home, home_by, waiting_of, stamped_of, Sends, CanSend, next_start_of, next_starts}
+use Rattle.dn_shaper.specs.Refinement.Agreement.{IsAt, IsHomeOf, IsScheduleAt, link_names}
 use Rattle.dn_shaper.proofs.FirstStart.{moment_of_next}
 use Rattle.dn_shaper.proofs.Heads.{none-agree, flow-picked, packet-picked, pick-flow, backlog-flow}
 use Rattle.dn_types.proofs.Picks.{pick-some, heads-none}

@@ -4,7 +4,7 @@ use Rattle.std.specs.Prelude.{nat_eq}
 use Rattle.std.specs.Map.{lookup}
 use Rattle.dn_types.specs.Trace.{Link}
 use Rattle.dn_shaper.specs.declared.state.State.{State}
-use Rattle.dn_shaper.specs.Standing.{IsIndexed}
+use Rattle.dn_shaper.specs.Refinement.Sound.{IsIndexed}
 
 pub indexed-still : (s t : State) (names names' : List Link) → t.shared ≡ s.shared → names' ≡ names → IsIndexed s names → IsIndexed t names'
 indexed-still s t names names' notes same i = subst (λ (ls : List Link). IsIndexed t ls) (sym same) (record {

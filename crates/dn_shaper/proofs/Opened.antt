@@ -9,14 +9,14 @@ use Rattle.dn_types.specs.declared.delivery.Delivery.{Delivery}
 use Rattle.dn_types.specs.declared.flow_key.FlowKey.{FlowKey}
 use Rattle.dn_types.specs.declared.rule.Rule.{Rule}
 use Rattle.dn_flows.specs.Table.{FlowState}
-use Rattle.dn_shaper.specs.declared.parts.Home.{Home}
-use Rattle.dn_shaper.specs.Views.{LinkView}
-use Rattle.dn_shaper.specs.Agreement.{AreDistinct, IsAt, IsLinkAt, IsScheduleAt, link_names}
+use Rattle.dn_shaper.specs.declared.links.home.Home.{Home}
+use Rattle.dn_shaper.specs.Refinement.Views.{LinkView}
+use Rattle.dn_shaper.specs.Refinement.Agreement.{AreDistinct, IsAt, IsLinkAt, IsScheduleAt, link_names}
 use Rattle.dn_shaper.proofs.Events.{uncounted}
 use Rattle.dn_flows.proofs.Places.{get-set, get-set-other, map-set-same}
 use Rattle.dn_types.proofs.Settled.{link_eq-refl}
 use Rattle.dn_wf2q.specs.Schedule.{Flow, flow_at as slot_at, forgotten, without_tag}
-use Rattle.dn_shaper.specs.Slots.{Ascends, top}
+use Rattle.dn_shaper.specs.Refinement.Slots.{Ascends, top}
 use Rattle.dn_shaper.proofs.Homes.{home-after, slots_home-after}
 use Rattle.dn_shaper.proofs.Next.{distinct_views}
 use Rattle.dn_shaper.proofs.Scheduled.{forgotten-at}

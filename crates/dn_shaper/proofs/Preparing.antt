@@ -12,18 +12,18 @@ use Rattle.dn_types.specs.Trace.{Link, shared, link_eq, Event, links}
 use Rattle.dn_types.specs.declared.flow_key.FlowKey.{FlowKey}
 use Rattle.dn_flows.specs.Table.{FlowState, Table, new_flow, flow_at, is_known, flows_with}
 use Rattle.dn_flows.specs.declared.waiting.Waiting.{Waiting}
-use Rattle.dn_shaper.specs.declared.next_start.NextStart.{NextStart}
-use Rattle.dn_shaper.specs.declared.parts.Parts.{Parts}
+use Rattle.dn_shaper.specs.declared.links.next_start.NextStart.{NextStart}
+use Rattle.dn_shaper.specs.declared.links.parts.Parts.{Parts}
 use Rattle.dn_shaper.specs.declared.state.State.{State}
-use Rattle.dn_shaper.specs.Agreement.{AgreesWith, link_names}
-use Rattle.dn_shaper.specs.NextStarts.{Holds}
-use Rattle.dn_shaper.specs.Homing.{KeepsHeap, OnlyReserves, without_last}
-use Rattle.dn_shaper.specs.Making.{KeepsAt, Prepares, Reserves, SameFlow}
-use Rattle.dn_shaper.specs.Settling.{IsKept}
-use Rattle.dn_shaper.specs.Standing.{IsSound}
-use Rattle.dn_shaper.specs.Starting.{Within}
-use Rattle.dn_shaper.specs.Submitting.{IsMade}
-use Rattle.dn_shaper.specs.Views.{LinkView, views_of, next_starts, home, queue_lengths}
+use Rattle.dn_shaper.specs.Refinement.Agreement.{AgreesWith, link_names}
+use Rattle.dn_shaper.specs.Refinement.NextStarts.{Holds}
+use Rattle.dn_shaper.specs.Refinement.Homing.{KeepsHeap, OnlyReserves, without_last}
+use Rattle.dn_shaper.specs.Refinement.Making.{KeepsAt, Prepares, Reserves, SameFlow}
+use Rattle.dn_shaper.specs.Refinement.Settling.{IsKept}
+use Rattle.dn_shaper.specs.Refinement.Sound.{IsSound}
+use Rattle.dn_shaper.specs.Refinement.Starting.{Within}
+use Rattle.dn_shaper.specs.Refinement.Submitting.{IsMade}
+use Rattle.dn_shaper.specs.Refinement.Views.{LinkView, views_of, next_starts, home, queue_lengths}
 use Rattle.dn_shaper.proofs.Alone.{all-seen-same}
 use Rattle.dn_shaper.proofs.Events.{append-none}
 use Rattle.dn_flows.proofs.Places.{length-more}

@@ -14,10 +14,10 @@ use Rattle.dn_types.specs.declared.reply.Reply.TheVariants.{Configured, NoSuchPi
 use Rattle.dn_types.specs.declared.target.Target.{Target}
 use Rattle.dn_types.specs.declared.target.Target.TheVariants.{Pipe as ToPipe, Queue as ToQueue}
 use Rattle.dn_types.specs.contracts.target.TargetPartialEq.TheImpl as impl
-use Rattle.dn_shaper.specs.declared.in_force.InForce.{InForce}
-use Rattle.dn_shaper.specs.Configuring.{IsAnswered, Lists, Puts}
-use Rattle.dn_shaper.specs.QueueCounts.{commands_of, names_pipe, queues_of, kept_count, pipe_of, one_for, Replaces, CountsQueues}
-use Rattle.dn_shaper.specs.Settings.{settings_of}
+use Rattle.dn_shaper.specs.declared.settings.in_force.InForce.{InForce}
+use Rattle.dn_shaper.specs.Refinement.Configuring.{IsAnswered, Lists, Puts}
+use Rattle.dn_shaper.specs.Refinement.QueueCounts.{commands_of, names_pipe, queues_of, kept_count, pipe_of, one_for, Replaces, CountsQueues}
+use Rattle.dn_shaper.specs.Refinement.Settings.{settings_of}
 use Rattle.dn_shaper.proofs.Commands.{Entry, has-queues-is}
 use Rattle.dn_shaper.proofs.QueueCounts.{Kept, count-of, counted-in, has-entry, kept-is}
 

@@ -15,9 +15,9 @@ use Rattle.dn_types.specs.declared.command.Command.TheVariants.{Pipe, Queue, Del
 use Rattle.dn_types.specs.declared.target.Target.{Target}
 use Rattle.dn_types.specs.declared.target.Target.TheVariants.{Pipe as ToPipe, Queue as ToQueue}
 use Rattle.dn_types.specs.contracts.target.TargetPartialEq.TheImpl as impl
-use Rattle.dn_shaper.specs.declared.in_force.InForce.{InForce}
-use Rattle.dn_shaper.specs.QueueCounts.{commands_of, names_pipe, queues_of, kept_count, pipe_of, one_for, Replaces}
-use Rattle.dn_shaper.specs.Settings.{settings_of}
+use Rattle.dn_shaper.specs.declared.settings.in_force.InForce.{InForce}
+use Rattle.dn_shaper.specs.Refinement.QueueCounts.{commands_of, names_pipe, queues_of, kept_count, pipe_of, one_for, Replaces}
+use Rattle.dn_shaper.specs.Refinement.Settings.{settings_of}
 use Rattle.dn_flows.proofs.Places.{eq-yes}
 use Rattle.dn_shaper.proofs.Commands.{same-number, key-test}
 

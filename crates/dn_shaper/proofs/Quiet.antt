@@ -9,9 +9,9 @@ use Rattle.dn_types.specs.declared.flow_key.FlowKey.{FlowKey}
 use Rattle.dn_types.specs.declared.rule.Rule.{Rule}
 use Rattle.dn_flows.specs.Table.{FlowState, flow_at, one_lost, one_full}
 use Rattle.dn_flows.proofs.Views.{flow_after_set}
-use Rattle.dn_shaper.specs.declared.parts.Home.{Home}
-use Rattle.dn_shaper.specs.Views.{LinkView, home}
-use Rattle.dn_shaper.specs.Agreement.{IsAt, IsFlowAt, link_names}
+use Rattle.dn_shaper.specs.declared.links.home.Home.{Home}
+use Rattle.dn_shaper.specs.Refinement.Views.{LinkView, home}
+use Rattle.dn_shaper.specs.Refinement.Agreement.{IsAt, IsFlowAt, link_names}
 use Rattle.dn_shaper.proofs.Events.{uncounted, counted-once, append-none, length-set}
 use Rattle.dn_flows.proofs.Places.{eq-no, eq-yes}
 use Rattle.dn_shaper.proofs.Unseen.{not_with}

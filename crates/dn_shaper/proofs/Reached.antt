@@ -7,16 +7,16 @@ use Rattle.dn_types.specs.Calls.{reaches, discard_reached}
 use Rattle.dn_types.specs.Trace.{Link, Event, discarded}
 use Rattle.dn_types.specs.declared.command.Command.{Command}
 use Rattle.dn_types.specs.declared.flow_key.FlowKey.{FlowKey}
-use Rattle.dn_shaper.specs.declared.next_start.NextStart.{NextStart}
-use Rattle.dn_shaper.specs.declared.parts.Parts.{Parts}
-use Rattle.dn_shaper.specs.Agreement.{Agrees, AgreesWith}
-use Rattle.dn_shaper.specs.Arriving.{KeepsFlows}
-use Rattle.dn_shaper.specs.Configuring.{DiscardsReached}
-use Rattle.dn_shaper.specs.Discarding.{Discards, OnlyEmpties}
-use Rattle.dn_shaper.specs.NextStarts.{is_backlogged}
-use Rattle.dn_shaper.specs.Settling.{IsKept}
-use Rattle.dn_shaper.specs.Starting.{Within}
-use Rattle.dn_shaper.specs.Views.{LinkView, next_starts, views_of}
+use Rattle.dn_shaper.specs.declared.links.next_start.NextStart.{NextStart}
+use Rattle.dn_shaper.specs.declared.links.parts.Parts.{Parts}
+use Rattle.dn_shaper.specs.Refinement.Agreement.{Agrees, AgreesWith}
+use Rattle.dn_shaper.specs.Refinement.Arriving.{KeepsFlows}
+use Rattle.dn_shaper.specs.Refinement.Configuring.{DiscardsReached}
+use Rattle.dn_shaper.specs.Refinement.Discarding.{Discards, OnlyEmpties}
+use Rattle.dn_shaper.specs.Refinement.NextStarts.{is_backlogged}
+use Rattle.dn_shaper.specs.Refinement.Settling.{IsKept}
+use Rattle.dn_shaper.specs.Refinement.Starting.{Within}
+use Rattle.dn_shaper.specs.Refinement.Views.{LinkView, next_starts, views_of}
 use Rattle.dn_shaper.proofs.Emptied.{holds-kept, counted-held}
 
 -- The flows below this one are done, and the rest would end at the same trace.

@@ -6,8 +6,8 @@ use Rattle.dn_types.specs.Configuration.{target_eq}
 use Rattle.dn_types.specs.declared.target.Target.{Target}
 use Rattle.dn_types.specs.declared.target.Target.TheVariants.{Pipe as ToPipe}
 use Rattle.dn_types.specs.contracts.target.TargetPartialEq.TheImpl as impl
-use Rattle.dn_shaper.specs.declared.in_force.InForce.{InForce}
-use Rattle.dn_shaper.specs.QueueCounts.{commands_of, kept_count}
+use Rattle.dn_shaper.specs.declared.settings.in_force.InForce.{InForce}
+use Rattle.dn_shaper.specs.Refinement.QueueCounts.{commands_of, kept_count}
 use Rattle.dn_shaper.proofs.Commands.{same-number}
 use Rattle.dn_shaper.proofs.QueueCounts.{Gets, Kept, by-key, count-of}
 

@@ -6,7 +6,7 @@ use Rattle.std.proofs.lemmas.List.{length-map}
 use Rattle.std.proofs.lemmas.List.Sums.{sum_by-cons}
 use Rattle.dn_types.specs.Links.{free, last_due}
 use Rattle.dn_types.specs.SharedLinks.{waiting}
-use Rattle.dn_shaper.specs.Agreement.{IsScheduleAt}
+use Rattle.dn_shaper.specs.Refinement.Agreement.{IsScheduleAt}
 use Rattle.dn_heap.specs.Heap.{Heap}
 use Rattle.dn_types.specs.Trace.{Link, Event}
 use Rattle.dn_types.specs.declared.delivery.Delivery.{Delivery}
@@ -14,16 +14,16 @@ use Rattle.dn_types.specs.declared.flow_key.FlowKey.{FlowKey}
 use Rattle.dn_types.specs.declared.rule.Rule.{Rule}
 use Rattle.dn_flows.specs.declared.waiting.Waiting.{Waiting}
 use Rattle.dn_wf2q.specs.Schedule.{Flow}
-use Rattle.dn_shaper.specs.declared.next_start.NextStart.{NextStart}
-use Rattle.dn_shaper.specs.declared.parts.Home.{Home}
-use Rattle.dn_shaper.specs.declared.parts.Parts.{Parts}
-use Rattle.dn_shaper.specs.Agreement.{AgreesWith, AreDistinct, IsAt, IsHomeOf, IsLinkAt, link_names}
-use Rattle.dn_shaper.specs.NextStarts.{Holds, backlogged}
-use Rattle.dn_shaper.specs.Making.{KeepsLink, KeepsAt, Reserves}
-use Rattle.dn_shaper.specs.Settling.{IsKept}
-use Rattle.dn_shaper.specs.Slots.{Ascends, top}
-use Rattle.dn_shaper.specs.Starting.{Within}
-use Rattle.dn_shaper.specs.Views.{LinkView, views_of, home, next_starts, next_start_of, waits_in_all}
+use Rattle.dn_shaper.specs.declared.links.next_start.NextStart.{NextStart}
+use Rattle.dn_shaper.specs.declared.links.home.Home.{Home}
+use Rattle.dn_shaper.specs.declared.links.parts.Parts.{Parts}
+use Rattle.dn_shaper.specs.Refinement.Agreement.{AgreesWith, AreDistinct, IsAt, IsHomeOf, IsLinkAt, link_names}
+use Rattle.dn_shaper.specs.Refinement.NextStarts.{Holds, backlogged}
+use Rattle.dn_shaper.specs.Refinement.Making.{KeepsLink, KeepsAt, Reserves}
+use Rattle.dn_shaper.specs.Refinement.Settling.{IsKept}
+use Rattle.dn_shaper.specs.Refinement.Slots.{Ascends, top}
+use Rattle.dn_shaper.specs.Refinement.Starting.{Within}
+use Rattle.dn_shaper.specs.Refinement.Views.{LinkView, views_of, home, next_starts, next_start_of, waits_in_all}
 
 -- ---- Lists of links that are the same but for room
 

@@ -6,8 +6,8 @@ use Rattle.dn_flows.specs.Table.{FlowState, flow_at, with_place}
 use Rattle.dn_flows.proofs.Views.{flow_after_set}
 use Rattle.dn_types.specs.Trace.{Link, shared}
 use Rattle.dn_wf2q.specs.Schedule.{room_at}
-use Rattle.dn_shaper.specs.Making.{KeepsLink, SameFlow, KeepsAt, HasRoom}
-use Rattle.dn_shaper.specs.Views.{LinkView}
+use Rattle.dn_shaper.specs.Refinement.Making.{KeepsLink, SameFlow, KeepsAt, HasRoom}
+use Rattle.dn_shaper.specs.Refinement.Views.{LinkView}
 use Rattle.dn_flows.proofs.Places.{eq-no, eq-yes, get-set, get-set-other}
 
 pub same-flow : (s : FlowState) → SameFlow s s

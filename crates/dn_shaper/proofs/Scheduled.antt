@@ -3,7 +3,7 @@ use Rattle.std.proofs.Common.{◌≡◌, ◌∙◌, ◌≤◌, ℕ, zero, suc, �
 use Rattle.std.proofs.lemmas.List.{get_or_past}
 use Rattle.dn_types.specs.Wf2q.{Stamped}
 use Rattle.dn_wf2q.specs.Schedule.{Flow, Schedule, flow_at as slot_at, forgotten, no_packets, waiting_of, without_tag}
-use Rattle.dn_shaper.specs.Making.{OnlyRoom}
+use Rattle.dn_shaper.specs.Refinement.Making.{OnlyRoom}
 use Rattle.dn_shaper.proofs.Waiting.{total-same, total-wide}
 
 -- The packets that wait at a slot.

@@ -18,19 +18,19 @@ use Rattle.dn_types.specs.declared.target.Target.{Target}
 use Rattle.dn_types.specs.declared.target.Target.TheVariants.{Pipe as ToPipe, Queue as ToQueue}
 use Rattle.dn_types.proofs.Settled.{and-left, true_or_false}
 use Rattle.dn_types.proofs.Settling.{and-right}
-use Rattle.dn_shaper.specs.declared.next_start.NextStart.{NextStart}
-use Rattle.dn_shaper.specs.declared.parts.Parts.{Parts}
+use Rattle.dn_shaper.specs.declared.links.next_start.NextStart.{NextStart}
+use Rattle.dn_shaper.specs.declared.links.parts.Parts.{Parts}
 use Rattle.dn_shaper.specs.declared.state.State.{State}
-use Rattle.dn_shaper.specs.Agreement.{AgreesWith, link_names}
-use Rattle.dn_shaper.specs.Arriving.{KeepsFlows}
-use Rattle.dn_shaper.specs.Making.{KeepsCalls, Prepares, Reserves}
-use Rattle.dn_shaper.specs.Sending.{counted_at}
-use Rattle.dn_shaper.specs.Settings.{settings_of}
-use Rattle.dn_shaper.specs.Settling.{IsKept}
-use Rattle.dn_shaper.specs.Standing.{IsSound, Does, StillStands}
-use Rattle.dn_shaper.specs.Starting.{Within}
-use Rattle.dn_shaper.specs.Submitting.{Answers, verdict_on}
-use Rattle.dn_shaper.specs.Views.{views_of, home, home_by}
+use Rattle.dn_shaper.specs.Refinement.Agreement.{AgreesWith, link_names}
+use Rattle.dn_shaper.specs.Refinement.Arriving.{KeepsFlows}
+use Rattle.dn_shaper.specs.Refinement.Making.{KeepsCalls, Prepares, Reserves}
+use Rattle.dn_shaper.specs.Refinement.Calls.{counted_at, Does, StillStands}
+use Rattle.dn_shaper.specs.Refinement.Settings.{settings_of}
+use Rattle.dn_shaper.specs.Refinement.Settling.{IsKept}
+use Rattle.dn_shaper.specs.Refinement.Sound.{IsSound}
+use Rattle.dn_shaper.specs.Refinement.Starting.{Within}
+use Rattle.dn_shaper.specs.Refinement.Submitting.{Answers, verdict_on}
+use Rattle.dn_shaper.specs.Refinement.Views.{views_of, home, home_by}
 use Rattle.dn_shaper.proofs.Accepting.{within-more}
 use Rattle.dn_shaper.proofs.Commands.{same-number}
 use Rattle.dn_shaper.proofs.Reserved.{reserves-agree}

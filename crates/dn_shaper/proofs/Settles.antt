@@ -12,15 +12,15 @@ use Rattle.dn_types.specs.SharedLinks.{next_packet}
 use Rattle.dn_types.specs.Starts.{next_start, first_start, start_at, settle, waiting_all, settled}
 use Rattle.dn_types.specs.Trace.{Link, link_eq, pipe_of, Accepted, Event, started, Start, links}
 use Rattle.dn_types.specs.declared.delivery.Delivery.{Delivery}
-use Rattle.dn_shaper.specs.declared.next_start.NextStart.{NextStart}
-use Rattle.dn_shaper.specs.declared.parts.Carries.{Carries}
-use Rattle.dn_shaper.specs.declared.parts.Carries.TheVariants.{Own, Shared}
-use Rattle.dn_shaper.specs.declared.parts.Parts.{Parts}
-use Rattle.dn_shaper.specs.Views.{LinkView, views_of, next_starts, next_start_of, carried_link}
-use Rattle.dn_shaper.specs.Agreement.{GivesRates, AgreesWith, Agrees, AreDistinct, link_names}
-use Rattle.dn_shaper.specs.NextStarts.{next_start_cmp, next_at, Holds, one_backlogged, backlogged}
-use Rattle.dn_shaper.specs.Starting.{CanStart, StartsAt}
-use Rattle.dn_shaper.specs.Settling.{IsKept, OnlyStarts, StartsFirst, HasNoStart, SettlesAll}
+use Rattle.dn_shaper.specs.declared.links.next_start.NextStart.{NextStart}
+use Rattle.dn_shaper.specs.declared.links.link_parts.Carries.{Carries}
+use Rattle.dn_shaper.specs.declared.links.link_parts.Carries.TheVariants.{Own, Shared}
+use Rattle.dn_shaper.specs.declared.links.parts.Parts.{Parts}
+use Rattle.dn_shaper.specs.Refinement.Views.{LinkView, views_of, next_starts, next_start_of, carried_link}
+use Rattle.dn_shaper.specs.Refinement.Agreement.{GivesRates, AgreesWith, Agrees, AreDistinct, link_names}
+use Rattle.dn_shaper.specs.Refinement.NextStarts.{next_start_cmp, next_at, Holds, one_backlogged, backlogged}
+use Rattle.dn_shaper.specs.Refinement.Starting.{CanStart, StartsAt}
+use Rattle.dn_shaper.specs.Refinement.Settling.{IsKept, OnlyStarts, StartsFirst, HasNoStart, SettlesAll}
 use Rattle.dn_shaper.proofs.NextStarts.{popped_next, holds_none, holds_some}
 use Rattle.dn_shaper.proofs.FirstStart.{moment_of_next, first_popped, none_next, first_start-more, settle-none, settle-some}
 use Rattle.dn_shaper.proofs.Events.{length-set}

@@ -10,13 +10,13 @@ use Rattle.dn_types.specs.declared.flow_key.FlowKey.{FlowKey}
 use Rattle.dn_flows.specs.Table.{Table}
 use Rattle.dn_wf2q.specs.Schedule.{room_at}
 use Rattle.dn_shaper.specs.declared.state.State.{State}
-use Rattle.dn_shaper.specs.Agreement.{AgreesWith, link_names}
-use Rattle.dn_shaper.specs.NextStarts.{Holds, backlogged}
-use Rattle.dn_shaper.specs.Homing.{GivesHome, Shares, place_for}
-use Rattle.dn_shaper.specs.Standing.{IsIndexed, IsSound}
-use Rattle.dn_shaper.specs.Starting.{IsReady, Within}
-use Rattle.dn_shaper.specs.Submitting.{IsMade}
-use Rattle.dn_shaper.specs.Views.{LinkView, views_of, next_starts, next_start_of, waits_in_all}
+use Rattle.dn_shaper.specs.Refinement.Agreement.{AgreesWith, link_names}
+use Rattle.dn_shaper.specs.Refinement.NextStarts.{Holds, backlogged}
+use Rattle.dn_shaper.specs.Refinement.Homing.{GivesHome, Shares, place_for}
+use Rattle.dn_shaper.specs.Refinement.Sound.{IsIndexed, IsSound}
+use Rattle.dn_shaper.specs.Refinement.Starting.{IsReady, Within}
+use Rattle.dn_shaper.specs.Refinement.Submitting.{IsMade}
+use Rattle.dn_shaper.specs.Refinement.Views.{LinkView, views_of, next_starts, next_start_of, waits_in_all}
 use Rattle.dn_shaper.proofs.Events.{length-set}
 use Rattle.dn_shaper.proofs.Indexed.{noted-found}
 use Rattle.dn_shaper.proofs.Made.{joined-agrees}

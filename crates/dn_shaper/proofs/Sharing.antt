@@ -5,12 +5,12 @@ use Rattle.dn_heap.specs.Heap.{Heap}
 use Rattle.dn_types.specs.Calls.{link_of}
 use Rattle.dn_types.specs.Trace.{Link}
 use Rattle.dn_types.specs.declared.flow_key.FlowKey.{FlowKey}
-use Rattle.dn_shaper.specs.declared.next_start.NextStart.{NextStart}
-use Rattle.dn_shaper.specs.declared.parts.Home.{Home}
-use Rattle.dn_shaper.specs.declared.parts.LinkParts.{LinkParts}
-use Rattle.dn_shaper.specs.Agreement.{link_names}
-use Rattle.dn_shaper.specs.Homing.{Houses, NotesFor, Opens, Shares}
-use Rattle.dn_shaper.specs.Views.{LinkView, view_of}
+use Rattle.dn_shaper.specs.declared.links.next_start.NextStart.{NextStart}
+use Rattle.dn_shaper.specs.declared.links.home.Home.{Home}
+use Rattle.dn_shaper.specs.declared.links.link_parts.LinkParts.{LinkParts}
+use Rattle.dn_shaper.specs.Refinement.Agreement.{link_names}
+use Rattle.dn_shaper.specs.Refinement.Homing.{Houses, NotesFor, Opens, Shares}
+use Rattle.dn_shaper.specs.Refinement.Views.{LinkView, view_of}
 
 pub named-at : (views : List LinkView) (place : ℕ) (link : Link) → slice_get (link_names views) place ≡ Some link → (v : LinkView) × (slice_get views place ≡ Some v) × (v.link ≡ link)
 named-at [] place link e = absurd cc

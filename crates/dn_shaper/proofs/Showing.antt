@@ -12,10 +12,10 @@ use Rattle.dn_types.specs.declared.reply.Reply.TheVariants.{Status}
 use Rattle.dn_flows.specs.Table.{FlowState, flow_at, lengths, status_of}
 use Rattle.dn_flows.specs.declared.waiting.Waiting.{Waiting}
 use Rattle.dn_shaper.specs.declared.state.State.{State}
-use Rattle.dn_shaper.specs.Agreement.{IsFlowAt, link_names}
-use Rattle.dn_shaper.specs.Showing.{told_from}
-use Rattle.dn_shaper.specs.Standing.{IsSound, Does}
-use Rattle.dn_shaper.specs.Views.{home, home_by, views_of, waiting_of}
+use Rattle.dn_shaper.specs.Refinement.Agreement.{IsFlowAt, link_names}
+use Rattle.dn_shaper.specs.Refinement.Calls.{told_from, Does}
+use Rattle.dn_shaper.specs.Refinement.Sound.{IsSound}
+use Rattle.dn_shaper.specs.Refinement.Views.{home, home_by, views_of, waiting_of}
 use Rattle.dn_shaper.proofs.Accepting.{within-more}
 use Rattle.dn_shaper.proofs.Noted.{indexed-still}
 use Rattle.dn_shaper.proofs.Submitting.{length-lens}

@@ -7,7 +7,7 @@ use Rattle.std.proofs.lemmas.List.{take-map, map-append}
 use Rattle.std.proofs.lemmas.Bool.{cases_lt, cases_eq}
 use Rattle.std.proofs.lemmas.Bool.Decides.{nat_tests}
 use Rattle.dn_types.specs.Wf2q.{Stamped, heads, least_start_tag, raised, goes_before, earlier, first_to_go, is_eligible, pick, weight_sum, grown, scaled}
-use Rattle.dn_shaper.specs.Slots.{Ascends, top}
+use Rattle.dn_shaper.specs.Refinement.Slots.{Ascends, top}
 
 -- ---- The flows of the slots ascend
 

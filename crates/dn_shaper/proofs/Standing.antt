@@ -16,15 +16,17 @@ use Rattle.dn_types.specs.declared.call.Call.TheVariants.{Advance, Collect}
 use Rattle.dn_types.specs.declared.delivery.Delivery.{Delivery}
 use Rattle.dn_types.specs.declared.reply.Reply.TheVariants.{Advanced, Delivered}
 use Rattle.dn_types.specs.declared.rule.Rule.{Rule}
-use Rattle.dn_shaper.specs.declared.next_start.NextStart.{NextStart}
-use Rattle.dn_shaper.specs.declared.parts.Parts.{Parts}
+use Rattle.dn_shaper.specs.declared.links.next_start.NextStart.{NextStart}
+use Rattle.dn_shaper.specs.declared.links.parts.Parts.{Parts}
 use Rattle.dn_shaper.specs.declared.state.State.{State}
-use Rattle.dn_shaper.specs.Agreement.{AgreesWith, link_names}
-use Rattle.dn_shaper.specs.Settings.{settings_of}
-use Rattle.dn_shaper.specs.Settling.{IsKept, OnlyStarts, SettlesAll}
-use Rattle.dn_shaper.specs.Standing.{StandsAt, IsSound, Does}
-use Rattle.dn_shaper.specs.Starting.{Within}
-use Rattle.dn_shaper.specs.Views.{views_of}
+use Rattle.dn_shaper.specs.Refinement.Agreement.{AgreesWith, link_names}
+use Rattle.dn_shaper.specs.Refinement.Settings.{settings_of}
+use Rattle.dn_shaper.specs.Refinement.Settling.{IsKept, OnlyStarts, SettlesAll}
+use Rattle.dn_shaper.specs.Refinement.Calls.{Does}
+use Rattle.dn_shaper.specs.Refinement.Sound.{IsSound}
+use Rattle.dn_shaper.specs.Standing.{StandsAt}
+use Rattle.dn_shaper.specs.Refinement.Starting.{Within}
+use Rattle.dn_shaper.specs.Refinement.Views.{views_of}
 use Rattle.dn_shaper.proofs.Accepting.{within-more}
 use Rattle.dn_shaper.proofs.Noted.{indexed-still}
 use Rattle.dn_shaper.proofs.Quiet.{collected-agrees}

@@ -16,10 +16,10 @@ use Rattle.dn_flows.specs.Table.{FlowState, flow_at, popped, popped_from}
 use Rattle.dn_flows.specs.declared.waiting.Waiting.{Waiting}
 use Rattle.dn_flows.proofs.Views.{flow_after_set, popped_backlog}
 use Rattle.dn_wf2q.specs.Schedule.{Flow, flow_at as slot_at, heads_of, no_packets, without_head, after_pick}
-use Rattle.dn_shaper.specs.declared.parts.Home.{Home}
-use Rattle.dn_shaper.specs.Slots.{Ascends, top}
-use Rattle.dn_shaper.specs.Views.{LinkView, home, waiting_of, stamped_of, at_slot, Sends}
-use Rattle.dn_shaper.specs.Agreement.{AreDistinct, IsAt, IsLinkAt, IsFlowAt, IsScheduleAt, IsSlotAt, IsUntouched, link_names}
+use Rattle.dn_shaper.specs.declared.links.home.Home.{Home}
+use Rattle.dn_shaper.specs.Refinement.Slots.{Ascends, top}
+use Rattle.dn_shaper.specs.Refinement.Views.{LinkView, home, waiting_of, stamped_of, at_slot, Sends}
+use Rattle.dn_shaper.specs.Refinement.Agreement.{AreDistinct, IsAt, IsLinkAt, IsFlowAt, IsScheduleAt, IsSlotAt, IsUntouched, link_names}
 use Rattle.dn_shaper.proofs.Events.{uncounted, counted-once, read-set, length-set}
 use Rattle.dn_shaper.proofs.Homes.{home-after, slots-apart, slots_home-after}
 use Rattle.dn_shaper.proofs.Heads.{first-picked, packet-picked, grown-agree}

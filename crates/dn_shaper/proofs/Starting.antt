@@ -15,11 +15,11 @@ use Rattle.dn_flows.specs.Table.{FlowState, flow_at, popped, popped_from}
 use Rattle.dn_flows.specs.declared.waiting.Waiting.{Waiting}
 use Rattle.dn_flows.proofs.Views.{flow_after_set, popped_backlog}
 use Rattle.dn_wf2q.specs.Schedule.{room_at}
-use Rattle.dn_shaper.specs.declared.parts.Home.{Home}
-use Rattle.dn_shaper.specs.declared.parts.Parts.{Parts}
-use Rattle.dn_shaper.specs.Views.{LinkView, CanSend, IsAlone, Sends, home, next_start_of, next_starts, queue_lengths, views_of, waiting_of, waits_in_all}
-use Rattle.dn_shaper.specs.Agreement.{GivesRates, AgreesWith, Agrees, IsAt}
-use Rattle.dn_shaper.specs.Starting.{HasFront, IsFlowWithin, Within, IsReady, CanStart, StartsAt}
+use Rattle.dn_shaper.specs.declared.links.home.Home.{Home}
+use Rattle.dn_shaper.specs.declared.links.parts.Parts.{Parts}
+use Rattle.dn_shaper.specs.Refinement.Views.{LinkView, CanSend, IsAlone, Sends, home, next_start_of, next_starts, queue_lengths, views_of, waiting_of, waits_in_all}
+use Rattle.dn_shaper.specs.Refinement.Agreement.{GivesRates, AgreesWith, Agrees, IsAt}
+use Rattle.dn_shaper.specs.Refinement.Starting.{HasFront, IsFlowWithin, Within, IsReady, CanStart, StartsAt}
 use Rattle.dn_shaper.proofs.Alone.{is-alone, own-slot}
 use Rattle.dn_shaper.proofs.Next.{can_send, taken, front}
 use Rattle.dn_flows.proofs.Places.{eq-no, eq-yes, get-set, get-set-other, sum-set, sum-le, get-below, map-set}

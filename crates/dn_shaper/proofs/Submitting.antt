@@ -16,14 +16,14 @@ use Rattle.dn_types.specs.declared.reply.Reply.TheVariants.{Queued, Lost as Repl
 use Rattle.dn_flows.specs.Table.{FlowState, flow_at, lengths, verdict_of}
 use Rattle.dn_flows.specs.declared.verdict.Verdict.TheVariants.{Take, Lost, Full}
 use Rattle.dn_flows.proofs.Views.{flow_after_set}
-use Rattle.dn_shaper.specs.declared.next_start.NextStart.{NextStart}
-use Rattle.dn_shaper.specs.declared.parts.Parts.{Parts}
-use Rattle.dn_shaper.specs.Agreement.{AgreesWith}
-use Rattle.dn_shaper.specs.Arriving.{Accepts, CanAccept}
-use Rattle.dn_shaper.specs.Settling.{OnlyStarts, SettlesAll}
-use Rattle.dn_shaper.specs.Starting.{IsFlowWithin, Within}
-use Rattle.dn_shaper.specs.Submitting.{IsMade, CanSee, Sees, verdict_on, Answers}
-use Rattle.dn_shaper.specs.Views.{LinkView, views_of, home, waiting_of, waits_in_all}
+use Rattle.dn_shaper.specs.declared.links.next_start.NextStart.{NextStart}
+use Rattle.dn_shaper.specs.declared.links.parts.Parts.{Parts}
+use Rattle.dn_shaper.specs.Refinement.Agreement.{AgreesWith}
+use Rattle.dn_shaper.specs.Refinement.Arriving.{Accepts, CanAccept}
+use Rattle.dn_shaper.specs.Refinement.Settling.{OnlyStarts, SettlesAll}
+use Rattle.dn_shaper.specs.Refinement.Starting.{IsFlowWithin, Within}
+use Rattle.dn_shaper.specs.Refinement.Submitting.{IsMade, CanSee, Sees, verdict_on, Answers}
+use Rattle.dn_shaper.specs.Refinement.Views.{LinkView, views_of, home, waiting_of, waits_in_all}
 use Rattle.dn_types.proofs.Settled.{settled-ends}
 
 -- Starts leave the links as they are.

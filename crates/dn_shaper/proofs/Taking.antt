@@ -9,11 +9,11 @@ use Rattle.dn_flows.specs.declared.waiting.Waiting.{Waiting}
 use Rattle.dn_flows.proofs.Places.{eq-yes}
 use Rattle.dn_flows.proofs.Views.{backlog_after_pop}
 use Rattle.dn_wf2q.specs.Schedule.{Schedule, heads_of, waiting_of as waiting_in, Picks}
-use Rattle.dn_shaper.specs.declared.parts.Carries.{Carries}
-use Rattle.dn_shaper.specs.declared.parts.Carries.TheVariants.{Own, Shared}
-use Rattle.dn_shaper.specs.declared.parts.LinkParts.{LinkParts}
-use Rattle.dn_shaper.specs.declared.parts.SharedLink.{SharedLink}
-use Rattle.dn_shaper.specs.Views.{LinkView, TakesNext, Sends, CanSend, carried_link, carried_waits, queue_lengths, view_of}
+use Rattle.dn_shaper.specs.declared.links.link_parts.Carries.{Carries}
+use Rattle.dn_shaper.specs.declared.links.link_parts.Carries.TheVariants.{Own, Shared}
+use Rattle.dn_shaper.specs.declared.links.link_parts.LinkParts.{LinkParts}
+use Rattle.dn_shaper.specs.declared.links.shared_link.SharedLink.{SharedLink}
+use Rattle.dn_shaper.specs.Refinement.Views.{LinkView, TakesNext, Sends, CanSend, carried_link, carried_waits, queue_lengths, view_of}
 
 pub some-is : {X : Type 0} (o : Option X) (x : X) → o ≡ Some x → IsSome o
 some-is None x e = absurd cc

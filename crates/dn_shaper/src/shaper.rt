@@ -9,11 +9,12 @@ ghost use Rattle.dn_types.specs.declared.rule.Rule.{Rule as RuleValue};
 ghost use Rattle.dn_types.specs.declared.rule.Rule.TheVariants.{Ordered};
 ghost use Rattle.dn_shaper.specs.Shaper.{CanNeedMemory, StandsAfter, held, items_in};
 
-use crate::configure::configure;
-use crate::show::show;
+use crate::calls::advance::advance;
+use crate::calls::collect::collect;
+use crate::calls::configure::configure;
+use crate::calls::show::show;
+use crate::calls::submit::submit;
 use crate::state::{State, new_state};
-use crate::submitted::submit_call;
-use crate::timed::{advance, collect};
 use dn_types::{Call, Delivery, Reply, Rule};
 use std::alloc::{AllocError, Global};
 use std::marker::Model;
@@ -39,7 +40,7 @@ impl Model for Shaper {
     ghost use Rattle.dn_types.specs.declared.rule.Rule.{Rule};
     ghost use Rattle.dn_shaper.specs.declared.state.State.{State};
     ghost use Rattle.dn_shaper.specs.Shaper.{StandsAfter};
-    ghost use Rattle.dn_shaper.specs.Standing.{IsSound};
+    ghost use Rattle.dn_shaper.specs.Refinement.Sound.{IsSound};
 
     ghost Value = { State };
 
@@ -86,7 +87,7 @@ impl Shaper {
                 target,
                 packet,
                 moment,
-            } => submit_call(&mut self.state, self.alloc, *target, packet, *moment),
+            } => submit(&mut self.state, self.alloc, *target, packet, *moment),
             Call::Advance(moment) => Ok(advance(&mut self.state, *moment)),
             Call::Collect(moment) => {
                 collect(&mut self.state, &mut self.given, self.alloc, *moment)

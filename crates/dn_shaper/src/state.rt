@@ -1,10 +1,11 @@
 ghost use Rattle.std.specs.Prelude.{[]};
-ghost use Rattle.dn_shaper.specs.Standing.{IsSound, StandsAt};
+ghost use Rattle.dn_shaper.specs.Refinement.Sound.{IsSound};
+ghost use Rattle.dn_shaper.specs.Standing.{StandsAt};
 
-use crate::configured::Configured;
-use crate::next_start::NextStart;
-use crate::parts::Parts;
-use crate::shared_places::SharedPlaces;
+use crate::links::next_start::NextStart;
+use crate::links::parts::Parts;
+use crate::room::shared_places::SharedPlaces;
+use crate::settings::configured::Configured;
 use dn_flows::Flows;
 use dn_heap::RunHeap;
 use dn_link::DelayLine;

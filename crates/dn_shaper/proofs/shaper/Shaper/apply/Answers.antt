@@ -12,7 +12,7 @@ pub invariant_of-self : goal.invariant_of-self
 invariant_of-self c = holds-ok (Configure c.in-Configure.command) c.self.inside.state c.configure.new.state c.configure.result c.if-self-eq-CALL_LIMIT.false c.self.invariant c.configure.ensures.sound c.configure.ensures.does c.configure.ensures.refused
 
 pub invariant_of-self-in-Submit : goal.invariant_of-self-in-Submit
-invariant_of-self-in-Submit c = holds-ok (Submit c.in-Submit.target c.in-Submit.packet c.in-Submit.moment) c.self.inside.state c.submit_call.new.state c.submit_call.result c.if-self-eq-CALL_LIMIT.false c.self.invariant c.submit_call.ensures.sound c.submit_call.ensures.does c.submit_call.ensures.refused
+invariant_of-self-in-Submit c = holds-ok (Submit c.in-Submit.target c.in-Submit.packet c.in-Submit.moment) c.self.inside.state c.submit.new.state c.submit.result c.if-self-eq-CALL_LIMIT.false c.self.invariant c.submit.ensures.sound c.submit.ensures.does c.submit.ensures.refused
 
 pub invariant_of-self-in-Advance : goal.invariant_of-self-in-Advance
 invariant_of-self-in-Advance c = holds-then (Advance c.in-Advance.moment) c.self.inside.state c.advance.new.state c.advance.result c.if-self-eq-CALL_LIMIT.false c.self.invariant c.advance.ensures.sound c.advance.ensures.does
@@ -30,10 +30,10 @@ pub returns-in-Configure-clause-err : goal.returns-in-Configure-clause-err
 returns-in-Configure-clause-err c = refuses c.self.inside.state c.args.self.now c.configure.new.state c.configure.result c.self.view_is c.configure.ensures.refused
 
 pub returns-in-Submit-clause-ok : goal.returns-in-Submit-clause-ok
-returns-in-Submit-clause-ok c = answers-ok (Submit c.in-Submit.target c.in-Submit.packet c.in-Submit.moment) c.args.call.now c.self.inside.state c.args.self.now c.submit_call.new.state c.submit_call.result c.in-Submit.is c.self.view_is c.if-self-eq-CALL_LIMIT.false c.submit_call.ensures.does
+returns-in-Submit-clause-ok c = answers-ok (Submit c.in-Submit.target c.in-Submit.packet c.in-Submit.moment) c.args.call.now c.self.inside.state c.args.self.now c.submit.new.state c.submit.result c.in-Submit.is c.self.view_is c.if-self-eq-CALL_LIMIT.false c.submit.ensures.does
 
 pub returns-in-Submit-clause-err : goal.returns-in-Submit-clause-err
-returns-in-Submit-clause-err c = refuses c.self.inside.state c.args.self.now c.submit_call.new.state c.submit_call.result c.self.view_is c.submit_call.ensures.refused
+returns-in-Submit-clause-err c = refuses c.self.inside.state c.args.self.now c.submit.new.state c.submit.result c.self.view_is c.submit.ensures.refused
 
 pub returns-in-Advance-clause-ok : goal.returns-in-Advance-clause-ok
 returns-in-Advance-clause-ok c = answers (Advance c.in-Advance.moment) c.args.call.now c.self.inside.state c.args.self.now c.advance.new.state c.advance.result c.in-Advance.is c.self.view_is c.if-self-eq-CALL_LIMIT.false c.advance.ensures.does
@@ -48,7 +48,7 @@ pub returns-in-Configure-clause-exhausted : goal.returns-in-Configure-clause-exh
 returns-in-Configure-clause-exhausted c = never-full c.self.inside.state c.args.self.now c.configure.result c.self.view_is c.if-self-eq-CALL_LIMIT.false
 
 pub returns-in-Submit-clause-exhausted : goal.returns-in-Submit-clause-exhausted
-returns-in-Submit-clause-exhausted c = never-full c.self.inside.state c.args.self.now c.submit_call.result c.self.view_is c.if-self-eq-CALL_LIMIT.false
+returns-in-Submit-clause-exhausted c = never-full c.self.inside.state c.args.self.now c.submit.result c.self.view_is c.if-self-eq-CALL_LIMIT.false
 
 pub returns-in-Collect-clause-exhausted : goal.returns-in-Collect-clause-exhausted
 returns-in-Collect-clause-exhausted c = never-full c.self.inside.state c.args.self.now c.collect.result c.self.view_is c.if-self-eq-CALL_LIMIT.false
@@ -60,7 +60,7 @@ pub returns-in-Configure-clause-needs : goal.returns-in-Configure-clause-needs
 returns-in-Configure-clause-needs c = needs (Configure c.in-Configure.command) c.args.call.now c.self.inside.state c.args.self.now c.configure.result c.in-Configure.is c.self.view_is (configure-needs c.in-Configure.command c.self.inside.state c.configure.result c.configure.ensures.only_new c.configure.ensures.only_accepted)
 
 pub returns-in-Submit-clause-needs : goal.returns-in-Submit-clause-needs
-returns-in-Submit-clause-needs c = needs (Submit c.in-Submit.target c.in-Submit.packet c.in-Submit.moment) c.args.call.now c.self.inside.state c.args.self.now c.submit_call.result c.in-Submit.is c.self.view_is (submit-needs c.in-Submit.target c.in-Submit.packet c.in-Submit.moment c.self.inside.state c.submit_call.result c.submit_call.ensures.only_treated)
+returns-in-Submit-clause-needs c = needs (Submit c.in-Submit.target c.in-Submit.packet c.in-Submit.moment) c.args.call.now c.self.inside.state c.args.self.now c.submit.result c.in-Submit.is c.self.view_is (submit-needs c.in-Submit.target c.in-Submit.packet c.in-Submit.moment c.self.inside.state c.submit.result c.submit.ensures.only_treated)
 
 pub returns-in-Collect-clause-needs : goal.returns-in-Collect-clause-needs
 returns-in-Collect-clause-needs c = needs (Collect c.in-Collect.moment) c.args.call.now c.self.inside.state c.args.self.now c.collect.result c.in-Collect.is c.self.view_is (on_err_always c.collect.result _ (λ rule calls stands. tt))

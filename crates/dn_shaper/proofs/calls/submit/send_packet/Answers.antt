@@ -1,0 +1,34 @@
+-- What the verdict makes of the parts, or what they stay where memory is refused.
+use Rattle.std.proofs.Common.{◌∙◌, ap}
+use Rattle.dn_types.specs.Flows.{flow_number, key_of, treatment, with_key}
+use Rattle.dn_types.specs.declared.target.Target.{Target}
+use Rattle.dn_wf2q.proofs.Reserved.{on_err_always}
+use Rattle.dn_shaper.specs.declared.state.State.{State}
+use Rattle.dn_shaper.specs.Refinement.Settings.{settings_of}
+use Rattle.dn_shaper.specs.Refinement.Submitting.{treatment_of}
+use Rattle.dn_shaper.proofs.Sending.{submits-does, submits-some, sound-settled, sound-then, still-stands}
+use Rattle.dn_shaper.proofs.calls.submit.send_packet.Goals as goal
+
+pub returns-in_err-flow-in-Some-clause-refused : goal.returns-in_err-flow-in-Some-clause-refused
+returns-in_err-flow-in-Some-clause-refused c = on_err_always c.from_residual.result _ (still-stands c.args.state.now c.prepare.new.state c.prepare.ensures.keeps c.in_err-flow-in-Some.ensures.refused)
+
+pub returns-in-None-clause-sound : goal.returns-in-None-clause-sound
+returns-in-None-clause-sound c = sound-settled c.args.state.now c.settle.new.parts c.settle.new.heap c.args.at c.requires.early c.requires.sound c.settle.ensures.kept c.settle.ensures.only.names c.settle.ensures.only.within c.settle.ensures.only.moves
+
+pub returns-in_ok-flow-in-Some-clause-does : goal.returns-in_ok-flow-in-Some-clause-does
+returns-in_ok-flow-in-Some-clause-does c =
+    let new : State = record { parts = c.judge-reply.new.parts; heap = c.judge-reply.new.heap; shared = c.prepare.new.state.shared; configured = c.prepare.new.state.configured; now = c.prepare.new.state.now; calls = c.prepare.new.state.calls } in
+    let made = c.in_ok-flow-in-Some.ensures in
+    let key_is = c.key.ensures ∙ ap (λ (t : Target). key_of t c.args.packet.now.tuple (treatment_of c.in-Some.how)) c.in-Some.ensures.target in
+    submits-does c.args.state.now new c.args.target.now c.args.packet.now c.args.at c.judge-reply.result c.prepare.ensures.keeps.configured c.prepare.ensures.keeps.calls
+    (submits-some c.args.target.now c.args.packet.now (treatment_of c.in-Some.how) c.args.at c.in_ok-flow-in-Some.flow c.args.state.now c.prepare.new.state c.judge-reply.new.parts c.judge-reply.result
+    (made.number ∙ ap (flow_number c.args.state.now.parts.flows.keys) key_is)
+    (made.keys ∙ ap (λ k. with_key k c.args.state.now.parts.flows.keys) key_is)
+    made.prepares c.prepare.ensures.keeps c.judge-reply.ensures.keeps c.judge-reply.ensures.answers
+    (treatment (settings_of c.args.state.now.configured c.args.target.now)) c.in-Some.ensures.value)
+
+pub returns-in_ok-flow-in-Some-clause-sound : goal.returns-in_ok-flow-in-Some-clause-sound
+returns-in_ok-flow-in-Some-clause-sound c =
+    let s = c.prepare.new.state in
+    sound-then s c.judge-reply.new.parts c.judge-reply.new.heap c.args.at c.requires.early c.prepare.ensures.sound c.judge-reply.ensures.kept c.judge-reply.ensures.keeps.names
+    (c.judge-reply.ensures.within s.calls c.prepare.ensures.sound.within) c.judge-reply.ensures.moves

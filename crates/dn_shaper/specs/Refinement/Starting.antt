@@ -1,0 +1,79 @@
+-- What one start does to a link, the flow table and the delay line.
+use Rattle.std.specs.Prelude.{◌≡◌, ℕ, ◌+◌, ◌*◌, ◌<◌, ◌≤◌, ◌^◌, true, List, length, Some, slice_get, slice_set}
+use Rattle.dn_types.specs.Deliveries.{in_order}
+use Rattle.dn_types.specs.Links.{transmission_time, due_by}
+use Rattle.dn_types.specs.Trace.{shared}
+use Rattle.dn_types.specs.declared.delivery.Delivery.{Delivery}
+use Rattle.dn_types.specs.declared.rule.Rule.{Rule}
+use Rattle.dn_flows.specs.Table.{FlowState, flow_at, popped}
+use Rattle.dn_flows.specs.declared.waiting.Waiting.{Waiting}
+use Rattle.dn_wf2q.specs.Schedule.{room_at}
+use Rattle.dn_shaper.specs.declared.links.home.Home.{Home}
+use Rattle.dn_shaper.specs.declared.links.parts.Parts.{Parts}
+use Rattle.dn_shaper.specs.Refinement.Views.{LinkView, views_of, waits_in_all, TakesNext, Sends}
+
+-- The flow that the link takes next has a packet at the front of its queue.
+abbrev pub HasFront : LinkView → List FlowState → Type 0
+HasFront v flows = (flow : ℕ) (v' : LinkView) → TakesNext flow v v' → (w : Waiting) × (slice_get (flow_at flows flow).backlog 0 ≡ Some w) × (flow < length flows) × ((flow_at flows flow).started < 2 ^ 62)
+
+-- The packet at the front of the flow that the link takes next is sent at the moment.
+pub record Starts (rule : Rule) (bandwidth delay moment : ℕ) (old : LinkView) (flows : List FlowState) (pending : List Delivery) (new : LinkView) (flows' : List FlowState) (pending' : List Delivery) : Type 0 where
+  pub flow : ℕ
+  pub packet : Waiting
+  pub front : slice_get (flow_at flows flow).backlog 0 ≡ Some packet
+  pub link : new.link ≡ old.link
+  pub slots : new.slots ≡ old.slots
+  pub sends : Sends flow old new old.link
+  pub free : new.value.free ≡ moment + transmission_time bandwidth packet.len
+  pub last_due : new.value.last_due ≡ due_by rule (moment + transmission_time bandwidth packet.len + delay * 1000000) old.value.last_due
+  pub waits : new.waits + 1 ≡ old.waits
+  pub flows_are : flows' ≡ slice_set flows flow (popped (flow_at flows flow))
+  pub pending_is : pending' ≡ in_order (record { due = new.value.last_due; packet = packet.packet; flow = flow; start = moment }) pending
+
+-- No slot has less room than before, and no packet has arrived.
+pub record KeepsSchedule (old new : LinkView) : Type 0 where
+  pub room : (slot : ℕ) → room_at old.schedule.room slot ≤ room_at new.schedule.room slot
+  pub arrivals : new.schedule.arrivals ≡ old.schedule.arrivals
+
+-- None of the flow's counts is above n.
+abbrev pub IsFlowWithin : ℕ → FlowState → Type 0
+IsFlowWithin n s = (s.lost ≤ n) × (s.full ≤ n) × (s.started + s.discarded + length s.backlog ≤ n)
+
+-- No count anywhere is above n. There is room in the delay line for each packet that waits.
+pub record Within (n : ℕ) (p : Parts) : Type 0 where
+  pub waiting_is : p.waiting ≡ waits_in_all (views_of p)
+  pub room : p.waiting ≤ p.line.room
+  pub pushed : p.line.pushed + p.waiting ≤ n
+  pub sums : length p.line.pending + p.waiting ≤ n
+  pub flows_are : (flow : ℕ) → IsFlowWithin n (flow_at p.flows.flows flow)
+  pub arrivals : (k : ℕ) (v : LinkView) → slice_get (views_of p) k ≡ Some v → v.schedule.arrivals ≤ n
+  pub accepted : p.accepted ≤ n
+
+-- Room is reserved for one more packet of the flow.
+pub record IsReady (flow : ℕ) (p : Parts) : Type 0 where
+  pub place : (flow_at p.flows.flows flow).reserved ≡ true
+  pub slot : (h : Home) (v : LinkView) (pipe : ℕ) → slice_get p.homes.items flow ≡ Some h → slice_get (views_of p) h.place ≡ Some v → v.link ≡ shared pipe → 0 < room_at v.schedule.room h.slot
+  pub line : p.waiting + 1 ≤ p.line.room
+
+-- A packet waits for the link at the place, which is free by the moment.
+pub record CanStart (p : Parts) (place moment : ℕ) : Type 0 where
+  pub view : LinkView
+  pub there : slice_get (views_of p) place ≡ Some view
+  pub some : 0 < view.waits
+  pub soon : view.value.free ≤ moment
+
+-- One start of the link at a place, seen by all parts.
+pub record StartsAt (place moment bandwidth delay : ℕ) (old new : Parts) : Type 0 where
+  pub view : LinkView
+  pub view' : LinkView
+  pub there : slice_get (views_of old) place ≡ Some view
+  pub views_are : views_of new ≡ slice_set (views_of old) place view'
+  pub starts : Starts old.rule bandwidth delay moment view old.flows.flows old.line.pending view' new.flows.flows new.line.pending
+  pub keeps : KeepsSchedule view view'
+  pub rule : new.rule ≡ old.rule
+  pub accepted : new.accepted ≡ old.accepted
+  pub keys : new.flows.keys ≡ old.flows.keys
+  pub homes : new.homes ≡ old.homes
+  pub waiting : new.waiting + 1 ≡ old.waiting
+  pub room : new.line.room + 1 ≡ old.line.room
+  pub pushed : new.line.pushed ≡ old.line.pushed + 1

@@ -1,0 +1,71 @@
+ghost use Rattle.std.specs.Prelude.{◌≡◌, ◌+◌, ◌<◌, ◌≤◌, ◌^◌, ◌++◌, List, length, nat_le, nat_lt, IfOk, OnErr};
+ghost use Rattle.std.specs.List.{filter};
+ghost use Rattle.std.specs.Vec.{vec_capacity};
+ghost use Rattle.dn_types.specs.Deliveries.{undelivered};
+ghost use Rattle.dn_types.specs.Trace.{Event};
+ghost use Rattle.dn_types.specs.declared.call.Call.TheVariants.{Collect};
+ghost use Rattle.dn_types.specs.declared.rule.Rule.{Rule as RuleValue};
+ghost use Rattle.dn_shaper.specs.Refinement.Calls.{Does};
+ghost use Rattle.dn_shaper.specs.Refinement.Sound.{IsSound};
+
+use crate::links::settle::settle;
+use crate::state::State;
+use dn_link::DelayLine;
+use dn_types::{Deliveries, Delivery, Moment, Reply};
+use std::alloc::{AllocError, Global};
+use std::mem;
+
+/// Takes the packets that are due at the moment out of the delay line, in order. The list has room
+/// for all that are under way.
+fn give(line: &mut DelayLine, at: u64, list: &mut Vec<Delivery>)
+    requires ordered { (rule : RuleValue) × (trace : List Event) × (line.old.pending ≡ undelivered rule trace) }
+    requires room { length list.old.items + length line.old.pending ≤ vec_capacity list.old }
+    ensures given { list.new.items ≡ list.old.items ++ filter (λ d. nat_le d.due at) line.old.pending }
+    ensures rest { line.new.pending ≡ filter (λ d. nat_lt at d.due) line.old.pending }
+    ensures keeps_room { line.old.room ≤ line.new.room }
+    ensures pushed { line.new.pushed ≡ line.old.pushed }
+{
+    while let Some(delivery) = line.pop_due(at) {
+        list.push_reserved(delivery);
+    }
+}
+
+/// A copy of the list in no more memory than it needs. Where that is refused, the answer is the list
+/// itself, and the next one is gathered in other memory.
+fn own_list(given: &mut Vec<Delivery>, alloc: Global) -> Vec<Delivery>
+    ensures { result.items ≡ given.old.items }
+{
+    match Vec::from_slice(alloc, given) {
+        Ok(list) => list,
+        Err(_) => mem::replace(given, Vec::new(alloc)),
+    }
+}
+
+/// Moves the clock, and gives the packets that are due by then. They are gathered in `given`, in which
+/// room for all that wait or are under way is made first. Its memory stays for the next Collect, since
+/// to ask the system for so much each time costs more than the rest of a call.
+pub fn collect(
+    state: &mut State,
+    given: &mut Vec<Delivery>,
+    alloc: Global,
+    moment: Moment,
+) -> Result<Reply, AllocError>
+    requires sound { IsSound state.old }
+    requires few { state.old.calls < 2 ^ 62 }
+    ensures does { IfOk result (λ reply. Does (Collect moment) state.old state.new reply) }
+    ensures sound { IsSound state.new }
+    ensures refused { OnErr result (state.new ≡ state.old) }
+{
+    let at = state.now.max(moment.get());
+    given.clear();
+    given.reserve(state.parts.line.len() + state.parts.waiting)?;
+    settle(&mut state.parts, &mut state.heap, &state.configured, at);
+    give(&mut state.parts.line, at, given);
+    let list = own_list(given, alloc);
+    state.now = at;
+    state.calls += 1;
+    Ok(Reply::Delivered {
+        at,
+        list: Deliveries::from_vec(list),
+    })
+}

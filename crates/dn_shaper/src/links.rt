@@ -1,0 +1,12 @@
+//! The links, the packets that wait for them, and the starts.
+pub mod accept;
+pub mod arrive;
+pub mod discard;
+pub mod home;
+pub mod judge;
+pub mod link_parts;
+pub mod next_start;
+pub mod parts;
+pub mod settle;
+pub mod shared_link;
+pub mod start;

@@ -1,0 +1,69 @@
+ghost use Rattle.std.specs.Prelude.{◌≡◌, ℕ, ◌+◌, ◌<◌, ◌≤◌, ◌^◌, sum, length};
+ghost use Rattle.dn_flows.specs.Table.{flow_at, lengths};
+ghost use Rattle.dn_shaper.specs.Refinement.Arriving.{Accepts, CanAccept, KeepsFlows};
+ghost use Rattle.dn_shaper.specs.Refinement.Settings.{settings_of};
+ghost use Rattle.dn_shaper.specs.Refinement.Settling.{IsKept};
+ghost use Rattle.dn_shaper.specs.Refinement.Starting.{IsReady, Within};
+ghost use Rattle.dn_shaper.specs.Refinement.Submitting.{GoesTo};
+
+use crate::links::arrive::{arrive, join_queue};
+use crate::links::next_start::NextStart;
+use crate::links::parts::Parts;
+use crate::links::start::start_next;
+use crate::settings::configured::Configured;
+use crate::settings::treatment::Treatment;
+use dn_heap::RunHeap;
+use dn_types::{Len, Target};
+
+/// Accepts a packet of the flow after a settling, in the room that was reserved, and answers its
+/// number. It starts at once where its link is idle.
+pub fn accept(
+    parts: &mut Parts,
+    heap: &mut RunHeap<NextStart>,
+    configured: &Configured,
+    flow: usize,
+    len: Len,
+    how: &Treatment,
+    at: u64,
+) -> u64
+    requires kept { IsKept parts.old heap.old }
+    requires within { flow < length parts.old.flows.keys }
+    requires goes { GoesTo flow how.now.target parts.old }
+    requires ready { IsReady flow parts.old }
+    requires bytes { sum (lengths (flow_at parts.old.flows.flows flow).backlog) + len < 2 ^ 32 }
+    requires early { at ≤ 2 ^ 62 }
+    requires few { (n : ℕ) × (n < 2 ^ 62) × Within n parts.old }
+    requires moves { heap.old.moves + parts.old.waiting + 2 ≤ 2 ^ 63 }
+    requires settled { CanAccept (settings_of configured.now) at flow parts.old }
+    ensures number { result ≡ parts.old.accepted }
+    ensures accepts { Accepts (settings_of configured.now) at flow len how.now.weight parts.old parts.new }
+    ensures kept { IsKept parts.new heap.new }
+    ensures within { (n : ℕ) → Within n parts.old → Within (n + 1) parts.new }
+    ensures moves { heap.new.moves + parts.new.waiting ≤ heap.old.moves + parts.old.waiting + 2 }
+    ensures keeps { KeepsFlows parts.old parts.new }
+{
+    let number = parts.accepted;
+    if let Target::Pipe(_) = how.target
+        && parts.flows.has_backlog(flow)
+    {
+        // Its own link waits already, so the packet is sent in its turn and the link isn't looked at.
+        join_queue(parts, flow, len);
+        return number;
+    }
+    let home = parts.homes[flow];
+    let link = &parts.links[home.place];
+    let free = link.times.free();
+    let waited = link.has_backlog(&parts.flows);
+    let pipe = link.pipe;
+    let idle = arrive(parts, home, flow, len, how.weight, at);
+    if idle {
+        let rates = configured.rates(pipe);
+        start_next(parts, home.place, at, &rates);
+    } else if !waited {
+        heap.push_reserved(NextStart {
+            moment: free,
+            place: home.place,
+        });
+    }
+    number
+}

@@ -1,0 +1,78 @@
+ghost use Rattle.std.specs.Prelude.{◌≡◌, ℕ, ◌+◌, ◌<◌, ◌≤◌, ◌^◌, true, sum, length, slice_get, Some};
+ghost use Rattle.dn_flows.specs.Table.{flow_at, lengths};
+ghost use Rattle.dn_shaper.specs.Refinement.Agreement.{Agrees};
+ghost use Rattle.dn_shaper.specs.Refinement.Arriving.{ArrivesAt, CanJoin, HasOneMore, Joins, JoinsQueue, is_idle};
+ghost use Rattle.dn_shaper.specs.Refinement.Views.{LinkView, IsAlone, queue_lengths, view_of, views_of};
+ghost use Rattle.dn_shaper.specs.declared.links.home.Home.{Home as HomeValue};
+
+use crate::links::home::Home;
+use crate::links::link_parts::{Carries, LinkParts};
+use crate::links::parts::Parts;
+use dn_flows::{Flows, Waiting};
+use dn_types::{Len, Weight};
+
+/// Whether no packet waits for the link and it is free by the moment.
+fn is_idle(link: &LinkParts, flows: &Flows, at: u64) -> bool
+    ensures { result ≡ is_idle at (view_of (queue_lengths flows.now.flows) link.now) }
+{
+    !link.has_backlog(flows) && link.times.free() <= at
+}
+
+/// A packet joins those that wait for the link: on a link of its own by its flow's queue alone, and
+/// on a shared one here too, where a busy period begins with it if the link is idle, which is
+/// answered.
+#[tactic(auto, using(crate::proofs::Scheduled::waits_forgotten))]
+fn join_link(
+    link: &mut LinkParts,
+    flows: &Flows,
+    slot: usize,
+    len: Len,
+    weight: Weight,
+    at: u64,
+) -> bool
+    requires can { CanJoin slot (view_of (queue_lengths flows.now.flows) link.old) (view_of (queue_lengths flows.now.flows) link.old).link }
+    ensures idle { result ≡ is_idle at (view_of (queue_lengths flows.now.flows) link.old) }
+    ensures joins { (after : ℕ → ℕ) → HasOneMore (queue_lengths flows.now.flows) after (view_of after link.old).link → Joins slot len weight result (view_of (queue_lengths flows.now.flows) link.old) (view_of after link.new) }
+{
+    let idle = is_idle(link, flows, at);
+    if let Carries::Shared(shared) = &mut link.carries {
+        if idle {
+            shared.sched.begin_busy();
+        }
+        shared.sched.arrive(slot, len, weight);
+    }
+    idle
+}
+
+/// A packet is accepted, and waits in its flow's queue.
+pub fn join_queue(parts: &mut Parts, flow: usize, len: Len)
+    requires within { flow < length parts.old.flows.flows }
+    requires reserved { (flow_at parts.old.flows.flows flow).reserved ≡ true }
+    requires bytes { sum (lengths (flow_at parts.old.flows.flows flow).backlog) + len < 2 ^ 32 }
+    requires accepted { parts.old.accepted < 2 ^ 62 }
+    requires waiting { parts.old.waiting < 2 ^ 62 }
+    ensures { JoinsQueue flow len parts.old parts.new }
+{
+    let packet = parts.accepted;
+    parts.flows.push_reserved(flow, Waiting { packet, len });
+    parts.accepted += 1;
+    parts.waiting += 1;
+}
+
+/// A packet is accepted at the moment, and waits at its home. The answer is whether its link was
+/// idle.
+pub fn arrive(parts: &mut Parts, home: Home, flow: usize, len: Len, weight: Weight, at: u64) -> bool
+    requires can { (v : LinkView) × (slice_get (views_of parts.old) home.place ≡ Some v) × CanJoin home.slot v v.link }
+    requires alone { IsAlone flow home.place (views_of parts.old) }
+    requires within { flow < length parts.old.flows.flows }
+    requires reserved { (flow_at parts.old.flows.flows flow).reserved ≡ true }
+    requires bytes { sum (lengths (flow_at parts.old.flows.flows flow).backlog) + len < 2 ^ 32 }
+    requires accepted { parts.old.accepted < 2 ^ 62 }
+    requires waiting { parts.old.waiting < 2 ^ 62 }
+    ensures { ArrivesAt at home flow len weight result parts.old parts.new }
+{
+    let link = &mut parts.links[home.place];
+    let idle = join_link(link, &parts.flows, home.slot, len, weight, at);
+    join_queue(parts, flow, len);
+    idle
+}

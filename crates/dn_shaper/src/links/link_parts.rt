@@ -1,0 +1,38 @@
+ghost use Rattle.std.specs.Prelude.{◌≡◌, nat_lt};
+ghost use Rattle.dn_shaper.specs.Refinement.Views.{queue_lengths, view_of};
+
+use crate::links::shared_link::SharedLink;
+use dn_flows::Flows;
+use dn_link::Link;
+use dn_types::Number;
+
+/// Whose packets a link carries: one flow's, or those of all queues on the pipe.
+#[derive(Drop)]
+pub enum Carries {
+    Own(usize),
+    /// In a block of its own, so that an own link doesn't take the room of a scheduler.
+    Shared(Box<SharedLink>),
+}
+
+/// A link. It has no count of the packets that wait for it: those of an own link wait in its flow's
+/// queue, and those of a shared one in its scheduler. So a packet that joins others on an own link
+/// leaves the link as it is.
+#[derive(Drop)]
+pub struct LinkParts {
+    pub pipe: Number,
+    /// From when it is free, and when its last packet was due.
+    pub times: Link,
+    pub carries: Carries,
+}
+
+impl LinkParts {
+    /// Whether a packet waits for the link.
+    pub fn has_backlog(&self, flows: &Flows) -> bool
+        ensures { result ≡ nat_lt 0 (view_of (queue_lengths flows.now.flows) self.now).waits }
+    {
+        match &self.carries {
+            Carries::Own(flow) => flows.has_backlog(*flow),
+            Carries::Shared(shared) => !shared.sched.is_idle(),
+        }
+    }
+}

@@ -1,0 +1,56 @@
+ghost use Rattle.std.specs.Prelude.{◌≡◌, ℕ, ◌+◌, ◌^◌, ◌<◌, ◌≤◌, All, true, false};
+ghost use Rattle.dn_shaper.specs.Refinement.Settings.{settings_of};
+ghost use Rattle.dn_shaper.specs.Refinement.Settling.{IsKept, OnlyStarts, StartsFirst, HasNoStart, SettlesAll};
+
+use crate::links::next_start::NextStart;
+use crate::links::parts::Parts;
+use crate::links::start::start_next;
+use crate::settings::configured::Configured;
+use dn_heap::RunHeap;
+
+/// Starts the packet that is next in time, where it starts by the moment.
+fn settle_one(
+    parts: &mut Parts,
+    heap: &mut RunHeap<NextStart>,
+    configured: &Configured,
+    at: u64,
+) -> bool
+    requires kept { IsKept parts.old heap.old }
+    requires early { at ≤ 2 ^ 62 }
+    requires moves { heap.old.moves + parts.old.waiting ≤ 2 ^ 63 }
+    ensures kept { IsKept parts.new heap.new }
+    ensures only { OnlyStarts parts.old heap.old parts.new heap.new }
+    ensures fewer { result ≡ true → parts.new.waiting + 1 ≡ parts.old.waiting }
+    ensures one { result ≡ true → StartsFirst (settings_of configured.now) at parts.old parts.new }
+    ensures none { result ≡ false → HasNoStart (settings_of configured.now) at parts.new }
+    ensures same { result ≡ false → parts.new ≡ parts.old }
+{
+    let Some(&top) = heap.peek() else {
+        return false;
+    };
+    if at < top.moment {
+        return false;
+    }
+    let NextStart { moment, place } = heap.pop().unwrap();
+    let rates = configured.rates(parts.links[place].pipe);
+    start_next(parts, place, moment, &rates);
+    let link = &parts.links[place];
+    if link.has_backlog(&parts.flows) {
+        let moment = link.times.free();
+        heap.push_reserved(NextStart { moment, place });
+    }
+    true
+}
+
+/// Starts all packets that start up to the moment, in order of time. It costs the starts that are
+/// due, and not the links that there are.
+pub fn settle(parts: &mut Parts, heap: &mut RunHeap<NextStart>, configured: &Configured, at: u64)
+    requires kept { IsKept parts.old heap.old }
+    requires early { at ≤ 2 ^ 62 }
+    requires moves { heap.old.moves + parts.old.waiting ≤ 2 ^ 63 }
+    ensures kept { IsKept parts.new heap.new }
+    ensures only { OnlyStarts parts.old heap.old parts.new heap.new }
+    ensures settled { SettlesAll (settings_of configured.now) at parts.old parts.new }
+{
+    while settle_one(parts, heap, configured, at) {}
+}

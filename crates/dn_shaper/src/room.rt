@@ -1,0 +1,5 @@
+//! The growths, all of which come before the first change.
+pub mod make;
+pub mod prepare;
+pub mod reserve;
+pub mod shared_places;

@@ -1,0 +1,156 @@
+//! The making of a flow's home. All growths come before the first change.
+ghost use Rattle.std.specs.Prelude.{◌≡◌, ℕ, ◌+◌, ◌-◌, ◌<◌, ◌^◌, Some, length, map, slice_get, IfOk, OnErr, OnOk};
+ghost use Rattle.dn_types.specs.Calls.{link_of};
+ghost use Rattle.dn_types.specs.Trace.{shared as shared_link};
+ghost use Rattle.dn_flows.specs.Table.{flow_at, IsUnused};
+ghost use Rattle.dn_shaper.specs.Refinement.Agreement.{link_names};
+ghost use Rattle.dn_shaper.specs.Refinement.Homing.{GivesHome, Houses, IsNewLink, KeepsHeap, KeepsLinks, OnlyReserves, Opens, Shares, TakesSlot, NotesFor, place_for, without_last};
+ghost use Rattle.dn_shaper.specs.Refinement.Making.{KeepsLink};
+ghost use Rattle.dn_shaper.specs.Refinement.Views.{queue_lengths, view_of, views_of};
+
+use crate::links::home::Home;
+use crate::links::link_parts::{Carries, LinkParts};
+use crate::links::next_start::NextStart;
+use crate::links::shared_link::SharedLink;
+use crate::room::shared_places::SharedPlaces;
+use crate::state::State;
+use dn_heap::RunHeap;
+use dn_link::Link;
+use dn_types::{FlowKey, Target};
+use std::alloc::{AllocError, Global};
+
+/// A new flow takes the next slot of a shared link, with room for a packet.
+#[tactic(auto, using(crate::proofs::Scheduled::waits_roomy))]
+fn take_slot(link: &mut LinkParts, flow: usize) -> Result<usize, AllocError>
+    requires is_shared { (queues : ℕ → ℕ) × (pipe : ℕ) × ((view_of queues link.old).link ≡ shared_link pipe) }
+    ensures slot { (queues : ℕ → ℕ) → IfOk result (λ slot. slot ≡ length (view_of queues link.old).slots) }
+    ensures takes { (queues : ℕ → ℕ) → OnOk result (TakesSlot flow (view_of queues link.old) (view_of queues link.new)) }
+    ensures refused { (queues : ℕ → ℕ) → OnErr result (KeepsLink (view_of queues link.old) (view_of queues link.new)) }
+{
+    match &mut link.carries {
+        Carries::Own(_) => unreachable!(),
+        Carries::Shared(shared) => shared.take_slot(flow),
+    }
+}
+
+/// A new flow gets its home on the link at the place, which is shared.
+fn share_link(links: &mut Vec<LinkParts>, place: usize, flow: usize) -> Result<Home, AllocError>
+    requires is_shared { (queues : ℕ → ℕ) × (pipe : ℕ) × (slice_get (link_names (map (view_of queues) links.old.items)) place ≡ Some (shared_link pipe)) }
+    ensures shares { (queues : ℕ → ℕ) → IfOk result (λ home. Shares flow place home (map (view_of queues) links.old.items) (map (view_of queues) links.new.items)) }
+    ensures refused { (queues : ℕ → ℕ) → OnErr result (KeepsLinks (map (view_of queues) links.old.items) (map (view_of queues) links.new.items)) }
+{
+    let slot = take_slot(&mut links[place], flow)?;
+    Ok(Home { place, slot })
+}
+
+/// A link on which nothing has started, for a new flow with the key, with room for a packet: one of
+/// its own, or the one that the queues on its pipe share from now on.
+fn new_link(alloc: Global, key: &FlowKey, flow: usize) -> Result<LinkParts, AllocError>
+    ensures { (queues : ℕ → ℕ) → queues flow ≡ 0 → IfOk result (λ made. IsNewLink (link_of key.now.target flow key.now.pipe) flow (view_of queues made)) }
+{
+    let carries = match key.target {
+        Target::Pipe(_) => Carries::Own(flow),
+        Target::Queue(_) => {
+            let mut shared = SharedLink::new(alloc);
+            shared.take_slot(flow)?;
+            Carries::Shared(Box::new(alloc, shared)?)
+        }
+    };
+    Ok(LinkParts {
+        pipe: key.pipe,
+        times: Link::new(),
+        carries,
+    })
+}
+
+/// A new flow gets its home on a link that is made for it at the end.
+fn make_link(
+    links: &mut Vec<LinkParts>,
+    heap: &mut RunHeap<NextStart>,
+    shared: &mut SharedPlaces,
+    alloc: Global,
+    key: &FlowKey,
+    flow: usize,
+) -> Result<Home, AllocError>
+    ensures opens { (queues : ℕ → ℕ) → queues flow ≡ 0 → IfOk result (λ home. Opens (link_of key.now.target flow key.now.pipe) flow home (map (view_of queues) links.old.items) (map (view_of queues) links.new.items) heap.new) }
+    ensures notes { IfOk result (λ home. NotesFor key.now.target key.now.pipe home.place shared.old shared.new) }
+    ensures heap { KeepsHeap heap.old heap.new }
+    ensures refused { OnErr result (links.new.items ≡ links.old.items) }
+    ensures unnoted { OnErr result (shared.new ≡ shared.old) }
+{
+    let place = links.len();
+    links.reserve(1)?;
+    heap.reserve(place + 1)?;
+    let link = new_link(alloc, key, flow)?;
+    shared.note(key, place)?;
+    links.push_reserved(link);
+    Ok(Home { place, slot: 0 })
+}
+
+/// A new flow with the key gets its home: on the link that it shares, where that is there, and else
+/// on one that is made.
+fn find_home(
+    links: &mut Vec<LinkParts>,
+    heap: &mut RunHeap<NextStart>,
+    shared: &mut SharedPlaces,
+    alloc: Global,
+    key: &FlowKey,
+    flow: usize,
+) -> Result<Home, AllocError>
+    requires noted { (queues : ℕ → ℕ) × ((place : ℕ) → place_for key.now shared.old ≡ Some place → slice_get (link_names (map (view_of queues) links.old.items)) place ≡ Some (shared_link key.now.pipe)) }
+    ensures houses { (queues : ℕ → ℕ) → queues flow ≡ 0 → IfOk result (λ home. Houses (place_for key.now shared.old) key.now flow home (map (view_of queues) links.old.items) (map (view_of queues) links.new.items) heap.new shared.old shared.new) }
+    ensures heap { KeepsHeap heap.old heap.new }
+    ensures refused { (queues : ℕ → ℕ) → OnErr result (KeepsLinks (map (view_of queues) links.old.items) (map (view_of queues) links.new.items)) }
+    ensures unnoted { OnErr result (shared.new ≡ shared.old) }
+{
+    match shared.place_for(key) {
+        Some(place) => share_link(links, place, flow),
+        None => make_link(links, heap, shared, alloc, key, flow),
+    }
+}
+
+/// Gives the last flow, which is new, its home, with room for a packet.
+fn make_home(state: &mut State, alloc: Global, key: &FlowKey, flow: usize) -> Result<(), AllocError>
+    requires within { flow < length state.old.parts.flows.flows }
+    requires empty { queue_lengths state.old.parts.flows.flows flow ≡ 0 }
+    requires few { state.old.parts.waiting < 2 ^ 62 }
+    requires noted { (place : ℕ) → place_for key.now state.old.shared ≡ Some place → slice_get (link_names (views_of state.old.parts)) place ≡ Some (shared_link key.now.pipe) }
+    ensures gives { OnOk result (GivesHome key.now flow state.old state.new) }
+    ensures refused { OnErr result (OnlyReserves state.old state.new) }
+{
+    state.parts.line.reserve(state.parts.waiting + 1)?;
+    state.parts.flows.reserve_place(flow)?;
+    state.parts.homes.reserve(1)?;
+    let home = find_home(
+        &mut state.parts.links,
+        &mut state.heap,
+        &mut state.shared,
+        alloc,
+        key,
+        flow,
+    )?;
+    state.parts.homes.push_reserved(home);
+    Ok(())
+}
+
+/// Gives the last flow, which was made for a packet, its home, with room for the packet. Where memory
+/// is refused, the flow is taken out again.
+pub fn house_last(
+    state: &mut State,
+    alloc: Global,
+    key: &FlowKey,
+    flow: usize,
+) -> Result<(), AllocError>
+    requires last { flow + 1 ≡ length state.old.parts.flows.flows }
+    requires unused { IsUnused (flow_at state.old.parts.flows.flows (length state.old.parts.flows.flows - 1)) }
+    requires few { state.old.parts.waiting < 2 ^ 62 }
+    requires noted { (place : ℕ) → place_for key.now state.old.shared ≡ Some place → slice_get (link_names (views_of state.old.parts)) place ≡ Some (shared_link key.now.pipe) }
+    ensures gives { OnOk result (GivesHome key.now flow state.old state.new) }
+    ensures forgets { OnErr result (OnlyReserves (without_last state.old) state.new) }
+{
+    if make_home(state, alloc, key, flow).is_err() {
+        state.parts.flows.forget_last();
+        return Err(AllocError);
+    }
+    Ok(())
+}

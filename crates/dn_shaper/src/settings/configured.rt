@@ -1,0 +1,234 @@
+ghost use Rattle.std.specs.Prelude.{◌≡◌, ℕ, List, None, IfSome, OnErr, OnOk, Some, is_some};
+ghost use Rattle.std.specs.Option.{option_copied, option_map};
+ghost use Rattle.dn_types.specs.Configuration.{command_reply, has_queues, subject};
+ghost use Rattle.dn_types.specs.Flows.{treatment};
+ghost use Rattle.dn_types.specs.declared.target.Target.{Target as TargetValue};
+ghost use Rattle.dn_shaper.specs.Refinement.Agreement.{GivesRates};
+ghost use Rattle.dn_shaper.specs.Refinement.Configuring.{IsAnswered, Lists, Puts};
+ghost use Rattle.dn_shaper.specs.Refinement.QueueCounts.{pipe_of};
+ghost use Rattle.dn_shaper.specs.Refinement.Settings.{settings_of};
+ghost use Rattle.dn_shaper.specs.Refinement.Submitting.{treatment_of};
+
+use crate::settings::in_force::{InForce, count_queue, discount_queue, replace};
+use crate::settings::rates::Rates;
+use crate::settings::treatment::Treatment;
+use dn_flows::DropRule;
+use dn_types::{Bandwidth, Buckets, Command, Delay, Limit, Mask, Number, Reply, Target, Weight};
+use indexmap::IndexMap;
+use std::alloc::{AllocError, Global};
+use std::marker::Model;
+
+/// The pipe or the queue that a command is about.
+fn subject(command: &Command) -> Target
+    ensures { result ≡ subject command.now }
+{
+    match command {
+        Command::Pipe { number, .. } | Command::DeletePipe(number) => Target::Pipe(*number),
+        Command::Queue { number, .. } | Command::DeleteQueue(number) => Target::Queue(*number),
+    }
+}
+
+/// The pipe that is named where this is in force for the target, if that is a queue.
+fn pipe_of(target: &Target, setting: Option<&Command>) -> Option<Number>
+    ensures { result ≡ pipe_of target.now (option_copied setting.entry) }
+{
+    match (target, setting) {
+        (Target::Queue(_), Some(Command::Queue { pipe, .. })) => Some(*pipe),
+        _ => None,
+    }
+}
+
+/// How packets are treated where the command is in force. A pipe's own packets have weight 1.
+fn treatment_by(target: &Target, command: &Command) -> Option<Treatment>
+    ensures value { option_map treatment_of result ≡ treatment (Some command.now) }
+    ensures target { IfSome result (λ how. how.target ≡ target.now) }
+{
+    match command {
+        Command::Pipe {
+            number,
+            limit,
+            loss,
+            mask,
+            ..
+        } => Some(Treatment {
+            target: *target,
+            pipe: *number,
+            weight: Weight::new(1).unwrap(),
+            mask: *mask,
+            drops: DropRule {
+                limit: *limit,
+                loss: *loss,
+            },
+        }),
+        Command::Queue {
+            pipe,
+            weight,
+            limit,
+            loss,
+            mask,
+            ..
+        } => Some(Treatment {
+            target: *target,
+            pipe: *pipe,
+            weight: *weight,
+            mask: *mask,
+            drops: DropRule {
+                limit: *limit,
+                loss: *loss,
+            },
+        }),
+        _ => None,
+    }
+}
+
+/// The commands that are in force, by the pipe or the queue that they are about, and with each pipe
+/// the count of its queues. Contracts see a list of the commands with these.
+#[derive(Drop)]
+pub struct Configured {
+    commands: IndexMap<Target, InForce>,
+}
+
+impl Model for Configured {
+    ghost use Rattle.std.specs.Prelude.{List};
+    ghost use Rattle.dn_types.specs.declared.command.Command.{Command};
+    ghost use Rattle.dn_types.specs.declared.target.Target.{Target};
+
+    ghost Value = { List (Target × Command) };
+
+    ghost use Rattle.dn_shaper.specs.Refinement.QueueCounts.{commands_of, CountsQueues};
+
+    ghost view = { λ a. commands_of a.commands.entries };
+
+    ghost invariant = { λ a. CountsQueues a.commands.entries };
+}
+
+impl Configured {
+    /// No pipe and no queue. It takes no memory.
+    pub fn new(alloc: Global) -> Configured
+        ensures none { (target : TargetValue) → settings_of result target ≡ None }
+    {
+        Configured {
+            commands: IndexMap::new(alloc),
+        }
+    }
+
+    /// The command that is in force for the pipe or the queue.
+    fn command(&self, target: Target) -> Option<&Command>
+        ensures { option_copied result ≡ settings_of self.now target }
+    {
+        match self.commands.get(&target) {
+            Some(in_force) => Some(&in_force.command),
+            None => None,
+        }
+    }
+
+    /// The bandwidth and the delay of a pipe, which are 0 where it has no configuration.
+    pub fn rates(&self, pipe: Number) -> Rates
+        ensures { GivesRates (settings_of self.now) pipe result.bandwidth result.delay }
+    {
+        match self.command(Target::Pipe(pipe)) {
+            Some(Command::Pipe { bw, delay, .. }) => Rates {
+                bandwidth: *bw,
+                delay: *delay,
+            },
+            _ => Rates {
+                bandwidth: Bandwidth::new(0).unwrap(),
+                delay: Delay::new(0).unwrap(),
+            },
+        }
+    }
+
+    /// How packets to a target are treated, where it is configured.
+    pub fn treatment(&self, target: Target) -> Option<Treatment>
+        ensures value { option_map treatment_of result ≡ treatment (settings_of self.now target) }
+        ensures target { IfSome result (λ how. how.target ≡ target) }
+    {
+        match self.command(target) {
+            Some(command) => treatment_by(&target, command),
+            None => None,
+        }
+    }
+
+    /// Whether the pipe or the queue is configured.
+    fn has(&self, target: Target) -> bool
+        ensures { result ≡ is_some (settings_of self.now target) }
+    {
+        self.command(target).is_some()
+    }
+
+    /// Whether a configured queue names the pipe.
+    fn has_queues(&self, pipe: Number) -> bool
+        ensures { (queues : List ℕ) → Lists (settings_of self.now) queues → result ≡ has_queues (settings_of self.now) queues pipe }
+    {
+        match self.commands.get(&Target::Pipe(pipe)) {
+            Some(in_force) => in_force.queues > 0,
+            None => false,
+        }
+    }
+
+    /// How a command is answered.
+    pub fn reply(&self, command: &Command) -> Reply
+        ensures { (queues : List ℕ) → Lists (settings_of self.now) queues → result ≡ command_reply (settings_of self.now) queues command.now }
+    {
+        match command {
+            Command::Pipe { .. } => Reply::Configured,
+            Command::Queue { pipe, .. } => {
+                if self.has(Target::Pipe(*pipe)) {
+                    Reply::Configured
+                } else {
+                    Reply::NoSuchPipe
+                }
+            }
+            Command::DeletePipe(number) => {
+                if !self.has(Target::Pipe(*number)) {
+                    Reply::NoSuchPipe
+                } else if self.has_queues(*number) {
+                    Reply::PipeHasQueues
+                } else {
+                    Reply::Deleted
+                }
+            }
+            Command::DeleteQueue(number) => {
+                if self.has(Target::Queue(*number)) {
+                    Reply::Deleted
+                } else {
+                    Reply::NoSuchQueue
+                }
+            }
+        }
+    }
+
+    /// Puts an accepted pipe or queue command in force. Only one for a new target takes memory.
+    pub fn put(&mut self, command: &Command) -> Result<(), AllocError>
+        requires accepted { IsAnswered (settings_of self.old) command.now Reply.Configured }
+        ensures puts { OnOk result (Puts command.now (Some command.now) (settings_of self.old) (settings_of self.new)) }
+        ensures refused { OnErr result (settings_of self.new ≡ settings_of self.old) }
+        ensures only_new { OnErr result (settings_of self.old (subject command.now) ≡ None) }
+    {
+        // The prover asks that a body that moves a command into or out of a map names the types in it.
+        let _limit: Option<Limit> = None;
+        let _buckets: Option<Buckets> = None;
+        let _mask: Option<Mask> = None;
+        let target = subject(command);
+        let replaced = replace(&mut self.commands, target, *command)?;
+        let left = pipe_of(&target, replaced.as_ref());
+        discount_queue(&mut self.commands, left);
+        count_queue(&mut self.commands, pipe_of(&target, Some(command)));
+        Ok(())
+    }
+
+    /// Takes out what an accepted delete is about.
+    pub fn remove(&mut self, command: &Command)
+        requires accepted { IsAnswered (settings_of self.old) command.now Reply.Deleted }
+        ensures { Puts command.now None (settings_of self.old) (settings_of self.new) }
+    {
+        // The prover asks that a body that moves a command into or out of a map names the types in it.
+        let _limit: Option<Limit> = None;
+        let _buckets: Option<Buckets> = None;
+        let _mask: Option<Mask> = None;
+        let target = subject(command);
+        let removed = self.commands.swap_remove(&target).unwrap();
+        let left = pipe_of(&target, Some(&removed.command));
+        discount_queue(&mut self.commands, left);
+    }
+}
