@@ -19,7 +19,7 @@ use Rattle.dn_shaper.specs.declared.links.parts.Parts.{Parts}
 use Rattle.dn_shaper.specs.Refinement.Agreement.{AgreesWith, Agrees, GivesRates, link_names}
 use Rattle.dn_shaper.specs.Refinement.Arriving.{ArrivesAt, Accepts, CanAccept, KeepsFlows}
 use Rattle.dn_shaper.specs.Refinement.NextStarts.{Holds, one_backlogged, backlogged}
-use Rattle.dn_shaper.specs.Refinement.Settling.{IsKept}
+use Rattle.dn_shaper.specs.Refinement.Settling.{AreInStep}
 use Rattle.dn_shaper.specs.Refinement.Starting.{Within, IsReady, CanStart, StartsAt}
 use Rattle.dn_shaper.specs.Refinement.Views.{LinkView, views_of, home, next_starts, next_start_of}
 use Rattle.dn_shaper.proofs.Arriving.{set-self, set-set, link-home, arrives-agree, next-alone, starts-at-once, arrives-nexts, arrives-names, arrives-within}
@@ -31,7 +31,7 @@ use Rattle.dn_shaper.proofs.Accepting.{within-more, holds_pushed, backlogged-one
 pub same-view : (at : ℕ) (h : Home) (flow len weight : ℕ) (idle : Bool) (old mid : Parts) (s : ArrivesAt at h flow len weight idle old mid) (v : LinkView) → slice_get (views_of old) h.place ≡ Some v → s.view ≡ v
 same-view at h flow len weight idle old mid s v there = let both : Some s.view ≡ Some v = sym s.there ∙ there in cc
 
-module _ (settings : Settings) (at : ℕ) (h : Home) (flow len weight : ℕ) (idle : Bool) (old mid : Parts) (heap : Heap NextStart) (kept : IsKept old heap) (within : flow < length old.flows.keys) (ready : IsReady flow old) (few : (n : ℕ) × (n < 2 ^ 62) × Within n old) (can : CanAccept settings at flow old)
+module _ (settings : Settings) (at : ℕ) (h : Home) (flow len weight : ℕ) (idle : Bool) (old mid : Parts) (heap : Heap NextStart) (kept : AreInStep old heap) (within : flow < length old.flows.keys) (ready : IsReady flow old) (few : (n : ℕ) × (n < 2 ^ 62) × Within n old) (can : CanAccept settings at flow old)
     (at_home : slice_get old.homes.items flow ≡ Some h) (s : ArrivesAt at h flow len weight idle old mid) where
   home-is : home old.flows.keys flow ≡ s.view.link
   home-is = link-home settings at h flow len weight idle old mid s can.0 can.1 can.2 within at_home
@@ -119,7 +119,7 @@ module _ (settings : Settings) (at : ℕ) (h : Home) (flow len weight : ℕ) (id
           ∙ ap (λ (o : Option ℕ). set (next_starts (views_of old)) h.place o) (next-none t.view' (omega arith) ∙ sym (next-none s.view (omega arith)))
           ∙ set-self (next_starts (views_of old)) h.place (next_start_of s.view) next-then
 
-      pub idle-kept : IsKept new heap
+      pub idle-kept : AreInStep new heap
       idle-kept = record {
         agrees =
             let m = mid-agrees in
@@ -186,7 +186,7 @@ module _ (settings : Settings) (at : ℕ) (h : Home) (flow len weight : ℕ) (id
       length-nexts [] = refl
       length-nexts (v ∷ vs) = ap suc (length-nexts vs)
 
-  pub first-kept : s.view.waits ≡ 0 → (heap' : Heap NextStart) → IsPermutation (record { moment = s.view.value.free; place = h.place } ∷ heap.keys) heap'.keys → heap'.room + 1 ≡ heap.room → IsKept mid heap'
+  pub first-kept : s.view.waits ≡ 0 → (heap' : Heap NextStart) → IsPermutation (record { moment = s.view.value.free; place = h.place } ∷ heap.keys) heap'.keys → heap'.room + 1 ≡ heap.room → AreInStep mid heap'
   first-kept zero_waits heap' perm room =
       let none : next_start_of s.view ≡ None = next-none s.view (omega arith) in
       let w = s.joins.waits in
@@ -211,7 +211,7 @@ module _ (settings : Settings) (at : ℕ) (h : Home) (flow len weight : ℕ) (id
       }
 
   -- Others wait before it.
-  pub other-kept : 0 < s.view.waits → IsKept mid heap
+  pub other-kept : 0 < s.view.waits → AreInStep mid heap
   other-kept some =
       let w = s.joins.waits in
       let same : next_start_of s.view' ≡ next_start_of s.view = next-some s.view' (omega arith) ∙ ap (λ x. Some x.free) s.joins.value ∙ sym (next-some s.view some) in

@@ -14,8 +14,8 @@ use Rattle.dn_shaper.specs.declared.links.home.Home.{Home}
 use Rattle.dn_shaper.specs.declared.links.parts.Parts.{Parts}
 use Rattle.dn_shaper.specs.Refinement.Agreement.{IsHomeOf}
 use Rattle.dn_shaper.specs.Refinement.Arriving.{CanJoin, CanAccept}
-use Rattle.dn_shaper.specs.Refinement.NextStarts.{next_at, standing, Holds, one_backlogged, backlogged}
-use Rattle.dn_shaper.specs.Refinement.Settling.{IsKept}
+use Rattle.dn_shaper.specs.Refinement.NextStarts.{next_at, keys_at, Holds, one_backlogged, backlogged}
+use Rattle.dn_shaper.specs.Refinement.Settling.{AreInStep}
 use Rattle.dn_shaper.specs.Refinement.Starting.{Within, IsReady}
 use Rattle.dn_shaper.specs.Refinement.Views.{LinkView, IsAlone, views_of, home, next_start_of}
 use Rattle.dn_shaper.proofs.Alone.{is-alone}
@@ -35,16 +35,16 @@ within-more n m p le w = record {
 -- ---- A heap with one key more
 
 module _ (nexts : List (Option ℕ)) (keys : List NextStart) (h : Holds nexts keys) (place m : ℕ) (inside : place < length nexts) (none : next_at nexts place ≡ None) (new : List NextStart) (perm : IsPermutation (record { moment = m; place = place } ∷ keys) new) where
-  none_there : standing place keys ≡ 0
+  none_there : keys_at place keys ≡ 0
   none_there = h.once place ∙ ap {B = ℕ} (λ (o : Option ℕ). cond (is_some o) 1 0) none
 
-  once_pushed : (p : ℕ) → standing p new ≡ cond (is_some (next_at (set nexts place (Some m)) p)) 1 0
+  once_pushed : (p : ℕ) → keys_at p new ≡ cond (is_some (next_at (set nexts place (Some m)) p)) 1 0
   once_pushed p = by (cases_eq p place)
     where
-      by : (p ≡ place) ⊎ (p ≡ place → ⊥) → standing p new ≡ cond (is_some (next_at (set nexts place (Some m)) p)) 1 0
+      by : (p ≡ place) ⊎ (p ≡ place → ⊥) → keys_at p new ≡ cond (is_some (next_at (set nexts place (Some m)) p)) 1 0
       by (inl e) =
-          let At : ℕ → Type 0 = λ n. standing n new ≡ cond (is_some (next_at (set nexts place (Some m)) n)) 1 0 in
-          let one : standing place new ≡ 1 = let a = pushed place (record { moment = m; place = place }) keys new perm in let b = same_place place (record { moment = m; place = place }) refl in let z = none_there in omega (arith, a, b, z) in
+          let At : ℕ → Type 0 = λ n. keys_at n new ≡ cond (is_some (next_at (set nexts place (Some m)) n)) 1 0 in
+          let one : keys_at place new ≡ 1 = let a = pushed place (record { moment = m; place = place }) keys new perm in let b = same_place place (record { moment = m; place = place }) refl in let z = none_there in omega (arith, a, b, z) in
           subst At (sym e) (one ∙ sym (ap {B = ℕ} (λ (o : Option ℕ). cond (is_some o) 1 0) (get_or-set_same nexts place (Some m) None inside)))
       by (inr ne) =
           let a = pushed p (record { moment = m; place = place }) keys new perm in
@@ -105,7 +105,7 @@ next-none v none = ap {B = Option ℕ} (λ b. cond b (Some v.value.free) None) (
 
 -- ---- What accepting needs
 
-module _ (settings : Settings) (at flow : ℕ) (p : Parts) (heap : Heap NextStart) (kept : IsKept p heap) (within : flow < length p.flows.keys) (ready : IsReady flow p) (few : (n : ℕ) × (n < 2 ^ 62) × Within n p) (can : CanAccept settings at flow p) where
+module _ (settings : Settings) (at flow : ℕ) (p : Parts) (heap : Heap NextStart) (kept : AreInStep p heap) (within : flow < length p.flows.keys) (ready : IsReady flow p) (few : (n : ℕ) × (n < 2 ^ 62) × Within n p) (can : CanAccept settings at flow p) where
   pub home-there : (h : Home) × (slice_get p.homes.items flow ≡ Some h) × IsHomeOf flow (home p.flows.keys flow) (views_of p) h
   home-there = can.2.homes_are flow within
 

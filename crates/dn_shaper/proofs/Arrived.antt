@@ -13,7 +13,7 @@ use Rattle.dn_flows.specs.Table.{FlowState, flow_at, pushed}
 use Rattle.dn_flows.specs.declared.waiting.Waiting.{Waiting}
 use Rattle.dn_flows.proofs.Views.{flow_after_set}
 use Rattle.dn_shaper.specs.declared.links.home.Home.{Home}
-use Rattle.dn_shaper.specs.Refinement.Views.{LinkView, home, waiting_of, stamped_of, at_slot}
+use Rattle.dn_shaper.specs.Refinement.Views.{LinkView, home, as_queued, stamped_of, slotted}
 use Rattle.dn_shaper.specs.Refinement.Agreement.{AreDistinct, IsAt, IsLinkAt, IsFlowAt, IsScheduleAt, IsSlotAt, link_names}
 use Rattle.dn_shaper.proofs.Events.{uncounted, counted-once, read-set, append-none, length-set}
 use Rattle.dn_flows.proofs.Places.{eq-no, eq-yes, get-set, get-set-other, map-set-same, get-below}
@@ -31,7 +31,7 @@ module _ (rule : Rule) (accepted : ℕ) (keys : List FlowKey) (homes : List Home
   module _ (k : ℕ) (v : LinkView) (there : slice_get views k ≡ Some v) (flow : ℕ) (within : flow < length keys) (here : home keys flow ≡ v.link) (made : link_names views ≡ with_link v.link (links trace))
       (p : Accepted) (on : p.link ≡ v.link) (flow_is : p.stamped.flow ≡ flow) (number_is : p.packet ≡ accepted)
       (v' : LinkView) (same_link : v'.link ≡ v.link) (same_value : v'.value ≡ v.value) (one_more : v'.waits ≡ v.waits + 1) (same_slots : v'.slots ≡ v.slots)
-      (arrival : (pipe : ℕ) → v.link ≡ shared pipe → (slot : ℕ) × (slice_get v.slots slot ≡ Some flow) × (slot < length v.schedule.flows) × (v'.schedule.flows ≡ set v.schedule.flows slot (joined_by (slot_at v.schedule.flows slot) (at_slot slot p.stamped))) × (v'.schedule.virtual_time ≡ v.schedule.virtual_time)) where
+      (arrival : (pipe : ℕ) → v.link ≡ shared pipe → (slot : ℕ) × (slice_get v.slots slot ≡ Some flow) × (slot < length v.schedule.flows) × (v'.schedule.flows ≡ set v.schedule.flows slot (joined_by (slot_at v.schedule.flows slot) (slotted slot p.stamped))) × (v'.schedule.virtual_time ≡ v.schedule.virtual_time)) where
     both : (x y : Bool) → x ≡ true → y ≡ true → (x && y) ≡ true
     both true y e f = f
     both false y e f = absurd cc
@@ -59,32 +59,32 @@ module _ (rule : Rule) (accepted : ℕ) (keys : List FlowKey) (homes : List Home
           beyond = λ slot le.
               let lt = get-below v.slots r.0 flow r.1 in
               ap (λ (fs : List Flow). slot_at fs slot) r.3
-              ∙ read-set v.schedule.flows r.0 slot (joined_by (slot_at v.schedule.flows r.0) (at_slot r.0 p.stamped)) no_packets r.2
-              ∙ ap (λ b. cond b (joined_by (slot_at v.schedule.flows r.0) (at_slot r.0 p.stamped)) (slot_at v.schedule.flows slot)) (eq-no r.0 slot (λ e. absurd (omega arith)))
+              ∙ read-set v.schedule.flows r.0 slot (joined_by (slot_at v.schedule.flows r.0) (slotted r.0 p.stamped)) no_packets r.2
+              ∙ ap (λ b. cond b (joined_by (slot_at v.schedule.flows r.0) (slotted r.0 p.stamped)) (slot_at v.schedule.flows slot)) (eq-no r.0 slot (λ e. absurd (omega arith)))
               ∙ c.beyond slot le;
         }
       where
-        slot_after : IsScheduleAt v.link trace v.schedule v.slots → (i : ℕ) → slice_get v.slots i ≡ Some flow → i < length v.schedule.flows → v'.schedule.flows ≡ set v.schedule.flows i (joined_by (slot_at v.schedule.flows i) (at_slot i p.stamped)) → (slot g : ℕ) → slice_get v.slots slot ≡ Some g → (i ≡ slot) ⊎ (i ≡ slot → ⊥) → IsSlotAt v.link g slot (arrived p ∷ trace) (slot_at v'.schedule.flows slot)
+        slot_after : IsScheduleAt v.link trace v.schedule v.slots → (i : ℕ) → slice_get v.slots i ≡ Some flow → i < length v.schedule.flows → v'.schedule.flows ≡ set v.schedule.flows i (joined_by (slot_at v.schedule.flows i) (slotted i p.stamped)) → (slot g : ℕ) → slice_get v.slots slot ≡ Some g → (i ≡ slot) ⊎ (i ≡ slot → ⊥) → IsSlotAt v.link g slot (arrived p ∷ trace) (slot_at v'.schedule.flows slot)
         slot_after c i at_i lt now slot g e (inl same) =
-            let now_at = ap (λ (fs : List Flow). slot_at fs i) now ∙ read-set v.schedule.flows i i (joined_by (slot_at v.schedule.flows i) (at_slot i p.stamped)) no_packets lt ∙ ap (λ b. cond b (joined_by (slot_at v.schedule.flows i) (at_slot i p.stamped)) (slot_at v.schedule.flows i)) (eq-yes i i refl) in
+            let now_at = ap (λ (fs : List Flow). slot_at fs i) now ∙ read-set v.schedule.flows i i (joined_by (slot_at v.schedule.flows i) (slotted i p.stamped)) no_packets lt ∙ ap (λ b. cond b (joined_by (slot_at v.schedule.flows i) (slotted i p.stamped)) (slot_at v.schedule.flows i)) (eq-yes i i refl) in
             let found : Some flow ≡ Some g = sym at_i ∙ ap (slice_get v.slots) same ∙ e in
             let g_is : flow ≡ g = cc in
             let base : IsSlotAt v.link flow i (arrived p ∷ trace) (slot_at v'.schedule.flows i) = record {
               backlog_is =
                   ap (λ (f : Flow). f.backlog) now_at
-                  ∙ ap (λ (q : List Stamped). q ++ at_slot i p.stamped ∷ []) (c.slots_are i flow at_i).backlog_is
-                  ∙ sym (map-append (at_slot i) (stamped_of (backlog v.link flow trace)) (p.stamped ∷ []))
-                  ∙ ap (λ (q : List Stamped). map (at_slot i) q) (sym (map-append (λ (x : Accepted). x.stamped) (backlog v.link flow trace) (p ∷ [])))
-                  ∙ ap (λ b. map (at_slot i) (stamped_of (cond b (backlog v.link flow trace ++ p ∷ []) (backlog v.link flow trace)))) (sym is_here);
+                  ∙ ap (λ (q : List Stamped). q ++ slotted i p.stamped ∷ []) (c.slots_are i flow at_i).backlog_is
+                  ∙ sym (map-append (slotted i) (stamped_of (backlog v.link flow trace)) (p.stamped ∷ []))
+                  ∙ ap (λ (q : List Stamped). map (slotted i) q) (sym (map-append (λ (x : Accepted). x.stamped) (backlog v.link flow trace) (p ∷ [])))
+                  ∙ ap (λ b. map (slotted i) (stamped_of (cond b (backlog v.link flow trace ++ p ∷ []) (backlog v.link flow trace)))) (sym is_here);
               last_finish_is = ap (λ (f : Flow). f.last_finish_tag) now_at ∙ sym (ap (λ b. cond b p.stamped.finish_tag (last_finish_tag v.link flow trace)) is_here);
             } in
             subst (λ (x : ℕ × ℕ). IsSlotAt v.link x.0 x.1 (arrived p ∷ trace) (slot_at v'.schedule.flows x.1)) (λ j. (g_is j, same j)) base
         slot_after c i at_i lt now slot g e (inr ne) =
-            let now_at = ap (λ (fs : List Flow). slot_at fs slot) now ∙ read-set v.schedule.flows i slot (joined_by (slot_at v.schedule.flows i) (at_slot i p.stamped)) no_packets lt ∙ ap (λ b. cond b (joined_by (slot_at v.schedule.flows i) (at_slot i p.stamped)) (slot_at v.schedule.flows slot)) (eq-no i slot ne) in
+            let now_at = ap (λ (fs : List Flow). slot_at fs slot) now ∙ read-set v.schedule.flows i slot (joined_by (slot_at v.schedule.flows i) (slotted i p.stamped)) no_packets lt ∙ ap (λ b. cond b (joined_by (slot_at v.schedule.flows i) (slotted i p.stamped)) (slot_at v.schedule.flows slot)) (eq-no i slot ne) in
             let apart = not_flow v.link g (slots-apart v.slots (a.views_are k v there).ascends i slot flow g at_i e ne) in
             let s = c.slots_are slot g e in
             record {
-              backlog_is = ap (λ (f : Flow). f.backlog) now_at ∙ s.backlog_is ∙ ap (λ b. map (at_slot slot) (stamped_of (cond b (backlog v.link g trace ++ p ∷ []) (backlog v.link g trace)))) (sym apart);
+              backlog_is = ap (λ (f : Flow). f.backlog) now_at ∙ s.backlog_is ∙ ap (λ b. map (slotted slot) (stamped_of (cond b (backlog v.link g trace ++ p ∷ []) (backlog v.link g trace)))) (sym apart);
               last_finish_is = ap (λ (f : Flow). f.last_finish_tag) now_at ∙ s.last_finish_is ∙ sym (ap (λ b. cond b p.stamped.finish_tag (last_finish_tag v.link g trace)) apart);
             }
 
@@ -110,7 +110,7 @@ module _ (rule : Rule) (accepted : ℕ) (keys : List FlowKey) (homes : List Home
           schedule_is = λ pipe is. let c = b.schedule_is pipe is in record {
             virtual_time_is = c.virtual_time_is;
             slots_are = λ slot g eg. let s = c.slots_are slot g eg in record {
-              backlog_is = s.backlog_is ∙ sym (ap (λ t. map (at_slot slot) (stamped_of (cond (t && nat_eq p.stamped.flow g) (backlog w.link g trace ++ p ∷ []) (backlog w.link g trace)))) apart);
+              backlog_is = s.backlog_is ∙ sym (ap (λ t. map (slotted slot) (stamped_of (cond (t && nat_eq p.stamped.flow g) (backlog w.link g trace ++ p ∷ []) (backlog w.link g trace)))) apart);
               last_finish_is = s.last_finish_is ∙ sym (ap (λ t. cond (t && nat_eq p.stamped.flow g) p.stamped.finish_tag (last_finish_tag w.link g trace)) apart);
             };
             beyond = c.beyond;
@@ -132,38 +132,38 @@ module _ (rule : Rule) (accepted : ℕ) (keys : List FlowKey) (homes : List Home
     names_same : link_names (set views k v') ≡ link_names views
     names_same = map-set-same (λ (x : LinkView). x.link) views k v v' there same_link
 
-    flow_after : (g : ℕ) → IsFlowAt (home keys g) g (arrived p ∷ trace) (flow_at (set flows flow (pushed (waiting_of p) (flow_at flows flow))) g)
+    flow_after : (g : ℕ) → IsFlowAt (home keys g) g (arrived p ∷ trace) (flow_at (set flows flow (pushed (as_queued p) (flow_at flows flow))) g)
     flow_after g = by (cases_eq flow g)
       where
         in_table : flow < length flows
         in_table = let m = a.as_many in omega arith
 
-        now_at : flow_at (set flows flow (pushed (waiting_of p) (flow_at flows flow))) g ≡ cond (nat_eq flow g) (pushed (waiting_of p) (flow_at flows flow)) (flow_at flows g)
-        now_at = flow_after_set flows flow g (pushed (waiting_of p) (flow_at flows flow)) in_table
+        now_at : flow_at (set flows flow (pushed (as_queued p) (flow_at flows flow))) g ≡ cond (nat_eq flow g) (pushed (as_queued p) (flow_at flows flow)) (flow_at flows g)
+        now_at = flow_after_set flows flow g (pushed (as_queued p) (flow_at flows flow)) in_table
 
-        by : (flow ≡ g) ⊎ (flow ≡ g → ⊥) → IsFlowAt (home keys g) g (arrived p ∷ trace) (flow_at (set flows flow (pushed (waiting_of p) (flow_at flows flow))) g)
+        by : (flow ≡ g) ⊎ (flow ≡ g → ⊥) → IsFlowAt (home keys g) g (arrived p ∷ trace) (flow_at (set flows flow (pushed (as_queued p) (flow_at flows flow))) g)
         by (inl same) =
-            let is : flow_at (set flows flow (pushed (waiting_of p) (flow_at flows flow))) g ≡ pushed (waiting_of p) (flow_at flows g) = now_at ∙ ap (λ b. cond b (pushed (waiting_of p) (flow_at flows flow)) (flow_at flows g)) (eq-yes flow g same) ∙ ap (λ i. pushed (waiting_of p) (flow_at flows i)) same in
+            let is : flow_at (set flows flow (pushed (as_queued p) (flow_at flows flow))) g ≡ pushed (as_queued p) (flow_at flows g) = now_at ∙ ap (λ b. cond b (pushed (as_queued p) (flow_at flows flow)) (flow_at flows g)) (eq-yes flow g same) ∙ ap (λ i. pushed (as_queued p) (flow_at flows i)) same in
             let b = a.flows_are g in
             record {
               backlog_is =
                   ap (λ (x : FlowState). x.backlog) is
-                  ∙ ap (λ (q : List Waiting). q ++ waiting_of p ∷ []) b.backlog_is
-                  ∙ sym (map-append waiting_of (backlog (home keys g) g trace) (p ∷ []))
-                  ∙ ap (λ t. map waiting_of (cond t (backlog (home keys g) g trace ++ p ∷ []) (backlog (home keys g) g trace))) (sym (same_test g ∙ eq-yes flow g same));
+                  ∙ ap (λ (q : List Waiting). q ++ as_queued p ∷ []) b.backlog_is
+                  ∙ sym (map-append as_queued (backlog (home keys g) g trace) (p ∷ []))
+                  ∙ ap (λ t. map as_queued (cond t (backlog (home keys g) g trace ++ p ∷ []) (backlog (home keys g) g trace))) (sym (same_test g ∙ eq-yes flow g same));
               lost_is = ap (λ (x : FlowState). x.lost) is ∙ b.lost_is ∙ sym (uncounted (is_loss_of g) (arrived p) trace refl);
               full_is = ap (λ (x : FlowState). x.full) is ∙ b.full_is ∙ sym (uncounted (is_refusal_of g) (arrived p) trace refl);
               started_is = ap (λ (x : FlowState). x.started) is ∙ b.started_is ∙ sym (uncounted (is_start_of g) (arrived p) trace refl);
               discarded_is = ap (λ (x : FlowState). x.discarded) is ∙ b.discarded_is;
             }
         by (inr ne) =
-            let is : flow_at (set flows flow (pushed (waiting_of p) (flow_at flows flow))) g ≡ flow_at flows g = now_at ∙ ap (λ b. cond b (pushed (waiting_of p) (flow_at flows flow)) (flow_at flows g)) (eq-no flow g ne) in
+            let is : flow_at (set flows flow (pushed (as_queued p) (flow_at flows flow))) g ≡ flow_at flows g = now_at ∙ ap (λ b. cond b (pushed (as_queued p) (flow_at flows flow)) (flow_at flows g)) (eq-no flow g ne) in
             let b = a.flows_are g in
             record {
               backlog_is =
                   ap (λ (x : FlowState). x.backlog) is
                   ∙ b.backlog_is
-                  ∙ ap (λ t. map waiting_of (cond t (backlog (home keys g) g trace ++ p ∷ []) (backlog (home keys g) g trace))) (sym (same_test g ∙ eq-no flow g ne));
+                  ∙ ap (λ t. map as_queued (cond t (backlog (home keys g) g trace ++ p ∷ []) (backlog (home keys g) g trace))) (sym (same_test g ∙ eq-no flow g ne));
               lost_is = ap (λ (x : FlowState). x.lost) is ∙ b.lost_is ∙ sym (uncounted (is_loss_of g) (arrived p) trace refl);
               full_is = ap (λ (x : FlowState). x.full) is ∙ b.full_is ∙ sym (uncounted (is_refusal_of g) (arrived p) trace refl);
               started_is = ap (λ (x : FlowState). x.started) is ∙ b.started_is ∙ sym (uncounted (is_start_of g) (arrived p) trace refl);
@@ -177,14 +177,14 @@ module _ (rule : Rule) (accepted : ℕ) (keys : List FlowKey) (homes : List Home
         apart (inl same) = ap (λ b. b && nat_eq p.stamped.flow g) (ap (λ (m : Link). link_eq m l) (on ∙ sym here ∙ ap (home keys) same) ∙ e)
         apart (inr ne) = not_flow l g ne
 
-    pub arrived-agrees : IsAt rule (accepted + 1) keys homes (set views k v') (set flows flow (pushed (waiting_of p) (flow_at flows flow))) pending [] (arrived p ∷ trace)
+    pub arrived-agrees : IsAt rule (accepted + 1) keys homes (set views k v') (set flows flow (pushed (as_queued p) (flow_at flows flow))) pending [] (arrived p ∷ trace)
     arrived-agrees = record {
       links_are = names_same ∙ made ∙ ap (λ (l : Link). with_link l (links trace)) (sym on) ∙ sym (append-none (with_link p.link (links trace)));
       distinct = subst AreDistinct (sym names_same) a.distinct;
       views_are = views_after;
       untouched = λ l e. let u = a.untouched l (not_with l p.link (links trace) e).0 in record { free_is = u.free_is; last_due_is = u.last_due_is; virtual_time_is = u.virtual_time_is };
       flows_are = flow_after;
-      as_many = length-set flows flow (pushed (waiting_of p) (flow_at flows flow)) ∙ a.as_many;
+      as_many = length-set flows flow (pushed (as_queued p) (flow_at flows flow)) ∙ a.as_many;
       elsewhere = elsewhere_after;
       bound = let b = a.bound in let f = flow_is in omega arith;
       homes_are = λ g lt. let h = a.homes_are g lt in (h.0, h.1, home-after keys views k v there v' same_link same_slots g h.0 h.2);

@@ -21,9 +21,9 @@ use Rattle.dn_wf2q.specs.Schedule.{Flow, Schedule, flow_at as slot_at, waiting_o
 use Rattle.dn_shaper.specs.declared.links.home.Home.{Home}
 use Rattle.dn_shaper.specs.declared.links.parts.Parts.{Parts}
 use Rattle.dn_shaper.specs.Refinement.Agreement.{AgreesWith, IsAt, IsHomeOf, link_names}
-use Rattle.dn_shaper.specs.Refinement.Arriving.{begun_flows, begun_time, Arrives, ArrivesOn, ArrivesAt}
-use Rattle.dn_shaper.specs.Refinement.Starting.{IsFlowWithin, Within}
-use Rattle.dn_shaper.specs.Refinement.Views.{LinkView, views_of, home, waiting_of, stamped_of, at_slot, next_starts, next_start_of}
+use Rattle.dn_shaper.specs.Refinement.Arriving.{begun_flows, begun_time, ArrivesInSchedule, ArrivesOn, ArrivesAt}
+use Rattle.dn_shaper.specs.Refinement.Starting.{AreCountsWithin, Within}
+use Rattle.dn_shaper.specs.Refinement.Views.{LinkView, views_of, home, as_queued, stamped_of, slotted, next_starts, next_start_of}
 use Rattle.dn_shaper.proofs.Arrived.{arrived-agrees}
 use Rattle.dn_shaper.proofs.Next.{home-here, next_exists}
 use Rattle.dn_shaper.proofs.Opened.{opened-agrees}
@@ -48,7 +48,7 @@ set-beyond [] k x le = refl
 set-beyond (z ∷ xs) zero x le = absurd (omega arith)
 set-beyond (z ∷ xs) (suc k) x le = λ i. z ∷ set-beyond xs k x (omega arith) i
 
-length-mapped : (slot : ℕ) (ps : List Accepted) → length (map (at_slot slot) (stamped_of ps)) ≡ length ps
+length-mapped : (slot : ℕ) (ps : List Accepted) → length (map (slotted slot) (stamped_of ps)) ≡ length ps
 length-mapped slot [] = refl
 length-mapped slot (p ∷ ps) = ap suc (length-mapped slot ps)
 
@@ -116,19 +116,19 @@ module _ (settings : Settings) (at : ℕ) (h : Home) (flow len weight : ℕ) (id
     abbrev pub the_packet : Accepted
     the_packet = accept l packet flow how before
 
-    stamped_is : (pipe : ℕ) → l ≡ shared pipe → stamped h.slot (slot_at (begun_flows idle s.view.schedule) h.slot) (begun_time idle s.view.schedule) len weight ≡ at_slot h.slot the_packet.stamped
+    stamped_is : (pipe : ℕ) → l ≡ shared pipe → stamped h.slot (slot_at (begun_flows idle s.view.schedule) h.slot) (begun_time idle s.view.schedule) len weight ≡ slotted h.slot the_packet.stamped
     stamped_is pipe is =
         let c = (opened_now.views_are h.place (begun_view idle s.view) (get-set (views_of old) h.place s.view (begun_view idle s.view) s.there)).schedule_is pipe is in
         let x = c.slots_are h.slot flow (slot-home pipe is) in
         let count : length (slot_at (begun_flows idle s.view.schedule) h.slot).backlog ≡ length (backlog l flow before) = ap (λ (q : List Stamped). length q) x.backlog_is ∙ length-mapped h.slot (backlog l flow before) in
         λ i. record { flow = h.slot; len = sym len_is i; weight = sym weight_is i; start_tag = start_tag_on_arrival (nat_eq (count i) 0) (x.last_finish_is i) (c.virtual_time_is i); finish_tag = start_tag_on_arrival (nat_eq (count i) 0) (x.last_finish_is i) (c.virtual_time_is i) + scaled (sym len_is i) (sym weight_is i) }
 
-    arrival : (pipe : ℕ) → l ≡ shared pipe → (slot : ℕ) × (slice_get s.view.slots slot ≡ Some flow) × (slot < length (begun_flows idle s.view.schedule)) × (s.view'.schedule.flows ≡ set (begun_flows idle s.view.schedule) slot (joined_by (slot_at (begun_flows idle s.view.schedule) slot) (at_slot slot the_packet.stamped))) × (s.view'.schedule.virtual_time ≡ begun_time idle s.view.schedule)
+    arrival : (pipe : ℕ) → l ≡ shared pipe → (slot : ℕ) × (slice_get s.view.slots slot ≡ Some flow) × (slot < length (begun_flows idle s.view.schedule)) × (s.view'.schedule.flows ≡ set (begun_flows idle s.view.schedule) slot (joined_by (slot_at (begun_flows idle s.view.schedule) slot) (slotted slot the_packet.stamped))) × (s.view'.schedule.virtual_time ≡ begun_time idle s.view.schedule)
     arrival pipe is =
         let r = subst (ArrivesOn h.slot len weight idle s.view s.view') is s.joins.arrives in
         (h.slot, slot-home pipe is, in_range r, r.flows ∙ ap (λ (x : Stamped). set (begun_flows idle s.view.schedule) h.slot (joined_by (slot_at (begun_flows idle s.view.schedule) h.slot) x)) (stamped_is pipe is), r.virtual_time)
       where
-        in_range : Arrives h.slot len weight idle s.view.schedule s.view'.schedule → h.slot < length (begun_flows idle s.view.schedule)
+        in_range : ArrivesInSchedule h.slot len weight idle s.view.schedule s.view'.schedule → h.slot < length (begun_flows idle s.view.schedule)
         in_range r = ⊎_elim (λ lt. lt) (λ ge. absurd (let same = ap (λ (fs : List Flow). waiting_in fs) (r.flows ∙ set-beyond (begun_flows idle s.view.schedule) h.slot (joined_by (slot_at (begun_flows idle s.view.schedule) h.slot) (stamped h.slot (slot_at (begun_flows idle s.view.schedule) h.slot) (begun_time idle s.view.schedule) len weight)) ge) in let one = r.one_more in omega arith)) (cases_lt h.slot (length (begun_flows idle s.view.schedule)))
 
     made_then : link_names (set (views_of old) h.place (begun_view idle s.view)) ≡ with_link l (links before)
@@ -137,7 +137,7 @@ module _ (settings : Settings) (at : ℕ) (h : Home) (flow len weight : ℕ) (id
         ∙ made
         ∙ ap (λ (ls : List Link). with_link l ls) (sym (ap links before_is ∙ links_before idle))
 
-    base : IsAt old.rule (old.accepted + 1) old.flows.keys old.homes.items (set (set (views_of old) h.place (begun_view idle s.view)) h.place s.view') (set old.flows.flows flow (pushed (waiting_of the_packet) (flow_at old.flows.flows flow))) old.line.pending [] (arrived the_packet ∷ before)
+    base : IsAt old.rule (old.accepted + 1) old.flows.keys old.homes.items (set (set (views_of old) h.place (begun_view idle s.view)) h.place s.view') (set old.flows.flows flow (pushed (as_queued the_packet) (flow_at old.flows.flows flow))) old.line.pending [] (arrived the_packet ∷ before)
     base =
         arrived-agrees old.rule old.accepted old.flows.keys old.homes.items (set (views_of old) h.place (begun_view idle s.view)) old.flows.flows old.line.pending more before opened_now h.place (begun_view idle s.view) (get-set (views_of old) h.place s.view (begun_view idle s.view) s.there)
         flow within link-home made_then the_packet refl refl (sym opened_now.accepted_is) s.view' s.joins.link s.joins.value s.joins.waits s.joins.slots arrival
@@ -145,12 +145,12 @@ module _ (settings : Settings) (at : ℕ) (h : Home) (flow len weight : ℕ) (id
     -- All parts agree with the arrival.
     pub arrives-agree : AgreesWith new [] (arrived the_packet ∷ before)
     arrives-agree =
-        let w : waiting_of the_packet ≡ record { packet = old.accepted; len = len } = λ i. record { packet = sym opened_now.accepted_is i; len = len_is i } in
+        let w : as_queued the_packet ≡ record { packet = old.accepted; len = len } = λ i. record { packet = sym opened_now.accepted_is i; len = len_is i } in
         subst (λ (r : Rule). IsAt r new.accepted new.flows.keys new.homes.items (views_of new) new.flows.flows new.line.pending [] (arrived the_packet ∷ before)) (sym s.rule)
         (subst (λ (x : ℕ × List FlowKey). IsAt old.rule x.0 x.1 new.homes.items (views_of new) new.flows.flows new.line.pending [] (arrived the_packet ∷ before)) (λ i. (sym s.accepted i, sym s.keys i))
         (subst (λ (x : List Home × List LinkView). IsAt old.rule (old.accepted + 1) old.flows.keys x.0 x.1 new.flows.flows new.line.pending [] (arrived the_packet ∷ before)) (λ i. ((sym s.homes i).items, sym s.views_are i))
         (subst (λ (x : List FlowState × List Delivery). IsAt old.rule (old.accepted + 1) old.flows.keys old.homes.items (set (views_of old) h.place s.view') x.0 x.1 [] (arrived the_packet ∷ before)) (λ i. ((ap (λ (x : Waiting). set old.flows.flows flow (pushed x (flow_at old.flows.flows flow))) w ∙ sym s.flows_are) i, (sym s.line i).pending))
-        (subst (λ (vs : List LinkView). IsAt old.rule (old.accepted + 1) old.flows.keys old.homes.items vs (set old.flows.flows flow (pushed (waiting_of the_packet) (flow_at old.flows.flows flow))) old.line.pending [] (arrived the_packet ∷ before)) (set-set (views_of old) h.place (begun_view idle s.view) s.view') base))))
+        (subst (λ (vs : List LinkView). IsAt old.rule (old.accepted + 1) old.flows.keys old.homes.items vs (set old.flows.flows flow (pushed (as_queued the_packet) (flow_at old.flows.flows flow))) old.line.pending [] (arrived the_packet ∷ before)) (set-set (views_of old) h.place (begun_view idle s.view) s.view') base))))
 
     -- Where the link was idle, the packet is the next one.
     pub next-alone : idle ≡ true → (p : Accepted) → next_packet l (arrived the_packet ∷ before) ≡ Some p → p ≡ the_packet
@@ -231,19 +231,19 @@ module _ (at : ℕ) (h : Home) (flow len weight : ℕ) (idle : Bool) (old new : 
     accepted = let a = s.accepted in let b = w.accepted in omega arith;
   }
     where
-      wider : (x : FlowState) → IsFlowWithin n x → IsFlowWithin (n + 1) x
+      wider : (x : FlowState) → AreCountsWithin n x → AreCountsWithin (n + 1) x
       wider x i = let a = i.0 in let b = i.1 in let c = i.2 in (omega arith, omega arith, omega arith)
 
-      pushed_within : (x : FlowState) (p : Waiting) → IsFlowWithin n x → IsFlowWithin (n + 1) (pushed p x)
+      pushed_within : (x : FlowState) (p : Waiting) → AreCountsWithin n x → AreCountsWithin (n + 1) (pushed p x)
       pushed_within x p i = let a = i.0 in let b = i.1 in let c = i.2 in let l = length-more x.backlog p in (omega arith, omega arith, omega arith)
 
       now_at : (g : ℕ) → flow_at new.flows.flows g ≡ cond (nat_eq flow g) (pushed (record { packet = old.accepted; len = len }) (flow_at old.flows.flows flow)) (flow_at old.flows.flows g)
       now_at g = ap (λ (fs : List FlowState). flow_at fs g) s.flows_are ∙ flow_after_set old.flows.flows flow g (pushed (record { packet = old.accepted; len = len }) (flow_at old.flows.flows flow)) lt
 
-      flows_within : (g : ℕ) → IsFlowWithin (n + 1) (flow_at new.flows.flows g)
-      flows_within g = subst (λ (x : FlowState). IsFlowWithin (n + 1) x) (sym (now_at g)) (by (nat_eq flow g))
+      flows_within : (g : ℕ) → AreCountsWithin (n + 1) (flow_at new.flows.flows g)
+      flows_within g = subst (λ (x : FlowState). AreCountsWithin (n + 1) x) (sym (now_at g)) (by (nat_eq flow g))
         where
-          by : (b : Bool) → IsFlowWithin (n + 1) (cond b (pushed (record { packet = old.accepted; len = len }) (flow_at old.flows.flows flow)) (flow_at old.flows.flows g))
+          by : (b : Bool) → AreCountsWithin (n + 1) (cond b (pushed (record { packet = old.accepted; len = len }) (flow_at old.flows.flows flow)) (flow_at old.flows.flows g))
           by true = pushed_within (flow_at old.flows.flows flow) (record { packet = old.accepted; len = len }) (w.flows_are flow)
           by false = wider (flow_at old.flows.flows g) (w.flows_are g)
 

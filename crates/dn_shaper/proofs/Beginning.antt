@@ -17,7 +17,7 @@ use Rattle.dn_shaper.specs.Refinement.NextStarts.{Holds, next_at, backlogged}
 use Rattle.dn_shaper.specs.Refinement.Settings.{settings_of}
 use Rattle.dn_shaper.specs.Refinement.Sound.{IsIndexed, IsSound}
 use Rattle.dn_shaper.specs.Standing.{StandsAt}
-use Rattle.dn_shaper.specs.Refinement.Starting.{IsFlowWithin, Within}
+use Rattle.dn_shaper.specs.Refinement.Starting.{AreCountsWithin, Within}
 use Rattle.dn_shaper.specs.Refinement.Views.{LinkView, queue_lengths, view_of, views_of, next_starts, waits_in_all}
 
 nothing-agrees : (rule : Rule) → IsAt rule 0 [] [] [] [] [] [] []
@@ -50,8 +50,8 @@ module _ (s : State) (accepted : s.parts.accepted ≡ 0) (keys : s.parts.flows.k
   pub begins : (rule : Rule) → s.parts.rule ≡ rule → StandsAt rule s []
   begins rule is = record { rule_is = is; calls_are = calls; now_is = now; settings_are = λ i t. none t i; keys_are = keys; agrees = agrees }
 
-  flow-none : (g : ℕ) (n : ℕ) → IsFlowWithin n (flow_at s.parts.flows.flows g)
-  flow-none g n = subst (λ (fs : List FlowState). IsFlowWithin n (flow_at fs g)) (sym flows) (omega arith, omega arith, omega arith)
+  flow-none : (g : ℕ) (n : ℕ) → AreCountsWithin n (flow_at s.parts.flows.flows g)
+  flow-none g n = subst (λ (fs : List FlowState). AreCountsWithin n (flow_at fs g)) (sym flows) (omega arith, omega arith, omega arith)
 
   within-none : (n : ℕ) → Within n s.parts
   within-none n = record {

@@ -21,7 +21,7 @@ use Rattle.dn_shaper.specs.Refinement.Agreement.{AgreesWith, link_names}
 use Rattle.dn_shaper.specs.Refinement.Arriving.{KeepsFlows}
 use Rattle.dn_shaper.specs.Refinement.Configuring.{Lists, Puts, DiscardsReached}
 use Rattle.dn_shaper.specs.Refinement.Settings.{settings_of}
-use Rattle.dn_shaper.specs.Refinement.Settling.{IsKept}
+use Rattle.dn_shaper.specs.Refinement.Settling.{AreInStep}
 use Rattle.dn_shaper.specs.Refinement.Calls.{Does}
 use Rattle.dn_shaper.specs.Refinement.Sound.{IsSound}
 use Rattle.dn_shaper.specs.Standing.{StandsAt}
@@ -37,7 +37,7 @@ pub record Obeys (command : Command) (reply : Reply) (old new : State) : Type 0 
   pub rule_is : new.parts.rule ≡ old.parts.rule
   pub keys_are : new.parts.flows.keys ≡ old.parts.flows.keys
   pub agrees : (more : List Link) (trace : List Event) → AgreesWith old.parts more trace → AgreesWith new.parts more (after_command reply command old.parts.flows.keys trace)
-  pub kept : IsKept new.parts new.heap
+  pub kept : AreInStep new.parts new.heap
   pub within : Within old.calls new.parts
   pub moves : new.heap.moves + new.parts.waiting ≤ old.heap.moves + old.parts.waiting
   pub shared_are : new.shared ≡ old.shared
@@ -102,7 +102,7 @@ module _ (command : Command) (old : State) (sound : IsSound old) where
     calls_are = refl;
   }
 
-  pub obeys-delete : (configured : List (Target × Command)) (parts : Parts) (heap : Heap NextStart) → Puts command None (settings_of old.configured) (settings_of configured) → KeepsFlows old.parts parts → DiscardsReached command old.parts parts → IsKept parts heap → ((n : ℕ) → Within n old.parts → Within n parts) → heap.moves + parts.waiting ≤ old.heap.moves + old.parts.waiting
+  pub obeys-delete : (configured : List (Target × Command)) (parts : Parts) (heap : Heap NextStart) → Puts command None (settings_of old.configured) (settings_of configured) → KeepsFlows old.parts parts → DiscardsReached command old.parts parts → AreInStep parts heap → ((n : ℕ) → Within n old.parts → Within n parts) → heap.moves + parts.waiting ≤ old.heap.moves + old.parts.waiting
       → Obeys command Deleted old (record { parts = parts; heap = heap; shared = old.shared; configured = configured; now = old.now; calls = old.calls })
   obeys-delete configured parts heap puts keeps discards kept within moves = record {
     settings_are = puts;

@@ -12,7 +12,7 @@ use Rattle.dn_flows.specs.Table.{FlowState, flow_at, emptied}
 use Rattle.dn_flows.specs.declared.waiting.Waiting.{Waiting}
 use Rattle.dn_flows.proofs.Views.{flow_after_set}
 use Rattle.dn_shaper.specs.declared.links.home.Home.{Home}
-use Rattle.dn_shaper.specs.Refinement.Views.{LinkView, home, waiting_of, stamped_of, at_slot}
+use Rattle.dn_shaper.specs.Refinement.Views.{LinkView, home, as_queued, stamped_of, slotted}
 use Rattle.dn_shaper.specs.Refinement.Agreement.{AreDistinct, IsAt, IsLinkAt, IsFlowAt, IsScheduleAt, IsSlotAt, link_names}
 use Rattle.dn_shaper.proofs.Events.{uncounted, length-set}
 use Rattle.dn_flows.proofs.Places.{eq-no, eq-yes, get-set, get-set-other, map-set-same, get-below}
@@ -27,7 +27,7 @@ cond-none : (b : Bool) (q : List Accepted) → q ≡ [] → cond b [] q ≡ []
 cond-none true q e = refl
 cond-none false q e = e
 
-pub length-waiting : (ps : List Accepted) → length (map waiting_of ps) ≡ length ps
+pub length-waiting : (ps : List Accepted) → length (map as_queued ps) ≡ length ps
 length-waiting [] = refl
 length-waiting (p ∷ ps) = ap suc (length-waiting ps)
 
@@ -69,7 +69,7 @@ module _ (rule : Rule) (accepted : ℕ) (keys : List FlowKey) (homes : List Home
             let g_is : flow ≡ g = cc in
             let now_at = ap (λ (fs : List Flow). slot_at fs slot) now ∙ ap (λ j. slot_at (after_discard v.schedule.flows i) j) (sym same) ∙ discard-here v.schedule.flows i in
             record {
-              backlog_is = ap (λ (f : Flow). f.backlog) now_at ∙ sym (ap (λ b. map (at_slot slot) (stamped_of (cond b [] (backlog v.link g trace)))) (eq-yes flow g g_is));
+              backlog_is = ap (λ (f : Flow). f.backlog) now_at ∙ sym (ap (λ b. map (slotted slot) (stamped_of (cond b [] (backlog v.link g trace)))) (eq-yes flow g g_is));
               last_finish_is = ap (λ (f : Flow). f.last_finish_tag) now_at ∙ sym (ap (λ b. cond b 0 (last_finish_tag v.link g trace)) (eq-yes flow g g_is));
             }
         slot_after c i at_i now slot g e (inr ne) =
@@ -77,7 +77,7 @@ module _ (rule : Rule) (accepted : ℕ) (keys : List FlowKey) (homes : List Home
             let apart = eq-no flow g (slots-apart v.slots (a.views_are k v there).ascends i slot flow g at_i e ne) in
             let s = c.slots_are slot g e in
             record {
-              backlog_is = ap (λ (f : Flow). f.backlog) now_at ∙ s.backlog_is ∙ sym (ap (λ b. map (at_slot slot) (stamped_of (cond b [] (backlog v.link g trace)))) apart);
+              backlog_is = ap (λ (f : Flow). f.backlog) now_at ∙ s.backlog_is ∙ sym (ap (λ b. map (slotted slot) (stamped_of (cond b [] (backlog v.link g trace)))) apart);
               last_finish_is = ap (λ (f : Flow). f.last_finish_tag) now_at ∙ s.last_finish_is ∙ sym (ap (λ b. cond b 0 (last_finish_tag v.link g trace)) apart);
             }
 
@@ -114,7 +114,7 @@ module _ (rule : Rule) (accepted : ℕ) (keys : List FlowKey) (homes : List Home
             virtual_time_is = c.virtual_time_is;
             slots_are = λ slot g eg. let s = c.slots_are slot g eg in
                 let other = not_flow j w e ne pipe is slot g eg apart in record {
-                  backlog_is = s.backlog_is ∙ sym (ap (λ t. map (at_slot slot) (stamped_of (cond t [] (backlog w.link g trace)))) other);
+                  backlog_is = s.backlog_is ∙ sym (ap (λ t. map (slotted slot) (stamped_of (cond t [] (backlog w.link g trace)))) other);
                   last_finish_is = s.last_finish_is ∙ sym (ap (λ t. cond t 0 (last_finish_tag w.link g trace)) other);
                 };
             beyond = c.beyond;
@@ -160,7 +160,7 @@ module _ (rule : Rule) (accepted : ℕ) (keys : List FlowKey) (homes : List Home
             let now = ap {B = ℕ} (λ (x : FlowState). x.discarded) is in
             let after = ap {B = ℕ} (λ t. cond t (length (backlog (home keys g) g trace)) 0 + discarded_count (home keys g) g trace) (eq-yes flow g same) in
             record {
-              backlog_is = ap (λ (x : FlowState). x.backlog) is ∙ sym (ap (λ t. map waiting_of (cond t [] (backlog (home keys g) g trace))) (eq-yes flow g same));
+              backlog_is = ap (λ (x : FlowState). x.backlog) is ∙ sym (ap (λ t. map as_queued (cond t [] (backlog (home keys g) g trace))) (eq-yes flow g same));
               lost_is = ap (λ (x : FlowState). x.lost) is ∙ b.lost_is ∙ sym (uncounted (is_loss_of g) (discarded flow) trace refl);
               full_is = ap (λ (x : FlowState). x.full) is ∙ b.full_is ∙ sym (uncounted (is_refusal_of g) (discarded flow) trace refl);
               started_is = ap (λ (x : FlowState). x.started) is ∙ b.started_is ∙ sym (uncounted (is_start_of g) (discarded flow) trace refl);
@@ -173,7 +173,7 @@ module _ (rule : Rule) (accepted : ℕ) (keys : List FlowKey) (homes : List Home
             let now = ap {B = ℕ} (λ (x : FlowState). x.discarded) is in
             let after = ap {B = ℕ} (λ t. cond t (length (backlog (home keys g) g trace)) 0 + discarded_count (home keys g) g trace) (eq-no flow g ne) in
             record {
-              backlog_is = ap (λ (x : FlowState). x.backlog) is ∙ b.backlog_is ∙ sym (ap (λ t. map waiting_of (cond t [] (backlog (home keys g) g trace))) (eq-no flow g ne));
+              backlog_is = ap (λ (x : FlowState). x.backlog) is ∙ b.backlog_is ∙ sym (ap (λ t. map as_queued (cond t [] (backlog (home keys g) g trace))) (eq-no flow g ne));
               lost_is = ap (λ (x : FlowState). x.lost) is ∙ b.lost_is ∙ sym (uncounted (is_loss_of g) (discarded flow) trace refl);
               full_is = ap (λ (x : FlowState). x.full) is ∙ b.full_is ∙ sym (uncounted (is_refusal_of g) (discarded flow) trace refl);
               started_is = ap (λ (x : FlowState). x.started) is ∙ b.started_is ∙ sym (uncounted (is_start_of g) (discarded flow) trace refl);

@@ -16,10 +16,10 @@ use Rattle.dn_shaper.specs.declared.links.home.Home.{Home}
 use Rattle.dn_shaper.specs.declared.links.parts.Parts.{Parts}
 use Rattle.dn_shaper.specs.Refinement.Agreement.{Agrees, IsAt, IsHomeOf, link_names}
 use Rattle.dn_shaper.specs.Refinement.Arriving.{KeepsFlows}
-use Rattle.dn_shaper.specs.Refinement.Discarding.{DiscardsOn, DiscardsAt, Discards, HoldsCount, OnlyEmpties}
+use Rattle.dn_shaper.specs.Refinement.Discarding.{DiscardsOn, DiscardsAt, DiscardsFlow, HoldsCount, OnlyEmpties}
 use Rattle.dn_shaper.specs.Refinement.NextStarts.{next_at}
-use Rattle.dn_shaper.specs.Refinement.Starting.{IsFlowWithin, Within}
-use Rattle.dn_shaper.specs.Refinement.Views.{LinkView, IsAlone, views_of, home, at_slot, next_starts, next_start_of, stamped_of, waits_in_all}
+use Rattle.dn_shaper.specs.Refinement.Starting.{AreCountsWithin, Within}
+use Rattle.dn_shaper.specs.Refinement.Views.{LinkView, IsAlone, views_of, home, slotted, next_starts, next_start_of, stamped_of, waits_in_all}
 use Rattle.dn_shaper.proofs.Accepting.{next-some, next-none, next-listed}
 use Rattle.dn_shaper.proofs.Alone.{is-alone}
 use Rattle.dn_shaper.proofs.Discarded.{discarded-agrees, length-waiting}
@@ -62,7 +62,7 @@ module _ (p : Parts) (agrees : Agrees p) (bound : Within (2 ^ 62) p) (flow : ℕ
             let there = (((a.views_are h.place is-home.view is-home.there).schedule_is pipe is).slots_are h.slot flow slot).backlog_is in
             let waits = backlog is-home.view.link flow agrees.1 in
             ap {B = ℕ} (λ (q : List Stamped). length q) there
-            ∙ length-map (stamped_of waits) (at_slot h.slot)
+            ∙ length-map (stamped_of waits) (slotted h.slot)
             ∙ length-map waits (λ (x : Accepted). x.stamped)
             ∙ ap {B = ℕ} (λ (l : Link). length (backlog l flow agrees.1)) is-home.link_is
             ∙ sym (ap {B = ℕ} (λ (q : List Waiting). length q) (a.flows_are flow).backlog_is ∙ length-waiting _)
@@ -74,7 +74,7 @@ module _ (p : Parts) (agrees : Agrees p) (bound : Within (2 ^ 62) p) (flow : ℕ
     enough-all = let e = enough in let le = sum-le (λ (v : LinkView). v.waits) (views_of p) h.place is-home.view is-home.there in let is = bound.waiting_is in omega arith
 
 module _ (h : Home) (flow : ℕ) (old new : Parts) (agrees : Agrees old) (bound : Within (2 ^ 62) old) (within : flow < length old.flows.keys) (at_home : slice_get old.homes.items flow ≡ Some h) (s : DiscardsAt h flow old new) where
-  pub discards-agree : Discards flow old new
+  pub discards-agree : DiscardsFlow flow old new
   discards-agree more trace a =
       let g = a.homes_are flow within in
       let both : Some g.0 ≡ Some h = sym g.1 ∙ at_home in
@@ -108,12 +108,12 @@ module _ (h : Home) (flow : ℕ) (old new : Parts) (agrees : Agrees old) (bound 
     room = let b = s.waiting in let c = ap {B = ℕ} (λ x. x.room) s.line in let d = w.room in omega arith;
     pushed = let b = s.waiting in let c = ap {B = ℕ} (λ x. x.pushed) s.line in let d = w.pushed in omega arith;
     sums = let b = s.waiting in let c = ap {B = ℕ} (λ x. length x.pending) s.line in let d = w.sums in omega arith;
-    flows_are = λ g. subst (λ (x : FlowState). IsFlowWithin n x) (sym (ap (λ (fs : List FlowState). flow_at fs g) s.flows_are ∙ flow_after_set old.flows.flows flow g (emptied (flow_at old.flows.flows flow)) (flow-there old agrees bound flow within))) (by g (nat_eq flow g));
+    flows_are = λ g. subst (λ (x : FlowState). AreCountsWithin n x) (sym (ap (λ (fs : List FlowState). flow_at fs g) s.flows_are ∙ flow_after_set old.flows.flows flow g (emptied (flow_at old.flows.flows flow)) (flow-there old agrees bound flow within))) (by g (nat_eq flow g));
     arrivals = λ j v e. few_arrivals j v e (cases_eq j h.place);
     accepted = let a = s.accepted in let b = w.accepted in omega arith;
   }
     where
-      by : (g : ℕ) (b : Bool) → IsFlowWithin n (cond b (emptied (flow_at old.flows.flows flow)) (flow_at old.flows.flows g))
+      by : (g : ℕ) (b : Bool) → AreCountsWithin n (cond b (emptied (flow_at old.flows.flows flow)) (flow_at old.flows.flows g))
       by g true = let i = w.flows_are flow in let x = i.0 in let y = i.1 in let z = i.2 in (x, y, omega arith)
       by g false = w.flows_are g
 

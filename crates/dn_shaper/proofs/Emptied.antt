@@ -6,7 +6,7 @@ use Rattle.std.proofs.lemmas.List.Elements.{All-filter, filter_passes}
 use Rattle.std.proofs.lemmas.List.Sorted.{All-permutation, IsPermutation-refl, sum_by-IsPermutation}
 use Rattle.std.proofs.lemmas.List.Sums.{sum_by-cons}
 use Rattle.dn_shaper.specs.declared.links.next_start.NextStart.{NextStart}
-use Rattle.dn_shaper.specs.Refinement.NextStarts.{next_at, at_place, standing, is_backlogged, one_backlogged, backlogged, Holds}
+use Rattle.dn_shaper.specs.Refinement.NextStarts.{next_at, one_at, keys_at, is_backlogged, one_backlogged, backlogged, Holds}
 use Rattle.dn_shaper.specs.declared.links.link_parts.LinkParts.{LinkParts}
 use Rattle.dn_shaper.specs.Refinement.Views.{next_starts, next_start_of, view_of}
 use Rattle.dn_shaper.proofs.Accepting.{next-listed}
@@ -26,28 +26,28 @@ backlog-told queues links place s e =
     is_some-cond (nat_lt 0 (view_of queues s).waits) s.times.free ∙ ap (λ (o : Option ℕ). is_some o) (sym (next-listed (next_starts (map (view_of queues) links)) place (next_start_of (view_of queues s)) there))
 
 module _ (nexts : List (Option ℕ)) (place : ℕ) where
-  step-in : (b : Bool) (k : NextStart) (ks : List NextStart) → is_backlogged nexts k ≡ b → standing place (filter (is_backlogged nexts) (k ∷ ks)) ≡ standing place (cond b (k ∷ filter (is_backlogged nexts) ks) (filter (is_backlogged nexts) ks))
-  step-in b k ks e = ap (λ t. standing place (cond t (k ∷ filter (is_backlogged nexts) ks) (filter (is_backlogged nexts) ks))) e
+  step-in : (b : Bool) (k : NextStart) (ks : List NextStart) → is_backlogged nexts k ≡ b → keys_at place (filter (is_backlogged nexts) (k ∷ ks)) ≡ keys_at place (cond b (k ∷ filter (is_backlogged nexts) ks) (filter (is_backlogged nexts) ks))
+  step-in b k ks e = ap (λ t. keys_at place (cond t (k ∷ filter (is_backlogged nexts) ks) (filter (is_backlogged nexts) ks))) e
 
-  elsewhere : (k : NextStart) (b c : Bool) → is_backlogged nexts k ≡ b → is_some (next_at nexts place) ≡ c → (b ≡ c → ⊥) → at_place place k ≡ 0
+  elsewhere : (k : NextStart) (b c : Bool) → is_backlogged nexts k ≡ b → is_some (next_at nexts place) ≡ c → (b ≡ c → ⊥) → one_at place k ≡ 0
   elsewhere k b c e f ne = other_place place k (λ same. ne (sym e ∙ ap (λ p. is_some (next_at nexts p)) same ∙ f))
 
-  all-stay : is_some (next_at nexts place) ≡ true → (keys : List NextStart) → standing place (filter (is_backlogged nexts) keys) ≡ standing place keys
+  all-stay : is_some (next_at nexts place) ≡ true → (keys : List NextStart) → keys_at place (filter (is_backlogged nexts) keys) ≡ keys_at place keys
   all-stay h [] = refl
   all-stay h (k ∷ ks) =
       let rest = all-stay h ks in
-      let all = sum_by-cons (at_place place) k ks in
+      let all = sum_by-cons (one_at place) k ks in
       elim (cases_Bool (is_backlogged nexts k)) [
-        | inl t ↦ let s = step-in true k ks t in let c = sum_by-cons (at_place place) k (filter (is_backlogged nexts) ks) in omega (arith, rest, all, s, c)
+        | inl t ↦ let s = step-in true k ks t in let c = sum_by-cons (one_at place) k (filter (is_backlogged nexts) ks) in omega (arith, rest, all, s, c)
         | inr f ↦ let s = step-in false k ks f in let z = elsewhere k false true f h (λ e. cc) in omega (arith, rest, all, s, z)
       ]
 
-  none-stays : is_some (next_at nexts place) ≡ false → (keys : List NextStart) → standing place (filter (is_backlogged nexts) keys) ≡ 0
+  none-stays : is_some (next_at nexts place) ≡ false → (keys : List NextStart) → keys_at place (filter (is_backlogged nexts) keys) ≡ 0
   none-stays h [] = refl
   none-stays h (k ∷ ks) =
       let rest = none-stays h ks in
       elim (cases_Bool (is_backlogged nexts k)) [
-        | inl t ↦ let s = step-in true k ks t in let c = sum_by-cons (at_place place) k (filter (is_backlogged nexts) ks) in let z = elsewhere k true false t h (λ e. cc) in omega (arith, rest, s, c, z)
+        | inl t ↦ let s = step-in true k ks t in let c = sum_by-cons (one_at place) k (filter (is_backlogged nexts) ks) in let z = elsewhere k true false t h (λ e. cc) in omega (arith, rest, s, c, z)
         | inr f ↦ let s = step-in false k ks f in omega (arith, rest, s)
       ]
 
@@ -56,14 +56,14 @@ some-of None e = absurd cc
 some-of (Some m) e = (m, refl)
 
 module _ (old new : List (Option ℕ)) (keys keys' : List NextStart) (h : Holds old keys) (fewer : (place m : ℕ) → next_at new place ≡ Some m → next_at old place ≡ Some m) (perm : IsPermutation (filter (is_backlogged new) keys) keys') where
-  once-kept : (place : ℕ) (o : Option ℕ) → next_at new place ≡ o → standing place keys' ≡ cond (is_some o) 1 0
+  once-kept : (place : ℕ) (o : Option ℕ) → next_at new place ≡ o → keys_at place keys' ≡ cond (is_some o) 1 0
   once-kept place None e =
       let none = none-stays new place (ap (λ (o : Option ℕ). is_some o) e) keys in
-      let same = sum_by-IsPermutation (at_place place) _ _ perm in
+      let same = sum_by-IsPermutation (one_at place) _ _ perm in
       omega (arith, none, same)
   once-kept place (Some m) e =
       let all = all-stay new place (ap (λ (o : Option ℕ). is_some o) e) keys in
-      let same = sum_by-IsPermutation (at_place place) _ _ perm in
+      let same = sum_by-IsPermutation (one_at place) _ _ perm in
       let one = h.once place ∙ ap {B = ℕ} (λ (o : Option ℕ). cond (is_some o) 1 0) (fewer place m e) in
       omega (arith, all, same, one)
 

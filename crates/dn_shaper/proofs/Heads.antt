@@ -11,7 +11,7 @@ use Rattle.dn_types.specs.SharedLinks.{virtual_time, link_heads}
 use Rattle.dn_wf2q.specs.Schedule.{Flow, Schedule, flow_at as slot_at, heads_of}
 use Rattle.dn_shaper.specs.Refinement.Slots.{Ascends}
 use Rattle.dn_shaper.proofs.Slots.{flow_from}
-use Rattle.dn_shaper.specs.Refinement.Views.{stamped_of, at_slot}
+use Rattle.dn_shaper.specs.Refinement.Views.{stamped_of, slotted}
 use Rattle.dn_shaper.specs.Refinement.Agreement.{IsScheduleAt}
 use Rattle.dn_types.proofs.Settling.{backlog-own, backlog-above, and-right, IsOwn}
 use Rattle.dn_shaper.proofs.Slots.{flows-rise, flow-at, moved, heads-moved, heads-between, pick-moved, grown-moved, le-to}
@@ -85,7 +85,7 @@ first-mapped : {X Y : Type 0} (f : X → Y) (xs : List X) (y : Y) → slice_get 
 first-mapped f [] y e = absurd cc
 first-mapped f (x ∷ xs) y e = let same : f x ≡ y = cc in (x, refl, same)
 
-back-at_slot : (to : ℕ → ℕ) (rises : (a b : ℕ) → a < b → to a < to b) (slot flow : ℕ) → to slot ≡ flow → (ps : List Accepted) → ((p : Accepted) (i : ℕ) → slice_get ps i ≡ Some p → p.stamped.flow ≡ flow) → map (moved to rises) (map (at_slot slot) (stamped_of ps)) ≡ stamped_of ps
+back-at_slot : (to : ℕ → ℕ) (rises : (a b : ℕ) → a < b → to a < to b) (slot flow : ℕ) → to slot ≡ flow → (ps : List Accepted) → ((p : Accepted) (i : ℕ) → slice_get ps i ≡ Some p → p.stamped.flow ≡ flow) → map (moved to rises) (map (slotted slot) (stamped_of ps)) ≡ stamped_of ps
 back-at_slot to rises slot flow e [] h = refl
 back-at_slot to rises slot flow e (p ∷ ps) h =
     let here : to slot ≡ p.stamped.flow = e ∙ sym (h p 0 refl) in
@@ -177,7 +177,7 @@ module _ (link : Link) (trace : List Event) (s : Schedule) (slots : List ℕ) (a
     where
       given : (flow : ℕ) × (slice_get slots slot ≡ Some flow) → h.flow ≡ slot
       given g =
-          let first = first-mapped (at_slot slot) (stamped_of (backlog link g.0 trace)) h (ap (λ (xs : List Stamped). slice_get xs 0) (sym (a.slots_are slot g.0 g.1).backlog_is) ∙ e) in
+          let first = first-mapped (slotted slot) (stamped_of (backlog link g.0 trace)) h (ap (λ (xs : List Stamped). slice_get xs 0) (sym (a.slots_are slot g.0 g.1).backlog_is) ∙ e) in
           sym (ap (λ (x : Stamped). x.flow) first.2)
 
       not_given : length slots ≤ slot → h.flow ≡ slot
@@ -191,11 +191,11 @@ module _ (link : Link) (trace : List Event) (s : Schedule) (slots : List ℕ) (a
     pub flow-picked : (flow : ℕ) × (slice_get slots h.flow ≡ Some flow)
     flow-picked = ⊎_elim (λ g. g) (λ le. let none : None ≡ Some h = sym (ap (λ (x : Flow). slice_get x.backlog 0) (a.beyond h.flow le)) ∙ first-picked in absurd cc) (slot_or slots h.flow)
 
-    pub packet-picked : (flow : ℕ) → slice_get slots h.flow ≡ Some flow → (p : Accepted) × (slice_get (backlog link flow trace) 0 ≡ Some p) × (at_slot h.flow p.stamped ≡ h)
+    pub packet-picked : (flow : ℕ) → slice_get slots h.flow ≡ Some flow → (p : Accepted) × (slice_get (backlog link flow trace) 0 ≡ Some p) × (slotted h.flow p.stamped ≡ h)
     packet-picked flow e =
-        let first = first-mapped (at_slot h.flow) (stamped_of (backlog link flow trace)) h (ap (λ (xs : List Stamped). slice_get xs 0) (sym (a.slots_are h.flow flow e).backlog_is) ∙ first-picked) in
+        let first = first-mapped (slotted h.flow) (stamped_of (backlog link flow trace)) h (ap (λ (xs : List Stamped). slice_get xs 0) (sym (a.slots_are h.flow flow e).backlog_is) ∙ first-picked) in
         let p = first-mapped (λ (x : Accepted). x.stamped) (backlog link flow trace) first.0 first.1 in
-        (p.0, p.1, ap (at_slot h.flow) p.2 ∙ first.2)
+        (p.0, p.1, ap (slotted h.flow) p.2 ∙ first.2)
 
     pub pick-flow : (flow : ℕ) → slice_get slots h.flow ≡ Some flow → (x : Stamped) × (pick (virtual_time link trace) (link_heads link trace) ≡ Some x) × (x.flow ≡ flow)
     pick-flow flow e = (moved to rises h, pick-agree ∙ ap (option_map (moved to rises)) picked, flow-at 0 slots h.flow flow e)

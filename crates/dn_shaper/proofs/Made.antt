@@ -11,7 +11,7 @@ use Rattle.dn_types.specs.declared.flow_key.FlowKey.{FlowKey}
 use Rattle.dn_types.specs.declared.rule.Rule.{Rule}
 use Rattle.dn_flows.specs.Table.{FlowState, flow_at}
 use Rattle.dn_shaper.specs.declared.links.home.Home.{Home}
-use Rattle.dn_shaper.specs.Refinement.Views.{LinkView, home, waiting_of, stamped_of, at_slot}
+use Rattle.dn_shaper.specs.Refinement.Views.{LinkView, home, as_queued, stamped_of, slotted}
 use Rattle.dn_shaper.specs.Refinement.Agreement.{AreDistinct, IsAt, IsLinkAt, IsFlowAt, IsHomeOf, IsScheduleAt, IsSlotAt, link_names}
 use Rattle.dn_shaper.proofs.Events.{append-none}
 use Rattle.dn_flows.proofs.Places.{get-set, get-set-other, map-set-same}
@@ -73,7 +73,7 @@ module _ (rule : Rule) (accepted : ℕ) (keys : List FlowKey) (homes : List Home
           b : IsFlowAt (home keys g) g trace (flow_at flows g)
           b = a.flows_are g
 
-          same_rest : (bk : (flow_at flows' g).backlog ≡ map waiting_of (backlog (home keys_now g) g trace)) → (dc : (flow_at flows' g).discarded ≡ discarded_count (home keys_now g) g trace) → IsFlowAt (home keys_now g) g trace (flow_at flows' g)
+          same_rest : (bk : (flow_at flows' g).backlog ≡ map as_queued (backlog (home keys_now g) g trace)) → (dc : (flow_at flows' g).discarded ≡ discarded_count (home keys_now g) g trace) → IsFlowAt (home keys_now g) g trace (flow_at flows' g)
           same_rest bk dc = record {
             backlog_is = bk;
             lost_is = s.lost ∙ b.lost_is;
@@ -86,11 +86,11 @@ module _ (rule : Rule) (accepted : ℕ) (keys : List FlowKey) (homes : List Home
           by (inl e) =
               let le : flow_bound trace ≤ g = let x = a.bound in omega arith in
               same_rest
-              (s.backlog ∙ b.backlog_is ∙ ap (λ (q : List Accepted). map waiting_of q) (backlog-above (home keys g) g trace le ∙ sym (backlog-above (home keys_now g) g trace le)))
+              (s.backlog ∙ b.backlog_is ∙ ap (λ (q : List Accepted). map as_queued q) (backlog-above (home keys g) g trace le ∙ sym (backlog-above (home keys_now g) g trace le)))
               (s.discarded ∙ b.discarded_is ∙ discarded-above (home keys g) g trace le ∙ sym (discarded-above (home keys_now g) g trace le))
           by (inr ne) =
               same_rest
-              (s.backlog ∙ b.backlog_is ∙ ap (λ (l : Link). map waiting_of (backlog l g trace)) (sym (home-other g ne)))
+              (s.backlog ∙ b.backlog_is ∙ ap (λ (l : Link). map as_queued (backlog l g trace)) (sym (home-other g ne)))
               (s.discarded ∙ b.discarded_is ∙ ap (λ (l : Link). discarded_count l g trace) (sym (home-other g ne)))
 
       elsewhere_now : (g : ℕ) (l : Link) → link_eq (home keys_now g) l ≡ false → backlog l g trace ≡ []
@@ -166,7 +166,7 @@ module _ (rule : Rule) (accepted : ℕ) (keys : List FlowKey) (homes : List Home
                 let le : flow_bound trace ≤ g = let b = a.bound in let s = e.1 in omega arith in
                 let empty : slot_at schedule.flows slot ≡ no_packets = slots_same slot ∙ c.beyond slot (let s = e.0 in omega arith) in
                 record {
-                  backlog_is = ap (λ (f : Flow). f.backlog) empty ∙ ap (λ (q : List Accepted). map (at_slot slot) (stamped_of q)) (sym (backlog-above v.link g trace le));
+                  backlog_is = ap (λ (f : Flow). f.backlog) empty ∙ ap (λ (q : List Accepted). map (slotted slot) (stamped_of q)) (sym (backlog-above v.link g trace le));
                   last_finish_is = ap (λ (f : Flow). f.last_finish_tag) empty ∙ sym (last_finish-above v.link g trace le);
                 }
 
@@ -252,7 +252,7 @@ module _ (rule : Rule) (accepted : ℕ) (keys : List FlowKey) (homes : List Home
             slots_are = λ slot g e.
                 let le : flow_bound trace ≤ g = let b = a.bound in let s = only slot g e in omega arith in
                 record {
-                  backlog_is = ap (λ (f : Flow). f.backlog) (no_slots slot) ∙ ap (λ (q : List Accepted). map (at_slot slot) (stamped_of q)) (sym (backlog-above v.link g trace le));
+                  backlog_is = ap (λ (f : Flow). f.backlog) (no_slots slot) ∙ ap (λ (q : List Accepted). map (slotted slot) (stamped_of q)) (sym (backlog-above v.link g trace le));
                   last_finish_is = ap (λ (f : Flow). f.last_finish_tag) (no_slots slot) ∙ sym (last_finish-above v.link g trace le);
                 };
             beyond = λ slot le. no_slots slot;

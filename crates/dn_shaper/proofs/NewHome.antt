@@ -13,7 +13,7 @@ use Rattle.dn_shaper.specs.declared.state.State.{State}
 use Rattle.dn_shaper.specs.Refinement.Agreement.{AgreesWith, link_names}
 use Rattle.dn_shaper.specs.Refinement.NextStarts.{Holds, next_at, backlogged, one_backlogged}
 use Rattle.dn_shaper.specs.Refinement.Homing.{GivesHome, Opens, NotesFor, place_for}
-use Rattle.dn_shaper.specs.Refinement.Making.{HasRoom}
+use Rattle.dn_shaper.specs.Refinement.Making.{HasSlotRoom}
 use Rattle.dn_shaper.specs.Refinement.Slots.{Ascends, top}
 use Rattle.dn_shaper.specs.Refinement.Sound.{IsIndexed, IsSound}
 use Rattle.dn_shaper.specs.Refinement.Starting.{IsReady, Within}
@@ -88,8 +88,8 @@ module _ (old new : State) (t : Table) (key : FlowKey) (one : IsOneMore key old.
     pub opened-ready : length old.parts.homes.items ≡ flow → IsReady flow new.parts
     opened-ready many = ready-by old new t key one g as_many (λ v pipe e is.
         let same = view-last v (ap (slice_get (views_of new.parts)) (sym s.place_is) ∙ e) in
-        let room : HasRoom 0 v v.link = subst (λ (x : LinkView). HasRoom 0 x x.link) same s.is_new.room in
-        let here : 0 < room_at v.schedule.room 0 = subst (λ (l : Link). HasRoom 0 v l) is room in
+        let room : HasSlotRoom 0 v v.link = subst (λ (x : LinkView). HasSlotRoom 0 x x.link) same s.is_new.room in
+        let here : 0 < room_at v.schedule.room 0 = subst (λ (l : Link). HasSlotRoom 0 v l) is room in
         subst (λ n. 0 < room_at v.schedule.room n) (sym s.slot_is) here) many
 
     waits-more : waits_in_all (views_of new.parts) ≡ waits_in_all (views_of old.parts)

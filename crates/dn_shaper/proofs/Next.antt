@@ -15,7 +15,7 @@ use Rattle.dn_flows.specs.Table.{FlowState, flow_at}
 use Rattle.dn_flows.specs.declared.waiting.Waiting.{Waiting}
 use Rattle.dn_wf2q.specs.Schedule.{heads_of}
 use Rattle.dn_shaper.specs.declared.links.home.Home.{Home}
-use Rattle.dn_shaper.specs.Refinement.Views.{LinkView, home, home_by, waiting_of, stamped_of, Sends, CanSend, next_start_of, next_starts}
+use Rattle.dn_shaper.specs.Refinement.Views.{LinkView, home, home_by, as_queued, stamped_of, IsNextToSend, CanSend, next_start_of, next_starts}
 use Rattle.dn_shaper.specs.Refinement.Agreement.{IsAt, IsHomeOf, IsScheduleAt, link_names}
 use Rattle.dn_shaper.proofs.FirstStart.{moment_of_next}
 use Rattle.dn_shaper.proofs.Heads.{none-agree, flow-picked, packet-picked, pick-flow, backlog-flow}
@@ -167,10 +167,10 @@ module _ (rule : Rule) (accepted : ℕ) (keys : List FlowKey) (homes : List Home
         ∙ p.1 in
         (p.0, ap (λ (l : Link). next_packet l trace) is ∙ next, p.1)
 
-    pub taken : (flow : ℕ) (v' : LinkView) → 0 < v.waits → Sends flow v v' v.link → (p : Accepted) × (next_packet v.link trace ≡ Some p) × (slice_get (backlog v.link flow trace) 0 ≡ Some p)
+    pub taken : (flow : ℕ) (v' : LinkView) → 0 < v.waits → IsNextToSend flow v v' v.link → (p : Accepted) × (next_packet v.link trace ≡ Some p) × (slice_get (backlog v.link flow trace) 0 ≡ Some p)
     taken flow v' some sends = by v.link refl sends
       where
-        by : (l : Link) → v.link ≡ l → Sends flow v v' l → (p : Accepted) × (next_packet v.link trace ≡ Some p) × (slice_get (backlog v.link flow trace) 0 ≡ Some p)
+        by : (l : Link) → v.link ≡ l → IsNextToSend flow v v' l → (p : Accepted) × (next_packet v.link trace ≡ Some p) × (slice_get (backlog v.link flow trace) 0 ≡ Some p)
         by (own pipe f) is e = taken_by flow (own pipe f) is some e
         by (shared pipe) is h = taken_by flow (shared pipe) is some (h.0, h.1, h.2)
 
@@ -208,13 +208,13 @@ module _ (rule : Rule) (accepted : ℕ) (keys : List FlowKey) (homes : List Home
         by (inr none) = ap {B = Option ℕ} (λ b. cond b (Some v.value.free) None) (never v.waits none) ∙ sym (ap (option_map (λ (p : Accepted). free v.link trace)) (none_waits none))
 
     -- And the flow's queue in the table has it there too.
-    pub front : (flow : ℕ) (p : Accepted) → slice_get (backlog v.link flow trace) 0 ≡ Some p → (slice_get (flow_at flows flow).backlog 0 ≡ Some (waiting_of p)) × (flow < length flows) × (home keys flow ≡ v.link) × (p.stamped.flow ≡ flow)
+    pub front : (flow : ℕ) (p : Accepted) → slice_get (backlog v.link flow trace) 0 ≡ Some p → (slice_get (flow_at flows flow).backlog 0 ≡ Some (as_queued p)) × (flow < length flows) × (home keys flow ≡ v.link) × (p.stamped.flow ≡ flow)
     front flow p e =
         let some = not_empty (backlog v.link flow trace) p e in
         let here = at_home flow v.link some in
         let lt = is_flow flow v.link some in
         let many = a.as_many in (
-          ap (λ (ws : List Waiting). slice_get ws 0) ((a.flows_are flow).backlog_is ∙ ap (λ (l : Link). map waiting_of (backlog l flow trace)) here) ∙ first-map waiting_of (backlog v.link flow trace) p e,
+          ap (λ (ws : List Waiting). slice_get ws 0) ((a.flows_are flow).backlog_is ∙ ap (λ (l : Link). map as_queued (backlog l flow trace)) here) ∙ first-map as_queued (backlog v.link flow trace) p e,
           omega arith,
           here,
           backlog-flow v.link flow trace p 0 e,

@@ -10,26 +10,26 @@ use Rattle.std.proofs.lemmas.Bool.Decides.{nat_tests}
 use Rattle.std.specs.Ordering.{is_lt}
 use Rattle.dn_heap.specs.Heap.{IsLeast}
 use Rattle.dn_shaper.specs.declared.links.next_start.NextStart.{NextStart}
-use Rattle.dn_shaper.specs.Refinement.NextStarts.{next_start_cmp, next_at, at_place, standing, Holds}
+use Rattle.dn_shaper.specs.Refinement.NextStarts.{next_start_cmp, next_at, one_at, keys_at, Holds}
 
 -- ---- Keys
 
-pub same_place : (place : ℕ) (k : NextStart) → k.place ≡ place → at_place place k ≡ 1
+pub same_place : (place : ℕ) (k : NextStart) → k.place ≡ place → one_at place k ≡ 1
 same_place place k e = grind (arith, nat_tests)
 
-pub other_place : (place : ℕ) (k : NextStart) → (k.place ≡ place → ⊥) → at_place place k ≡ 0
+pub other_place : (place : ℕ) (k : NextStart) → (k.place ≡ place → ⊥) → one_at place k ≡ 0
 other_place place k n = grind (arith, nat_tests)
 
-standing-cons : (place : ℕ) (k : NextStart) (ks : List NextStart) → standing place (k ∷ ks) ≡ at_place place k + standing place ks
-standing-cons place k ks = sum_by-cons (at_place place) k ks
+standing-cons : (place : ℕ) (k : NextStart) (ks : List NextStart) → keys_at place (k ∷ ks) ≡ one_at place k + keys_at place ks
+standing-cons place k ks = sum_by-cons (one_at place) k ks
 
-pub pushed : (place : ℕ) (k : NextStart) (xs ys : List NextStart) → IsPermutation (k ∷ xs) ys → standing place ys ≡ at_place place k + standing place xs
-pushed place k xs ys h = sum_by_pushed (at_place place) k xs ys h
+pub pushed : (place : ℕ) (k : NextStart) (xs ys : List NextStart) → IsPermutation (k ∷ xs) ys → keys_at place ys ≡ one_at place k + keys_at place xs
+pushed place k xs ys h = sum_by_pushed (one_at place) k xs ys h
 
-popped : (place : ℕ) (k : NextStart) (xs ys : List NextStart) → IsPermutation xs (k ∷ ys) → standing place ys + at_place place k ≡ standing place xs
-popped place k xs ys h = sum_by_popped (at_place place) k xs ys h
+popped : (place : ℕ) (k : NextStart) (xs ys : List NextStart) → IsPermutation xs (k ∷ ys) → keys_at place ys + one_at place k ≡ keys_at place xs
+popped place k xs ys h = sum_by_popped (one_at place) k xs ys h
 
-pub none_standing : (place : ℕ) (ks : List NextStart) → standing place ks ≡ 0 → All (λ k. k.place ≡ place → ⊥) ks
+pub none_standing : (place : ℕ) (ks : List NextStart) → keys_at place ks ≡ 0 → All (λ k. k.place ≡ place → ⊥) ks
 none_standing place [] h = All-nil (λ k. k.place ≡ place → ⊥)
 none_standing place (k ∷ ks) h =
     let s = standing-cons place k ks in
@@ -38,7 +38,7 @@ none_standing place (k ∷ ks) h =
     (none_standing place ks (omega (arith, s, h)))
 
 -- A key of the place, where one stands.
-pub some_standing : (place : ℕ) (ks : List NextStart) → 0 < standing place ks → (i : ℕ) × (i < length ks) × ((d : NextStart) → (slice_index_or ks i d).place ≡ place)
+pub some_standing : (place : ℕ) (ks : List NextStart) → 0 < keys_at place ks → (i : ℕ) × (i < length ks) × ((d : NextStart) → (slice_index_or ks i d).place ≡ place)
 some_standing place [] h = absurd (omega arith)
 some_standing place (k ∷ ks) h =
     elim (cases_eq k.place place) [
@@ -107,7 +107,7 @@ next_listed (o ∷ nexts) zero m e = omega arith
 next_listed (o ∷ nexts) (suc place) m e = let lt = next_listed nexts place m e in omega arith
 
 module _ (nexts : List (Option ℕ)) (keys rest : List NextStart) (k : NextStart) (h : Holds nexts keys) (p : IsPermutation keys (k ∷ rest)) where
-  own_rest : standing k.place rest ≡ 0
+  own_rest : keys_at k.place rest ≡ 0
   own_rest =
       let one = h.once k.place ∙ ap {B = ℕ} (λ (o : Option ℕ). cond (is_some o) 1 0) (popped_next nexts keys rest k h p) in
       let two = popped k.place k keys rest p in
@@ -123,7 +123,7 @@ module _ (nexts : List (Option ℕ)) (keys rest : List NextStart) (k : NextStart
       get_or-set_other nexts k.place x.place next None (none_standing k.place rest own_rest i d lt)
       ∙ All-tail (λ y. next_at nexts y.place ≡ Some y.moment) k rest (All-permutation (λ y. next_at nexts y.place ≡ Some y.moment) keys (k ∷ rest) p h.moments) i d lt
 
-  other_once : (next : Option ℕ) (place : ℕ) → (place ≡ k.place → ⊥) → standing place rest ≡ cond (is_some (next_at (set nexts k.place next) place)) 1 0
+  other_once : (next : Option ℕ) (place : ℕ) → (place ≡ k.place → ⊥) → keys_at place rest ≡ cond (is_some (next_at (set nexts k.place next) place)) 1 0
   other_once next place ne =
       let one = h.once place in
       let two = popped place k keys rest p in
@@ -134,7 +134,7 @@ module _ (nexts : List (Option ℕ)) (keys rest : List NextStart) (k : NextStart
   pub holds_none : Holds (set nexts k.place None) rest
   holds_none = record {
     once = λ place. elim (cases_eq place k.place) [
-      | inl e ↦ let At : ℕ → Type 0 = λ m. standing m rest ≡ cond (is_some (next_at (set nexts k.place None) m)) 1 0 in
+      | inl e ↦ let At : ℕ → Type 0 = λ m. keys_at m rest ≡ cond (is_some (next_at (set nexts k.place None) m)) 1 0 in
           subst At (sym e) (own_rest ∙ sym (ap {B = ℕ} (λ (o : Option ℕ). cond (is_some o) 1 0) (get_or-set_same nexts k.place None None listed)))
       | inr ne ↦ other_once None place ne
     ];
@@ -145,11 +145,11 @@ module _ (nexts : List (Option ℕ)) (keys rest : List NextStart) (k : NextStart
     back : NextStart
     back = record { moment = m; place = k.place }
 
-    once_some : (place : ℕ) → standing place new ≡ cond (is_some (next_at (set nexts k.place (Some m)) place)) 1 0
+    once_some : (place : ℕ) → keys_at place new ≡ cond (is_some (next_at (set nexts k.place (Some m)) place)) 1 0
     once_some place = elim (cases_eq place k.place) [
       | inl e ↦
-          let At : ℕ → Type 0 = λ n. standing n new ≡ cond (is_some (next_at (set nexts k.place (Some m)) n)) 1 0 in
-          let one : standing k.place new ≡ 1 = let a = pushed k.place (record { moment = m; place = k.place }) rest new q in let b = same_place k.place (record { moment = m; place = k.place }) refl in let z = own_rest in omega (arith, a, b, z) in
+          let At : ℕ → Type 0 = λ n. keys_at n new ≡ cond (is_some (next_at (set nexts k.place (Some m)) n)) 1 0 in
+          let one : keys_at k.place new ≡ 1 = let a = pushed k.place (record { moment = m; place = k.place }) rest new q in let b = same_place k.place (record { moment = m; place = k.place }) refl in let z = own_rest in omega (arith, a, b, z) in
           subst At (sym e) (one ∙ sym (ap {B = ℕ} (λ (o : Option ℕ). cond (is_some o) 1 0) (get_or-set_same nexts k.place (Some m) None listed)))
       | inr ne ↦
           let a = pushed place (record { moment = m; place = k.place }) rest new q in

@@ -18,8 +18,8 @@ use Rattle.dn_shaper.specs.declared.state.State.{State}
 use Rattle.dn_shaper.specs.Refinement.Agreement.{AgreesWith, link_names}
 use Rattle.dn_shaper.specs.Refinement.NextStarts.{Holds}
 use Rattle.dn_shaper.specs.Refinement.Homing.{KeepsHeap, OnlyReserves, without_last}
-use Rattle.dn_shaper.specs.Refinement.Making.{KeepsAt, Prepares, Reserves, SameFlow}
-use Rattle.dn_shaper.specs.Refinement.Settling.{IsKept}
+use Rattle.dn_shaper.specs.Refinement.Making.{KeepsAt, Prepares, OnlyMakesRoom, SameFlow}
+use Rattle.dn_shaper.specs.Refinement.Settling.{AreInStep}
 use Rattle.dn_shaper.specs.Refinement.Sound.{IsSound}
 use Rattle.dn_shaper.specs.Refinement.Starting.{Within}
 use Rattle.dn_shaper.specs.Refinement.Submitting.{IsMade}
@@ -54,7 +54,7 @@ seen-made p trace flow a lt =
     ∙ named (views_of p) h.0.place h.2.view (home p.flows.keys flow) h.2.there h.2.link_is in
     names ∙ sym (ap (λ b. cond b (links trace) (links trace ++ home p.flows.keys flow ∷ [])) there)
 
-pub reserves-prepares : (old new : Parts) (flow : ℕ) → Reserves old new → flow < length old.flows.keys → Prepares flow old new
+pub reserves-prepares : (old new : Parts) (flow : ℕ) → OnlyMakesRoom old new → flow < length old.flows.keys → Prepares flow old new
 reserves-prepares old new flow r lt trace a =
     let b = reserves-agree old new r [] trace a in
     let e = ap {B = ℕ} (λ (ks : List FlowKey). length ks) r.keys in
@@ -62,7 +62,7 @@ reserves-prepares old new flow r lt trace a =
 
 -- ---- Only room was made
 
-pub heap-kept : (p : Parts) (heap heap' : Heap NextStart) → KeepsHeap heap heap' → IsKept p heap → IsKept p heap'
+pub heap-kept : (p : Parts) (heap heap' : Heap NextStart) → KeepsHeap heap heap' → AreInStep p heap → AreInStep p heap'
 heap-kept p heap heap' d k = record {
   agrees = k.agrees;
   within = k.within;
@@ -142,10 +142,10 @@ with_table p t = record { rule = p.rule; accepted = p.accepted; flows = t; homes
 abbrev pub with_flows : State → Table → State
 with_flows s t = record { parts = with_table s.parts t; heap = s.heap; shared = s.shared; configured = s.configured; now = s.now; calls = s.calls }
 
-pub same-reserves : (old new : Parts) (t : Table) → t ≡ old.flows → Reserves (with_table old t) new → Reserves old new
-same-reserves old new t e r = subst (λ (x : Table). Reserves (with_table old x) new) e r
+pub same-reserves : (old new : Parts) (t : Table) → t ≡ old.flows → OnlyMakesRoom (with_table old t) new → OnlyMakesRoom old new
+same-reserves old new t e r = subst (λ (x : Table). OnlyMakesRoom (with_table old x) new) e r
 
-pub only-parts : (old : State) (new : Parts) → Reserves old.parts new → OnlyReserves old (record { parts = new; heap = old.heap; shared = old.shared; configured = old.configured; now = old.now; calls = old.calls })
+pub only-parts : (old : State) (new : Parts) → OnlyMakesRoom old.parts new → OnlyReserves old (record { parts = new; heap = old.heap; shared = old.shared; configured = old.configured; now = old.now; calls = old.calls })
 only-parts old new r = record {
   parts = r;
   heap = record { keys = refl; moves = refl; room = omega arith };
@@ -254,5 +254,5 @@ pub ok-of : {X E : Type 0} {A : Type 0} (r : Result X E) → is_err r ≡ false 
 ok-of (Ok x) e a = a
 ok-of (Err x) e a = absurd cc
 
-pub parts-sound : (old : State) (new : Parts) → Reserves old.parts new → IsSound old → IsSound (record { parts = new; heap = old.heap; shared = old.shared; configured = old.configured; now = old.now; calls = old.calls })
+pub parts-sound : (old : State) (new : Parts) → OnlyMakesRoom old.parts new → IsSound old → IsSound (record { parts = new; heap = old.heap; shared = old.shared; configured = old.configured; now = old.now; calls = old.calls })
 parts-sound old new r s = reserves-sound old (record { parts = new; heap = old.heap; shared = old.shared; configured = old.configured; now = old.now; calls = old.calls }) (only-parts old new r) s

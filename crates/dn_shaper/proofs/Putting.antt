@@ -16,7 +16,7 @@ use Rattle.dn_types.specs.declared.target.Target.TheVariants.{Pipe as ToPipe, Qu
 use Rattle.dn_types.specs.contracts.target.TargetPartialEq.TheImpl as impl
 use Rattle.dn_shaper.specs.declared.settings.in_force.InForce.{InForce}
 use Rattle.dn_shaper.specs.Refinement.Configuring.{IsAnswered, Lists, Puts}
-use Rattle.dn_shaper.specs.Refinement.QueueCounts.{commands_of, names_pipe, queues_of, kept_count, pipe_of, one_for, Replaces, CountsQueues}
+use Rattle.dn_shaper.specs.Refinement.QueueCounts.{commands_in, names_pipe, queues_of, kept_count, named_pipe, one_for, Replaces, CountsQueues}
 use Rattle.dn_shaper.specs.Refinement.Settings.{settings_of}
 use Rattle.dn_shaper.proofs.Commands.{Entry, has-queues-is}
 use Rattle.dn_shaper.proofs.QueueCounts.{Kept, count-of, counted-in, has-entry, kept-is}
@@ -34,12 +34,12 @@ any-counted {X = X} p (x ∷ xs) = by (p x) (any-counted p xs) (sum_by-cons (λ 
         same : 0 + count_by p xs ≡ count_by p xs
         same = omega arith
 
-pub has-queues-by : (pipe : ℕ) (es : List Kept) (now : List Entry) → commands_of es ≡ now → CountsQueues es → (o : Option InForce) → lookup (impl.eq-value.it (ToPipe pipe)) es ≡ o
+pub has-queues-by : (pipe : ℕ) (es : List Kept) (now : List Entry) → commands_in es ≡ now → CountsQueues es → (o : Option InForce) → lookup (impl.eq-value.it (ToPipe pipe)) es ≡ o
     → (queues : List ℕ) → Lists (settings_of now) queues → nat_lt 0 (count-of o) ≡ has_queues (settings_of now) queues pipe
 has-queues-by pipe es now is counted o found queues lists =
-    let kept : count-of o ≡ queues_of pipe (commands_of es) = sym (kept-is pipe es o found) ∙ counted.counts pipe in
-    ap (nat_lt 0) kept ∙ any-counted (λ (e : Entry). names_pipe pipe e.0 e.1) (commands_of es)
-    ∙ has-queues-is pipe queues (commands_of es) counted.distinct (subst (λ es. Lists (settings_of es) queues) (sym is) lists)
+    let kept : count-of o ≡ queues_of pipe (commands_in es) = sym (kept-is pipe es o found) ∙ counted.counts pipe in
+    ap (nat_lt 0) kept ∙ any-counted (λ (e : Entry). names_pipe pipe e.0 e.1) (commands_in es)
+    ∙ has-queues-is pipe queues (commands_in es) counted.distinct (subst (λ es. Lists (settings_of es) queues) (sym is) lists)
     ∙ ap (λ es. has_queues (settings_of es) queues pipe) is
 
 -- ---- What the answer to a command says of what is in force
@@ -59,7 +59,7 @@ numbered ((ToQueue n, c) ∷ es) q e = by (nat_eq q n) e (numbered es q)
     by true h rest = refl
     by false h rest = rest h
 
-pub pipe-there : (command : Command) (es : List Entry) → IsAnswered (settings_of es) command Configured → IfSome (pipe_of (subject command) (Some command)) (λ p. is_some (settings_of es (ToPipe p)) ≡ true)
+pub pipe-there : (command : Command) (es : List Entry) → IsAnswered (settings_of es) command Configured → IfSome (named_pipe (subject command) (Some command)) (λ p. is_some (settings_of es (ToPipe p)) ≡ true)
 pipe-there (Pipe number bw delay limit loss buckets mask) es answered = tt
 pipe-there (Queue number pipe weight limit loss buckets mask) es answered = by (is_some (settings_of es (ToPipe pipe))) (answered (numbers es) (numbered es))
   where
@@ -111,13 +111,13 @@ deletes (DeleteQueue number) es distinct answered = record {
 -- ---- The commands and the counts, one step after another
 
 -- What is in force for the target changes first, then the count of the pipe that it named, and then that of the pipe that it names.
-module _ (command : Command) (setting : Option Command) (target : Target) (about : target ≡ subject command) (now : List Entry) (es0 es1 : List Kept) (seen : commands_of es0 ≡ now)
+module _ (command : Command) (setting : Option Command) (target : Target) (about : target ≡ subject command) (now : List Entry) (es0 es1 : List Kept) (seen : commands_in es0 ≡ now)
     (counted : CountsQueues es0) (replaces : Replaces target setting es0 es1) (kept1 : (p : ℕ) → kept_count p es1 ≡ kept_count p es0) where
-  pub puts-after : (es : List Kept) → commands_of es ≡ commands_of es1 → Puts command setting (settings_of now) (settings_of (commands_of es))
+  pub puts-after : (es : List Kept) → commands_in es ≡ commands_in es1 → Puts command setting (settings_of now) (settings_of (commands_in es))
   puts-after es same t =
       ap (λ l. settings_of l t) same ∙ replaces.settings t ∙ (λ i. cond (target_eq (about i) t) setting (settings_of (seen i) t))
 
-  module _ (left : Option ℕ) (left-is : left ≡ pipe_of target (settings_of (commands_of es0) target)) where
+  module _ (left : Option ℕ) (left-is : left ≡ named_pipe target (settings_of (commands_in es0) target)) where
     pub counted-before : (p : ℕ) → one_for left p ≤ kept_count p es1
     counted-before p =
         let a = counted-in p target es0 in
@@ -126,8 +126,8 @@ module _ (command : Command) (setting : Option Command) (target : Target) (about
         let d = ap (λ o. one_for o p) left-is in
         omega (arith, a, b, c, d)
 
-    module _ (es2 : List Kept) (same2 : commands_of es2 ≡ commands_of es1) (kept2 : (p : ℕ) → kept_count p es2 + one_for left p ≡ kept_count p es1) where
-      uncounted-one : (p : ℕ) → kept_count p es2 + one_for (pipe_of target setting) p ≡ queues_of p (commands_of es2)
+    module _ (es2 : List Kept) (same2 : commands_in es2 ≡ commands_in es1) (kept2 : (p : ℕ) → kept_count p es2 + one_for left p ≡ kept_count p es1) where
+      uncounted-one : (p : ℕ) → kept_count p es2 + one_for (named_pipe target setting) p ≡ queues_of p (commands_in es2)
       uncounted-one p =
           let a = replaces.queues p in
           let b = counted.counts p in
@@ -140,17 +140,17 @@ module _ (command : Command) (setting : Option Command) (target : Target) (about
       pub few : (p : ℕ) → kept_count p es2 ≤ length es2
       few p =
           let a = uncounted-one p in
-          let b = count_by-le-length (λ (e : Entry). names_pipe p e.0 e.1) (commands_of es2) in
-          let c : length (commands_of es2) ≡ length es2 = length-map es2 (λ (e : Kept). (e.0, e.1.command)) in
+          let b = count_by-le-length (λ (e : Entry). names_pipe p e.0 e.1) (commands_in es2) in
+          let c : length (commands_in es2) ≡ length es2 = length-map es2 (λ (e : Kept). (e.0, e.1.command)) in
           omega (arith, a, b, c)
 
-      pub counts-less : ((p : ℕ) → one_for (pipe_of target setting) p ≡ 0) → CountsQueues es2
+      pub counts-less : ((p : ℕ) → one_for (named_pipe target setting) p ≡ 0) → CountsQueues es2
       counts-less none = record {
         distinct = subst (λ es. IsDistinct target_eq (keys_of es)) (sym same2) replaces.distinct;
         counts = λ p. let a = uncounted-one p in let b = none p in omega (arith, a, b);
       }
 
-      pub counts-more : (joined : Option ℕ) → joined ≡ pipe_of target setting → (es3 : List Kept) → commands_of es3 ≡ commands_of es2 → ((p : ℕ) → kept_count p es3 ≡ kept_count p es2 + one_for joined p) → CountsQueues es3
+      pub counts-more : (joined : Option ℕ) → joined ≡ named_pipe target setting → (es3 : List Kept) → commands_in es3 ≡ commands_in es2 → ((p : ℕ) → kept_count p es3 ≡ kept_count p es2 + one_for joined p) → CountsQueues es3
       counts-more joined joined-is es3 same3 kept3 = record {
         distinct = subst (λ es. IsDistinct target_eq (keys_of es)) (sym (same3 ∙ same2)) replaces.distinct;
         counts = λ p.
@@ -162,28 +162,28 @@ module _ (command : Command) (setting : Option Command) (target : Target) (about
       }
 
 -- The pipe that an accepted queue names is still in force when its count changes.
-pub still-there : (command : Command) (target : Target) (about : target ≡ subject command) (now : List Entry) (es0 es1 es2 : List Kept) → commands_of es0 ≡ now → Replaces target (Some command) es0 es1 → commands_of es2 ≡ commands_of es1
-    → IsAnswered (settings_of now) command Configured → (joined : Option ℕ) → joined ≡ pipe_of target (Some command) → IfSome joined (λ p. is_some (settings_of (commands_of es2) (ToPipe p)) ≡ true)
+pub still-there : (command : Command) (target : Target) (about : target ≡ subject command) (now : List Entry) (es0 es1 es2 : List Kept) → commands_in es0 ≡ now → Replaces target (Some command) es0 es1 → commands_in es2 ≡ commands_in es1
+    → IsAnswered (settings_of now) command Configured → (joined : Option ℕ) → joined ≡ named_pipe target (Some command) → IfSome joined (λ p. is_some (settings_of (commands_in es2) (ToPipe p)) ≡ true)
 still-there command target about now es0 es1 es2 seen replaces same answered joined is =
-    by joined (subst (λ o. IfSome o (λ p. is_some (settings_of now (ToPipe p)) ≡ true)) (sym (is ∙ ap (λ t. pipe_of t (Some command)) about)) (pipe-there command now answered))
+    by joined (subst (λ o. IfSome o (λ p. is_some (settings_of now (ToPipe p)) ≡ true)) (sym (is ∙ ap (λ t. named_pipe t (Some command)) about)) (pipe-there command now answered))
   where
     put : (p : ℕ) → is_some (settings_of now (ToPipe p)) ≡ true → (b : Bool) → is_some (cond b (Some command) (settings_of now (ToPipe p))) ≡ true
     put p there true = refl
     put p there false = there
 
-    by : (o : Option ℕ) → IfSome o (λ p. is_some (settings_of now (ToPipe p)) ≡ true) → IfSome o (λ p. is_some (settings_of (commands_of es2) (ToPipe p)) ≡ true)
+    by : (o : Option ℕ) → IfSome o (λ p. is_some (settings_of now (ToPipe p)) ≡ true) → IfSome o (λ p. is_some (settings_of (commands_in es2) (ToPipe p)) ≡ true)
     by None h = tt
     by (Some p) h =
         ap (λ l. is_some (settings_of l (ToPipe p))) same ∙ ap is_some (replaces.settings (ToPipe p)) ∙ ap (λ l. is_some (cond (target_eq target (ToPipe p)) (Some command) (settings_of l (ToPipe p)))) seen ∙ put p h (target_eq target (ToPipe p))
 
 -- No count is lost with what an accepted delete takes out.
-pub none-lost : (command : Command) (target : Target) → target ≡ subject command → (now : List Entry) (es : List Kept) → commands_of es ≡ now → CountsQueues es → IsAnswered (settings_of now) command Deleted
+pub none-lost : (command : Command) (target : Target) → target ≡ subject command → (now : List Entry) (es : List Kept) → commands_in es ≡ now → CountsQueues es → IsAnswered (settings_of now) command Deleted
     → (p : ℕ) → target ≡ ToPipe p → 0 ≡ kept_count p es
 none-lost command target about now es seen counted answered p is =
     let d = deletes command now (subst (λ l. IsDistinct target_eq (keys_of l)) seen counted.distinct) answered in
     sym (counted.counts p ∙ ap (queues_of p) seen ∙ d.unnamed p (sym about ∙ is))
 
-pub is-there : (command : Command) (target : Target) → target ≡ subject command → (now : List Entry) (es : List Kept) → commands_of es ≡ now → CountsQueues es → IsAnswered (settings_of now) command Deleted
+pub is-there : (command : Command) (target : Target) → target ≡ subject command → (now : List Entry) (es : List Kept) → commands_in es ≡ now → CountsQueues es → IsAnswered (settings_of now) command Deleted
     → is_some (lookup (impl.eq-value.it target) es) ≡ true
 is-there command target about now es seen counted answered =
     let d = deletes command now (subst (λ l. IsDistinct target_eq (keys_of l)) seen counted.distinct) answered in

@@ -16,7 +16,7 @@ use Rattle.dn_types.specs.declared.target.Target.{Target}
 use Rattle.dn_types.specs.declared.target.Target.TheVariants.{Pipe as ToPipe, Queue as ToQueue}
 use Rattle.dn_types.specs.contracts.target.TargetPartialEq.TheImpl as impl
 use Rattle.dn_shaper.specs.declared.settings.in_force.InForce.{InForce}
-use Rattle.dn_shaper.specs.Refinement.QueueCounts.{commands_of, names_pipe, queues_of, kept_count, pipe_of, one_for, Replaces}
+use Rattle.dn_shaper.specs.Refinement.QueueCounts.{commands_in, names_pipe, queues_of, kept_count, named_pipe, one_for, Replaces}
 use Rattle.dn_shaper.specs.Refinement.Settings.{settings_of}
 use Rattle.dn_flows.proofs.Places.{eq-yes}
 use Rattle.dn_shaper.proofs.Commands.{same-number, key-test}
@@ -26,10 +26,10 @@ Kept = Target × InForce
 
 -- ---- The commands of the entries
 
-pub setting-is : (t : Target) (es : List Kept) → settings_of (commands_of es) t ≡ option_map (λ (f : InForce). f.command) (lookup (target_eq t) es)
+pub setting-is : (t : Target) (es : List Kept) → settings_of (commands_in es) t ≡ option_map (λ (f : InForce). f.command) (lookup (target_eq t) es)
 setting-is t es = lookup-map_values (λ (f : InForce). f.command) (target_eq t) es
 
-pub keys-are : (es : List Kept) → keys_of (commands_of es) ≡ keys_of es
+pub keys-are : (es : List Kept) → keys_of (commands_in es) ≡ keys_of es
 keys-are es = keys_of-map_values (λ (f : InForce). f.command) es
 
 pub same-target : (a b : Target) → target_eq a b ≡ true → a ≡ b
@@ -49,7 +49,7 @@ no-key t (e ∷ es) f is none = by (target_eq t e.0) is none (no-key t es f)
 -- ---- One entry's part in the count of a pipe
 
 module _ (pipe : ℕ) where
-  one-is : (t : Target) (c : Command) → cond (names_pipe pipe t c) 1 0 ≡ one_for (pipe_of t (Some c)) pipe
+  one-is : (t : Target) (c : Command) → cond (names_pipe pipe t c) 1 0 ≡ one_for (named_pipe t (Some c)) pipe
   one-is (ToPipe n) c = refl
   one-is (ToQueue n) (Pipe number bw delay limit loss buckets mask) = refl
   one-is (ToQueue n) (Queue number p weight limit loss buckets mask) = refl
@@ -60,16 +60,16 @@ module _ (pipe : ℕ) where
   weight e = cond (names_pipe pipe e.0 e.1.command) 1 0
 
   abbrev part : Target → Option InForce → ℕ
-  part t o = one_for (pipe_of t (option_map (λ (f : InForce). f.command) o)) pipe
+  part t o = one_for (named_pipe t (option_map (λ (f : InForce). f.command) o)) pipe
 
-  queues-are : (es : List Kept) → queues_of pipe (commands_of es) ≡ sum_by weight es
+  queues-are : (es : List Kept) → queues_of pipe (commands_in es) ≡ sum_by weight es
   queues-are [] = refl
   queues-are (e ∷ es) =
-      let a = sum_by-cons (λ (e : Target × Command). cond (names_pipe pipe e.0 e.1) 1 0) (e.0, e.1.command) (commands_of es) in
+      let a = sum_by-cons (λ (e : Target × Command). cond (names_pipe pipe e.0 e.1) 1 0) (e.0, e.1.command) (commands_in es) in
       let b = sum_by-cons weight e es in
       a ∙ ap (λ n. weight e + n) (queues-are es) ∙ sym b
 
-  pub nothing : (t : Target) → one_for (pipe_of t None) pipe ≡ 0
+  pub nothing : (t : Target) → one_for (named_pipe t None) pipe ≡ 0
   nothing (ToPipe n) = refl
   nothing (ToQueue n) = refl
 
@@ -95,25 +95,25 @@ module _ (pipe : ℕ) where
           omega (arith, a, b, rest)
 
   -- An entry is a part of the whole: another command in its place would leave a count too.
-  pub counted-in : (t : Target) (es : List Kept) → one_for (pipe_of t (settings_of (commands_of es) t)) pipe ≤ queues_of pipe (commands_of es)
+  pub counted-in : (t : Target) (es : List Kept) → one_for (named_pipe t (settings_of (commands_in es) t)) pipe ≤ queues_of pipe (commands_in es)
   counted-in t es =
       let a = inserted t (record { command = DeletePipe 1; queues = 0 }) es in
       let none = unnamed t in
       let b = queues-are es in
-      let c = ap (λ o. one_for (pipe_of t o) pipe) (setting-is t es) in
+      let c = ap (λ o. one_for (named_pipe t o) pipe) (setting-is t es) in
       omega (arith, a, none, b, c)
     where
-      unnamed : (t : Target) → one_for (pipe_of t (Some (DeletePipe 1))) pipe ≡ 0
+      unnamed : (t : Target) → one_for (named_pipe t (Some (DeletePipe 1))) pipe ≡ 0
       unnamed (ToPipe n) = refl
       unnamed (ToQueue n) = refl
 
   pub queues-inserted : (t : Target) (f : InForce) (es : List Kept)
-      → queues_of pipe (commands_of (insert_entry target_eq es t f)) + one_for (pipe_of t (settings_of (commands_of es) t)) pipe ≡ queues_of pipe (commands_of es) + one_for (pipe_of t (Some f.command)) pipe
+      → queues_of pipe (commands_in (insert_entry target_eq es t f)) + one_for (named_pipe t (settings_of (commands_in es) t)) pipe ≡ queues_of pipe (commands_in es) + one_for (named_pipe t (Some f.command)) pipe
   queues-inserted t f es =
       let a = inserted t f es in
       let b = queues-are es in
       let c = queues-are (insert_entry target_eq es t f) in
-      let d = ap (λ o. one_for (pipe_of t o) pipe) (setting-is t es) in
+      let d = ap (λ o. one_for (named_pipe t o) pipe) (setting-is t es) in
       omega (arith, a, b, c, d)
 
   -- ---- After a removal, which moves the last entry
@@ -151,12 +151,12 @@ module _ (pipe : ℕ) where
       by (Some i) some = swapped-at t f e es i some is
 
   pub queues-swapped : (t : Target) (f : InForce) (es : List Kept) → lookup (target_eq t) es ≡ Some f
-      → queues_of pipe (commands_of (swap_remove_entry (target_eq t) es)) + one_for (pipe_of t (settings_of (commands_of es) t)) pipe ≡ queues_of pipe (commands_of es) + one_for (pipe_of t None) pipe
+      → queues_of pipe (commands_in (swap_remove_entry (target_eq t) es)) + one_for (named_pipe t (settings_of (commands_in es) t)) pipe ≡ queues_of pipe (commands_in es) + one_for (named_pipe t None) pipe
   queues-swapped t f es is =
       let a = swapped t f es is in
       let b = queues-are es in
       let c = queues-are (swap_remove_entry (target_eq t) es) in
-      let d = ap (λ o. one_for (pipe_of t o) pipe) (setting-is t es) in
+      let d = ap (λ o. one_for (named_pipe t o) pipe) (setting-is t es) in
       let g = ap (part t) is in
       let h = nothing t in
       omega (arith, a, b, c, d, g, h)
@@ -180,7 +180,7 @@ abbrev pub command-in : Option InForce → Option Command
 command-in o = option_map (λ (f : InForce). f.command) o
 
 settings-by : (t : Target) (o : Option InForce) (old new : List Kept) → Gets t o old new target_eq
-    → (q : Target) → settings_of (commands_of new) q ≡ cond (target_eq t q) (command-in o) (settings_of (commands_of old) q)
+    → (q : Target) → settings_of (commands_in new) q ≡ cond (target_eq t q) (command-in o) (settings_of (commands_in old) q)
 settings-by t o old new gets q =
     setting-is q new ∙ ap command-in (gets q) ∙ either (target_eq t q) ∙ ap (λ s. cond (target_eq t q) (command-in o) s) (sym (setting-is q old))
   where
@@ -188,7 +188,7 @@ settings-by t o old new gets q =
     either true = refl
     either false = refl
 
-distinct-in : (es : List Kept) → IsDistinct target_eq (keys_of es) → IsDistinct target_eq (keys_of (commands_of es))
+distinct-in : (es : List Kept) → IsDistinct target_eq (keys_of es) → IsDistinct target_eq (keys_of (commands_in es))
 distinct-in es d = subst (IsDistinct target_eq) (sym (keys-are es)) d
 
 abbrev pub count-of : Option InForce → ℕ
@@ -211,7 +211,7 @@ module _ (t : Target) (f : InForce) (old new : List Kept) (gets : Gets t (Some f
     settings = settings-by t (Some f) old new (by-key (Gets t (Some f) old new) gets);
     queues = λ pipe.
         let here : new ≡ insert_entry target_eq old t f = by-key (λ eq. new ≡ insert_entry eq old t f) is in
-        subst (λ es. queues_of pipe (commands_of es) + one_for (pipe_of t (settings_of (commands_of old) t)) pipe ≡ queues_of pipe (commands_of old) + one_for (pipe_of t (Some f.command)) pipe) (sym here) (queues-inserted pipe t f old);
+        subst (λ es. queues_of pipe (commands_in es) + one_for (named_pipe t (settings_of (commands_in old) t)) pipe ≡ queues_of pipe (commands_in old) + one_for (named_pipe t (Some f.command)) pipe) (sym here) (queues-inserted pipe t f old);
     distinct = distinct-in new (by-key (λ eq. IsDistinct eq (keys_of new)) distinct);
   }
 
@@ -230,18 +230,18 @@ module _ (t : Target) (old new : List Kept) (gets : Gets t None old new impl.eq-
     settings = settings-by t None old new (by-key (Gets t None old new) gets);
     queues = λ pipe.
         let here : new ≡ swap_remove_entry (target_eq t) old = by-key (λ eq. new ≡ swap_remove_entry (eq t) old) is in
-        subst (λ es. queues_of pipe (commands_of es) + one_for (pipe_of t (settings_of (commands_of old) t)) pipe ≡ queues_of pipe (commands_of old) + one_for (pipe_of t None) pipe) (sym here) (queues-swapped pipe t had old (by-key (λ eq. lookup (eq t) old ≡ Some had) at));
+        subst (λ es. queues_of pipe (commands_in es) + one_for (named_pipe t (settings_of (commands_in old) t)) pipe ≡ queues_of pipe (commands_in old) + one_for (named_pipe t None) pipe) (sym here) (queues-swapped pipe t had old (by-key (λ eq. lookup (eq t) old ≡ Some had) at));
     distinct = distinct-in new (by-key (λ eq. IsDistinct eq (keys_of new)) distinct);
   }
 
   pub drops-none : ((p : ℕ) → t ≡ ToPipe p → 0 ≡ kept_count p old) → (p : ℕ) → kept_count p new ≡ kept_count p old
   drops-none none = counts-by t None old new (by-key (Gets t None old new) gets) none
 
-pub setting-by : (t : Target) (es : List Kept) (o : Option InForce) → lookup (impl.eq-value.it t) es ≡ o → settings_of (commands_of es) t ≡ command-in o
+pub setting-by : (t : Target) (es : List Kept) (o : Option InForce) → lookup (impl.eq-value.it t) es ≡ o → settings_of (commands_in es) t ≡ command-in o
 setting-by t es o is = setting-is t es ∙ ap command-in (by-key (λ eq. lookup (eq t) es ≡ o) is)
 
 -- What is in force, or has a count, has an entry.
-pub has-entry : (t : Target) (es : List Kept) → is_some (settings_of (commands_of es) t) ≡ true → is_some (lookup (impl.eq-value.it t) es) ≡ true
+pub has-entry : (t : Target) (es : List Kept) → is_some (settings_of (commands_in es) t) ≡ true → is_some (lookup (impl.eq-value.it t) es) ≡ true
 has-entry t es is = subst (λ (eq : Target → Target → Bool). is_some (lookup (eq t) es) ≡ true) (sym key-test) (by (lookup (target_eq t) es) (sym (ap is_some (setting-is t es)) ∙ is))
   where
     by : (o : Option InForce) → is_some (command-in o) ≡ true → is_some o ≡ true

@@ -12,9 +12,9 @@ use Rattle.dn_shaper.specs.declared.links.parts.Parts.{Parts}
 use Rattle.dn_shaper.specs.Refinement.Agreement.{Agrees, AgreesWith}
 use Rattle.dn_shaper.specs.Refinement.Arriving.{KeepsFlows}
 use Rattle.dn_shaper.specs.Refinement.Configuring.{DiscardsReached}
-use Rattle.dn_shaper.specs.Refinement.Discarding.{Discards, OnlyEmpties}
+use Rattle.dn_shaper.specs.Refinement.Discarding.{DiscardsFlow, OnlyEmpties}
 use Rattle.dn_shaper.specs.Refinement.NextStarts.{is_backlogged}
-use Rattle.dn_shaper.specs.Refinement.Settling.{IsKept}
+use Rattle.dn_shaper.specs.Refinement.Settling.{AreInStep}
 use Rattle.dn_shaper.specs.Refinement.Starting.{Within}
 use Rattle.dn_shaper.specs.Refinement.Views.{LinkView, next_starts, views_of}
 use Rattle.dn_shaper.proofs.Emptied.{holds-kept, counted-held}
@@ -47,7 +47,7 @@ module _ (command : Command) (old : Parts) where
     next : (t : List Event) → discard_reached command flow (drop flow old.flows.keys) t ≡ discard_reached command (flow + 1) (drop (flow + 1) old.flows.keys) (cond (reaches command key) (discarded flow ∷ t) t)
     next t = ap (λ (ks : List FlowKey). discard_reached command flow ks t) (drop-one old.flows.keys flow key there ∙ (λ i. key ∷ drop (one-more i) old.flows.keys))
 
-    pub one-discarded : (new : Parts) → reaches command key ≡ true → Discards flow mid new → DiscardsUpTo (flow + 1) command old new
+    pub one-discarded : (new : Parts) → reaches command key ≡ true → DiscardsFlow flow mid new → DiscardsUpTo (flow + 1) command old new
     one-discarded new yes' discards more trace a =
         let d = done more trace a in
         (discarded flow ∷ d.0, discards more d.0 d.1, ap (λ b. discard_reached command (flow + 1) (drop (flow + 1) old.flows.keys) (cond b (discarded flow ∷ d.0) d.0)) (sym yes') ∙ sym (next d.0) ∙ d.2)
@@ -68,7 +68,7 @@ keeps-none p = record { rule = refl; keys = refl; homes = refl; names = refl }
 pub keeps-more : (old mid new : Parts) → KeepsFlows old mid → KeepsFlows mid new → KeepsFlows old new
 keeps-more old mid new a b = record { rule = b.rule ∙ a.rule; keys = b.keys ∙ a.keys; homes = b.homes ∙ a.homes; names = b.names ∙ a.names }
 
-pub agrees-discarded : (flow : ℕ) (old new : Parts) → Agrees old → Discards flow old new → Agrees new
+pub agrees-discarded : (flow : ℕ) (old new : Parts) → Agrees old → DiscardsFlow flow old new → Agrees new
 agrees-discarded flow old new a d = (a.0, discarded flow ∷ a.1, d a.0 a.1 a.2)
 
 agrees-reached : (command : Command) (old new : Parts) → Agrees old → DiscardsReached command old new → Agrees new
@@ -81,7 +81,7 @@ pub empties-more : (old mid new : Parts) → OnlyEmpties old mid → OnlyEmpties
 empties-more old mid new a b place moment e = a place moment (b place moment e)
 
 -- The emptied links left the heap together.
-pub emptied-kept : (command : Command) (old new : Parts) (heap heap' : Heap NextStart) → IsKept old heap → DiscardsReached command old new → ((n : ℕ) → Within n old → Within n new) → KeepsFlows old new → OnlyEmpties old new → IsPermutation (filter (is_backlogged (next_starts (views_of new))) heap.keys) heap'.keys → length heap'.keys + heap'.room ≡ length heap.keys + heap.room → IsKept new heap'
+pub emptied-kept : (command : Command) (old new : Parts) (heap heap' : Heap NextStart) → AreInStep old heap → DiscardsReached command old new → ((n : ℕ) → Within n old → Within n new) → KeepsFlows old new → OnlyEmpties old new → IsPermutation (filter (is_backlogged (next_starts (views_of new))) heap.keys) heap'.keys → length heap'.keys + heap'.room ≡ length heap.keys + heap.room → AreInStep new heap'
 emptied-kept command old new heap heap' kept discards within keeps empties perm room =
     let held = holds-kept (next_starts (views_of old)) (next_starts (views_of new)) heap.keys heap'.keys kept.held empties perm in
     record {

@@ -7,28 +7,28 @@ use Rattle.dn_types.specs.declared.target.Target.{Target}
 use Rattle.dn_types.specs.declared.target.Target.TheVariants.{Pipe as ToPipe}
 use Rattle.dn_types.specs.contracts.target.TargetPartialEq.TheImpl as impl
 use Rattle.dn_shaper.specs.declared.settings.in_force.InForce.{InForce}
-use Rattle.dn_shaper.specs.Refinement.QueueCounts.{commands_of, kept_count}
+use Rattle.dn_shaper.specs.Refinement.QueueCounts.{commands_in, kept_count}
 use Rattle.dn_shaper.proofs.Commands.{same-number}
 use Rattle.dn_shaper.proofs.QueueCounts.{Gets, Kept, by-key, count-of}
 
-commands-stay : (test : Target → Bool) (had : InForce) (queues : ℕ) (es : List Kept) → lookup test es ≡ Some had → commands_of (set_value test es (record { command = had.command; queues = queues })) ≡ commands_of es
+commands-stay : (test : Target → Bool) (had : InForce) (queues : ℕ) (es : List Kept) → lookup test es ≡ Some had → commands_in (set_value test es (record { command = had.command; queues = queues })) ≡ commands_in es
 commands-stay test had queues [] is = absurd cc
 commands-stay test had queues (e ∷ es) is = by (test e.0) is (commands-stay test had queues es)
   where
     kept : InForce
     kept = record { command = had.command; queues = queues }
 
-    by : (b : Bool) → cond b (Some e.1) (lookup test es) ≡ Some had → (lookup test es ≡ Some had → commands_of (set_value test es (record { command = had.command; queues = queues })) ≡ commands_of es)
-        → commands_of (cond b ((e.0, record { command = had.command; queues = queues }) ∷ es) (e ∷ set_value test es (record { command = had.command; queues = queues }))) ≡ commands_of (e ∷ es)
+    by : (b : Bool) → cond b (Some e.1) (lookup test es) ≡ Some had → (lookup test es ≡ Some had → commands_in (set_value test es (record { command = had.command; queues = queues })) ≡ commands_in es)
+        → commands_in (cond b ((e.0, record { command = had.command; queues = queues }) ∷ es) (e ∷ set_value test es (record { command = had.command; queues = queues }))) ≡ commands_in (e ∷ es)
     by true h rest =
         let same : e.1 ≡ had = cc in
-        ap (λ (f : InForce). (e.0, f.command) ∷ commands_of es) (sym same)
+        ap (λ (f : InForce). (e.0, f.command) ∷ commands_in es) (sym same)
     by false h rest = ap (λ l. (e.0, e.1.command) ∷ l) (rest h)
 
 module _ (pipe : ℕ) (had : InForce) (queues : ℕ) (old new : List Kept) (there : lookup (impl.eq-value.it (ToPipe pipe)) old ≡ Some had)
     (gets : Gets (ToPipe pipe) (Some (record { command = had.command; queues = queues })) old new impl.eq-value.it) where
-  pub keeps-commands : new ≡ set_value (impl.eq-value.it (ToPipe pipe)) old (record { command = had.command; queues = queues }) → commands_of new ≡ commands_of old
-  keeps-commands is = ap commands_of is ∙ commands-stay (impl.eq-value.it (ToPipe pipe)) had queues old there
+  pub keeps-commands : new ≡ set_value (impl.eq-value.it (ToPipe pipe)) old (record { command = had.command; queues = queues }) → commands_in new ≡ commands_in old
+  keeps-commands is = ap commands_in is ∙ commands-stay (impl.eq-value.it (ToPipe pipe)) had queues old there
 
   found : lookup (target_eq (ToPipe pipe)) old ≡ Some had
   found = by-key (λ eq. lookup (eq (ToPipe pipe)) old ≡ Some had) there

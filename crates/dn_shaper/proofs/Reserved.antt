@@ -19,8 +19,8 @@ use Rattle.dn_shaper.specs.declared.links.home.Home.{Home}
 use Rattle.dn_shaper.specs.declared.links.parts.Parts.{Parts}
 use Rattle.dn_shaper.specs.Refinement.Agreement.{AgreesWith, AreDistinct, IsAt, IsHomeOf, IsLinkAt, link_names}
 use Rattle.dn_shaper.specs.Refinement.NextStarts.{Holds, backlogged}
-use Rattle.dn_shaper.specs.Refinement.Making.{KeepsLink, KeepsAt, Reserves}
-use Rattle.dn_shaper.specs.Refinement.Settling.{IsKept}
+use Rattle.dn_shaper.specs.Refinement.Making.{KeepsLink, KeepsAt, OnlyMakesRoom}
+use Rattle.dn_shaper.specs.Refinement.Settling.{AreInStep}
 use Rattle.dn_shaper.specs.Refinement.Slots.{Ascends, top}
 use Rattle.dn_shaper.specs.Refinement.Starting.{Within}
 use Rattle.dn_shaper.specs.Refinement.Views.{LinkView, views_of, home, next_starts, next_start_of, waits_in_all}
@@ -46,7 +46,7 @@ is-there None (Some y) h v e = absurd h
 is-there (Some y) None h v e = absurd h
 is-there (Some y) (Some w) h v e = let same : y ≡ v = cc in (w, refl, subst (λ (x : LinkView). KeepsLink x w) same h)
 
-module _ (old new : Parts) (r : Reserves old new) where
+module _ (old new : Parts) (r : OnlyMakesRoom old new) where
   pub reserved-names : link_names (views_of new) ≡ link_names (views_of old)
   reserved-names = same-map (λ v. v.link) (λ v w k. k.link) (views_of old) (views_of new) r.views
 
@@ -145,7 +145,7 @@ module _ (old new : Parts) (r : Reserves old new) where
     accepted = let a = w.accepted in let b = r.accepted in omega arith;
   }
 
-  pub reserves-kept : (heap : Heap NextStart) → IsKept old heap → IsKept new heap
+  pub reserves-kept : (heap : Heap NextStart) → AreInStep old heap → AreInStep new heap
   reserves-kept heap k = record {
     agrees = let a = k.agrees in (a.0, a.1, reserves-agree a.0 a.1 a.2);
     within = reserves-within (2 ^ 62) k.within;

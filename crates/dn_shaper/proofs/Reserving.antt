@@ -6,7 +6,7 @@ use Rattle.dn_flows.specs.Table.{FlowState, flow_at, with_place}
 use Rattle.dn_flows.proofs.Views.{flow_after_set}
 use Rattle.dn_types.specs.Trace.{Link, shared}
 use Rattle.dn_wf2q.specs.Schedule.{room_at}
-use Rattle.dn_shaper.specs.Refinement.Making.{KeepsLink, SameFlow, KeepsAt, HasRoom}
+use Rattle.dn_shaper.specs.Refinement.Making.{KeepsLink, SameFlow, KeepsAt, HasSlotRoom}
 use Rattle.dn_shaper.specs.Refinement.Views.{LinkView}
 use Rattle.dn_flows.proofs.Places.{eq-no, eq-yes, get-set, get-set-other}
 
@@ -48,8 +48,8 @@ on-ok (Ok x) f a = f a
 on-ok (Err e) f a = tt
 
 -- The flow's slot has room on its link, and no other link is asked.
-pub slot-ready : (views : List LinkView) (k slot : ℕ) (v w : LinkView) → slice_get views k ≡ Some v → HasRoom slot w w.link → (x : LinkView) (pipe : ℕ) → slice_get (set views k w) k ≡ Some x → x.link ≡ shared pipe → 0 < room_at x.schedule.room slot
+pub slot-ready : (views : List LinkView) (k slot : ℕ) (v w : LinkView) → slice_get views k ≡ Some v → HasSlotRoom slot w w.link → (x : LinkView) (pipe : ℕ) → slice_get (set views k w) k ≡ Some x → x.link ≡ shared pipe → 0 < room_at x.schedule.room slot
 slot-ready views k slot v w there room x pipe at is =
     let both : Some w ≡ Some x = sym (get-set views k v w there) ∙ at in
     let same : w ≡ x = cc in
-    subst (λ (l : Link). HasRoom slot x l) is (subst (λ (y : LinkView). HasRoom slot y y.link) same room)
+    subst (λ (l : Link). HasSlotRoom slot x l) is (subst (λ (y : LinkView). HasSlotRoom slot y y.link) same room)

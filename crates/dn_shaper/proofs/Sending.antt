@@ -23,10 +23,10 @@ use Rattle.dn_shaper.specs.declared.links.parts.Parts.{Parts}
 use Rattle.dn_shaper.specs.declared.state.State.{State}
 use Rattle.dn_shaper.specs.Refinement.Agreement.{AgreesWith, link_names}
 use Rattle.dn_shaper.specs.Refinement.Arriving.{KeepsFlows}
-use Rattle.dn_shaper.specs.Refinement.Making.{KeepsCalls, Prepares, Reserves}
+use Rattle.dn_shaper.specs.Refinement.Making.{KeepsCalls, Prepares, OnlyMakesRoom}
 use Rattle.dn_shaper.specs.Refinement.Calls.{counted_at, Does, StillStands}
 use Rattle.dn_shaper.specs.Refinement.Settings.{settings_of}
-use Rattle.dn_shaper.specs.Refinement.Settling.{IsKept}
+use Rattle.dn_shaper.specs.Refinement.Settling.{AreInStep}
 use Rattle.dn_shaper.specs.Refinement.Sound.{IsSound}
 use Rattle.dn_shaper.specs.Refinement.Starting.{Within}
 use Rattle.dn_shaper.specs.Refinement.Submitting.{Answers, verdict_on}
@@ -154,7 +154,7 @@ module _ (target : Target) (packet : Packet) (how : Treatment) (at flow : ℕ) (
 
 -- ---- What stays sound
 
-pub still-stands : (old new : State) → KeepsCalls old new → Reserves old.parts new.parts → StillStands old new
+pub still-stands : (old new : State) → KeepsCalls old new → OnlyMakesRoom old.parts new.parts → StillStands old new
 still-stands old new stays reserves rule calls s = record {
   rule_is = stays.rule ∙ s.rule_is;
   calls_are = stays.calls ∙ s.calls_are;
@@ -164,7 +164,7 @@ still-stands old new stays reserves rule calls s = record {
   agrees = reserves-agree old.parts new.parts reserves [] (trace_of calls) s.agrees;
 }
 
-module _ (s : State) (parts : Parts) (heap : Heap NextStart) (at : ℕ) (early : at ≤ 2 ^ 62) (sound : IsSound s) (kept : IsKept parts heap) (names : link_names (views_of parts) ≡ link_names (views_of s.parts)) where
+module _ (s : State) (parts : Parts) (heap : Heap NextStart) (at : ℕ) (early : at ≤ 2 ^ 62) (sound : IsSound s) (kept : AreInStep parts heap) (names : link_names (views_of parts) ≡ link_names (views_of s.parts)) where
   pub sound-then : Within (s.calls + 1) parts → heap.moves + parts.waiting ≤ s.heap.moves + s.parts.waiting + 2 → IsSound (counted_at at (record { parts = parts; heap = heap; shared = s.shared; configured = s.configured; now = s.now; calls = s.calls }))
   sound-then within moves = record {
     kept = kept;

@@ -20,7 +20,7 @@ use Rattle.dn_shaper.specs.Refinement.Views.{LinkView, views_of, next_starts, ne
 use Rattle.dn_shaper.specs.Refinement.Agreement.{GivesRates, AgreesWith, Agrees, AreDistinct, link_names}
 use Rattle.dn_shaper.specs.Refinement.NextStarts.{next_start_cmp, next_at, Holds, one_backlogged, backlogged}
 use Rattle.dn_shaper.specs.Refinement.Starting.{CanStart, StartsAt}
-use Rattle.dn_shaper.specs.Refinement.Settling.{IsKept, OnlyStarts, StartsFirst, HasNoStart, SettlesAll}
+use Rattle.dn_shaper.specs.Refinement.Settling.{AreInStep, OnlyStarts, StartsFirst, HasNoStart, SettlesAll}
 use Rattle.dn_shaper.proofs.NextStarts.{popped_next, holds_none, holds_some}
 use Rattle.dn_shaper.proofs.FirstStart.{moment_of_next, first_popped, none_next, first_start-more, settle-none, settle-some}
 use Rattle.dn_shaper.proofs.Events.{length-set}
@@ -49,7 +49,7 @@ next-view (v ∷ views) zero m e = by (cases_lt 0 v.waits) e
     by (inr none) h = let is = sym (ap {B = Option ℕ} (λ b. cond b (Some v.value.free) None) (never v.waits none)) ∙ h in absurd cc
 next-view (v ∷ views) (suc i) m e = next-view views i m e
 
-pub can-start : (p : Parts) (heap : Heap NextStart) → IsKept p heap → (k : NextStart) (rest : List NextStart) → IsPermutation heap.keys (k ∷ rest) → CanStart p k.place k.moment
+pub can-start : (p : Parts) (heap : Heap NextStart) → AreInStep p heap → (k : NextStart) (rest : List NextStart) → IsPermutation heap.keys (k ∷ rest) → CanStart p k.place k.moment
 can-start p heap kept k rest perm =
     let v = next-view (views_of p) k.place k.moment (popped_next (next_starts (views_of p)) heap.keys rest k kept.held perm) in
     record { view = v.0; there = v.1; some = v.2; soon = let e = v.3 in omega arith }
@@ -81,7 +81,7 @@ unseen ls more d i l e = none-any l ls (λ j m f.
     let lt = s.1 in
     d r.0 j l m r.1 s.0 (λ same. absurd (omega arith)))
 
-module _ (settings : Settings) (at : ℕ) (p : Parts) (heap : Heap NextStart) (kept : IsKept p heap) (more : List Link) (trace : List Event) (a : AgreesWith p more trace) where
+module _ (settings : Settings) (at : ℕ) (p : Parts) (heap : Heap NextStart) (kept : AreInStep p heap) (more : List Link) (trace : List Event) (a : AgreesWith p more trace) where
   same_first : first_start settings at (link_names (views_of p)) trace ≡ first_start settings at (links trace) trace
   same_first =
       ap (λ (ls : List Link). first_start settings at ls trace) a.links_are
@@ -98,10 +98,10 @@ module _ (settings : Settings) (at : ℕ) (p : Parts) (heap : Heap NextStart) (k
       sym same_first
       ∙ first_popped settings at trace (link_names (views_of p)) (next_starts (views_of p)) nexts_are heap.keys kept.held k v.link s least (get-map (λ (x : LinkView). x.link) (views_of p) k.place v there) next moment_is
 
-pub none-starts : (settings : Settings) (at : ℕ) (p : Parts) (heap : Heap NextStart) → IsKept p heap → All (λ k. at < k.moment) heap.keys → HasNoStart settings at p
+pub none-starts : (settings : Settings) (at : ℕ) (p : Parts) (heap : Heap NextStart) → AreInStep p heap → All (λ k. at < k.moment) heap.keys → HasNoStart settings at p
 none-starts settings at p heap kept late more trace a = no-first settings at p heap kept more trace a late
 
-module _ (settings : Settings) (at : ℕ) (old : Parts) (heap : Heap NextStart) (kept : IsKept old heap) (k : NextStart) (rest : List NextStart) (perm : IsPermutation heap.keys (k ∷ rest)) (bandwidth delay : ℕ) (new : Parts) (s : StartsAt k.place k.moment bandwidth delay old new) (rates : GivesRates settings (pipe_of s.view.link) bandwidth delay) where
+module _ (settings : Settings) (at : ℕ) (old : Parts) (heap : Heap NextStart) (kept : AreInStep old heap) (k : NextStart) (rest : List NextStart) (perm : IsPermutation heap.keys (k ∷ rest)) (bandwidth delay : ℕ) (new : Parts) (s : StartsAt k.place k.moment bandwidth delay old new) (rates : GivesRates settings (pipe_of s.view.link) bandwidth delay) where
   -- The link that starts is the popped one, which is free at the key's moment.
   free-then : s.view.value.free ≡ k.moment
   free-then =
@@ -140,7 +140,7 @@ module _ (settings : Settings) (at : ℕ) (old : Parts) (heap : Heap NextStart) 
       listed_next (x ∷ d) zero h = ap (λ y. Some y) h
       listed_next (x ∷ d) (suc i) h = listed_next d i h
 
-  pub kept-some : 0 < s.view'.waits → (heap' : Heap NextStart) → IsPermutation (record { moment = s.view'.value.free; place = k.place } ∷ rest) heap'.keys → heap'.room ≡ heap.room → IsKept new heap'
+  pub kept-some : 0 < s.view'.waits → (heap' : Heap NextStart) → IsPermutation (record { moment = s.view'.value.free; place = k.place } ∷ rest) heap'.keys → heap'.room ≡ heap.room → AreInStep new heap'
   kept-some some heap' pushed room = record {
     agrees = agrees-new;
     within = starts-within k.place k.moment bandwidth delay old new s (2 ^ 62) kept.within;
@@ -165,7 +165,7 @@ module _ (settings : Settings) (at : ℕ) (old : Parts) (heap : Heap NextStart) 
       next_some : next_start_of s.view' ≡ Some s.view'.value.free
       next_some = ap {B = Option ℕ} (λ b. cond b (Some s.view'.value.free) None) (sure s.view'.waits some)
 
-  pub kept-none : s.view'.waits ≤ 0 → (heap' : Heap NextStart) → heap'.keys ≡ rest → heap'.room ≡ heap.room + 1 → IsKept new heap'
+  pub kept-none : s.view'.waits ≤ 0 → (heap' : Heap NextStart) → heap'.keys ≡ rest → heap'.room ≡ heap.room + 1 → AreInStep new heap'
   kept-none none heap' keys room = record {
     agrees = agrees-new;
     within = starts-within k.place k.moment bandwidth delay old new s (2 ^ 62) kept.within;

@@ -15,7 +15,7 @@ use Rattle.dn_shaper.specs.declared.state.State.{State}
 use Rattle.dn_shaper.specs.Refinement.Agreement.{IsFlowAt, link_names}
 use Rattle.dn_shaper.specs.Refinement.Calls.{told_from, Does}
 use Rattle.dn_shaper.specs.Refinement.Sound.{IsSound}
-use Rattle.dn_shaper.specs.Refinement.Views.{home, home_by, views_of, waiting_of}
+use Rattle.dn_shaper.specs.Refinement.Views.{home, home_by, views_of, as_queued}
 use Rattle.dn_shaper.proofs.Accepting.{within-more}
 use Rattle.dn_shaper.proofs.Noted.{indexed-still}
 use Rattle.dn_shaper.proofs.Submitting.{length-lens}
@@ -25,7 +25,7 @@ drop-get [] i k e = absurd cc
 drop-get (x ∷ ks) zero k e = let same : x ≡ k = cc in λ i. same i ∷ ks
 drop-get (x ∷ ks) (suc i) k e = drop-get ks i k e
 
-length-len : (q : List Accepted) → length (map waiting_of q) ≡ length (map (λ (p : Accepted). p.stamped.len) q)
+length-len : (q : List Accepted) → length (map as_queued q) ≡ length (map (λ (p : Accepted). p.stamped.len) q)
 length-len [] = refl
 length-len (p ∷ q) = ap suc (length-len q)
 

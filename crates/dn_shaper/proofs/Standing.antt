@@ -21,7 +21,7 @@ use Rattle.dn_shaper.specs.declared.links.parts.Parts.{Parts}
 use Rattle.dn_shaper.specs.declared.state.State.{State}
 use Rattle.dn_shaper.specs.Refinement.Agreement.{AgreesWith, link_names}
 use Rattle.dn_shaper.specs.Refinement.Settings.{settings_of}
-use Rattle.dn_shaper.specs.Refinement.Settling.{IsKept, OnlyStarts, SettlesAll}
+use Rattle.dn_shaper.specs.Refinement.Settling.{AreInStep, OnlyStarts, SettlesAll}
 use Rattle.dn_shaper.specs.Refinement.Calls.{Does}
 use Rattle.dn_shaper.specs.Refinement.Sound.{IsSound}
 use Rattle.dn_shaper.specs.Standing.{StandsAt}
@@ -53,7 +53,7 @@ module _ (old : State) (parts : Parts) (heap : Heap NextStart) (at moment : ℕ)
     },
   )
 
-  module _ (sound : IsSound old) (kept : IsKept parts heap) (early : moment ≤ 2 ^ 62) where
+  module _ (sound : IsSound old) (kept : AreInStep parts heap) (early : moment ≤ 2 ^ 62) where
     at-early : at ≤ 2 ^ 62
     at-early = let e = sound.early in omega (arith, at_is, e, early)
 
@@ -114,7 +114,7 @@ module _ (old : State) (parts : Parts) (heap : Heap NextStart) (at moment : ℕ)
       accepted = w.accepted;
     }
 
-    pub collects-sound : IsSound old → IsKept parts heap → moment ≤ 2 ^ 62 → IsSound (record { parts = after; heap = heap; shared = old.shared; configured = old.configured; now = at; calls = old.calls + 1 })
+    pub collects-sound : IsSound old → AreInStep parts heap → moment ≤ 2 ^ 62 → IsSound (record { parts = after; heap = heap; shared = old.shared; configured = old.configured; now = at; calls = old.calls + 1 })
     collects-sound sound kept early = record {
       kept = record {
         agrees = let a = kept.agrees in (a.0, collected at ∷ a.1, after-agrees a.0 a.1 a.2);

@@ -18,8 +18,8 @@ use Rattle.dn_flows.proofs.Views.{flow_after_set, popped_backlog}
 use Rattle.dn_wf2q.specs.Schedule.{Flow, flow_at as slot_at, heads_of, no_packets, without_head, after_pick}
 use Rattle.dn_shaper.specs.declared.links.home.Home.{Home}
 use Rattle.dn_shaper.specs.Refinement.Slots.{Ascends, top}
-use Rattle.dn_shaper.specs.Refinement.Views.{LinkView, home, waiting_of, stamped_of, at_slot, Sends}
-use Rattle.dn_shaper.specs.Refinement.Agreement.{AreDistinct, IsAt, IsLinkAt, IsFlowAt, IsScheduleAt, IsSlotAt, IsUntouched, link_names}
+use Rattle.dn_shaper.specs.Refinement.Views.{LinkView, home, as_queued, stamped_of, slotted, IsNextToSend}
+use Rattle.dn_shaper.specs.Refinement.Agreement.{AreDistinct, IsAt, IsLinkAt, IsFlowAt, IsScheduleAt, IsSlotAt, HasSentNothing, link_names}
 use Rattle.dn_shaper.proofs.Events.{uncounted, counted-once, read-set, length-set}
 use Rattle.dn_shaper.proofs.Homes.{home-after, slots-apart, slots_home-after}
 use Rattle.dn_shaper.proofs.Heads.{first-picked, packet-picked, grown-agree}
@@ -53,9 +53,9 @@ popped_rest s = by s.backlog
 module _ (rule : Rule) (accepted : ℕ) (keys : List FlowKey) (homes : List Home) (views : List LinkView) (flows : List FlowState) (pending : List Delivery) (more : List Link) (trace : List Event) (a : IsAt rule accepted keys homes views flows pending more trace)
     (k : ℕ) (v : LinkView) (there : slice_get views k ≡ Some v)
     (flow : ℕ) (s : Start) (first : slice_get (backlog v.link flow trace) 0 ≡ Some s.packet)
-    (v' : LinkView) (same_link : v'.link ≡ v.link) (same_slots : v'.slots ≡ v.slots) (sends : Sends flow v v' v.link)
+    (v' : LinkView) (same_link : v'.link ≡ v.link) (same_slots : v'.slots ≡ v.slots) (sends : IsNextToSend flow v v' v.link)
     (free_now : v'.value.free ≡ s.moment + s.transmission) (due_now : v'.value.last_due ≡ due_by rule (arrival_time s) v.value.last_due) (waits_now : v'.waits + 1 ≡ v.waits) where
-  abbrev fr : (slice_get (flow_at flows flow).backlog 0 ≡ Some (waiting_of s.packet)) × (flow < length flows) × (home keys flow ≡ v.link) × (s.packet.stamped.flow ≡ flow)
+  abbrev fr : (slice_get (flow_at flows flow).backlog 0 ≡ Some (as_queued s.packet)) × (flow < length flows) × (home keys flow ≡ v.link) × (s.packet.stamped.flow ≡ flow)
   fr = front rule accepted keys homes views flows pending more trace a k v there flow s.packet first
 
   is_here : is_of v.link flow s.packet ≡ true
@@ -79,7 +79,7 @@ module _ (rule : Rule) (accepted : ℕ) (keys : List FlowKey) (homes : List Home
 
   -- ---- The link
 
-  schedule_after : (pipe : ℕ) → v.link ≡ shared pipe → Sends flow v v' (shared pipe) → IsScheduleAt v.link (started s ∷ trace) v'.schedule v.slots
+  schedule_after : (pipe : ℕ) → v.link ≡ shared pipe → IsNextToSend flow v v' (shared pipe) → IsScheduleAt v.link (started s ∷ trace) v'.schedule v.slots
   schedule_after pipe is h =
       let c = schedule-at rule accepted keys homes views flows pending more trace a k v there pipe is in
       let up = (a.views_are k v there).ascends in
@@ -87,7 +87,7 @@ module _ (rule : Rule) (accepted : ℕ) (keys : List FlowKey) (homes : List Home
       let p = packet-picked v.link trace v.schedule v.slots c up l h.0 h.1 flow h.2 in
       let same : Some p.0 ≡ Some s.packet = sym p.1 ∙ first in
       let packet : p.0 ≡ s.packet = cc in
-      let stamps : at_slot h.0.flow s.packet.stamped ≡ h.0 = ap (λ (x : Accepted). at_slot h.0.flow x.stamped) (sym packet) ∙ p.2 in
+      let stamps : slotted h.0.flow s.packet.stamped ≡ h.0 = ap (λ (x : Accepted). slotted h.0.flow x.stamped) (sym packet) ∙ p.2 in
       let within = in_range (v.schedule.flows) h.0.flow h.0 (first-picked v.link trace v.schedule v.slots c up l h.0 h.1) in
       record {
         virtual_time_is =
@@ -123,9 +123,9 @@ module _ (rule : Rule) (accepted : ℕ) (keys : List FlowKey) (homes : List Home
             backlog_is =
                 ap (λ (f : Flow). f.backlog) now_here
                 ∙ ap (λ (q : List Stamped). drop 1 q) (c.slots_are i flow at_i).backlog_is
-                ∙ drop-map (at_slot i) 1 (stamped_of (backlog v.link flow trace))
-                ∙ ap (λ (q : List Stamped). map (at_slot i) q) (drop-map (λ (p : Accepted). p.stamped) 1 (backlog v.link flow trace))
-                ∙ ap (λ b. map (at_slot i) (stamped_of (cond b (drop 1 (backlog v.link flow trace)) (backlog v.link flow trace)))) (sym is_here);
+                ∙ drop-map (slotted i) 1 (stamped_of (backlog v.link flow trace))
+                ∙ ap (λ (q : List Stamped). map (slotted i) q) (drop-map (λ (p : Accepted). p.stamped) 1 (backlog v.link flow trace))
+                ∙ ap (λ b. map (slotted i) (stamped_of (cond b (drop 1 (backlog v.link flow trace)) (backlog v.link flow trace)))) (sym is_here);
             last_finish_is = ap (λ (f : Flow). f.last_finish_tag) now_here ∙ (c.slots_are i flow at_i).last_finish_is;
           }
 
@@ -137,7 +137,7 @@ module _ (rule : Rule) (accepted : ℕ) (keys : List FlowKey) (homes : List Home
                 backlog_is =
                     ap (λ (f : Flow). f.backlog) is
                     ∙ (c.slots_are slot g e).backlog_is
-                    ∙ ap (λ b. map (at_slot slot) (stamped_of (cond b (drop 1 (backlog v.link g trace)) (backlog v.link g trace)))) (sym (and-no (link_eq s.packet.link v.link) (nat_eq s.packet.stamped.flow g) apart));
+                    ∙ ap (λ b. map (slotted slot) (stamped_of (cond b (drop 1 (backlog v.link g trace)) (backlog v.link g trace)))) (sym (and-no (link_eq s.packet.link v.link) (nat_eq s.packet.stamped.flow g) apart));
                 last_finish_is = ap (λ (f : Flow). f.last_finish_tag) is ∙ (c.slots_are slot g e).last_finish_is;
               }
 
@@ -166,7 +166,7 @@ module _ (rule : Rule) (accepted : ℕ) (keys : List FlowKey) (homes : List Home
         omega arith;
     schedule_is = λ pipe e.
         let is : v.link ≡ shared pipe = sym same_link ∙ e in
-        subst (λ (x : Link × List ℕ). IsScheduleAt x.0 (started s ∷ trace) v'.schedule x.1) (λ i. (sym same_link i, sym same_slots i)) (schedule_after pipe is (subst (λ (l : Link). Sends flow v v' l) is sends));
+        subst (λ (x : Link × List ℕ). IsScheduleAt x.0 (started s ∷ trace) v'.schedule x.1) (λ i. (sym same_link i, sym same_slots i)) (schedule_after pipe is (subst (λ (l : Link). IsNextToSend flow v v' l) is sends));
     ascends = subst (λ (fs : List ℕ). Ascends 0 fs) (sym same_slots) b.ascends;
     below = let t = ap {B = ℕ} (top 0) same_slots in let le = b.below in omega arith;
   }
@@ -184,7 +184,7 @@ module _ (rule : Rule) (accepted : ℕ) (keys : List FlowKey) (homes : List Home
             record {
               virtual_time_is = c.virtual_time_is ∙ sym (virtual_time-elsewhere w.link s trace apart);
               slots_are = λ slot g eg. record {
-                backlog_is = (c.slots_are slot g eg).backlog_is ∙ ap (λ (q : List Accepted). map (at_slot slot) (stamped_of q)) (sym (backlog-elsewhere w.link s trace apart g));
+                backlog_is = (c.slots_are slot g eg).backlog_is ∙ ap (λ (q : List Accepted). map (slotted slot) (stamped_of q)) (sym (backlog-elsewhere w.link s trace apart g));
                 last_finish_is = (c.slots_are slot g eg).last_finish_is;
               };
               beyond = c.beyond;
@@ -209,7 +209,7 @@ module _ (rule : Rule) (accepted : ℕ) (keys : List FlowKey) (homes : List Home
   known : list_any (link_eq v.link) (links trace) ≡ true
   known = ⊎_elim (λ t. t) (λ f. let none = ap (λ (q : List Accepted). slice_get q 0) (backlog-unknown v.link flow trace f) in let t : Some s.packet ≡ None = sym first ∙ none in absurd cc) (true_or_false (list_any (link_eq v.link) (links trace)))
 
-  still_untouched : (link : Link) → list_any (link_eq link) (links trace) ≡ false → IsUntouched rule (started s ∷ trace) link
+  still_untouched : (link : Link) → list_any (link_eq link) (links trace) ≡ false → HasSentNothing rule (started s ∷ trace) link
   still_untouched link e =
       let apart : link_eq s.packet.link link ≡ false = ⊎_elim (λ same. let t : true ≡ false = sym known ∙ ap (λ (l : Link). list_any (link_eq l) (links trace)) (sym on_link ∙ link_eq-true s.packet.link link same) ∙ e in absurd cc) (λ f. f) (true_or_false (link_eq s.packet.link link)) in
       let u = a.untouched link e in
@@ -233,19 +233,19 @@ module _ (rule : Rule) (accepted : ℕ) (keys : List FlowKey) (homes : List Home
           let is : flow_at flows' g ≡ popped (flow_at flows g) = now_at ∙ ap (λ b. cond b (popped (flow_at flows flow)) (flow_at flows g)) (eq-yes flow g same) ∙ ap (λ i. popped (flow_at flows i)) same in
           let b = a.flows_are g in
           let rest = popped_rest (flow_at flows g) in
-          let front_g : slice_get (flow_at flows g).backlog 0 ≡ Some (waiting_of s.packet) = ap (λ i. slice_get (flow_at flows i).backlog 0) (sym same) ∙ fr.0 in
+          let front_g : slice_get (flow_at flows g).backlog 0 ≡ Some (as_queued s.packet) = ap (λ i. slice_get (flow_at flows i).backlog 0) (sym same) ∙ fr.0 in
           record {
             backlog_is =
                 ap (λ (x : FlowState). x.backlog) is
                 ∙ popped_backlog (flow_at flows g)
                 ∙ ap (λ (q : List Waiting). drop 1 q) b.backlog_is
-                ∙ drop-map waiting_of 1 (backlog (home keys g) g trace)
-                ∙ ap (λ t. map waiting_of (cond t (drop 1 (backlog (home keys g) g trace)) (backlog (home keys g) g trace))) (sym (same_test g ∙ eq-yes flow g same));
+                ∙ drop-map as_queued 1 (backlog (home keys g) g trace)
+                ∙ ap (λ t. map as_queued (cond t (drop 1 (backlog (home keys g) g trace)) (backlog (home keys g) g trace))) (sym (same_test g ∙ eq-yes flow g same));
             lost_is = ap (λ (x : FlowState). x.lost) is ∙ rest.0 ∙ b.lost_is ∙ sym (uncounted (is_loss_of g) (started s) trace refl);
             full_is = ap (λ (x : FlowState). x.full) is ∙ rest.1 ∙ b.full_is ∙ sym (uncounted (is_refusal_of g) (started s) trace refl);
             started_is =
                 ap (λ (x : FlowState). x.started) is
-                ∙ popped_started (flow_at flows g) (waiting_of s.packet) front_g
+                ∙ popped_started (flow_at flows g) (as_queued s.packet) front_g
                 ∙ ap (λ n. n + 1) b.started_is
                 ∙ sym (counted-once (is_start_of g) (started s) trace (ap (λ x. nat_eq x g) fr.3 ∙ eq-yes flow g same));
             discarded_is = ap (λ (x : FlowState). x.discarded) is ∙ rest.2 ∙ b.discarded_is;
@@ -257,7 +257,7 @@ module _ (rule : Rule) (accepted : ℕ) (keys : List FlowKey) (homes : List Home
             backlog_is =
                 ap (λ (x : FlowState). x.backlog) is
                 ∙ b.backlog_is
-                ∙ ap (λ t. map waiting_of (cond t (drop 1 (backlog (home keys g) g trace)) (backlog (home keys g) g trace))) (sym (same_test g ∙ eq-no flow g ne));
+                ∙ ap (λ t. map as_queued (cond t (drop 1 (backlog (home keys g) g trace)) (backlog (home keys g) g trace))) (sym (same_test g ∙ eq-no flow g ne));
             lost_is = ap (λ (x : FlowState). x.lost) is ∙ b.lost_is ∙ sym (uncounted (is_loss_of g) (started s) trace refl);
             full_is = ap (λ (x : FlowState). x.full) is ∙ b.full_is ∙ sym (uncounted (is_refusal_of g) (started s) trace refl);
             started_is = ap (λ (x : FlowState). x.started) is ∙ b.started_is ∙ sym (uncounted (is_start_of g) (started s) trace (ap (λ x. nat_eq x g) fr.3 ∙ eq-no flow g ne));

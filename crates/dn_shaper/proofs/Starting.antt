@@ -17,9 +17,9 @@ use Rattle.dn_flows.proofs.Views.{flow_after_set, popped_backlog}
 use Rattle.dn_wf2q.specs.Schedule.{room_at}
 use Rattle.dn_shaper.specs.declared.links.home.Home.{Home}
 use Rattle.dn_shaper.specs.declared.links.parts.Parts.{Parts}
-use Rattle.dn_shaper.specs.Refinement.Views.{LinkView, CanSend, IsAlone, Sends, home, next_start_of, next_starts, queue_lengths, views_of, waiting_of, waits_in_all}
+use Rattle.dn_shaper.specs.Refinement.Views.{LinkView, CanSend, IsAlone, IsNextToSend, home, next_start_of, next_starts, queue_lengths, views_of, as_queued, waits_in_all}
 use Rattle.dn_shaper.specs.Refinement.Agreement.{GivesRates, AgreesWith, Agrees, IsAt}
-use Rattle.dn_shaper.specs.Refinement.Starting.{HasFront, IsFlowWithin, Within, IsReady, CanStart, StartsAt}
+use Rattle.dn_shaper.specs.Refinement.Starting.{HasFront, AreCountsWithin, Within, IsReady, CanStart, StartsAt}
 use Rattle.dn_shaper.proofs.Alone.{is-alone, own-slot}
 use Rattle.dn_shaper.proofs.Next.{can_send, taken, front}
 use Rattle.dn_flows.proofs.Places.{eq-no, eq-yes, get-set, get-set-other, sum-set, sum-le, get-below, map-set}
@@ -41,7 +41,7 @@ module _ (p : Parts) (agrees : Agrees p) (within : Within (2 ^ 62) p) (place mom
   front-at flow v' takes =
       let t = taken p.rule p.accepted p.flows.keys p.homes.items (views_of p) p.flows.flows p.line.pending agrees.0 agrees.1 agrees.2 place can.view can.there flow v' can.some takes.sends in
       let f = front p.rule p.accepted p.flows.keys p.homes.items (views_of p) p.flows.flows p.line.pending agrees.0 agrees.1 agrees.2 place can.view can.there flow t.0 t.2 in
-      (waiting_of t.0, f.0, f.1, few flow (waiting_of t.0) f.0)
+      (as_queued t.0, f.0, f.1, few flow (as_queued t.0) f.0)
     where
       few : (flow : ℕ) (w : Waiting) → slice_get (flow_at p.flows.flows flow).backlog 0 ≡ Some w → (flow_at p.flows.flows flow).started < 2 ^ 62
       few flow w e = let h = (within.flows_are flow).2 in let some = get-below (flow_at p.flows.flows flow).backlog 0 w e in omega arith
@@ -50,10 +50,10 @@ module _ (p : Parts) (agrees : Agrees p) (within : Within (2 ^ 62) p) (place mom
   waits-at = let le = sum-le (λ (v : LinkView). v.waits) (views_of p) place can.view can.there in let is = within.waiting_is in let some = can.some in omega arith
 
   -- The flow that is sent is at home on the link.
-  pub alone-at : (flow : ℕ) (v' : LinkView) → Sends flow can.view v' can.view.link → IsAlone flow place (views_of p)
+  pub alone-at : (flow : ℕ) (v' : LinkView) → IsNextToSend flow can.view v' can.view.link → IsAlone flow place (views_of p)
   alone-at flow v' sends = is-alone p agrees.0 agrees.1 agrees.2 flow place can.view can.there (by can.view.link refl sends)
     where
-      by : (l : Link) → can.view.link ≡ l → Sends flow can.view v' l → home p.flows.keys flow ≡ can.view.link
+      by : (l : Link) → can.view.link ≡ l → IsNextToSend flow can.view v' l → home p.flows.keys flow ≡ can.view.link
       by (own pipe f) is same = ap (home p.flows.keys) same ∙ agrees.2.slots_home place can.view can.there 0 f (own-slot (queue_lengths p.flows.flows) p.links.items place can.view pipe f can.there is)
       by (shared pipe) is picked = agrees.2.slots_home place can.view can.there picked.0.flow flow picked.2
 
@@ -86,11 +86,11 @@ module _ (place moment bandwidth delay : ℕ) (old new : Parts) (s : StartsAt pl
   starts-agree settings more trace rates a =
       let t = taken old.rule old.accepted old.flows.keys old.homes.items (views_of old) old.flows.flows old.line.pending more trace a place s.view s.there s.starts.flow s.view' some-waited s.starts.sends in
       let f = front old.rule old.accepted old.flows.keys old.homes.items (views_of old) old.flows.flows old.line.pending more trace a place s.view s.there s.starts.flow t.0 t.2 in
-      let both : Some s.starts.packet ≡ Some (waiting_of t.0) = sym s.starts.front ∙ f.0 in
-      let packet : s.starts.packet ≡ waiting_of t.0 = cc in
+      let both : Some s.starts.packet ≡ Some (as_queued t.0) = sym s.starts.front ∙ f.0 in
+      let packet : s.starts.packet ≡ as_queued t.0 = cc in
       (t.0, t.1, after t.0 t.2 packet)
     where
-      after : (p : Accepted) → slice_get (backlog s.view.link s.starts.flow trace) 0 ≡ Some p → s.starts.packet ≡ waiting_of p → AgreesWith new more (started (start_at settings s.view.link p moment) ∷ trace)
+      after : (p : Accepted) → slice_get (backlog s.view.link s.starts.flow trace) 0 ≡ Some p → s.starts.packet ≡ as_queued p → AgreesWith new more (started (start_at settings s.view.link p moment) ∷ trace)
       after p first packet =
           subst (λ (r : Rule). IsAt r new.accepted new.flows.keys new.homes.items (views_of new) new.flows.flows new.line.pending more (started (start_at settings s.view.link p moment) ∷ trace)) (sym s.rule)
           (subst (λ (x : ℕ × List FlowKey). IsAt old.rule x.0 x.1 new.homes.items (views_of new) new.flows.flows new.line.pending more (started (start_at settings s.view.link p moment) ∷ trace)) (λ i. (sym s.accepted i, sym s.keys i))
@@ -138,7 +138,7 @@ module _ (place moment bandwidth delay : ℕ) (old new : Parts) (s : StartsAt pl
     accepted = let a = s.accepted in let b = w.accepted in omega arith;
   }
     where
-      popped_within : (x : FlowState) → slice_get x.backlog 0 ≡ Some s.starts.packet → IsFlowWithin n x → IsFlowWithin n (popped x)
+      popped_within : (x : FlowState) → slice_get x.backlog 0 ≡ Some s.starts.packet → AreCountsWithin n x → AreCountsWithin n (popped x)
       popped_within x e h =
           let r = popped_rest x in
           let r0 = r.0 in
@@ -156,16 +156,16 @@ module _ (place moment bandwidth delay : ℕ) (old new : Parts) (s : StartsAt pl
           rest [] e = absurd cc
           rest (y ∷ ws) e = omega arith
 
-      flows_within : (g : ℕ) → IsFlowWithin n (flow_at new.flows.flows g)
+      flows_within : (g : ℕ) → AreCountsWithin n (flow_at new.flows.flows g)
       flows_within g = by (cases_eq s.starts.flow g)
         where
-          by : (s.starts.flow ≡ g) ⊎ (s.starts.flow ≡ g → ⊥) → IsFlowWithin n (flow_at new.flows.flows g)
+          by : (s.starts.flow ≡ g) ⊎ (s.starts.flow ≡ g → ⊥) → AreCountsWithin n (flow_at new.flows.flows g)
           by (inl same) =
               let is = flow-now g ∙ ap (λ b. cond b (popped (flow_at old.flows.flows s.starts.flow)) (flow_at old.flows.flows g)) (eq-yes s.starts.flow g same) in
-              subst (λ (x : FlowState). IsFlowWithin n x) (sym is) (popped_within (flow_at old.flows.flows s.starts.flow) s.starts.front (w.flows_are s.starts.flow))
+              subst (λ (x : FlowState). AreCountsWithin n x) (sym is) (popped_within (flow_at old.flows.flows s.starts.flow) s.starts.front (w.flows_are s.starts.flow))
           by (inr ne) =
               let is = flow-now g ∙ ap (λ b. cond b (popped (flow_at old.flows.flows s.starts.flow)) (flow_at old.flows.flows g)) (eq-no s.starts.flow g ne) in
-              subst (λ (x : FlowState). IsFlowWithin n x) (sym is) (w.flows_are g)
+              subst (λ (x : FlowState). AreCountsWithin n x) (sym is) (w.flows_are g)
 
       arrivals_within : (j : ℕ) (v : LinkView) → slice_get (views_of new) j ≡ Some v → v.schedule.arrivals ≤ n
       arrivals_within j v e = by (cases_eq j place)

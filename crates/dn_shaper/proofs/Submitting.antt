@@ -21,9 +21,9 @@ use Rattle.dn_shaper.specs.declared.links.parts.Parts.{Parts}
 use Rattle.dn_shaper.specs.Refinement.Agreement.{AgreesWith}
 use Rattle.dn_shaper.specs.Refinement.Arriving.{Accepts, CanAccept}
 use Rattle.dn_shaper.specs.Refinement.Settling.{OnlyStarts, SettlesAll}
-use Rattle.dn_shaper.specs.Refinement.Starting.{IsFlowWithin, Within}
+use Rattle.dn_shaper.specs.Refinement.Starting.{AreCountsWithin, Within}
 use Rattle.dn_shaper.specs.Refinement.Submitting.{IsMade, CanSee, Sees, verdict_on, Answers}
-use Rattle.dn_shaper.specs.Refinement.Views.{LinkView, views_of, home, waiting_of, waits_in_all}
+use Rattle.dn_shaper.specs.Refinement.Views.{LinkView, views_of, home, as_queued, waits_in_all}
 use Rattle.dn_types.proofs.Settled.{settled-ends}
 
 -- Starts leave the links as they are.
@@ -38,7 +38,7 @@ links-settle (suc most) settings at trace = by (first_start settings at (links t
 pub links-settled : (settings : Settings) (at : ℕ) (trace : List Event) → links (settled settings at trace) ≡ links trace
 links-settled settings at trace = links-settle (waiting_all (links trace) trace) settings at trace
 
-pub length-lens : (q : List Accepted) → lengths (map waiting_of q) ≡ map (λ p. p.stamped.len) q
+pub length-lens : (q : List Accepted) → lengths (map as_queued q) ≡ map (λ p. p.stamped.len) q
 length-lens [] = refl
 length-lens (p ∷ q) = λ i. p.stamped.len ∷ length-lens q i
 
@@ -115,17 +115,17 @@ module _ (settings : Settings) (at flow : ℕ) (old mid : Parts) (heap heap' : H
 
 -- ---- A flow's counts
 
-pub noted-within : (n flow : ℕ) (x : FlowState) (old new : Parts) → flow < length old.flows.flows → new.flows.flows ≡ set old.flows.flows flow x → IsFlowWithin (n + 1) x → views_of new ≡ views_of old → new.waiting ≡ old.waiting → new.line ≡ old.line → new.accepted ≡ old.accepted → Within n old → Within (n + 1) new
+pub noted-within : (n flow : ℕ) (x : FlowState) (old new : Parts) → flow < length old.flows.flows → new.flows.flows ≡ set old.flows.flows flow x → AreCountsWithin (n + 1) x → views_of new ≡ views_of old → new.waiting ≡ old.waiting → new.line ≡ old.line → new.accepted ≡ old.accepted → Within n old → Within (n + 1) new
 noted-within n flow x old new lt flows inside views waiting line accepted w = record {
   waiting_is = waiting ∙ w.waiting_is ∙ ap (λ (vs : List LinkView). waits_in_all vs) (sym views);
   room = let a = w.room in let b = ap {B = ℕ} (λ l. l.room) line in omega arith;
   pushed = let a = w.pushed in let b = ap {B = ℕ} (λ l. l.pushed) line in omega arith;
   sums = let a = w.sums in let b = ap {B = ℕ} (λ l. length l.pending) line in omega arith;
-  flows_are = λ g. subst (λ (s : FlowState). IsFlowWithin (n + 1) s) (sym (ap (λ (fs : List FlowState). flow_at fs g) flows ∙ flow_after_set old.flows.flows flow g x lt)) (by g (nat_eq flow g));
+  flows_are = λ g. subst (λ (s : FlowState). AreCountsWithin (n + 1) s) (sym (ap (λ (fs : List FlowState). flow_at fs g) flows ∙ flow_after_set old.flows.flows flow g x lt)) (by g (nat_eq flow g));
   arrivals = λ k v e. let a = w.arrivals k v (ap (λ (vs : List LinkView). slice_get vs k) (sym views) ∙ e) in omega arith;
   accepted = let a = w.accepted in omega arith;
 }
   where
-    by : (g : ℕ) (b : Bool) → IsFlowWithin (n + 1) (cond b x (flow_at old.flows.flows g))
+    by : (g : ℕ) (b : Bool) → AreCountsWithin (n + 1) (cond b x (flow_at old.flows.flows g))
     by g true = inside
     by g false = let i = w.flows_are g in let a = i.0 in let b = i.1 in let c = i.2 in (omega arith, omega arith, omega arith)

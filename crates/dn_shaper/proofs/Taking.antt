@@ -13,7 +13,7 @@ use Rattle.dn_shaper.specs.declared.links.link_parts.Carries.{Carries}
 use Rattle.dn_shaper.specs.declared.links.link_parts.Carries.TheVariants.{Own, Shared}
 use Rattle.dn_shaper.specs.declared.links.link_parts.LinkParts.{LinkParts}
 use Rattle.dn_shaper.specs.declared.links.shared_link.SharedLink.{SharedLink}
-use Rattle.dn_shaper.specs.Refinement.Views.{LinkView, TakesNext, Sends, CanSend, carried_link, carried_waits, queue_lengths, view_of}
+use Rattle.dn_shaper.specs.Refinement.Views.{LinkView, TakesNext, IsNextToSend, CanSend, carried_link, carried_waits, queue_lengths, view_of}
 
 pub some-is : {X : Type 0} (o : Option X) (x : X) → o ≡ Some x → IsSome o
 some-is None x e = absurd cc
@@ -34,7 +34,7 @@ takes-shared v schedule waits pipe slot flow is can picked some read = record {
   link = refl;
   value = refl;
   slots = refl;
-  sends = subst (Sends flow v (record { link = v.link; value = v.value; waits = waits; schedule = schedule; slots = v.slots })) (sym is) (go (pick v.schedule.virtual_time (heads_of v.schedule.flows)) refl);
+  sends = subst (IsNextToSend flow v (record { link = v.link; value = v.value; waits = waits; schedule = schedule; slots = v.slots })) (sym is) (go (pick v.schedule.virtual_time (heads_of v.schedule.flows)) refl);
 }
   where
     go : (o : Option Stamped) → pick v.schedule.virtual_time (heads_of v.schedule.flows) ≡ o → (h : Stamped) × (pick v.schedule.virtual_time (heads_of v.schedule.flows) ≡ Some h) × (slice_get v.slots h.flow ≡ Some flow) × Picks h v.schedule schedule
@@ -73,7 +73,7 @@ module _ (pipe : ℕ) (value : LinkState) where
       seen-after = ap (λ (x : SharedLink). seen x.sched x.flows.items) (sym made)
 
 -- What is sent rests on the schedules alone.
-pub sends-on : (flow : ℕ) (old new new' : LinkView) → new'.schedule ≡ new.schedule → (l : Link) → Sends flow old new l → Sends flow old new' l
+pub sends-on : (flow : ℕ) (old new new' : LinkView) → new'.schedule ≡ new.schedule → (l : Link) → IsNextToSend flow old new l → IsNextToSend flow old new' l
 sends-on flow old new new' same (own pipe f) sends = sends
 sends-on flow old new new' same (shared pipe) sends = (sends.0, sends.1, sends.2, subst (λ (s : Schedule). Picks sends.0 old.schedule s) (sym same) sends.3)
 
@@ -81,7 +81,7 @@ sends-on flow old new new' same (shared pipe) sends = (sends.0, sends.1, sends.2
 pub waits-fewer : (before after : ℕ → ℕ) (flow : ℕ) (l l' : LinkParts) → TakesNext flow (view_of before l) (view_of after l') → after flow + 1 ≡ before flow → carried_waits after l'.carries + 1 ≡ carried_waits before l.carries
 waits-fewer before after flow l l' takes fewer = by l.carries l'.carries takes.link takes.sends
   where
-    by : (c c' : Carries) → carried_link l'.pipe c' ≡ carried_link l.pipe c → Sends flow (view_of before (record { pipe = l.pipe; times = l.times; carries = c })) (view_of after (record { pipe = l'.pipe; times = l'.times; carries = c' })) (carried_link l.pipe c) → carried_waits after c' + 1 ≡ carried_waits before c
+    by : (c c' : Carries) → carried_link l'.pipe c' ≡ carried_link l.pipe c → IsNextToSend flow (view_of before (record { pipe = l.pipe; times = l.times; carries = c })) (view_of after (record { pipe = l'.pipe; times = l'.times; carries = c' })) (carried_link l.pipe c) → carried_waits after c' + 1 ≡ carried_waits before c
     by (Own f) (Own g) link sends =
         let same : g ≡ f = cc in
         ap (λ n. after n + 1) (same ∙ sym sends) ∙ fewer ∙ ap before sends

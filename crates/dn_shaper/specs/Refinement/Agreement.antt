@@ -16,7 +16,7 @@ use Rattle.dn_wf2q.specs.Schedule.{Flow, Schedule, flow_at as slot_at, no_packet
 use Rattle.dn_shaper.specs.declared.links.home.Home.{Home}
 use Rattle.dn_shaper.specs.declared.links.parts.Parts.{Parts}
 use Rattle.dn_shaper.specs.Refinement.Slots.{Ascends, top}
-use Rattle.dn_shaper.specs.Refinement.Views.{LinkView, views_of, home, waiting_of, stamped_of, at_slot}
+use Rattle.dn_shaper.specs.Refinement.Views.{LinkView, views_of, home, as_queued, stamped_of, slotted}
 
 -- The settings give the pipe this bandwidth in bit/s and this delay in milliseconds.
 pub record GivesRates (settings : Settings) (pipe bandwidth delay : ℕ) : Type 0 where
@@ -25,7 +25,7 @@ pub record GivesRates (settings : Settings) (pipe bandwidth delay : ℕ) : Type 
 
 -- A slot of a schedule holds the backlog and the last finish tag of a flow.
 pub record IsSlotAt (link : Link) (flow slot : ℕ) (trace : List Event) (s : Flow) : Type 0 where
-  pub backlog_is : s.backlog ≡ map (at_slot slot) (stamped_of (backlog link flow trace))
+  pub backlog_is : s.backlog ≡ map (slotted slot) (stamped_of (backlog link flow trace))
   pub last_finish_is : s.last_finish_tag ≡ last_finish_tag link flow trace
 
 pub record IsScheduleAt (link : Link) (trace : List Event) (s : Schedule) (slots : List ℕ) : Type 0 where
@@ -44,7 +44,7 @@ pub record IsLinkAt (rule : Rule) (flows : ℕ) (trace : List Event) (v : LinkVi
 
 -- A flow at home on a link: its queue and its counts.
 pub record IsFlowAt (link : Link) (flow : ℕ) (trace : List Event) (s : FlowState) : Type 0 where
-  pub backlog_is : s.backlog ≡ map waiting_of (backlog link flow trace)
+  pub backlog_is : s.backlog ≡ map as_queued (backlog link flow trace)
   pub lost_is : s.lost ≡ count_by (is_loss_of flow) trace
   pub full_is : s.full ≡ count_by (is_refusal_of flow) trace
   pub started_is : s.started ≡ count_by (is_start_of flow) trace
@@ -58,7 +58,7 @@ pub record IsHomeOf (flow : ℕ) (link : Link) (views : List LinkView) (h : Home
   pub slot_is : (pipe : ℕ) → link ≡ shared pipe → slice_get view.slots h.slot ≡ Some flow
 
 -- Nothing has started on the link.
-pub record IsUntouched (rule : Rule) (trace : List Event) (link : Link) : Type 0 where
+pub record HasSentNothing (rule : Rule) (trace : List Event) (link : Link) : Type 0 where
   pub free_is : free link trace ≡ 0
   pub last_due_is : last_due rule link trace ≡ 0
   pub virtual_time_is : virtual_time link trace ≡ 0
@@ -78,7 +78,7 @@ pub record IsAt (rule : Rule) (accepted : ℕ) (keys : List FlowKey) (homes : Li
   pub links_are : link_names views ≡ links trace ++ more
   pub distinct : AreDistinct (link_names views)
   pub views_are : (k : ℕ) (v : LinkView) → slice_get views k ≡ Some v → IsLinkAt rule (length keys) trace v
-  pub untouched : (link : Link) → list_any (link_eq link) (links trace) ≡ false → IsUntouched rule trace link
+  pub untouched : (link : Link) → list_any (link_eq link) (links trace) ≡ false → HasSentNothing rule trace link
   pub flows_are : (flow : ℕ) → IsFlowAt (home keys flow) flow trace (flow_at flows flow)
   pub as_many : length flows ≡ length keys
   pub elsewhere : (flow : ℕ) (link : Link) → link_eq (home keys flow) link ≡ false → backlog link flow trace ≡ []

@@ -30,7 +30,7 @@ begun_flows idle s = cond idle (forgotten s.flows) s.flows
 abbrev pub begun_time : Bool → Schedule → ℕ
 begun_time idle s = cond idle 0 s.virtual_time
 
-pub record Arrives (slot len weight : ℕ) (idle : Bool) (old new : Schedule) : Type 0 where
+pub record ArrivesInSchedule (slot len weight : ℕ) (idle : Bool) (old new : Schedule) : Type 0 where
   pub flows : new.flows ≡ after_arrival (begun_flows idle old) slot (begun_time idle old) len weight
   pub virtual_time : new.virtual_time ≡ begun_time idle old
   pub one_more : waiting_of new.flows ≡ waiting_of (begun_flows idle old) + 1
@@ -43,7 +43,7 @@ HasOneMore before after (shared pipe) = Unit {0}
 
 abbrev pub ArrivesOn : ℕ → ℕ → ℕ → Bool → LinkView → LinkView → Link → Type 0
 ArrivesOn slot len weight idle old new (own pipe f) = new.schedule ≡ old.schedule
-ArrivesOn slot len weight idle old new (shared pipe) = Arrives slot len weight idle old.schedule new.schedule
+ArrivesOn slot len weight idle old new (shared pipe) = ArrivesInSchedule slot len weight idle old.schedule new.schedule
 
 -- One more packet waits for the link.
 pub record Joins (slot len weight : ℕ) (idle : Bool) (old new : LinkView) : Type 0 where

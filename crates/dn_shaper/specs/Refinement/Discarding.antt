@@ -24,7 +24,7 @@ DiscardsOn slot old new (own pipe f) = new.schedule ≡ old.schedule
 DiscardsOn slot old new (shared pipe) = (new.schedule.flows ≡ after_discard old.schedule.flows slot) × (new.schedule.virtual_time ≡ old.schedule.virtual_time) × (new.schedule.arrivals ≡ old.schedule.arrivals)
 
 -- So many packets no longer wait for the link.
-pub record Leaves (slot count : ℕ) (old new : LinkView) : Type 0 where
+pub record LeavesLink (slot count : ℕ) (old new : LinkView) : Type 0 where
   pub link : new.link ≡ old.link
   pub value : new.value ≡ old.value
   pub slots : new.slots ≡ old.slots
@@ -37,7 +37,7 @@ pub record DiscardsAt (h : Home) (flow : ℕ) (old new : Parts) : Type 0 where
   pub view' : LinkView
   pub there : slice_get (views_of old) h.place ≡ Some view
   pub views_are : views_of new ≡ slice_set (views_of old) h.place view'
-  pub leaves : Leaves h.slot (length (flow_at old.flows.flows flow).backlog) view view'
+  pub leaves : LeavesLink h.slot (length (flow_at old.flows.flows flow).backlog) view view'
   pub flows_are : new.flows.flows ≡ slice_set old.flows.flows flow (emptied (flow_at old.flows.flows flow))
   pub rule : new.rule ≡ old.rule
   pub accepted : new.accepted ≡ old.accepted
@@ -47,8 +47,8 @@ pub record DiscardsAt (h : Home) (flow : ℕ) (old new : Parts) : Type 0 where
   pub waiting : new.waiting + length (flow_at old.flows.flows flow).backlog ≡ old.waiting
 
 -- Whatever trace the parts agree with, they agree with it and the flow discarded.
-abbrev pub Discards : ℕ → Parts → Parts → Type 0
-Discards flow old new = (more : List Link) (trace : List Event) → AgreesWith old more trace → AgreesWith new more (discarded flow ∷ trace)
+abbrev pub DiscardsFlow : ℕ → Parts → Parts → Type 0
+DiscardsFlow flow old new = (more : List Link) (trace : List Event) → AgreesWith old more trace → AgreesWith new more (discarded flow ∷ trace)
 
 -- No link has a backlog that had none, and one that still has a backlog is free from the same moment.
 abbrev pub OnlyEmpties : Parts → Parts → Type 0

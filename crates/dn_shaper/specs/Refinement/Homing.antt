@@ -12,7 +12,7 @@ use Rattle.dn_wf2q.specs.Schedule.{room_at}
 use Rattle.dn_shaper.specs.declared.links.next_start.NextStart.{NextStart}
 use Rattle.dn_shaper.specs.declared.links.home.Home.{Home}
 use Rattle.dn_shaper.specs.declared.state.State.{State}
-use Rattle.dn_shaper.specs.Refinement.Making.{HasRoom, KeepsAt, KeepsCalls, OnlyRoom, Reserves}
+use Rattle.dn_shaper.specs.Refinement.Making.{HasSlotRoom, KeepsAt, KeepsCalls, OnlyRoom, OnlyMakesRoom}
 use Rattle.dn_shaper.specs.Refinement.Views.{LinkView, no_schedule, views_of}
 
 -- The place of the link that a flow with the key shares, where the key is one of a queue and the link is noted.
@@ -45,7 +45,7 @@ pub record IsNewLink (link : Link) (flow : ℕ) (v : LinkView) : Type 0 where
   pub waits : v.waits ≡ 0
   pub slots : v.slots ≡ flow ∷ []
   pub schedule : OnlyRoom no_schedule v.schedule
-  pub room : HasRoom 0 v v.link
+  pub room : HasSlotRoom 0 v v.link
 
 -- The home is the next slot of the link at the place.
 pub record Shares (flow place : ℕ) (h : Home) (old new : List LinkView) : Type 0 where
@@ -111,7 +111,7 @@ without_last s =
 
 -- Only room is made, in all that is kept.
 pub record OnlyReserves (old new : State) : Type 0 where
-  pub parts : Reserves old.parts new.parts
+  pub parts : OnlyMakesRoom old.parts new.parts
   pub heap : KeepsHeap old.heap new.heap
   pub shared : new.shared ≡ old.shared
   pub keeps : KeepsCalls old new

@@ -25,9 +25,9 @@ pub record KeepsLink (old new : LinkView) : Type 0 where
   pub schedule : OnlyRoom old.schedule new.schedule
 
 -- A shared link has room for a packet at the slot.
-abbrev pub HasRoom : ℕ → LinkView → Link → Type 0
-HasRoom slot v (own pipe flow) = Unit {0}
-HasRoom slot v (shared pipe) = 0 < room_at v.schedule.room slot
+abbrev pub HasSlotRoom : ℕ → LinkView → Link → Type 0
+HasSlotRoom slot v (own pipe flow) = Unit {0}
+HasSlotRoom slot v (shared pipe) = 0 < room_at v.schedule.room slot
 
 -- The flow has the same packets and counts.
 pub record SameFlow (old new : FlowState) : Type 0 where
@@ -45,7 +45,7 @@ KeepsAt None (Some w) = ⊥
 KeepsAt (Some v) None = ⊥
 
 -- Only room is made.
-pub record Reserves (old new : Parts) : Type 0 where
+pub record OnlyMakesRoom (old new : Parts) : Type 0 where
   pub rule : new.rule ≡ old.rule
   pub accepted : new.accepted ≡ old.accepted
   pub keys : new.flows.keys ≡ old.flows.keys

@@ -14,12 +14,12 @@ abbrev pub next_at : List (Option ℕ) → ℕ → Option ℕ
 next_at nexts place = slice_index_or nexts place None
 
 -- How often a place stands in a key.
-abbrev pub at_place : ℕ → NextStart → ℕ
-at_place place k = cond (k.place == place) 1 0
+abbrev pub one_at : ℕ → NextStart → ℕ
+one_at place k = cond (k.place == place) 1 0
 
 -- How often it stands among all of them.
-abbrev pub standing : ℕ → List NextStart → ℕ
-standing place keys = sum_by (at_place place) keys
+abbrev pub keys_at : ℕ → List NextStart → ℕ
+keys_at place keys = sum_by (one_at place) keys
 
 -- Whether the link of the key has a backlog.
 abbrev pub is_backlogged : List (Option ℕ) → NextStart → Bool
@@ -35,5 +35,5 @@ backlogged nexts = sum_by one_backlogged nexts
 
 -- The heap holds each link with a backlog once, by its next start, and no other.
 pub record Holds (nexts : List (Option ℕ)) (keys : List NextStart) : Type 0 where
-  pub once : (place : ℕ) → standing place keys ≡ cond (is_some (next_at nexts place)) 1 0
+  pub once : (place : ℕ) → keys_at place keys ≡ cond (is_some (next_at nexts place)) 1 0
   pub moments : All (λ k. next_at nexts k.place ≡ Some k.moment) keys

@@ -12,8 +12,8 @@ use Rattle.dn_shaper.specs.declared.settings.in_force.InForce.{InForce}
 use Rattle.dn_shaper.specs.Refinement.Settings.{settings_of}
 
 -- The commands in force, without the counts that are kept with them.
-abbrev pub commands_of : List (Target × InForce) → List (Target × Command)
-commands_of entries = map (λ e. (e.0, e.1.command)) entries
+abbrev pub commands_in : List (Target × InForce) → List (Target × Command)
+commands_in entries = map (λ e. (e.0, e.1.command)) entries
 
 -- Whether the command that is in force for the target makes it a queue of the pipe.
 abbrev pub names_pipe : ℕ → Target → Command → Bool
@@ -31,13 +31,13 @@ kept_count pipe entries = unwrap_or (option_map (λ kept. kept.queues) (lookup (
 -- No pipe or queue stands twice, and the count that is kept for each pipe is that of the queues that name it. So a queue
 -- names a pipe that is in force.
 pub record CountsQueues (entries : List (Target × InForce)) : Type 0 where
-  pub distinct : IsDistinct target_eq (keys_of (commands_of entries))
-  pub counts : (pipe : ℕ) → kept_count pipe entries ≡ queues_of pipe (commands_of entries)
+  pub distinct : IsDistinct target_eq (keys_of (commands_in entries))
+  pub counts : (pipe : ℕ) → kept_count pipe entries ≡ queues_of pipe (commands_in entries)
 
 -- The pipe that is named where this is in force for the target, if that is a queue.
-abbrev pub pipe_of : Target → Option Command → Option ℕ
-pipe_of (ToQueue number) (Some (Queue q pipe weight limit loss buckets mask)) = Some pipe
-pipe_of target setting = None
+abbrev pub named_pipe : Target → Option Command → Option ℕ
+named_pipe (ToQueue number) (Some (Queue q pipe weight limit loss buckets mask)) = Some pipe
+named_pipe target setting = None
 
 -- 1 for the pipe itself, and 0 for any other.
 abbrev pub one_for : Option ℕ → ℕ → ℕ
@@ -46,6 +46,6 @@ one_for (Some named) pipe = cond (nat_eq named pipe) 1 0
 
 -- So much is in force for the target, and all else stays: what is in force, and what the queues of each pipe count.
 pub record Replaces (target : Target) (setting : Option Command) (old new : List (Target × InForce)) : Type 0 where
-  pub settings : (t : Target) → settings_of (commands_of new) t ≡ cond (target_eq target t) setting (settings_of (commands_of old) t)
-  pub queues : (pipe : ℕ) → queues_of pipe (commands_of new) + one_for (pipe_of target (settings_of (commands_of old) target)) pipe ≡ queues_of pipe (commands_of old) + one_for (pipe_of target setting) pipe
-  pub distinct : IsDistinct target_eq (keys_of (commands_of new))
+  pub settings : (t : Target) → settings_of (commands_in new) t ≡ cond (target_eq target t) setting (settings_of (commands_in old) t)
+  pub queues : (pipe : ℕ) → queues_of pipe (commands_in new) + one_for (named_pipe target (settings_of (commands_in old) target)) pipe ≡ queues_of pipe (commands_in old) + one_for (named_pipe target setting) pipe
+  pub distinct : IsDistinct target_eq (keys_of (commands_in new))

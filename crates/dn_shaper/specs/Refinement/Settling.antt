@@ -13,7 +13,7 @@ use Rattle.dn_shaper.specs.Refinement.Starting.{Within, IsReady}
 
 -- The parts with the heap of the links that have a backlog: each of them stands in it once, with the moment from which it is
 -- free, and the heap has a place for each link.
-pub record IsKept (p : Parts) (heap : Heap NextStart) : Type 0 where
+pub record AreInStep (p : Parts) (heap : Heap NextStart) : Type 0 where
   pub agrees : Agrees p
   pub within : Within (2 ^ 62) p
   pub held : Holds (next_starts (views_of p)) heap.keys

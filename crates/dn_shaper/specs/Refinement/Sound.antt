@@ -5,7 +5,7 @@ use Rattle.std.specs.Map.{lookup}
 use Rattle.dn_types.specs.Trace.{Link, shared, link_eq}
 use Rattle.dn_shaper.specs.declared.state.State.{State}
 use Rattle.dn_shaper.specs.Refinement.Agreement.{link_names}
-use Rattle.dn_shaper.specs.Refinement.Settling.{IsKept}
+use Rattle.dn_shaper.specs.Refinement.Settling.{AreInStep}
 use Rattle.dn_shaper.specs.Refinement.Starting.{Within}
 use Rattle.dn_shaper.specs.Refinement.Views.{views_of}
 
@@ -16,7 +16,7 @@ pub record IsIndexed (s : State) (names : List Link) : Type 0 where
 
 -- No count is above the count of calls, and the clock is below its limit.
 pub record IsSound (s : State) : Type 0 where
-  pub kept : IsKept s.parts s.heap
+  pub kept : AreInStep s.parts s.heap
   pub within : Within s.calls s.parts
   pub moves : s.heap.moves + s.parts.waiting ≤ 2 * s.calls
   pub early : s.now ≤ 2 ^ 62

@@ -10,7 +10,7 @@ use Rattle.dn_flows.specs.declared.waiting.Waiting.{Waiting}
 use Rattle.dn_wf2q.specs.Schedule.{room_at}
 use Rattle.dn_shaper.specs.declared.links.home.Home.{Home}
 use Rattle.dn_shaper.specs.declared.links.parts.Parts.{Parts}
-use Rattle.dn_shaper.specs.Refinement.Views.{LinkView, views_of, waits_in_all, TakesNext, Sends}
+use Rattle.dn_shaper.specs.Refinement.Views.{LinkView, views_of, waits_in_all, TakesNext, IsNextToSend}
 
 -- The flow that the link takes next has a packet at the front of its queue.
 abbrev pub HasFront : LinkView → List FlowState → Type 0
@@ -23,7 +23,7 @@ pub record Starts (rule : Rule) (bandwidth delay moment : ℕ) (old : LinkView) 
   pub front : slice_get (flow_at flows flow).backlog 0 ≡ Some packet
   pub link : new.link ≡ old.link
   pub slots : new.slots ≡ old.slots
-  pub sends : Sends flow old new old.link
+  pub sends : IsNextToSend flow old new old.link
   pub free : new.value.free ≡ moment + transmission_time bandwidth packet.len
   pub last_due : new.value.last_due ≡ due_by rule (moment + transmission_time bandwidth packet.len + delay * 1000000) old.value.last_due
   pub waits : new.waits + 1 ≡ old.waits
@@ -36,8 +36,8 @@ pub record KeepsSchedule (old new : LinkView) : Type 0 where
   pub arrivals : new.schedule.arrivals ≡ old.schedule.arrivals
 
 -- None of the flow's counts is above n.
-abbrev pub IsFlowWithin : ℕ → FlowState → Type 0
-IsFlowWithin n s = (s.lost ≤ n) × (s.full ≤ n) × (s.started + s.discarded + length s.backlog ≤ n)
+abbrev pub AreCountsWithin : ℕ → FlowState → Type 0
+AreCountsWithin n s = (s.lost ≤ n) × (s.full ≤ n) × (s.started + s.discarded + length s.backlog ≤ n)
 
 -- No count anywhere is above n. There is room in the delay line for each packet that waits.
 pub record Within (n : ℕ) (p : Parts) : Type 0 where
@@ -45,7 +45,7 @@ pub record Within (n : ℕ) (p : Parts) : Type 0 where
   pub room : p.waiting ≤ p.line.room
   pub pushed : p.line.pushed + p.waiting ≤ n
   pub sums : length p.line.pending + p.waiting ≤ n
-  pub flows_are : (flow : ℕ) → IsFlowWithin n (flow_at p.flows.flows flow)
+  pub flows_are : (flow : ℕ) → AreCountsWithin n (flow_at p.flows.flows flow)
   pub arrivals : (k : ℕ) (v : LinkView) → slice_get (views_of p) k ≡ Some v → v.schedule.arrivals ≤ n
   pub accepted : p.accepted ≤ n
 

@@ -74,26 +74,26 @@ abbrev pub home : List FlowKey → ℕ → Link
 home keys flow = home_by flow (slice_get keys flow)
 
 -- A packet as its flow's queue holds it.
-abbrev pub waiting_of : Accepted → Waiting
-waiting_of p = record { packet = p.packet; len = p.stamped.len }
+abbrev pub as_queued : Accepted → Waiting
+as_queued p = record { packet = p.packet; len = p.stamped.len }
 
 abbrev pub stamped_of : List Accepted → List Stamped
 stamped_of ps = map (λ p. p.stamped) ps
 
 -- A packet as its shared link's schedule holds it, by slot.
-abbrev pub at_slot : ℕ → Stamped → Stamped
-at_slot slot s = record { flow = slot; len = s.len; weight = s.weight; start_tag = s.start_tag; finish_tag = s.finish_tag }
+abbrev pub slotted : ℕ → Stamped → Stamped
+slotted slot s = record { flow = slot; len = s.len; weight = s.weight; start_tag = s.start_tag; finish_tag = s.finish_tag }
 
 -- The flow is the next to send on the link, and on a shared link it is the one that is picked.
-abbrev pub Sends : ℕ → LinkView → LinkView → Link → Type 0
-Sends flow old new (own pipe f) = flow ≡ f
-Sends flow old new (shared pipe) = (h : Stamped) × (pick old.schedule.virtual_time (heads_of old.schedule.flows) ≡ Some h) × (slice_get old.slots h.flow ≡ Some flow) × Picks h old.schedule new.schedule
+abbrev pub IsNextToSend : ℕ → LinkView → LinkView → Link → Type 0
+IsNextToSend flow old new (own pipe f) = flow ≡ f
+IsNextToSend flow old new (shared pipe) = (h : Stamped) × (pick old.schedule.virtual_time (heads_of old.schedule.flows) ≡ Some h) × (slice_get old.slots h.flow ≡ Some flow) × Picks h old.schedule new.schedule
 
 pub record TakesNext (flow : ℕ) (old new : LinkView) : Type 0 where
   pub link : new.link ≡ old.link
   pub value : new.value ≡ old.value
   pub slots : new.slots ≡ old.slots
-  pub sends : Sends flow old new old.link
+  pub sends : IsNextToSend flow old new old.link
 
 -- The flow's own link stands at the place, or the flow shares the link there, and no other link is its own.
 abbrev pub IsAlone : ℕ → ℕ → List LinkView → Type 0

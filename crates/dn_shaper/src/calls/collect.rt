@@ -54,7 +54,7 @@ pub fn collect(
     requires few { state.old.calls < 2 ^ 62 }
     ensures does { IfOk result (λ reply. Does (Collect moment) state.old state.new reply) }
     ensures sound { IsSound state.new }
-    ensures refused { OnErr result (state.new ≡ state.old) }
+    ensures err { OnErr result (state.new ≡ state.old) }
 {
     let at = state.now.max(moment.get());
     given.clear();

@@ -7,7 +7,7 @@ ghost use Rattle.dn_shaper.specs.Refinement.Arriving.{KeepsFlows};
 ghost use Rattle.dn_shaper.specs.Refinement.Configuring.{DiscardsReached, IsAnswered};
 ghost use Rattle.dn_shaper.specs.Refinement.Discarding.{OnlyEmpties};
 ghost use Rattle.dn_shaper.specs.Refinement.Settings.{settings_of};
-ghost use Rattle.dn_shaper.specs.Refinement.Settling.{IsKept};
+ghost use Rattle.dn_shaper.specs.Refinement.Settling.{AreInStep};
 ghost use Rattle.dn_shaper.specs.Refinement.Calls.{Does, StillStands};
 ghost use Rattle.dn_shaper.specs.Refinement.Sound.{IsSound};
 ghost use Rattle.dn_shaper.specs.Refinement.Starting.{Within};
@@ -51,9 +51,9 @@ fn discard_flows(parts: &mut Parts, command: &Command)
 /// Discards the packets of all flows that the delete reaches. The links that this empties leave the
 /// heap together, so that a delete costs one pass over it and not one for each of them.
 fn discard_reached(parts: &mut Parts, heap: &mut RunHeap<NextStart>, command: &Command)
-    requires kept { IsKept parts.old heap.old }
+    requires kept { AreInStep parts.old heap.old }
     ensures discards { DiscardsReached command.now parts.old parts.new }
-    ensures kept { IsKept parts.new heap.new }
+    ensures kept { AreInStep parts.new heap.new }
     ensures within { (n : ℕ) → Within n parts.old → Within n parts.new }
     ensures moves { heap.new.moves + parts.new.waiting ≤ heap.old.moves + parts.old.waiting }
     ensures keeps { KeepsFlows parts.old parts.new }
@@ -70,7 +70,7 @@ pub fn configure(state: &mut State, command: &Command) -> Result<Reply, AllocErr
     requires few { state.old.calls < 2 ^ 62 }
     ensures does { IfOk result (λ reply. Does (Configure command.now) state.old state.new reply) }
     ensures sound { IsSound state.new }
-    ensures refused { OnErr result (StillStands state.old state.new) }
+    ensures err { OnErr result (StillStands state.old state.new) }
     ensures only_new { OnErr result (settings_of state.old.configured (subject command.now) ≡ None) }
     ensures only_accepted { OnErr result (IsAnswered (settings_of state.old.configured) command.now Reply.Configured) }
 {

@@ -29,7 +29,7 @@ pub fn show(state: &mut State, alloc: Global) -> Result<Reply, AllocError>
     requires few { state.old.calls < 2 ^ 62 }
     ensures does { IfOk result (λ reply. Does Show state.old state.new reply) }
     ensures sound { IsSound state.new }
-    ensures refused { OnErr result (state.new ≡ state.old) }
+    ensures err { OnErr result (state.new ≡ state.old) }
 {
     let list = statuses(&state.parts.flows, alloc)?;
     state.calls += 1;

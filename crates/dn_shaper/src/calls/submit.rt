@@ -34,7 +34,7 @@ fn send_packet(
     ensures does { IfOk result (λ reply. (moment : ℕ) → at ≡ max state.old.now moment → Does (Submit target.now packet.now moment) state.old (counted_at at state.new) reply) }
     ensures sound { IfOk result (λ reply. IsSound (counted_at at state.new)) }
     ensures calls { state.new.calls ≡ state.old.calls }
-    ensures refused { OnErr result (StillStands state.old state.new) }
+    ensures err { OnErr result (StillStands state.old state.new) }
     ensures still_sound { OnErr result (IsSound state.new) }
     ensures only_treated { OnErr result (is_some (treatment (settings_of state.old.configured target.now)) ≡ true) }
 {
@@ -73,7 +73,7 @@ pub fn submit(
     requires stands { (rule : RuleValue) × (calls : List CallValue) × StandsAt rule state.old calls }
     ensures does { IfOk result (λ reply. Does (Submit target packet.now moment) state.old state.new reply) }
     ensures sound { IsSound state.new }
-    ensures refused { OnErr result (StillStands state.old state.new) }
+    ensures err { OnErr result (StillStands state.old state.new) }
     ensures only_treated { OnErr result (is_some (treatment (settings_of state.old.configured target)) ≡ true) }
 {
     let at = state.now.max(moment.get());

@@ -2,7 +2,7 @@ ghost use Rattle.std.specs.Prelude.{◌≡◌, ℕ, ◌+◌, ◌<◌, ◌≤◌,
 ghost use Rattle.dn_flows.specs.Table.{flow_at, lengths};
 ghost use Rattle.dn_shaper.specs.Refinement.Arriving.{Accepts, CanAccept, KeepsFlows};
 ghost use Rattle.dn_shaper.specs.Refinement.Settings.{settings_of};
-ghost use Rattle.dn_shaper.specs.Refinement.Settling.{IsKept};
+ghost use Rattle.dn_shaper.specs.Refinement.Settling.{AreInStep};
 ghost use Rattle.dn_shaper.specs.Refinement.Starting.{IsReady, Within};
 ghost use Rattle.dn_shaper.specs.Refinement.Submitting.{GoesTo};
 
@@ -26,7 +26,7 @@ pub fn accept(
     how: &Treatment,
     at: u64,
 ) -> u64
-    requires kept { IsKept parts.old heap.old }
+    requires kept { AreInStep parts.old heap.old }
     requires within { flow < length parts.old.flows.keys }
     requires goes { GoesTo flow how.now.target parts.old }
     requires ready { IsReady flow parts.old }
@@ -37,7 +37,7 @@ pub fn accept(
     requires settled { CanAccept (settings_of configured.now) at flow parts.old }
     ensures number { result ≡ parts.old.accepted }
     ensures accepts { Accepts (settings_of configured.now) at flow len how.now.weight parts.old parts.new }
-    ensures kept { IsKept parts.new heap.new }
+    ensures kept { AreInStep parts.new heap.new }
     ensures within { (n : ℕ) → Within n parts.old → Within (n + 1) parts.new }
     ensures moves { heap.new.moves + parts.new.waiting ≤ heap.old.moves + parts.old.waiting + 2 }
     ensures keeps { KeepsFlows parts.old parts.new }

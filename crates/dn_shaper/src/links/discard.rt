@@ -1,9 +1,9 @@
-ghost use Rattle.std.specs.Prelude.{◌≡◌, ℕ, ◌+◌, ◌<◌, ◌≤◌, ◌^◌, filter, is_some, length, slice_get, IsPermutation, Some};
+ghost use Rattle.std.specs.Prelude.{◌≡◌, ℕ, ◌+◌, ◌<◌, ◌≤◌, ◌^◌, filter, length, slice_get, IsPermutation, Some};
 ghost use Rattle.dn_flows.specs.Table.{flow_at};
 ghost use Rattle.dn_shaper.specs.Refinement.Agreement.{Agrees};
 ghost use Rattle.dn_shaper.specs.Refinement.Arriving.{KeepsFlows};
-ghost use Rattle.dn_shaper.specs.Refinement.Discarding.{Discards, DiscardsAt, HoldsCount, Leaves, LosesCount, OnlyEmpties};
-ghost use Rattle.dn_shaper.specs.Refinement.NextStarts.{next_at, is_backlogged};
+ghost use Rattle.dn_shaper.specs.Refinement.Discarding.{DiscardsFlow, DiscardsAt, HoldsCount, LeavesLink, LosesCount, OnlyEmpties};
+ghost use Rattle.dn_shaper.specs.Refinement.NextStarts.{is_backlogged};
 ghost use Rattle.dn_shaper.specs.Refinement.Starting.{Within};
 ghost use Rattle.dn_shaper.specs.Refinement.Views.{LinkView, IsAlone, next_starts, view_of, views_of};
 
@@ -16,7 +16,7 @@ use dn_heap::RunHeap;
 /// The packets at the slot no longer wait for the link, where it is shared. Those of an own link wait
 /// in its flow's queue alone.
 fn leave_link(link: &mut LinkParts, slot: usize)
-    ensures { (before after : ℕ → ℕ) (count : ℕ) → LosesCount slot count before after (view_of before link.old) (view_of before link.old).link → Leaves slot count (view_of before link.old) (view_of after link.new) }
+    ensures { (before after : ℕ → ℕ) (count : ℕ) → LosesCount slot count before after (view_of before link.old) (view_of before link.old).link → LeavesLink slot count (view_of before link.old) (view_of after link.new) }
 {
     if let Carries::Shared(shared) = &mut link.carries {
         shared.sched.discard(slot);
@@ -45,7 +45,7 @@ pub fn discard_flow(parts: &mut Parts, flow: usize)
     requires agrees { Agrees parts.old }
     requires few { Within (2 ^ 62) parts.old }
     requires within { flow < length parts.old.flows.keys }
-    ensures discards { Discards flow parts.old parts.new }
+    ensures discards { DiscardsFlow flow parts.old parts.new }
     ensures within { (n : ℕ) → Within n parts.old → Within n parts.new }
     ensures waiting { parts.new.waiting ≤ parts.old.waiting }
     ensures keeps { KeepsFlows parts.old parts.new }
@@ -56,21 +56,11 @@ pub fn discard_flow(parts: &mut Parts, flow: usize)
     empty_flow(parts, home, flow, count);
 }
 
-/// Whether a packet waits for the link at the place.
-pub fn has_backlog(parts: &Parts, place: usize) -> bool
-    ensures { result ≡ is_some (next_at (next_starts (views_of parts.now)) place) }
-{
-    match parts.links.get(place) {
-        Some(link) => link.has_backlog(&parts.flows),
-        None => false,
-    }
-}
-
 /// Lets go of each link for which no packet waits any more, in one pass over the heap.
 pub fn forget_emptied(heap: &mut RunHeap<NextStart>, parts: &Parts)
     ensures keys { IsPermutation (filter (is_backlogged (next_starts (views_of parts.now))) heap.old.keys) heap.new.keys }
     ensures room { length heap.new.keys + heap.new.room ≡ length heap.old.keys + heap.old.room }
     ensures keeps_moves { heap.new.moves ≡ heap.old.moves }
 {
-    heap.retain(|key| has_backlog(parts, key.place));
+    heap.retain(|key| parts.has_backlog(key.place));
 }

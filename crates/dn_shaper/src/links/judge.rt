@@ -2,7 +2,7 @@ ghost use Rattle.std.specs.Prelude.{◌≡◌, ℕ, ◌+◌, ◌<◌, ◌≤◌,
 ghost use Rattle.dn_types.specs.Trace.{lost, refused};
 ghost use Rattle.dn_shaper.specs.Refinement.Arriving.{KeepsFlows};
 ghost use Rattle.dn_shaper.specs.Refinement.Settings.{settings_of};
-ghost use Rattle.dn_shaper.specs.Refinement.Settling.{IsKept};
+ghost use Rattle.dn_shaper.specs.Refinement.Settling.{AreInStep};
 ghost use Rattle.dn_shaper.specs.Refinement.Starting.{IsReady, Within};
 ghost use Rattle.dn_shaper.specs.Refinement.Submitting.{CanSee, GoesTo, Sees, Answers, treatment_of};
 ghost use Rattle.dn_heap.specs.Heap.{Heap as HeapValue};
@@ -19,12 +19,12 @@ use dn_heap::RunHeap;
 use dn_types::{Packet, Reply};
 
 /// A packet of the flow is lost by the loss rate.
-fn lose(parts: &mut Parts, flow: usize)
+fn note_lost(parts: &mut Parts, flow: usize)
     requires within { flow < length parts.old.flows.keys }
     requires few { (n : ℕ) × (n < 2 ^ 62) × Within n parts.old }
     requires seen { CanSee flow parts.old }
     ensures sees { Sees flow lost parts.old parts.new }
-    ensures kept { (heap : HeapValue NextStartValue) → IsKept parts.old heap → IsKept parts.new heap }
+    ensures kept { (heap : HeapValue NextStartValue) → AreInStep parts.old heap → AreInStep parts.new heap }
     ensures within { (n : ℕ) → Within n parts.old → Within (n + 1) parts.new }
     ensures keeps { KeepsFlows parts.old parts.new }
     ensures waiting { parts.new.waiting ≡ parts.old.waiting }
@@ -32,13 +32,13 @@ fn lose(parts: &mut Parts, flow: usize)
     parts.flows.note_lost(flow);
 }
 
-/// A packet of the flow is refused by its full queue.
-fn refuse(parts: &mut Parts, flow: usize)
+/// A packet of the flow finds its queue full.
+fn note_full(parts: &mut Parts, flow: usize)
     requires within { flow < length parts.old.flows.keys }
     requires few { (n : ℕ) × (n < 2 ^ 62) × Within n parts.old }
     requires seen { CanSee flow parts.old }
     ensures sees { Sees flow refused parts.old parts.new }
-    ensures kept { (heap : HeapValue NextStartValue) → IsKept parts.old heap → IsKept parts.new heap }
+    ensures kept { (heap : HeapValue NextStartValue) → AreInStep parts.old heap → AreInStep parts.new heap }
     ensures within { (n : ℕ) → Within n parts.old → Within (n + 1) parts.new }
     ensures keeps { KeepsFlows parts.old parts.new }
     ensures waiting { parts.new.waiting ≡ parts.old.waiting }
@@ -46,7 +46,8 @@ fn refuse(parts: &mut Parts, flow: usize)
     parts.flows.note_full(flow);
 }
 
-/// Settles, and then loses, refuses or accepts a packet of the flow in the room that was reserved.
+/// Settles, and then a packet of the flow is lost, or finds its queue full, or is accepted in the room
+/// that was reserved.
 pub fn judge(
     parts: &mut Parts,
     heap: &mut RunHeap<NextStart>,
@@ -56,7 +57,7 @@ pub fn judge(
     how: &Treatment,
     at: u64,
 ) -> Reply
-    requires kept { IsKept parts.old heap.old }
+    requires kept { AreInStep parts.old heap.old }
     requires within { flow < length parts.old.flows.keys }
     requires goes { GoesTo flow how.now.target parts.old }
     requires ready { IsReady flow parts.old }
@@ -65,7 +66,7 @@ pub fn judge(
     requires moves { heap.old.moves + parts.old.waiting + 2 ≤ 2 ^ 63 }
     requires seen { CanSee flow parts.old }
     ensures answers { Answers (settings_of configured.now) at flow packet.now (treatment_of how.now) parts.old parts.new result }
-    ensures kept { IsKept parts.new heap.new }
+    ensures kept { AreInStep parts.new heap.new }
     ensures within { (n : ℕ) → Within n parts.old → Within (n + 1) parts.new }
     ensures moves { heap.new.moves + parts.new.waiting ≤ heap.old.moves + parts.old.waiting + 2 }
     ensures keeps { KeepsFlows parts.old parts.new }
@@ -73,11 +74,11 @@ pub fn judge(
     settle(parts, heap, configured, at);
     match parts.flows.verdict(flow, packet, &how.drops) {
         Verdict::Lost => {
-            lose(parts, flow);
+            note_lost(parts, flow);
             Reply::Lost { at, flow }
         }
         Verdict::Full => {
-            refuse(parts, flow);
+            note_full(parts, flow);
             Reply::Full { at, flow }
         }
         Verdict::Take => {

@@ -1,6 +1,6 @@
 ghost use Rattle.std.specs.Prelude.{◌≡◌, ℕ, ◌+◌, ◌^◌, ◌<◌, ◌≤◌, All, true, false};
 ghost use Rattle.dn_shaper.specs.Refinement.Settings.{settings_of};
-ghost use Rattle.dn_shaper.specs.Refinement.Settling.{IsKept, OnlyStarts, StartsFirst, HasNoStart, SettlesAll};
+ghost use Rattle.dn_shaper.specs.Refinement.Settling.{AreInStep, OnlyStarts, StartsFirst, HasNoStart, SettlesAll};
 
 use crate::links::next_start::NextStart;
 use crate::links::parts::Parts;
@@ -15,10 +15,10 @@ fn settle_one(
     configured: &Configured,
     at: u64,
 ) -> bool
-    requires kept { IsKept parts.old heap.old }
+    requires kept { AreInStep parts.old heap.old }
     requires early { at ≤ 2 ^ 62 }
     requires moves { heap.old.moves + parts.old.waiting ≤ 2 ^ 63 }
-    ensures kept { IsKept parts.new heap.new }
+    ensures kept { AreInStep parts.new heap.new }
     ensures only { OnlyStarts parts.old heap.old parts.new heap.new }
     ensures fewer { result ≡ true → parts.new.waiting + 1 ≡ parts.old.waiting }
     ensures one { result ≡ true → StartsFirst (settings_of configured.now) at parts.old parts.new }
@@ -45,10 +45,10 @@ fn settle_one(
 /// Starts all packets that start up to the moment, in order of time. It costs the starts that are
 /// due, and not the links that there are.
 pub fn settle(parts: &mut Parts, heap: &mut RunHeap<NextStart>, configured: &Configured, at: u64)
-    requires kept { IsKept parts.old heap.old }
+    requires kept { AreInStep parts.old heap.old }
     requires early { at ≤ 2 ^ 62 }
     requires moves { heap.old.moves + parts.old.waiting ≤ 2 ^ 63 }
-    ensures kept { IsKept parts.new heap.new }
+    ensures kept { AreInStep parts.new heap.new }
     ensures only { OnlyStarts parts.old heap.old parts.new heap.new }
     ensures settled { SettlesAll (settings_of configured.now) at parts.old parts.new }
 {

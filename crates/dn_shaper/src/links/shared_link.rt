@@ -31,7 +31,7 @@ impl SharedLink {
         ensures flows { OnOk result (self.new.flows.items ≡ self.old.flows.items ++ flow ∷ []) }
         ensures room { OnOk result (0 < room_at self.new.sched.room (length self.old.flows.items)) }
         ensures only { OnlyRoom self.old.sched self.new.sched }
-        ensures refused { OnErr result (self.new.flows.items ≡ self.old.flows.items) }
+        ensures err { OnErr result (self.new.flows.items ≡ self.old.flows.items) }
     {
         let slot = self.flows.len();
         self.flows.reserve(1)?;

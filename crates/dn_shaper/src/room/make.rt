@@ -25,7 +25,7 @@ fn take_slot(link: &mut LinkParts, flow: usize) -> Result<usize, AllocError>
     requires is_shared { (queues : ℕ → ℕ) × (pipe : ℕ) × ((view_of queues link.old).link ≡ shared_link pipe) }
     ensures slot { (queues : ℕ → ℕ) → IfOk result (λ slot. slot ≡ length (view_of queues link.old).slots) }
     ensures takes { (queues : ℕ → ℕ) → OnOk result (TakesSlot flow (view_of queues link.old) (view_of queues link.new)) }
-    ensures refused { (queues : ℕ → ℕ) → OnErr result (KeepsLink (view_of queues link.old) (view_of queues link.new)) }
+    ensures err { (queues : ℕ → ℕ) → OnErr result (KeepsLink (view_of queues link.old) (view_of queues link.new)) }
 {
     match &mut link.carries {
         Carries::Own(_) => unreachable!(),
@@ -37,7 +37,7 @@ fn take_slot(link: &mut LinkParts, flow: usize) -> Result<usize, AllocError>
 fn share_link(links: &mut Vec<LinkParts>, place: usize, flow: usize) -> Result<Home, AllocError>
     requires is_shared { (queues : ℕ → ℕ) × (pipe : ℕ) × (slice_get (link_names (map (view_of queues) links.old.items)) place ≡ Some (shared_link pipe)) }
     ensures shares { (queues : ℕ → ℕ) → IfOk result (λ home. Shares flow place home (map (view_of queues) links.old.items) (map (view_of queues) links.new.items)) }
-    ensures refused { (queues : ℕ → ℕ) → OnErr result (KeepsLinks (map (view_of queues) links.old.items) (map (view_of queues) links.new.items)) }
+    ensures err { (queues : ℕ → ℕ) → OnErr result (KeepsLinks (map (view_of queues) links.old.items) (map (view_of queues) links.new.items)) }
 {
     let slot = take_slot(&mut links[place], flow)?;
     Ok(Home { place, slot })
@@ -75,7 +75,7 @@ fn make_link(
     ensures opens { (queues : ℕ → ℕ) → queues flow ≡ 0 → IfOk result (λ home. Opens (link_of key.now.target flow key.now.pipe) flow home (map (view_of queues) links.old.items) (map (view_of queues) links.new.items) heap.new) }
     ensures notes { IfOk result (λ home. NotesFor key.now.target key.now.pipe home.place shared.old shared.new) }
     ensures heap { KeepsHeap heap.old heap.new }
-    ensures refused { OnErr result (links.new.items ≡ links.old.items) }
+    ensures err { OnErr result (links.new.items ≡ links.old.items) }
     ensures unnoted { OnErr result (shared.new ≡ shared.old) }
 {
     let place = links.len();
@@ -100,7 +100,7 @@ fn find_home(
     requires noted { (queues : ℕ → ℕ) × ((place : ℕ) → place_for key.now shared.old ≡ Some place → slice_get (link_names (map (view_of queues) links.old.items)) place ≡ Some (shared_link key.now.pipe)) }
     ensures houses { (queues : ℕ → ℕ) → queues flow ≡ 0 → IfOk result (λ home. Houses (place_for key.now shared.old) key.now flow home (map (view_of queues) links.old.items) (map (view_of queues) links.new.items) heap.new shared.old shared.new) }
     ensures heap { KeepsHeap heap.old heap.new }
-    ensures refused { (queues : ℕ → ℕ) → OnErr result (KeepsLinks (map (view_of queues) links.old.items) (map (view_of queues) links.new.items)) }
+    ensures err { (queues : ℕ → ℕ) → OnErr result (KeepsLinks (map (view_of queues) links.old.items) (map (view_of queues) links.new.items)) }
     ensures unnoted { OnErr result (shared.new ≡ shared.old) }
 {
     match shared.place_for(key) {
@@ -116,7 +116,7 @@ fn make_home(state: &mut State, alloc: Global, key: &FlowKey, flow: usize) -> Re
     requires few { state.old.parts.waiting < 2 ^ 62 }
     requires noted { (place : ℕ) → place_for key.now state.old.shared ≡ Some place → slice_get (link_names (views_of state.old.parts)) place ≡ Some (shared_link key.now.pipe) }
     ensures gives { OnOk result (GivesHome key.now flow state.old state.new) }
-    ensures refused { OnErr result (OnlyReserves state.old state.new) }
+    ensures err { OnErr result (OnlyReserves state.old state.new) }
 {
     state.parts.line.reserve(state.parts.waiting + 1)?;
     state.parts.flows.reserve_place(flow)?;
@@ -146,7 +146,7 @@ pub fn house_last(
     requires few { state.old.parts.waiting < 2 ^ 62 }
     requires noted { (place : ℕ) → place_for key.now state.old.shared ≡ Some place → slice_get (link_names (views_of state.old.parts)) place ≡ Some (shared_link key.now.pipe) }
     ensures gives { OnOk result (GivesHome key.now flow state.old state.new) }
-    ensures forgets { OnErr result (OnlyReserves (without_last state.old) state.new) }
+    ensures err { OnErr result (OnlyReserves (without_last state.old) state.new) }
 {
     if make_home(state, alloc, key, flow).is_err() {
         state.parts.flows.forget_last();

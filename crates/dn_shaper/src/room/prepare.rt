@@ -2,7 +2,7 @@ ghost use Rattle.std.specs.Prelude.{◌≡◌, ◌<◌, ◌^◌, List, [], lengt
 ghost use Rattle.dn_types.specs.Flows.{flow_number, with_key};
 ghost use Rattle.dn_types.specs.Trace.{Event};
 ghost use Rattle.dn_shaper.specs.Refinement.Agreement.{AgreesWith};
-ghost use Rattle.dn_shaper.specs.Refinement.Making.{KeepsCalls, Prepares, Reserves};
+ghost use Rattle.dn_shaper.specs.Refinement.Making.{KeepsCalls, Prepares, OnlyMakesRoom};
 ghost use Rattle.dn_shaper.specs.Refinement.Sound.{IsSound};
 ghost use Rattle.dn_shaper.specs.Refinement.Starting.{IsReady};
 ghost use Rattle.dn_shaper.specs.Refinement.Submitting.{GoesTo};
@@ -25,7 +25,7 @@ pub fn prepare(state: &mut State, alloc: Global, key: FlowKey) -> Result<usize, 
     ensures goes { IfOk result (λ flow. GoesTo flow key.target state.new.parts) }
     ensures ready { IfOk result (λ flow. IsReady flow state.new.parts) }
     ensures prepares { IfOk result (λ flow. Prepares flow state.old.parts state.new.parts) }
-    ensures refused { OnErr result (Reserves state.old.parts state.new.parts) }
+    ensures err { OnErr result (OnlyMakesRoom state.old.parts state.new.parts) }
     ensures sound { IsSound state.new }
     ensures keeps { KeepsCalls state.old state.new }
 {

@@ -1,6 +1,6 @@
 ghost use Rattle.std.specs.Prelude.{ℕ, ◌<◌, ◌^◌, length, OnOk};
 ghost use Rattle.dn_shaper.specs.Refinement.Agreement.{Agrees};
-ghost use Rattle.dn_shaper.specs.Refinement.Making.{HasRoom, KeepsLink, Reserves};
+ghost use Rattle.dn_shaper.specs.Refinement.Making.{HasSlotRoom, KeepsLink, OnlyMakesRoom};
 ghost use Rattle.dn_shaper.specs.Refinement.Starting.{IsReady};
 ghost use Rattle.dn_shaper.specs.Refinement.Submitting.{GoesTo};
 ghost use Rattle.dn_shaper.specs.Refinement.Views.{view_of};
@@ -13,7 +13,7 @@ use std::alloc::AllocError;
 /// Makes room for one more packet at the slot of a link. A link of one flow needs none.
 #[tactic(auto, using(crate::proofs::Scheduled::waits_roomy))]
 fn reserve_at(link: &mut LinkParts, slot: usize) -> Result<(), AllocError>
-    ensures ok { (queues : ℕ → ℕ) → OnOk result (HasRoom slot (view_of queues link.new) (view_of queues link.new).link) }
+    ensures ok { (queues : ℕ → ℕ) → OnOk result (HasSlotRoom slot (view_of queues link.new) (view_of queues link.new).link) }
     ensures keeps { (queues : ℕ → ℕ) → KeepsLink (view_of queues link.old) (view_of queues link.new) }
 {
     match &mut link.carries {
@@ -31,7 +31,7 @@ pub fn reserve_known(parts: &mut Parts, flow: usize, target: &Target) -> Result<
     requires goes { GoesTo flow target.now parts.old }
     requires few { parts.old.waiting < 2 ^ 62 }
     ensures ready { OnOk result (IsReady flow parts.new) }
-    ensures only { Reserves parts.old parts.new }
+    ensures only { OnlyMakesRoom parts.old parts.new }
 {
     parts.line.reserve(parts.waiting + 1)?;
     parts.flows.reserve_place(flow)?;

@@ -42,7 +42,7 @@ impl SharedPlaces {
     /// Notes the place of a pipe's shared link.
     fn insert(&mut self, pipe: Number, place: usize) -> Result<(), AllocError>
         ensures inserts { OnOk result ((other : ℕ) → lookup (nat_eq other) self.new ≡ cond (nat_eq pipe other) (Some place) (lookup (nat_eq other) self.old)) }
-        ensures refused { OnErr result (self.new ≡ self.old) }
+        ensures err { OnErr result (self.new ≡ self.old) }
     {
         let Ok(_) = self.places.insert(pipe, place) else {
             return Err(AllocError);
@@ -64,7 +64,7 @@ impl SharedPlaces {
     /// Notes the place of the first link of a flow with the key, where queues share it.
     pub fn note(&mut self, key: &FlowKey, place: usize) -> Result<(), AllocError>
         ensures notes { OnOk result (NotesFor key.now.target key.now.pipe place self.old self.new) }
-        ensures refused { OnErr result (self.new ≡ self.old) }
+        ensures err { OnErr result (self.new ≡ self.old) }
     {
         match key.target {
             Target::Pipe(_) => Ok(()),

@@ -5,7 +5,7 @@ ghost use Rattle.dn_types.specs.Flows.{treatment};
 ghost use Rattle.dn_types.specs.declared.target.Target.{Target as TargetValue};
 ghost use Rattle.dn_shaper.specs.Refinement.Agreement.{GivesRates};
 ghost use Rattle.dn_shaper.specs.Refinement.Configuring.{IsAnswered, Lists, Puts};
-ghost use Rattle.dn_shaper.specs.Refinement.QueueCounts.{pipe_of};
+ghost use Rattle.dn_shaper.specs.Refinement.QueueCounts.{named_pipe};
 ghost use Rattle.dn_shaper.specs.Refinement.Settings.{settings_of};
 ghost use Rattle.dn_shaper.specs.Refinement.Submitting.{treatment_of};
 
@@ -29,8 +29,8 @@ fn subject(command: &Command) -> Target
 }
 
 /// The pipe that is named where this is in force for the target, if that is a queue.
-fn pipe_of(target: &Target, setting: Option<&Command>) -> Option<Number>
-    ensures { result ≡ pipe_of target.now (option_copied setting.entry) }
+fn named_pipe(target: &Target, setting: Option<&Command>) -> Option<Number>
+    ensures { result ≡ named_pipe target.now (option_copied setting.entry) }
 {
     match (target, setting) {
         (Target::Queue(_), Some(Command::Queue { pipe, .. })) => Some(*pipe),
@@ -95,9 +95,9 @@ impl Model for Configured {
 
     ghost Value = { List (Target × Command) };
 
-    ghost use Rattle.dn_shaper.specs.Refinement.QueueCounts.{commands_of, CountsQueues};
+    ghost use Rattle.dn_shaper.specs.Refinement.QueueCounts.{commands_in, CountsQueues};
 
-    ghost view = { λ a. commands_of a.commands.entries };
+    ghost view = { λ a. commands_in a.commands.entries };
 
     ghost invariant = { λ a. CountsQueues a.commands.entries };
 }
@@ -202,7 +202,7 @@ impl Configured {
     pub fn put(&mut self, command: &Command) -> Result<(), AllocError>
         requires accepted { IsAnswered (settings_of self.old) command.now Reply.Configured }
         ensures puts { OnOk result (Puts command.now (Some command.now) (settings_of self.old) (settings_of self.new)) }
-        ensures refused { OnErr result (settings_of self.new ≡ settings_of self.old) }
+        ensures err { OnErr result (settings_of self.new ≡ settings_of self.old) }
         ensures only_new { OnErr result (settings_of self.old (subject command.now) ≡ None) }
     {
         // The prover asks that a body that moves a command into or out of a map names the types in it.
@@ -211,9 +211,9 @@ impl Configured {
         let _mask: Option<Mask> = None;
         let target = subject(command);
         let replaced = replace(&mut self.commands, target, *command)?;
-        let left = pipe_of(&target, replaced.as_ref());
+        let left = named_pipe(&target, replaced.as_ref());
         discount_queue(&mut self.commands, left);
-        count_queue(&mut self.commands, pipe_of(&target, Some(command)));
+        count_queue(&mut self.commands, named_pipe(&target, Some(command)));
         Ok(())
     }
 
@@ -228,7 +228,7 @@ impl Configured {
         let _mask: Option<Mask> = None;
         let target = subject(command);
         let removed = self.commands.swap_remove(&target).unwrap();
-        let left = pipe_of(&target, Some(&removed.command));
+        let left = named_pipe(&target, Some(&removed.command));
         discount_queue(&mut self.commands, left);
     }
 }

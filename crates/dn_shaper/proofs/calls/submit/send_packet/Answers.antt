@@ -9,8 +9,8 @@ use Rattle.dn_shaper.specs.Refinement.Submitting.{treatment_of}
 use Rattle.dn_shaper.proofs.Sending.{submits-does, submits-some, sound-settled, sound-then, still-stands}
 use Rattle.dn_shaper.proofs.calls.submit.send_packet.Goals as goal
 
-pub returns-in_err-flow-in-Some-clause-refused : goal.returns-in_err-flow-in-Some-clause-refused
-returns-in_err-flow-in-Some-clause-refused c = on_err_always c.from_residual.result _ (still-stands c.args.state.now c.prepare.new.state c.prepare.ensures.keeps c.in_err-flow-in-Some.ensures.refused)
+pub returns-in_err-flow-in-Some-clause-err : goal.returns-in_err-flow-in-Some-clause-err
+returns-in_err-flow-in-Some-clause-err c = on_err_always c.from_residual.result _ (still-stands c.args.state.now c.prepare.new.state c.prepare.ensures.keeps c.in_err-flow-in-Some.ensures.err)
 
 pub returns-in-None-clause-sound : goal.returns-in-None-clause-sound
 returns-in-None-clause-sound c = sound-settled c.args.state.now c.settle.new.parts c.settle.new.heap c.args.at c.requires.early c.requires.sound c.settle.ensures.kept c.settle.ensures.only.names c.settle.ensures.only.within c.settle.ensures.only.moves

@@ -2,7 +2,7 @@
 use Rattle.std.proofs.Common.{ℕ, refl, subst, sym, arith}
 use Rattle.dn_flows.specs.Table.{emptied, flow_at}
 use Rattle.dn_flows.proofs.Places.{viewed, get-map}
-use Rattle.dn_shaper.specs.Refinement.Discarding.{HoldsCount, Leaves}
+use Rattle.dn_shaper.specs.Refinement.Discarding.{HoldsCount, LeavesLink}
 use Rattle.dn_shaper.specs.Refinement.Views.{LinkView, queue_lengths, view_of, views_of}
 use Rattle.dn_shaper.proofs.Alone.{length-now, loses-at, set-seen}
 use Rattle.dn_shaper.proofs.links.discard.empty_flow.Goals as goal
@@ -24,7 +24,7 @@ returns c =
       view' = view_of after c.leave_link.new.link;
       there = there;
       views_are = set-seen old c.args.flow c.args.home.place c.requires.alone c.requires.within c.discard.new.self.flows (emptied (flow_at old.flows.flows c.args.flow)) c.discard.ensures.flows c.leave_link.new.link;
-      leaves = subst (λ (n : ℕ). Leaves c.args.home.slot n (view_of before c.index_mut-link.result.now) (view_of after c.leave_link.new.link)) all (c.leave_link.ensures before after c.args.count loses);
+      leaves = subst (λ (n : ℕ). LeavesLink c.args.home.slot n (view_of before c.index_mut-link.result.now) (view_of after c.leave_link.new.link)) all (c.leave_link.ensures before after c.args.count loses);
       flows_are = c.discard.ensures.flows;
       rule = refl;
       accepted = refl;

@@ -1,11 +1,11 @@
 use Rattle.dn_shaper.specs.Refinement.Settings.{settings_of}
-use Rattle.dn_shaper.specs.Refinement.Settling.{IsKept, OnlyStarts}
+use Rattle.dn_shaper.specs.Refinement.Settling.{AreInStep, OnlyStarts}
 use Rattle.dn_shaper.proofs.Settles.{Reaches}
 use Rattle.dn_shaper.proofs.links.settle.settle.Given as goal
 
 abbrev pub invariant-loop : goal.invariant-loop
 invariant-loop l = record {
-  kept : IsKept l.parts l.heap;
+  kept : AreInStep l.parts l.heap;
   only : OnlyStarts l.initial.parts l.initial.heap l.parts l.heap;
   reached : Reaches (settings_of l.configured) l.at l.initial.parts l.parts;
 }

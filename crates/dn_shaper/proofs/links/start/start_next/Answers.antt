@@ -1,7 +1,7 @@
 -- The link at the place is the one that can start.
 use Rattle.std.proofs.Common.{ℕ, ap, sym, refl, subst, arith}
 use Rattle.dn_flows.specs.Table.{flow_at, popped}
-use Rattle.dn_shaper.specs.Refinement.Views.{LinkView, CanSend, Sends, queue_lengths, view_of}
+use Rattle.dn_shaper.specs.Refinement.Views.{LinkView, CanSend, IsNextToSend, queue_lengths, view_of}
 use Rattle.dn_shaper.specs.Refinement.Starting.{HasFront}
 use Rattle.dn_flows.proofs.Places.{viewed, get-map}
 use Rattle.dn_shaper.proofs.Alone.{set-seen}
@@ -42,7 +42,7 @@ returns c =
     let there = get-map (view_of before) c.args.parts.now.links.items c.args.place c.index_mut-link.result.now v.0 in
     let some = waiting-at c.args.parts.now c.requires.agrees c.requires.within c.args.place c.args.moment c.requires.can in
     let starts = c.start_one.ensures.starts in
-    let alone = alone-at c.args.parts.now c.requires.agrees c.requires.within c.args.place c.args.moment c.requires.can starts.flow (view_of after c.start_one.new.link) (subst (λ (v : LinkView). Sends starts.flow v (view_of after c.start_one.new.link) v.link) v.1 starts.sends) in
+    let alone = alone-at c.args.parts.now c.requires.agrees c.requires.within c.args.place c.args.moment c.requires.can starts.flow (view_of after c.start_one.new.link) (subst (λ (v : LinkView). IsNextToSend starts.flow v (view_of after c.start_one.new.link) v.link) v.1 starts.sends) in
     record {
       starts = record {
         view = view_of before c.index_mut-link.result.now;

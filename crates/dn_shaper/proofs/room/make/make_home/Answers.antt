@@ -15,8 +15,8 @@ use Rattle.dn_shaper.proofs.room.make.make_home.Goals as goal
 pub find_home-requires : goal.find_home-requires
 find_home-requires c = record { noted = (queue_lengths c.args.state.now.parts.flows.flows, c.requires.noted) }
 
-pub returns-in_err-home-clause-refused : goal.returns-in_err-home-clause-refused
-returns-in_err-home-clause-refused c =
+pub returns-in_err-home-clause-err : goal.returns-in_err-home-clause-err
+returns-in_err-home-clause-err c =
     let old = c.args.state.now.parts in
     let flows = old.flows.flows in
     let reserved = c.in_ok-reserve_place.ensures.reserved in
@@ -34,7 +34,7 @@ returns-in_err-home-clause-refused c =
         room = omega arith;
         flows = λ g. subst (λ (fs : List FlowState). SameFlow (flow_at flows g) (flow_at fs g)) (sym reserved) (place-reserved flows c.args.flow g c.requires.within);
         many = ap (λ (fs : List FlowState). length fs) reserved ∙ length-set flows c.args.flow (with_place (flow_at flows c.args.flow));
-        views = λ place. subst (λ (vs : List LinkView). KeepsAt (slice_get (views_of old) place) (slice_get vs place)) (sym seen) (c.in_err-home.ensures.refused (queue_lengths flows) place);
+        views = λ place. subst (λ (vs : List LinkView). KeepsAt (slice_get (views_of old) place) (slice_get vs place)) (sym seen) (c.in_err-home.ensures.err (queue_lengths flows) place);
       };
       heap = c.find_home.ensures.heap;
       shared = c.in_err-home.ensures.unnoted;

@@ -21,8 +21,8 @@ reserve_known-requires-clause-agrees c =
     let a = c.requires.seen in
     ([], a.0, subst (λ (t : Table). AgreesWith (with_table c.args.state.now.parts t) [] a.0) (sym same) a.1)
 
-pub returns-in_err-reserve_known-clause-refused : goal.returns-in_err-reserve_known-clause-refused
-returns-in_err-reserve_known-clause-refused c =
+pub returns-in_err-reserve_known-clause-err : goal.returns-in_err-reserve_known-clause-err
+returns-in_err-reserve_known-clause-err c =
     let n = c.in_ok-flow.ensures.number in
     let k = c.len-known.ensures.keys in
     let lt = c.if-flow-known.true in
@@ -59,7 +59,7 @@ returns-in_err-house_last-clause-sound c =
     let k = c.len-known.ensures.keys in
     let le = c.if-flow-known.false in
     let more = new-table c.args.state.now.parts.flows c.find_or_make.new.self c.args.key (omega arith) c.in_ok-flow.ensures.keys c.in_ok-flow.ensures.flows in
-    reserves-sound c.args.state.now c.house_last.new.state (without-new c.args.state.now c.find_or_make.new.self c.args.key more c.house_last.new.state c.in_err-house_last.ensures.forgets) c.requires.sound
+    reserves-sound c.args.state.now c.house_last.new.state (without-new c.args.state.now c.find_or_make.new.self c.args.key more c.house_last.new.state c.in_err-house_last.ensures.err) c.requires.sound
 
 pub returns-in_ok-house_last-clause-ready : goal.returns-in_ok-house_last-clause-ready
 returns-in_ok-house_last-clause-ready c =

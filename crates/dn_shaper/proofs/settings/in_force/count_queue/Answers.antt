@@ -4,7 +4,7 @@ use Rattle.std.specs.Prelude.{Some, is_some, true}
 use Rattle.std.specs.Option.{IfSome, option_copied_mut}
 use Rattle.dn_types.specs.declared.target.Target.TheVariants.{Pipe as ToPipe}
 use Rattle.dn_shaper.specs.declared.settings.in_force.InForce.{InForce}
-use Rattle.dn_shaper.specs.Refinement.QueueCounts.{commands_of, kept_count, one_for}
+use Rattle.dn_shaper.specs.Refinement.QueueCounts.{commands_in, kept_count, one_for}
 use Rattle.dn_shaper.specs.Refinement.Settings.{settings_of}
 use Rattle.dn_shaper.proofs.Recounting.{keeps-commands, one-more}
 use Rattle.dn_shaper.proofs.QueueCounts.{some-copied, has-entry, kept-is}
@@ -12,7 +12,7 @@ use Rattle.dn_shaper.proofs.settings.in_force.count_queue.Goals as goal
 
 pub unwrap-counted-requires : goal.unwrap-counted-requires
 unwrap-counted-requires c =
-    some-copied c.get_mut.result (ap is_some c.get_mut.ensures.value ∙ has-entry (ToPipe c.in-Some.pipe) c.args.commands.now.entries (subst (λ o. IfSome o (λ p. is_some (settings_of (commands_of c.args.commands.now.entries) (ToPipe p)) ≡ true)) c.in-Some.is c.requires.there))
+    some-copied c.get_mut.result (ap is_some c.get_mut.ensures.value ∙ has-entry (ToPipe c.in-Some.pipe) c.args.commands.now.entries (subst (λ o. IfSome o (λ p. is_some (settings_of (commands_in c.args.commands.now.entries) (ToPipe p)) ≡ true)) c.in-Some.is c.requires.there))
 
 pub overflow_add-counted : goal.overflow_add-counted
 overflow_add-counted c =

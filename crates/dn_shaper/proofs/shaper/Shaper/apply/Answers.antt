@@ -9,31 +9,31 @@ pub returns-then-self-eq-CALL_LIMIT-clause-ok : goal.returns-then-self-eq-CALL_L
 returns-then-self-eq-CALL_LIMIT-clause-ok c = exhausted c.args.call.now c.self.inside.state c.args.self.now c.self.view_is c.if-self-eq-CALL_LIMIT.true
 
 pub invariant_of-self : goal.invariant_of-self
-invariant_of-self c = holds-ok (Configure c.in-Configure.command) c.self.inside.state c.configure.new.state c.configure.result c.if-self-eq-CALL_LIMIT.false c.self.invariant c.configure.ensures.sound c.configure.ensures.does c.configure.ensures.refused
+invariant_of-self c = holds-ok (Configure c.in-Configure.command) c.self.inside.state c.configure.new.state c.configure.result c.if-self-eq-CALL_LIMIT.false c.self.invariant c.configure.ensures.sound c.configure.ensures.does c.configure.ensures.err
 
 pub invariant_of-self-in-Submit : goal.invariant_of-self-in-Submit
-invariant_of-self-in-Submit c = holds-ok (Submit c.in-Submit.target c.in-Submit.packet c.in-Submit.moment) c.self.inside.state c.submit.new.state c.submit.result c.if-self-eq-CALL_LIMIT.false c.self.invariant c.submit.ensures.sound c.submit.ensures.does c.submit.ensures.refused
+invariant_of-self-in-Submit c = holds-ok (Submit c.in-Submit.target c.in-Submit.packet c.in-Submit.moment) c.self.inside.state c.submit.new.state c.submit.result c.if-self-eq-CALL_LIMIT.false c.self.invariant c.submit.ensures.sound c.submit.ensures.does c.submit.ensures.err
 
 pub invariant_of-self-in-Advance : goal.invariant_of-self-in-Advance
 invariant_of-self-in-Advance c = holds-then (Advance c.in-Advance.moment) c.self.inside.state c.advance.new.state c.advance.result c.if-self-eq-CALL_LIMIT.false c.self.invariant c.advance.ensures.sound c.advance.ensures.does
 
 pub invariant_of-self-in-Collect : goal.invariant_of-self-in-Collect
-invariant_of-self-in-Collect c = holds-ok (Collect c.in-Collect.moment) c.self.inside.state c.collect.new.state c.collect.result c.if-self-eq-CALL_LIMIT.false c.self.invariant c.collect.ensures.sound c.collect.ensures.does (same-stands c.self.inside.state c.collect.new.state c.collect.result c.collect.ensures.refused)
+invariant_of-self-in-Collect c = holds-ok (Collect c.in-Collect.moment) c.self.inside.state c.collect.new.state c.collect.result c.if-self-eq-CALL_LIMIT.false c.self.invariant c.collect.ensures.sound c.collect.ensures.does (same-stands c.self.inside.state c.collect.new.state c.collect.result c.collect.ensures.err)
 
 pub invariant_of-self-in-Show : goal.invariant_of-self-in-Show
-invariant_of-self-in-Show c = holds-ok Show c.self.inside.state c.show.new.state c.show.result c.if-self-eq-CALL_LIMIT.false c.self.invariant c.show.ensures.sound c.show.ensures.does (same-stands c.self.inside.state c.show.new.state c.show.result c.show.ensures.refused)
+invariant_of-self-in-Show c = holds-ok Show c.self.inside.state c.show.new.state c.show.result c.if-self-eq-CALL_LIMIT.false c.self.invariant c.show.ensures.sound c.show.ensures.does (same-stands c.self.inside.state c.show.new.state c.show.result c.show.ensures.err)
 
 pub returns-in-Configure-clause-ok : goal.returns-in-Configure-clause-ok
 returns-in-Configure-clause-ok c = answers-ok (Configure c.in-Configure.command) c.args.call.now c.self.inside.state c.args.self.now c.configure.new.state c.configure.result c.in-Configure.is c.self.view_is c.if-self-eq-CALL_LIMIT.false c.configure.ensures.does
 
 pub returns-in-Configure-clause-err : goal.returns-in-Configure-clause-err
-returns-in-Configure-clause-err c = refuses c.self.inside.state c.args.self.now c.configure.new.state c.configure.result c.self.view_is c.configure.ensures.refused
+returns-in-Configure-clause-err c = refuses c.self.inside.state c.args.self.now c.configure.new.state c.configure.result c.self.view_is c.configure.ensures.err
 
 pub returns-in-Submit-clause-ok : goal.returns-in-Submit-clause-ok
 returns-in-Submit-clause-ok c = answers-ok (Submit c.in-Submit.target c.in-Submit.packet c.in-Submit.moment) c.args.call.now c.self.inside.state c.args.self.now c.submit.new.state c.submit.result c.in-Submit.is c.self.view_is c.if-self-eq-CALL_LIMIT.false c.submit.ensures.does
 
 pub returns-in-Submit-clause-err : goal.returns-in-Submit-clause-err
-returns-in-Submit-clause-err c = refuses c.self.inside.state c.args.self.now c.submit.new.state c.submit.result c.self.view_is c.submit.ensures.refused
+returns-in-Submit-clause-err c = refuses c.self.inside.state c.args.self.now c.submit.new.state c.submit.result c.self.view_is c.submit.ensures.err
 
 pub returns-in-Advance-clause-ok : goal.returns-in-Advance-clause-ok
 returns-in-Advance-clause-ok c = answers (Advance c.in-Advance.moment) c.args.call.now c.self.inside.state c.args.self.now c.advance.new.state c.advance.result c.in-Advance.is c.self.view_is c.if-self-eq-CALL_LIMIT.false c.advance.ensures.does

@@ -11,7 +11,7 @@ use Rattle.dn_shaper.specs.Refinement.Agreement.{IsAt}
 use Rattle.dn_shaper.specs.Refinement.NextStarts.{Holds, backlogged}
 use Rattle.dn_shaper.specs.Refinement.Views.{LinkView, home, next_starts, queue_lengths, view_of, views_of}
 use Rattle.dn_shaper.proofs.Quiet.{lost-agrees}
-use Rattle.dn_shaper.proofs.links.judge.lose.Goals as goal
+use Rattle.dn_shaper.proofs.links.judge.note_lost.Goals as goal
 
 -- The queues are as long as they were, so the links are seen as before.
 same-views : (c : goal.After-note_lost) → map (view_of (queue_lengths c.note_lost.new.self.flows)) c.args.parts.now.links.items ≡ views_of c.args.parts.now
