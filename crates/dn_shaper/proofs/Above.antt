@@ -15,7 +15,8 @@ last_finish-above link flow [] h = refl
 last_finish-above link flow (opened l ∷ trace) h = zero-if (link_eq l link) (last_finish_tag link flow trace) (last_finish-above link flow trace h)
 last_finish-above link flow (arrived p ∷ trace) h =
     let ne : p.stamped.flow ≡ flow → ⊥ = λ e. absurd (omega arith) in
-    ap (λ b. cond b p.stamped.finish_tag (last_finish_tag link flow trace)) (and-no (link_eq p.link link) (nat_eq p.stamped.flow flow) (eq-no p.stamped.flow flow ne)) ∙ last_finish-above link flow trace (omega arith)
+    ap (λ b. cond b p.stamped.finish_tag (last_finish_tag link flow trace)) (and-no (link_eq p.link link) (nat_eq p.stamped.flow flow) (eq-no p.stamped.flow flow ne))
+    ∙ last_finish-above link flow trace (omega arith)
 last_finish-above link flow (started s ∷ trace) h = last_finish-above link flow trace h
 last_finish-above link flow (lost l f ∷ trace) h = last_finish-above link flow trace h
 last_finish-above link flow (refused l f ∷ trace) h = last_finish-above link flow trace h

@@ -15,26 +15,40 @@ use Rattle.dn_types.specs.declared.limit.Limit.TheVariants.{Slots}
 use Rattle.dn_types.specs.declared.packet.Packet.{Packet}
 use Rattle.dn_shaper.specs.declared.links.next_start.NextStart.{NextStart}
 use Rattle.dn_shaper.specs.declared.links.home.Home.{Home}
+use Rattle.dn_shaper.specs.declared.links.link_parts.LinkParts.{LinkParts}
 use Rattle.dn_shaper.specs.declared.links.parts.Parts.{Parts}
 use Rattle.dn_shaper.specs.Refinement.Agreement.{AgreesWith, Agrees, GivesRates, link_names}
-use Rattle.dn_shaper.specs.Refinement.Arriving.{ArrivesAt, Accepts, CanAccept, KeepsFlows}
+use Rattle.dn_shaper.specs.Refinement.Arriving.{ArrivesAt, Accepts, KeepsFlows}
 use Rattle.dn_shaper.specs.Refinement.NextStarts.{Holds, one_backlogged, backlogged}
 use Rattle.dn_shaper.specs.Refinement.Settling.{AreInStep}
-use Rattle.dn_shaper.specs.Refinement.Starting.{Within, IsReady, CanStart, StartsAt}
-use Rattle.dn_shaper.specs.Refinement.Views.{LinkView, views_of, home, next_starts, next_start_of}
+use Rattle.dn_shaper.specs.Refinement.Starting.{Within, CanStart, StartsAt}
+use Rattle.dn_shaper.specs.Refinement.Submitting.{MayAccept}
+use Rattle.dn_shaper.specs.Refinement.Views.{LinkView, queue_lengths, view_of, views_of, home, next_starts, next_start_of}
 use Rattle.dn_shaper.proofs.Arriving.{set-self, set-set, link-home, arrives-agree, next-alone, starts-at-once, arrives-nexts, arrives-names, arrives-within}
 use Rattle.dn_shaper.proofs.Events.{length-set}
 use Rattle.dn_flows.proofs.Places.{get-set, sum-set, get-map, map-set-same, get-below}
 use Rattle.dn_shaper.proofs.Starting.{starts-agree, starts-within, starts-nexts}
-use Rattle.dn_shaper.proofs.Accepting.{within-more, holds_pushed, backlogged-one, next-listed, next-some, next-none, in-table}
+use Rattle.dn_shaper.proofs.Accepting.{within-more, holds_pushed, backlogged-one, next-listed, next-some, next-none, may-agree}
+use Rattle.dn_shaper.proofs.HomeRead.{in-table}
+use Rattle.dn_shaper.proofs.Settles.{pipe-carried}
 
-pub same-view : (at : ℕ) (h : Home) (flow len weight : ℕ) (idle : Bool) (old mid : Parts) (s : ArrivesAt at h flow len weight idle old mid) (v : LinkView) → slice_get (views_of old) h.place ≡ Some v → s.view ≡ v
-same-view at h flow len weight idle old mid s v there = let both : Some s.view ≡ Some v = sym s.there ∙ there in cc
+pub same-view : {at : ℕ} {h : Home} {flow len weight : ℕ} {idle : Bool} {old mid : Parts} (s : ArrivesAt at h flow len weight idle old mid) {v : LinkView} →
+    slice_get (views_of old) h.place ≡ Some v → s.view ≡ v
+same-view s {v = v} there = let both : Some s.view ≡ Some v = sym s.there ∙ there in cc
 
-module _ (settings : Settings) (at : ℕ) (h : Home) (flow len weight : ℕ) (idle : Bool) (old mid : Parts) (heap : Heap NextStart) (kept : AreInStep old heap) (within : flow < length old.flows.keys) (ready : IsReady flow old) (few : (n : ℕ) × (n < 2 ^ 62) × Within n old) (can : CanAccept settings at flow old)
+module _ {settings : Settings} {at : ℕ} {h : Home} {flow len weight : ℕ} {idle : Bool} {old mid : Parts} {heap : Heap NextStart} (may : MayAccept settings at flow old heap)
     (at_home : slice_get old.homes.items flow ≡ Some h) (s : ArrivesAt at h flow len weight idle old mid) where
   home-is : home old.flows.keys flow ≡ s.view.link
-  home-is = link-home settings at h flow len weight idle old mid s can.0 can.1 can.2 within at_home
+  home-is = link-home settings at h flow len weight idle old mid s may.settled.0 may.settled.1 may.settled.2 may.within at_home
+
+  -- The link that was read before the packet arrived is the one that it arrived at.
+  module _ (link : LinkParts) (read-link : slice_get (views_of old) h.place ≡ Some (view_of (queue_lengths old.flows.flows) link)) where
+    pub same-link : s.view ≡ view_of (queue_lengths old.flows.flows) link
+    same-link = same-view s read-link
+
+    pub same-rates : {bandwidth delay : ℕ} → GivesRates settings link.pipe bandwidth delay → GivesRates settings (pipe_of s.view.link) bandwidth delay
+    same-rates {bandwidth = bandwidth} {delay = delay} rates =
+        subst (λ n. GivesRates settings n bandwidth delay) (sym (pipe-carried link.pipe link.carries) ∙ ap (λ (x : LinkView). pipe_of x.link) (sym same-link)) rates
 
   abbrev some_packet : Packet
   some_packet = record { tuple = record { src = 0; dst = 0; proto = 0; sport = 0; dport = 0 }; len = len; word = 0 }
@@ -48,18 +62,26 @@ module _ (settings : Settings) (at : ℕ) (h : Home) (flow len weight : ℕ) (id
   pub made-there : (trace : List Event) → link_names (views_of old) ≡ with_link (home old.flows.keys flow) (links trace) → link_names (views_of old) ≡ with_link l (links trace)
   made-there trace made = made ∙ ap (λ (x : Link). with_link x (links trace)) home-is
 
-  pub arrived-at : (packet : Packet) (how : Treatment) (more : List Link) (trace : List Event) → AgreesWith old more trace → packet.len ≡ len → how.weight ≡ weight → link_names (views_of old) ≡ with_link (home old.flows.keys flow) (links trace) →
+  pub arrived-at : (packet : Packet) (how : Treatment) (more : List Link) (trace : List Event) → AgreesWith old more trace → packet.len ≡ len →
+      how.weight ≡ weight → link_names (views_of old) ≡ with_link (home old.flows.keys flow) (links trace) →
       AgreesWith mid [] (arrived (accept l packet flow how (opening l at trace)) ∷ opening l at trace)
-  arrived-at packet how more trace a len_is weight_is made = arrives-agree settings at h flow len weight idle old mid s more trace a within at_home packet how len_is weight_is (made-there trace made)
+  arrived-at packet how more trace a len_is weight_is made = arrives-agree settings at h flow len weight idle old mid s more trace a may.within at_home packet how len_is weight_is
+      (made-there trace made)
 
   pub mid-agrees : Agrees mid
-  mid-agrees = ([], arrived (accept l some_packet flow some_treatment (opening l at can.1)) ∷ opening l at can.1, arrived-at some_packet some_treatment can.0 can.1 can.2 refl refl can.3)
+  mid-agrees = (
+    [],
+    arrived
+        (accept l some_packet flow some_treatment
+        (opening l at may.settled.1)) ∷ opening l at may.settled.1,
+    arrived-at some_packet some_treatment may.settled.0 may.settled.1 may.settled.2 refl refl may.settled.3,
+  )
 
   pub mid-within : (n : ℕ) → Within n old → Within (n + 1) mid
-  mid-within n w = arrives-within at h flow len weight idle old mid s n (in-table settings at flow old heap kept within ready few can) ready.line w
+  mid-within n w = arrives-within at h flow len weight idle old mid s n (in-table old (may-agree may) may.within) may.ready.line w
 
   pub mid-all : Within (2 ^ 62) mid
-  mid-all = within-more (few.0 + 1) (2 ^ 62) mid (let a = few.1 in omega arith) (mid-within few.0 few.2)
+  mid-all = within-more (may.few.0 + 1) (2 ^ 62) mid (let a = may.few.1 in omega arith) (mid-within may.few.0 may.few.2)
 
   pub mid-there : slice_get (views_of mid) h.place ≡ Some s.view'
   mid-there = ap (λ (vs : List LinkView). slice_get vs h.place) s.views_are ∙ get-set (views_of old) h.place s.view s.view' s.there
@@ -97,7 +119,7 @@ module _ (settings : Settings) (at : ℕ) (h : Home) (flow len weight : ℕ) (id
       soon = let e = ap {B = ℕ} (λ x. x.free) s.joins.value in let f = was_idle.1 in omega arith;
     }
 
-    module _ (bandwidth delay : ℕ) (new : Parts) (t : StartsAt h.place at bandwidth delay mid new) (rates : GivesRates settings (pipe_of l) bandwidth delay) where
+    module _ {bandwidth delay : ℕ} {new : Parts} (t : StartsAt h.place at bandwidth delay mid new) (rates : GivesRates settings (pipe_of l) bandwidth delay) where
       same_view : t.view ≡ s.view'
       same_view = let both : Some t.view ≡ Some s.view' = sym t.there ∙ mid-there in cc
 
@@ -126,9 +148,9 @@ module _ (settings : Settings) (at : ℕ) (h : Home) (flow len weight : ℕ) (id
             let r = starts-agree h.place at bandwidth delay mid new t settings m.0 m.1 rates-mid m.2 in
             (m.0, started (start_at settings t.view.link r.0 at) ∷ m.1, r.2);
         within = starts-within h.place at bandwidth delay mid new t (2 ^ 62) mid-all;
-        held = subst (λ (d : List (Option ℕ)). Holds d heap.keys) (sym nexts-same) kept.held;
-        counted = kept.counted ∙ ap backlogged (sym nexts-same);
-        places = let a = ap (λ (vs : List LinkView). length vs) t.views_are ∙ length-set (views_of mid) h.place t.view' in let b = length-mid in let c = kept.places in omega arith;
+        held = subst (λ (d : List (Option ℕ)). Holds d heap.keys) (sym nexts-same) may.kept.held;
+        counted = may.kept.counted ∙ ap backlogged (sym nexts-same);
+        places = let a = ap (λ (vs : List LinkView). length vs) t.views_are ∙ length-set (views_of mid) h.place t.view' in let b = length-mid in let c = may.kept.places in omega arith;
       }
 
       pub idle-within : (n : ℕ) → Within n old → Within (n + 1) new
@@ -139,18 +161,28 @@ module _ (settings : Settings) (at : ℕ) (h : Home) (flow len weight : ℕ) (id
         rule = t.rule ∙ s.rule;
         keys = t.keys ∙ s.keys;
         homes = t.homes ∙ s.homes;
-        names = ap (λ (vs : List LinkView). link_names vs) t.views_are ∙ map-set-same (λ (x : LinkView). x.link) (views_of mid) h.place t.view t.view' t.there t.starts.link ∙ arrives-names at h flow len weight idle old mid s;
+        names = ap (λ (vs : List LinkView). link_names vs) t.views_are
+            ∙ map-set-same (λ (x : LinkView). x.link) (views_of mid) h.place t.view t.view' t.there t.starts.link
+            ∙ arrives-names at h flow len weight idle old mid s;
       }
 
-      idle-accepts-at : (more : List Link) (trace : List Event) (packet : Packet) (how : Treatment) → packet.len ≡ len → how.weight ≡ weight → link_names (views_of old) ≡ with_link (home old.flows.keys flow) (links trace) → next_start settings at l trace ≡ None → AgreesWith old more trace → AgreesWith new [] (join settings at (accept l packet flow how (opening l at trace)) (opening l at trace))
+      idle-accepts-at : (more : List Link) (trace : List Event) (packet : Packet) (how : Treatment) → packet.len ≡ len → how.weight ≡ weight →
+          link_names (views_of old) ≡ with_link (home old.flows.keys flow) (links trace) → next_start settings at l trace ≡ None → AgreesWith old more trace →
+          AgreesWith new [] (join settings at (accept l packet flow how (opening l at trace)) (opening l at trace))
       idle-accepts-at more trace packet how len_is weight_is made none a =
-          let r = starts-agree h.place at bandwidth delay mid new t settings [] (arrived (accept l packet flow how (opening l at trace)) ∷ opening l at trace) rates-mid (arrived-at packet how more trace a len_is weight_is made) in
+          let r = starts-agree h.place at bandwidth delay mid new t settings []
+          (arrived (accept l packet flow how (opening l at trace)) ∷ opening l at trace) rates-mid
+          (arrived-at packet how more trace a len_is weight_is made) in
           let next = ap (λ (x : Link). next_packet x (arrived (accept l packet flow how (opening l at trace)) ∷ opening l at trace)) (sym link-mid) ∙ r.1 in
-          let packet_is = next-alone settings at h flow len weight idle old mid s more trace a within at_home packet how len_is weight_is (made-there trace made) yes' r.0 next in
-          let once = starts-at-once settings at h flow len weight idle old mid s more trace a within at_home none ∙ yes' in
+          let packet_is = next-alone settings at h flow len weight idle old mid s more trace a may.within at_home packet how len_is weight_is (made-there trace made) yes' r.0 next in
+          let once = starts-at-once settings at h flow len weight idle old mid s more trace a may.within at_home none ∙ yes' in
           subst (λ (e : List Event). AgreesWith new [] e)
           ((λ i. started (start_at settings (link-mid i) (packet_is i) at) ∷ arrived (accept l packet flow how (opening l at trace)) ∷ opening l at trace)
-          ∙ sym (ap (λ b. cond b (started (start_at settings l (accept l packet flow how (opening l at trace)) at) ∷ arrived (accept l packet flow how (opening l at trace)) ∷ opening l at trace) (arrived (accept l packet flow how (opening l at trace)) ∷ opening l at trace)) once))
+          ∙ sym
+          (ap
+          (λ b. cond b
+          (started (start_at settings l (accept l packet flow how (opening l at trace)) at) ∷ arrived (accept l packet flow how (opening l at trace)) ∷ opening l at trace)
+          (arrived (accept l packet flow how (opening l at trace)) ∷ opening l at trace)) once))
           r.2
 
       pub idle-accepts : Accepts settings at flow len weight old new
@@ -161,11 +193,17 @@ module _ (settings : Settings) (at : ℕ) (h : Home) (flow len weight : ℕ) (id
   -- ---- The packet waits
 
   module _ (no' : idle ≡ false) where
-    waits-accepts-at : (more : List Link) (trace : List Event) (packet : Packet) (how : Treatment) → packet.len ≡ len → how.weight ≡ weight → link_names (views_of old) ≡ with_link (home old.flows.keys flow) (links trace) → next_start settings at l trace ≡ None → AgreesWith old more trace → AgreesWith mid [] (join settings at (accept l packet flow how (opening l at trace)) (opening l at trace))
+    waits-accepts-at : (more : List Link) (trace : List Event) (packet : Packet) (how : Treatment) → packet.len ≡ len → how.weight ≡ weight →
+        link_names (views_of old) ≡ with_link (home old.flows.keys flow) (links trace) → next_start settings at l trace ≡ None → AgreesWith old more trace →
+        AgreesWith mid [] (join settings at (accept l packet flow how (opening l at trace)) (opening l at trace))
     waits-accepts-at more trace packet how len_is weight_is made none a =
-        let once = starts-at-once settings at h flow len weight idle old mid s more trace a within at_home none ∙ no' in
+        let once = starts-at-once settings at h flow len weight idle old mid s more trace a may.within at_home none ∙ no' in
         subst (λ (e : List Event). AgreesWith mid [] e)
-        (sym (ap (λ b. cond b (started (start_at settings l (accept l packet flow how (opening l at trace)) at) ∷ arrived (accept l packet flow how (opening l at trace)) ∷ opening l at trace) (arrived (accept l packet flow how (opening l at trace)) ∷ opening l at trace)) once))
+        (sym
+        (ap
+        (λ b. cond b
+        (started (start_at settings l (accept l packet flow how (opening l at trace)) at) ∷ arrived (accept l packet flow how (opening l at trace)) ∷ opening l at trace)
+        (arrived (accept l packet flow how (opening l at trace)) ∷ opening l at trace)) once))
         (arrived-at packet how more trace a len_is weight_is made)
 
     pub waits-accepts : Accepts settings at flow len weight old mid
@@ -177,8 +215,8 @@ module _ (settings : Settings) (at : ℕ) (h : Home) (flow len weight : ℕ) (id
   pub room-first : s.view.waits ≡ 0 → 0 < heap.room
   room-first zero_waits =
       let one = backlogged-one (next_starts (views_of old)) h.place (next-then ∙ ap (λ (o : Option ℕ). Some o) (next-none s.view (omega arith))) in
-      let c = kept.counted in
-      let p = kept.places in
+      let c = may.kept.counted in
+      let p = may.kept.places in
       let m = length-nexts (views_of old) in
       omega arith
     where
@@ -186,27 +224,32 @@ module _ (settings : Settings) (at : ℕ) (h : Home) (flow len weight : ℕ) (id
       length-nexts [] = refl
       length-nexts (v ∷ vs) = ap suc (length-nexts vs)
 
-  pub first-kept : s.view.waits ≡ 0 → (heap' : Heap NextStart) → IsPermutation (record { moment = s.view.value.free; place = h.place } ∷ heap.keys) heap'.keys → heap'.room + 1 ≡ heap.room → AreInStep mid heap'
+  pub first-kept : s.view.waits ≡ 0 → (heap' : Heap NextStart) → IsPermutation (record { moment = s.view.value.free; place = h.place } ∷ heap.keys) heap'.keys →
+      heap'.room + 1 ≡ heap.room → AreInStep mid heap'
   first-kept zero_waits heap' perm room =
       let none : next_start_of s.view ≡ None = next-none s.view (omega arith) in
       let w = s.joins.waits in
       let some : next_start_of s.view' ≡ Some s.view.value.free = next-some s.view' (omega arith) ∙ ap (λ x. Some x.free) s.joins.value in
-      let now : next_starts (views_of mid) ≡ set (next_starts (views_of old)) h.place (Some s.view.value.free) = arrives-nexts at h flow len weight idle old mid s ∙ ap (λ (o : Option ℕ). set (next_starts (views_of old)) h.place o) some in
+      let now : next_starts (views_of mid) ≡ set (next_starts (views_of old)) h.place (Some s.view.value.free) = arrives-nexts at h flow len weight idle old mid s
+      ∙ ap (λ (o : Option ℕ). set (next_starts (views_of old)) h.place o) some in
       record {
         agrees = mid-agrees;
         within = mid-all;
-        held = subst (λ (d : List (Option ℕ)). Holds d heap'.keys) (sym now) (holds_pushed (next_starts (views_of old)) heap.keys kept.held h.place s.view.value.free (get-below (next_starts (views_of old)) h.place (next_start_of s.view) next-then) (next-listed (next_starts (views_of old)) h.place None (next-then ∙ ap (λ (o : Option ℕ). Some o) none)) heap'.keys perm);
+        held = subst (λ (d : List (Option ℕ)). Holds d heap'.keys) (sym now)
+            (holds_pushed (next_starts (views_of old)) heap.keys may.kept.held h.place s.view.value.free
+            (get-below (next_starts (views_of old)) h.place (next_start_of s.view) next-then)
+            (next-listed (next_starts (views_of old)) h.place None (next-then ∙ ap (λ (o : Option ℕ). Some o) none)) heap'.keys perm);
         counted =
             let a = length_permutation (record { moment = s.view.value.free; place = h.place } ∷ heap.keys) heap'.keys perm in
             let b = sum-set one_backlogged (next_starts (views_of old)) h.place (next_start_of s.view) (Some s.view.value.free) next-then in
-            let c = kept.counted in
+            let c = may.kept.counted in
             let z = ap {B = ℕ} (λ (o : Option ℕ). one_backlogged o) none in
             let n = ap {B = ℕ} (λ (d : List (Option ℕ)). backlogged d) now in
             omega arith;
         places =
             let a = length_permutation (record { moment = s.view.value.free; place = h.place } ∷ heap.keys) heap'.keys perm in
             let b = length-mid in
-            let c = kept.places in
+            let c = may.kept.places in
             omega arith;
       }
 
@@ -215,11 +258,13 @@ module _ (settings : Settings) (at : ℕ) (h : Home) (flow len weight : ℕ) (id
   other-kept some =
       let w = s.joins.waits in
       let same : next_start_of s.view' ≡ next_start_of s.view = next-some s.view' (omega arith) ∙ ap (λ x. Some x.free) s.joins.value ∙ sym (next-some s.view some) in
-      let now : next_starts (views_of mid) ≡ next_starts (views_of old) = arrives-nexts at h flow len weight idle old mid s ∙ ap (λ (o : Option ℕ). set (next_starts (views_of old)) h.place o) same ∙ set-self (next_starts (views_of old)) h.place (next_start_of s.view) next-then in
+      let now : next_starts (views_of mid) ≡ next_starts (views_of old) = arrives-nexts at h flow len weight idle old mid s
+      ∙ ap (λ (o : Option ℕ). set (next_starts (views_of old)) h.place o) same
+      ∙ set-self (next_starts (views_of old)) h.place (next_start_of s.view) next-then in
       record {
         agrees = mid-agrees;
         within = mid-all;
-        held = subst (λ (d : List (Option ℕ)). Holds d heap.keys) (sym now) kept.held;
-        counted = kept.counted ∙ ap backlogged (sym now);
-        places = let b = length-mid in let c = kept.places in omega arith;
+        held = subst (λ (d : List (Option ℕ)). Holds d heap.keys) (sym now) may.kept.held;
+        counted = may.kept.counted ∙ ap backlogged (sym now);
+        places = let b = length-mid in let c = may.kept.places in omega arith;
       }

@@ -1,5 +1,5 @@
 -- A packet is accepted: what that needs, and a heap with one key more.
-use Rattle.std.proofs.Common.{◌≡◌, ◌∙◌, ◌≤◌, ◌<◌, ◌⊎◌, ◌^◌, ℕ, zero, suc, ◌+◌, Bool, true, false, cond, List, [], ◌∷◌, set, refl, ap, sym, subst, length, arith, inl, inr, IsPermutation, slice_index_or, get_or-set_same, get_or-set_other}
+use Rattle.std.proofs.Common.{◌≡◌, ◌∙◌, ◌≤◌, ◌<◌, ◌⊎◌, ◌^◌, ℕ, zero, suc, ◌+◌, Bool, true, false, cond, List, [], ◌∷◌, set, get_or, refl, ap, sym, subst, length, arith, inl, inr, IsPermutation, slice_index_or, get_or-set_same, get_or-set_other}
 use Rattle.std.specs.Prelude.{Option, Some, None, is_some, nat_lt, slice_get}
 use Rattle.std.proofs.lemmas.Bool.{cases_eq}
 use Rattle.std.proofs.lemmas.Bool.Decides.{nat_tests}
@@ -12,13 +12,14 @@ use Rattle.dn_types.specs.Trace.{Link, own, shared}
 use Rattle.dn_shaper.specs.declared.links.next_start.NextStart.{NextStart}
 use Rattle.dn_shaper.specs.declared.links.home.Home.{Home}
 use Rattle.dn_shaper.specs.declared.links.parts.Parts.{Parts}
-use Rattle.dn_shaper.specs.Refinement.Agreement.{IsHomeOf}
-use Rattle.dn_shaper.specs.Refinement.Arriving.{CanJoin, CanAccept}
+use Rattle.dn_shaper.specs.declared.links.link_parts.LinkParts.{LinkParts}
+use Rattle.dn_shaper.specs.Refinement.Agreement.{Agrees}
+use Rattle.dn_shaper.specs.Refinement.Arriving.{CanJoin}
 use Rattle.dn_shaper.specs.Refinement.NextStarts.{next_at, keys_at, Holds, one_backlogged, backlogged}
-use Rattle.dn_shaper.specs.Refinement.Settling.{AreInStep}
-use Rattle.dn_shaper.specs.Refinement.Starting.{Within, IsReady}
-use Rattle.dn_shaper.specs.Refinement.Views.{LinkView, IsAlone, views_of, home, next_start_of}
-use Rattle.dn_shaper.proofs.Alone.{is-alone}
+use Rattle.dn_shaper.specs.Refinement.Starting.{Within}
+use Rattle.dn_shaper.specs.Refinement.Submitting.{MayAccept}
+use Rattle.dn_shaper.specs.Refinement.Views.{LinkView, queue_lengths, view_of, views_of, next_start_of}
+use Rattle.dn_shaper.proofs.HomeRead.{at-home, link-there}
 use Rattle.dn_shaper.proofs.NextStarts.{same_place, other_place, pushed, none_standing}
 
 pub within-more : (n m : ℕ) (p : Parts) → n ≤ m → Within n p → Within m p
@@ -34,7 +35,8 @@ within-more n m p le w = record {
 
 -- ---- A heap with one key more
 
-module _ (nexts : List (Option ℕ)) (keys : List NextStart) (h : Holds nexts keys) (place m : ℕ) (inside : place < length nexts) (none : next_at nexts place ≡ None) (new : List NextStart) (perm : IsPermutation (record { moment = m; place = place } ∷ keys) new) where
+module _ (nexts : List (Option ℕ)) (keys : List NextStart) (h : Holds nexts keys) (place m : ℕ) (inside : place < length nexts)
+    (none : next_at nexts place ≡ None) (new : List NextStart) (perm : IsPermutation (record { moment = m; place = place } ∷ keys) new) where
   none_there : keys_at place keys ≡ 0
   none_there = h.once place ∙ ap {B = ℕ} (λ (o : Option ℕ). cond (is_some o) 1 0) none
 
@@ -44,7 +46,8 @@ module _ (nexts : List (Option ℕ)) (keys : List NextStart) (h : Holds nexts ke
       by : (p ≡ place) ⊎ (p ≡ place → ⊥) → keys_at p new ≡ cond (is_some (next_at (set nexts place (Some m)) p)) 1 0
       by (inl e) =
           let At : ℕ → Type 0 = λ n. keys_at n new ≡ cond (is_some (next_at (set nexts place (Some m)) n)) 1 0 in
-          let one : keys_at place new ≡ 1 = let a = pushed place (record { moment = m; place = place }) keys new perm in let b = same_place place (record { moment = m; place = place }) refl in let z = none_there in omega (arith, a, b, z) in
+          let one : keys_at place new ≡ 1 = let a = pushed place (record { moment = m; place = place }) keys new perm in
+          let b = same_place place (record { moment = m; place = place }) refl in let z = none_there in omega (arith, a, b, z) in
           subst At (sym e) (one ∙ sym (ap {B = ℕ} (λ (o : Option ℕ). cond (is_some o) 1 0) (get_or-set_same nexts place (Some m) None inside)))
       by (inr ne) =
           let a = pushed p (record { moment = m; place = place }) keys new perm in
@@ -72,7 +75,8 @@ backlogged-le (o ∷ nexts) = let r = backlogged-le nexts in let c = sum_by-cons
 
 pub backlogged-one : (nexts : List (Option ℕ)) (i : ℕ) → slice_get nexts i ≡ Some None → backlogged nexts + 1 ≤ length nexts
 backlogged-one [] i e = absurd cc
-backlogged-one (o ∷ nexts) zero e = let same : o ≡ None = cc in let z = ap {B = ℕ} (λ (x : Option ℕ). one_backlogged x) same in let c = sum_by-cons one_backlogged o nexts in let r = backlogged-le nexts in omega arith
+backlogged-one (o ∷ nexts) zero e = let same : o ≡ None = cc in let z = ap {B = ℕ} (λ (x : Option ℕ). one_backlogged x) same in
+    let c = sum_by-cons one_backlogged o nexts in let r = backlogged-le nexts in omega arith
 backlogged-one (o ∷ nexts) (suc i) e = let r = backlogged-one nexts i e in let c = sum_by-cons one_backlogged o nexts in let one = at_most o in omega arith
   where
     at_most : (o : Option ℕ) → one_backlogged o ≤ 1
@@ -105,33 +109,30 @@ next-none v none = ap {B = Option ℕ} (λ b. cond b (Some v.value.free) None) (
 
 -- ---- What accepting needs
 
-module _ (settings : Settings) (at flow : ℕ) (p : Parts) (heap : Heap NextStart) (kept : AreInStep p heap) (within : flow < length p.flows.keys) (ready : IsReady flow p) (few : (n : ℕ) × (n < 2 ^ 62) × Within n p) (can : CanAccept settings at flow p) where
-  pub home-there : (h : Home) × (slice_get p.homes.items flow ≡ Some h) × IsHomeOf flow (home p.flows.keys flow) (views_of p) h
-  home-there = can.2.homes_are flow within
+module _ {settings : Settings} {at flow : ℕ} {p : Parts} {heap : Heap NextStart} (may : MayAccept settings at flow p heap) where
+  pub may-agree : Agrees p
+  may-agree = (may.settled.0, may.settled.1, may.settled.2)
 
-  module _ (h : Home) (at_home : slice_get p.homes.items flow ≡ Some h) where
-    pub is-home : IsHomeOf flow (home p.flows.keys flow) (views_of p) h
-    is-home = let both : Some home-there.0 ≡ Some h = sym home-there.1 ∙ at_home in let same : home-there.0 ≡ h = cc in subst (λ (x : Home). IsHomeOf flow (home p.flows.keys flow) (views_of p) x) same home-there.2
+  module _ {h : Home} (read : h ≡ get_or p.homes.items flow h) where
+    pub home-at : slice_get p.homes.items flow ≡ Some h
+    home-at = at-home p may-agree may.within read
 
-    module _ (v : LinkView) (there : slice_get (views_of p) h.place ≡ Some v) where
-      pub can-join : CanJoin h.slot v v.link
-      can-join = by v.link refl
+    module _ {link : LinkParts} (read-link : link ≡ get_or p.links.items h.place link) where
+      pub seen-there : slice_get (views_of p) h.place ≡ Some (view_of (queue_lengths p.flows.flows) link)
+      seen-there = link-there p may-agree may.within read read-link
+
+      pub can-join : CanJoin h.slot (view_of (queue_lengths p.flows.flows) link) (view_of (queue_lengths p.flows.flows) link).link
+      can-join = by (view_of (queue_lengths p.flows.flows) link).link refl
         where
-          by : (l : Link) → v.link ≡ l → CanJoin h.slot v l
+          by : (l : Link) → (view_of (queue_lengths p.flows.flows) link).link ≡ l → CanJoin h.slot (view_of (queue_lengths p.flows.flows) link) l
           by (own pipe f) is = tt
-          by (shared pipe) is = (ready.slot h v pipe at_home there is, let a = few.2.arrivals h.place v there in let b = few.1 in omega arith)
-
-      pub alone : IsAlone flow h.place (views_of p)
-      alone =
-          let both : Some is-home.view ≡ Some v = sym is-home.there ∙ there in
-          let same : is-home.view ≡ v = cc in
-          is-alone p can.0 can.1 can.2 flow h.place v there (sym is-home.link_is ∙ ap (λ (x : LinkView). x.link) same)
+          by (shared pipe) is =
+              let few = may.few.2.arrivals h.place (view_of (queue_lengths p.flows.flows) link) seen-there in
+              let limit = may.few.1 in
+              (may.ready.slot h (view_of (queue_lengths p.flows.flows) link) pipe home-at seen-there is, omega arith)
 
   pub few-waiting : p.waiting < 2 ^ 62
-  few-waiting = let a = few.2.pushed in let b = few.1 in omega arith
+  few-waiting = let a = may.few.2.pushed in let b = may.few.1 in omega arith
 
   pub few-accepted : p.accepted < 2 ^ 62
-  few-accepted = let a = few.2.accepted in let b = few.1 in omega arith
-
-  pub in-table : flow < length p.flows.flows
-  in-table = let m = can.2.as_many in omega arith
+  few-accepted = let a = may.few.2.accepted in let b = may.few.1 in omega arith

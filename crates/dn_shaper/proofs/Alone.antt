@@ -48,7 +48,8 @@ own-home keys flow pipe f e = by (slice_get keys flow) e
     by None h = let one : flow ≡ f = cc in sym one
     by (Some key) h = linked key.target key.pipe h
 
-pub is-alone : (p : Parts) (more : List Link) (trace : List Event) → AgreesWith p more trace → (flow place : ℕ) (v : LinkView) → slice_get (views_of p) place ≡ Some v → home p.flows.keys flow ≡ v.link → IsAlone flow place (views_of p)
+pub is-alone : (p : Parts) (more : List Link) (trace : List Event) → AgreesWith p more trace → (flow place : ℕ) (v : LinkView) →
+    slice_get (views_of p) place ≡ Some v → home p.flows.keys flow ≡ v.link → IsAlone flow place (views_of p)
 is-alone p more trace a flow place v there here k w pipe f e is = (to, from)
   where
     to : f ≡ flow → k ≡ place
@@ -88,10 +89,14 @@ pub all-seen-same : (links : List LinkParts) (before after : ℕ → ℕ) → ((
 all-seen-same links before after h = λ i. map (view_of (λ f. h f i)) links
 
 -- The flow's queue is set, and the link at its home.
-pub set-seen : (p : Parts) (flow place : ℕ) → IsAlone flow place (views_of p) → flow < length p.flows.flows → (flows : List FlowState) (s : FlowState) → flows ≡ set p.flows.flows flow s → (l : LinkParts) →
+pub set-seen : (p : Parts) (flow place : ℕ) → IsAlone flow place (views_of p) → flow < length p.flows.flows → (flows : List FlowState) (s : FlowState) →
+    flows ≡ set p.flows.flows flow s → (l : LinkParts) →
     map (view_of (queue_lengths flows)) (set p.links.items place l) ≡ set (views_of p) place (view_of (queue_lengths flows) l)
 set-seen p flow place alone lt flows s now l =
-    map-set-but (view_of (queue_lengths p.flows.flows)) (view_of (queue_lengths flows)) p.links.items place l (λ k m e ne. seen-same (queue_lengths p.flows.flows) (queue_lengths flows) m (λ f own. other f (λ same. ne ((alone k (view_of (queue_lengths p.flows.flows) m) m.pipe f (get-map (view_of (queue_lengths p.flows.flows)) p.links.items k m e) (ap (carried_link m.pipe) own)).0 same))))
+    map-set-but (view_of (queue_lengths p.flows.flows)) (view_of (queue_lengths flows)) p.links.items place l
+    (λ k m e ne. seen-same (queue_lengths p.flows.flows) (queue_lengths flows) m
+    (λ f own. other f
+    (λ same. ne ((alone k (view_of (queue_lengths p.flows.flows) m) m.pipe f (get-map (view_of (queue_lengths p.flows.flows)) p.links.items k m e) (ap (carried_link m.pipe) own)).0 same))))
   where
     other : (f : ℕ) → (f ≡ flow → ⊥) → queue_lengths flows f ≡ queue_lengths p.flows.flows f
     other f ne =
@@ -120,15 +125,20 @@ module _ (flows : List FlowState) (flow : ℕ) (within : flow < length flows) (s
       by (inl e) = ap (λ b. length (cond b s (flow_at flows f)).backlog) (eq-yes flow f e) ∙ same ∙ ap (queue_lengths flows) e
       by (inr ne) = ap (λ b. length (cond b s (flow_at flows f)).backlog) (eq-no flow f ne)
 
-pub push-longer : (flows : List FlowState) (flow : ℕ) (w : Waiting) → flow < length flows → (now : List FlowState) → now ≡ set flows flow (pushed w (flow_at flows flow)) → queue_lengths now flow ≡ queue_lengths flows flow + 1
+pub push-longer : (flows : List FlowState) (flow : ℕ) (w : Waiting) → flow < length flows → (now : List FlowState) →
+    now ≡ set flows flow (pushed w (flow_at flows flow)) → queue_lengths now flow ≡ queue_lengths flows flow + 1
 push-longer flows flow w within now is = length-now flows flow within (pushed w (flow_at flows flow)) now is ∙ length-more (flow_at flows flow).backlog w
 
 -- One packet more in the flow's queue is one packet more for the flow's own link.
-pub one-more-at : (flow place : ℕ) (views : List LinkView) → IsAlone flow place views → (v : LinkView) → slice_get views place ≡ Some v → (before after : ℕ → ℕ) → after flow ≡ before flow + 1 → (l : Link) → v.link ≡ l → HasOneMore before after l
+pub one-more-at : (flow place : ℕ) (views : List LinkView) → IsAlone flow place views → (v : LinkView) → slice_get views place ≡ Some v →
+    (before after : ℕ → ℕ) → after flow ≡ before flow + 1 → (l : Link) → v.link ≡ l → HasOneMore before after l
 one-more-at flow place views alone v there before after more (own pipe f) is = let same = (alone place v pipe f there is).1 refl in ap after same ∙ more ∙ ap (λ n. before n + 1) (sym same)
 one-more-at flow place views alone v there before after more (shared pipe) is = tt
 
 -- A flow's packets leave its own link with its queue, and a shared one with its slot.
-pub loses-at : (flow place : ℕ) (views : List LinkView) → IsAlone flow place views → (v : LinkView) → slice_get views place ≡ Some v → (slot count : ℕ) (before after : ℕ → ℕ) → after flow + count ≡ before flow → (l : Link) → v.link ≡ l → HoldsCount slot count v l → LosesCount slot count before after v l
-loses-at flow place views alone v there slot count before after loses (own pipe f) is holds = let same = (alone place v pipe f there is).1 refl in ap (λ n. after n + count) same ∙ loses ∙ ap before (sym same)
+pub loses-at : (flow place : ℕ) (views : List LinkView) → IsAlone flow place views → (v : LinkView) → slice_get views place ≡ Some v →
+    (slot count : ℕ) (before after : ℕ → ℕ) → after flow + count ≡ before flow → (l : Link) → v.link ≡ l → HoldsCount slot count v l →
+    LosesCount slot count before after v l
+loses-at flow place views alone v there slot count before after loses (own pipe f) is holds = let same = (alone place v pipe f there is).1 refl in
+    ap (λ n. after n + count) same ∙ loses ∙ ap before (sym same)
 loses-at flow place views alone v there slot count before after loses (shared pipe) is holds = holds

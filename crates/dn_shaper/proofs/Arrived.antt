@@ -27,11 +27,16 @@ use Rattle.dn_shaper.proofs.Homes.{home-after, slots-apart, slots_home-after}
 use Rattle.dn_shaper.proofs.Next.{distinct_views}
 use Rattle.dn_shaper.proofs.Waiting.{waiting-arrived, waiting-other}
 
-module _ (rule : Rule) (accepted : ℕ) (keys : List FlowKey) (homes : List Home) (views : List LinkView) (flows : List FlowState) (pending : List Delivery) (more : List Link) (trace : List Event) (a : IsAt rule accepted keys homes views flows pending more trace) where
-  module _ (k : ℕ) (v : LinkView) (there : slice_get views k ≡ Some v) (flow : ℕ) (within : flow < length keys) (here : home keys flow ≡ v.link) (made : link_names views ≡ with_link v.link (links trace))
+module _ (rule : Rule) (accepted : ℕ) (keys : List FlowKey) (homes : List Home) (views : List LinkView) (flows : List FlowState) (pending : List Delivery)
+    (more : List Link) (trace : List Event) (a : IsAt rule accepted keys homes views flows pending more trace) where
+  module _ (k : ℕ) (v : LinkView) (there : slice_get views k ≡ Some v) (flow : ℕ) (within : flow < length keys) (here : home keys flow ≡ v.link)
+      (made : link_names views ≡ with_link v.link (links trace))
       (p : Accepted) (on : p.link ≡ v.link) (flow_is : p.stamped.flow ≡ flow) (number_is : p.packet ≡ accepted)
       (v' : LinkView) (same_link : v'.link ≡ v.link) (same_value : v'.value ≡ v.value) (one_more : v'.waits ≡ v.waits + 1) (same_slots : v'.slots ≡ v.slots)
-      (arrival : (pipe : ℕ) → v.link ≡ shared pipe → (slot : ℕ) × (slice_get v.slots slot ≡ Some flow) × (slot < length v.schedule.flows) × (v'.schedule.flows ≡ set v.schedule.flows slot (joined_by (slot_at v.schedule.flows slot) (slotted slot p.stamped))) × (v'.schedule.virtual_time ≡ v.schedule.virtual_time)) where
+      (arrival : (pipe : ℕ) → v.link ≡ shared pipe →
+      (slot : ℕ) × (slice_get v.slots slot ≡ Some flow) × (slot < length v.schedule.flows) ×
+      (v'.schedule.flows ≡ set v.schedule.flows slot (joined_by (slot_at v.schedule.flows slot) (slotted slot p.stamped))) ×
+      (v'.schedule.virtual_time ≡ v.schedule.virtual_time)) where
     both : (x y : Bool) → x ≡ true → y ≡ true → (x && y) ≡ true
     both true y e f = f
     both false y e f = absurd cc
@@ -64,9 +69,13 @@ module _ (rule : Rule) (accepted : ℕ) (keys : List FlowKey) (homes : List Home
               ∙ c.beyond slot le;
         }
       where
-        slot_after : IsScheduleAt v.link trace v.schedule v.slots → (i : ℕ) → slice_get v.slots i ≡ Some flow → i < length v.schedule.flows → v'.schedule.flows ≡ set v.schedule.flows i (joined_by (slot_at v.schedule.flows i) (slotted i p.stamped)) → (slot g : ℕ) → slice_get v.slots slot ≡ Some g → (i ≡ slot) ⊎ (i ≡ slot → ⊥) → IsSlotAt v.link g slot (arrived p ∷ trace) (slot_at v'.schedule.flows slot)
+        slot_after : IsScheduleAt v.link trace v.schedule v.slots → (i : ℕ) → slice_get v.slots i ≡ Some flow → i < length v.schedule.flows →
+            v'.schedule.flows ≡ set v.schedule.flows i (joined_by (slot_at v.schedule.flows i) (slotted i p.stamped)) → (slot g : ℕ) →
+            slice_get v.slots slot ≡ Some g → (i ≡ slot) ⊎ (i ≡ slot → ⊥) → IsSlotAt v.link g slot (arrived p ∷ trace) (slot_at v'.schedule.flows slot)
         slot_after c i at_i lt now slot g e (inl same) =
-            let now_at = ap (λ (fs : List Flow). slot_at fs i) now ∙ read-set v.schedule.flows i i (joined_by (slot_at v.schedule.flows i) (slotted i p.stamped)) no_packets lt ∙ ap (λ b. cond b (joined_by (slot_at v.schedule.flows i) (slotted i p.stamped)) (slot_at v.schedule.flows i)) (eq-yes i i refl) in
+            let now_at = ap (λ (fs : List Flow). slot_at fs i) now
+            ∙ read-set v.schedule.flows i i (joined_by (slot_at v.schedule.flows i) (slotted i p.stamped)) no_packets lt
+            ∙ ap (λ b. cond b (joined_by (slot_at v.schedule.flows i) (slotted i p.stamped)) (slot_at v.schedule.flows i)) (eq-yes i i refl) in
             let found : Some flow ≡ Some g = sym at_i ∙ ap (slice_get v.slots) same ∙ e in
             let g_is : flow ≡ g = cc in
             let base : IsSlotAt v.link flow i (arrived p ∷ trace) (slot_at v'.schedule.flows i) = record {
@@ -80,11 +89,14 @@ module _ (rule : Rule) (accepted : ℕ) (keys : List FlowKey) (homes : List Home
             } in
             subst (λ (x : ℕ × ℕ). IsSlotAt v.link x.0 x.1 (arrived p ∷ trace) (slot_at v'.schedule.flows x.1)) (λ j. (g_is j, same j)) base
         slot_after c i at_i lt now slot g e (inr ne) =
-            let now_at = ap (λ (fs : List Flow). slot_at fs slot) now ∙ read-set v.schedule.flows i slot (joined_by (slot_at v.schedule.flows i) (slotted i p.stamped)) no_packets lt ∙ ap (λ b. cond b (joined_by (slot_at v.schedule.flows i) (slotted i p.stamped)) (slot_at v.schedule.flows slot)) (eq-no i slot ne) in
+            let now_at = ap (λ (fs : List Flow). slot_at fs slot) now
+            ∙ read-set v.schedule.flows i slot (joined_by (slot_at v.schedule.flows i) (slotted i p.stamped)) no_packets lt
+            ∙ ap (λ b. cond b (joined_by (slot_at v.schedule.flows i) (slotted i p.stamped)) (slot_at v.schedule.flows slot)) (eq-no i slot ne) in
             let apart = not_flow v.link g (slots-apart v.slots (a.views_are k v there).ascends i slot flow g at_i e ne) in
             let s = c.slots_are slot g e in
             record {
-              backlog_is = ap (λ (f : Flow). f.backlog) now_at ∙ s.backlog_is ∙ ap (λ b. map (slotted slot) (stamped_of (cond b (backlog v.link g trace ++ p ∷ []) (backlog v.link g trace)))) (sym apart);
+              backlog_is = ap (λ (f : Flow). f.backlog) now_at ∙ s.backlog_is
+                  ∙ ap (λ b. map (slotted slot) (stamped_of (cond b (backlog v.link g trace ++ p ∷ []) (backlog v.link g trace)))) (sym apart);
               last_finish_is = ap (λ (f : Flow). f.last_finish_tag) now_at ∙ s.last_finish_is ∙ sym (ap (λ b. cond b p.stamped.finish_tag (last_finish_tag v.link g trace)) apart);
             }
 
@@ -143,7 +155,9 @@ module _ (rule : Rule) (accepted : ℕ) (keys : List FlowKey) (homes : List Home
 
         by : (flow ≡ g) ⊎ (flow ≡ g → ⊥) → IsFlowAt (home keys g) g (arrived p ∷ trace) (flow_at (set flows flow (pushed (as_queued p) (flow_at flows flow))) g)
         by (inl same) =
-            let is : flow_at (set flows flow (pushed (as_queued p) (flow_at flows flow))) g ≡ pushed (as_queued p) (flow_at flows g) = now_at ∙ ap (λ b. cond b (pushed (as_queued p) (flow_at flows flow)) (flow_at flows g)) (eq-yes flow g same) ∙ ap (λ i. pushed (as_queued p) (flow_at flows i)) same in
+            let is : flow_at (set flows flow (pushed (as_queued p) (flow_at flows flow))) g ≡ pushed (as_queued p) (flow_at flows g) = now_at
+            ∙ ap (λ b. cond b (pushed (as_queued p) (flow_at flows flow)) (flow_at flows g)) (eq-yes flow g same)
+            ∙ ap (λ i. pushed (as_queued p) (flow_at flows i)) same in
             let b = a.flows_are g in
             record {
               backlog_is =
@@ -157,7 +171,8 @@ module _ (rule : Rule) (accepted : ℕ) (keys : List FlowKey) (homes : List Home
               discarded_is = ap (λ (x : FlowState). x.discarded) is ∙ b.discarded_is;
             }
         by (inr ne) =
-            let is : flow_at (set flows flow (pushed (as_queued p) (flow_at flows flow))) g ≡ flow_at flows g = now_at ∙ ap (λ b. cond b (pushed (as_queued p) (flow_at flows flow)) (flow_at flows g)) (eq-no flow g ne) in
+            let is : flow_at (set flows flow (pushed (as_queued p) (flow_at flows flow))) g ≡ flow_at flows g = now_at
+            ∙ ap (λ b. cond b (pushed (as_queued p) (flow_at flows flow)) (flow_at flows g)) (eq-no flow g ne) in
             let b = a.flows_are g in
             record {
               backlog_is =

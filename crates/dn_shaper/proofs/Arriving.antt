@@ -73,7 +73,8 @@ module _ (settings : Settings) (at : ℕ) (h : Home) (flow len weight : ℕ) (id
   link-home = sym the_home.link_is ∙ ap (λ (v : LinkView). v.link) same_view
 
   pub slot-home : (pipe : ℕ) → s.view.link ≡ shared pipe → slice_get s.view.slots h.slot ≡ Some flow
-  slot-home pipe is = (home-here old.rule old.accepted old.flows.keys old.homes.items (views_of old) old.flows.flows old.line.pending more trace a h.place s.view s.there flow h the_home link-home).1 pipe is
+  slot-home pipe is = (home-here old.rule old.accepted old.flows.keys old.homes.items
+      (views_of old) old.flows.flows old.line.pending more trace a h.place s.view s.there flow h the_home link-home).1 pipe is
 
   abbrev l : Link
   l = s.view.link
@@ -87,12 +88,17 @@ module _ (settings : Settings) (at : ℕ) (h : Home) (flow len weight : ℕ) (id
   before_is : before ≡ cond idle (opened l ∷ trace) trace
   before_is = ap (λ b. cond b (opened l ∷ trace) trace) (sym opens_there)
 
-  opened_if : (b : Bool) → IsAt old.rule old.accepted old.flows.keys old.homes.items (set (views_of old) h.place (begun_view b s.view)) old.flows.flows old.line.pending more (cond b (opened l ∷ trace) trace)
-  opened_if true = opened-agrees old.rule old.accepted old.flows.keys old.homes.items (views_of old) old.flows.flows old.line.pending more trace a h.place s.view s.there (begun_view true s.view) refl refl refl refl (λ pipe is. (refl, refl))
-  opened_if false = subst (λ (vs : List LinkView). IsAt old.rule old.accepted old.flows.keys old.homes.items vs old.flows.flows old.line.pending more trace) (sym (set-self (views_of old) h.place s.view s.there)) a
+  opened_if : (b : Bool) →
+      IsAt old.rule old.accepted old.flows.keys old.homes.items (set (views_of old) h.place (begun_view b s.view)) old.flows.flows old.line.pending more (cond b (opened l ∷ trace) trace)
+  opened_if true = opened-agrees old.rule old.accepted old.flows.keys old.homes.items
+      (views_of old) old.flows.flows old.line.pending more trace a h.place s.view s.there (begun_view true s.view) refl refl refl refl (λ pipe is. (refl, refl))
+  opened_if false = subst (λ (vs : List LinkView). IsAt old.rule old.accepted old.flows.keys old.homes.items vs old.flows.flows old.line.pending more trace)
+      (sym (set-self (views_of old) h.place s.view s.there)) a
 
   opened_now : IsAt old.rule old.accepted old.flows.keys old.homes.items (set (views_of old) h.place (begun_view idle s.view)) old.flows.flows old.line.pending more before
-  opened_now = subst (λ (t : List Event). IsAt old.rule old.accepted old.flows.keys old.homes.items (set (views_of old) h.place (begun_view idle s.view)) old.flows.flows old.line.pending more t) (sym before_is) (opened_if idle)
+  opened_now = subst
+      (λ (t : List Event). IsAt old.rule old.accepted old.flows.keys old.homes.items (set (views_of old) h.place (begun_view idle s.view)) old.flows.flows old.line.pending more t)
+      (sym before_is) (opened_if idle)
 
   links_before : (b : Bool) → links (cond b (opened l ∷ trace) trace) ≡ links trace
   links_before true = refl
@@ -120,16 +126,41 @@ module _ (settings : Settings) (at : ℕ) (h : Home) (flow len weight : ℕ) (id
     stamped_is pipe is =
         let c = (opened_now.views_are h.place (begun_view idle s.view) (get-set (views_of old) h.place s.view (begun_view idle s.view) s.there)).schedule_is pipe is in
         let x = c.slots_are h.slot flow (slot-home pipe is) in
-        let count : length (slot_at (begun_flows idle s.view.schedule) h.slot).backlog ≡ length (backlog l flow before) = ap (λ (q : List Stamped). length q) x.backlog_is ∙ length-mapped h.slot (backlog l flow before) in
-        λ i. record { flow = h.slot; len = sym len_is i; weight = sym weight_is i; start_tag = start_tag_on_arrival (nat_eq (count i) 0) (x.last_finish_is i) (c.virtual_time_is i); finish_tag = start_tag_on_arrival (nat_eq (count i) 0) (x.last_finish_is i) (c.virtual_time_is i) + scaled (sym len_is i) (sym weight_is i) }
+        let count : length (slot_at (begun_flows idle s.view.schedule) h.slot).backlog ≡ length (backlog l flow before) = ap (λ (q : List Stamped). length q) x.backlog_is
+        ∙ length-mapped h.slot (backlog l flow before) in
+        λ i. record {
+          flow = h.slot;
+          len = sym len_is i;
+          weight = sym weight_is i;
+          start_tag = start_tag_on_arrival (nat_eq (count i) 0) (x.last_finish_is i)
+              (c.virtual_time_is i);
+          finish_tag = start_tag_on_arrival (nat_eq (count i) 0) (x.last_finish_is i) (c.virtual_time_is i) + scaled (sym len_is i)
+              (sym weight_is i);
+        }
 
-    arrival : (pipe : ℕ) → l ≡ shared pipe → (slot : ℕ) × (slice_get s.view.slots slot ≡ Some flow) × (slot < length (begun_flows idle s.view.schedule)) × (s.view'.schedule.flows ≡ set (begun_flows idle s.view.schedule) slot (joined_by (slot_at (begun_flows idle s.view.schedule) slot) (slotted slot the_packet.stamped))) × (s.view'.schedule.virtual_time ≡ begun_time idle s.view.schedule)
+    arrival : (pipe : ℕ) → l ≡ shared pipe →
+        (slot : ℕ) × (slice_get s.view.slots slot ≡ Some flow) × (slot < length (begun_flows idle s.view.schedule)) ×
+        (s.view'.schedule.flows ≡ set (begun_flows idle s.view.schedule) slot (joined_by (slot_at (begun_flows idle s.view.schedule) slot) (slotted slot the_packet.stamped))) ×
+        (s.view'.schedule.virtual_time ≡ begun_time idle s.view.schedule)
     arrival pipe is =
-        let r = subst (ArrivesOn h.slot len weight idle s.view s.view') is s.joins.arrives in
-        (h.slot, slot-home pipe is, in_range r, r.flows ∙ ap (λ (x : Stamped). set (begun_flows idle s.view.schedule) h.slot (joined_by (slot_at (begun_flows idle s.view.schedule) h.slot) x)) (stamped_is pipe is), r.virtual_time)
+        let r = subst (ArrivesOn h.slot len weight idle s.view s.view') is s.joins.arrives in (
+          h.slot,
+          slot-home pipe is,
+          in_range r,
+          r.flows
+              ∙ ap (λ (x : Stamped). set (begun_flows idle s.view.schedule) h.slot (joined_by (slot_at (begun_flows idle s.view.schedule) h.slot) x)) (stamped_is pipe is),
+          r.virtual_time,
+        )
       where
         in_range : ArrivesInSchedule h.slot len weight idle s.view.schedule s.view'.schedule → h.slot < length (begun_flows idle s.view.schedule)
-        in_range r = ⊎_elim (λ lt. lt) (λ ge. absurd (let same = ap (λ (fs : List Flow). waiting_in fs) (r.flows ∙ set-beyond (begun_flows idle s.view.schedule) h.slot (joined_by (slot_at (begun_flows idle s.view.schedule) h.slot) (stamped h.slot (slot_at (begun_flows idle s.view.schedule) h.slot) (begun_time idle s.view.schedule) len weight)) ge) in let one = r.one_more in omega arith)) (cases_lt h.slot (length (begun_flows idle s.view.schedule)))
+        in_range r = ⊎_elim (λ lt. lt)
+            (λ ge. absurd
+            (let same = ap (λ (fs : List Flow). waiting_in fs)
+            (r.flows
+            ∙ set-beyond (begun_flows idle s.view.schedule) h.slot
+            (joined_by (slot_at (begun_flows idle s.view.schedule) h.slot) (stamped h.slot (slot_at (begun_flows idle s.view.schedule) h.slot) (begun_time idle s.view.schedule) len weight)) ge) in
+            let one = r.one_more in omega arith))
+            (cases_lt h.slot (length (begun_flows idle s.view.schedule)))
 
     made_then : link_names (set (views_of old) h.place (begun_view idle s.view)) ≡ with_link l (links before)
     made_then =
@@ -137,9 +168,12 @@ module _ (settings : Settings) (at : ℕ) (h : Home) (flow len weight : ℕ) (id
         ∙ made
         ∙ ap (λ (ls : List Link). with_link l ls) (sym (ap links before_is ∙ links_before idle))
 
-    base : IsAt old.rule (old.accepted + 1) old.flows.keys old.homes.items (set (set (views_of old) h.place (begun_view idle s.view)) h.place s.view') (set old.flows.flows flow (pushed (as_queued the_packet) (flow_at old.flows.flows flow))) old.line.pending [] (arrived the_packet ∷ before)
+    base : IsAt old.rule (old.accepted + 1) old.flows.keys old.homes.items (set (set (views_of old) h.place (begun_view idle s.view)) h.place s.view')
+        (set old.flows.flows flow (pushed (as_queued the_packet) (flow_at old.flows.flows flow))) old.line.pending [] (arrived the_packet ∷ before)
     base =
-        arrived-agrees old.rule old.accepted old.flows.keys old.homes.items (set (views_of old) h.place (begun_view idle s.view)) old.flows.flows old.line.pending more before opened_now h.place (begun_view idle s.view) (get-set (views_of old) h.place s.view (begun_view idle s.view) s.there)
+        arrived-agrees old.rule old.accepted old.flows.keys old.homes.items
+        (set (views_of old) h.place (begun_view idle s.view)) old.flows.flows old.line.pending more before opened_now h.place (begun_view idle s.view)
+        (get-set (views_of old) h.place s.view (begun_view idle s.view) s.there)
         flow within link-home made_then the_packet refl refl (sym opened_now.accepted_is) s.view' s.joins.link s.joins.value s.joins.waits s.joins.slots arrival
 
     -- All parts agree with the arrival.
@@ -147,10 +181,19 @@ module _ (settings : Settings) (at : ℕ) (h : Home) (flow len weight : ℕ) (id
     arrives-agree =
         let w : as_queued the_packet ≡ record { packet = old.accepted; len = len } = λ i. record { packet = sym opened_now.accepted_is i; len = len_is i } in
         subst (λ (r : Rule). IsAt r new.accepted new.flows.keys new.homes.items (views_of new) new.flows.flows new.line.pending [] (arrived the_packet ∷ before)) (sym s.rule)
-        (subst (λ (x : ℕ × List FlowKey). IsAt old.rule x.0 x.1 new.homes.items (views_of new) new.flows.flows new.line.pending [] (arrived the_packet ∷ before)) (λ i. (sym s.accepted i, sym s.keys i))
-        (subst (λ (x : List Home × List LinkView). IsAt old.rule (old.accepted + 1) old.flows.keys x.0 x.1 new.flows.flows new.line.pending [] (arrived the_packet ∷ before)) (λ i. ((sym s.homes i).items, sym s.views_are i))
-        (subst (λ (x : List FlowState × List Delivery). IsAt old.rule (old.accepted + 1) old.flows.keys old.homes.items (set (views_of old) h.place s.view') x.0 x.1 [] (arrived the_packet ∷ before)) (λ i. ((ap (λ (x : Waiting). set old.flows.flows flow (pushed x (flow_at old.flows.flows flow))) w ∙ sym s.flows_are) i, (sym s.line i).pending))
-        (subst (λ (vs : List LinkView). IsAt old.rule (old.accepted + 1) old.flows.keys old.homes.items vs (set old.flows.flows flow (pushed (as_queued the_packet) (flow_at old.flows.flows flow))) old.line.pending [] (arrived the_packet ∷ before)) (set-set (views_of old) h.place (begun_view idle s.view) s.view') base))))
+        (subst
+        (λ (x : ℕ × List FlowKey). IsAt old.rule x.0 x.1 new.homes.items (views_of new) new.flows.flows new.line.pending [] (arrived the_packet ∷ before))
+        (λ i. (sym s.accepted i, sym s.keys i))
+        (subst
+        (λ (x : List Home × List LinkView). IsAt old.rule (old.accepted + 1) old.flows.keys x.0 x.1 new.flows.flows new.line.pending [] (arrived the_packet ∷ before))
+        (λ i. ((sym s.homes i).items, sym s.views_are i))
+        (subst
+        (λ (x : List FlowState × List Delivery). IsAt old.rule (old.accepted + 1) old.flows.keys old.homes.items (set (views_of old) h.place s.view') x.0 x.1 [] (arrived the_packet ∷ before))
+        (λ i. ((ap (λ (x : Waiting). set old.flows.flows flow (pushed x (flow_at old.flows.flows flow))) w ∙ sym s.flows_are) i, (sym s.line i).pending))
+        (subst
+        (λ (vs : List LinkView). IsAt old.rule (old.accepted + 1) old.flows.keys old.homes.items vs
+        (set old.flows.flows flow (pushed (as_queued the_packet) (flow_at old.flows.flows flow))) old.line.pending [] (arrived the_packet ∷ before))
+        (set-set (views_of old) h.place (begun_view idle s.view) s.view') base))))
 
     -- Where the link was idle, the packet is the next one.
     pub next-alone : idle ≡ true → (p : Accepted) → next_packet l (arrived the_packet ∷ before) ≡ Some p → p ≡ the_packet

@@ -37,14 +37,17 @@ nothing-agrees rule = record {
   accepted_is = refl;
 }
 
-module _ (s : State) (accepted : s.parts.accepted ≡ 0) (keys : s.parts.flows.keys ≡ []) (flows : s.parts.flows.flows ≡ []) (homes : s.parts.homes.items ≡ []) (links : s.parts.links.items ≡ []) (waiting : s.parts.waiting ≡ 0)
-    (shared : s.shared ≡ []) (pending : s.parts.line.pending ≡ []) (pushed : s.parts.line.pushed ≡ 0) (empty : s.heap.keys ≡ []) (moves : s.heap.moves ≡ 0) (none : (t : Target) → settings_of s.configured t ≡ None) (now : s.now ≡ 0) (calls : s.calls ≡ 0) where
+module _ (s : State) (accepted : s.parts.accepted ≡ 0) (keys : s.parts.flows.keys ≡ []) (flows : s.parts.flows.flows ≡ []) (homes : s.parts.homes.items ≡ [])
+    (links : s.parts.links.items ≡ []) (waiting : s.parts.waiting ≡ 0)
+    (shared : s.shared ≡ []) (pending : s.parts.line.pending ≡ []) (pushed : s.parts.line.pushed ≡ 0) (empty : s.heap.keys ≡ []) (moves : s.heap.moves ≡ 0)
+    (none : (t : Target) → settings_of s.configured t ≡ None) (now : s.now ≡ 0) (calls : s.calls ≡ 0) where
   views : views_of s.parts ≡ []
   views = ap (map (view_of (queue_lengths s.parts.flows.flows))) links
 
   agrees : AgreesWith s.parts [] []
   agrees =
-      subst (λ (x : ℕ × List FlowKey × List FlowState). IsAt s.parts.rule x.0 x.1 s.parts.homes.items (views_of s.parts) x.2 s.parts.line.pending [] []) (λ i. (sym accepted i, sym keys i, sym flows i))
+      subst (λ (x : ℕ × List FlowKey × List FlowState). IsAt s.parts.rule x.0 x.1 s.parts.homes.items (views_of s.parts) x.2 s.parts.line.pending [] [])
+      (λ i. (sym accepted i, sym keys i, sym flows i))
       (subst (λ (x : List Home × List LinkView × List Delivery). IsAt s.parts.rule 0 [] x.0 x.1 [] x.2 [] []) (λ i. (sym homes i, sym views i, sym pending i)) (nothing-agrees s.parts.rule))
 
   pub begins : (rule : Rule) → s.parts.rule ≡ rule → StandsAt rule s []
@@ -65,7 +68,8 @@ module _ (s : State) (accepted : s.parts.accepted ≡ 0) (keys : s.parts.flows.k
   }
 
   held : Holds (next_starts (views_of s.parts)) s.heap.keys
-  held = subst (λ (x : List LinkView × List NextStart). Holds (next_starts x.0) x.1) (λ i. (sym views i, sym empty i)) (record { once = λ place. refl; moments = All-nil (λ k. next_at [] k.place ≡ Some k.moment) })
+  held = subst (λ (x : List LinkView × List NextStart). Holds (next_starts x.0) x.1) (λ i. (sym views i, sym empty i))
+      (record { once = λ place. refl; moments = All-nil (λ k. next_at [] k.place ≡ Some k.moment) })
 
   -- No place is noted of any pipe.
   unnoted : (pipe : ℕ) → lookup (nat_eq pipe) s.shared ≡ None

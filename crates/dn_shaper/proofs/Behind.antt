@@ -22,8 +22,10 @@ there-under f [] k y e = absurd cc
 there-under f (x ∷ xs) zero y e = let same : f x ≡ y = cc in (x, refl, same)
 there-under f (x ∷ xs) (suc k) y e = there-under f xs k y e
 
-module _ (at flow len weight : ℕ) (old new : Parts) (more : List Link) (trace : List Event) (a : AgreesWith old more trace) (h : Home) (is : IsHomeOf flow (home old.flows.keys flow) (views_of old) h) (pipe : ℕ) (owned : home old.flows.keys flow ≡ own pipe flow)
-    (within : flow < length old.flows.flows) (some : 0 < queue_lengths old.flows.flows flow) (j : JoinsQueue flow len old new) where
+module _ (at weight : ℕ) {flow len : ℕ} {old new : Parts} (j : JoinsQueue flow len old new) {more : List Link} {trace : List Event}
+    (a : AgreesWith old more trace) {h : Home} (is : IsHomeOf flow (home old.flows.keys flow) (views_of old) h) {pipe : ℕ}
+    (owned : home old.flows.keys flow ≡ own pipe flow)
+    (within : flow < length old.flows.flows) (some : 0 < queue_lengths old.flows.flows flow) where
   abbrev before : ℕ → ℕ
   before = queue_lengths old.flows.flows
 

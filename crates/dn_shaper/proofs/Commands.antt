@@ -1,11 +1,10 @@
 -- The commands in force, as entries and as a function of the target.
-use Rattle.std.proofs.Common.{◌≡◌, ◌∙◌, ◌||◌, ℕ, Bool, true, false, cond, List, [], ◌∷◌, refl, ap, sym, subst, ⊎_elim, true≢false}
+use Rattle.std.proofs.Common.{◌≡◌, ◌∙◌, ◌||◌, ℕ, Bool, true, false, cond, List, [], ◌∷◌, refl, ap, sym, ⊎_elim, true≢false}
 use Rattle.std.specs.Prelude.{Option, Some, None, is_some, nat_eq}
 use Rattle.std.specs.List.{list_any, IsDistinct, AllByRecursion}
 use Rattle.std.specs.Map.{keys_of, lookup}
 use Rattle.std.proofs.lemmas.Bool.{cases_eq}
 use Rattle.std.proofs.lemmas.Map.Keys.{IsDistinct-head, IsDistinct-tail}
-use Rattle.indexmap.specs.IndexMap.{IndexMap}
 use Rattle.dn_types.specs.Configuration.{target_eq, is_queue_of, has_queues, settings, command_reply, queue_numbers, setting_after}
 use Rattle.dn_types.specs.declared.call.Call.{Call}
 use Rattle.dn_types.specs.declared.call.Call.TheVariants.{Configure, Submit, Advance, Collect, Show}
@@ -42,7 +41,8 @@ looked-up pipe q [] e = absurd cc
 looked-up pipe q ((ToPipe n, c) ∷ es) e = looked-up pipe q es e
 looked-up pipe q ((ToQueue n, c) ∷ es) e = by (nat_eq q n) e (looked-up pipe q es)
   where
-    by : (b : Bool) → is_queue_of pipe (cond b (Some c) (found es q)) ≡ true → (is_queue_of pipe (found es q) ≡ true → list_any (names_entry pipe) es ≡ true) → (is_queue_of pipe (Some c) || list_any (names_entry pipe) es) ≡ true
+    by : (b : Bool) → is_queue_of pipe (cond b (Some c) (found es q)) ≡ true → (is_queue_of pipe (found es q) ≡ true → list_any (names_entry pipe) es ≡ true) →
+        (is_queue_of pipe (Some c) || list_any (names_entry pipe) es) ≡ true
     by true h rest = ap (λ b. b || list_any (names_entry pipe) es) h
     by false h rest = or-right (is_queue_of pipe (Some c)) (list_any (names_entry pipe) es) (rest h)
 
@@ -51,7 +51,9 @@ other : (q : ℕ) (k : Target) (es : List Entry) → AllByRecursion (λ y. targe
 other q (ToPipe n) es all e = refl
 other q (ToQueue n) [] all e = absurd cc
 other q (ToQueue n) ((ToPipe m, c) ∷ es) all e = other q (ToQueue n) es all.1 e
-other q (ToQueue n) ((ToQueue m, c) ∷ es) all e = ⊎_elim (λ same. let is = same-number q m same in ap (λ x. nat_eq x n) is ∙ eq-no m n (λ back. let y = eq-yes n m (sym back) in true≢false (sym y ∙ all.0))) (λ ne. other q (ToQueue n) es all.1 (ap (λ b. is_some (cond b (Some c) (found es q))) (sym ne) ∙ e)) (true_or_false (nat_eq q m))
+other q (ToQueue n) ((ToQueue m, c) ∷ es) all e = ⊎_elim
+    (λ same. let is = same-number q m same in ap (λ x. nat_eq x n) is ∙ eq-no m n (λ back. let y = eq-yes n m (sym back) in true≢false (sym y ∙ all.0)))
+    (λ ne. other q (ToQueue n) es all.1 (ap (λ b. is_some (cond b (Some c) (found es q))) (sym ne) ∙ e)) (true_or_false (nat_eq q m))
 
 is-some : (pipe : ℕ) (o : Option Command) → is_queue_of pipe o ≡ true → is_some o ≡ true
 is-some pipe None e = absurd (true≢false (sym e))
@@ -65,7 +67,8 @@ named-found pipe ((ToQueue n, c) ∷ es) d e = ⊎_elim here (later (named-found
     here : is_queue_of pipe (Some c) ≡ true → (q : ℕ) × (is_queue_of pipe (cond (nat_eq q n) (Some c) (found es q)) ≡ true)
     here yes' = (n, ap (λ b. is_queue_of pipe (cond b (Some c) (found es n))) (eq-yes n n refl) ∙ yes')
 
-    later : (list_any (names_entry pipe) es ≡ true → (q : ℕ) × (is_queue_of pipe (found es q) ≡ true)) → is_queue_of pipe (Some c) ≡ false → (q : ℕ) × (is_queue_of pipe (cond (nat_eq q n) (Some c) (found es q)) ≡ true)
+    later : (list_any (names_entry pipe) es ≡ true → (q : ℕ) × (is_queue_of pipe (found es q) ≡ true)) → is_queue_of pipe (Some c) ≡ false →
+        (q : ℕ) × (is_queue_of pipe (cond (nat_eq q n) (Some c) (found es q)) ≡ true)
     later rest no' =
         let r = rest (ap (λ b. b || list_any (names_entry pipe) es) (sym no') ∙ e) in
         let apart = other r.0 (ToQueue n) es (IsDistinct-head target_eq (ToQueue n) (keys_of es) d) (is-some pipe (found es r.0) r.1) in
@@ -89,7 +92,8 @@ passing test [] e = absurd (true≢false (sym e))
 passing test (x ∷ xs) e = ⊎_elim (λ yes'. (x, yes')) (λ no'. passing test xs (ap (λ b. b || list_any test xs) (sym no') ∙ e)) (true_or_false (test x))
 
 -- A queue of the pipe is among the entries exactly if one of the listed queues is one.
-pub has-queues-is : (pipe : ℕ) (queues : List ℕ) (es : List Entry) → IsDistinct target_eq (keys_of es) → Lists (λ t. lookup (target_eq t) es) queues → list_any (names_entry pipe) es ≡ has_queues (λ t. lookup (target_eq t) es) queues pipe
+pub has-queues-is : (pipe : ℕ) (queues : List ℕ) (es : List Entry) → IsDistinct target_eq (keys_of es) → Lists (λ t. lookup (target_eq t) es) queues →
+    list_any (names_entry pipe) es ≡ has_queues (λ t. lookup (target_eq t) es) queues pipe
 has-queues-is pipe queues es d lists =
     same-answer (list_any (names_entry pipe) es) (has_queues (λ t. lookup (target_eq t) es) queues pipe)
     (λ e. let r = named-found pipe es d e in listed-passes (λ q. is_queue_of pipe (found es q)) r.0 queues (lists r.0 (is-some pipe (found es r.0) r.1)) r.1)
@@ -109,12 +113,16 @@ numbers-listed (Configure (Queue number pipe weight limit loss buckets mask) ∷
     let command = Queue number pipe weight limit loss buckets mask in
     ⊎_elim
     (λ yes'. ap (λ b. b || list_any (nat_eq q) (queue_numbers calls)) (eq-yes q number (sym (same-number number q yes'))))
-    (λ no'. or-right (nat_eq q number) (list_any (nat_eq q) (queue_numbers calls)) (numbers-listed calls q (ap (λ b. is_some (cond b (setting_after (command_reply (settings calls) (queue_numbers calls) command) command (settings calls (ToQueue q))) (settings calls (ToQueue q)))) (sym no') ∙ e)))
+    (λ no'. or-right (nat_eq q number) (list_any (nat_eq q) (queue_numbers calls))
+    (numbers-listed calls q
+    (ap (λ b. is_some (cond b (setting_after (command_reply (settings calls) (queue_numbers calls) command) command (settings calls (ToQueue q))) (settings calls (ToQueue q)))) (sym no') ∙ e)))
     (true_or_false (nat_eq number q))
 numbers-listed (Configure (DeletePipe number) ∷ calls) q e = numbers-listed calls q e
 numbers-listed (Configure (DeleteQueue number) ∷ calls) q e = numbers-listed calls q (by (nat_eq number q) e)
   where
-    by : (b : Bool) → is_some (cond b (setting_after (cond (is_some (settings calls (ToQueue number))) Deleted NoSuchQueue) (DeleteQueue number) (settings calls (ToQueue q))) (settings calls (ToQueue q))) ≡ true → is_some (settings calls (ToQueue q)) ≡ true
+    by : (b : Bool) →
+        is_some (cond b (setting_after (cond (is_some (settings calls (ToQueue number))) Deleted NoSuchQueue) (DeleteQueue number) (settings calls (ToQueue q))) (settings calls (ToQueue q))) ≡ true →
+        is_some (settings calls (ToQueue q)) ≡ true
     by true h = deleted-some number (is_some (settings calls (ToQueue number))) (settings calls (ToQueue q)) h
     by false h = h
 numbers-listed (Submit target packet moment ∷ calls) q e = numbers-listed calls q e
@@ -132,6 +140,3 @@ same-target (ToQueue a) (ToQueue b) = refl
 
 pub key-test : impl.eq-value.it ≡ target_eq
 key-test i a b = same-target a b i
-
-pub distinct-by : {S : Type 0} (m : IndexMap Target Command S) → IsDistinct impl.eq-value.it (keys_of m.entries) → IsDistinct target_eq (keys_of m.entries)
-distinct-by m d = subst (λ (eq : Target → Target → Bool). IsDistinct eq (keys_of m.entries)) key-test d

@@ -33,7 +33,8 @@ use Rattle.dn_shaper.proofs.Noted.{indexed-still}
 
 -- A command that was answered is obeyed, and isn't counted yet.
 pub record Obeys (command : Command) (reply : Reply) (old new : State) : Type 0 where
-  pub settings_are : (target : Target) → settings_of new.configured target ≡ cond (target_eq (subject command) target) (setting_after reply command (settings_of old.configured target)) (settings_of old.configured target)
+  pub settings_are : (target : Target) →
+      settings_of new.configured target ≡ cond (target_eq (subject command) target) (setting_after reply command (settings_of old.configured target)) (settings_of old.configured target)
   pub rule_is : new.parts.rule ≡ old.parts.rule
   pub keys_are : new.parts.flows.keys ≡ old.parts.flows.keys
   pub agrees : (more : List Link) (trace : List Event) → AgreesWith old.parts more trace → AgreesWith new.parts more (after_command reply command old.parts.flows.keys trace)
@@ -71,7 +72,8 @@ module _ (command : Command) (reply : Reply) (old new : State)
       now_is = obeys.now_is ∙ s.now_is ∙ untimed (effective_moment calls);
       settings_are = λ i target. setting-is rule calls s target i;
       keys_are = obeys.keys_are ∙ s.keys_are;
-      agrees = subst (λ (x : Reply × List FlowKey). AgreesWith new.parts [] (after_command x.0 command x.1 (trace_of calls))) (λ i. (reply-is rule calls s i, s.keys_are i)) (obeys.agrees [] (trace_of calls) s.agrees);
+      agrees = subst (λ (x : Reply × List FlowKey). AgreesWith new.parts [] (after_command x.0 command x.1 (trace_of calls)))
+          (λ i. (reply-is rule calls s i, s.keys_are i)) (obeys.agrees [] (trace_of calls) s.agrees);
     },
   )
 
@@ -87,7 +89,8 @@ module _ (command : Command) (reply : Reply) (old new : State)
 -- ---- The three ways to answer
 
 module _ (command : Command) (old : State) (sound : IsSound old) where
-  pub obeys-put : (configured : List (Target × Command)) → Puts command (Some command) (settings_of old.configured) (settings_of configured) → Obeys command Configured old (record { parts = old.parts; heap = old.heap; shared = old.shared; configured = configured; now = old.now; calls = old.calls })
+  pub obeys-put : (configured : List (Target × Command)) → Puts command (Some command) (settings_of old.configured) (settings_of configured) →
+      Obeys command Configured old (record { parts = old.parts; heap = old.heap; shared = old.shared; configured = configured; now = old.now; calls = old.calls })
   obeys-put configured puts = record {
     settings_are = puts;
     rule_is = refl;
@@ -102,7 +105,9 @@ module _ (command : Command) (old : State) (sound : IsSound old) where
     calls_are = refl;
   }
 
-  pub obeys-delete : (configured : List (Target × Command)) (parts : Parts) (heap : Heap NextStart) → Puts command None (settings_of old.configured) (settings_of configured) → KeepsFlows old.parts parts → DiscardsReached command old.parts parts → AreInStep parts heap → ((n : ℕ) → Within n old.parts → Within n parts) → heap.moves + parts.waiting ≤ old.heap.moves + old.parts.waiting
+  pub obeys-delete : (configured : List (Target × Command)) (parts : Parts) (heap : Heap NextStart) →
+      Puts command None (settings_of old.configured) (settings_of configured) → KeepsFlows old.parts parts → DiscardsReached command old.parts parts →
+      AreInStep parts heap → ((n : ℕ) → Within n old.parts → Within n parts) → heap.moves + parts.waiting ≤ old.heap.moves + old.parts.waiting
       → Obeys command Deleted old (record { parts = parts; heap = heap; shared = old.shared; configured = configured; now = old.now; calls = old.calls })
   obeys-delete configured parts heap puts keeps discards kept within moves = record {
     settings_are = puts;
@@ -123,9 +128,11 @@ module _ (command : Command) (old : State) (sound : IsSound old) where
   same-setting false o = refl
 
   -- A refused command changes nothing.
-  changes-none : (reply : Reply) → ((o : Option Command) → setting_after reply command o ≡ o) → ((ks : List FlowKey) (trace : List Event) → after_command reply command ks trace ≡ trace) → Obeys command reply old old
+  changes-none : (reply : Reply) → ((o : Option Command) → setting_after reply command o ≡ o) →
+      ((ks : List FlowKey) (trace : List Event) → after_command reply command ks trace ≡ trace) → Obeys command reply old old
   changes-none reply setting after = record {
-    settings_are = λ target. same-setting (target_eq (subject command) target) (settings_of old.configured target) ∙ ap (λ o. cond (target_eq (subject command) target) o (settings_of old.configured target)) (sym (setting (settings_of old.configured target)));
+    settings_are = λ target. same-setting (target_eq (subject command) target) (settings_of old.configured target)
+        ∙ ap (λ o. cond (target_eq (subject command) target) o (settings_of old.configured target)) (sym (setting (settings_of old.configured target)));
     rule_is = refl;
     keys_are = refl;
     agrees = λ more trace a. subst (λ (t : List Event). AgreesWith old.parts more t) (sym (after old.parts.flows.keys trace)) a;

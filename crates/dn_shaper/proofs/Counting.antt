@@ -29,10 +29,12 @@ reached : (m n : ℕ) → m ≤ n → nat_le m n ≡ true
 reached m n le = grind (arith, nat_tests)
 
 -- What a call that counts is answered, and what one beyond the limit is.
-pub counts : (rule : Rule) (calls : List Call) (call : Call) → ((length calls < 2 ^ 62) × (counted calls ≡ calls) × (reply rule calls call ≡ counted_reply rule calls call)) ⊎ ((2 ^ 62 ≤ length calls) × (reply rule calls call ≡ Exhausted))
+pub counts : (rule : Rule) (calls : List Call) (call : Call) →
+    ((length calls < 2 ^ 62) × (counted calls ≡ calls) × (reply rule calls call ≡ counted_reply rule calls call)) ⊎ ((2 ^ 62 ≤ length calls) × (reply rule calls call ≡ Exhausted))
 counts rule calls call = by (cases_lt (length calls) (2 ^ 62))
   where
-    by : (length calls < 2 ^ 62) ⊎ (2 ^ 62 ≤ length calls) → ((length calls < 2 ^ 62) × (counted calls ≡ calls) × (reply rule calls call ≡ counted_reply rule calls call)) ⊎ ((2 ^ 62 ≤ length calls) × (reply rule calls call ≡ Exhausted))
+    by : (length calls < 2 ^ 62) ⊎ (2 ^ 62 ≤ length calls) →
+        ((length calls < 2 ^ 62) × (counted calls ≡ calls) × (reply rule calls call ≡ counted_reply rule calls call)) ⊎ ((2 ^ 62 ≤ length calls) × (reply rule calls call ≡ Exhausted))
     by (inl few) = inl (few, all-count calls (omega arith), ap (λ b. cond b Exhausted (counted_reply rule calls call)) (below (2 ^ 62) (length calls) few))
     by (inr many) = inr (many, ap (λ b. cond b Exhausted (counted_reply rule calls call)) (reached (2 ^ 62) (length calls) many))
 
@@ -54,7 +56,8 @@ answers call named old s new r same is room does = subst (λ (x : Call × State)
     one : Answers call old new r
     one rule calls stands = by (counts rule calls call)
       where
-        by : ((length calls < 2 ^ 62) × (counted calls ≡ calls) × (reply rule calls call ≡ counted_reply rule calls call)) ⊎ ((2 ^ 62 ≤ length calls) × (reply rule calls call ≡ Exhausted)) → (r ≡ reply rule calls call) × StandsAfter rule new (call ∷ calls)
+        by : ((length calls < 2 ^ 62) × (counted calls ≡ calls) × (reply rule calls call ≡ counted_reply rule calls call)) ⊎ ((2 ^ 62 ≤ length calls) × (reply rule calls call ≡ Exhausted)) →
+            (r ≡ reply rule calls call) × StandsAfter rule new (call ∷ calls)
         by (inl few) =
             let d = does rule calls (subst (λ (cs : List Call). StandsAt rule old cs) few.1 stands) in
             let lt = few.0 in
@@ -66,7 +69,8 @@ answers call named old s new r same is room does = subst (λ (x : Call × State)
             absurd (room (omega arith))
 
 module _ {E : Type 0} where
-  pub answers-ok : (call named : Call) (old s new : State) (result : Result Reply E) → named ≡ call → old ≡ s → (old.calls ≡ 2 ^ 62 → ⊥) → IfOk result (λ r. Does call old new r) → IfOk result (λ r. Answers named s new r)
+  pub answers-ok : (call named : Call) (old s new : State) (result : Result Reply E) → named ≡ call → old ≡ s → (old.calls ≡ 2 ^ 62 → ⊥) →
+      IfOk result (λ r. Does call old new r) → IfOk result (λ r. Answers named s new r)
   answers-ok call named old s new (Ok r) same is room does = answers call named old s new r same is room does
   answers-ok call named old s new (Err e) same is room does = tt
 
@@ -79,14 +83,18 @@ module _ {E : Type 0} where
       absurd (room (omega arith))
 
   -- Where memory is refused the shaper stands after the same calls.
-  pub refuses : (old s new : State) (result : Result Reply E) → old ≡ s → OnErr result (StillStands old new) → OnErr result ((rule : Rule) (calls : List Call) → StandsAfter rule s calls → StandsAfter rule new calls)
+  pub refuses : (old s new : State) (result : Result Reply E) → old ≡ s → OnErr result (StillStands old new) →
+      OnErr result ((rule : Rule) (calls : List Call) → StandsAfter rule s calls → StandsAfter rule new calls)
   refuses old s new (Ok r) is still = tt
   refuses old s new (Err e) is still = λ rule calls stands. still rule (counted calls) (subst (λ (x : State). StandsAt rule x (counted calls)) (sym is) stands)
 
   -- What is known of a call that was refused memory, where the list is of the calls that count.
-  pub needs : (call named : Call) (old s : State) (result : Result Reply E) → named ≡ call → old ≡ s → OnErr result ((rule : Rule) (calls : List Call) → StandsAt rule old calls → CanNeedMemory calls call) → OnErr result ((rule : Rule) (calls : List Call) → StandsAfter rule s calls → CanNeedMemory (counted calls) named)
+  pub needs : (call named : Call) (old s : State) (result : Result Reply E) → named ≡ call → old ≡ s →
+      OnErr result ((rule : Rule) (calls : List Call) → StandsAt rule old calls → CanNeedMemory calls call) →
+      OnErr result ((rule : Rule) (calls : List Call) → StandsAfter rule s calls → CanNeedMemory (counted calls) named)
   needs call named old s (Ok r) same is need = tt
-  needs call named old s (Err e) same is need = λ rule calls stands. subst (λ (c : Call). CanNeedMemory (counted calls) c) (sym same) (need rule (counted calls) (subst (λ (x : State). StandsAt rule x (counted calls)) (sym is) stands))
+  needs call named old s (Err e) same is need = λ rule calls stands. subst (λ (c : Call). CanNeedMemory (counted calls) c) (sym same)
+      (need rule (counted calls) (subst (λ (x : State). StandsAt rule x (counted calls)) (sym is) stands))
 
 -- What holds between calls.
 abbrev pub Holds : State → Type 0
@@ -96,7 +104,8 @@ pub holds-then : (call : Call) (old new : State) (r : Reply) → (old.calls ≡ 
 holds-then call old new r room h sound does = let t = h.1 in (sound, (t.0, call ∷ t.1, (answers call call old old new r refl refl room does t.0 t.1 t.2).1))
 
 module _ {E : Type 0} where
-  pub holds-ok : (call : Call) (old new : State) (result : Result Reply E) → (old.calls ≡ 2 ^ 62 → ⊥) → Holds old → IsSound new → IfOk result (λ r. Does call old new r) → OnErr result (StillStands old new) → Holds new
+  pub holds-ok : (call : Call) (old new : State) (result : Result Reply E) → (old.calls ≡ 2 ^ 62 → ⊥) → Holds old → IsSound new →
+      IfOk result (λ r. Does call old new r) → OnErr result (StillStands old new) → Holds new
   holds-ok call old new (Ok r) room h sound does still = holds-then call old new r room h sound does
   holds-ok call old new (Err e) room h sound does still = let t = h.1 in (sound, (t.0, t.1, still t.0 (counted t.1) t.2))
 

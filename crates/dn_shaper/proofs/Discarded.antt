@@ -31,10 +31,12 @@ pub length-waiting : (ps : List Accepted) → length (map as_queued ps) ≡ leng
 length-waiting [] = refl
 length-waiting (p ∷ ps) = ap suc (length-waiting ps)
 
-module _ (rule : Rule) (accepted : ℕ) (keys : List FlowKey) (homes : List Home) (views : List LinkView) (flows : List FlowState) (pending : List Delivery) (more : List Link) (trace : List Event) (a : IsAt rule accepted keys homes views flows pending more trace) where
+module _ (rule : Rule) (accepted : ℕ) (keys : List FlowKey) (homes : List Home) (views : List LinkView) (flows : List FlowState) (pending : List Delivery)
+    (more : List Link) (trace : List Event) (a : IsAt rule accepted keys homes views flows pending more trace) where
   module _ (k : ℕ) (v : LinkView) (there : slice_get views k ≡ Some v) (flow : ℕ) (within : flow < length keys) (here : home keys flow ≡ v.link)
       (v' : LinkView) (same_link : v'.link ≡ v.link) (same_value : v'.value ≡ v.value) (fewer : v'.waits + length (flow_at flows flow).backlog ≡ v.waits) (same_slots : v'.slots ≡ v.slots)
-      (discards : (pipe : ℕ) → v.link ≡ shared pipe → (slot : ℕ) × (slice_get v.slots slot ≡ Some flow) × (v'.schedule.flows ≡ after_discard v.schedule.flows slot) × (v'.schedule.virtual_time ≡ v.schedule.virtual_time)) where
+      (discards : (pipe : ℕ) → v.link ≡ shared pipe →
+      (slot : ℕ) × (slice_get v.slots slot ≡ Some flow) × (v'.schedule.flows ≡ after_discard v.schedule.flows slot) × (v'.schedule.virtual_time ≡ v.schedule.virtual_time)) where
     elsewhere_for : (w : Link) → link_eq v.link w ≡ false → backlog w flow trace ≡ []
     elsewhere_for w apart = a.elsewhere flow w (ap (λ (l : Link). link_eq l w) here ∙ apart)
 
@@ -63,7 +65,9 @@ module _ (rule : Rule) (accepted : ℕ) (keys : List FlowKey) (homes : List Home
               ap (λ (fs : List Flow). slot_at fs slot) r.2 ∙ discard-at v.schedule.flows r.0 slot (λ e. absurd (omega arith)) ∙ c.beyond slot le;
         }
       where
-        slot_after : IsScheduleAt v.link trace v.schedule v.slots → (i : ℕ) → slice_get v.slots i ≡ Some flow → v'.schedule.flows ≡ after_discard v.schedule.flows i → (slot g : ℕ) → slice_get v.slots slot ≡ Some g → (i ≡ slot) ⊎ (i ≡ slot → ⊥) → IsSlotAt v.link g slot (discarded flow ∷ trace) (slot_at v'.schedule.flows slot)
+        slot_after : IsScheduleAt v.link trace v.schedule v.slots → (i : ℕ) → slice_get v.slots i ≡ Some flow →
+            v'.schedule.flows ≡ after_discard v.schedule.flows i → (slot g : ℕ) → slice_get v.slots slot ≡ Some g → (i ≡ slot) ⊎ (i ≡ slot → ⊥) →
+            IsSlotAt v.link g slot (discarded flow ∷ trace) (slot_at v'.schedule.flows slot)
         slot_after c i at_i now slot g e (inl same) =
             let found : Some flow ≡ Some g = sym at_i ∙ ap (slice_get v.slots) same ∙ e in
             let g_is : flow ≡ g = cc in
@@ -123,7 +127,8 @@ module _ (rule : Rule) (accepted : ℕ) (keys : List FlowKey) (homes : List Home
           below = b.below;
         }
       where
-        not_flow : (j : ℕ) (w : LinkView) → slice_get views j ≡ Some w → (j ≡ k → ⊥) → (pipe : ℕ) → w.link ≡ shared pipe → (slot g : ℕ) → slice_get w.slots slot ≡ Some g → link_eq v.link w.link ≡ false → nat_eq flow g ≡ false
+        not_flow : (j : ℕ) (w : LinkView) → slice_get views j ≡ Some w → (j ≡ k → ⊥) → (pipe : ℕ) → w.link ≡ shared pipe → (slot g : ℕ) →
+            slice_get w.slots slot ≡ Some g → link_eq v.link w.link ≡ false → nat_eq flow g ≡ false
         not_flow j w e ne pipe is slot g eg apart = eq-no flow g (λ same.
             let homed = a.slots_home j w e slot g eg in
             let t : true ≡ false = sym (link_eq-refl w.link) ∙ ap (λ (l : Link). link_eq l w.link) (sym homed ∙ ap (home keys) (sym same) ∙ here) ∙ apart in
@@ -153,7 +158,8 @@ module _ (rule : Rule) (accepted : ℕ) (keys : List FlowKey) (homes : List Home
 
         by : (flow ≡ g) ⊎ (flow ≡ g → ⊥) → IsFlowAt (home keys g) g (discarded flow ∷ trace) (flow_at (set flows flow (emptied (flow_at flows flow))) g)
         by (inl same) =
-            let is : flow_at (set flows flow (emptied (flow_at flows flow))) g ≡ emptied (flow_at flows g) = now_at ∙ ap (λ b. cond b (emptied (flow_at flows flow)) (flow_at flows g)) (eq-yes flow g same) ∙ ap (λ i. emptied (flow_at flows i)) same in
+            let is : flow_at (set flows flow (emptied (flow_at flows flow))) g ≡ emptied (flow_at flows g) = now_at
+            ∙ ap (λ b. cond b (emptied (flow_at flows flow)) (flow_at flows g)) (eq-yes flow g same) ∙ ap (λ i. emptied (flow_at flows i)) same in
             let b = a.flows_are g in
             let count = ap (λ (q : List Waiting). length q) b.backlog_is ∙ length-waiting (backlog (home keys g) g trace) in
             let d = b.discarded_is in

@@ -27,7 +27,7 @@ use Rattle.dn_shaper.proofs.Next.{home-here}
 use Rattle.dn_flows.proofs.Places.{get-below, get-set, get-set-other, get-map, map-set, map-set-same, sum-set, sum-le}
 use Rattle.dn_shaper.proofs.Waiting.{waiting-discarded}
 
-module _ (p : Parts) (agrees : Agrees p) (bound : Within (2 ^ 62) p) (flow : ℕ) (within : flow < length p.flows.keys) where
+module _ {p : Parts} (bound : Within (2 ^ 62) p) (agrees : Agrees p) {flow : ℕ} (within : flow < length p.flows.keys) where
   pub home-of : (h : Home) × (slice_get p.homes.items flow ≡ Some h) × IsHomeOf flow (home p.flows.keys flow) (views_of p) h
   home-of = agrees.2.homes_are flow within
 
@@ -37,9 +37,10 @@ module _ (p : Parts) (agrees : Agrees p) (bound : Within (2 ^ 62) p) (flow : ℕ
   pub few-there : (flow_at p.flows.flows flow).discarded + length (flow_at p.flows.flows flow).backlog ≤ 2 ^ 62
   few-there = let i = (bound.flows_are flow).2 in omega arith
 
-  module _ (h : Home) (at_home : slice_get p.homes.items flow ≡ Some h) where
+  module _ {h : Home} (at_home : slice_get p.homes.items flow ≡ Some h) where
     pub is-home : IsHomeOf flow (home p.flows.keys flow) (views_of p) h
-    is-home = let both : Some home-of.0 ≡ Some h = sym home-of.1 ∙ at_home in let same : home-of.0 ≡ h = cc in subst (λ (x : Home). IsHomeOf flow (home p.flows.keys flow) (views_of p) x) same home-of.2
+    is-home = let both : Some home-of.0 ≡ Some h = sym home-of.1 ∙ at_home in let same : home-of.0 ≡ h = cc in
+        subst (λ (x : Home). IsHomeOf flow (home p.flows.keys flow) (views_of p) x) same home-of.2
 
     -- The flow's packets are among those that wait for its link.
     pub enough : length (flow_at p.flows.flows flow).backlog ≤ is-home.view.waits
@@ -73,7 +74,8 @@ module _ (p : Parts) (agrees : Agrees p) (bound : Within (2 ^ 62) p) (flow : ℕ
     pub enough-all : length (flow_at p.flows.flows flow).backlog ≤ p.waiting
     enough-all = let e = enough in let le = sum-le (λ (v : LinkView). v.waits) (views_of p) h.place is-home.view is-home.there in let is = bound.waiting_is in omega arith
 
-module _ (h : Home) (flow : ℕ) (old new : Parts) (agrees : Agrees old) (bound : Within (2 ^ 62) old) (within : flow < length old.flows.keys) (at_home : slice_get old.homes.items flow ≡ Some h) (s : DiscardsAt h flow old new) where
+module _ {h : Home} {flow : ℕ} {old new : Parts} (bound : Within (2 ^ 62) old) (agrees : Agrees old) (within : flow < length old.flows.keys)
+    (at_home : slice_get old.homes.items flow ≡ Some h) (s : DiscardsAt h flow old new) where
   pub discards-agree : DiscardsFlow flow old new
   discards-agree more trace a =
       let g = a.homes_are flow within in
@@ -85,9 +87,15 @@ module _ (h : Home) (flow : ℕ) (old new : Parts) (agrees : Agrees old) (bound 
       let here : home old.flows.keys flow ≡ s.view.link = sym is.link_is ∙ ap (λ (v : LinkView). v.link) view_is in
       subst (λ (r : Rule). IsAt r new.accepted new.flows.keys new.homes.items (views_of new) new.flows.flows new.line.pending more (discarded flow ∷ trace)) (sym s.rule)
       (subst (λ (x : ℕ × List FlowKey). IsAt old.rule x.0 x.1 new.homes.items (views_of new) new.flows.flows new.line.pending more (discarded flow ∷ trace)) (λ i. (sym s.accepted i, sym s.keys i))
-      (subst (λ (x : List Home × List LinkView). IsAt old.rule old.accepted old.flows.keys x.0 x.1 new.flows.flows new.line.pending more (discarded flow ∷ trace)) (λ i. ((sym s.homes i).items, sym s.views_are i))
-      (subst (λ (x : List FlowState × List Delivery). IsAt old.rule old.accepted old.flows.keys old.homes.items (set (views_of old) h.place s.view') x.0 x.1 more (discarded flow ∷ trace)) (λ i. (sym s.flows_are i, (sym s.line i).pending))
-      (discarded-agrees old.rule old.accepted old.flows.keys old.homes.items (views_of old) old.flows.flows old.line.pending more trace a h.place s.view s.there flow within here s.view' s.leaves.link s.leaves.value s.leaves.waits s.leaves.slots (λ pipe e.
+      (subst
+      (λ (x : List Home × List LinkView). IsAt old.rule old.accepted old.flows.keys x.0 x.1 new.flows.flows new.line.pending more (discarded flow ∷ trace))
+      (λ i. ((sym s.homes i).items, sym s.views_are i))
+      (subst
+      (λ (x : List FlowState × List Delivery). IsAt old.rule old.accepted old.flows.keys old.homes.items (set (views_of old) h.place s.view') x.0 x.1 more (discarded flow ∷ trace))
+      (λ i. (sym s.flows_are i, (sym s.line i).pending))
+      (discarded-agrees old.rule old.accepted old.flows.keys old.homes.items
+      (views_of old) old.flows.flows old.line.pending more trace a h.place s.view s.there flow within here s.view' s.leaves.link s.leaves.value s.leaves.waits s.leaves.slots
+      (λ pipe e.
       let r = subst (DiscardsOn h.slot s.view s.view') e s.leaves.discards in
       let here' = home-here old.rule old.accepted old.flows.keys old.homes.items (views_of old) old.flows.flows old.line.pending more trace a h.place s.view s.there flow h is here in
       (h.slot, here'.1 pipe e, r.0, r.1))))))
@@ -100,7 +108,13 @@ module _ (h : Home) (flow : ℕ) (old new : Parts) (agrees : Agrees old) (bound 
       omega arith
 
   pub discards-keeps : KeepsFlows old new
-  discards-keeps = record { rule = s.rule; keys = s.keys; homes = s.homes; names = ap (λ (vs : List LinkView). link_names vs) s.views_are ∙ map-set-same (λ (x : LinkView). x.link) (views_of old) h.place s.view s.view' s.there s.leaves.link }
+  discards-keeps = record {
+    rule = s.rule;
+    keys = s.keys;
+    homes = s.homes;
+    names = ap (λ (vs : List LinkView). link_names vs) s.views_are
+        ∙ map-set-same (λ (x : LinkView). x.link) (views_of old) h.place s.view s.view' s.there s.leaves.link;
+  }
 
   pub discards-within : (n : ℕ) → Within n old → Within n new
   discards-within n w = record {
@@ -108,7 +122,9 @@ module _ (h : Home) (flow : ℕ) (old new : Parts) (agrees : Agrees old) (bound 
     room = let b = s.waiting in let c = ap {B = ℕ} (λ x. x.room) s.line in let d = w.room in omega arith;
     pushed = let b = s.waiting in let c = ap {B = ℕ} (λ x. x.pushed) s.line in let d = w.pushed in omega arith;
     sums = let b = s.waiting in let c = ap {B = ℕ} (λ x. length x.pending) s.line in let d = w.sums in omega arith;
-    flows_are = λ g. subst (λ (x : FlowState). AreCountsWithin n x) (sym (ap (λ (fs : List FlowState). flow_at fs g) s.flows_are ∙ flow_after_set old.flows.flows flow g (emptied (flow_at old.flows.flows flow)) (flow-there old agrees bound flow within))) (by g (nat_eq flow g));
+    flows_are = λ g. subst (λ (x : FlowState). AreCountsWithin n x)
+        (sym (ap (λ (fs : List FlowState). flow_at fs g) s.flows_are ∙ flow_after_set old.flows.flows flow g (emptied (flow_at old.flows.flows flow)) (flow-there bound agrees within)))
+        (by g (nat_eq flow g));
     arrivals = λ j v e. few_arrivals j v e (cases_eq j h.place);
     accepted = let a = s.accepted in let b = w.accepted in omega arith;
   }
@@ -155,6 +171,7 @@ module _ (h : Home) (flow : ℕ) (old new : Parts) (agrees : Agrees old) (bound 
       by : (place ≡ h.place) ⊎ (place ≡ h.place → ⊥) → next_at (next_starts (views_of old)) place ≡ Some m
       by (inl same) =
           let listed = get-below (next_starts (views_of old)) h.place (next_start_of s.view) next-then in
-          let here = sym (get_or-set_same (next_starts (views_of old)) h.place (next_start_of s.view') None listed) ∙ ap (next_at (set (next_starts (views_of old)) h.place (next_start_of s.view'))) (sym same) ∙ now in
+          let here = sym (get_or-set_same (next_starts (views_of old)) h.place (next_start_of s.view') None listed)
+          ∙ ap (next_at (set (next_starts (views_of old)) h.place (next_start_of s.view'))) (sym same) ∙ now in
           ap (next_at (next_starts (views_of old))) same ∙ next-listed (next_starts (views_of old)) h.place (next_start_of s.view) next-then ∙ still-next m here
       by (inr ne) = sym (get_or-set_other (next_starts (views_of old)) h.place place (next_start_of s.view') None ne) ∙ now

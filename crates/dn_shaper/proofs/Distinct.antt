@@ -26,7 +26,9 @@ not_in (x ∷ ls) m (suc i) l none e = not_in ls m i l (or-right (link_eq m x) (
     or-right true b h = absurd cc
 
 other-way : (l m : Link) → link_eq m l ≡ false → link_eq l m ≡ false
-other-way l m e = ⊎_elim (λ same. absurd (let here : link_eq m l ≡ true = ap (link_eq m) (link_eq-true l m same) ∙ link_eq-refl m in let t : true ≡ false = sym here ∙ e in cc)) (λ no'. no') (true_or_false (link_eq l m))
+other-way l m e = ⊎_elim
+    (λ same. absurd (let here : link_eq m l ≡ true = ap (link_eq m) (link_eq-true l m same) ∙ link_eq-refl m in let t : true ≡ false = sym here ∙ e in cc))
+    (λ no'. no') (true_or_false (link_eq l m))
 
 pub distinct-more : (ls : List Link) (m : Link) → AreDistinct ls → list_any (link_eq m) ls ≡ false → AreDistinct (ls ++ m ∷ [])
 distinct-more ls m d none i j l k e f ne = by (in_append ls m i l e) (in_append ls m j k f)

@@ -20,13 +20,16 @@ is_some-cond true m = refl
 is_some-cond false m = refl
 
 -- A link has a backlog where packets wait for it.
-pub backlog-told : (queues : ℕ → ℕ) (links : List LinkParts) (place : ℕ) (s : LinkParts) → slice_get links place ≡ Some s → nat_lt 0 (view_of queues s).waits ≡ is_some (next_at (next_starts (map (view_of queues) links)) place)
+pub backlog-told : (queues : ℕ → ℕ) (links : List LinkParts) (place : ℕ) (s : LinkParts) → slice_get links place ≡ Some s →
+    nat_lt 0 (view_of queues s).waits ≡ is_some (next_at (next_starts (map (view_of queues) links)) place)
 backlog-told queues links place s e =
     let there = get-map next_start_of (map (view_of queues) links) place (view_of queues s) (get-map (view_of queues) links place s e) in
-    is_some-cond (nat_lt 0 (view_of queues s).waits) s.times.free ∙ ap (λ (o : Option ℕ). is_some o) (sym (next-listed (next_starts (map (view_of queues) links)) place (next_start_of (view_of queues s)) there))
+    is_some-cond (nat_lt 0 (view_of queues s).waits) s.times.free
+    ∙ ap (λ (o : Option ℕ). is_some o) (sym (next-listed (next_starts (map (view_of queues) links)) place (next_start_of (view_of queues s)) there))
 
 module _ (nexts : List (Option ℕ)) (place : ℕ) where
-  step-in : (b : Bool) (k : NextStart) (ks : List NextStart) → is_backlogged nexts k ≡ b → keys_at place (filter (is_backlogged nexts) (k ∷ ks)) ≡ keys_at place (cond b (k ∷ filter (is_backlogged nexts) ks) (filter (is_backlogged nexts) ks))
+  step-in : (b : Bool) (k : NextStart) (ks : List NextStart) → is_backlogged nexts k ≡ b →
+      keys_at place (filter (is_backlogged nexts) (k ∷ ks)) ≡ keys_at place (cond b (k ∷ filter (is_backlogged nexts) ks) (filter (is_backlogged nexts) ks))
   step-in b k ks e = ap (λ t. keys_at place (cond t (k ∷ filter (is_backlogged nexts) ks) (filter (is_backlogged nexts) ks))) e
 
   elsewhere : (k : NextStart) (b c : Bool) → is_backlogged nexts k ≡ b → is_some (next_at nexts place) ≡ c → (b ≡ c → ⊥) → one_at place k ≡ 0
@@ -55,7 +58,8 @@ some-of : (o : Option ℕ) → is_some o ≡ true → (m : ℕ) × (o ≡ Some m
 some-of None e = absurd cc
 some-of (Some m) e = (m, refl)
 
-module _ (old new : List (Option ℕ)) (keys keys' : List NextStart) (h : Holds old keys) (fewer : (place m : ℕ) → next_at new place ≡ Some m → next_at old place ≡ Some m) (perm : IsPermutation (filter (is_backlogged new) keys) keys') where
+module _ (old new : List (Option ℕ)) (keys keys' : List NextStart) (h : Holds old keys)
+    (fewer : (place m : ℕ) → next_at new place ≡ Some m → next_at old place ≡ Some m) (perm : IsPermutation (filter (is_backlogged new) keys) keys') where
   once-kept : (place : ℕ) (o : Option ℕ) → next_at new place ≡ o → keys_at place keys' ≡ cond (is_some o) 1 0
   once-kept place None e =
       let none = none-stays new place (ap (λ (o : Option ℕ). is_some o) e) keys in

@@ -11,14 +11,15 @@ use Rattle.dn_types.specs.SharedLinks.{next_packet}
 use Rattle.dn_types.specs.Starts.{next_start, sooner, first_start, start_at, settle}
 use Rattle.dn_shaper.specs.declared.links.next_start.NextStart.{NextStart}
 use Rattle.dn_shaper.specs.Refinement.NextStarts.{next_start_cmp, next_at, Holds}
-use Rattle.dn_shaper.proofs.NextStarts.{not_before, held_by, popped_next}
+use Rattle.dn_shaper.proofs.NextStarts.{not_before, held_by}
 
 -- The moment from which the link is free, where a packet waits for it.
 abbrev pub moment_of_next : List Event → Link → Option ℕ
 moment_of_next trace link = option_map (λ p. free link trace) (next_packet link trace)
 
 -- The first start is the next start of some link.
-first-of : (settings : Settings) (at : ℕ) (trace : List Event) (ls : List Link) (s : Start) → first_start settings at ls trace ≡ Some s → (j : ℕ) × (link : Link) × (slice_get ls j ≡ Some link) × (next_start settings at link trace ≡ Some s)
+first-of : (settings : Settings) (at : ℕ) (trace : List Event) (ls : List Link) (s : Start) → first_start settings at ls trace ≡ Some s →
+    (j : ℕ) × (link : Link) × (slice_get ls j ≡ Some link) × (next_start settings at link trace ≡ Some s)
 first-of settings at trace [] s e = absurd cc
 first-of settings at trace (l ∷ ls) s e = by_next (next_start settings at l trace) refl (first_start settings at ls trace) refl (λ is. first-of settings at trace ls s is) e
   where
@@ -31,20 +32,26 @@ first-of settings at trace (l ∷ ls) s e = by_next (next_start settings at l tr
     there : (j : ℕ) × (link : Link) × (slice_get ls j ≡ Some link) × (next_start settings at link trace ≡ Some s) → Found
     there r = (suc r.0, r.1, r.2, r.3)
 
-    by_test : (b : Bool) (x y : Start) → next_start settings at l trace ≡ Some x → first_start settings at ls trace ≡ Some y → (first_start settings at ls trace ≡ Some s → (j : ℕ) × (link : Link) × (slice_get ls j ≡ Some link) × (next_start settings at link trace ≡ Some s)) → Some (cond b y x) ≡ Some s → Found
+    by_test : (b : Bool) (x y : Start) → next_start settings at l trace ≡ Some x → first_start settings at ls trace ≡ Some y →
+        (first_start settings at ls trace ≡ Some s → (j : ℕ) × (link : Link) × (slice_get ls j ≡ Some link) × (next_start settings at link trace ≡ Some s)) →
+        Some (cond b y x) ≡ Some s → Found
     by_test true x y is is' rest e = there (rest (is' ∙ e))
     by_test false x y is is' rest e = here (is ∙ e)
 
-    by_next : (o : Option Start) → next_start settings at l trace ≡ o → (p : Option Start) → first_start settings at ls trace ≡ p → (first_start settings at ls trace ≡ Some s → (j : ℕ) × (link : Link) × (slice_get ls j ≡ Some link) × (next_start settings at link trace ≡ Some s)) → sooner o p ≡ Some s → Found
+    by_next : (o : Option Start) → next_start settings at l trace ≡ o → (p : Option Start) → first_start settings at ls trace ≡ p →
+        (first_start settings at ls trace ≡ Some s → (j : ℕ) × (link : Link) × (slice_get ls j ≡ Some link) × (next_start settings at link trace ≡ Some s)) →
+        sooner o p ≡ Some s → Found
     by_next None is p is' rest e = there (rest (is' ∙ e))
     by_next (Some x) is None is' rest e = here (is ∙ e)
     by_next (Some x) is (Some y) is' rest e = by_test (nat_lt y.moment x.moment) x y is is' rest e
 
 -- No other start is before the start of the link at the place.
 abbrev IsFirstAt : Settings → ℕ → List Event → List Link → ℕ → Start → Type 0
-IsFirstAt settings at trace ls place s = (j : ℕ) (other : Link) (t : Start) → slice_get ls j ≡ Some other → next_start settings at other trace ≡ Some t → (s.moment ≤ t.moment) × (t.moment ≡ s.moment → place ≤ j)
+IsFirstAt settings at trace ls place s = (j : ℕ) (other : Link) (t : Start) → slice_get ls j ≡ Some other → next_start settings at other trace ≡ Some t →
+    (s.moment ≤ t.moment) × (t.moment ≡ s.moment → place ≤ j)
 
-first-at : (settings : Settings) (at : ℕ) (trace : List Event) (ls : List Link) (place : ℕ) (link : Link) (s : Start) → slice_get ls place ≡ Some link → next_start settings at link trace ≡ Some s → IsFirstAt settings at trace ls place s → first_start settings at ls trace ≡ Some s
+first-at : (settings : Settings) (at : ℕ) (trace : List Event) (ls : List Link) (place : ℕ) (link : Link) (s : Start) → slice_get ls place ≡ Some link →
+    next_start settings at link trace ≡ Some s → IsFirstAt settings at trace ls place s → first_start settings at ls trace ≡ Some s
 first-at settings at trace [] place link s there is least = absurd cc
 first-at settings at trace (l ∷ ls) zero link s there is least = by_rest (first_start settings at ls trace) refl
   where
@@ -60,7 +67,8 @@ first-at settings at trace (l ∷ ls) zero link s there is least = by_rest (firs
       where
         lt-leb' : (a b : ℕ) → b ≤ a → nat_lt a b ≡ false
         lt-leb' a b h = grind (arith, nat_tests)
-first-at settings at trace (l ∷ ls) (suc place) link s there is least = by_next (next_start settings at l trace) refl (first-at settings at trace ls place link s there is (λ j other t h n. let r = least (suc j) other t h n in let tie = r.1 in (r.0, λ e. let le = tie e in omega arith)))
+first-at settings at trace (l ∷ ls) (suc place) link s there is least = by_next (next_start settings at l trace) refl
+    (first-at settings at trace ls place link s there is (λ j other t h n. let r = least (suc j) other t h n in let tie = r.1 in (r.0, λ e. let le = tie e in omega arith)))
   where
     sure : (a b : ℕ) → a < b → nat_lt a b ≡ true
     sure a b h = grind (arith, nat_tests)
@@ -79,12 +87,6 @@ first-at settings at trace (l ∷ ls) (suc place) link s there is least = by_nex
 
 -- ---- Links and next starts
 
--- The link of a next start.
-next_link : (trace : List Event) (ls : List Link) (place m : ℕ) → next_at (map (moment_of_next trace) ls) place ≡ Some m → (link : Link) × (slice_get ls place ≡ Some link) × (moment_of_next trace link ≡ Some m)
-next_link trace [] place m e = absurd cc
-next_link trace (l ∷ ls) zero m e = (l, refl, e)
-next_link trace (l ∷ ls) (suc place) m e = next_link trace ls place m e
-
 link_next : (trace : List Event) (ls : List Link) (place : ℕ) (link : Link) → slice_get ls place ≡ Some link → next_at (map (moment_of_next trace) ls) place ≡ moment_of_next trace link
 link_next trace [] place link e = absurd cc
 link_next trace (l ∷ ls) zero link e = let same : l ≡ link = cc in ap (moment_of_next trace) same
@@ -97,7 +99,9 @@ moment_then settings at trace link s e = by_test (nat_le (free link trace) at) r
     low : nat_le (free link trace) at ≡ true → free link trace ≤ at
     low h = grind (arith, nat_tests)
 
-    by_test : (b : Bool) → nat_le (free link trace) at ≡ b → (o : Option Accepted) → cond b (option_map (λ p. start_at settings link p (free link trace)) o) None ≡ Some s → (option_map (λ p. free link trace) o ≡ Some s.moment) × (s.moment ≤ at)
+    by_test : (b : Bool) → nat_le (free link trace) at ≡ b → (o : Option Accepted) →
+        cond b (option_map (λ p. start_at settings link p (free link trace)) o) None ≡ Some s →
+        (option_map (λ p. free link trace) o ≡ Some s.moment) × (s.moment ≤ at)
     by_test false is o e = absurd cc
     by_test true is None e = absurd cc
     by_test true is (Some p) e =
@@ -115,12 +119,11 @@ first_none settings at trace ls h = go (first_start settings at ls trace) refl
     go None e = e
     go (Some s) e = absurd (h s e)
 
-module _ (settings : Settings) (at : ℕ) (trace : List Event) (ls : List Link) (nexts : List (Option ℕ)) (nexts_is : nexts ≡ map (moment_of_next trace) ls) (keys : List NextStart) (h : Holds nexts keys) where
+module _ (settings : Settings) (at : ℕ) (trace : List Event) (ls : List Link) (nexts : List (Option ℕ)) (nexts_is : nexts ≡ map (moment_of_next trace) ls)
+    (keys : List NextStart) (h : Holds nexts keys) where
   -- The link of the popped key starts first.
-  pub link_popped : (rest : List NextStart) (k : NextStart) → IsPermutation keys (k ∷ rest) → (link : Link) × (slice_get ls k.place ≡ Some link) × (moment_of_next trace link ≡ Some k.moment)
-  link_popped rest k p = next_link trace ls k.place k.moment (sym (ap (λ (d : List (Option ℕ)). next_at d k.place) nexts_is) ∙ popped_next nexts keys rest k h p)
-
-  pub first_popped : (k : NextStart) (link : Link) (s : Start) → IsLeast next_start_cmp k keys → slice_get ls k.place ≡ Some link → next_start settings at link trace ≡ Some s → s.moment ≡ k.moment → first_start settings at ls trace ≡ Some s
+  pub first_popped : (k : NextStart) (link : Link) (s : Start) → IsLeast next_start_cmp k keys → slice_get ls k.place ≡ Some link →
+      next_start settings at link trace ≡ Some s → s.moment ≡ k.moment → first_start settings at ls trace ≡ Some s
   first_popped k link s least there next moment_is =
       first-at settings at trace ls k.place link s there next (λ j other t is n.
       let d = (moment_then settings at trace other t n).0 in
@@ -142,14 +145,18 @@ module _ (settings : Settings) (at : ℕ) (trace : List Event) (ls : List Link) 
       absurd (omega arith))
 
 -- Links without a next start don't count.
-pub first_start-more : (settings : Settings) (at : ℕ) (trace : List Event) (ls more : List Link) → ((i : ℕ) (l : Link) → slice_get more i ≡ Some l → next_start settings at l trace ≡ None) → first_start settings at (ls ++ more) trace ≡ first_start settings at ls trace
+pub first_start-more : (settings : Settings) (at : ℕ) (trace : List Event) (ls more : List Link) →
+    ((i : ℕ) (l : Link) → slice_get more i ≡ Some l → next_start settings at l trace ≡ None) →
+    first_start settings at (ls ++ more) trace ≡ first_start settings at ls trace
 first_start-more settings at trace [] [] h = refl
-first_start-more settings at trace [] (l ∷ more) h = ap (λ (o : Option Start). sooner o (first_start settings at more trace)) (h 0 l refl) ∙ first_start-more settings at trace [] more (λ i m e. h (suc i) m e)
+first_start-more settings at trace [] (l ∷ more) h = ap (λ (o : Option Start). sooner o (first_start settings at more trace)) (h 0 l refl)
+    ∙ first_start-more settings at trace [] more (λ i m e. h (suc i) m e)
 first_start-more settings at trace (l ∷ ls) more h = ap (sooner (next_start settings at l trace)) (first_start-more settings at trace ls more h)
 
 pub settle-none : (most : ℕ) (settings : Settings) (at : ℕ) (trace : List Event) → first_start settings at (links trace) trace ≡ None → settle most settings at trace ≡ trace
 settle-none zero settings at trace e = refl
 settle-none (suc most) settings at trace e = ap (λ (o : Option Start). elim o as (λ _. List Event) [ None ↦ trace | Some s ↦ settle most settings at (started s ∷ trace) ]) e
 
-pub settle-some : (most : ℕ) (settings : Settings) (at : ℕ) (trace : List Event) (s : Start) → first_start settings at (links trace) trace ≡ Some s → settle (suc most) settings at trace ≡ settle most settings at (started s ∷ trace)
+pub settle-some : (most : ℕ) (settings : Settings) (at : ℕ) (trace : List Event) (s : Start) → first_start settings at (links trace) trace ≡ Some s →
+    settle (suc most) settings at trace ≡ settle most settings at (started s ∷ trace)
 settle-some most settings at trace s e = ap (λ (o : Option Start). elim o as (λ _. List Event) [ None ↦ trace | Some s ↦ settle most settings at (started s ∷ trace) ]) e

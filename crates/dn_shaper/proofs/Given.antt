@@ -16,12 +16,13 @@ use Rattle.dn_shaper.proofs.Preparing.{IsOneMore, lengths-more, with_flows}
 use Rattle.dn_shaper.proofs.SharedHome.{shared-ready, shared-prepares, shared-sound}
 use Rattle.dn_shaper.proofs.NewHome.{opened-ready, opened-prepares, opened-sound}
 
-module _ (old new : State) (t : Table) (key : FlowKey) (one : IsOneMore key old.parts.flows t) (sound : IsSound old) (trace : List Event) (a : AgreesWith old.parts [] trace) where
+module _ (new : State) {old : State} {t : Table} {key : FlowKey} (sound : IsSound old) (one : IsOneMore key old.parts.flows t) {trace : List Event} (a : AgreesWith old.parts [] trace) where
   abbrev pub Given : ℕ → Type 0
   Given n = GivesHome key n (with_flows old t) new
 
   -- The flow that is new has no packet, so the links are seen as they were.
-  houses-before : (g : Given (length old.parts.flows.keys)) → Houses (place_for key old.shared) key (length old.parts.flows.keys) g.home (views_of old.parts) (views_of new.parts) new.heap old.shared new.shared
+  houses-before : (g : Given (length old.parts.flows.keys)) →
+      Houses (place_for key old.shared) key (length old.parts.flows.keys) g.home (views_of old.parts) (views_of new.parts) new.heap old.shared new.shared
   houses-before g =
       subst (λ (vs : List LinkView). Houses (place_for key old.shared) key (length old.parts.flows.keys) g.home vs (views_of new.parts) new.heap old.shared new.shared)
       (all-seen-same old.parts.links.items (queue_lengths old.parts.flows.flows) (queue_lengths t.flows) (lengths-more key old.parts.flows t one))
@@ -36,7 +37,9 @@ module _ (old new : State) (t : Table) (key : FlowKey) (one : IsOneMore key old.
       g : Given (length old.parts.flows.keys)
       g = given-at f e given
 
-      by : (o : Option ℕ) → place_for key old.shared ≡ o → Houses o key (length old.parts.flows.keys) g.home (views_of old.parts) (views_of new.parts) new.heap old.shared new.shared → IsReady (length old.parts.flows.keys) new.parts
+      by : (o : Option ℕ) → place_for key old.shared ≡ o →
+          Houses o key (length old.parts.flows.keys) g.home (views_of old.parts) (views_of new.parts) new.heap old.shared new.shared →
+          IsReady (length old.parts.flows.keys) new.parts
       by (Some place) noted h = shared-ready old new t key one g a.as_many place noted h.0 h.1 sound.indexed a.as_many_homes
       by None noted h = opened-ready old new t key one g a.as_many noted h.0 h.1 sound.indexed a.as_many_homes
 
@@ -46,7 +49,9 @@ module _ (old new : State) (t : Table) (key : FlowKey) (one : IsOneMore key old.
       g : Given (length old.parts.flows.keys)
       g = given-at f e given
 
-      by : (o : Option ℕ) → place_for key old.shared ≡ o → Houses o key (length old.parts.flows.keys) g.home (views_of old.parts) (views_of new.parts) new.heap old.shared new.shared → Prepares (length old.parts.flows.keys) old.parts new.parts
+      by : (o : Option ℕ) → place_for key old.shared ≡ o →
+          Houses o key (length old.parts.flows.keys) g.home (views_of old.parts) (views_of new.parts) new.heap old.shared new.shared →
+          Prepares (length old.parts.flows.keys) old.parts new.parts
       by (Some place) noted h = shared-prepares old new t key one g a.as_many place noted h.0 h.1 sound.indexed
       by None noted h = opened-prepares old new t key one g a.as_many noted h.0 h.1 sound.indexed
 

@@ -85,11 +85,14 @@ first-mapped : {X Y : Type 0} (f : X → Y) (xs : List X) (y : Y) → slice_get 
 first-mapped f [] y e = absurd cc
 first-mapped f (x ∷ xs) y e = let same : f x ≡ y = cc in (x, refl, same)
 
-back-at_slot : (to : ℕ → ℕ) (rises : (a b : ℕ) → a < b → to a < to b) (slot flow : ℕ) → to slot ≡ flow → (ps : List Accepted) → ((p : Accepted) (i : ℕ) → slice_get ps i ≡ Some p → p.stamped.flow ≡ flow) → map (moved to rises) (map (slotted slot) (stamped_of ps)) ≡ stamped_of ps
+back-at_slot : (to : ℕ → ℕ) (rises : (a b : ℕ) → a < b → to a < to b) (slot flow : ℕ) → to slot ≡ flow → (ps : List Accepted) →
+    ((p : Accepted) (i : ℕ) → slice_get ps i ≡ Some p → p.stamped.flow ≡ flow) → map (moved to rises) (map (slotted slot) (stamped_of ps)) ≡ stamped_of ps
 back-at_slot to rises slot flow e [] h = refl
 back-at_slot to rises slot flow e (p ∷ ps) h =
     let here : to slot ≡ p.stamped.flow = e ∙ sym (h p 0 refl) in
-    λ i. (record { flow = here i; len = p.stamped.len; weight = p.stamped.weight; start_tag = p.stamped.start_tag; finish_tag = p.stamped.finish_tag }) ∷ back-at_slot to rises slot flow e ps (λ r k er. h r (suc k) er) i
+    λ i.
+    (record { flow = here i; len = p.stamped.len; weight = p.stamped.weight; start_tag = p.stamped.start_tag; finish_tag = p.stamped.finish_tag }) ∷ back-at_slot to rises slot flow e ps
+    (λ r k er. h r (suc k) er) i
 
 all-get : {X : Type 0} (P : X → Type 0) (xs : List X) (i : ℕ) (x : X) → All P xs → slice_get xs i ≡ Some x → P x
 all-get P [] i x h e = absurd cc
@@ -97,7 +100,8 @@ all-get P (y ∷ xs) zero x h e = let same : y ≡ x = cc in subst P same (h 0 y
 all-get P (y ∷ xs) (suc i) x h e = all-get P xs i x (λ k d lt. h (suc k) d (omega arith)) e
 
 pub backlog-flow : (link : Link) (flow : ℕ) (trace : List Event) (p : Accepted) (i : ℕ) → slice_get (backlog link flow trace) i ≡ Some p → p.stamped.flow ≡ flow
-backlog-flow link flow trace p i e = eqb-true p.stamped.flow flow (and-right (link_eq p.link link) (nat_eq p.stamped.flow flow) (all-get (IsOwn link flow) (backlog link flow trace) i p (backlog-own link flow trace) e))
+backlog-flow link flow trace p i e = eqb-true p.stamped.flow flow
+    (and-right (link_eq p.link link) (nat_eq p.stamped.flow flow) (all-get (IsOwn link flow) (backlog link flow trace) i p (backlog-own link flow trace) e))
 
 module _ (link : Link) (trace : List Event) (s : Schedule) (slots : List ℕ) (a : IsScheduleAt link trace s slots) (ascends : Ascends 0 slots)
     (listed : (flow : ℕ) → ((slot : ℕ) → slice_get slots slot ≡ Some flow → ⊥) → backlog link flow trace ≡ []) where

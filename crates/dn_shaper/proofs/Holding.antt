@@ -36,7 +36,8 @@ use Rattle.dn_shaper.proofs.Starting.{length-in_order}
 
 -- ---- What a state holds is what its calls do
 
-waits-all : (views : List LinkView) (trace : List Event) → ((k : ℕ) (v : LinkView) → slice_get views k ≡ Some v → v.waits ≡ waiting v.link trace) → waits_in_all views ≡ waiting_all (link_names views) trace
+waits-all : (views : List LinkView) (trace : List Event) → ((k : ℕ) (v : LinkView) → slice_get views k ≡ Some v → v.waits ≡ waiting v.link trace) →
+    waits_in_all views ≡ waiting_all (link_names views) trace
 waits-all [] trace h = refl
 waits-all (v ∷ views) trace h =
     let here : v.waits ≡ waiting v.link trace = h 0 v refl in
@@ -75,7 +76,9 @@ held-settle : (rule : Rule) (settings : Settings) (at most : ℕ) (trace : List 
 held-settle rule settings at zero trace = omega arith
 held-settle rule settings at (suc most) trace = by (first_start settings at (links trace) trace) refl (λ s. held-settle rule settings at most (started s ∷ trace))
   where
-    by : (o : Option Start) → first_start settings at (links trace) trace ≡ o → ((s : Start) → held rule (settle most settings at (started s ∷ trace)) ≤ held rule (started s ∷ trace)) → held rule (settle (suc most) settings at trace) ≤ held rule trace
+    by : (o : Option Start) → first_start settings at (links trace) trace ≡ o →
+        ((s : Start) → held rule (settle most settings at (started s ∷ trace)) ≤ held rule (started s ∷ trace)) →
+        held rule (settle (suc most) settings at trace) ≤ held rule trace
     by None e after = subst (λ (t : List Event). held rule t ≤ held rule trace) (sym (settle-none (suc most) settings at trace e)) (omega arith)
     by (Some s) e after =
         let rest = after s in

@@ -10,7 +10,8 @@ use Rattle.dn_shaper.specs.Refinement.Agreement.{IsHomeOf, AreSlotsAtHome}
 use Rattle.dn_flows.proofs.Places.{get-set, get-set-other}
 use Rattle.dn_shaper.proofs.Slots.{flow-at, flows-rise}
 
-pub home-after : (keys : List FlowKey) (views : List LinkView) (k : ℕ) (v : LinkView) → slice_get views k ≡ Some v → (v' : LinkView) → v'.link ≡ v.link → v'.slots ≡ v.slots → (g : ℕ) (h : Home) → IsHomeOf g (home keys g) views h → IsHomeOf g (home keys g) (set views k v') h
+pub home-after : (keys : List FlowKey) (views : List LinkView) (k : ℕ) (v : LinkView) → slice_get views k ≡ Some v → (v' : LinkView) → v'.link ≡ v.link →
+    v'.slots ≡ v.slots → (g : ℕ) (h : Home) → IsHomeOf g (home keys g) views h → IsHomeOf g (home keys g) (set views k v') h
 home-after keys views k v there v' same_link same_slots g h is = by (cases_eq h.place k)
   where
     by : (h.place ≡ k) ⊎ (h.place ≡ k → ⊥) → IsHomeOf g (home keys g) (set views k v') h
@@ -40,7 +41,8 @@ slots-apart slots up i j f g at_i at_j ne same =
     strict : j ≤ i → j < i
     strict le = ⊎_elim (λ lt. lt) (λ ge. absurd (ne (omega arith))) (cases_lt j i)
 
-pub slots_home-after : (keys : List FlowKey) (views : List LinkView) (k : ℕ) (v : LinkView) → slice_get views k ≡ Some v → (v' : LinkView) → v'.link ≡ v.link → v'.slots ≡ v.slots → AreSlotsAtHome keys views → AreSlotsAtHome keys (set views k v')
+pub slots_home-after : (keys : List FlowKey) (views : List LinkView) (k : ℕ) (v : LinkView) → slice_get views k ≡ Some v → (v' : LinkView) → v'.link ≡ v.link →
+    v'.slots ≡ v.slots → AreSlotsAtHome keys views → AreSlotsAtHome keys (set views k v')
 slots_home-after keys views k v there v' same_link same_slots h j w e slot g at = by (cases_eq j k)
   where
     by : (j ≡ k) ⊎ (j ≡ k → ⊥) → home keys g ≡ w.link

@@ -37,7 +37,9 @@ module _ (old new : State) (t : Table) (key : FlowKey) (one : IsOneMore key old.
 
     pub same-flows : (f : ℕ) → SameFlow (flow_at old.parts.flows.flows f) (flow_at new.parts.flows.flows f)
     same-flows f =
-        subst (λ (x : FlowState × List FlowState). SameFlow x.0 (flow_at x.1 f)) (λ i. ((ap (λ (fs : List FlowState). flow_at fs f) one.flows ∙ flow-more old.parts.flows.flows f) i, sym g.flows i)) (place-reserved t.flows flow f inside)
+        subst (λ (x : FlowState × List FlowState). SameFlow x.0 (flow_at x.1 f))
+        (λ i. ((ap (λ (fs : List FlowState). flow_at fs f) one.flows ∙ flow-more old.parts.flows.flows f) i, sym g.flows i))
+        (place-reserved t.flows flow f inside)
 
     pub many-flows : length new.parts.flows.flows ≡ length old.parts.flows.keys + 1
     many-flows =
@@ -55,7 +57,8 @@ module _ (old new : State) (t : Table) (key : FlowKey) (one : IsOneMore key old.
 
     -- ---- What holds on either home
 
-    pub ready-by : (room : (v : LinkView) (pipe : ℕ) → slice_get (views_of new.parts) g.home.place ≡ Some v → v.link ≡ shared pipe → 0 < room_at v.schedule.room g.home.slot) → length old.parts.homes.items ≡ flow → IsReady flow new.parts
+    pub ready-by : (room : (v : LinkView) (pipe : ℕ) → slice_get (views_of new.parts) g.home.place ≡ Some v → v.link ≡ shared pipe → 0 < room_at v.schedule.room g.home.slot) →
+        length old.parts.homes.items ≡ flow → IsReady flow new.parts
     ready-by room many = record {
       place = reserved-now;
       slot = λ h v pipe at e is.
@@ -66,7 +69,9 @@ module _ (old new : State) (t : Table) (key : FlowKey) (one : IsOneMore key old.
       line = let a = g.line in let b = g.waiting in omega arith;
     }
 
-    pub within-by : waits_in_all (views_of new.parts) ≡ waits_in_all (views_of old.parts) → ((n : ℕ) → Within n old.parts → (k : ℕ) (v : LinkView) → slice_get (views_of new.parts) k ≡ Some v → v.schedule.arrivals ≤ n) → (n : ℕ) → Within n old.parts → Within n new.parts
+    pub within-by : waits_in_all (views_of new.parts) ≡ waits_in_all (views_of old.parts) →
+        ((n : ℕ) → Within n old.parts → (k : ℕ) (v : LinkView) → slice_get (views_of new.parts) k ≡ Some v → v.schedule.arrivals ≤ n) → (n : ℕ) →
+        Within n old.parts → Within n new.parts
     within-by waits arrivals n w = record {
       waiting_is = g.waiting ∙ w.waiting_is ∙ sym waits;
       room = let a = w.room in let b = g.waiting in let c = g.room in omega arith;
@@ -88,7 +93,10 @@ module _ (old new : State) (t : Table) (key : FlowKey) (one : IsOneMore key old.
       accepted = let a = w.accepted in let b = g.accepted in omega arith;
     }
 
-    pub sound-by : (agrees : (more : List Link) × (trace : List Event) × AgreesWith new.parts more trace) → ((n : ℕ) → Within n old.parts → Within n new.parts) → Holds (next_starts (views_of new.parts)) old.heap.keys → backlogged (next_starts (views_of new.parts)) ≡ backlogged (next_starts (views_of old.parts)) → length (views_of new.parts) ≤ length old.heap.keys + new.heap.room → IsIndexed new (link_names (views_of new.parts)) → IsSound old → IsSound new
+    pub sound-by : (agrees : (more : List Link) × (trace : List Event) × AgreesWith new.parts more trace) →
+        ((n : ℕ) → Within n old.parts → Within n new.parts) → Holds (next_starts (views_of new.parts)) old.heap.keys →
+        backlogged (next_starts (views_of new.parts)) ≡ backlogged (next_starts (views_of old.parts)) →
+        length (views_of new.parts) ≤ length old.heap.keys + new.heap.room → IsIndexed new (link_names (views_of new.parts)) → IsSound old → IsSound new
     sound-by agrees within held same_count places indexed s = record {
       kept = record {
         agrees = agrees;
@@ -104,9 +112,18 @@ module _ (old new : State) (t : Table) (key : FlowKey) (one : IsOneMore key old.
     }
 
     -- The parts from their pieces.
-    pub agrees-by : (more : List Link) (trace : List Event) (h : Home) (views : List LinkView) → g.home ≡ h → views_of new.parts ≡ views → IsAt old.parts.rule old.parts.accepted (old.parts.flows.keys ++ key ∷ []) (old.parts.homes.items ++ h ∷ []) views new.parts.flows.flows old.parts.line.pending more trace → AgreesWith new.parts more trace
+    pub agrees-by : (more : List Link) (trace : List Event) (h : Home) (views : List LinkView) → g.home ≡ h → views_of new.parts ≡ views →
+        IsAt old.parts.rule old.parts.accepted (old.parts.flows.keys ++ key ∷ []) (old.parts.homes.items ++ h ∷ []) views new.parts.flows.flows old.parts.line.pending more trace →
+        AgreesWith new.parts more trace
     agrees-by more trace h views same_home same_views a =
         subst (λ (x : Rule). IsAt x new.parts.accepted new.parts.flows.keys new.parts.homes.items (views_of new.parts) new.parts.flows.flows new.parts.line.pending more trace) (sym g.keeps.rule)
-        (subst (λ (x : ℕ × List FlowKey). IsAt old.parts.rule x.0 x.1 new.parts.homes.items (views_of new.parts) new.parts.flows.flows new.parts.line.pending more trace) (λ i. (sym g.accepted i, sym keys-are i))
-        (subst (λ (x : List Home × List Delivery). IsAt old.parts.rule old.parts.accepted (old.parts.flows.keys ++ key ∷ []) x.0 (views_of new.parts) new.parts.flows.flows x.1 more trace) (λ i. (sym (g.homes ∙ ap (λ (y : Home). old.parts.homes.items ++ y ∷ []) same_home) i, sym g.pending i))
-        (subst (λ (vs : List LinkView). IsAt old.parts.rule old.parts.accepted (old.parts.flows.keys ++ key ∷ []) (old.parts.homes.items ++ h ∷ []) vs new.parts.flows.flows old.parts.line.pending more trace) (sym same_views) a)))
+        (subst
+        (λ (x : ℕ × List FlowKey). IsAt old.parts.rule x.0 x.1 new.parts.homes.items (views_of new.parts) new.parts.flows.flows new.parts.line.pending more trace)
+        (λ i. (sym g.accepted i, sym keys-are i))
+        (subst
+        (λ (x : List Home × List Delivery). IsAt old.parts.rule old.parts.accepted (old.parts.flows.keys ++ key ∷ []) x.0 (views_of new.parts) new.parts.flows.flows x.1 more trace)
+        (λ i. (sym (g.homes ∙ ap (λ (y : Home). old.parts.homes.items ++ y ∷ []) same_home) i, sym g.pending i))
+        (subst
+        (λ (vs : List LinkView). IsAt old.parts.rule old.parts.accepted (old.parts.flows.keys ++ key ∷ [])
+        (old.parts.homes.items ++ h ∷ []) vs new.parts.flows.flows old.parts.line.pending more trace)
+        (sym same_views) a)))

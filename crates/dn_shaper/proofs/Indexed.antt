@@ -24,27 +24,34 @@ use Rattle.dn_types.proofs.Settling.{and-no}
 -- ---- The links that are noted
 
 -- No link is that of a flow whose number is above all slots.
-own-unknown : (queues : ℕ → ℕ) (links : List LinkParts) (pipe n : ℕ) → ((k : ℕ) (v : LinkView) → slice_get (map (view_of queues) links) k ≡ Some v → top 0 v.slots ≤ n) → list_any (link_eq (own pipe n)) (link_names (map (view_of queues) links)) ≡ false
+own-unknown : (queues : ℕ → ℕ) (links : List LinkParts) (pipe n : ℕ) →
+    ((k : ℕ) (v : LinkView) → slice_get (map (view_of queues) links) k ≡ Some v → top 0 v.slots ≤ n) →
+    list_any (link_eq (own pipe n)) (link_names (map (view_of queues) links)) ≡ false
 own-unknown queues [] pipe n h = refl
-own-unknown queues (p ∷ links) pipe n h = ap (λ b. b || list_any (link_eq (own pipe n)) (link_names (map (view_of queues) links))) (other p.carries (h 0 (view_of queues p) refl)) ∙ own-unknown queues links pipe n (λ k v e. h (suc k) v e)
+own-unknown queues (p ∷ links) pipe n h = ap (λ b. b || list_any (link_eq (own pipe n)) (link_names (map (view_of queues) links))) (other p.carries (h 0 (view_of queues p) refl))
+    ∙ own-unknown queues links pipe n (λ k v e. h (suc k) v e)
   where
     other : (c : Carries) → top 0 (carried_slots c) ≤ n → link_eq (own pipe n) (carried_link p.pipe c) ≡ false
     other (Own f) le = and-no (nat_eq pipe p.pipe) (nat_eq n f) (eq-no n f (λ e. absurd (omega arith)))
     other (Shared s) le = refl
 
 -- The place that is noted for a flow is that of its link.
-pub noted-found : (s : State) (names : List Link) → IsIndexed s names → (target : Target) (flow pipe place : ℕ) → shared_only target (lookup (nat_eq pipe) s.shared) ≡ Some place → (slice_get names place ≡ Some (shared pipe)) × (link_of target flow pipe ≡ shared pipe)
+pub noted-found : (s : State) (names : List Link) → IsIndexed s names → (target : Target) (flow pipe place : ℕ) →
+    shared_only target (lookup (nat_eq pipe) s.shared) ≡ Some place → (slice_get names place ≡ Some (shared pipe)) × (link_of target flow pipe ≡ shared pipe)
 noted-found s names is (ToPipe number) flow pipe place e = absurd cc
 noted-found s names is (ToQueue number) flow pipe place e = (is.found pipe place e, refl)
 
 -- Where no place is noted, the link is not there.
-pub unnoted-unknown : (s : State) (queues : ℕ → ℕ) (links : List LinkParts) → IsIndexed s (link_names (map (view_of queues) links)) → (target : Target) (flow pipe : ℕ) → ((k : ℕ) (v : LinkView) → slice_get (map (view_of queues) links) k ≡ Some v → top 0 v.slots ≤ flow) →
+pub unnoted-unknown : (s : State) (queues : ℕ → ℕ) (links : List LinkParts) → IsIndexed s (link_names (map (view_of queues) links)) →
+    (target : Target) (flow pipe : ℕ) → ((k : ℕ) (v : LinkView) → slice_get (map (view_of queues) links) k ≡ Some v → top 0 v.slots ≤ flow) →
     shared_only target (lookup (nat_eq pipe) s.shared) ≡ None → list_any (link_eq (link_of target flow pipe)) (link_names (map (view_of queues) links)) ≡ false
 unnoted-unknown s queues links is (ToPipe number) flow pipe below e = own-unknown queues links pipe flow below
 unnoted-unknown s queues links is (ToQueue number) flow pipe below e = is.missing pipe e
 
 -- The place of a link that was made is noted where it is shared.
-pub noted-more : (old new : State) (names : List Link) → IsIndexed old names → (target : Target) (flow pipe place : ℕ) → place ≡ length names → shared_only target (lookup (nat_eq pipe) old.shared) ≡ None → NotesFor target pipe place old.shared new.shared → IsIndexed new (names ++ link_of target flow pipe ∷ [])
+pub noted-more : (old new : State) (names : List Link) → IsIndexed old names → (target : Target) (flow pipe place : ℕ) → place ≡ length names →
+    shared_only target (lookup (nat_eq pipe) old.shared) ≡ None → NotesFor target pipe place old.shared new.shared →
+    IsIndexed new (names ++ link_of target flow pipe ∷ [])
 noted-more old new names is (ToPipe number) flow pipe place last none notes = record {
   found = λ p k e. get-kept names (own pipe flow) (shared p) k (is.found p k (ap (λ (es : List (ℕ × ℕ)). lookup (nat_eq p) es) (sym notes) ∙ e));
   missing = λ p e.

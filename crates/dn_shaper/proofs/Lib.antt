@@ -18,6 +18,7 @@ pub mod FirstStart
 pub mod Given
 pub mod Heads
 pub mod Holding
+pub mod HomeRead
 pub mod Homes
 pub mod Housed
 pub mod Indexed
@@ -28,6 +29,7 @@ pub mod NewHome
 pub mod Next
 pub mod NextStarts
 pub mod Noted
+pub mod Noting
 pub mod Opened
 pub mod Ordered
 pub mod Preparing

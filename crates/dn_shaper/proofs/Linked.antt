@@ -22,7 +22,8 @@ module _ (queues : ℕ → ℕ) (flow pipe : ℕ) (times : LinkState) (free : ti
     room = tt;
   }
 
-  pub shared-new : (s : Box SharedLink Global) → s.value.flows.items ≡ flow ∷ [] → OnlyRoom no_schedule s.value.sched → 0 < room_at s.value.sched.room 0 → IsNewLink (shared pipe) flow (view_of queues (record { pipe = pipe; times = times; carries = Shared s }))
+  pub shared-new : (s : Box SharedLink Global) → s.value.flows.items ≡ flow ∷ [] → OnlyRoom no_schedule s.value.sched → 0 < room_at s.value.sched.room 0 →
+      IsNewLink (shared pipe) flow (view_of queues (record { pipe = pipe; times = times; carries = Shared s }))
   shared-new s slots only room = record {
     link_is = refl;
     free = free;

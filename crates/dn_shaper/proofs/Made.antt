@@ -40,7 +40,8 @@ total-nil : (n : ℕ) → total {X = Accepted} n (λ g. []) ≡ 0
 total-nil zero = refl
 total-nil (suc n) = let r = total-nil n in omega arith
 
-module _ (rule : Rule) (accepted : ℕ) (keys : List FlowKey) (homes : List Home) (views : List LinkView) (flows : List FlowState) (pending : List Delivery) (trace : List Event) (a : IsAt rule accepted keys homes views flows pending [] trace) where
+module _ (rule : Rule) (accepted : ℕ) (keys : List FlowKey) (homes : List Home) (views : List LinkView) (flows : List FlowState) (pending : List Delivery)
+    (trace : List Event) (a : IsAt rule accepted keys homes views flows pending [] trace) where
   module _ (key : FlowKey) where
     abbrev pub flow : ℕ
     flow = length keys
@@ -73,7 +74,8 @@ module _ (rule : Rule) (accepted : ℕ) (keys : List FlowKey) (homes : List Home
           b : IsFlowAt (home keys g) g trace (flow_at flows g)
           b = a.flows_are g
 
-          same_rest : (bk : (flow_at flows' g).backlog ≡ map as_queued (backlog (home keys_now g) g trace)) → (dc : (flow_at flows' g).discarded ≡ discarded_count (home keys_now g) g trace) → IsFlowAt (home keys_now g) g trace (flow_at flows' g)
+          same_rest : (bk : (flow_at flows' g).backlog ≡ map as_queued (backlog (home keys_now g) g trace)) →
+              (dc : (flow_at flows' g).discarded ≡ discarded_count (home keys_now g) g trace) → IsFlowAt (home keys_now g) g trace (flow_at flows' g)
           same_rest bk dc = record {
             backlog_is = bk;
             lost_is = s.lost ∙ b.lost_is;
@@ -144,7 +146,9 @@ module _ (rule : Rule) (accepted : ℕ) (keys : List FlowKey) (homes : List Home
 
       -- ---- On a link that is there
 
-      module _ (k : ℕ) (v : LinkView) (there : slice_get views k ≡ Some v) (here : v.link ≡ link) (schedule : Schedule) (time_same : schedule.virtual_time ≡ v.schedule.virtual_time) (slots_same : (slot : ℕ) → slot_at schedule.flows slot ≡ slot_at v.schedule.flows slot) where
+      module _ (k : ℕ) (v : LinkView) (there : slice_get views k ≡ Some v) (here : v.link ≡ link) (schedule : Schedule)
+          (time_same : schedule.virtual_time ≡ v.schedule.virtual_time)
+          (slots_same : (slot : ℕ) → slot_at schedule.flows slot ≡ slot_at v.schedule.flows slot) where
         abbrev pub joined : LinkView
         joined = record { link = v.link; value = v.value; waits = v.waits; schedule = schedule; slots = v.slots ++ flow ∷ [] }
 
@@ -157,7 +161,8 @@ module _ (rule : Rule) (accepted : ℕ) (keys : List FlowKey) (homes : List Home
               beyond = λ slot le. let m = length-more v.slots flow in slots_same slot ∙ c.beyond slot (omega arith);
             }
           where
-            slot_joined : IsScheduleAt v.link trace v.schedule v.slots → (slot g : ℕ) → (slice_get v.slots slot ≡ Some g) ⊎ ((slot ≡ length v.slots) × (g ≡ flow)) → IsSlotAt v.link g slot trace (slot_at schedule.flows slot)
+            slot_joined : IsScheduleAt v.link trace v.schedule v.slots → (slot g : ℕ) →
+                (slice_get v.slots slot ≡ Some g) ⊎ ((slot ≡ length v.slots) × (g ≡ flow)) → IsSlotAt v.link g slot trace (slot_at schedule.flows slot)
             slot_joined c slot g (inl e) = let s = c.slots_are slot g e in record {
               backlog_is = ap (λ (f : Flow). f.backlog) (slots_same slot) ∙ s.backlog_is;
               last_finish_is = ap (λ (f : Flow). f.last_finish_tag) (slots_same slot) ∙ s.last_finish_is;
@@ -230,8 +235,10 @@ module _ (rule : Rule) (accepted : ℕ) (keys : List FlowKey) (homes : List Home
 
       -- ---- With a link of its own, or the first of a shared one
 
-      module _ (v : LinkView) (here : v.link ≡ link) (unknown : list_any (link_eq link) (link_names views) ≡ false) (no_free : v.value.free ≡ 0) (no_due : v.value.last_due ≡ 0) (no_waits : v.waits ≡ 0)
-          (no_time : v.schedule.virtual_time ≡ 0) (no_slots : (slot : ℕ) → slot_at v.schedule.flows slot ≡ no_packets) (only : (slot g : ℕ) → slice_get v.slots slot ≡ Some g → g ≡ flow) (first : (pipe : ℕ) → link ≡ shared pipe → slice_get v.slots 0 ≡ Some flow)
+      module _ (v : LinkView) (here : v.link ≡ link) (unknown : list_any (link_eq link) (link_names views) ≡ false) (no_free : v.value.free ≡ 0)
+          (no_due : v.value.last_due ≡ 0) (no_waits : v.waits ≡ 0)
+          (no_time : v.schedule.virtual_time ≡ 0) (no_slots : (slot : ℕ) → slot_at v.schedule.flows slot ≡ no_packets)
+          (only : (slot g : ℕ) → slice_get v.slots slot ≡ Some g → g ≡ flow) (first : (pipe : ℕ) → link ≡ shared pipe → slice_get v.slots 0 ≡ Some flow)
           (ascends : Ascends 0 v.slots) (below : top 0 v.slots ≤ flow + 1) where
         links_now : link_names views ≡ links trace
         links_now = a.links_are ∙ append-none (links trace)
@@ -240,7 +247,8 @@ module _ (rule : Rule) (accepted : ℕ) (keys : List FlowKey) (homes : List Home
         unseen_link = (λ i. list_any (link_eq (here i)) (sym links_now i)) ∙ unknown
 
         none_wait : waiting v.link trace ≡ 0
-        none_wait = total-same (flow_bound trace) (λ g. []) (λ g. backlog v.link g trace) (λ g. ap {B = ℕ} (λ (q : List Accepted). length q) (backlog-unknown v.link g trace unseen_link)) ∙ total-nil (flow_bound trace)
+        none_wait = total-same (flow_bound trace) (λ g. []) (λ g. backlog v.link g trace) (λ g. ap {B = ℕ} (λ (q : List Accepted). length q) (backlog-unknown v.link g trace unseen_link))
+            ∙ total-nil (flow_bound trace)
 
         link_at : IsLinkAt rule (length keys + 1) trace v
         link_at = let u = a.untouched v.link unseen_link in record {
@@ -281,7 +289,8 @@ module _ (rule : Rule) (accepted : ℕ) (keys : List FlowKey) (homes : List Home
         names_more = map-append (λ (x : LinkView). x.link) views (v ∷ []) ∙ (λ i. links_now i ++ here i ∷ [])
 
         distinct_more : AreDistinct (link_names (views ++ v ∷ []))
-        distinct_more = subst AreDistinct (sym (map-append (λ (x : LinkView). x.link) views (v ∷ []) ∙ (λ i. link_names views ++ here i ∷ []))) (distinct-more (link_names views) link a.distinct unknown)
+        distinct_more = subst AreDistinct (sym (map-append (λ (x : LinkView). x.link) views (v ∷ []) ∙ (λ i. link_names views ++ here i ∷ [])))
+            (distinct-more (link_names views) link a.distinct unknown)
 
         -- The flow's link is the last.
         pub linked-agrees : IsAt rule accepted keys_now (homes ++ record { place = length views; slot = 0 } ∷ []) (views ++ v ∷ []) flows' pending (link ∷ []) trace

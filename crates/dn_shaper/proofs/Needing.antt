@@ -19,13 +19,15 @@ use Rattle.dn_shaper.specs.Standing.{StandsAt}
 use Rattle.dn_shaper.proofs.Commands.{numbers-listed}
 
 -- The reply by what is in force is that after the calls.
-pub answered-after : (command : Command) (reply : Reply) (s : State) (rule : Rule) (calls : List Call) → StandsAt rule s calls → IsAnswered (settings_of s.configured) command reply → reply ≡ reply_to_command calls command
+pub answered-after : (command : Command) (reply : Reply) (s : State) (rule : Rule) (calls : List Call) → StandsAt rule s calls →
+    IsAnswered (settings_of s.configured) command reply → reply ≡ reply_to_command calls command
 answered-after command reply s rule calls stands answered =
     answered (queue_numbers calls) (subst (λ (f : Settings). Lists f (queue_numbers calls)) (sym stands.settings_are) (numbers-listed calls))
     ∙ ap (λ (f : Settings). command_reply f (queue_numbers calls) command) stands.settings_are
 
 module _ {E : Type 0} where
-  pub configure-needs : (command : Command) (s : State) (result : Result Reply E) → OnErr result (settings_of s.configured (subject command) ≡ None) → OnErr result (IsAnswered (settings_of s.configured) command Configured)
+  pub configure-needs : (command : Command) (s : State) (result : Result Reply E) → OnErr result (settings_of s.configured (subject command) ≡ None) →
+      OnErr result (IsAnswered (settings_of s.configured) command Configured)
       → OnErr result ((rule : Rule) (calls : List Call) → StandsAt rule s calls → CanNeedMemory calls (Configure command))
   configure-needs command s (Ok r) new answered = tt
   configure-needs command s (Err e) new answered = λ rule calls stands. (

@@ -43,14 +43,16 @@ holds-more ds keys h = record {
 no-next : (v : LinkView) → v.waits ≡ 0 → next_start_of v ≡ None
 no-next v e = ap (λ n. cond (nat_lt 0 n) (Some v.value.free) None) e
 
-module _ (old new : State) (t : Table) (key : FlowKey) (one : IsOneMore key old.parts.flows t) (g : GivesHome key (length old.parts.flows.keys) (with_flows old t) new) (as_many : length old.parts.flows.flows ≡ length old.parts.flows.keys) where
+module _ (old new : State) (t : Table) (key : FlowKey) (one : IsOneMore key old.parts.flows t)
+    (g : GivesHome key (length old.parts.flows.keys) (with_flows old t) new) (as_many : length old.parts.flows.flows ≡ length old.parts.flows.keys) where
   abbrev flow : ℕ
   flow = length old.parts.flows.keys
 
   abbrev link : Link
   link = link_of key.target flow key.pipe
 
-  module _ (noted : place_for key old.shared ≡ None) (s : Opens link flow g.home (views_of old.parts) (views_of new.parts) new.heap) (notes : NotesFor key.target key.pipe g.home.place old.shared new.shared) (index : IsIndexed old (link_names (views_of old.parts))) where
+  module _ (noted : place_for key old.shared ≡ None) (s : Opens link flow g.home (views_of old.parts) (views_of new.parts) new.heap)
+      (notes : NotesFor key.target key.pipe g.home.place old.shared new.shared) (index : IsIndexed old (link_names (views_of old.parts))) where
     module _ (trace : List Event) (a : AgreesWith old.parts [] trace) where
       unknown : list_any (link_eq link) (link_names (views_of old.parts)) ≡ false
       unknown = unnoted-unknown old (queue_lengths old.parts.flows.flows) old.parts.links.items index key.target flow key.pipe (λ k v e. (a.views_are k v e).below) noted
@@ -59,7 +61,9 @@ module _ (old new : State) (t : Table) (key : FlowKey) (one : IsOneMore key old.
       opened-agrees =
           agrees-by old new t key one g as_many (link ∷ []) trace (record { place = length (views_of old.parts); slot = 0 }) (views_of old.parts ++ s.view ∷ [])
           (λ i. record { place = s.place_is i; slot = s.slot_is i }) s.views_are
-          (linked-agrees old.parts.rule old.parts.accepted old.parts.flows.keys old.parts.homes.items (views_of old.parts) old.parts.flows.flows old.parts.line.pending trace a key new.parts.flows.flows (same-flows old new t key one g as_many) (many-flows old new t key one g as_many) s.view s.is_new.link_is unknown s.is_new.free s.is_new.last_due s.is_new.waits s.is_new.schedule.virtual_time s.is_new.schedule.flows
+          (linked-agrees old.parts.rule old.parts.accepted old.parts.flows.keys old.parts.homes.items
+          (views_of old.parts) old.parts.flows.flows old.parts.line.pending trace a key new.parts.flows.flows (same-flows old new t key one g as_many)
+          (many-flows old new t key one g as_many) s.view s.is_new.link_is unknown s.is_new.free s.is_new.last_due s.is_new.waits s.is_new.schedule.virtual_time s.is_new.schedule.flows
           (λ slot f e. only-one slot f (ap (λ (fs : List ℕ). slice_get fs slot) (sym s.is_new.slots) ∙ e))
           (λ pipe e. ap (λ (fs : List ℕ). slice_get fs 0) s.is_new.slots)
           (subst (λ (fs : List ℕ). Ascends 0 fs) (sym s.is_new.slots) (omega arith, tt))
@@ -109,7 +113,8 @@ module _ (old new : State) (t : Table) (key : FlowKey) (one : IsOneMore key old.
             omega arith
 
     nexts-more : next_starts (views_of new.parts) ≡ next_starts (views_of old.parts) ++ None ∷ []
-    nexts-more = ap next_starts s.views_are ∙ map-append next_start_of (views_of old.parts) (s.view ∷ []) ∙ ap (λ (o : Option ℕ). next_starts (views_of old.parts) ++ o ∷ []) (no-next s.view s.is_new.waits)
+    nexts-more = ap next_starts s.views_are ∙ map-append next_start_of (views_of old.parts) (s.view ∷ [])
+        ∙ ap (λ (o : Option ℕ). next_starts (views_of old.parts) ++ o ∷ []) (no-next s.view s.is_new.waits)
 
     count-same : backlogged (next_starts (views_of new.parts)) ≡ backlogged (next_starts (views_of old.parts))
     count-same = let m = sum-more one_backlogged (next_starts (views_of old.parts)) None in ap backlogged nexts-more ∙ (omega arith)
@@ -122,4 +127,5 @@ module _ (old new : State) (t : Table) (key : FlowKey) (one : IsOneMore key old.
         sound-by old new t key one g as_many (link ∷ [], trace, opened-agrees trace a) (within-by old new t key one g as_many waits-more arrivals-more)
         (subst (λ (ds : List (Option ℕ)). Holds ds old.heap.keys) (sym nexts-more) (holds-more (next_starts (views_of old.parts)) old.heap.keys sound.kept.held)) count-same
         (let l = ap {B = ℕ} (λ (vs : List LinkView). length vs) s.views_are ∙ length-more (views_of old.parts) s.view in let r = s.room in omega arith)
-        (subst (λ (ls : List Link). IsIndexed new ls) (sym names-more) (noted-more old new (link_names (views_of old.parts)) index key.target flow key.pipe g.home.place (s.place_is ∙ sym (length-map (views_of old.parts) (λ v. v.link))) noted notes)) sound
+        (subst (λ (ls : List Link). IsIndexed new ls) (sym names-more)
+        (noted-more old new (link_names (views_of old.parts)) index key.target flow key.pipe g.home.place (s.place_is ∙ sym (length-map (views_of old.parts) (λ v. v.link))) noted notes)) sound

@@ -63,20 +63,26 @@ length-stamped : (ps : List Accepted) → length (stamped_of ps) ≡ length ps
 length-stamped [] = refl
 length-stamped (p ∷ ps) = let rest = length-stamped ps in omega arith
 
-module _ (rule : Rule) (accepted : ℕ) (keys : List FlowKey) (homes : List Home) (views : List LinkView) (flows : List FlowState) (pending : List Delivery) (more : List Link) (trace : List Event) (a : IsAt rule accepted keys homes views flows pending more trace) where
+module _ (rule : Rule) (accepted : ℕ) (keys : List FlowKey) (homes : List Home) (views : List LinkView) (flows : List FlowState) (pending : List Delivery)
+    (more : List Link) (trace : List Event) (a : IsAt rule accepted keys homes views flows pending more trace) where
   -- A flow with packets on a link is at home there, and has a key.
   pub at_home : (flow : ℕ) (link : Link) → 0 < length (backlog link flow trace) → home keys flow ≡ link
-  at_home flow link some = ⊎_elim (λ here. link_eq-true (home keys flow) link here) (λ away. absurd (let short = ap (λ (q : List Accepted). length q) (a.elsewhere flow link away) in omega arith)) (true_or_false (link_eq (home keys flow) link))
+  at_home flow link some = ⊎_elim (λ here. link_eq-true (home keys flow) link here)
+      (λ away. absurd (let short = ap (λ (q : List Accepted). length q) (a.elsewhere flow link away) in omega arith))
+      (true_or_false (link_eq (home keys flow) link))
 
   pub is_flow : (flow : ℕ) (link : Link) → 0 < length (backlog link flow trace) → flow < length keys
-  is_flow flow link some = ⊎_elim (λ lt. lt) (λ ge. absurd (let b = a.bound in let short = ap (λ (q : List Accepted). length q) (backlog-above link flow trace (omega arith)) in omega arith)) (cases_lt flow (length keys))
+  is_flow flow link some = ⊎_elim (λ lt. lt)
+      (λ ge. absurd (let b = a.bound in let short = ap (λ (q : List Accepted). length q) (backlog-above link flow trace (omega arith)) in omega arith))
+      (cases_lt flow (length keys))
 
   module _ (k : ℕ) (v : LinkView) (there : slice_get views k ≡ Some v) where
     pub distinct_views : (j : ℕ) (w : LinkView) → slice_get views j ≡ Some w → (j ≡ k → ⊥) → link_eq v.link w.link ≡ false
     distinct_views j w e ne = a.distinct k j v.link w.link (get-map (λ (x : LinkView). x.link) views k v there) (get-map (λ (x : LinkView). x.link) views j w e) (λ s. ne (sym s))
 
     -- The home of a flow on this link is this place.
-    pub home-here : (flow : ℕ) (h : Home) → IsHomeOf flow (home keys flow) views h → home keys flow ≡ v.link → (h.place ≡ k) × ((pipe : ℕ) → v.link ≡ shared pipe → slice_get v.slots h.slot ≡ Some flow)
+    pub home-here : (flow : ℕ) (h : Home) → IsHomeOf flow (home keys flow) views h → home keys flow ≡ v.link →
+        (h.place ≡ k) × ((pipe : ℕ) → v.link ≡ shared pipe → slice_get v.slots h.slot ≡ Some flow)
     home-here flow h is e = by (cases_eq h.place k)
       where
         by : (h.place ≡ k) ⊎ (h.place ≡ k → ⊥) → (h.place ≡ k) × ((pipe : ℕ) → v.link ≡ shared pipe → slice_get v.slots h.slot ≡ Some flow)
@@ -108,12 +114,15 @@ module _ (rule : Rule) (accepted : ℕ) (keys : List FlowKey) (homes : List Home
     own_waits : (pipe flow : ℕ) → v.link ≡ own pipe flow → 0 < v.waits → 0 < length (backlog v.link flow trace)
     own_waits pipe flow is some = elim (cases_lt 0 (length (backlog v.link flow trace))) [
       | inl h ↦ h
-      | inr none ↦ absurd (let z = total-zero (flow_bound trace) (λ g. backlog v.link g trace) (λ g. empty g (cases_eq g flow) (omega arith)) in let w = (a.views_are k v there).waits_are in omega arith)
+      | inr none ↦ absurd
+          (let z = total-zero (flow_bound trace) (λ g. backlog v.link g trace) (λ g. empty g (cases_eq g flow) (omega arith)) in let w = (a.views_are k v there).waits_are in omega arith)
     ]
       where
         empty : (g : ℕ) → (g ≡ flow) ⊎ (g ≡ flow → ⊥) → length (backlog v.link flow trace) ≡ 0 → length (backlog v.link g trace) ≡ 0
         empty g (inl same) none = ap {B = ℕ} (λ m. length (backlog v.link m trace)) same ∙ none
-        empty g (inr other) none = ap {B = ℕ} (λ (q : List Accepted). length q) (a.elsewhere g v.link (⊎_elim (λ here. absurd (other (sym (own-home keys g pipe flow (link_eq-true (home keys g) v.link here ∙ is))))) (λ away. away) (true_or_false (link_eq (home keys g) v.link))))
+        empty g (inr other) none = ap {B = ℕ} (λ (q : List Accepted). length q)
+            (a.elsewhere g v.link
+            (⊎_elim (λ here. absurd (other (sym (own-home keys g pipe flow (link_eq-true (home keys g) v.link here ∙ is))))) (λ away. away) (true_or_false (link_eq (home keys g) v.link))))
 
     shared_picks : (pipe : ℕ) → v.link ≡ shared pipe → 0 < v.waits → (h : Stamped) × (pick v.schedule.virtual_time (heads_of v.schedule.flows) ≡ Some h)
     shared_picks pipe is some = by (pick v.schedule.virtual_time (heads_of v.schedule.flows)) refl
@@ -134,7 +143,8 @@ module _ (rule : Rule) (accepted : ℕ) (keys : List FlowKey) (homes : List Home
         by : (o : Option Stamped) → pick v.schedule.virtual_time (heads_of v.schedule.flows) ≡ o → (h : Stamped) × (pick v.schedule.virtual_time (heads_of v.schedule.flows) ≡ Some h)
         by (Some h) e = (h, e)
         by None e =
-            let none : pick (virtual_time v.link trace) (link_heads v.link trace) ≡ None = none-agree v.link trace v.schedule v.slots (schedule-at pipe is) (a.views_are k v there).ascends (listed pipe is) e in
+            let none : pick (virtual_time v.link trace) (link_heads v.link trace) ≡ None = none-agree v.link trace v.schedule v.slots (schedule-at pipe is)
+            (a.views_are k v there).ascends (listed pipe is) e in
             let t : true ≡ false = sym there_is ∙ ap (λ (o : Option Stamped). is_some o) none in
             absurd cc
 
@@ -204,23 +214,27 @@ module _ (rule : Rule) (accepted : ℕ) (keys : List FlowKey) (homes : List Home
         by : (0 < v.waits) ⊎ (v.waits ≤ 0) → next_start_of v ≡ moment_of_next trace v.link
         by (inl some) =
             let p = next_exists some in
-            ap {B = Option ℕ} (λ b. cond b (Some v.value.free) None) (sure v.waits some) ∙ ap (λ m. Some m) (a.views_are k v there).free_is ∙ sym (ap (option_map (λ (p : Accepted). free v.link trace)) p.1)
+            ap {B = Option ℕ} (λ b. cond b (Some v.value.free) None) (sure v.waits some) ∙ ap (λ m. Some m) (a.views_are k v there).free_is
+            ∙ sym (ap (option_map (λ (p : Accepted). free v.link trace)) p.1)
         by (inr none) = ap {B = Option ℕ} (λ b. cond b (Some v.value.free) None) (never v.waits none) ∙ sym (ap (option_map (λ (p : Accepted). free v.link trace)) (none_waits none))
 
     -- And the flow's queue in the table has it there too.
-    pub front : (flow : ℕ) (p : Accepted) → slice_get (backlog v.link flow trace) 0 ≡ Some p → (slice_get (flow_at flows flow).backlog 0 ≡ Some (as_queued p)) × (flow < length flows) × (home keys flow ≡ v.link) × (p.stamped.flow ≡ flow)
+    pub front : (flow : ℕ) (p : Accepted) → slice_get (backlog v.link flow trace) 0 ≡ Some p →
+        (slice_get (flow_at flows flow).backlog 0 ≡ Some (as_queued p)) × (flow < length flows) × (home keys flow ≡ v.link) × (p.stamped.flow ≡ flow)
     front flow p e =
         let some = not_empty (backlog v.link flow trace) p e in
         let here = at_home flow v.link some in
         let lt = is_flow flow v.link some in
         let many = a.as_many in (
-          ap (λ (ws : List Waiting). slice_get ws 0) ((a.flows_are flow).backlog_is ∙ ap (λ (l : Link). map as_queued (backlog l flow trace)) here) ∙ first-map as_queued (backlog v.link flow trace) p e,
+          ap (λ (ws : List Waiting). slice_get ws 0) ((a.flows_are flow).backlog_is ∙ ap (λ (l : Link). map as_queued (backlog l flow trace)) here)
+              ∙ first-map as_queued (backlog v.link flow trace) p e,
           omega arith,
           here,
           backlog-flow v.link flow trace p 0 e,
         )
 
-  nexts_from : (vs : List LinkView) → ((k : ℕ) (v : LinkView) → slice_get vs k ≡ Some v → next_start_of v ≡ moment_of_next trace v.link) → map next_start_of vs ≡ map (moment_of_next trace) (map (λ v. v.link) vs)
+  nexts_from : (vs : List LinkView) → ((k : ℕ) (v : LinkView) → slice_get vs k ≡ Some v → next_start_of v ≡ moment_of_next trace v.link) →
+      map next_start_of vs ≡ map (moment_of_next trace) (map (λ v. v.link) vs)
   nexts_from [] h = refl
   nexts_from (v ∷ vs) h = λ i. h 0 v refl i ∷ nexts_from vs (λ k w e. h (suc k) w e) i
 

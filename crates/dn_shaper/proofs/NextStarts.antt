@@ -149,7 +149,8 @@ module _ (nexts : List (Option ℕ)) (keys rest : List NextStart) (k : NextStart
     once_some place = elim (cases_eq place k.place) [
       | inl e ↦
           let At : ℕ → Type 0 = λ n. keys_at n new ≡ cond (is_some (next_at (set nexts k.place (Some m)) n)) 1 0 in
-          let one : keys_at k.place new ≡ 1 = let a = pushed k.place (record { moment = m; place = k.place }) rest new q in let b = same_place k.place (record { moment = m; place = k.place }) refl in let z = own_rest in omega (arith, a, b, z) in
+          let one : keys_at k.place new ≡ 1 = let a = pushed k.place (record { moment = m; place = k.place }) rest new q in
+          let b = same_place k.place (record { moment = m; place = k.place }) refl in let z = own_rest in omega (arith, a, b, z) in
           subst At (sym e) (one ∙ sym (ap {B = ℕ} (λ (o : Option ℕ). cond (is_some o) 1 0) (get_or-set_same nexts k.place (Some m) None listed)))
       | inr ne ↦
           let a = pushed place (record { moment = m; place = k.place }) rest new q in
@@ -162,5 +163,6 @@ module _ (nexts : List (Option ℕ)) (keys rest : List NextStart) (k : NextStart
     holds_some = record {
       once = once_some;
       moments = All-permutation (λ x. next_at (set nexts k.place (Some m)) x.place ≡ Some x.moment) (record { moment = m; place = k.place } ∷ rest) new q
-          (All-cons (λ x. next_at (set nexts k.place (Some m)) x.place ≡ Some x.moment) (record { moment = m; place = k.place }) rest (get_or-set_same nexts k.place (Some m) None listed) (rest_moments (Some m)));
+          (All-cons (λ x. next_at (set nexts k.place (Some m)) x.place ≡ Some x.moment) (record { moment = m; place = k.place }) rest
+          (get_or-set_same nexts k.place (Some m) None listed) (rest_moments (Some m)));
     }

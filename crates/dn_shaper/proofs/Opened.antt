@@ -21,8 +21,10 @@ use Rattle.dn_shaper.proofs.Homes.{home-after, slots_home-after}
 use Rattle.dn_shaper.proofs.Next.{distinct_views}
 use Rattle.dn_shaper.proofs.Scheduled.{forgotten-at}
 
-module _ (rule : Rule) (accepted : ℕ) (keys : List FlowKey) (homes : List Home) (views : List LinkView) (flows : List FlowState) (pending : List Delivery) (more : List Link) (trace : List Event) (a : IsAt rule accepted keys homes views flows pending more trace) where
-  module _ (k : ℕ) (v : LinkView) (there : slice_get views k ≡ Some v) (v' : LinkView) (same_link : v'.link ≡ v.link) (same_value : v'.value ≡ v.value) (same_waits : v'.waits ≡ v.waits) (same_slots : v'.slots ≡ v.slots)
+module _ (rule : Rule) (accepted : ℕ) (keys : List FlowKey) (homes : List Home) (views : List LinkView) (flows : List FlowState) (pending : List Delivery)
+    (more : List Link) (trace : List Event) (a : IsAt rule accepted keys homes views flows pending more trace) where
+  module _ (k : ℕ) (v : LinkView) (there : slice_get views k ≡ Some v) (v' : LinkView) (same_link : v'.link ≡ v.link) (same_value : v'.value ≡ v.value)
+      (same_waits : v'.waits ≡ v.waits) (same_slots : v'.slots ≡ v.slots)
       (begun : (pipe : ℕ) → v.link ≡ shared pipe → (v'.schedule.flows ≡ forgotten v.schedule.flows) × (v'.schedule.virtual_time ≡ 0)) where
     schedule_after : (pipe : ℕ) → v.link ≡ shared pipe → IsScheduleAt v.link (opened v.link ∷ trace) v'.schedule v.slots
     schedule_after pipe is =

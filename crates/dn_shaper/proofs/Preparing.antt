@@ -1,6 +1,6 @@
 -- Where only room was made, a shaper stays sound. So does one whose last flow, which was made for a packet, is taken out.
 use Rattle.std.proofs.Common.{◌≡◌, ◌∙◌, ◌≤◌, ◌<◌, ◌-◌, ◌⊎◌, ℕ, zero, suc, ◌+◌, Bool, true, false, not, cond, ◌||◌, List, [], ◌∷◌, ◌++◌, refl, ap, sym, subst, length, take, arith, ⊎_elim, inl, inr}
-use Rattle.std.specs.Prelude.{Some, Result, Ok, Err, OnOk, OnErr, is_err, nat_eq, slice_get}
+use Rattle.std.specs.Prelude.{Some, Result, Ok, Err, OnErr, is_err, nat_eq, slice_get}
 use Rattle.std.specs.Map.{lookup}
 use Rattle.std.specs.List.{list_any, position_or_len}
 use Rattle.std.proofs.lemmas.Bool.{cases_lt}
@@ -99,7 +99,9 @@ position-new : {X : Type 0} (p : X → Bool) (xs : List X) → length xs ≤ pos
 position-new {X = X} p [] le = (refl, refl)
 position-new {X = X} p (x ∷ xs) le = by (p x) (λ above. position-new p xs above) le
   where
-    by : (b : Bool) → (length xs ≤ position_or_len p xs → (position_or_len p xs ≡ length xs) × (list_any p xs ≡ false)) → suc (length xs) ≤ cond (not b) (1 + position_or_len p xs) 0 → (cond (not b) (1 + position_or_len p xs) 0 ≡ suc (length xs)) × ((b || list_any p xs) ≡ false)
+    by : (b : Bool) → (length xs ≤ position_or_len p xs → (position_or_len p xs ≡ length xs) × (list_any p xs ≡ false)) →
+        suc (length xs) ≤ cond (not b) (1 + position_or_len p xs) 0 →
+        (cond (not b) (1 + position_or_len p xs) 0 ≡ suc (length xs)) × ((b || list_any p xs) ≡ false)
     by true rest above = absurd (omega arith)
     by false rest above = let r = rest (omega arith) in let e = r.0 in (omega arith, r.1)
 
@@ -145,7 +147,13 @@ with_flows s t = record { parts = with_table s.parts t; heap = s.heap; shared = 
 pub same-reserves : (old new : Parts) (t : Table) → t ≡ old.flows → OnlyMakesRoom (with_table old t) new → OnlyMakesRoom old new
 same-reserves old new t e r = subst (λ (x : Table). OnlyMakesRoom (with_table old x) new) e r
 
-pub only-parts : (old : State) (new : Parts) → OnlyMakesRoom old.parts new → OnlyReserves old (record { parts = new; heap = old.heap; shared = old.shared; configured = old.configured; now = old.now; calls = old.calls })
+-- A known flow leaves the table as it is, so what is room beside it is room.
+pub known-reserves : (old new : Parts) (t : Table) (key : FlowKey) → flow_number old.flows.keys key < length old.flows.keys →
+    t.keys ≡ with_key key old.flows.keys → t.flows ≡ flows_with key old.flows → OnlyMakesRoom (with_table old t) new → OnlyMakesRoom old new
+known-reserves old new t key lt keys flows room = same-reserves old new t (known-table old.flows t key lt keys flows) room
+
+pub only-parts : (old : State) (new : Parts) → OnlyMakesRoom old.parts new →
+    OnlyReserves old (record { parts = new; heap = old.heap; shared = old.shared; configured = old.configured; now = old.now; calls = old.calls })
 only-parts old new r = record {
   parts = r;
   heap = record { keys = refl; moves = refl; room = omega arith };
@@ -166,7 +174,9 @@ without-new old t key more new o =
       flows = (ap (λ (fs : List FlowState). take (length fs - 1) fs) more.flows ∙ take-last old.parts.flows.flows new_flow) i;
     }) o
 
-module _ (old mid : State) (o : OnlyReserves old mid) (t : Table) (keys : t.keys ≡ take (length mid.parts.flows.keys - 1) mid.parts.flows.keys) (flows : t.flows ≡ take (length mid.parts.flows.flows - 1) mid.parts.flows.flows) (empty : queue_lengths old.parts.flows.flows (length old.parts.flows.flows - 1) ≡ 0) where
+module _ (old mid : State) (o : OnlyReserves old mid) (t : Table) (keys : t.keys ≡ take (length mid.parts.flows.keys - 1) mid.parts.flows.keys)
+    (flows : t.flows ≡ take (length mid.parts.flows.flows - 1) mid.parts.flows.flows)
+    (empty : queue_lengths old.parts.flows.flows (length old.parts.flows.flows - 1) ≡ 0) where
   abbrev pub most : ℕ
   most = length old.parts.flows.flows - 1
 
@@ -236,7 +246,12 @@ module _ (old mid : State) (o : OnlyReserves old mid) (t : Table) (keys : t.keys
       many = many-left;
       views = λ place.
           subst (λ (x : List LinkView × List LinkView). KeepsAt (slice_get x.0 place) (slice_get x.1 place))
-          (λ i. (sym (all-seen-same old.parts.links.items (queue_lengths old.parts.flows.flows) (queue_lengths (take most old.parts.flows.flows)) lengths-left) i, sym (all-seen-same mid.parts.links.items (queue_lengths mid.parts.flows.flows) (queue_lengths t.flows) lengths-now) i))
+          (λ i. (
+            sym
+                (all-seen-same old.parts.links.items (queue_lengths old.parts.flows.flows) (queue_lengths (take most old.parts.flows.flows)) lengths-left) i,
+            sym
+                (all-seen-same mid.parts.links.items (queue_lengths mid.parts.flows.flows) (queue_lengths t.flows) lengths-now) i,
+          ))
           (o.parts.views place);
     };
     heap = o.heap;
@@ -250,9 +265,6 @@ pub err-of : {X E : Type 0} {A : Type 0} (r : Result X E) → is_err r ≡ true 
 err-of (Ok x) e a = absurd cc
 err-of (Err x) e a = a
 
-pub ok-of : {X E : Type 0} {A : Type 0} (r : Result X E) → is_err r ≡ false → OnOk r A → A
-ok-of (Ok x) e a = a
-ok-of (Err x) e a = absurd cc
-
-pub parts-sound : (old : State) (new : Parts) → OnlyMakesRoom old.parts new → IsSound old → IsSound (record { parts = new; heap = old.heap; shared = old.shared; configured = old.configured; now = old.now; calls = old.calls })
+pub parts-sound : (old : State) (new : Parts) → OnlyMakesRoom old.parts new → IsSound old →
+    IsSound (record { parts = new; heap = old.heap; shared = old.shared; configured = old.configured; now = old.now; calls = old.calls })
 parts-sound old new r s = reserves-sound old (record { parts = new; heap = old.heap; shared = old.shared; configured = old.configured; now = old.now; calls = old.calls }) (only-parts old new r) s

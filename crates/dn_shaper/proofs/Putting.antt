@@ -55,11 +55,13 @@ numbered [] q e = absurd (true≢false (sym e))
 numbered ((ToPipe n, c) ∷ es) q e = numbered es q e
 numbered ((ToQueue n, c) ∷ es) q e = by (nat_eq q n) e (numbered es q)
   where
-    by : (b : Bool) → is_some (cond b (Some c) (settings_of es (ToQueue q))) ≡ true → (is_some (settings_of es (ToQueue q)) ≡ true → list_any (nat_eq q) (numbers es) ≡ true) → (b || list_any (nat_eq q) (numbers es)) ≡ true
+    by : (b : Bool) → is_some (cond b (Some c) (settings_of es (ToQueue q))) ≡ true →
+        (is_some (settings_of es (ToQueue q)) ≡ true → list_any (nat_eq q) (numbers es) ≡ true) → (b || list_any (nat_eq q) (numbers es)) ≡ true
     by true h rest = refl
     by false h rest = rest h
 
-pub pipe-there : (command : Command) (es : List Entry) → IsAnswered (settings_of es) command Configured → IfSome (named_pipe (subject command) (Some command)) (λ p. is_some (settings_of es (ToPipe p)) ≡ true)
+pub pipe-there : (command : Command) (es : List Entry) → IsAnswered (settings_of es) command Configured →
+    IfSome (named_pipe (subject command) (Some command)) (λ p. is_some (settings_of es (ToPipe p)) ≡ true)
 pipe-there (Pipe number bw delay limit loss buckets mask) es answered = tt
 pipe-there (Queue number pipe weight limit loss buckets mask) es answered = by (is_some (settings_of es (ToPipe pipe))) (answered (numbers es) (numbered es))
   where
@@ -150,7 +152,8 @@ module _ (command : Command) (setting : Option Command) (target : Target) (about
         counts = λ p. let a = uncounted-one p in let b = none p in omega (arith, a, b);
       }
 
-      pub counts-more : (joined : Option ℕ) → joined ≡ named_pipe target setting → (es3 : List Kept) → commands_in es3 ≡ commands_in es2 → ((p : ℕ) → kept_count p es3 ≡ kept_count p es2 + one_for joined p) → CountsQueues es3
+      pub counts-more : (joined : Option ℕ) → joined ≡ named_pipe target setting → (es3 : List Kept) → commands_in es3 ≡ commands_in es2 →
+          ((p : ℕ) → kept_count p es3 ≡ kept_count p es2 + one_for joined p) → CountsQueues es3
       counts-more joined joined-is es3 same3 kept3 = record {
         distinct = subst (λ es. IsDistinct target_eq (keys_of es)) (sym (same3 ∙ same2)) replaces.distinct;
         counts = λ p.
@@ -162,7 +165,8 @@ module _ (command : Command) (setting : Option Command) (target : Target) (about
       }
 
 -- The pipe that an accepted queue names is still in force when its count changes.
-pub still-there : (command : Command) (target : Target) (about : target ≡ subject command) (now : List Entry) (es0 es1 es2 : List Kept) → commands_in es0 ≡ now → Replaces target (Some command) es0 es1 → commands_in es2 ≡ commands_in es1
+pub still-there : (command : Command) (target : Target) (about : target ≡ subject command) (now : List Entry) (es0 es1 es2 : List Kept) →
+    commands_in es0 ≡ now → Replaces target (Some command) es0 es1 → commands_in es2 ≡ commands_in es1
     → IsAnswered (settings_of now) command Configured → (joined : Option ℕ) → joined ≡ named_pipe target (Some command) → IfSome joined (λ p. is_some (settings_of (commands_in es2) (ToPipe p)) ≡ true)
 still-there command target about now es0 es1 es2 seen replaces same answered joined is =
     by joined (subst (λ o. IfSome o (λ p. is_some (settings_of now (ToPipe p)) ≡ true)) (sym (is ∙ ap (λ t. named_pipe t (Some command)) about)) (pipe-there command now answered))
@@ -174,16 +178,19 @@ still-there command target about now es0 es1 es2 seen replaces same answered joi
     by : (o : Option ℕ) → IfSome o (λ p. is_some (settings_of now (ToPipe p)) ≡ true) → IfSome o (λ p. is_some (settings_of (commands_in es2) (ToPipe p)) ≡ true)
     by None h = tt
     by (Some p) h =
-        ap (λ l. is_some (settings_of l (ToPipe p))) same ∙ ap is_some (replaces.settings (ToPipe p)) ∙ ap (λ l. is_some (cond (target_eq target (ToPipe p)) (Some command) (settings_of l (ToPipe p)))) seen ∙ put p h (target_eq target (ToPipe p))
+        ap (λ l. is_some (settings_of l (ToPipe p))) same ∙ ap is_some (replaces.settings (ToPipe p))
+        ∙ ap (λ l. is_some (cond (target_eq target (ToPipe p)) (Some command) (settings_of l (ToPipe p)))) seen ∙ put p h (target_eq target (ToPipe p))
 
 -- No count is lost with what an accepted delete takes out.
-pub none-lost : (command : Command) (target : Target) → target ≡ subject command → (now : List Entry) (es : List Kept) → commands_in es ≡ now → CountsQueues es → IsAnswered (settings_of now) command Deleted
+pub none-lost : (command : Command) (target : Target) → target ≡ subject command → (now : List Entry) (es : List Kept) → commands_in es ≡ now →
+    CountsQueues es → IsAnswered (settings_of now) command Deleted
     → (p : ℕ) → target ≡ ToPipe p → 0 ≡ kept_count p es
 none-lost command target about now es seen counted answered p is =
     let d = deletes command now (subst (λ l. IsDistinct target_eq (keys_of l)) seen counted.distinct) answered in
     sym (counted.counts p ∙ ap (queues_of p) seen ∙ d.unnamed p (sym about ∙ is))
 
-pub is-there : (command : Command) (target : Target) → target ≡ subject command → (now : List Entry) (es : List Kept) → commands_in es ≡ now → CountsQueues es → IsAnswered (settings_of now) command Deleted
+pub is-there : (command : Command) (target : Target) → target ≡ subject command → (now : List Entry) (es : List Kept) → commands_in es ≡ now → CountsQueues es →
+    IsAnswered (settings_of now) command Deleted
     → is_some (lookup (impl.eq-value.it target) es) ≡ true
 is-there command target about now es seen counted answered =
     let d = deletes command now (subst (λ l. IsDistinct target_eq (keys_of l)) seen counted.distinct) answered in

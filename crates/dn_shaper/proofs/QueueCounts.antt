@@ -42,7 +42,8 @@ no-key : (t : Target) (es : List Kept) (f : InForce) → lookup (target_eq t) es
 no-key t [] f is none = absurd cc
 no-key t (e ∷ es) f is none = by (target_eq t e.0) is none (no-key t es f)
   where
-    by : (b : Bool) → cond b (Some e.1) (lookup (target_eq t) es) ≡ Some f → cond b (Some e.0) (lookup_key (target_eq t) es) ≡ None → (lookup (target_eq t) es ≡ Some f → lookup_key (target_eq t) es ≡ None → ⊥) → ⊥
+    by : (b : Bool) → cond b (Some e.1) (lookup (target_eq t) es) ≡ Some f → cond b (Some e.0) (lookup_key (target_eq t) es) ≡ None →
+        (lookup (target_eq t) es ≡ Some f → lookup_key (target_eq t) es ≡ None → ⊥) → ⊥
     by true h n rest = absurd cc
     by false h n rest = rest h n
 
@@ -108,7 +109,8 @@ module _ (pipe : ℕ) where
       unnamed (ToQueue n) = refl
 
   pub queues-inserted : (t : Target) (f : InForce) (es : List Kept)
-      → queues_of pipe (commands_in (insert_entry target_eq es t f)) + one_for (named_pipe t (settings_of (commands_in es) t)) pipe ≡ queues_of pipe (commands_in es) + one_for (named_pipe t (Some f.command)) pipe
+      → queues_of pipe (commands_in (insert_entry target_eq es t f)) + one_for (named_pipe t (settings_of (commands_in es) t)) pipe ≡ queues_of pipe
+      (commands_in es) + one_for (named_pipe t (Some f.command)) pipe
   queues-inserted t f es =
       let a = inserted t f es in
       let b = queues-are es in
@@ -151,7 +153,8 @@ module _ (pipe : ℕ) where
       by (Some i) some = swapped-at t f e es i some is
 
   pub queues-swapped : (t : Target) (f : InForce) (es : List Kept) → lookup (target_eq t) es ≡ Some f
-      → queues_of pipe (commands_in (swap_remove_entry (target_eq t) es)) + one_for (named_pipe t (settings_of (commands_in es) t)) pipe ≡ queues_of pipe (commands_in es) + one_for (named_pipe t None) pipe
+      → queues_of pipe (commands_in (swap_remove_entry (target_eq t) es)) + one_for (named_pipe t (settings_of (commands_in es) t)) pipe ≡ queues_of pipe
+      (commands_in es) + one_for (named_pipe t None) pipe
   queues-swapped t f es is =
       let a = swapped t f es is in
       let b = queues-are es in
@@ -211,18 +214,22 @@ module _ (t : Target) (f : InForce) (old new : List Kept) (gets : Gets t (Some f
     settings = settings-by t (Some f) old new (by-key (Gets t (Some f) old new) gets);
     queues = λ pipe.
         let here : new ≡ insert_entry target_eq old t f = by-key (λ eq. new ≡ insert_entry eq old t f) is in
-        subst (λ es. queues_of pipe (commands_in es) + one_for (named_pipe t (settings_of (commands_in old) t)) pipe ≡ queues_of pipe (commands_in old) + one_for (named_pipe t (Some f.command)) pipe) (sym here) (queues-inserted pipe t f old);
+        subst
+        (λ es. queues_of pipe (commands_in es) + one_for (named_pipe t (settings_of (commands_in old) t)) pipe ≡ queues_of pipe (commands_in old) + one_for (named_pipe t (Some f.command)) pipe)
+        (sym here) (queues-inserted pipe t f old);
     distinct = distinct-in new (by-key (λ eq. IsDistinct eq (keys_of new)) distinct);
   }
 
-  pub writes : (had : InForce) → lookup (impl.eq-value.it t) old ≡ Some had → new ≡ set_value (impl.eq-value.it t) old f → IsDistinct impl.eq-value.it (keys_of new) → Replaces t (Some f.command) old new
+  pub writes : (had : InForce) → lookup (impl.eq-value.it t) old ≡ Some had → new ≡ set_value (impl.eq-value.it t) old f →
+      IsDistinct impl.eq-value.it (keys_of new) → Replaces t (Some f.command) old new
   writes had at is distinct = inserts (is ∙ insert-by) distinct
     where
       insert-by : set_value (impl.eq-value.it t) old f ≡ insert_entry impl.eq-value.it old t f
       insert-by = subst (λ (eq : Target → Target → Bool). set_value (eq t) old f ≡ insert_entry eq old t f) (sym key-test) (set-is-insert t f had old (by-key (λ eq. lookup (eq t) old ≡ Some had) at))
 
   pub keeps-counts : f.queues ≡ count-of (lookup (impl.eq-value.it t) old) → (p : ℕ) → kept_count p new ≡ kept_count p old
-  keeps-counts same = counts-by t (Some f) old new (by-key (Gets t (Some f) old new) gets) (λ p is. by-key (λ eq. f.queues ≡ count-of (lookup (eq t) old)) same ∙ ap (λ t. count-of (lookup (target_eq t) old)) is)
+  keeps-counts same = counts-by t (Some f) old new (by-key (Gets t (Some f) old new) gets)
+      (λ p is. by-key (λ eq. f.queues ≡ count-of (lookup (eq t) old)) same ∙ ap (λ t. count-of (lookup (target_eq t) old)) is)
 
 module _ (t : Target) (old new : List Kept) (gets : Gets t None old new impl.eq-value.it) where
   pub takes-out : (had : InForce) → lookup (impl.eq-value.it t) old ≡ Some had → new ≡ swap_remove_entry (impl.eq-value.it t) old → IsDistinct impl.eq-value.it (keys_of new) → Replaces t None old new
@@ -230,7 +237,9 @@ module _ (t : Target) (old new : List Kept) (gets : Gets t None old new impl.eq-
     settings = settings-by t None old new (by-key (Gets t None old new) gets);
     queues = λ pipe.
         let here : new ≡ swap_remove_entry (target_eq t) old = by-key (λ eq. new ≡ swap_remove_entry (eq t) old) is in
-        subst (λ es. queues_of pipe (commands_in es) + one_for (named_pipe t (settings_of (commands_in old) t)) pipe ≡ queues_of pipe (commands_in old) + one_for (named_pipe t None) pipe) (sym here) (queues-swapped pipe t had old (by-key (λ eq. lookup (eq t) old ≡ Some had) at));
+        subst
+        (λ es. queues_of pipe (commands_in es) + one_for (named_pipe t (settings_of (commands_in old) t)) pipe ≡ queues_of pipe (commands_in old) + one_for (named_pipe t None) pipe)
+        (sym here) (queues-swapped pipe t had old (by-key (λ eq. lookup (eq t) old ≡ Some had) at));
     distinct = distinct-in new (by-key (λ eq. IsDistinct eq (keys_of new)) distinct);
   }
 

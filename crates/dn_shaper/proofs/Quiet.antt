@@ -16,7 +16,8 @@ use Rattle.dn_shaper.proofs.Events.{uncounted, counted-once, append-none, length
 use Rattle.dn_flows.proofs.Places.{eq-no, eq-yes}
 use Rattle.dn_shaper.proofs.Unseen.{not_with}
 
-module _ (rule : Rule) (accepted : ℕ) (keys : List FlowKey) (homes : List Home) (views : List LinkView) (flows : List FlowState) (pending : List Delivery) (more : List Link) (trace : List Event) (a : IsAt rule accepted keys homes views flows pending more trace) where
+module _ (rule : Rule) (accepted : ℕ) (keys : List FlowKey) (homes : List Home) (views : List LinkView) (flows : List FlowState) (pending : List Delivery)
+    (more : List Link) (trace : List Event) (a : IsAt rule accepted keys homes views flows pending more trace) where
   -- A packet of the flow is lost.
   module _ (flow : ℕ) (within : flow < length keys) (made : link_names views ≡ with_link (home keys flow) (links trace)) where
     lost-flow : (g : ℕ) → IsFlowAt (home keys g) g (lost (home keys flow) flow ∷ trace) (flow_at (set flows flow (one_lost (flow_at flows flow))) g)
@@ -30,7 +31,8 @@ module _ (rule : Rule) (accepted : ℕ) (keys : List FlowKey) (homes : List Home
 
         by : (flow ≡ g) ⊎ (flow ≡ g → ⊥) → IsFlowAt (home keys g) g (lost (home keys flow) flow ∷ trace) (flow_at (set flows flow (one_lost (flow_at flows flow))) g)
         by (inl same) =
-            let is : flow_at (set flows flow (one_lost (flow_at flows flow))) g ≡ one_lost (flow_at flows g) = now_at ∙ ap (λ b. cond b (one_lost (flow_at flows flow)) (flow_at flows g)) (eq-yes flow g same) ∙ ap (λ i. one_lost (flow_at flows i)) same in
+            let is : flow_at (set flows flow (one_lost (flow_at flows flow))) g ≡ one_lost (flow_at flows g) = now_at
+            ∙ ap (λ b. cond b (one_lost (flow_at flows flow)) (flow_at flows g)) (eq-yes flow g same) ∙ ap (λ i. one_lost (flow_at flows i)) same in
             let b = a.flows_are g in
             record {
               backlog_is = ap (λ (x : FlowState). x.backlog) is ∙ b.backlog_is;
@@ -91,7 +93,8 @@ module _ (rule : Rule) (accepted : ℕ) (keys : List FlowKey) (homes : List Home
 
         by : (flow ≡ g) ⊎ (flow ≡ g → ⊥) → IsFlowAt (home keys g) g (refused (home keys flow) flow ∷ trace) (flow_at (set flows flow (one_full (flow_at flows flow))) g)
         by (inl same) =
-            let is : flow_at (set flows flow (one_full (flow_at flows flow))) g ≡ one_full (flow_at flows g) = now_at ∙ ap (λ b. cond b (one_full (flow_at flows flow)) (flow_at flows g)) (eq-yes flow g same) ∙ ap (λ i. one_full (flow_at flows i)) same in
+            let is : flow_at (set flows flow (one_full (flow_at flows flow))) g ≡ one_full (flow_at flows g) = now_at
+            ∙ ap (λ b. cond b (one_full (flow_at flows flow)) (flow_at flows g)) (eq-yes flow g same) ∙ ap (λ i. one_full (flow_at flows i)) same in
             let b = a.flows_are g in
             record {
               backlog_is = ap (λ (x : FlowState). x.backlog) is ∙ b.backlog_is;

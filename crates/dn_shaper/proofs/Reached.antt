@@ -44,13 +44,18 @@ module _ (command : Command) (old : Parts) where
     one-more : suc flow ≡ flow + 1
     one-more = omega arith
 
-    next : (t : List Event) → discard_reached command flow (drop flow old.flows.keys) t ≡ discard_reached command (flow + 1) (drop (flow + 1) old.flows.keys) (cond (reaches command key) (discarded flow ∷ t) t)
+    next : (t : List Event) →
+        discard_reached command flow (drop flow old.flows.keys) t ≡ discard_reached command (flow + 1) (drop (flow + 1) old.flows.keys) (cond (reaches command key) (discarded flow ∷ t) t)
     next t = ap (λ (ks : List FlowKey). discard_reached command flow ks t) (drop-one old.flows.keys flow key there ∙ (λ i. key ∷ drop (one-more i) old.flows.keys))
 
     pub one-discarded : (new : Parts) → reaches command key ≡ true → DiscardsFlow flow mid new → DiscardsUpTo (flow + 1) command old new
     one-discarded new yes' discards more trace a =
-        let d = done more trace a in
-        (discarded flow ∷ d.0, discards more d.0 d.1, ap (λ b. discard_reached command (flow + 1) (drop (flow + 1) old.flows.keys) (cond b (discarded flow ∷ d.0) d.0)) (sym yes') ∙ sym (next d.0) ∙ d.2)
+        let d = done more trace a in (
+          discarded flow ∷ d.0,
+          discards more d.0 d.1,
+          ap (λ b. discard_reached command (flow + 1) (drop (flow + 1) old.flows.keys) (cond b (discarded flow ∷ d.0) d.0)) (sym yes')
+              ∙ sym (next d.0) ∙ d.2,
+        )
 
     pub one-passed : reaches command key ≡ false → DiscardsUpTo (flow + 1) command old mid
     one-passed no' more trace a =
@@ -81,7 +86,10 @@ pub empties-more : (old mid new : Parts) → OnlyEmpties old mid → OnlyEmpties
 empties-more old mid new a b place moment e = a place moment (b place moment e)
 
 -- The emptied links left the heap together.
-pub emptied-kept : (command : Command) (old new : Parts) (heap heap' : Heap NextStart) → AreInStep old heap → DiscardsReached command old new → ((n : ℕ) → Within n old → Within n new) → KeepsFlows old new → OnlyEmpties old new → IsPermutation (filter (is_backlogged (next_starts (views_of new))) heap.keys) heap'.keys → length heap'.keys + heap'.room ≡ length heap.keys + heap.room → AreInStep new heap'
+pub emptied-kept : (command : Command) (old new : Parts) (heap heap' : Heap NextStart) → AreInStep old heap → DiscardsReached command old new →
+    ((n : ℕ) → Within n old → Within n new) → KeepsFlows old new → OnlyEmpties old new →
+    IsPermutation (filter (is_backlogged (next_starts (views_of new))) heap.keys) heap'.keys → length heap'.keys + heap'.room ≡ length heap.keys + heap.room →
+    AreInStep new heap'
 emptied-kept command old new heap heap' kept discards within keeps empties perm room =
     let held = holds-kept (next_starts (views_of old)) (next_starts (views_of new)) heap.keys heap'.keys kept.held empties perm in
     record {

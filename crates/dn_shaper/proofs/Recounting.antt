@@ -11,7 +11,8 @@ use Rattle.dn_shaper.specs.Refinement.QueueCounts.{commands_in, kept_count}
 use Rattle.dn_shaper.proofs.Commands.{same-number}
 use Rattle.dn_shaper.proofs.QueueCounts.{Gets, Kept, by-key, count-of}
 
-commands-stay : (test : Target → Bool) (had : InForce) (queues : ℕ) (es : List Kept) → lookup test es ≡ Some had → commands_in (set_value test es (record { command = had.command; queues = queues })) ≡ commands_in es
+commands-stay : (test : Target → Bool) (had : InForce) (queues : ℕ) (es : List Kept) → lookup test es ≡ Some had →
+    commands_in (set_value test es (record { command = had.command; queues = queues })) ≡ commands_in es
 commands-stay test had queues [] is = absurd cc
 commands-stay test had queues (e ∷ es) is = by (test e.0) is (commands-stay test had queues es)
   where

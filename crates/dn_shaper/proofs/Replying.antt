@@ -18,7 +18,8 @@ module _ (calls : List Call) (i : ℕ) (call : Call) (within : i < length calls)
     pub stands-next : StandsAfter Ordered new (reverse (take (i + 1) calls))
     stands-next = subst (λ (cs : List Call). StandsAfter Ordered new cs) (sym so-far) (one Ordered (reverse (take i calls)) stands).1
 
-    pub told-next : (items items' : List Reply) → items' ≡ items ++ r ∷ [] → items ≡ reverse (replies Ordered (reverse (take i calls))) → items' ≡ reverse (replies Ordered (reverse (take (i + 1) calls)))
+    pub told-next : (items items' : List Reply) → items' ≡ items ++ r ∷ [] → items ≡ reverse (replies Ordered (reverse (take i calls))) →
+        items' ≡ reverse (replies Ordered (reverse (take (i + 1) calls)))
     told-next items items' more told =
         more
         ∙ (λ j. told j ++ (one Ordered (reverse (take i calls)) stands).0 j ∷ [])

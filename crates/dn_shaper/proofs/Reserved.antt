@@ -102,7 +102,8 @@ module _ (old new : Parts) (r : OnlyMakesRoom old new) where
       base = record {
         links_are = reserved-names ∙ a.links_are;
         distinct = subst AreDistinct (sym reserved-names) a.distinct;
-        views_are = λ k w e. let v = was-there (slice_get (views_of old) k) (slice_get (views_of new) k) (r.views k) w e in reserved-link old.rule (length old.flows.keys) trace v.0 w v.2 (a.views_are k v.0 v.1);
+        views_are = λ k w e. let v = was-there (slice_get (views_of old) k) (slice_get (views_of new) k) (r.views k) w e in
+            reserved-link old.rule (length old.flows.keys) trace v.0 w v.2 (a.views_are k v.0 v.1);
         untouched = a.untouched;
         flows_are = λ g. let s = r.flows g in let b = a.flows_are g in record {
           backlog_is = s.backlog ∙ b.backlog_is;

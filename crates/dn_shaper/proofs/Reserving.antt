@@ -1,5 +1,5 @@
 -- Reserving room leaves all that a trace says.
-use Rattle.std.proofs.Common.{◌≡◌, ◌∙◌, ◌<◌, ◌⊎◌, ℕ, cond, List, set, refl, ap, sym, subst, length, arith, inl, inr}
+use Rattle.std.proofs.Common.{◌≡◌, ◌∙◌, ◌<◌, ◌⊎◌, ℕ, true, cond, List, set, refl, ap, sym, subst, length, arith, inl, inr}
 use Rattle.std.specs.Prelude.{Option, Some, None, Result, Ok, Err, OnOk, nat_eq, slice_get}
 use Rattle.std.proofs.lemmas.Bool.{cases_eq}
 use Rattle.dn_flows.specs.Table.{FlowState, flow_at, with_place}
@@ -7,7 +7,9 @@ use Rattle.dn_flows.proofs.Views.{flow_after_set}
 use Rattle.dn_types.specs.Trace.{Link, shared}
 use Rattle.dn_wf2q.specs.Schedule.{room_at}
 use Rattle.dn_shaper.specs.Refinement.Making.{KeepsLink, SameFlow, KeepsAt, HasSlotRoom}
-use Rattle.dn_shaper.specs.Refinement.Views.{LinkView}
+use Rattle.dn_shaper.specs.Refinement.Views.{LinkView, queue_lengths}
+use Rattle.dn_shaper.proofs.Alone.{lengths-same}
+use Rattle.dn_shaper.proofs.Events.{length-set}
 use Rattle.dn_flows.proofs.Places.{eq-no, eq-yes, get-set, get-set-other}
 
 pub same-flow : (s : FlowState) → SameFlow s s
@@ -29,7 +31,8 @@ place-reserved flows flow g lt = by (cases_eq flow g)
 
     by : (flow ≡ g) ⊎ (flow ≡ g → ⊥) → SameFlow (flow_at flows g) (flow_at (set flows flow (with_place (flow_at flows flow))) g)
     by (inl same) =
-        let is : flow_at (set flows flow (with_place (flow_at flows flow))) g ≡ with_place (flow_at flows g) = now_at ∙ ap (λ b. cond b (with_place (flow_at flows flow)) (flow_at flows g)) (eq-yes flow g same) ∙ ap (λ i. with_place (flow_at flows i)) same in
+        let is : flow_at (set flows flow (with_place (flow_at flows flow))) g ≡ with_place (flow_at flows g) = now_at
+        ∙ ap (λ b. cond b (with_place (flow_at flows flow)) (flow_at flows g)) (eq-yes flow g same) ∙ ap (λ i. with_place (flow_at flows i)) same in
         subst (λ (s : FlowState). SameFlow (flow_at flows g) s) (sym is) (record { backlog = refl; lost = refl; full = refl; started = refl; discarded = refl })
     by (inr ne) =
         let is : flow_at (set flows flow (with_place (flow_at flows flow))) g ≡ flow_at flows g = now_at ∙ ap (λ b. cond b (with_place (flow_at flows flow)) (flow_at flows g)) (eq-no flow g ne) in
@@ -40,7 +43,8 @@ pub link-reserved : (views : List LinkView) (k : ℕ) (v w : LinkView) → slice
 link-reserved views k v w there keeps place = by (cases_eq place k)
   where
     by : (place ≡ k) ⊎ (place ≡ k → ⊥) → KeepsAt (slice_get views place) (slice_get (set views k w) place)
-    by (inl same) = subst (λ (x : Option LinkView × Option LinkView). KeepsAt x.0 x.1) (λ i. (sym (ap (slice_get views) same ∙ there) i, sym (ap (slice_get (set views k w)) same ∙ get-set views k v w there) i)) keeps
+    by (inl same) = subst (λ (x : Option LinkView × Option LinkView). KeepsAt x.0 x.1)
+        (λ i. (sym (ap (slice_get views) same ∙ there) i, sym (ap (slice_get (set views k w)) same ∙ get-set views k v w there) i)) keeps
     by (inr ne) = subst (λ (o : Option LinkView). KeepsAt (slice_get views place) o) (sym (get-set-other views k place w ne)) (same-at (slice_get views place))
 
 pub on-ok : {X E : Type 0} {A B : Type 0} (r : Result X E) → (A → B) → OnOk r A → OnOk r B
@@ -48,8 +52,27 @@ on-ok (Ok x) f a = f a
 on-ok (Err e) f a = tt
 
 -- The flow's slot has room on its link, and no other link is asked.
-pub slot-ready : (views : List LinkView) (k slot : ℕ) (v w : LinkView) → slice_get views k ≡ Some v → HasSlotRoom slot w w.link → (x : LinkView) (pipe : ℕ) → slice_get (set views k w) k ≡ Some x → x.link ≡ shared pipe → 0 < room_at x.schedule.room slot
+pub slot-ready : (views : List LinkView) (k slot : ℕ) (v w : LinkView) → slice_get views k ≡ Some v → HasSlotRoom slot w w.link → (x : LinkView) (pipe : ℕ) →
+    slice_get (set views k w) k ≡ Some x → x.link ≡ shared pipe → 0 < room_at x.schedule.room slot
 slot-ready views k slot v w there room x pipe at is =
     let both : Some w ≡ Some x = sym (get-set views k v w there) ∙ at in
     let same : w ≡ x = cc in
     subst (λ (l : Link). HasSlotRoom slot x l) is (subst (λ (y : LinkView). HasSlotRoom slot y y.link) same room)
+
+-- ---- The flow table in which a place is reserved for one more packet of the flow
+
+module _ (flows : List FlowState) {flow : ℕ} (inside : flow < length flows) {now : List FlowState} (is : now ≡ set flows flow (with_place (flow_at flows flow))) where
+  pub lengths-placed : (f : ℕ) → queue_lengths now f ≡ queue_lengths flows f
+  lengths-placed = lengths-same flows flow inside (with_place (flow_at flows flow)) now is refl
+
+  pub many-placed : length now ≡ length flows
+  many-placed = ap (λ (fs : List FlowState). length fs) is ∙ length-set flows flow (with_place (flow_at flows flow))
+
+  pub flows-placed : (g : ℕ) → SameFlow (flow_at flows g) (flow_at now g)
+  flows-placed g = subst (λ (fs : List FlowState). SameFlow (flow_at flows g) (flow_at fs g)) (sym is) (place-reserved flows flow g inside)
+
+  pub place-ready : (flow_at now flow).reserved ≡ true
+  place-ready =
+      ap (λ (fs : List FlowState). (flow_at fs flow).reserved) is
+      ∙ ap (λ (s : FlowState). s.reserved) (flow_after_set flows flow flow (with_place (flow_at flows flow)) inside)
+      ∙ ap (λ b. (cond b (with_place (flow_at flows flow)) (flow_at flows flow)).reserved) (eq-yes flow flow refl)

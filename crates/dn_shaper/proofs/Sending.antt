@@ -104,7 +104,8 @@ pub record Submits (target : Target) (packet : Packet) (how : Option Treatment) 
   pub outcome : (trace : List Event) → AgreesWith old.parts [] trace → IsOutcome (settings_of old.configured) at old.parts.flows.keys target packet how trace parts reply
 
 module _ (old new : State) (target : Target) (packet : Packet) (at : ℕ) (reply : Reply) (configured : new.configured ≡ old.configured) (calls_kept : new.calls ≡ old.calls) where
-  pub submits-does : Submits target packet (treatment (settings_of old.configured target)) at old new.parts reply → (moment : ℕ) → at ≡ max old.now moment → Does (Submit target packet moment) old (counted_at at new) reply
+  pub submits-does : Submits target packet (treatment (settings_of old.configured target)) at old new.parts reply → (moment : ℕ) → at ≡ max old.now moment →
+      Does (Submit target packet moment) old (counted_at at new) reply
   submits-does submits moment at_is rule calls s = (
     outcome.0,
     record {
@@ -147,7 +148,9 @@ module _ (target : Target) (packet : Packet) (how : Treatment) (at flow : ℕ) (
         outcome = λ trace a.
             let m = prepares trace a in
             subst
-            (λ (x : Settings × Link × ℕ). (reply ≡ reply_to_verdict at (verdict_on x.1 x.2 how packet (settled x.0 at trace)) (settled x.0 at trace)) × AgreesWith parts [] (after_verdict x.0 at packet (verdict_on x.1 x.2 how packet (settled x.0 at trace)) (settled x.0 at trace)))
+            (λ (x : Settings × Link × ℕ).
+            (reply ≡ reply_to_verdict at (verdict_on x.1 x.2 how packet (settled x.0 at trace)) (settled x.0 at trace)) × AgreesWith parts []
+            (after_verdict x.0 at packet (verdict_on x.1 x.2 how packet (settled x.0 at trace)) (settled x.0 at trace)))
             (λ i. (settings_of (stays.configured i), link-is i, flow_is i))
             (answers m.0 trace m.1 m.2);
       })
@@ -164,8 +167,10 @@ still-stands old new stays reserves rule calls s = record {
   agrees = reserves-agree old.parts new.parts reserves [] (trace_of calls) s.agrees;
 }
 
-module _ (s : State) (parts : Parts) (heap : Heap NextStart) (at : ℕ) (early : at ≤ 2 ^ 62) (sound : IsSound s) (kept : AreInStep parts heap) (names : link_names (views_of parts) ≡ link_names (views_of s.parts)) where
-  pub sound-then : Within (s.calls + 1) parts → heap.moves + parts.waiting ≤ s.heap.moves + s.parts.waiting + 2 → IsSound (counted_at at (record { parts = parts; heap = heap; shared = s.shared; configured = s.configured; now = s.now; calls = s.calls }))
+module _ (s : State) (parts : Parts) (heap : Heap NextStart) (at : ℕ) (early : at ≤ 2 ^ 62) (sound : IsSound s) (kept : AreInStep parts heap)
+    (names : link_names (views_of parts) ≡ link_names (views_of s.parts)) where
+  pub sound-then : Within (s.calls + 1) parts → heap.moves + parts.waiting ≤ s.heap.moves + s.parts.waiting + 2 →
+      IsSound (counted_at at (record { parts = parts; heap = heap; shared = s.shared; configured = s.configured; now = s.now; calls = s.calls }))
   sound-then within moves = record {
     kept = kept;
     within = within;
@@ -178,5 +183,6 @@ module _ (s : State) (parts : Parts) (heap : Heap NextStart) (at : ℕ) (early :
   }
 
   -- Starts count no packet.
-  pub sound-settled : ((n : ℕ) → Within n s.parts → Within n parts) → heap.moves + parts.waiting ≤ s.heap.moves + s.parts.waiting → IsSound (counted_at at (record { parts = parts; heap = heap; shared = s.shared; configured = s.configured; now = s.now; calls = s.calls }))
+  pub sound-settled : ((n : ℕ) → Within n s.parts → Within n parts) → heap.moves + parts.waiting ≤ s.heap.moves + s.parts.waiting →
+      IsSound (counted_at at (record { parts = parts; heap = heap; shared = s.shared; configured = s.configured; now = s.now; calls = s.calls }))
   sound-settled within moves = sound-then (within-more s.calls (s.calls + 1) parts (omega arith) (within s.calls sound.within)) (omega (arith, moves))

@@ -1,9 +1,11 @@
 -- One step of the settling loop: the popped link's next packet is the first start of all links.
-use Rattle.std.proofs.Common.{◌≡◌, ◌∙◌, ◌≤◌, ◌<◌, ◌⊎◌, ◌^◌, ℕ, zero, suc, ◌+◌, Bool, true, false, cond, ◌||◌, List, [], ◌∷◌, ◌++◌, map, set, refl, ap, sym, subst, length, arith, inl, inr, All, IsPermutation}
-use Rattle.std.specs.Prelude.{Option, Some, None, nat_lt, slice_get, option_map}
+use Rattle.std.proofs.Common.{◌≡◌, ◌∙◌, ◌≤◌, ◌<◌, ◌⊎◌, ◌^◌, ℕ, zero, suc, ◌+◌, Bool, true, false, cond, ◌||◌, List, [], ◌∷◌, ◌++◌, map, set, get_or, refl, ap, sym, subst, length, arith, inl, inr, All, IsPermutation}
+use Rattle.std.specs.Prelude.{Contains, Option, Some, None, IfSome, nat_lt, slice_get, option_map}
 use Rattle.std.specs.List.{list_any}
+use Rattle.std.specs.Ordering.{is_lt}
 use Rattle.std.proofs.lemmas.Bool.{le-leb, cases_lt}
 use Rattle.std.proofs.lemmas.Bool.Decides.{nat_tests}
+use Rattle.std.proofs.lemmas.List.Elements.{All-contains}
 use Rattle.std.proofs.lemmas.List.Sorted.{length_permutation}
 use Rattle.dn_heap.specs.Heap.{Heap, IsLeast}
 use Rattle.dn_types.specs.Configuration.{Settings}
@@ -14,18 +16,20 @@ use Rattle.dn_types.specs.Trace.{Link, link_eq, pipe_of, Accepted, Event, starte
 use Rattle.dn_types.specs.declared.delivery.Delivery.{Delivery}
 use Rattle.dn_shaper.specs.declared.links.next_start.NextStart.{NextStart}
 use Rattle.dn_shaper.specs.declared.links.link_parts.Carries.{Carries}
+use Rattle.dn_shaper.specs.declared.links.link_parts.LinkParts.{LinkParts}
 use Rattle.dn_shaper.specs.declared.links.link_parts.Carries.TheVariants.{Own, Shared}
 use Rattle.dn_shaper.specs.declared.links.parts.Parts.{Parts}
-use Rattle.dn_shaper.specs.Refinement.Views.{LinkView, views_of, next_starts, next_start_of, carried_link}
+use Rattle.dn_shaper.specs.Refinement.Views.{LinkView, queue_lengths, view_of, views_of, next_starts, next_start_of, carried_link}
 use Rattle.dn_shaper.specs.Refinement.Agreement.{GivesRates, AgreesWith, Agrees, AreDistinct, link_names}
 use Rattle.dn_shaper.specs.Refinement.NextStarts.{next_start_cmp, next_at, Holds, one_backlogged, backlogged}
 use Rattle.dn_shaper.specs.Refinement.Starting.{CanStart, StartsAt}
 use Rattle.dn_shaper.specs.Refinement.Settling.{AreInStep, OnlyStarts, StartsFirst, HasNoStart, SettlesAll}
-use Rattle.dn_shaper.proofs.NextStarts.{popped_next, holds_none, holds_some}
+use Rattle.dn_shaper.proofs.Taking.{at-some}
+use Rattle.dn_shaper.proofs.NextStarts.{not_before, popped_next, holds_none, holds_some}
 use Rattle.dn_shaper.proofs.FirstStart.{moment_of_next, first_popped, none_next, first_start-more, settle-none, settle-some}
 use Rattle.dn_shaper.proofs.Events.{length-set}
 use Rattle.dn_shaper.proofs.Next.{nexts-agree}
-use Rattle.dn_flows.proofs.Places.{map-set-same, get-map, sum-set}
+use Rattle.dn_flows.proofs.Places.{get-set, viewed, map-set-same, get-map, sum-set}
 use Rattle.dn_types.proofs.Settled.{none-unknown, waiting_all-first}
 use Rattle.dn_shaper.proofs.Starting.{starts-agree, starts-within, starts-ready, starts-nexts, length-in_order}
 
@@ -49,10 +53,41 @@ next-view (v ∷ views) zero m e = by (cases_lt 0 v.waits) e
     by (inr none) h = let is = sym (ap {B = Option ℕ} (λ b. cond b (Some v.value.free) None) (never v.waits none)) ∙ h in absurd cc
 next-view (v ∷ views) (suc i) m e = next-view views i m e
 
-pub can-start : (p : Parts) (heap : Heap NextStart) → AreInStep p heap → (k : NextStart) (rest : List NextStart) → IsPermutation heap.keys (k ∷ rest) → CanStart p k.place k.moment
-can-start p heap kept k rest perm =
+pub can-start : {p : Parts} {heap : Heap NextStart} → AreInStep p heap → {k : NextStart} {rest : List NextStart} → IsPermutation heap.keys (k ∷ rest) → CanStart p k.place k.moment
+can-start {p = p} {heap = heap} kept {k = k} {rest = rest} perm =
     let v = next-view (views_of p) k.place k.moment (popped_next (next_starts (views_of p)) heap.keys rest k kept.held perm) in
     record { view = v.0; there = v.1; some = v.2; soon = let e = v.3 in omega arith }
+
+-- ---- The start that the heap gives up
+
+module _ (heap heap' : Heap NextStart) {o : Option NextStart} {k : NextStart} (is : o ≡ Some k) where
+  pub popped-keys : IfSome o (λ x. IsPermutation heap.keys (x ∷ heap'.keys)) → IsPermutation heap.keys (k ∷ heap'.keys)
+  popped-keys keys = at-some (λ (x : NextStart). IsPermutation heap.keys (x ∷ heap'.keys)) o k is keys
+
+  pub popped-room : IfSome o (λ x. heap'.room ≡ heap.room + 1) → heap'.room ≡ heap.room + 1
+  popped-room room = at-some (λ (x : NextStart). heap'.room ≡ heap.room + 1) o k is room
+
+  pub popped-least : IfSome o (λ x. IsLeast next_start_cmp x heap.keys) → IsLeast next_start_cmp k heap.keys
+  popped-least least = at-some (λ (x : NextStart). IsLeast next_start_cmp x heap.keys) o k is least
+
+-- It is due where one that the heap held is.
+pub least-due : (at : ℕ) (keys : List NextStart) (k top : NextStart) → IsLeast next_start_cmp k keys → Contains keys top → top.moment ≤ at → k.moment ≤ at
+least-due at keys k top least held due =
+    let first = (not_before k top (All-contains (λ (y : NextStart). is_lt (next_start_cmp y k) ≡ false) keys top least held)).0 in
+    omega arith
+
+-- ---- The link that starts, before and after
+
+module _ {place moment bandwidth delay : ℕ} {old new : Parts} (s : StartsAt place moment bandwidth delay old new) where
+  pub link-after : slice_get (views_of new) place ≡ Some s.view'
+  link-after = ap (λ (vs : List LinkView). slice_get vs place) s.views_are ∙ get-set (views_of old) place s.view s.view' s.there
+
+  -- The rates that were read for the pipe of the link are those of the start.
+  pub rates-read : {settings : Settings} {link : LinkParts} → link ≡ get_or old.links.items place link → GivesRates settings link.pipe bandwidth delay →
+      GivesRates settings (pipe_of s.view.link) bandwidth delay
+  rates-read {settings = settings} {link = link} read rates =
+      let seen = viewed (view_of (queue_lengths old.flows.flows)) old.links.items place link s.view s.there read in
+      subst (λ n. GivesRates settings n bandwidth delay) (sym (pipe-carried link.pipe link.carries) ∙ ap (λ (x : LinkView). pipe_of x.link) seen.1) rates
 
 -- ---- Links that no packet was seen on
 
@@ -93,15 +128,19 @@ module _ (settings : Settings) (at : ℕ) (p : Parts) (heap : Heap NextStart) (k
   pub no-first : All (λ k. at < k.moment) heap.keys → first_start settings at (links trace) trace ≡ None
   no-first late = sym same_first ∙ none_next settings at trace (link_names (views_of p)) (next_starts (views_of p)) nexts_are heap.keys kept.held late
 
-  pub first-is : (k : NextStart) (v : LinkView) (s : Start) → IsLeast next_start_cmp k heap.keys → slice_get (views_of p) k.place ≡ Some v → next_start settings at v.link trace ≡ Some s → s.moment ≡ k.moment → first_start settings at (links trace) trace ≡ Some s
+  pub first-is : (k : NextStart) (v : LinkView) (s : Start) → IsLeast next_start_cmp k heap.keys → slice_get (views_of p) k.place ≡ Some v →
+      next_start settings at v.link trace ≡ Some s → s.moment ≡ k.moment → first_start settings at (links trace) trace ≡ Some s
   first-is k v s least there next moment_is =
       sym same_first
-      ∙ first_popped settings at trace (link_names (views_of p)) (next_starts (views_of p)) nexts_are heap.keys kept.held k v.link s least (get-map (λ (x : LinkView). x.link) (views_of p) k.place v there) next moment_is
+      ∙ first_popped settings at trace (link_names (views_of p)) (next_starts (views_of p)) nexts_are heap.keys kept.held k v.link s least
+      (get-map (λ (x : LinkView). x.link) (views_of p) k.place v there) next moment_is
 
-pub none-starts : (settings : Settings) (at : ℕ) (p : Parts) (heap : Heap NextStart) → AreInStep p heap → All (λ k. at < k.moment) heap.keys → HasNoStart settings at p
-none-starts settings at p heap kept late more trace a = no-first settings at p heap kept more trace a late
+pub none-starts : (settings : Settings) {at : ℕ} {p : Parts} {heap : Heap NextStart} → AreInStep p heap → All (λ k. at < k.moment) heap.keys → HasNoStart settings at p
+none-starts settings {at = at} {p = p} {heap = heap} kept late more trace a = no-first settings at p heap kept more trace a late
 
-module _ (settings : Settings) (at : ℕ) (old : Parts) (heap : Heap NextStart) (kept : AreInStep old heap) (k : NextStart) (rest : List NextStart) (perm : IsPermutation heap.keys (k ∷ rest)) (bandwidth delay : ℕ) (new : Parts) (s : StartsAt k.place k.moment bandwidth delay old new) (rates : GivesRates settings (pipe_of s.view.link) bandwidth delay) where
+module _ {settings : Settings} {old : Parts} {heap : Heap NextStart} (kept : AreInStep old heap) {k : NextStart} {rest : List NextStart}
+    (perm : IsPermutation heap.keys (k ∷ rest)) {bandwidth delay : ℕ} {new : Parts} (s : StartsAt k.place k.moment bandwidth delay old new)
+    (rates : GivesRates settings (pipe_of s.view.link) bandwidth delay) where
   -- The link that starts is the popped one, which is free at the key's moment.
   free-then : s.view.value.free ≡ k.moment
   free-then =
@@ -110,8 +149,8 @@ module _ (settings : Settings) (at : ℕ) (old : Parts) (heap : Heap NextStart) 
       let same : s.view ≡ v.0 = cc in
       ap (λ (x : LinkView). x.value.free) same ∙ v.3
 
-  pub first-starts : IsLeast next_start_cmp k heap.keys → k.moment ≤ at → StartsFirst settings at old new
-  first-starts least soon more trace a =
+  pub first-starts : (at : ℕ) → IsLeast next_start_cmp k heap.keys → k.moment ≤ at → StartsFirst settings at old new
+  first-starts at least soon more trace a =
       let r = starts-agree k.place k.moment bandwidth delay old new s settings more trace rates a in
       let free_is : free s.view.link trace ≡ k.moment = sym (a.views_are k.place s.view s.there).free_is ∙ free-then in
       let in_time : free s.view.link trace ≤ at = omega arith in
@@ -122,7 +161,8 @@ module _ (settings : Settings) (at : ℕ) (old : Parts) (heap : Heap NextStart) 
       (start_at settings s.view.link r.0 k.moment, first-is settings at old heap kept more trace a k s.view (start_at settings s.view.link r.0 k.moment) least s.there next refl, r.2)
 
   pub agrees-new : Agrees new
-  agrees-new = let a = kept.agrees in let r = starts-agree k.place k.moment bandwidth delay old new s settings a.0 a.1 rates a.2 in (a.0, started (start_at settings s.view.link r.0 k.moment) ∷ a.1, r.2)
+  agrees-new = let a = kept.agrees in let r = starts-agree k.place k.moment bandwidth delay old new s settings a.0 a.1 rates a.2 in
+      (a.0, started (start_at settings s.view.link r.0 k.moment) ∷ a.1, r.2)
 
   same_length : length (views_of new) ≡ length (views_of old)
   same_length = ap (λ (vs : List LinkView). length vs) s.views_are ∙ length-set (views_of old) k.place s.view'
@@ -130,7 +170,8 @@ module _ (settings : Settings) (at : ℕ) (old : Parts) (heap : Heap NextStart) 
   -- The count of links with a backlog, by whether the link still has one.
   one-next : (o : Option ℕ) → next_start_of s.view' ≡ o → backlogged (next_starts (views_of new)) + 1 ≡ backlogged (next_starts (views_of old)) + one_backlogged o
   one-next o e =
-      let was : slice_get (next_starts (views_of old)) k.place ≡ Some (Some k.moment) = listed_next (next_starts (views_of old)) k.place (popped_next (next_starts (views_of old)) heap.keys rest k kept.held perm) in
+      let was : slice_get (next_starts (views_of old)) k.place ≡ Some (Some k.moment) = listed_next (next_starts (views_of old)) k.place
+      (popped_next (next_starts (views_of old)) heap.keys rest k kept.held perm) in
       let sum = sum-set one_backlogged (next_starts (views_of old)) k.place (Some k.moment) o was in
       let now = ap (λ (d : List (Option ℕ)). backlogged d) (starts-nexts k.place k.moment bandwidth delay old new s ∙ ap (λ (x : Option ℕ). set (next_starts (views_of old)) k.place x) e) in
       omega arith
@@ -140,11 +181,14 @@ module _ (settings : Settings) (at : ℕ) (old : Parts) (heap : Heap NextStart) 
       listed_next (x ∷ d) zero h = ap (λ y. Some y) h
       listed_next (x ∷ d) (suc i) h = listed_next d i h
 
-  pub kept-some : 0 < s.view'.waits → (heap' : Heap NextStart) → IsPermutation (record { moment = s.view'.value.free; place = k.place } ∷ rest) heap'.keys → heap'.room ≡ heap.room → AreInStep new heap'
+  pub kept-some : 0 < s.view'.waits → (heap' : Heap NextStart) → IsPermutation (record { moment = s.view'.value.free; place = k.place } ∷ rest) heap'.keys →
+      heap'.room ≡ heap.room → AreInStep new heap'
   kept-some some heap' pushed room = record {
     agrees = agrees-new;
     within = starts-within k.place k.moment bandwidth delay old new s (2 ^ 62) kept.within;
-    held = subst (λ (d : List (Option ℕ)). Holds d heap'.keys) (sym (starts-nexts k.place k.moment bandwidth delay old new s ∙ ap (λ (o : Option ℕ). set (next_starts (views_of old)) k.place o) next_some)) (holds_some (next_starts (views_of old)) heap.keys rest k kept.held perm s.view'.value.free heap'.keys pushed);
+    held = subst (λ (d : List (Option ℕ)). Holds d heap'.keys)
+        (sym (starts-nexts k.place k.moment bandwidth delay old new s ∙ ap (λ (o : Option ℕ). set (next_starts (views_of old)) k.place o) next_some))
+        (holds_some (next_starts (views_of old)) heap.keys rest k kept.held perm s.view'.value.free heap'.keys pushed);
     counted =
         let a = length_permutation heap.keys (k ∷ rest) perm in
         let b = length_permutation (record { moment = s.view'.value.free; place = k.place } ∷ rest) heap'.keys pushed in
@@ -169,7 +213,9 @@ module _ (settings : Settings) (at : ℕ) (old : Parts) (heap : Heap NextStart) 
   kept-none none heap' keys room = record {
     agrees = agrees-new;
     within = starts-within k.place k.moment bandwidth delay old new s (2 ^ 62) kept.within;
-    held = subst (λ (x : List (Option ℕ) × List NextStart). Holds x.0 x.1) (λ i. (sym (starts-nexts k.place k.moment bandwidth delay old new s ∙ ap (λ (o : Option ℕ). set (next_starts (views_of old)) k.place o) next_none) i, sym keys i)) (holds_none (next_starts (views_of old)) heap.keys rest k kept.held perm);
+    held = subst (λ (x : List (Option ℕ) × List NextStart). Holds x.0 x.1)
+        (λ i. (sym (starts-nexts k.place k.moment bandwidth delay old new s ∙ ap (λ (o : Option ℕ). set (next_starts (views_of old)) k.place o) next_none) i, sym keys i))
+        (holds_none (next_starts (views_of old)) heap.keys rest k kept.held perm);
     counted =
         let a = length_permutation heap.keys (k ∷ rest) perm in
         let b = ap (λ (ks : List NextStart). length ks) keys in

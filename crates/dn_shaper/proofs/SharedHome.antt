@@ -25,14 +25,16 @@ use Rattle.dn_shaper.proofs.Preparing.{IsOneMore, seen-made, with_flows}
 use Rattle.dn_shaper.proofs.Sharing.{named-at}
 use Rattle.dn_shaper.proofs.Housed.{keys-are, same-flows, many-flows, ready-by, within-by, sound-by, agrees-by}
 
-module _ (old new : State) (t : Table) (key : FlowKey) (one : IsOneMore key old.parts.flows t) (g : GivesHome key (length old.parts.flows.keys) (with_flows old t) new) (as_many : length old.parts.flows.flows ≡ length old.parts.flows.keys) where
+module _ (old new : State) (t : Table) (key : FlowKey) (one : IsOneMore key old.parts.flows t)
+    (g : GivesHome key (length old.parts.flows.keys) (with_flows old t) new) (as_many : length old.parts.flows.flows ≡ length old.parts.flows.keys) where
   abbrev flow : ℕ
   flow = length old.parts.flows.keys
 
   abbrev link : Link
   link = link_of key.target flow key.pipe
 
-  module _ (place : ℕ) (noted : place_for key old.shared ≡ Some place) (s : Shares flow place g.home (views_of old.parts) (views_of new.parts)) (unnoted : new.shared ≡ old.shared) (index : IsIndexed old (link_names (views_of old.parts))) where
+  module _ (place : ℕ) (noted : place_for key old.shared ≡ Some place) (s : Shares flow place g.home (views_of old.parts) (views_of new.parts))
+      (unnoted : new.shared ≡ old.shared) (index : IsIndexed old (link_names (views_of old.parts))) where
     found : (slice_get (link_names (views_of old.parts)) place ≡ Some (shared key.pipe)) × (link ≡ shared key.pipe)
     found = noted-found old (link_names (views_of old.parts)) index key.target flow key.pipe place noted
 
@@ -52,7 +54,9 @@ module _ (old new : State) (t : Table) (key : FlowKey) (one : IsOneMore key old.
         (set (views_of old.parts) place (record { link = s.view.link; value = s.view.value; waits = s.view.waits; schedule = s.view'.schedule; slots = s.view.slots ++ flow ∷ [] }))
         (λ i. record { place = s.place_is i; slot = s.slot_is i })
         (s.views_are ∙ (λ i. set (views_of old.parts) place (record { link = s.takes.link i; value = s.takes.value i; waits = s.takes.waits i; schedule = s.view'.schedule; slots = s.takes.slots i })))
-        (joined-agrees old.parts.rule old.parts.accepted old.parts.flows.keys old.parts.homes.items (views_of old.parts) old.parts.flows.flows old.parts.line.pending trace a key new.parts.flows.flows (same-flows old new t key one g as_many) (many-flows old new t key one g as_many) place s.view s.there here s.view'.schedule s.takes.schedule.virtual_time s.takes.schedule.flows)
+        (joined-agrees old.parts.rule old.parts.accepted old.parts.flows.keys old.parts.homes.items
+        (views_of old.parts) old.parts.flows.flows old.parts.line.pending trace a key new.parts.flows.flows (same-flows old new t key one g as_many)
+        (many-flows old new t key one g as_many) place s.view s.there here s.view'.schedule s.takes.schedule.virtual_time s.takes.schedule.flows)
 
     pub shared-prepares : (trace : List Event) → AgreesWith old.parts [] trace → (more : List Link) × AgreesWith new.parts more trace × IsMade flow new.parts trace
     shared-prepares trace a =
@@ -66,7 +70,9 @@ module _ (old new : State) (t : Table) (key : FlowKey) (one : IsOneMore key old.
         cc
 
     pub shared-ready : length old.parts.homes.items ≡ flow → IsReady flow new.parts
-    shared-ready many = ready-by old new t key one g as_many (λ v pipe e is. subst (λ (x : LinkView × ℕ). 0 < room_at x.0.schedule.room x.1) (λ i. (view-now v (ap (slice_get (views_of new.parts)) (sym s.place_is) ∙ e) i, sym s.slot_is i)) s.takes.room) many
+    shared-ready many = ready-by old new t key one g as_many
+        (λ v pipe e is. subst (λ (x : LinkView × ℕ). 0 < room_at x.0.schedule.room x.1)
+        (λ i. (view-now v (ap (slice_get (views_of new.parts)) (sym s.place_is) ∙ e) i, sym s.slot_is i)) s.takes.room) many
 
     waits-same : waits_in_all (views_of new.parts) ≡ waits_in_all (views_of old.parts)
     waits-same =

@@ -19,13 +19,16 @@ named-at (v ∷ views) (suc place) link e = named-at views place link e
 
 -- The link that was read has the name.
 module _ (queues : ℕ → ℕ) where
-  pub read-name : (links : List LinkParts) (place : ℕ) (link : Link) (read : LinkParts) → slice_get (link_names (map (view_of queues) links)) place ≡ Some link → read ≡ get_or links place read → (view_of queues read).link ≡ link
+  pub read-name : (links : List LinkParts) (place : ℕ) (link : Link) (read : LinkParts) →
+      slice_get (link_names (map (view_of queues) links)) place ≡ Some link → read ≡ get_or links place read → (view_of queues read).link ≡ link
   read-name [] place link read e is = absurd cc
   read-name (p ∷ links) zero link read e is = let same : (view_of queues p).link ≡ link = cc in ap (λ (x : LinkParts). (view_of queues x).link) is ∙ same
   read-name (p ∷ links) (suc place) link read e is = read-name links place link read e is
 
   -- Whatever the lengths of the queues, it is seen at its place.
-  pub read-view : (links : List LinkParts) (place : ℕ) (link : Link) (read : LinkParts) → slice_get (link_names (map (view_of queues) links)) place ≡ Some link → read ≡ get_or links place read → (others : ℕ → ℕ) → slice_get (map (view_of others) links) place ≡ Some (view_of others read)
+  pub read-view : (links : List LinkParts) (place : ℕ) (link : Link) (read : LinkParts) →
+      slice_get (link_names (map (view_of queues) links)) place ≡ Some link → read ≡ get_or links place read → (others : ℕ → ℕ) →
+      slice_get (map (view_of others) links) place ≡ Some (view_of others read)
   read-view [] place link read e is others = absurd cc
   read-view (p ∷ links) zero link read e is others = ap (λ (x : LinkParts). Some (view_of others x)) (sym is)
   read-view (p ∷ links) (suc place) link read e is others = read-view links place link read e is others

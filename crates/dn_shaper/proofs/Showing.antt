@@ -36,17 +36,26 @@ status-is flow key trace s b =
     let bytes : sum (lengths s.backlog) ≡ sum (map (λ (p : Accepted). p.stamped.len) q) = ap (λ (ws : List Waiting). sum (lengths ws)) b.backlog_is ∙ ap sum (length-lens q) in
     λ i. record { flow = flow; key = key; queued = queued i; bytes = bytes i; lost = b.lost_is i; full = b.full_is i; started = b.started_is i; discarded = b.discarded_is i }
 
-told-is : (keys : List FlowKey) (flows : List FlowState) (trace : List Event) → ((flow : ℕ) → IsFlowAt (home keys flow) flow trace (flow_at flows flow)) → (flow : ℕ) (ks : List FlowKey) → ((i : ℕ) (k : FlowKey) → slice_get ks i ≡ Some k → slice_get keys (i + flow) ≡ Some k) → told_from flow ks flows ≡ statuses_from flow ks trace
+told-is : (keys : List FlowKey) (flows : List FlowState) (trace : List Event) → ((flow : ℕ) → IsFlowAt (home keys flow) flow trace (flow_at flows flow)) →
+    (flow : ℕ) (ks : List FlowKey) → ((i : ℕ) (k : FlowKey) → slice_get ks i ≡ Some k → slice_get keys (i + flow) ≡ Some k) →
+    told_from flow ks flows ≡ statuses_from flow ks trace
 told-is keys flows trace each flow [] h = refl
 told-is keys flows trace each flow (k ∷ ks) h =
     let zero_is : 0 + flow ≡ flow = omega arith in
     let key_at : slice_get keys flow ≡ Some k = ap (slice_get keys) (sym zero_is) ∙ h 0 k refl in
     let here : home keys flow ≡ link_of k.target flow k.pipe = ap (home_by flow) key_at in
-    λ i. status-is flow k trace (flow_at flows flow) (subst (λ (l : Link). IsFlowAt l flow trace (flow_at flows flow)) here (each flow)) i ∷ told-is keys flows trace each (flow + 1) ks (λ j x e. let next : j + (flow + 1) ≡ suc j + flow = omega arith in ap (slice_get keys) next ∙ h (suc j) x e) i
+    λ i. status-is flow k trace (flow_at flows flow)
+    (subst (λ (l : Link). IsFlowAt l flow trace (flow_at flows flow)) here (each flow)) i ∷ told-is keys flows trace each (flow + 1) ks
+    (λ j x e. let next : j + (flow + 1) ≡ suc j + flow = omega arith in ap (slice_get keys) next ∙ h (suc j) x e) i
 
-pub shows : (old : State) (list : List FlowStatus) → list ≡ told_from 0 old.parts.flows.keys old.parts.flows.flows → Does Show old (record { parts = old.parts; heap = old.heap; shared = old.shared; configured = old.configured; now = old.now; calls = old.calls + 1 }) (Status list)
+pub shows : (old : State) (list : List FlowStatus) → list ≡ told_from 0 old.parts.flows.keys old.parts.flows.flows →
+    Does Show old (record { parts = old.parts; heap = old.heap; shared = old.shared; configured = old.configured; now = old.now; calls = old.calls + 1 }) (Status list)
 shows old list is rule calls s = (
-  ap Status (is ∙ told-is old.parts.flows.keys old.parts.flows.flows (trace_of calls) s.agrees.flows_are 0 old.parts.flows.keys (λ i k e. let same : i + 0 ≡ i = omega arith in ap (slice_get old.parts.flows.keys) same ∙ e) ∙ ap (λ (ks : List FlowKey). statuses_from 0 ks (trace_of calls)) s.keys_are),
+  ap Status
+      (is
+      ∙ told-is old.parts.flows.keys old.parts.flows.flows (trace_of calls) s.agrees.flows_are 0 old.parts.flows.keys
+      (λ i k e. let same : i + 0 ≡ i = omega arith in ap (slice_get old.parts.flows.keys) same ∙ e)
+      ∙ ap (λ (ks : List FlowKey). statuses_from 0 ks (trace_of calls)) s.keys_are),
   record { rule_is = s.rule_is; calls_are = let c = s.calls_are in omega arith; now_is = s.now_is ∙ now_same; settings_are = s.settings_are; keys_are = s.keys_are; agrees = s.agrees },
 )
   where
@@ -54,10 +63,19 @@ shows old list is rule calls s = (
     now_same = omega arith
 
 pub shows-sound : (old : State) → IsSound old → IsSound (record { parts = old.parts; heap = old.heap; shared = old.shared; configured = old.configured; now = old.now; calls = old.calls + 1 })
-shows-sound old s = record { kept = s.kept; within = within-more old.calls (old.calls + 1) old.parts (omega arith) s.within; moves = let m = s.moves in omega arith; early = s.early; indexed = indexed-still old _ (link_names (views_of old.parts)) (link_names (views_of old.parts)) refl refl s.indexed }
+shows-sound old s = record {
+  kept = s.kept;
+  within = within-more old.calls (old.calls + 1) old.parts (omega arith) s.within;
+  moves = let m = s.moves in
+      omega arith;
+  early = s.early;
+  indexed = indexed-still old _ (link_names (views_of old.parts)) (link_names (views_of old.parts)) refl refl s.indexed;
+}
 
 -- One flow more is told.
-pub told-next : (keys : List FlowKey) (flows : List FlowState) (items items' : List FlowStatus) (flow : ℕ) (st : FlowStatus) → items' ≡ items ++ st ∷ [] → slice_get keys flow ≡ Some st.key → st ≡ status_of flow st.key (flow_at flows flow) → items' ++ told_from (flow + 1) (drop (flow + 1) keys) flows ≡ items ++ told_from flow (drop flow keys) flows
+pub told-next : (keys : List FlowKey) (flows : List FlowState) (items items' : List FlowStatus) (flow : ℕ) (st : FlowStatus) → items' ≡ items ++ st ∷ [] →
+    slice_get keys flow ≡ Some st.key → st ≡ status_of flow st.key (flow_at flows flow) →
+    items' ++ told_from (flow + 1) (drop (flow + 1) keys) flows ≡ items ++ told_from flow (drop flow keys) flows
 told-next keys flows items items' flow st more key is =
     let one : flow + 1 ≡ suc flow = omega arith in
     ap (λ (xs : List FlowStatus). xs ++ told_from (flow + 1) (drop (flow + 1) keys) flows) more

@@ -109,7 +109,8 @@ module _ (to : ℕ → ℕ) (rises : (a b : ℕ) → a < b → to a < to b) wher
   eligible-moved v [] = refl
   eligible-moved v (h ∷ hs) = by (is_eligible v h) (eligible-moved v hs)
     where
-      by : (t : Bool) → filter (is_eligible v) (map moved hs) ≡ map moved (filter (is_eligible v) hs) → cond t (moved h ∷ filter (is_eligible v) (map moved hs)) (filter (is_eligible v) (map moved hs)) ≡ map moved (cond t (h ∷ filter (is_eligible v) hs) (filter (is_eligible v) hs))
+      by : (t : Bool) → filter (is_eligible v) (map moved hs) ≡ map moved (filter (is_eligible v) hs) →
+          cond t (moved h ∷ filter (is_eligible v) (map moved hs)) (filter (is_eligible v) (map moved hs)) ≡ map moved (cond t (h ∷ filter (is_eligible v) hs) (filter (is_eligible v) hs))
       by true e = ap (λ (xs : List Stamped). moved h ∷ xs) e
       by false e = e
 

@@ -33,12 +33,14 @@ use Rattle.dn_shaper.proofs.Quiet.{collected-agrees}
 
 -- ---- A timed call settles first
 
-module _ (old : State) (parts : Parts) (heap : Heap NextStart) (at moment : ℕ) (at_is : at ≡ max old.now moment) (settles : SettlesAll (settings_of old.configured) at old.parts parts) (only : OnlyStarts old.parts old.heap parts heap) where
+module _ (old : State) (parts : Parts) (heap : Heap NextStart) (at moment : ℕ) (at_is : at ≡ max old.now moment)
+    (settles : SettlesAll (settings_of old.configured) at old.parts parts) (only : OnlyStarts old.parts old.heap parts heap) where
   now-is : (rule : Rule) (calls : List Call) → StandsAt rule old calls → at ≡ max (effective_moment calls) moment
   now-is rule calls s = at_is ∙ ap (λ n. max n moment) s.now_is
 
   settled-then : (rule : Rule) (calls : List Call) → StandsAt rule old calls → AgreesWith parts [] (settled (settings calls) (max (effective_moment calls) moment) (trace_of calls))
-  settled-then rule calls s = subst (λ (x : Settings × ℕ). AgreesWith parts [] (settled x.0 x.1 (trace_of calls))) (λ i. (s.settings_are i, now-is rule calls s i)) (settles [] (trace_of calls) s.agrees)
+  settled-then rule calls s = subst (λ (x : Settings × ℕ). AgreesWith parts [] (settled x.0 x.1 (trace_of calls)))
+      (λ i. (s.settings_are i, now-is rule calls s i)) (settles [] (trace_of calls) s.agrees)
 
   pub advanced : Does (Advance moment) old (record { parts = parts; heap = heap; shared = old.shared; configured = old.configured; now = at; calls = old.calls + 1 }) (Advanced at)
   advanced rule calls s = (
@@ -78,7 +80,8 @@ module _ (old : State) (parts : Parts) (heap : Heap NextStart) (at moment : ℕ)
     after-agrees : (more : List Link) (trace : List Event) → AgreesWith parts more trace → AgreesWith after more (collected at ∷ trace)
     after-agrees more trace a = collected-agrees parts.rule parts.accepted parts.flows.keys parts.homes.items (views_of parts) parts.flows.flows parts.line.pending more trace a at line.pending rest
 
-    pub collects : (list : List Delivery) → list ≡ filter (λ d. nat_le d.due at) parts.line.pending → Does (Collect moment) old (record { parts = after; heap = heap; shared = old.shared; configured = old.configured; now = at; calls = old.calls + 1 }) (Delivered at list)
+    pub collects : (list : List Delivery) → list ≡ filter (λ d. nat_le d.due at) parts.line.pending →
+        Does (Collect moment) old (record { parts = after; heap = heap; shared = old.shared; configured = old.configured; now = at; calls = old.calls + 1 }) (Delivered at list)
     collects list is rule calls s = (
       reply_is,
       record {
@@ -87,7 +90,9 @@ module _ (old : State) (parts : Parts) (heap : Heap NextStart) (at moment : ℕ)
         now_is = now-is rule calls s;
         settings_are = s.settings_are;
         keys_are = only.keys ∙ s.keys_are;
-        agrees = subst (λ m. AgreesWith after [] (collected m ∷ settled (settings calls) (max (effective_moment calls) moment) (trace_of calls))) (now-is rule calls s) (after-agrees [] (settled (settings calls) (max (effective_moment calls) moment) (trace_of calls)) (settled-then rule calls s));
+        agrees = subst (λ m. AgreesWith after [] (collected m ∷ settled (settings calls) (max (effective_moment calls) moment) (trace_of calls)))
+            (now-is rule calls s)
+            (after-agrees [] (settled (settings calls) (max (effective_moment calls) moment) (trace_of calls)) (settled-then rule calls s));
       },
     )
       where
@@ -97,7 +102,8 @@ module _ (old : State) (parts : Parts) (heap : Heap NextStart) (at moment : ℕ)
             ∙ ap (λ (ds : List Delivery). filter (λ d. nat_le d.due at) ds) (settled-then rule calls s).pending_is
             ∙ ap (λ (r : Rule). given r at (settled (settings calls) (max (effective_moment calls) moment) (trace_of calls))) (only.rule ∙ s.rule_is)
 
-        reply_is : Delivered at list ≡ Delivered (max (effective_moment calls) moment) (given rule (max (effective_moment calls) moment) (settled (settings calls) (max (effective_moment calls) moment) (trace_of calls)))
+        reply_is : Delivered at list ≡ Delivered (max (effective_moment calls) moment)
+            (given rule (max (effective_moment calls) moment) (settled (settings calls) (max (effective_moment calls) moment) (trace_of calls)))
         reply_is = ap (Delivered at) list_is ∙ ap (λ m. Delivered m (given rule m (settled (settings calls) (max (effective_moment calls) moment) (trace_of calls)))) (now-is rule calls s)
 
     fewer : (ds : List Delivery) → length (filter (λ d. nat_lt at d.due) ds) ≤ length ds
@@ -114,7 +120,8 @@ module _ (old : State) (parts : Parts) (heap : Heap NextStart) (at moment : ℕ)
       accepted = w.accepted;
     }
 
-    pub collects-sound : IsSound old → AreInStep parts heap → moment ≤ 2 ^ 62 → IsSound (record { parts = after; heap = heap; shared = old.shared; configured = old.configured; now = at; calls = old.calls + 1 })
+    pub collects-sound : IsSound old → AreInStep parts heap → moment ≤ 2 ^ 62 →
+        IsSound (record { parts = after; heap = heap; shared = old.shared; configured = old.configured; now = at; calls = old.calls + 1 })
     collects-sound sound kept early = record {
       kept = record {
         agrees = let a = kept.agrees in (a.0, collected at ∷ a.1, after-agrees a.0 a.1 a.2);

@@ -28,14 +28,6 @@ use Rattle.dn_flows.proofs.Places.{eq-no, eq-yes, get-set, get-set-other, map-se
 use Rattle.dn_types.proofs.Settled.{link_eq-true, link_eq-refl, true_or_false, backlog-elsewhere, free-elsewhere, virtual_time-elsewhere, last_due-elsewhere, backlog-unknown}
 use Rattle.dn_types.proofs.Settling.{and-no, waiting-start, is_of-start}
 
-pub cond-map : {X Y : Type 0} (f : X → Y) (b : Bool) (xs : List X) → map f (cond b (drop 1 xs) xs) ≡ cond b (drop 1 (map f xs)) (map f xs)
-cond-map f true xs = sym (drop-map f 1 xs)
-cond-map f false xs = refl
-
-cond-fun : {X Y : Type 0} (f : X → Y) (b : Bool) (x y : X) → f (cond b x y) ≡ cond b (f x) (f y)
-cond-fun f true x y = refl
-cond-fun f false x y = refl
-
 pub popped_started : (s : FlowState) (w : Waiting) → slice_get s.backlog 0 ≡ Some w → (popped s).started ≡ s.started + 1
 popped_started s w e = by s.backlog e
   where
@@ -50,7 +42,8 @@ popped_rest s = by s.backlog
     by [] = (refl, refl, refl)
     by (x ∷ ws) = (refl, refl, refl)
 
-module _ (rule : Rule) (accepted : ℕ) (keys : List FlowKey) (homes : List Home) (views : List LinkView) (flows : List FlowState) (pending : List Delivery) (more : List Link) (trace : List Event) (a : IsAt rule accepted keys homes views flows pending more trace)
+module _ (rule : Rule) (accepted : ℕ) (keys : List FlowKey) (homes : List Home) (views : List LinkView) (flows : List FlowState) (pending : List Delivery)
+    (more : List Link) (trace : List Event) (a : IsAt rule accepted keys homes views flows pending more trace)
     (k : ℕ) (v : LinkView) (there : slice_get views k ≡ Some v)
     (flow : ℕ) (s : Start) (first : slice_get (backlog v.link flow trace) 0 ≡ Some s.packet)
     (v' : LinkView) (same_link : v'.link ≡ v.link) (same_slots : v'.slots ≡ v.slots) (sends : IsNextToSend flow v v' v.link)
@@ -94,7 +87,9 @@ module _ (rule : Rule) (accepted : ℕ) (keys : List FlowKey) (homes : List Home
             h.3.virtual_time
             ∙ ap (λ (x : Stamped). grown v.schedule.virtual_time (heads_of v.schedule.flows) x.len) (sym stamps)
             ∙ grown-agree v.link trace v.schedule v.slots c up l s.packet.stamped.len
-            ∙ sym (ap (λ b. cond b (grown (virtual_time v.link trace) (link_heads v.link trace) s.packet.stamped.len) (virtual_time v.link trace)) (ap (λ (m : Link). link_eq m v.link) on_link ∙ link_eq-refl v.link));
+            ∙ sym
+            (ap (λ b. cond b (grown (virtual_time v.link trace) (link_heads v.link trace) s.packet.stamped.len) (virtual_time v.link trace))
+            (ap (λ (m : Link). link_eq m v.link) on_link ∙ link_eq-refl v.link));
         slots_are = λ slot g e. slot_after c up h.0.flow within h.2 h.3.flows slot g e;
         beyond = λ slot le.
             let lt = get-below v.slots h.0.flow flow h.2 in
@@ -109,7 +104,9 @@ module _ (rule : Rule) (accepted : ℕ) (keys : List FlowKey) (homes : List Home
       in_range (f ∷ fs) zero x e = omega arith
       in_range (f ∷ fs) (suc slot) x e = let r = in_range fs slot x e in omega arith
 
-      slot_after : IsScheduleAt v.link trace v.schedule v.slots → Ascends 0 v.slots → (i : ℕ) → i < length v.schedule.flows → slice_get v.slots i ≡ Some flow → v'.schedule.flows ≡ after_pick v.schedule.flows i → (slot g : ℕ) → slice_get v.slots slot ≡ Some g → IsSlotAt v.link g slot (started s ∷ trace) (slot_at v'.schedule.flows slot)
+      slot_after : IsScheduleAt v.link trace v.schedule v.slots → Ascends 0 v.slots → (i : ℕ) → i < length v.schedule.flows → slice_get v.slots i ≡ Some flow →
+          v'.schedule.flows ≡ after_pick v.schedule.flows i → (slot g : ℕ) → slice_get v.slots slot ≡ Some g →
+          IsSlotAt v.link g slot (started s ∷ trace) (slot_at v'.schedule.flows slot)
       slot_after c up i lt at_i now slot g e = by (cases_eq i slot)
         where
           now_at : (j : ℕ) → slot_at v'.schedule.flows j ≡ cond (nat_eq i j) (without_head (slot_at v.schedule.flows i)) (slot_at v.schedule.flows j)
@@ -131,13 +128,15 @@ module _ (rule : Rule) (accepted : ℕ) (keys : List FlowKey) (homes : List Home
 
           there_too : (i ≡ slot → ⊥) → IsSlotAt v.link g slot (started s ∷ trace) (slot_at v'.schedule.flows slot)
           there_too ne =
-              let is : slot_at v'.schedule.flows slot ≡ slot_at v.schedule.flows slot = now_at slot ∙ ap (λ b. cond b (without_head (slot_at v.schedule.flows i)) (slot_at v.schedule.flows slot)) (eq-no i slot ne) in
+              let is : slot_at v'.schedule.flows slot ≡ slot_at v.schedule.flows slot = now_at slot
+              ∙ ap (λ b. cond b (without_head (slot_at v.schedule.flows i)) (slot_at v.schedule.flows slot)) (eq-no i slot ne) in
               let apart : nat_eq s.packet.stamped.flow g ≡ false = ap (λ x. nat_eq x g) fr.3 ∙ eq-no flow g (slots-apart v.slots up i slot flow g at_i e ne) in
               record {
                 backlog_is =
                     ap (λ (f : Flow). f.backlog) is
                     ∙ (c.slots_are slot g e).backlog_is
-                    ∙ ap (λ b. map (slotted slot) (stamped_of (cond b (drop 1 (backlog v.link g trace)) (backlog v.link g trace)))) (sym (and-no (link_eq s.packet.link v.link) (nat_eq s.packet.stamped.flow g) apart));
+                    ∙ ap (λ b. map (slotted slot) (stamped_of (cond b (drop 1 (backlog v.link g trace)) (backlog v.link g trace))))
+                    (sym (and-no (link_eq s.packet.link v.link) (nat_eq s.packet.stamped.flow g) apart));
                 last_finish_is = ap (λ (f : Flow). f.last_finish_tag) is ∙ (c.slots_are slot g e).last_finish_is;
               }
 
@@ -166,7 +165,8 @@ module _ (rule : Rule) (accepted : ℕ) (keys : List FlowKey) (homes : List Home
         omega arith;
     schedule_is = λ pipe e.
         let is : v.link ≡ shared pipe = sym same_link ∙ e in
-        subst (λ (x : Link × List ℕ). IsScheduleAt x.0 (started s ∷ trace) v'.schedule x.1) (λ i. (sym same_link i, sym same_slots i)) (schedule_after pipe is (subst (λ (l : Link). IsNextToSend flow v v' l) is sends));
+        subst (λ (x : Link × List ℕ). IsScheduleAt x.0 (started s ∷ trace) v'.schedule x.1) (λ i. (sym same_link i, sym same_slots i))
+        (schedule_after pipe is (subst (λ (l : Link). IsNextToSend flow v v' l) is sends));
     ascends = subst (λ (fs : List ℕ). Ascends 0 fs) (sym same_slots) b.ascends;
     below = let t = ap {B = ℕ} (top 0) same_slots in let le = b.below in omega arith;
   }
@@ -207,11 +207,15 @@ module _ (rule : Rule) (accepted : ℕ) (keys : List FlowKey) (homes : List Home
   names_same = map-set-same (λ (x : LinkView). x.link) views k v v' there same_link
 
   known : list_any (link_eq v.link) (links trace) ≡ true
-  known = ⊎_elim (λ t. t) (λ f. let none = ap (λ (q : List Accepted). slice_get q 0) (backlog-unknown v.link flow trace f) in let t : Some s.packet ≡ None = sym first ∙ none in absurd cc) (true_or_false (list_any (link_eq v.link) (links trace)))
+  known = ⊎_elim (λ t. t)
+      (λ f. let none = ap (λ (q : List Accepted). slice_get q 0) (backlog-unknown v.link flow trace f) in let t : Some s.packet ≡ None = sym first ∙ none in absurd cc)
+      (true_or_false (list_any (link_eq v.link) (links trace)))
 
   still_untouched : (link : Link) → list_any (link_eq link) (links trace) ≡ false → HasSentNothing rule (started s ∷ trace) link
   still_untouched link e =
-      let apart : link_eq s.packet.link link ≡ false = ⊎_elim (λ same. let t : true ≡ false = sym known ∙ ap (λ (l : Link). list_any (link_eq l) (links trace)) (sym on_link ∙ link_eq-true s.packet.link link same) ∙ e in absurd cc) (λ f. f) (true_or_false (link_eq s.packet.link link)) in
+      let apart : link_eq s.packet.link link ≡ false = ⊎_elim
+      (λ same. let t : true ≡ false = sym known ∙ ap (λ (l : Link). list_any (link_eq l) (links trace)) (sym on_link ∙ link_eq-true s.packet.link link same) ∙ e in absurd cc)
+      (λ f. f) (true_or_false (link_eq s.packet.link link)) in
       let u = a.untouched link e in
       record {
         free_is = free-elsewhere link s trace apart ∙ u.free_is;
@@ -230,7 +234,8 @@ module _ (rule : Rule) (accepted : ℕ) (keys : List FlowKey) (homes : List Home
 
       by : (flow ≡ g) ⊎ (flow ≡ g → ⊥) → IsFlowAt (home keys g) g (started s ∷ trace) (flow_at flows' g)
       by (inl same) =
-          let is : flow_at flows' g ≡ popped (flow_at flows g) = now_at ∙ ap (λ b. cond b (popped (flow_at flows flow)) (flow_at flows g)) (eq-yes flow g same) ∙ ap (λ i. popped (flow_at flows i)) same in
+          let is : flow_at flows' g ≡ popped (flow_at flows g) = now_at ∙ ap (λ b. cond b (popped (flow_at flows flow)) (flow_at flows g)) (eq-yes flow g same)
+          ∙ ap (λ i. popped (flow_at flows i)) same in
           let b = a.flows_are g in
           let rest = popped_rest (flow_at flows g) in
           let front_g : slice_get (flow_at flows g).backlog 0 ≡ Some (as_queued s.packet) = ap (λ i. slice_get (flow_at flows i).backlog 0) (sym same) ∙ fr.0 in
@@ -264,7 +269,8 @@ module _ (rule : Rule) (accepted : ℕ) (keys : List FlowKey) (homes : List Home
             discarded_is = ap (λ (x : FlowState). x.discarded) is ∙ b.discarded_is;
           }
 
-  pub start-agrees : IsAt rule accepted keys homes (set views k v') flows' (in_order (record { due = v'.value.last_due; packet = s.packet.packet; flow = flow; start = s.moment }) pending) more (started s ∷ trace)
+  pub start-agrees : IsAt rule accepted keys homes (set views k v') flows'
+      (in_order (record { due = v'.value.last_due; packet = s.packet.packet; flow = flow; start = s.moment }) pending) more (started s ∷ trace)
   start-agrees = record {
     links_are = names_same ∙ a.links_are;
     distinct = subst AreDistinct (sym names_same) a.distinct;

@@ -1,5 +1,5 @@
 -- A link for which a packet waits can start one, and all parts agree with the start.
-use Rattle.std.proofs.Common.{◌≡◌, ◌∙◌, ◌≤◌, ◌<◌, ◌⊎◌, ◌^◌, ℕ, zero, suc, ◌+◌, Bool, true, false, cond, List, [], ◌∷◌, set, refl, ap, sym, subst, length, drop, arith, inl, inr}
+use Rattle.std.proofs.Common.{◌≡◌, ◌∙◌, ◌≤◌, ◌<◌, ◌⊎◌, ◌^◌, ℕ, zero, suc, ◌+◌, Bool, true, false, cond, List, [], ◌∷◌, set, get_or, refl, ap, sym, subst, length, drop, arith, inl, inr}
 use Rattle.std.specs.Prelude.{Some, nat_eq, slice_get}
 use Rattle.std.proofs.lemmas.Bool.{cases_eq}
 use Rattle.dn_types.specs.Configuration.{Settings}
@@ -16,13 +16,14 @@ use Rattle.dn_flows.specs.declared.waiting.Waiting.{Waiting}
 use Rattle.dn_flows.proofs.Views.{flow_after_set, popped_backlog}
 use Rattle.dn_wf2q.specs.Schedule.{room_at}
 use Rattle.dn_shaper.specs.declared.links.home.Home.{Home}
+use Rattle.dn_shaper.specs.declared.links.link_parts.LinkParts.{LinkParts}
 use Rattle.dn_shaper.specs.declared.links.parts.Parts.{Parts}
-use Rattle.dn_shaper.specs.Refinement.Views.{LinkView, CanSend, IsAlone, IsNextToSend, home, next_start_of, next_starts, queue_lengths, views_of, as_queued, waits_in_all}
+use Rattle.dn_shaper.specs.Refinement.Views.{LinkView, CanSend, IsAlone, IsNextToSend, home, next_start_of, next_starts, queue_lengths, view_of, views_of, as_queued, waits_in_all}
 use Rattle.dn_shaper.specs.Refinement.Agreement.{GivesRates, AgreesWith, Agrees, IsAt}
 use Rattle.dn_shaper.specs.Refinement.Starting.{HasFront, AreCountsWithin, Within, IsReady, CanStart, StartsAt}
 use Rattle.dn_shaper.proofs.Alone.{is-alone, own-slot}
 use Rattle.dn_shaper.proofs.Next.{can_send, taken, front}
-use Rattle.dn_flows.proofs.Places.{eq-no, eq-yes, get-set, get-set-other, sum-set, sum-le, get-below, map-set}
+use Rattle.dn_flows.proofs.Places.{viewed, eq-no, eq-yes, get-set, get-set-other, sum-set, sum-le, get-below, map-set}
 use Rattle.dn_shaper.proofs.Started.{start-agrees, popped_started, popped_rest}
 
 -- A flow that has a packet is there.
@@ -33,7 +34,11 @@ popped-below (x ∷ fs) (suc i) w e = let r = popped-below fs i w e in omega ari
 
 -- ---- What a start needs
 
-module _ (p : Parts) (agrees : Agrees p) (within : Within (2 ^ 62) p) (place moment : ℕ) (can : CanStart p place moment) where
+module _ {p : Parts} (within : Within (2 ^ 62) p) (agrees : Agrees p) {place moment : ℕ} (can : CanStart p place moment) where
+  -- The link that is read at the place is the one that can start.
+  pub link-read : {link : LinkParts} → link ≡ get_or p.links.items place link → (slice_get p.links.items place ≡ Some link) × (view_of (queue_lengths p.flows.flows) link ≡ can.view)
+  link-read {link = link} read = viewed (view_of (queue_lengths p.flows.flows)) p.links.items place link can.view can.there read
+
   pub sends-at : CanSend can.view can.view.link
   sends-at = can_send p.rule p.accepted p.flows.keys p.homes.items (views_of p) p.flows.flows p.line.pending agrees.0 agrees.1 agrees.2 place can.view can.there can.some
 
@@ -84,18 +89,29 @@ module _ (place moment bandwidth delay : ℕ) (old new : Parts) (s : StartsAt pl
   pub starts-agree : (settings : Settings) (more : List Link) (trace : List Event) → GivesRates settings (pipe_of s.view.link) bandwidth delay → AgreesWith old more trace →
       (p : Accepted) × (next_packet s.view.link trace ≡ Some p) × AgreesWith new more (started (start_at settings s.view.link p moment) ∷ trace)
   starts-agree settings more trace rates a =
-      let t = taken old.rule old.accepted old.flows.keys old.homes.items (views_of old) old.flows.flows old.line.pending more trace a place s.view s.there s.starts.flow s.view' some-waited s.starts.sends in
+      let t = taken old.rule old.accepted old.flows.keys old.homes.items
+      (views_of old) old.flows.flows old.line.pending more trace a place s.view s.there s.starts.flow s.view' some-waited s.starts.sends in
       let f = front old.rule old.accepted old.flows.keys old.homes.items (views_of old) old.flows.flows old.line.pending more trace a place s.view s.there s.starts.flow t.0 t.2 in
       let both : Some s.starts.packet ≡ Some (as_queued t.0) = sym s.starts.front ∙ f.0 in
       let packet : s.starts.packet ≡ as_queued t.0 = cc in
       (t.0, t.1, after t.0 t.2 packet)
     where
-      after : (p : Accepted) → slice_get (backlog s.view.link s.starts.flow trace) 0 ≡ Some p → s.starts.packet ≡ as_queued p → AgreesWith new more (started (start_at settings s.view.link p moment) ∷ trace)
+      after : (p : Accepted) → slice_get (backlog s.view.link s.starts.flow trace) 0 ≡ Some p → s.starts.packet ≡ as_queued p →
+          AgreesWith new more (started (start_at settings s.view.link p moment) ∷ trace)
       after p first packet =
-          subst (λ (r : Rule). IsAt r new.accepted new.flows.keys new.homes.items (views_of new) new.flows.flows new.line.pending more (started (start_at settings s.view.link p moment) ∷ trace)) (sym s.rule)
-          (subst (λ (x : ℕ × List FlowKey). IsAt old.rule x.0 x.1 new.homes.items (views_of new) new.flows.flows new.line.pending more (started (start_at settings s.view.link p moment) ∷ trace)) (λ i. (sym s.accepted i, sym s.keys i))
-          (subst (λ (x : List Home × List LinkView). IsAt old.rule old.accepted old.flows.keys x.0 x.1 new.flows.flows new.line.pending more (started (start_at settings s.view.link p moment) ∷ trace)) (λ i. ((sym s.homes i).items, sym s.views_are i))
-          (subst (λ (x : List FlowState × List Delivery). IsAt old.rule old.accepted old.flows.keys old.homes.items (set (views_of old) place s.view') x.0 x.1 more (started (start_at settings s.view.link p moment) ∷ trace)) (λ i. (sym s.starts.flows_are i, sym pending_is i)) base)))
+          subst
+          (λ (r : Rule). IsAt r new.accepted new.flows.keys new.homes.items (views_of new) new.flows.flows new.line.pending more (started (start_at settings s.view.link p moment) ∷ trace))
+          (sym s.rule)
+          (subst
+          (λ (x : ℕ × List FlowKey). IsAt old.rule x.0 x.1 new.homes.items (views_of new) new.flows.flows new.line.pending more (started (start_at settings s.view.link p moment) ∷ trace))
+          (λ i. (sym s.accepted i, sym s.keys i))
+          (subst
+          (λ (x : List Home × List LinkView). IsAt old.rule old.accepted old.flows.keys x.0 x.1 new.flows.flows new.line.pending more (started (start_at settings s.view.link p moment) ∷ trace))
+          (λ i. ((sym s.homes i).items, sym s.views_are i))
+          (subst
+          (λ (x : List FlowState × List Delivery). IsAt old.rule old.accepted old.flows.keys old.homes.items (set (views_of old) place s.view') x.0 x.1 more
+          (started (start_at settings s.view.link p moment) ∷ trace))
+          (λ i. (sym s.starts.flows_are i, sym pending_is i)) base)))
         where
           transmission_is : transmission_time bandwidth s.starts.packet.len ≡ (start_at settings s.view.link p moment).transmission
           transmission_is = ap (λ (w : Waiting). transmission_time bandwidth w.len) packet ∙ ap (λ b. transmission_time b p.stamped.len) (sym rates.bandwidth_is)
@@ -103,8 +119,13 @@ module _ (place moment bandwidth delay : ℕ) (old new : Parts) (s : StartsAt pl
           pending_is : new.line.pending ≡ in_order (record { due = s.view'.value.last_due; packet = p.packet; flow = s.starts.flow; start = moment }) old.line.pending
           pending_is = s.starts.pending_is ∙ ap (λ (w : Waiting). in_order (record { due = s.view'.value.last_due; packet = w.packet; flow = s.starts.flow; start = moment }) old.line.pending) packet
 
-          base : IsAt old.rule old.accepted old.flows.keys old.homes.items (set (views_of old) place s.view') (set old.flows.flows s.starts.flow (popped (flow_at old.flows.flows s.starts.flow))) (in_order (record { due = s.view'.value.last_due; packet = p.packet; flow = s.starts.flow; start = moment }) old.line.pending) more (started (start_at settings s.view.link p moment) ∷ trace)
-          base = start-agrees old.rule old.accepted old.flows.keys old.homes.items (views_of old) old.flows.flows old.line.pending more trace a place s.view s.there s.starts.flow (start_at settings s.view.link p moment) first s.view' s.starts.link s.starts.slots s.starts.sends
+          base : IsAt old.rule old.accepted old.flows.keys old.homes.items (set (views_of old) place s.view')
+              (set old.flows.flows s.starts.flow (popped (flow_at old.flows.flows s.starts.flow)))
+              (in_order (record { due = s.view'.value.last_due; packet = p.packet; flow = s.starts.flow; start = moment }) old.line.pending) more
+              (started (start_at settings s.view.link p moment) ∷ trace)
+          base = start-agrees old.rule old.accepted old.flows.keys old.homes.items
+              (views_of old) old.flows.flows old.line.pending more trace a place s.view s.there s.starts.flow
+              (start_at settings s.view.link p moment) first s.view' s.starts.link s.starts.slots s.starts.sends
               (s.starts.free ∙ ap (λ x. moment + x) transmission_is)
               (s.starts.last_due ∙ (λ i. due_by old.rule (moment + transmission_is i + sym rates.delay_is i) s.view.value.last_due))
               s.starts.waits

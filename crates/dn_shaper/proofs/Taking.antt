@@ -34,10 +34,12 @@ takes-shared v schedule waits pipe slot flow is can picked some read = record {
   link = refl;
   value = refl;
   slots = refl;
-  sends = subst (IsNextToSend flow v (record { link = v.link; value = v.value; waits = waits; schedule = schedule; slots = v.slots })) (sym is) (go (pick v.schedule.virtual_time (heads_of v.schedule.flows)) refl);
+  sends = subst (IsNextToSend flow v (record { link = v.link; value = v.value; waits = waits; schedule = schedule; slots = v.slots })) (sym is)
+      (go (pick v.schedule.virtual_time (heads_of v.schedule.flows)) refl);
 }
   where
-    go : (o : Option Stamped) → pick v.schedule.virtual_time (heads_of v.schedule.flows) ≡ o → (h : Stamped) × (pick v.schedule.virtual_time (heads_of v.schedule.flows) ≡ Some h) × (slice_get v.slots h.flow ≡ Some flow) × Picks h v.schedule schedule
+    go : (o : Option Stamped) → pick v.schedule.virtual_time (heads_of v.schedule.flows) ≡ o →
+        (h : Stamped) × (pick v.schedule.virtual_time (heads_of v.schedule.flows) ≡ Some h) × (slice_get v.slots h.flow ≡ Some flow) × Picks h v.schedule schedule
     go None e = let none : Some slot ≡ None = picked ∙ ap (option_map (λ (h : Stamped). h.flow)) e in absurd cc
     go (Some h) e =
         let one : Some slot ≡ Some h.flow = picked ∙ ap (option_map (λ (x : Stamped). x.flow)) e in
@@ -56,7 +58,8 @@ module _ (pipe : ℕ) (value : LinkState) where
   abbrev seen : Schedule → List ℕ → LinkView
   seen schedule slots = record { link = shared pipe; value = value; waits = waiting_in schedule.flows; schedule = schedule; slots = slots }
 
-  pub takes-of : (carries : Carries) (s t : Box SharedLink Global) (d : SharedLink) (schedule : Schedule) (slot flow : ℕ) → carries ≡ Shared s → d ≡ s.value → t.value ≡ record { sched = schedule; flows = d.flows } →
+  pub takes-of : (carries : Carries) (s t : Box SharedLink Global) (d : SharedLink) (schedule : Schedule) (slot flow : ℕ) → carries ≡ Shared s → d ≡ s.value →
+      t.value ≡ record { sched = schedule; flows = d.flows } →
       (queues : ℕ → ℕ) × CanSend (with_carries queues carries) (with_carries queues carries).link →
       Some slot ≡ option_map (λ h. h.flow) (pick d.sched.virtual_time (heads_of d.sched.flows)) →
       IfSome (pick d.sched.virtual_time (heads_of d.sched.flows)) (λ h. Picks h d.sched schedule) →
@@ -78,10 +81,14 @@ sends-on flow old new new' same (own pipe f) sends = sends
 sends-on flow old new new' same (shared pipe) sends = (sends.0, sends.1, sends.2, subst (λ (s : Schedule). Picks sends.0 old.schedule s) (sym same) sends.3)
 
 -- One packet fewer waits for the link that sends one, if one fewer waits in the flow's queue.
-pub waits-fewer : (before after : ℕ → ℕ) (flow : ℕ) (l l' : LinkParts) → TakesNext flow (view_of before l) (view_of after l') → after flow + 1 ≡ before flow → carried_waits after l'.carries + 1 ≡ carried_waits before l.carries
+pub waits-fewer : (before after : ℕ → ℕ) (flow : ℕ) (l l' : LinkParts) → TakesNext flow (view_of before l) (view_of after l') → after flow + 1 ≡ before flow →
+    carried_waits after l'.carries + 1 ≡ carried_waits before l.carries
 waits-fewer before after flow l l' takes fewer = by l.carries l'.carries takes.link takes.sends
   where
-    by : (c c' : Carries) → carried_link l'.pipe c' ≡ carried_link l.pipe c → IsNextToSend flow (view_of before (record { pipe = l.pipe; times = l.times; carries = c })) (view_of after (record { pipe = l'.pipe; times = l'.times; carries = c' })) (carried_link l.pipe c) → carried_waits after c' + 1 ≡ carried_waits before c
+    by : (c c' : Carries) → carried_link l'.pipe c' ≡ carried_link l.pipe c →
+        IsNextToSend flow (view_of before (record { pipe = l.pipe; times = l.times; carries = c }))
+        (view_of after (record { pipe = l'.pipe; times = l'.times; carries = c' })) (carried_link l.pipe c) →
+        carried_waits after c' + 1 ≡ carried_waits before c
     by (Own f) (Own g) link sends =
         let same : g ≡ f = cc in
         ap (λ n. after n + 1) (same ∙ sym sends) ∙ fewer ∙ ap before sends
@@ -90,9 +97,11 @@ waits-fewer before after flow l l' takes fewer = by l.carries l'.carries takes.l
     by (Shared s) (Shared t) link sends = sends.3.one_fewer
 
 -- One packet fewer waits in a queue whose first packet leaves.
-pub pops-fewer : (flows : List FlowState) (flow : ℕ) (w : Waiting) → flow < length flows → slice_get (flow_at flows flow).backlog 0 ≡ Some w → queue_lengths (slice_set flows flow (popped (flow_at flows flow))) flow + 1 ≡ queue_lengths flows flow
+pub pops-fewer : (flows : List FlowState) (flow : ℕ) (w : Waiting) → flow < length flows → slice_get (flow_at flows flow).backlog 0 ≡ Some w →
+    queue_lengths (slice_set flows flow (popped (flow_at flows flow))) flow + 1 ≡ queue_lengths flows flow
 pops-fewer flows flow w within first =
-    let e = ap (λ (ws : List Waiting). length ws) (backlog_after_pop flows flow flow within ∙ ap (λ b. cond b (drop 1 (flow_at flows flow).backlog) (flow_at flows flow).backlog) (eq-yes flow flow refl)) in
+    let e = ap (λ (ws : List Waiting). length ws)
+    (backlog_after_pop flows flow flow within ∙ ap (λ b. cond b (drop 1 (flow_at flows flow).backlog) (flow_at flows flow).backlog) (eq-yes flow flow refl)) in
     let r = rest (flow_at flows flow).backlog first in
     omega arith
   where

@@ -21,7 +21,11 @@ pub not_with : (link l : Link) (ls : List Link) → list_any (link_eq link) (wit
 not_with link l ls e = by_test (list_any (link_eq l) ls) refl e
   where
     by_test : (b : Bool) → list_any (link_eq l) ls ≡ b → list_any (link_eq link) (cond b ls (ls ++ l ∷ [])) ≡ false → (list_any (link_eq link) ls ≡ false) × (link_eq l link ≡ false)
-    by_test true is absent = (absent, not_eq l link (λ same. let there : list_any (link_eq link) ls ≡ true = sym (ap (λ (m : Link). list_any (link_eq m) ls) same) ∙ is in let t : true ≡ false = sym there ∙ absent in cc))
+    by_test true is absent = (
+      absent,
+      not_eq l link
+          (λ same. let there : list_any (link_eq link) ls ≡ true = sym (ap (λ (m : Link). list_any (link_eq m) ls) same) ∙ is in let t : true ≡ false = sym there ∙ absent in cc),
+    )
     by_test false is absent =
         let split = sym (list_any-append (link_eq link) ls (l ∷ [])) ∙ absent in
         let not_last = or-left (link_eq link l) false (or-right (list_any (link_eq link) ls) (list_any (link_eq link) (l ∷ [])) split) in (

@@ -72,8 +72,12 @@ module _ (link : Link) (p : Accepted) (trace : List Event) where
 
   pub waiting-arrived : p.link ≡ link → waiting link (arrived p ∷ trace) ≡ waiting link trace + 1
   waiting-arrived on =
-      let here : is_of link p.stamped.flow p ≡ true = (λ i. link_eq (on i) link && nat_eq p.stamped.flow p.stamped.flow) ∙ both (link_eq link link) (nat_eq p.stamped.flow p.stamped.flow) (link_eq-refl link) (eq-yes p.stamped.flow p.stamped.flow refl) in
-      let one = total-one (max (flow_bound trace) (p.stamped.flow + 1)) p.stamped.flow (λ g. backlog link g trace) (λ g. backlog link g (arrived p ∷ trace)) (omega arith) (λ g ne. ap {B = ℕ} (λ b. length (cond b (backlog link g trace ++ p ∷ []) (backlog link g trace))) (and-no (link_eq p.link link) (nat_eq p.stamped.flow g) (eq-no p.stamped.flow g (λ e. ne (sym e))))) in
+      let here : is_of link p.stamped.flow p ≡ true = (λ i. link_eq (on i) link && nat_eq p.stamped.flow p.stamped.flow)
+      ∙ both (link_eq link link) (nat_eq p.stamped.flow p.stamped.flow) (link_eq-refl link) (eq-yes p.stamped.flow p.stamped.flow refl) in
+      let one = total-one (max (flow_bound trace) (p.stamped.flow + 1)) p.stamped.flow (λ g. backlog link g trace) (λ g. backlog link g (arrived p ∷ trace))
+      (omega arith)
+      (λ g ne. ap {B = ℕ} (λ b. length (cond b (backlog link g trace ++ p ∷ []) (backlog link g trace)))
+      (and-no (link_eq p.link link) (nat_eq p.stamped.flow g) (eq-no p.stamped.flow g (λ e. ne (sym e))))) in
       let more = ap {B = ℕ} (λ b. length (cond b (backlog link p.stamped.flow trace ++ p ∷ []) (backlog link p.stamped.flow trace))) here in
       let l = length-push (backlog link p.stamped.flow trace) p in
       let w = wide in
@@ -85,7 +89,8 @@ module _ (link : Link) (p : Accepted) (trace : List Event) where
 
   pub waiting-other : link_eq p.link link ≡ false → waiting link (arrived p ∷ trace) ≡ waiting link trace
   waiting-other apart =
-      total-same (max (flow_bound trace) (p.stamped.flow + 1)) (λ g. backlog link g trace) (λ g. backlog link g (arrived p ∷ trace)) (λ g. ap {B = ℕ} (λ b. length (cond (b && nat_eq p.stamped.flow g) (backlog link g trace ++ p ∷ []) (backlog link g trace))) apart)
+      total-same (max (flow_bound trace) (p.stamped.flow + 1)) (λ g. backlog link g trace) (λ g. backlog link g (arrived p ∷ trace))
+      (λ g. ap {B = ℕ} (λ b. length (cond (b && nat_eq p.stamped.flow g) (backlog link g trace ++ p ∷ []) (backlog link g trace))) apart)
       ∙ wide
 
 pub waiting-discarded : (link : Link) (flow : ℕ) (trace : List Event) → waiting link (discarded flow ∷ trace) + length (backlog link flow trace) ≡ waiting link trace
@@ -108,4 +113,7 @@ waiting-discarded link flow trace = by (cases_lt flow (flow_bound trace))
         omega arith
       where
         each : (g : ℕ) → length (backlog link g (discarded flow ∷ trace)) ≡ length (backlog link g trace)
-        each g = ⊎_elim (λ e. ap {B = ℕ} (λ i. length (backlog link i (discarded flow ∷ trace))) e ∙ ap (λ (xs : List Accepted). length xs) (here ∙ sym (backlog-above link flow trace ge)) ∙ ap {B = ℕ} (λ i. length (backlog link i trace)) (sym e)) (λ ne. other g ne) (cases_eq g flow)
+        each g = ⊎_elim
+            (λ e. ap {B = ℕ} (λ i. length (backlog link i (discarded flow ∷ trace))) e
+            ∙ ap (λ (xs : List Accepted). length xs) (here ∙ sym (backlog-above link flow trace ge)) ∙ ap {B = ℕ} (λ i. length (backlog link i trace)) (sym e))
+            (λ ne. other g ne) (cases_eq g flow)

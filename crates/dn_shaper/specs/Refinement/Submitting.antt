@@ -1,5 +1,6 @@
 -- What becomes of a packet whose flow is known, after a settling.
-use Rattle.std.specs.Prelude.{◌≡◌, ℕ, cond, List, [], ◌∷◌, map}
+use Rattle.std.specs.Prelude.{◌≡◌, ℕ, ◌<◌, ◌^◌, cond, List, [], ◌∷◌, length, map}
+use Rattle.dn_heap.specs.Heap.{Heap}
 use Rattle.dn_types.specs.Calls.{link_of, Verdict, loses, refuses, takes, after_verdict}
 use Rattle.dn_types.specs.Configuration.{Settings}
 use Rattle.dn_types.specs.Drops.{is_lost, is_full}
@@ -10,10 +11,14 @@ use Rattle.dn_types.specs.Trace.{Link, Event, backlog, links, with_link}
 use Rattle.dn_types.specs.declared.packet.Packet.{Packet}
 use Rattle.dn_types.specs.declared.reply.Reply.{Reply}
 use Rattle.dn_types.specs.declared.target.Target.{Target}
+use Rattle.dn_shaper.specs.declared.links.next_start.NextStart.{NextStart}
 use Rattle.dn_shaper.specs.declared.links.parts.Parts.{Parts}
 use Rattle.dn_shaper.specs.declared.settings.treatment.Treatment.{Treatment as TreatmentParts}
 use Rattle.dn_shaper.specs.Refinement.Views.{views_of, home}
 use Rattle.dn_shaper.specs.Refinement.Agreement.{AgreesWith, link_names}
+use Rattle.dn_shaper.specs.Refinement.Arriving.{CanAccept}
+use Rattle.dn_shaper.specs.Refinement.Settling.{AreInStep}
+use Rattle.dn_shaper.specs.Refinement.Starting.{IsReady, Within}
 
 -- The links are those that are seen once the flow's packet is.
 abbrev pub IsMade : ℕ → Parts → List Event → Type 0
@@ -48,3 +53,12 @@ Answers settings at flow packet how old new reply =
     let before = settled settings at trace in
     let verdict = verdict_on link flow how packet before in
     (reply ≡ reply_to_verdict at verdict before) × AgreesWith new [] (after_verdict settings at packet verdict before)
+
+-- What it takes to accept a packet of the flow: the parts and the heap of links are in step, the flow is known and has room, no
+-- count is at its limit, and nothing is due on the flow's link.
+pub record MayAccept (settings : Settings) (at flow : ℕ) (p : Parts) (heap : Heap NextStart) : Type 0 where
+  pub kept : AreInStep p heap
+  pub within : flow < length p.flows.keys
+  pub ready : IsReady flow p
+  pub few : (n : ℕ) × (n < 2 ^ 62) × Within n p
+  pub settled : CanAccept settings at flow p

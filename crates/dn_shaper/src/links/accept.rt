@@ -1,10 +1,10 @@
-ghost use Rattle.std.specs.Prelude.{◌≡◌, ℕ, ◌+◌, ◌<◌, ◌≤◌, ◌^◌, sum, length};
+ghost use Rattle.std.specs.Prelude.{◌≡◌, ℕ, ◌+◌, ◌<◌, ◌≤◌, ◌^◌, sum};
 ghost use Rattle.dn_flows.specs.Table.{flow_at, lengths};
-ghost use Rattle.dn_shaper.specs.Refinement.Arriving.{Accepts, CanAccept, KeepsFlows};
+ghost use Rattle.dn_shaper.specs.Refinement.Arriving.{Accepts, KeepsFlows};
 ghost use Rattle.dn_shaper.specs.Refinement.Settings.{settings_of};
 ghost use Rattle.dn_shaper.specs.Refinement.Settling.{AreInStep};
-ghost use Rattle.dn_shaper.specs.Refinement.Starting.{IsReady, Within};
-ghost use Rattle.dn_shaper.specs.Refinement.Submitting.{GoesTo};
+ghost use Rattle.dn_shaper.specs.Refinement.Starting.{Within};
+ghost use Rattle.dn_shaper.specs.Refinement.Submitting.{GoesTo, MayAccept};
 
 use crate::links::arrive::{arrive, join_queue};
 use crate::links::next_start::NextStart;
@@ -26,15 +26,11 @@ pub fn accept(
     how: &Treatment,
     at: u64,
 ) -> u64
-    requires kept { AreInStep parts.old heap.old }
-    requires within { flow < length parts.old.flows.keys }
+    requires may { MayAccept (settings_of configured.now) at flow parts.old heap.old }
     requires goes { GoesTo flow how.now.target parts.old }
-    requires ready { IsReady flow parts.old }
     requires bytes { sum (lengths (flow_at parts.old.flows.flows flow).backlog) + len < 2 ^ 32 }
     requires early { at ≤ 2 ^ 62 }
-    requires few { (n : ℕ) × (n < 2 ^ 62) × Within n parts.old }
     requires moves { heap.old.moves + parts.old.waiting + 2 ≤ 2 ^ 63 }
-    requires settled { CanAccept (settings_of configured.now) at flow parts.old }
     ensures number { result ≡ parts.old.accepted }
     ensures accepts { Accepts (settings_of configured.now) at flow len how.now.weight parts.old parts.new }
     ensures kept { AreInStep parts.new heap.new }

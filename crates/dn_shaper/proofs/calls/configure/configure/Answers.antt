@@ -10,9 +10,13 @@ pub returns-clause-does : goal.returns-clause-does
 returns-clause-does c =
     let obeys : Obeys c.args.command.now c.reply-reply.result c.args.state.now c.match-reply.state =
     elim c.match-reply.branch [
-      | in-Configured+in_ok-put-in-Configured w ↦ subst (λ (x : Reply × State). Obeys c.args.command.now x.0 c.args.state.now x.1) (λ i. (sym w.in-Configured.is i, sym w.state-is i)) (obeys-put c.args.command.now c.args.state.now c.requires.sound w.put.new.self w.in_ok-put-in-Configured.ensures.puts)
-      | in-Deleted w ↦ subst (λ (x : Reply × State). Obeys c.args.command.now x.0 c.args.state.now x.1) (λ i. (sym w.in-Deleted.is i, sym w.state-is i)) (obeys-delete c.args.command.now c.args.state.now c.requires.sound w.remove.new.self w.discard_reached.new.parts w.discard_reached.new.heap w.remove.ensures w.discard_reached.ensures.keeps w.discard_reached.ensures.discards w.discard_reached.ensures.kept w.discard_reached.ensures.within w.discard_reached.ensures.moves)
-      | in_default w ↦ subst (λ (s : State). Obeys c.args.command.now c.reply-reply.result c.args.state.now s) (sym w.state-is) (obeys-refused c.args.command.now c.args.state.now c.requires.sound c.reply-reply.result w.in_default.not-Configured w.in_default.not-Deleted)
+      | in-Configured+in_ok-put-in-Configured w ↦ subst (λ (x : Reply × State). Obeys c.args.command.now x.0 c.args.state.now x.1)
+          (λ i. (sym w.in-Configured.is i, sym w.state-is i))
+          (obeys-put c.args.command.now c.args.state.now c.requires.sound w.put.new.self w.in_ok-put-in-Configured.ensures.puts)
+      | in-Deleted w ↦ subst (λ (x : Reply × State). Obeys c.args.command.now x.0 c.args.state.now x.1) (λ i. (sym w.in-Deleted.is i, sym w.state-is i))
+          (obeys-delete c.args.command.now c.args.state.now c.requires.sound w.remove.new.self w.discard_reached.new.parts w.discard_reached.new.heap w.remove.ensures w.discard_reached.ensures.keeps w.discard_reached.ensures.discards w.discard_reached.ensures.kept w.discard_reached.ensures.within w.discard_reached.ensures.moves)
+      | in_default w ↦ subst (λ (s : State). Obeys c.args.command.now c.reply-reply.result c.args.state.now s) (sym w.state-is)
+          (obeys-refused c.args.command.now c.args.state.now c.requires.sound c.reply-reply.result w.in_default.not-Configured w.in_default.not-Deleted)
     ] in
     configured-does c.args.command.now c.reply-reply.result c.args.state.now c.match-reply.state c.reply-reply.ensures obeys
 
@@ -20,8 +24,12 @@ pub returns-clause-sound : goal.returns-clause-sound
 returns-clause-sound c =
     let obeys : Obeys c.args.command.now c.reply-reply.result c.args.state.now c.match-reply.state =
     elim c.match-reply.branch [
-      | in-Configured+in_ok-put-in-Configured w ↦ subst (λ (x : Reply × State). Obeys c.args.command.now x.0 c.args.state.now x.1) (λ i. (sym w.in-Configured.is i, sym w.state-is i)) (obeys-put c.args.command.now c.args.state.now c.requires.sound w.put.new.self w.in_ok-put-in-Configured.ensures.puts)
-      | in-Deleted w ↦ subst (λ (x : Reply × State). Obeys c.args.command.now x.0 c.args.state.now x.1) (λ i. (sym w.in-Deleted.is i, sym w.state-is i)) (obeys-delete c.args.command.now c.args.state.now c.requires.sound w.remove.new.self w.discard_reached.new.parts w.discard_reached.new.heap w.remove.ensures w.discard_reached.ensures.keeps w.discard_reached.ensures.discards w.discard_reached.ensures.kept w.discard_reached.ensures.within w.discard_reached.ensures.moves)
-      | in_default w ↦ subst (λ (s : State). Obeys c.args.command.now c.reply-reply.result c.args.state.now s) (sym w.state-is) (obeys-refused c.args.command.now c.args.state.now c.requires.sound c.reply-reply.result w.in_default.not-Configured w.in_default.not-Deleted)
+      | in-Configured+in_ok-put-in-Configured w ↦ subst (λ (x : Reply × State). Obeys c.args.command.now x.0 c.args.state.now x.1)
+          (λ i. (sym w.in-Configured.is i, sym w.state-is i))
+          (obeys-put c.args.command.now c.args.state.now c.requires.sound w.put.new.self w.in_ok-put-in-Configured.ensures.puts)
+      | in-Deleted w ↦ subst (λ (x : Reply × State). Obeys c.args.command.now x.0 c.args.state.now x.1) (λ i. (sym w.in-Deleted.is i, sym w.state-is i))
+          (obeys-delete c.args.command.now c.args.state.now c.requires.sound w.remove.new.self w.discard_reached.new.parts w.discard_reached.new.heap w.remove.ensures w.discard_reached.ensures.keeps w.discard_reached.ensures.discards w.discard_reached.ensures.kept w.discard_reached.ensures.within w.discard_reached.ensures.moves)
+      | in_default w ↦ subst (λ (s : State). Obeys c.args.command.now c.reply-reply.result c.args.state.now s) (sym w.state-is)
+          (obeys-refused c.args.command.now c.args.state.now c.requires.sound c.reply-reply.result w.in_default.not-Configured w.in_default.not-Deleted)
     ] in
     configured-sound c.args.command.now c.reply-reply.result c.args.state.now c.match-reply.state c.reply-reply.ensures obeys c.requires.sound

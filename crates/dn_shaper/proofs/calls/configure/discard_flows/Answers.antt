@@ -25,10 +25,12 @@ loop-flow-init c = record {
 
 pub loop-flow-preserved : goal.loop-flow-preserved
 loop-flow-preserved c =
-    let there : slice_get c.args.parts.now.flows.keys c.loop-flow.flow ≡ Some c.key.result = ap (λ (ks : List FlowKey). slice_get ks c.loop-flow.flow) (sym c.loop-flow.invariant.keeps.keys) ∙ c.key.ensures in
+    let there : slice_get c.args.parts.now.flows.keys c.loop-flow.flow ≡ Some c.key.result = ap (λ (ks : List FlowKey). slice_get ks c.loop-flow.flow) (sym c.loop-flow.invariant.keeps.keys)
+    ∙ c.key.ensures in
     elim c.if-reaches.branch [
       | then-reaches w ↦ record {
-        agrees = subst (λ (p : Parts). Agrees p) (sym w.parts-is) (agrees-discarded c.loop-flow.flow c.loop-flow.parts w.discard_flow.new.parts c.loop-flow.invariant.agrees w.discard_flow.ensures.discards);
+        agrees = subst (λ (p : Parts). Agrees p) (sym w.parts-is)
+            (agrees-discarded c.loop-flow.flow c.loop-flow.parts w.discard_flow.new.parts c.loop-flow.invariant.agrees w.discard_flow.ensures.discards);
         few = subst (λ (p : Parts). Within (2 ^ 62) p) (sym w.parts-is) (w.discard_flow.ensures.within (2 ^ 62) c.loop-flow.invariant.few);
         within = λ n h. subst (λ (p : Parts). Within n p) (sym w.parts-is) (w.discard_flow.ensures.within n (c.loop-flow.invariant.within n h));
         waiting =
@@ -36,9 +38,13 @@ loop-flow-preserved c =
             let b = w.discard_flow.ensures.waiting in
             let p = ap {B = ℕ} (λ (x : Parts). x.waiting) w.parts-is in
             omega arith;
-        keeps = subst (λ (p : Parts). KeepsFlows c.args.parts.now p) (sym w.parts-is) (keeps-more c.args.parts.now c.loop-flow.parts w.discard_flow.new.parts c.loop-flow.invariant.keeps w.discard_flow.ensures.keeps);
-        empties = subst (λ (p : Parts). OnlyEmpties c.args.parts.now p) (sym w.parts-is) (empties-more c.args.parts.now c.loop-flow.parts w.discard_flow.new.parts c.loop-flow.invariant.empties w.discard_flow.ensures.empties);
-        reached = subst (λ (p : Parts). DiscardsUpTo (c.loop-flow.flow + 1) c.args.command.now c.args.parts.now p) (sym w.parts-is) (one-discarded c.args.command.now c.args.parts.now c.loop-flow.flow c.loop-flow.parts c.key.result there c.loop-flow.invariant.reached w.discard_flow.new.parts (sym c.reaches.ensures ∙ w.if-reaches.true) w.discard_flow.ensures.discards);
+        keeps = subst (λ (p : Parts). KeepsFlows c.args.parts.now p) (sym w.parts-is)
+            (keeps-more c.args.parts.now c.loop-flow.parts w.discard_flow.new.parts c.loop-flow.invariant.keeps w.discard_flow.ensures.keeps);
+        empties = subst (λ (p : Parts). OnlyEmpties c.args.parts.now p) (sym w.parts-is)
+            (empties-more c.args.parts.now c.loop-flow.parts w.discard_flow.new.parts c.loop-flow.invariant.empties w.discard_flow.ensures.empties);
+        reached = subst (λ (p : Parts). DiscardsUpTo (c.loop-flow.flow + 1) c.args.command.now c.args.parts.now p) (sym w.parts-is)
+            (one-discarded c.args.command.now c.args.parts.now c.loop-flow.flow c.loop-flow.parts c.key.result there c.loop-flow.invariant.reached w.discard_flow.new.parts
+            (sym c.reaches.ensures ∙ w.if-reaches.true) w.discard_flow.ensures.discards);
       }
       | else-reaches w ↦ record {
         agrees = subst (λ (p : Parts). Agrees p) (sym w.parts-is) c.loop-flow.invariant.agrees;
@@ -50,7 +56,8 @@ loop-flow-preserved c =
             omega arith;
         keeps = subst (λ (p : Parts). KeepsFlows c.args.parts.now p) (sym w.parts-is) (c.loop-flow.invariant.keeps);
         empties = subst (λ (p : Parts). OnlyEmpties c.args.parts.now p) (sym w.parts-is) c.loop-flow.invariant.empties;
-        reached = subst (λ (p : Parts). DiscardsUpTo (c.loop-flow.flow + 1) c.args.command.now c.args.parts.now p) (sym w.parts-is) (one-passed c.args.command.now c.args.parts.now c.loop-flow.flow c.loop-flow.parts c.key.result there c.loop-flow.invariant.reached (sym c.reaches.ensures ∙ w.if-reaches.false));
+        reached = subst (λ (p : Parts). DiscardsUpTo (c.loop-flow.flow + 1) c.args.command.now c.args.parts.now p) (sym w.parts-is)
+            (one-passed c.args.command.now c.args.parts.now c.loop-flow.flow c.loop-flow.parts c.key.result there c.loop-flow.invariant.reached (sym c.reaches.ensures ∙ w.if-reaches.false));
       }
     ]
 

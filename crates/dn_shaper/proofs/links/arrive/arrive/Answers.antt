@@ -13,14 +13,19 @@ returns c =
     let v = viewed (view_of before) c.args.parts.now.links.items c.args.home.place c.index_mut-link.result.now c.requires.can.0 c.requires.can.1 c.index_mut-link.ensures.value in
     let there = get-map (view_of before) c.args.parts.now.links.items c.args.home.place c.index_mut-link.result.now v.0 in
     let flows_are = c.join_queue.ensures.flows_are in
-    let longer = push-longer c.args.parts.now.flows.flows c.args.flow (record { packet = c.args.parts.now.accepted; len = c.args.len }) c.requires.within c.join_queue.new.parts.flows.flows flows_are in
+    let longer = push-longer c.args.parts.now.flows.flows c.args.flow
+    (record { packet = c.args.parts.now.accepted; len = c.args.len }) c.requires.within c.join_queue.new.parts.flows.flows flows_are in
     record {
       view = view_of before c.index_mut-link.result.now;
       view' = view_of after c.join_link-idle.new.link;
       there = there;
       idle_is = c.join_link-idle.ensures.idle;
-      views_are = ap (λ ls. map (view_of after) ls.items) c.join_queue.ensures.links ∙ set-seen c.args.parts.now c.args.flow c.args.home.place c.requires.alone c.requires.within c.join_queue.new.parts.flows.flows (pushed (record { packet = c.args.parts.now.accepted; len = c.args.len }) (flow_at c.args.parts.now.flows.flows c.args.flow)) flows_are c.join_link-idle.new.link;
-      joins = c.join_link-idle.ensures.joins after (one-more-at c.args.flow c.args.home.place (views_of c.args.parts.now) c.requires.alone (view_of before c.index_mut-link.result.now) there before after longer (view_of after c.index_mut-link.result.now).link refl);
+      views_are = ap (λ ls. map (view_of after) ls.items) c.join_queue.ensures.links
+          ∙ set-seen c.args.parts.now c.args.flow c.args.home.place c.requires.alone c.requires.within c.join_queue.new.parts.flows.flows
+          (pushed (record { packet = c.args.parts.now.accepted; len = c.args.len }) (flow_at c.args.parts.now.flows.flows c.args.flow)) flows_are c.join_link-idle.new.link;
+      joins = c.join_link-idle.ensures.joins after
+          (one-more-at c.args.flow c.args.home.place (views_of c.args.parts.now) c.requires.alone
+          (view_of before c.index_mut-link.result.now) there before after longer (view_of after c.index_mut-link.result.now).link refl);
       flows_are = flows_are;
       rule = c.join_queue.ensures.rule;
       accepted = c.join_queue.ensures.accepted;

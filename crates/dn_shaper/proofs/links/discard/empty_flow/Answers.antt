@@ -18,13 +18,17 @@ returns c =
     let all = c.requires.all in
     let enough = c.requires.waiting in
     let holds = subst (λ (x : LinkView). HoldsCount c.args.home.slot c.args.count x x.link) (sym v.1) c.requires.at.2 in
-    let loses = loses-at c.args.flow c.args.home.place (views_of old) c.requires.alone (view_of before c.index_mut-link.result.now) there c.args.home.slot c.args.count before after (omega arith) (view_of before c.index_mut-link.result.now).link refl holds in
+    let loses = loses-at c.args.flow c.args.home.place (views_of old) c.requires.alone
+    (view_of before c.index_mut-link.result.now) there c.args.home.slot c.args.count before after (omega arith)
+    (view_of before c.index_mut-link.result.now).link refl holds in
     record {
       view = view_of before c.index_mut-link.result.now;
       view' = view_of after c.leave_link.new.link;
       there = there;
-      views_are = set-seen old c.args.flow c.args.home.place c.requires.alone c.requires.within c.discard.new.self.flows (emptied (flow_at old.flows.flows c.args.flow)) c.discard.ensures.flows c.leave_link.new.link;
-      leaves = subst (λ (n : ℕ). LeavesLink c.args.home.slot n (view_of before c.index_mut-link.result.now) (view_of after c.leave_link.new.link)) all (c.leave_link.ensures before after c.args.count loses);
+      views_are = set-seen old c.args.flow c.args.home.place c.requires.alone c.requires.within c.discard.new.self.flows
+          (emptied (flow_at old.flows.flows c.args.flow)) c.discard.ensures.flows c.leave_link.new.link;
+      leaves = subst (λ (n : ℕ). LeavesLink c.args.home.slot n (view_of before c.index_mut-link.result.now) (view_of after c.leave_link.new.link)) all
+          (c.leave_link.ensures before after c.args.count loses);
       flows_are = c.discard.ensures.flows;
       rule = refl;
       accepted = refl;

@@ -13,7 +13,8 @@ pub pop_front-requires-clause-count : goal.pop_front-requires-clause-count
 pop_front-requires-clause-count c = (c.requires.front _ _ (c.next_flow-flow.ensures.takes (queue_lengths c.args.flows.now.flows) (queue_lengths c.args.flows.now.flows))).3
 
 pub unwrap-packet-requires : goal.unwrap-packet-requires
-unwrap-packet-requires c = let f = c.requires.front _ _ (c.next_flow-flow.ensures.takes (queue_lengths c.args.flows.now.flows) (queue_lengths c.args.flows.now.flows)) in some-is c.pop_front.result f.0 (c.pop_front.ensures.front ∙ f.1)
+unwrap-packet-requires c = let f = c.requires.front _ _ (c.next_flow-flow.ensures.takes (queue_lengths c.args.flows.now.flows) (queue_lengths c.args.flows.now.flows)) in
+    some-is c.pop_front.result f.0 (c.pop_front.ensures.front ∙ f.1)
 
 pub send-requires-clause-free : goal.send-requires-clause-free
 send-requires-clause-free c =
@@ -42,9 +43,12 @@ returns-clause-starts c =
       front = front;
       link = takes.link;
       slots = takes.slots;
-      sends = sends-on flow (view_of before c.args.link.now) (view_of after c.next_flow-flow.new.link) (view_of after (record { pipe = c.next_flow-flow.new.link.pipe; times = c.send.new.link; carries = c.next_flow-flow.new.link.carries })) refl (view_of before c.args.link.now).link takes.sends;
+      sends = sends-on flow (view_of before c.args.link.now) (view_of after c.next_flow-flow.new.link)
+          (view_of after (record { pipe = c.next_flow-flow.new.link.pipe; times = c.send.new.link; carries = c.next_flow-flow.new.link.carries })) refl
+          (view_of before c.args.link.now).link takes.sends;
       free = c.send.ensures.free;
-      last_due = c.send.ensures.last_due ∙ ap (λ t. due_by c.args.rule (c.args.moment + transmission_time c.args.rates.now.bandwidth c.unwrap-packet.result.len + c.args.rates.now.delay * 1000000) t.last_due) takes.value;
+      last_due = c.send.ensures.last_due
+          ∙ ap (λ t. due_by c.args.rule (c.args.moment + transmission_time c.args.rates.now.bandwidth c.unwrap-packet.result.len + c.args.rates.now.delay * 1000000) t.last_due) takes.value;
       waits = waits-fewer before after c.next_flow-flow.result c.args.link.now c.next_flow-flow.new.link takes fewer;
       flows_are = c.pop_front.ensures.flows;
       pending_is = c.send.ensures.pending;

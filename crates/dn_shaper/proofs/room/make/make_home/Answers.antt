@@ -20,7 +20,8 @@ returns-in_err-home-clause-err c =
     let old = c.args.state.now.parts in
     let flows = old.flows.flows in
     let reserved = c.in_ok-reserve_place.ensures.reserved in
-    let seen = all-seen-same c.find_home.new.links.items (queue_lengths flows) (queue_lengths c.reserve_place.new.self.flows) (lengths-same flows c.args.flow c.requires.within (with_place (flow_at flows c.args.flow)) c.reserve_place.new.self.flows reserved refl) in
+    let seen = all-seen-same c.find_home.new.links.items (queue_lengths flows) (queue_lengths c.reserve_place.new.self.flows)
+    (lengths-same flows c.args.flow c.requires.within (with_place (flow_at flows c.args.flow)) c.reserve_place.new.self.flows reserved refl) in
     let room = c.in_ok-reserve.ensures.room in
     on-err c.from_residual-in_err-home.result (record {
       parts = record {
@@ -46,11 +47,15 @@ returns-clause-gives c =
     let old = c.args.state.now.parts in
     let flows = old.flows.flows in
     let reserved = c.in_ok-reserve_place.ensures.reserved in
-    let seen = all-seen-same c.find_home.new.links.items (queue_lengths flows) (queue_lengths c.reserve_place.new.self.flows) (lengths-same flows c.args.flow c.requires.within (with_place (flow_at flows c.args.flow)) c.reserve_place.new.self.flows reserved refl) in
+    let seen = all-seen-same c.find_home.new.links.items (queue_lengths flows) (queue_lengths c.reserve_place.new.self.flows)
+    (lengths-same flows c.args.flow c.requires.within (with_place (flow_at flows c.args.flow)) c.reserve_place.new.self.flows reserved refl) in
     let room = c.in_ok-reserve.ensures.room in
     record {
       home = c.in_ok-home.home;
-      houses = subst (λ (vs : List LinkView). Houses (place_for c.args.key.now c.args.state.now.shared) c.args.key.now c.args.flow c.in_ok-home.home (views_of old) vs c.find_home.new.heap c.args.state.now.shared c.find_home.new.shared) (sym seen) (c.in_ok-home.ensures.houses (queue_lengths flows) c.requires.empty);
+      houses = subst
+          (λ (vs : List LinkView). Houses (place_for c.args.key.now c.args.state.now.shared) c.args.key.now c.args.flow c.in_ok-home.home
+          (views_of old) vs c.find_home.new.heap c.args.state.now.shared c.find_home.new.shared)
+          (sym seen) (c.in_ok-home.ensures.houses (queue_lengths flows) c.requires.empty);
       homes = c.push_reserved.ensures.items ∙ ap (λ (hs : List Home). hs ++ c.in_ok-home.home ∷ []) c.reserve-2.ensures.items;
       flows = reserved;
       accepted = refl;

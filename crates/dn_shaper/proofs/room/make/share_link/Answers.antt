@@ -31,6 +31,7 @@ pub returns-in_err-slot-clause-err : goal.returns-in_err-slot-clause-err
 returns-in_err-slot-clause-err c queues =
     let is = c.requires.is_shared in
     on-err c.from_residual.result (λ place.
-    subst (λ (vs : List LinkView). KeepsAt (slice_get (map (view_of queues) c.args.links.now.items) place) (slice_get vs place)) (sym (map-set (view_of queues) c.args.links.now.items c.args.place c.take_slot.new.link))
+    subst (λ (vs : List LinkView). KeepsAt (slice_get (map (view_of queues) c.args.links.now.items) place) (slice_get vs place))
+    (sym (map-set (view_of queues) c.args.links.now.items c.args.place c.take_slot.new.link))
     (link-reserved (map (view_of queues) c.args.links.now.items) c.args.place (view_of queues c.index_mut.result.now) (view_of queues c.take_slot.new.link)
     (read-view is.0 c.args.links.now.items c.args.place (shared is.1) c.index_mut.result.now is.2 c.index_mut.ensures.value queues) (c.in_err-slot.ensures.err queues) place))

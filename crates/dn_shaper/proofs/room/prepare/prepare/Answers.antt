@@ -7,83 +7,104 @@ use Rattle.dn_shaper.specs.Refinement.Views.{LinkView, queue_lengths, views_of}
 use Rattle.dn_shaper.proofs.Alone.{all-seen-same}
 use Rattle.dn_shaper.proofs.Given.{given-ready, given-prepares, given-sound}
 use Rattle.dn_shaper.proofs.Indexed.{noted-found}
-use Rattle.dn_shaper.proofs.Preparing.{known-table, lengths-more, new-table, same-reserves, parts-sound, reserves-sound, reserves-prepares, with_table, without-new}
+use Rattle.dn_shaper.proofs.Preparing.{known-reserves, known-table, lengths-more, new-table, parts-sound, reserves-sound, reserves-prepares, with_table, without-new}
 use Rattle.dn_shaper.proofs.Sending.{goes-there}
 use Rattle.dn_shaper.proofs.Sharing.{on-err}
 use Rattle.dn_shaper.proofs.room.prepare.prepare.Goals as goal
 
+-- ---- A known flow leaves the table as it is
+
 pub reserve_known-requires-clause-agrees : goal.reserve_known-requires-clause-agrees
 reserve_known-requires-clause-agrees c =
-    let n = c.in_ok-flow.ensures.number in
-    let k = c.len-known.ensures.keys in
+    let number = c.in_ok-flow.ensures.number in
+    let count = c.len-known.ensures.keys in
     let lt = c.if-flow-known.true in
     let same = known-table c.args.state.now.parts.flows c.find_or_make.new.self c.args.key (omega arith) c.in_ok-flow.ensures.keys c.in_ok-flow.ensures.flows in
-    let a = c.requires.seen in
-    ([], a.0, subst (λ (t : Table). AgreesWith (with_table c.args.state.now.parts t) [] a.0) (sym same) a.1)
+    let seen = c.requires.seen in
+    ([], seen.0, subst (λ (t : Table). AgreesWith (with_table c.args.state.now.parts t) [] seen.0) (sym same) seen.1)
 
 pub returns-in_err-reserve_known-clause-err : goal.returns-in_err-reserve_known-clause-err
 returns-in_err-reserve_known-clause-err c =
-    let n = c.in_ok-flow.ensures.number in
-    let k = c.len-known.ensures.keys in
+    let old = c.args.state.now in
+    let flow = c.in_ok-flow.ensures in
+    let known = c.len-known.ensures.keys in
+    let number = flow.number in
     let lt = c.if-flow-known.true in
-    let same = known-table c.args.state.now.parts.flows c.find_or_make.new.self c.args.key (omega arith) c.in_ok-flow.ensures.keys c.in_ok-flow.ensures.flows in
-    on-err c.from_residual-in_err-reserve_known.result (same-reserves c.args.state.now.parts c.reserve_known.new.parts c.find_or_make.new.self same c.reserve_known.ensures.only)
+    let room = known-reserves old.parts c.reserve_known.new.parts c.find_or_make.new.self c.args.key (omega arith) flow.keys flow.flows c.reserve_known.ensures.only in
+    on-err c.from_residual-in_err-reserve_known.result room
 
 pub returns-in_err-reserve_known-clause-sound : goal.returns-in_err-reserve_known-clause-sound
 returns-in_err-reserve_known-clause-sound c =
-    let n = c.in_ok-flow.ensures.number in
-    let k = c.len-known.ensures.keys in
+    let old = c.args.state.now in
+    let flow = c.in_ok-flow.ensures in
+    let known = c.len-known.ensures.keys in
+    let number = flow.number in
     let lt = c.if-flow-known.true in
-    let same = known-table c.args.state.now.parts.flows c.find_or_make.new.self c.args.key (omega arith) c.in_ok-flow.ensures.keys c.in_ok-flow.ensures.flows in
-    parts-sound c.args.state.now c.reserve_known.new.parts (same-reserves c.args.state.now.parts c.reserve_known.new.parts c.find_or_make.new.self same c.reserve_known.ensures.only) c.requires.sound
+    let room = known-reserves old.parts c.reserve_known.new.parts c.find_or_make.new.self c.args.key (omega arith) flow.keys flow.flows c.reserve_known.ensures.only in
+    parts-sound old c.reserve_known.new.parts room c.requires.sound
 
 pub returns-in_ok-reserve_known-clause-prepares : goal.returns-in_ok-reserve_known-clause-prepares
 returns-in_ok-reserve_known-clause-prepares c =
-    let n = c.in_ok-flow.ensures.number in
-    let k = c.len-known.ensures.keys in
+    let old = c.args.state.now in
+    let flow = c.in_ok-flow.ensures in
+    let known = c.len-known.ensures.keys in
+    let number = flow.number in
     let lt = c.if-flow-known.true in
-    let same = known-table c.args.state.now.parts.flows c.find_or_make.new.self c.args.key (omega arith) c.in_ok-flow.ensures.keys c.in_ok-flow.ensures.flows in
-    reserves-prepares c.args.state.now.parts c.reserve_known.new.parts c.in_ok-flow.flow (same-reserves c.args.state.now.parts c.reserve_known.new.parts c.find_or_make.new.self same c.reserve_known.ensures.only) (omega arith)
+    let room = known-reserves old.parts c.reserve_known.new.parts c.find_or_make.new.self c.args.key (omega arith) flow.keys flow.flows c.reserve_known.ensures.only in
+    reserves-prepares old.parts c.reserve_known.new.parts c.in_ok-flow.flow room (omega arith)
 
 pub returns-in_ok-reserve_known-clause-sound : goal.returns-in_ok-reserve_known-clause-sound
 returns-in_ok-reserve_known-clause-sound c =
-    let n = c.in_ok-flow.ensures.number in
-    let k = c.len-known.ensures.keys in
+    let old = c.args.state.now in
+    let flow = c.in_ok-flow.ensures in
+    let known = c.len-known.ensures.keys in
+    let number = flow.number in
     let lt = c.if-flow-known.true in
-    let same = known-table c.args.state.now.parts.flows c.find_or_make.new.self c.args.key (omega arith) c.in_ok-flow.ensures.keys c.in_ok-flow.ensures.flows in
-    parts-sound c.args.state.now c.reserve_known.new.parts (same-reserves c.args.state.now.parts c.reserve_known.new.parts c.find_or_make.new.self same c.reserve_known.ensures.only) c.requires.sound
+    let room = known-reserves old.parts c.reserve_known.new.parts c.find_or_make.new.self c.args.key (omega arith) flow.keys flow.flows c.reserve_known.ensures.only in
+    parts-sound old c.reserve_known.new.parts room c.requires.sound
+
+-- ---- A new flow is the last of the table
 
 pub returns-in_err-house_last-clause-sound : goal.returns-in_err-house_last-clause-sound
 returns-in_err-house_last-clause-sound c =
-    let n = c.in_ok-flow.ensures.number in
-    let k = c.len-known.ensures.keys in
+    let old = c.args.state.now in
+    let flow = c.in_ok-flow.ensures in
+    let known = c.len-known.ensures.keys in
+    let number = flow.number in
     let le = c.if-flow-known.false in
-    let more = new-table c.args.state.now.parts.flows c.find_or_make.new.self c.args.key (omega arith) c.in_ok-flow.ensures.keys c.in_ok-flow.ensures.flows in
-    reserves-sound c.args.state.now c.house_last.new.state (without-new c.args.state.now c.find_or_make.new.self c.args.key more c.house_last.new.state c.in_err-house_last.ensures.err) c.requires.sound
+    let more = new-table old.parts.flows c.find_or_make.new.self c.args.key (omega arith) flow.keys flow.flows in
+    let room = without-new old c.find_or_make.new.self c.args.key more c.house_last.new.state c.in_err-house_last.ensures.err in
+    reserves-sound old c.house_last.new.state room c.requires.sound
 
 pub returns-in_ok-house_last-clause-ready : goal.returns-in_ok-house_last-clause-ready
 returns-in_ok-house_last-clause-ready c =
-    let n = c.in_ok-flow.ensures.number in
-    let k = c.len-known.ensures.keys in
+    let old = c.args.state.now in
+    let flow = c.in_ok-flow.ensures in
+    let known = c.len-known.ensures.keys in
+    let number = flow.number in
     let le = c.if-flow-known.false in
-    let more = new-table c.args.state.now.parts.flows c.find_or_make.new.self c.args.key (omega arith) c.in_ok-flow.ensures.keys c.in_ok-flow.ensures.flows in
-    given-ready c.args.state.now c.house_last.new.state c.find_or_make.new.self c.args.key more c.requires.sound c.requires.seen.0 c.requires.seen.1 c.in_ok-flow.flow (n ∙ more.number) c.in_ok-house_last.ensures.gives
+    let more = new-table old.parts.flows c.find_or_make.new.self c.args.key (omega arith) flow.keys flow.flows in
+    given-ready c.house_last.new.state c.requires.sound more c.requires.seen.1 c.in_ok-flow.flow (number ∙ more.number) c.in_ok-house_last.ensures.gives
 
 pub returns-in_ok-house_last-clause-prepares : goal.returns-in_ok-house_last-clause-prepares
 returns-in_ok-house_last-clause-prepares c =
-    let n = c.in_ok-flow.ensures.number in
-    let k = c.len-known.ensures.keys in
+    let old = c.args.state.now in
+    let flow = c.in_ok-flow.ensures in
+    let known = c.len-known.ensures.keys in
+    let number = flow.number in
     let le = c.if-flow-known.false in
-    let more = new-table c.args.state.now.parts.flows c.find_or_make.new.self c.args.key (omega arith) c.in_ok-flow.ensures.keys c.in_ok-flow.ensures.flows in
-    given-prepares c.args.state.now c.house_last.new.state c.find_or_make.new.self c.args.key more c.requires.sound c.requires.seen.0 c.requires.seen.1 c.in_ok-flow.flow (n ∙ more.number) c.in_ok-house_last.ensures.gives
+    let more = new-table old.parts.flows c.find_or_make.new.self c.args.key (omega arith) flow.keys flow.flows in
+    given-prepares c.house_last.new.state c.requires.sound more c.requires.seen.1 c.in_ok-flow.flow (number ∙ more.number) c.in_ok-house_last.ensures.gives
 
 pub returns-in_ok-house_last-clause-sound : goal.returns-in_ok-house_last-clause-sound
 returns-in_ok-house_last-clause-sound c =
-    let n = c.in_ok-flow.ensures.number in
-    let k = c.len-known.ensures.keys in
+    let old = c.args.state.now in
+    let flow = c.in_ok-flow.ensures in
+    let known = c.len-known.ensures.keys in
+    let number = flow.number in
     let le = c.if-flow-known.false in
-    let more = new-table c.args.state.now.parts.flows c.find_or_make.new.self c.args.key (omega arith) c.in_ok-flow.ensures.keys c.in_ok-flow.ensures.flows in
-    given-sound c.args.state.now c.house_last.new.state c.find_or_make.new.self c.args.key more c.requires.sound c.requires.seen.0 c.requires.seen.1 c.in_ok-flow.flow (n ∙ more.number) c.in_ok-house_last.ensures.gives
+    let more = new-table old.parts.flows c.find_or_make.new.self c.args.key (omega arith) flow.keys flow.flows in
+    given-sound c.house_last.new.state c.requires.sound more c.requires.seen.1 c.in_ok-flow.flow (number ∙ more.number) c.in_ok-house_last.ensures.gives
 
 -- ---- The flow is at home where the packet goes
 
@@ -91,10 +112,12 @@ pub reserve_known-requires-clause-goes : goal.reserve_known-requires-clause-goes
 reserve_known-requires-clause-goes c = goes-there c.args.key c.args.state.now.parts.flows.keys c.find_or_make.new.self.keys c.in_ok-flow.flow c.in_ok-flow.ensures.keys c.in_ok-flow.ensures.number
 
 pub returns-in_ok-reserve_known-clause-goes : goal.returns-in_ok-reserve_known-clause-goes
-returns-in_ok-reserve_known-clause-goes c = goes-there c.args.key c.args.state.now.parts.flows.keys c.reserve_known.new.parts.flows.keys c.in_ok-flow.flow (c.reserve_known.ensures.only.keys ∙ c.in_ok-flow.ensures.keys) c.in_ok-flow.ensures.number
+returns-in_ok-reserve_known-clause-goes c = goes-there c.args.key c.args.state.now.parts.flows.keys c.reserve_known.new.parts.flows.keys c.in_ok-flow.flow
+    (c.reserve_known.ensures.only.keys ∙ c.in_ok-flow.ensures.keys) c.in_ok-flow.ensures.number
 
 pub returns-in_ok-house_last-clause-goes : goal.returns-in_ok-house_last-clause-goes
-returns-in_ok-house_last-clause-goes c = goes-there c.args.key c.args.state.now.parts.flows.keys c.house_last.new.state.parts.flows.keys c.in_ok-flow.flow (c.in_ok-house_last.ensures.gives.keys ∙ c.in_ok-flow.ensures.keys) c.in_ok-flow.ensures.number
+returns-in_ok-house_last-clause-goes c = goes-there c.args.key c.args.state.now.parts.flows.keys c.house_last.new.state.parts.flows.keys c.in_ok-flow.flow
+    (c.in_ok-house_last.ensures.gives.keys ∙ c.in_ok-flow.ensures.keys) c.in_ok-flow.ensures.number
 
 -- The links are named as they were before the flow was made.
 pub house_last-requires-clause-noted : goal.house_last-requires-clause-noted
@@ -104,5 +127,6 @@ house_last-requires-clause-noted c place there =
     let le = c.if-flow-known.false in
     let old = c.args.state.now.parts in
     let more = new-table old.flows c.find_or_make.new.self c.args.key (omega arith) c.in_ok-flow.ensures.keys c.in_ok-flow.ensures.flows in
-    ap (λ (vs : List LinkView). slice_get (link_names vs) place) (all-seen-same old.links.items (queue_lengths old.flows.flows) (queue_lengths c.find_or_make.new.self.flows) (lengths-more c.args.key old.flows c.find_or_make.new.self more))
+    ap (λ (vs : List LinkView). slice_get (link_names vs) place)
+    (all-seen-same old.links.items (queue_lengths old.flows.flows) (queue_lengths c.find_or_make.new.self.flows) (lengths-more c.args.key old.flows c.find_or_make.new.self more))
     ∙ (noted-found c.args.state.now (link_names (views_of old)) c.requires.sound.indexed c.args.key.target c.in_ok-flow.flow c.args.key.pipe place there).0

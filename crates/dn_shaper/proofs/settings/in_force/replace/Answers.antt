@@ -38,7 +38,8 @@ returns-clause-replaced c = sym (setting-by c.args.target c.args.commands.now.en
 pub returns-clause-replaces : goal.returns-clause-replaces
 returns-clause-replaces c =
     subst (λ es. Replaces c.args.target (Some c.args.command) es c.insert.new.self.entries) (ap (λ m. m.entries) c.get_mut.follows.holds-at-none)
-    (inserts c.args.target (record { command = c.args.command; queues = 0 }) c.get_mut.follows.lender-at-none.entries c.insert.new.self.entries c.in-Ok.ensures.updates.0 c.in-Ok.ensures.entries c.in-Ok.ensures.unique)
+    (inserts c.args.target
+    (record { command = c.args.command; queues = 0 }) c.get_mut.follows.lender-at-none.entries c.insert.new.self.entries c.in-Ok.ensures.updates.0 c.in-Ok.ensures.entries c.in-Ok.ensures.unique)
 
 pub returns-clause-counts : goal.returns-clause-counts
 returns-clause-counts c p =

@@ -10,4 +10,6 @@ pub returns-in-Some : goal.returns-in-Some
 returns-in-Some c =
     let found = c.in-Some.ensures.lookup in
     let there = get-read c.deref.result.now c.args.place c.in-Some.link.now found.3.0 found.1 in
-    c.has_backlog.ensures ∙ backlog-told (queue_lengths c.args.self.now.flows.flows) c.args.self.now.links.items c.args.place c.in-Some.link.now (subst (λ (ls : List LinkParts). slice_get ls c.args.place ≡ Some c.in-Some.link.now) c.deref.ensures.value there)
+    c.has_backlog.ensures
+    ∙ backlog-told (queue_lengths c.args.self.now.flows.flows) c.args.self.now.links.items c.args.place c.in-Some.link.now
+    (subst (λ (ls : List LinkParts). slice_get ls c.args.place ≡ Some c.in-Some.link.now) c.deref.ensures.value there)

@@ -12,7 +12,10 @@ discount_queue-requires c =
     let target = c.subject-target.result in
     let told = c.in_ok-replaced.ensures in
     let left-is = c.named_pipe-left.ensures ∙ ap (named_pipe target) (c.as_ref.ensures.value ∙ told.replaced) in
-    record { counted = counted-before c.args.command.now (Some c.args.command.now) target c.subject-target.ensures c.args.self.now es0 es1 c.self.view_is c.self.invariant told.replaces told.counts c.named_pipe-left.result left-is }
+    record {
+      counted = counted-before c.args.command.now
+          (Some c.args.command.now) target c.subject-target.ensures c.args.self.now es0 es1 c.self.view_is c.self.invariant told.replaces told.counts c.named_pipe-left.result left-is;
+    }
 
 pub count_queue-requires-clause-there : goal.count_queue-requires-clause-there
 count_queue-requires-clause-there c =
@@ -29,7 +32,8 @@ count_queue-requires-clause-few c =
     let target = c.subject-target.result in
     let told = c.in_ok-replaced.ensures in
     let left-is = c.named_pipe-left.ensures ∙ ap (named_pipe target) (c.as_ref.ensures.value ∙ told.replaced) in
-    few c.args.command.now (Some c.args.command.now) target c.subject-target.ensures c.args.self.now es0 es1 c.self.view_is c.self.invariant told.replaces told.counts c.named_pipe-left.result left-is c.discount_queue.new.commands.entries c.discount_queue.ensures.commands c.discount_queue.ensures.counts
+    few c.args.command.now
+    (Some c.args.command.now) target c.subject-target.ensures c.args.self.now es0 es1 c.self.view_is c.self.invariant told.replaces told.counts c.named_pipe-left.result left-is c.discount_queue.new.commands.entries c.discount_queue.ensures.commands c.discount_queue.ensures.counts
 
 pub invariant_of-self-2 : goal.invariant_of-self-2
 invariant_of-self-2 c =
@@ -38,7 +42,8 @@ invariant_of-self-2 c =
     let target = c.subject-target.result in
     let told = c.in_ok-replaced.ensures in
     let left-is = c.named_pipe-left.ensures ∙ ap (named_pipe target) (c.as_ref.ensures.value ∙ told.replaced) in
-    counts-more c.args.command.now (Some c.args.command.now) target c.subject-target.ensures c.args.self.now es0 es1 c.self.view_is c.self.invariant told.replaces told.counts c.named_pipe-left.result left-is c.discount_queue.new.commands.entries c.discount_queue.ensures.commands c.discount_queue.ensures.counts c.named_pipe.result c.named_pipe.ensures c.count_queue.new.commands.entries c.count_queue.ensures.commands c.count_queue.ensures.counts
+    counts-more c.args.command.now
+    (Some c.args.command.now) target c.subject-target.ensures c.args.self.now es0 es1 c.self.view_is c.self.invariant told.replaces told.counts c.named_pipe-left.result left-is c.discount_queue.new.commands.entries c.discount_queue.ensures.commands c.discount_queue.ensures.counts c.named_pipe.result c.named_pipe.ensures c.count_queue.new.commands.entries c.count_queue.ensures.commands c.count_queue.ensures.counts
 
 pub returns-clause-puts : goal.returns-clause-puts
 returns-clause-puts c =
@@ -46,4 +51,6 @@ returns-clause-puts c =
     let es1 = c.replace.new.commands.entries in
     let target = c.subject-target.result in
     let told = c.in_ok-replaced.ensures in
-    puts-after c.args.command.now (Some c.args.command.now) target c.subject-target.ensures c.args.self.now es0 es1 c.self.view_is c.self.invariant told.replaces told.counts c.count_queue.new.commands.entries (c.count_queue.ensures.commands ∙ c.discount_queue.ensures.commands)
+    puts-after c.args.command.now
+    (Some c.args.command.now) target c.subject-target.ensures c.args.self.now es0 es1 c.self.view_is c.self.invariant told.replaces told.counts c.count_queue.new.commands.entries
+    (c.count_queue.ensures.commands ∙ c.discount_queue.ensures.commands)

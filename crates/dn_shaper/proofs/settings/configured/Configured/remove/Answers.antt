@@ -18,7 +18,8 @@ discount_queue-requires c =
     let target = c.subject-target.result in
     let had = sym c.swap_remove.ensures.value ∙ c.unwrap-removed.ensures in
     let replaces = takes-out target es0 es1 c.swap_remove.ensures.updates.0 c.unwrap-removed.result had c.swap_remove.ensures.entries c.swap_remove.ensures.unique in
-    let kept = drops-none target es0 es1 c.swap_remove.ensures.updates.0 (none-lost c.args.command.now target c.subject-target.ensures c.args.self.now es0 c.self.view_is c.self.invariant c.requires.accepted) in
+    let kept = drops-none target es0 es1 c.swap_remove.ensures.updates.0
+    (none-lost c.args.command.now target c.subject-target.ensures c.args.self.now es0 c.self.view_is c.self.invariant c.requires.accepted) in
     let left-is = c.named_pipe-left.ensures ∙ ap (named_pipe target) (sym (setting-by target es0 (Some c.unwrap-removed.result) had)) in
     record { counted = counted-before c.args.command.now None target c.subject-target.ensures c.args.self.now es0 es1 c.self.view_is c.self.invariant replaces kept c.named_pipe-left.result left-is }
 
@@ -29,9 +30,11 @@ invariant_of-self c =
     let target = c.subject-target.result in
     let had = sym c.swap_remove.ensures.value ∙ c.unwrap-removed.ensures in
     let replaces = takes-out target es0 es1 c.swap_remove.ensures.updates.0 c.unwrap-removed.result had c.swap_remove.ensures.entries c.swap_remove.ensures.unique in
-    let kept = drops-none target es0 es1 c.swap_remove.ensures.updates.0 (none-lost c.args.command.now target c.subject-target.ensures c.args.self.now es0 c.self.view_is c.self.invariant c.requires.accepted) in
+    let kept = drops-none target es0 es1 c.swap_remove.ensures.updates.0
+    (none-lost c.args.command.now target c.subject-target.ensures c.args.self.now es0 c.self.view_is c.self.invariant c.requires.accepted) in
     let left-is = c.named_pipe-left.ensures ∙ ap (named_pipe target) (sym (setting-by target es0 (Some c.unwrap-removed.result) had)) in
-    counts-less c.args.command.now None target c.subject-target.ensures c.args.self.now es0 es1 c.self.view_is c.self.invariant replaces kept c.named_pipe-left.result left-is c.discount_queue.new.commands.entries c.discount_queue.ensures.commands c.discount_queue.ensures.counts (λ p. nothing p target)
+    counts-less c.args.command.now None target c.subject-target.ensures c.args.self.now es0 es1 c.self.view_is c.self.invariant replaces kept c.named_pipe-left.result left-is c.discount_queue.new.commands.entries c.discount_queue.ensures.commands c.discount_queue.ensures.counts
+    (λ p. nothing p target)
 
 pub returns : goal.returns
 returns c =
@@ -40,5 +43,6 @@ returns c =
     let target = c.subject-target.result in
     let had = sym c.swap_remove.ensures.value ∙ c.unwrap-removed.ensures in
     let replaces = takes-out target es0 es1 c.swap_remove.ensures.updates.0 c.unwrap-removed.result had c.swap_remove.ensures.entries c.swap_remove.ensures.unique in
-    let kept = drops-none target es0 es1 c.swap_remove.ensures.updates.0 (none-lost c.args.command.now target c.subject-target.ensures c.args.self.now es0 c.self.view_is c.self.invariant c.requires.accepted) in
+    let kept = drops-none target es0 es1 c.swap_remove.ensures.updates.0
+    (none-lost c.args.command.now target c.subject-target.ensures c.args.self.now es0 c.self.view_is c.self.invariant c.requires.accepted) in
     puts-after c.args.command.now None target c.subject-target.ensures c.args.self.now es0 es1 c.self.view_is c.self.invariant replaces kept c.discount_queue.new.commands.entries c.discount_queue.ensures.commands
