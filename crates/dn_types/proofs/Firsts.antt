@@ -13,10 +13,10 @@ use Rattle.dn_types.proofs.Settling.{backlog-own, backlog-above, first-own, and-
 use Rattle.dn_types.proofs.Picks.{heads-none, pick-some}
 use Rattle.dn_types.proofs.Proper.{total-at}
 
-abbrev stamped_of : List Accepted → List Stamped
+abbrev pub stamped_of : List Accepted → List Stamped
 stamped_of ps = map (λ p. p.stamped) ps
 
-heads-same : (n : ℕ) (q : ℕ → List Stamped) (r : ℕ → List Accepted) → ((f : ℕ) → q f ≡ stamped_of (r f)) → heads n q ≡ stamped_of (heads n r)
+pub heads-same : (n : ℕ) (q : ℕ → List Stamped) (r : ℕ → List Accepted) → ((f : ℕ) → q f ≡ stamped_of (r f)) → heads n q ≡ stamped_of (heads n r)
 heads-same zero q r h = refl
 heads-same (suc n) q r h =
     ap (λ (xs : List Stamped). xs ++ take 1 (q n)) (heads-same n q r h)

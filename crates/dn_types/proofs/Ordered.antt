@@ -27,20 +27,20 @@ use Rattle.dn_types.proofs.Proper.{settle-proper, no-next, none-first}
 use Rattle.dn_types.proofs.Firsts.{none-shared}
 
 -- An own link is of the flow.
-abbrev IsHome : Link → ℕ → Type 0
+abbrev pub IsHome : Link → ℕ → Type 0
 IsHome (own pipe f) flow = f ≡ flow
 IsHome (shared pipe) flow = ⊤
 
 -- A packet is taken on a link of its flow.
-abbrev GoesHome : Verdict → Type 0
+abbrev pub GoesHome : Verdict → Type 0
 GoesHome (takes link flow how) = IsHome link flow
 GoesHome _ = ⊤
 
-link_of-home : (target : Target) (flow pipe : ℕ) → IsHome (link_of target flow pipe) flow
+pub link_of-home : (target : Target) (flow pipe : ℕ) → IsHome (link_of target flow pipe) flow
 link_of-home (ToPipe n) flow pipe = refl
 link_of-home (ToQueue n) flow pipe = tt
 
-verdict-home : (known : List FlowKey) (target : Target) (packet : Packet) (o : Option Treatment) (trace : List Event) → GoesHome (verdict_by known target packet o trace)
+pub verdict-home : (known : List FlowKey) (target : Target) (packet : Packet) (o : Option Treatment) (trace : List Event) → GoesHome (verdict_by known target packet o trace)
 verdict-home known target packet None trace = tt
 verdict-home known target packet (Some how) trace =
     let flow = flow_number known (key_of target packet.tuple how) in
@@ -53,14 +53,14 @@ verdict-home known target packet (Some how) trace =
     by_tests link flow false false h = h
 
 -- A free link has no packet of the flow after a settling.
-empty-home : (set : Settings) (at : ℕ) (link : Link) (flow : ℕ) (trace : List Event) → IsHome link flow → next_start set at link trace ≡ None → free link trace ≤ at → backlog link flow trace ≡ []
+pub empty-home : (set : Settings) (at : ℕ) (link : Link) (flow : ℕ) (trace : List Event) → IsHome link flow → next_start set at link trace ≡ None → free link trace ≤ at → backlog link flow trace ≡ []
 empty-home set at (own pipe f) flow trace home e soon = ap (λ g. backlog (own pipe f) g trace) (sym home) ∙ none-first (backlog (own pipe f) f trace) (no-next set at (own pipe f) trace soon e)
 empty-home set at (shared pipe) flow trace home e soon = none-shared pipe trace (no-next set at (shared pipe) trace soon e) flow
 
-one-first : (link : Link) (flow : ℕ) (p : Accepted) (b : Bool) (q : List Accepted) → b ≡ true → q ≡ [] → slice_get (cond b (q ++ p ∷ []) q) 0 ≡ Some p
+pub one-first : (link : Link) (flow : ℕ) (p : Accepted) (b : Bool) (q : List Accepted) → b ≡ true → q ≡ [] → slice_get (cond b (q ++ p ∷ []) q) 0 ≡ Some p
 one-first link flow p b q e f = (λ i. slice_get (cond (e i) (f i ++ p ∷ []) (f i)) 0)
 
-of-own : (p : Accepted) → is_of p.link p.stamped.flow p ≡ true
+pub of-own : (p : Accepted) → is_of p.link p.stamped.flow p ≡ true
 of-own p = both _ _ (link_eq-refl p.link) same
   where
     same : nat_eq p.stamped.flow p.stamped.flow ≡ true
@@ -81,11 +81,11 @@ opened-proper : (b : Bool) (link : Link) (trace : List Event) → IsProper trace
 opened-proper true link trace h = h
 opened-proper false link trace h = h
 
-opened-free : (b : Bool) (l link : Link) (trace : List Event) → free l (cond b (opened link ∷ trace) trace) ≡ free l trace
+pub opened-free : (b : Bool) (l link : Link) (trace : List Event) → free l (cond b (opened link ∷ trace) trace) ≡ free l trace
 opened-free true l link trace = refl
 opened-free false l link trace = refl
 
-opened-backlog : (b : Bool) (l link : Link) (flow : ℕ) (trace : List Event) → backlog l flow (cond b (opened link ∷ trace) trace) ≡ backlog l flow trace
+pub opened-backlog : (b : Bool) (l link : Link) (flow : ℕ) (trace : List Event) → backlog l flow (cond b (opened link ∷ trace) trace) ≡ backlog l flow trace
 opened-backlog true l link flow trace = refl
 opened-backlog false l link flow trace = refl
 
@@ -128,7 +128,7 @@ trace-proper (Show ∷ calls) = trace-proper calls
 pub starts-in-order : (calls : List Call) (link : Link) (flow : ℕ) → accepted_since link flow (trace_of calls) ≡ started_since link flow (trace_of calls) ++ backlog link flow (trace_of calls)
 starts-in-order calls link flow = in-order-proper link flow (trace_of calls) (trace-proper calls)
 
-suffix-proper : (later earlier : List Event) → IsProper (later ++ earlier) → IsProper earlier
+pub suffix-proper : (later earlier : List Event) → IsProper (later ++ earlier) → IsProper earlier
 suffix-proper [] earlier h = h
 suffix-proper (opened l ∷ later) earlier h = suffix-proper later earlier h
 suffix-proper (arrived p ∷ later) earlier h = suffix-proper later earlier h.1

@@ -2,8 +2,11 @@ pub mod Bounds
 pub mod Calls
 pub mod Clock
 pub mod Configuration
+pub mod ConfiguredLaws
 pub mod Deliveries
 pub mod Drops
+pub mod Explained
+pub mod FairShare
 pub mod Flows
 pub mod Given
 pub mod History
@@ -11,6 +14,7 @@ pub mod Laws
 pub mod Links
 pub mod Replies
 pub mod SharedLinks
+pub mod SharingLaws
 pub mod Standing
 pub mod Starts
 pub mod Trace

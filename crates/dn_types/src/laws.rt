@@ -2,6 +2,18 @@
 //! check proves.
 
 ghost use Rattle.dn_types.specs.Bounds.{IsInRange};
+ghost use Rattle.dn_types.specs.ConfiguredLaws.{
+  CommandsCount,
+  DelaysAreExplained,
+  DropsAreExplained,
+  IsNeverIdle,
+  KeepsTheRate,
+  NoneUnconfigured,
+  StartsApart,
+  StartsAsConfigured,
+  StartsAtOnce,
+  StartsTheNext,
+};
 ghost use Rattle.dn_types.specs.Laws.{
   BytesAreBounded,
   CountsAreBounded,
@@ -24,6 +36,20 @@ ghost use Rattle.dn_types.specs.Laws.{
   StartsInOrder,
   StartsOnce,
   TransmissionIsLeast,
+};
+ghost use Rattle.dn_types.specs.FairShare.{SharesFairly};
+ghost use Rattle.dn_types.specs.SharingLaws.{
+  CommandsMoveNothing,
+  GrowsByWork,
+  PacketsKeepApart,
+  PickIsFair,
+  PickIsLeast,
+  PipeDeleteEmpties,
+  PipeDeleteSpares,
+  QueueDeleteEmpties,
+  QueueDeleteSpares,
+  RaisesToTheLeast,
+  TagsByWeight,
 };
 
 use crate::call::Call;
@@ -85,4 +111,43 @@ pub fn laws_of_bounds()
 /// Each call is in range, as the laws of bounds ask, since its types hold no other values.
 pub fn each_call_is_in_range(call: Call)
     ensures { IsInRange call }
+{}
+
+/// A packet is lost by the loss rate in force, refused by the limit in force, and by nothing else.
+pub fn laws_of_drops()
+    ensures explained { DropsAreExplained }
+    ensures unconfigured { NoneUnconfigured }
+{}
+
+/// A packet starts as soon as its link is free, with the bandwidth and the delay in force.
+pub fn laws_of_links()
+    ensures at_once { StartsAtOnce }
+    ensures never_idle { IsNeverIdle }
+    ensures next { StartsTheNext }
+    ensures configured { StartsAsConfigured }
+    ensures apart { StartsApart }
+    ensures rate { KeepsTheRate }
+    ensures delay { DelaysAreExplained }
+{}
+
+/// The flows of a shared link share it by their weights.
+pub fn laws_of_shares()
+    ensures tags { TagsByWeight }
+    ensures least { PickIsLeast }
+    ensures fair { PickIsFair }
+    ensures raised { RaisesToTheLeast }
+    ensures grows { GrowsByWork }
+    ensures stretch { SharesFairly }
+{}
+
+/// A delete empties the queues that it reaches and moves nothing that has started, and a packet
+/// changes nothing on the links of other pipes.
+pub fn laws_of_isolation()
+    ensures pipe_delete { PipeDeleteEmpties }
+    ensures queue_delete { QueueDeleteEmpties }
+    ensures queue_spares { QueueDeleteSpares }
+    ensures pipe_spares { PipeDeleteSpares }
+    ensures commands { CommandsMoveNothing }
+    ensures commands_count { CommandsCount }
+    ensures packets { PacketsKeepApart }
 {}

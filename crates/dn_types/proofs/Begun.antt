@@ -1,0 +1,262 @@
+-- What a call adds to the trace, and how each start of it comes about.
+use Rattle.std.proofs.Common.{◌≡◌, ◌∙◌, ◌≤◌, ◌<◌, ◌⊎◌, ◌≢◌, ⊎_elim, ℕ, zero, suc, ◌+◌, max, Bool, true, false, cond, ◌&&◌, List, [], ◌∷◌, ◌++◌, map, refl, ap, sym, subst, length, inl, inr, arith}
+use Rattle.std.specs.Prelude.{Option, Some, None, nat_le, nat_eq, slice_get, option_and_then, option_map, is_some, ⊤}
+use Rattle.std.proofs.lemmas.Bool.{eqb-true}
+use Rattle.std.proofs.lemmas.Bool.Decides.{nat_tests, eqb_tells}
+use Rattle.std.proofs.lemmas.List.{append_cancel_right}
+use Rattle.dn_types.specs.Calls.{link_of, Verdict, no_target, loses, refuses, takes, accept, join, after_verdict, verdict_by, verdict, reaches, discard_reached, after_command, trace_of}
+use Rattle.dn_types.specs.Clock.{effective_moment}
+use Rattle.dn_types.specs.Configuration.{Settings, settings, reply_to_command}
+use Rattle.dn_types.specs.Drops.{is_lost, is_full}
+use Rattle.dn_types.specs.Flows.{Treatment, treatment, keys, key_of, flow_number}
+use Rattle.dn_types.specs.Links.{free}
+use Rattle.dn_types.specs.SharedLinks.{waiting, opening, next_packet, virtual_time, link_heads}
+use Rattle.dn_types.specs.Starts.{next_start, first_start, settle, settled, start_at, waiting_all}
+use Rattle.dn_types.specs.Trace.{Link, own, shared, pipe_of, link_eq, Accepted, Start, Event, opened, arrived, started, lost, refused, discarded, collected, is_of, backlog, flow_bound, links}
+use Rattle.dn_types.specs.Wf2q.{Stamped, pick}
+use Rattle.dn_types.specs.declared.call.Call.{Call}
+use Rattle.dn_types.specs.declared.call.Call.TheVariants.{Configure, Submit, Advance, Collect, Show}
+use Rattle.dn_types.specs.declared.command.Command.{Command}
+use Rattle.dn_types.specs.declared.flow_key.FlowKey.{FlowKey}
+use Rattle.dn_types.specs.declared.packet.Packet.{Packet}
+use Rattle.dn_types.specs.declared.target.Target.{Target}
+use Rattle.dn_types.specs.declared.target.Target.TheVariants.{Pipe as ToPipe}
+use Rattle.dn_types.specs.declared.reply.Reply.{Reply}
+use Rattle.dn_types.specs.declared.reply.Reply.TheVariants.{Deleted}
+use Rattle.dn_types.proofs.Firsts.{heads-same, stamped_of}
+use Rattle.dn_types.proofs.InForce.{pipe-there}
+use Rattle.dn_types.proofs.Known.{AreKnown, all-known, known-started, pipe_of-link}
+use Rattle.dn_types.proofs.Ordered.{IsHome, GoesHome, verdict-home, empty-home, one-first, of-own, opened-free, opened-backlog}
+use Rattle.dn_types.proofs.Picks.{heads-alone, pick-alone}
+use Rattle.dn_types.proofs.Settled.{settled-ends, first_start-of, next_start-link, and-left}
+use Rattle.dn_types.proofs.Settling.{next_start-packet, next_packet-first, and-no}
+
+-- ---- One start
+
+-- A start has the bandwidth and the delay in force, it is of its link's next packet, and it is at the moment when the
+-- link is free, or of a packet that has just arrived.
+pub record IsBegun (set : Settings) (at : ℕ) (old : List Event) (s : Start) (f : List Event) : Type 0 where
+  pub configured : s ≡ start_at set s.packet.link s.packet s.moment
+  pub carried : is_some (set (ToPipe (pipe_of s.packet.link))) ≡ true
+  pub picked : next_packet s.packet.link (f ++ old) ≡ Some s.packet
+  pub soon : s.moment ≤ at
+  pub when : (s.moment ≡ free s.packet.link (f ++ old)) ⊎ ((s.moment ≡ at) × ((older : List Event) × (f ≡ arrived s.packet ∷ older)))
+
+next_start-is : (set : Settings) (at : ℕ) (link : Link) (trace : List Event) (s : Start) → next_start set at link trace ≡ Some s → (s ≡ start_at set link s.packet (free link trace))
+    × (s.moment ≡ free link trace) × (s.moment ≤ at)
+next_start-is set at link trace s e = by (nat_le (free link trace) at) refl (next_packet link trace) e
+  where
+    by : (b : Bool) → nat_le (free link trace) at ≡ b → (o : Option Accepted) → cond b (option_map (λ p. start_at set link p (free link trace)) o) None ≡ Some s →
+        (s ≡ start_at set link s.packet (free link trace)) × (s.moment ≡ free link trace) × (s.moment ≤ at)
+    by false is o e = absurd cc
+    by true is None e = absurd cc
+    by true is (Some p) e =
+        let same : start_at set link p (free link trace) ≡ s = cc in
+        let packet : p ≡ s.packet = ap (λ (x : Start). x.packet) same in
+        let moment : s.moment ≡ free link trace = ap (λ (x : Start). x.moment) (sym same) in
+        let soon : free link trace ≤ at = grind (arith, nat_tests) in
+        (sym same ∙ ap (λ (x : Accepted). start_at set link x (free link trace)) packet, moment, omega arith)
+
+begun-next : (set : Settings) (known : List FlowKey) (at : ℕ) (old : List Event) (link : Link) (s : Start) (f : List Event) → AreKnown set known (f ++ old) →
+    next_start set at link (f ++ old) ≡ Some s → IsBegun set at old s f
+begun-next set known at old link s f all e =
+    let is = next_start-is set at link (f ++ old) s e in
+    let l = next_start-link set at link (f ++ old) s e in
+    let first = next_packet-first link (f ++ old) s.packet (next_start-packet set at link (f ++ old) s e) in
+    let k = all link first.0 (some (backlog link first.0 (f ++ old)) first.1) in
+    let pipe : pipe_of s.packet.link ≡ k.key.pipe = ap pipe_of (l ∙ k.link_is) ∙ pipe_of-link k.key.target first.0 k.key.pipe in
+    record {
+      configured = is.0 ∙ (λ i. start_at set (sym l i) s.packet (sym is.1 i));
+      carried = ap (λ (n : ℕ). is_some (set (ToPipe n))) pipe ∙ k.pipe_is;
+      picked = ap (λ (m : Link). next_packet m (f ++ old)) l ∙ next_start-packet set at link (f ++ old) s e;
+      soon = is.2;
+      when = inl (is.1 ∙ ap (λ (m : Link). free m (f ++ old)) (sym l));
+    }
+  where
+    some : (q : List Accepted) → slice_get q 0 ≡ Some s.packet → 0 < length q
+    some [] h = absurd cc
+    some (p ∷ q) h = omega arith
+
+-- A packet that arrives where none waits is next.
+alone-next : (link : Link) (p : Accepted) (trace : List Event) → p.link ≡ link → IsHome link p.stamped.flow → ((flow : ℕ) → IsHome link flow → backlog link flow trace ≡ []) →
+    next_packet link (arrived p ∷ trace) ≡ Some p
+alone-next link p trace l home none = by link l home none
+  where
+    is_own : (m : Link) (flow : ℕ) → p.link ≡ m → p.stamped.flow ≡ flow → is_of m flow p ≡ true
+    is_own m flow e f = sym (λ i. is_of (e i) (f i) p) ∙ of-own p
+
+    first : (m : Link) (flow : ℕ) → p.link ≡ m → p.stamped.flow ≡ flow → backlog m flow trace ≡ [] → slice_get (backlog m flow (arrived p ∷ trace)) 0 ≡ Some p
+    first m flow e f empty = one-first m flow p (is_of m flow p) (backlog m flow trace) (is_own m flow e f) empty
+
+    by : (m : Link) → p.link ≡ m → IsHome m p.stamped.flow → ((flow : ℕ) → IsHome m flow → backlog m flow trace ≡ []) → next_packet m (arrived p ∷ trace) ≡ Some p
+    by (own pipe flow) e home none = first (own pipe flow) flow e (sym home) (none flow refl)
+    by (shared pipe) e home none =
+        ap (option_and_then (λ (h : Stamped). slice_get (backlog (shared pipe) h.flow (arrived p ∷ trace)) 0)) picked
+        ∙ first (shared pipe) p.stamped.flow e refl (none p.stamped.flow tt)
+      where
+        here : stamped_of (backlog (shared pipe) p.stamped.flow (arrived p ∷ trace)) ≡ p.stamped ∷ []
+        here = (λ i. stamped_of (cond (is_own (shared pipe) p.stamped.flow e refl i) (none p.stamped.flow tt i ++ p ∷ []) (none p.stamped.flow tt i)))
+
+        elsewhere : (f : ℕ) → f ≢ p.stamped.flow → is_of (shared pipe) f p ≡ false
+        elsewhere f ne = and-no (link_eq p.link (shared pipe)) (nat_eq p.stamped.flow f) (⊎_elim (λ same. absurd (ne (sym same.1))) (λ other. other.0) (eqb_tells p.stamped.flow f))
+
+        others : (f : ℕ) → f ≢ p.stamped.flow → stamped_of (backlog (shared pipe) f (arrived p ∷ trace)) ≡ []
+        others f ne = (λ i. stamped_of (cond (elsewhere f ne i) (none f tt i ++ p ∷ []) (none f tt i)))
+
+        alone : link_heads (shared pipe) (arrived p ∷ trace) ≡ p.stamped ∷ []
+        alone =
+            sym (heads-same (flow_bound (arrived p ∷ trace)) (λ f. stamped_of (backlog (shared pipe) f (arrived p ∷ trace))) (λ f. backlog (shared pipe) f (arrived p ∷ trace)) (λ f. refl))
+            ∙ heads-alone (λ f. stamped_of (backlog (shared pipe) f (arrived p ∷ trace))) p.stamped.flow p.stamped here others (flow_bound (arrived p ∷ trace)) (omega arith)
+
+        picked : pick (virtual_time (shared pipe) (arrived p ∷ trace)) (link_heads (shared pipe) (arrived p ∷ trace)) ≡ Some p.stamped
+        picked = ap (λ (hs : List Stamped). pick (virtual_time (shared pipe) (arrived p ∷ trace)) hs) alone ∙ pick-alone (virtual_time (shared pipe) (arrived p ∷ trace)) p.stamped
+
+-- ---- All that a call adds
+
+module _ (P : Event → List Event → Type 0) (old : List Event) where
+  abbrev pub AllEvents : List Event → Type 0
+  AllEvents [] = ⊤
+  AllEvents (e ∷ f) = P e f × AllEvents f
+
+  -- What was added, and that each event of it is so.
+  abbrev pub Adds : List Event → Type 0
+  Adds new = (f : List Event) × (new ≡ f ++ old) × AllEvents f
+
+  adds-settle : (I : List Event → Type 0) (set : Settings) (at : ℕ) → ((s : Start) (f : List Event) → I f → I (started s ∷ f)) → ((link : Link) (s : Start) (f : List Event) → I f →
+      next_start set at link (f ++ old) ≡ Some s → P (started s) f) → (most : ℕ) (f : List Event) → I f → AllEvents f → Adds (settle most set at (f ++ old))
+  adds-settle I set at keep each zero f i all = (f, refl, all)
+  adds-settle I set at keep each (suc most) f i all = step (first_start set at (links (f ++ old)) (f ++ old)) refl (λ g. adds-settle I set at keep each most g)
+    where
+      step : (o : Option Start) → first_start set at (links (f ++ old)) (f ++ old) ≡ o → ((g : List Event) → I g → AllEvents g → Adds (settle most set at (g ++ old))) →
+          Adds (elim o as (λ _. List Event) [ None ↦ f ++ old | Some s ↦ settle most set at (started s ∷ f ++ old) ])
+      step None e rest = (f, refl, all)
+      step (Some s) e rest = let of = first_start-of set at (links (f ++ old)) (f ++ old) s e in rest (started s ∷ f) (keep s f i) (each of.0 s f i of.1, all)
+
+  adds-discard : ((flow : ℕ) (f : List Event) → P (discarded flow) f) → (command : Command) (flow : ℕ) (known : List FlowKey) (f : List Event) → AllEvents f →
+      Adds (discard_reached command flow known (f ++ old))
+  adds-discard each command flow [] f all = (f, refl, all)
+  adds-discard each command flow (key ∷ known) f all = by (reaches command key) (λ g. adds-discard each command (flow + 1) known g)
+    where
+      by : (b : Bool) → ((g : List Event) → AllEvents g → Adds (discard_reached command (flow + 1) known (g ++ old))) →
+          Adds (discard_reached command (flow + 1) known (cond b (discarded flow ∷ f ++ old) (f ++ old)))
+      by true rest = rest (discarded flow ∷ f) (each flow f, all)
+      by false rest = rest f all
+
+  abbrev add : (e : Event) (new : List Event) (h : Adds new) → P e h.0 → Adds (e ∷ new)
+  add e new h p = (e ∷ h.0, ap (λ (r : List Event). e ∷ r) h.1, (p, h.2))
+
+  -- An event among what was added.
+  among : (later between : List Event) (e : Event) (f : List Event) → f ≡ later ++ e ∷ between → AllEvents f → P e between
+  among later between e f is all = find later (subst AllEvents is all)
+    where
+      find : (later : List Event) → AllEvents (later ++ e ∷ between) → P e between
+      find [] h = h.0
+      find (x ∷ later) h = find later h.1
+
+  pub adds-among : (new later between : List Event) (e : Event) → Adds new → new ≡ later ++ e ∷ between ++ old → P e between
+  adds-among new later between e h is = among later between e h.0 (append_cancel_right h.0 (later ++ e ∷ between) old (sym h.1 ∙ is ∙ shape later)) h.2
+    where
+      shape : (later : List Event) → later ++ e ∷ between ++ old ≡ (later ++ e ∷ between) ++ old
+      shape [] = refl
+      shape (x ∷ later) = ap (λ (r : List Event). x ∷ r) (shape later)
+
+-- What a Submit accepts: the packet, by the treatment in force for its target, with tags by what came before.
+abbrev pub IsTaken : List Call → Call → Accepted → List Event → Type 0
+IsTaken calls (Submit target packet moment) p f = (how : Treatment) × (treatment (settings calls target) ≡ Some how)
+    × (p ≡ accept (link_of target (flow_number (keys calls) (key_of target packet.tuple how)) how.pipe) packet (flow_number (keys calls) (key_of target packet.tuple how)) how (f ++ trace_of calls))
+IsTaken calls _ p f = ⊥
+
+-- How each event of a call comes about.
+abbrev pub IsCaused : List Call → Call → Event → List Event → Type 0
+IsCaused calls c (started s) f = IsBegun (settings calls) (effective_moment (c ∷ calls)) (trace_of calls) s f
+IsCaused calls c (arrived p) f = IsTaken calls c p f
+IsCaused calls c (opened l) f = waiting l (f ++ trace_of calls) ≡ 0
+IsCaused calls c _ f = ⊤
+
+module _ (calls : List Call) (c : Call) where
+  abbrev pub Causes : List Event → Type 0
+  Causes new = Adds (IsCaused calls c) (trace_of calls) new
+
+  abbrev set : Settings
+  set = settings calls
+
+  abbrev old : List Event
+  old = trace_of calls
+
+  abbrev at : ℕ
+  at = effective_moment (c ∷ calls)
+
+  causes-settled : Causes (settled (settings calls) (effective_moment (c ∷ calls)) (trace_of calls))
+  causes-settled = adds-settle (IsCaused calls c) old (λ f. AreKnown set (keys calls) (f ++ old)) set at (λ s f i. known-started set (keys calls) s (f ++ old) i) (λ link s f i e. begun-next set (keys calls) at old link s f i e) (waiting_all (links old) old) [] (all-known calls) tt
+
+  causes-join : (p : Accepted) (trace : List Event) (h : Causes trace) → IsTaken calls c p h.0 → is_some (set (ToPipe (pipe_of p.link))) ≡ true → (free p.link trace ≤ at →
+      next_packet p.link (arrived p ∷ trace) ≡ Some p) → Causes (join set at p trace)
+  causes-join p trace h taken carried next = by (nat_le (free p.link trace) at) refl
+    where
+      arrives : Causes (arrived p ∷ trace)
+      arrives = add (IsCaused calls c) old (arrived p) trace h taken
+
+      by : (b : Bool) → nat_le (free p.link trace) at ≡ b → Causes (cond b (started (start_at set p.link p at) ∷ arrived p ∷ trace) (arrived p ∷ trace))
+      by true e =
+          let soon : free p.link trace ≤ at = grind (arith, nat_tests) in
+          let begun : IsBegun set at old (start_at set p.link p at) (arrived p ∷ h.0) = record {
+            configured = refl;
+            carried = carried;
+            picked = ap (λ (r : List Event). next_packet p.link r) (sym arrives.1) ∙ next soon;
+            soon = omega arith;
+            when = inr (refl, (h.0, refl));
+          } in
+          add (IsCaused calls c) old (started (start_at set p.link p at)) (arrived p ∷ trace) arrives begun
+      by false e = arrives
+
+  causes-opened : (b : Bool) (link : Link) (trace : List Event) → (b ≡ true → waiting link trace ≡ 0) → Causes trace → Causes (cond b (opened link ∷ trace) trace)
+  causes-opened true link trace none h = add (IsCaused calls c) old (opened link) trace h (ap (λ (r : List Event). waiting link r) (sym h.1) ∙ none refl)
+  causes-opened false link trace none h = h
+
+  -- A packet is taken as the verdict has it.
+  abbrev IsGiven : Packet → Verdict → Type 0
+  IsGiven packet (takes link flow how) = ((trace : List Event) (h : Causes trace) → IsTaken calls c (accept link packet flow how trace) h.0) × (is_some (set (ToPipe (pipe_of link))) ≡ true)
+  IsGiven packet _ = ⊤
+
+  causes-verdict : (packet : Packet) (v : Verdict) (trace : List Event) → GoesHome v → IsGiven packet v → Causes trace → ((link : Link) → next_start set at link trace ≡ None) →
+      Causes (after_verdict set at packet v trace)
+  causes-verdict packet no_target trace home given h ends = h
+  causes-verdict packet (loses link flow) trace home given h ends = add (IsCaused calls c) old (lost link flow) trace h tt
+  causes-verdict packet (refuses link flow) trace home given h ends = add (IsCaused calls c) old (refused link flow) trace h tt
+  causes-verdict packet (takes link flow how) trace home given h ends =
+      let b = nat_eq (waiting link trace) 0 && nat_le (free link trace) at in
+      let p = accept link packet flow how (opening link at trace) in
+      let opens = causes-opened b link trace (λ e. eqb-true (waiting link trace) 0 (and-left (nat_eq (waiting link trace) 0) (nat_le (free link trace) at) e)) h in
+      causes-join p (opening link at trace) opens (given.0 (opening link at trace) opens) given.1
+      (λ soon. let e = opened-free b link link trace in alone-next link p (opening link at trace) refl home (λ g at_home. opened-backlog b link link g trace
+          ∙ empty-home set at link g trace at_home (ends link) (omega arith)))
+
+taken-by : (calls : List Call) (target : Target) (packet : Packet) (moment : ℕ) (o : Option Treatment) → treatment (settings calls target) ≡ o → (trace : List Event) →
+    IsGiven calls (Submit target packet moment) packet (verdict_by (keys calls) target packet o trace)
+taken-by calls target packet moment None is trace = tt
+taken-by calls target packet moment (Some how) is trace =
+    let flow = flow_number (keys calls) (key_of target packet.tuple how) in
+    let link = link_of target flow how.pipe in
+    by link flow (λ before h. (how, is, ap (λ (r : List Event). accept link packet flow how r) h.1), ap (λ (n : ℕ). is_some (settings calls (ToPipe n))) (pipe_of-link target flow how.pipe) ∙ pipe-there calls target how is) (is_lost how.loss packet.word) (is_full how.limit (map (λ p. p.stamped.len) (backlog link flow trace)))
+  where
+    by : (link : Link) (flow : ℕ) → IsGiven calls (Submit target packet moment) packet (takes link flow how) → (b c : Bool) →
+        IsGiven calls (Submit target packet moment) packet (cond b (loses link flow) (cond c (refuses link flow) (takes link flow how)))
+    by link flow given true c = tt
+    by link flow given false true = tt
+    by link flow given false false = given
+
+-- Each event that a call adds comes about by what is in force before it.
+pub call-causes : (calls : List Call) (c : Call) → Causes calls c (trace_of (c ∷ calls))
+call-causes calls (Configure command) = by (reply_to_command calls command)
+  where
+    by : (r : Reply) → Causes calls (Configure command) (after_command r command (keys calls) (trace_of calls))
+    by Deleted = adds-discard (IsCaused calls (Configure command)) (trace_of calls) (λ flow f. tt) command 0 (keys calls) [] tt
+    by _ = ([], refl, tt)
+call-causes calls (Submit target packet moment) =
+    let at = max (effective_moment calls) moment in
+    let before = settled (settings calls) at (trace_of calls) in
+    causes-verdict calls (Submit target packet moment) packet (verdict calls target packet before) before (verdict-home (keys calls) target packet (treatment (settings calls target)) before) (taken-by calls target packet moment (treatment (settings calls target)) refl before) (causes-settled calls (Submit target packet moment)) (λ link. settled-ends (settings calls) at link (trace_of calls))
+call-causes calls (Advance moment) = causes-settled calls (Advance moment)
+call-causes calls (Collect moment) =
+    add (IsCaused calls (Collect moment)) (trace_of calls) (collected (max (effective_moment calls) moment)) (settled (settings calls) (max (effective_moment calls) moment) (trace_of calls)) (causes-settled calls (Collect moment)) tt
+call-causes calls Show = ([], refl, tt)

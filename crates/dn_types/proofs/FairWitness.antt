@@ -1,0 +1,41 @@
+-- The premises of the law of fair shares are met: two queues of one weight, each with four packets of 1,000 bytes.
+use Rattle.std.proofs.Common.{◌≡◌, ◌≤◌, ◌<◌, ◌+◌, ℕ, true, List, [], ◌∷◌, refl, arith}
+use Rattle.std.specs.Prelude.{None, nat_le, nat_lt}
+use Rattle.std.proofs.lemmas.Bool.Decides.{nat_tests}
+use Rattle.dn_types.specs.Calls.{trace_of}
+use Rattle.dn_types.specs.FairShare.{share}
+use Rattle.dn_types.specs.Trace.{shared, Start, started}
+use Rattle.dn_types.specs.declared.call.Call.{Call}
+use Rattle.dn_types.specs.declared.call.Call.TheVariants.{Configure, Submit, Advance}
+use Rattle.dn_types.specs.declared.command.Command.TheVariants.{Pipe, Queue}
+use Rattle.dn_types.specs.declared.limit.Limit.TheVariants.{Slots}
+use Rattle.dn_types.specs.declared.target.Target.TheVariants.{Queue as ToQueue}
+use Rattle.dn_types.proofs.ExampleWords.{tuple, no_mask, packet}
+use Rattle.dn_types.proofs.Fair.{shares-fairly}
+
+le : (a b : ℕ) → nat_le a b ≡ true → a ≤ b
+le a b h = grind (arith, nat_tests)
+
+lt : (a b : ℕ) → nat_lt a b ≡ true → a < b
+lt a b h = grind (arith, nat_tests)
+
+abbrev to : ℕ → Call
+to queue = Submit (ToQueue queue) (packet (tuple 0 0 0 0 0) 1000 0) 0
+
+abbrev older : List Call
+older = to 2 ∷ to 2 ∷ to 2 ∷ to 2 ∷ to 1 ∷ to 1 ∷ to 1 ∷ to 1 ∷ Configure (Queue 2 1 1 (Slots 50) 0 None no_mask) ∷ Configure (Queue 1 1 1 (Slots 50) 0 None no_mask) ∷ Configure (Pipe 1 8000000 0 (Slots 50) 0 None no_mask) ∷ []
+
+abbrev first : Start
+first = record { packet = record { packet = 1; link = shared 1; stamped = record { flow = 0; len = 1000; weight = 1; start_tag = 65536000; finish_tag = 131072000 } }; moment =
+    1000000; transmission = 1000000; delay = 0 }
+
+abbrev second : Start
+second = record { packet = record { packet = 4; link = shared 1; stamped = record { flow = 1; len = 1000; weight = 1; start_tag = 65536000; finish_tag = 131072000 } }; moment =
+    2000000; transmission = 1000000; delay = 0 }
+
+-- After the starts at 1 ms and 2 ms, one of each flow.
+met : share (shared 1) 1 (started second ∷ started first ∷ []) ≤ share (shared 1) 0 (started second ∷ started first ∷ []) + 65536000 + 65536000 + 65536000
+met = shares-fairly (Advance 2000000 ∷ older) 1 0 1 65536000 65536000 [] (started second ∷ []) (trace_of older) first refl refl
+    (lt 0 _ refl, (lt 0 _ refl, lt 0 _ refl)) (lt 0 _ refl, (lt 0 _ refl, lt 0 _ refl))
+    (λ e. le _ _ refl, (λ e. le _ _ refl, (λ e. le _ _ refl, (λ e. le _ _ refl, (λ e. le _ _ refl, (λ e. le _ _ refl, (λ e. le _ _ refl, (λ e. le _ _ refl, tt))))))))
+    (λ e. le _ _ refl, (λ e. le _ _ refl, (λ e. le _ _ refl, (λ e. le _ _ refl, (λ e. le _ _ refl, (λ e. le _ _ refl, (λ e. le _ _ refl, (λ e. le _ _ refl, tt))))))))

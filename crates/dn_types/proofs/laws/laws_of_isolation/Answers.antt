@@ -1,0 +1,24 @@
+-- Each law is a lemma over the definitions.
+use Rattle.dn_types.proofs.Isolation.{pipe-delete-empties, queue-delete-empties, queue-delete-spares, pipe-delete-spares, commands-move-nothing, commands-count, packets-keep-apart}
+use Rattle.dn_types.proofs.laws.laws_of_isolation.Goals as goal
+
+pub returns-clause-pipe_delete : goal.returns-clause-pipe_delete
+returns-clause-pipe_delete c = pipe-delete-empties
+
+pub returns-clause-queue_delete : goal.returns-clause-queue_delete
+returns-clause-queue_delete c = queue-delete-empties
+
+pub returns-clause-commands : goal.returns-clause-commands
+returns-clause-commands c = commands-move-nothing
+
+pub returns-clause-packets : goal.returns-clause-packets
+returns-clause-packets c = packets-keep-apart
+
+pub returns-clause-commands_count : goal.returns-clause-commands_count
+returns-clause-commands_count c = commands-count
+
+pub returns-clause-queue_spares : goal.returns-clause-queue_spares
+returns-clause-queue_spares c = queue-delete-spares
+
+pub returns-clause-pipe_spares : goal.returns-clause-pipe_spares
+returns-clause-pipe_spares c = pipe-delete-spares

@@ -1,0 +1,35 @@
+-- The law of fair shares over a stretch of time, and its words.
+use Rattle.std.specs.Prelude.{ℕ, ◌≡◌, ◌≤◌, ◌<◌, ◌+◌, ◌-◌, true, cond, ⊤, List, [], ◌∷◌, ◌++◌, length}
+use Rattle.dn_types.specs.Calls.{trace_of}
+use Rattle.dn_types.specs.Trace.{Link, shared, Start, Event, arrived, started, is_of, backlog}
+use Rattle.dn_types.specs.declared.call.Call.{Call}
+
+-- A packet of the flow waits for the link before the stretch, after each of its events, and so throughout.
+abbrev pub WaitsThroughout : Link → ℕ → List Event → List Event → Type 0
+WaitsThroughout link flow [] earlier = 0 < length (backlog link flow earlier)
+WaitsThroughout link flow (e ∷ stretch) earlier = (0 < length (backlog link flow (e ∷ (stretch ++ earlier))))
+    × WaitsThroughout link flow stretch earlier
+
+-- What the flow got in the stretch: the costs of its packets that started, each its length over its weight.
+abbrev pub share : Link → ℕ → List Event → ℕ
+share link flow [] = 0
+share link flow (started s ∷ stretch) =
+    cond (is_of link flow s.packet) (s.packet.stamped.finish_tag - s.packet.stamped.start_tag) 0 + share link flow stretch
+share link flow (_ ∷ stretch) = share link flow stretch
+
+-- No packet of the flow costs more.
+abbrev pub CostsAtMost : ℕ → Link → ℕ → List Event → Type 0
+CostsAtMost most link flow [] = ⊤
+CostsAtMost most link flow (arrived p ∷ trace) = (is_of link flow p ≡ true → p.stamped.finish_tag ≤ p.stamped.start_tag + most)
+    × CostsAtMost most link flow trace
+CostsAtMost most link flow (_ ∷ trace) = CostsAtMost most link flow trace
+
+-- From a start of one flow on a shared link, and while packets of it and of another wait throughout, the other gets at most
+-- what the one gets, and two of its own packets and one of the one's: by their weights they share the link alike.
+abbrev pub SharesFairly : Type 0
+SharesFairly = (calls : List Call) (pipe one other most_one most_other : ℕ) (later stretch earlier : List Event) (r : Start) →
+    trace_of calls ≡ later ++ (stretch ++ (started r ∷ earlier)) →
+    is_of (shared pipe) one r.packet ≡ true → WaitsThroughout (shared pipe) one (stretch ++ (started r ∷ [])) earlier →
+        WaitsThroughout (shared pipe) other (stretch ++ (started r ∷ [])) earlier →
+    CostsAtMost most_one (shared pipe) one (trace_of calls) → CostsAtMost most_other (shared pipe) other (trace_of calls) →
+    share (shared pipe) other (stretch ++ (started r ∷ [])) ≤ share (shared pipe) one (stretch ++ (started r ∷ [])) + most_other + most_other + most_one
