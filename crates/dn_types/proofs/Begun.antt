@@ -12,7 +12,7 @@ use Rattle.dn_types.specs.Flows.{Treatment, treatment, keys, key_of, flow_number
 use Rattle.dn_types.specs.Links.{free}
 use Rattle.dn_types.specs.SharedLinks.{waiting, opening, next_packet, virtual_time, link_heads}
 use Rattle.dn_types.specs.Starts.{next_start, first_start, settle, settled, start_at, waiting_all}
-use Rattle.dn_types.specs.Trace.{Link, own, shared, pipe_of, link_eq, Accepted, Start, Event, opened, arrived, started, lost, refused, discarded, collected, is_of, backlog, flow_bound, links}
+use Rattle.dn_types.specs.Trace.{Link, own, shared, pipe_of, link_eq, Accepted, Start, Event, opened, arrived, started, lost, refused, discarded, collected, is_of, backlog, flow_bound, links, is_arrival, accepted_count}
 use Rattle.dn_types.specs.Wf2q.{Stamped, pick}
 use Rattle.dn_types.specs.declared.call.Call.{Call}
 use Rattle.dn_types.specs.declared.call.Call.TheVariants.{Configure, Submit, Advance, Collect, Show}
@@ -25,13 +25,34 @@ use Rattle.dn_types.specs.declared.reply.Reply.{Reply}
 use Rattle.dn_types.specs.declared.reply.Reply.TheVariants.{Deleted}
 use Rattle.dn_types.proofs.Firsts.{heads-same, stamped_of}
 use Rattle.dn_types.proofs.InForce.{pipe-there}
-use Rattle.dn_types.proofs.Known.{AreKnown, all-known, known-started, pipe_of-link}
+use Rattle.dn_types.proofs.Giving.{count-event}
+use Rattle.dn_types.proofs.Known.{AreKnown, all-known, known-started, fewer-started, pipe_of-link}
 use Rattle.dn_types.proofs.Ordered.{IsHome, GoesHome, verdict-home, empty-home, one-first, of-own, opened-free, opened-backlog}
 use Rattle.dn_types.proofs.Picks.{heads-alone, pick-alone}
 use Rattle.dn_types.proofs.Settled.{settled-ends, first_start-of, next_start-link, and-left}
 use Rattle.dn_types.proofs.Settling.{next_start-packet, next_packet-first, and-no}
 
 -- ---- One start
+
+-- A packet waited for the link before, and none has arrived since.
+abbrev pub HasWaited : List Event → Link → List Event → Type 0
+HasWaited old link f = ((flow : ℕ) × (0 < length (backlog link flow old))) × (accepted_count (f ++ old) ≡ accepted_count old)
+
+-- What a settling adds are starts: all that waits is known and has waited before.
+pub record HasSettled (set : Settings) (known : List FlowKey) (old f : List Event) : Type 0 where
+  pub are_known : AreKnown set known (f ++ old)
+  pub waited : (link : Link) (flow : ℕ) → 0 < length (backlog link flow (f ++ old)) → 0 < length (backlog link flow old)
+  pub accepted : accepted_count (f ++ old) ≡ accepted_count old
+
+none-settled : (set : Settings) (known : List FlowKey) (old : List Event) → AreKnown set known old → HasSettled set known old []
+none-settled set known old h = record { are_known = h; waited = λ link flow some. some; accepted = refl }
+
+settled-more : (set : Settings) (known : List FlowKey) (old : List Event) (s : Start) (f : List Event) → HasSettled set known old f → HasSettled set known old (started s ∷ f)
+settled-more set known old s f h = record {
+  are_known = known-started set known s (f ++ old) h.are_known;
+  waited = λ link flow some. h.waited link flow (fewer-started (is_of link flow s.packet) (backlog link flow (f ++ old)) some);
+  accepted = let more = count-event is_arrival (started s) (f ++ old) in let before = h.accepted in omega arith;
+}
 
 -- A start has the bandwidth and the delay in force, it is of its link's next packet, and it is at the moment when the
 -- link is free, or of a packet that has just arrived.
@@ -40,7 +61,7 @@ pub record IsBegun (set : Settings) (at : ℕ) (old : List Event) (s : Start) (f
   pub carried : is_some (set (ToPipe (pipe_of s.packet.link))) ≡ true
   pub picked : next_packet s.packet.link (f ++ old) ≡ Some s.packet
   pub soon : s.moment ≤ at
-  pub when : (s.moment ≡ free s.packet.link (f ++ old)) ⊎ ((s.moment ≡ at) × ((older : List Event) × (f ≡ arrived s.packet ∷ older)))
+  pub when : ((s.moment ≡ free s.packet.link (f ++ old)) × HasWaited old s.packet.link f) ⊎ ((s.moment ≡ at) × ((older : List Event) × (f ≡ arrived s.packet ∷ older)))
 
 next_start-is : (set : Settings) (at : ℕ) (link : Link) (trace : List Event) (s : Start) → next_start set at link trace ≡ Some s → (s ≡ start_at set link s.packet (free link trace))
     × (s.moment ≡ free link trace) × (s.moment ≤ at)
@@ -57,20 +78,23 @@ next_start-is set at link trace s e = by (nat_le (free link trace) at) refl (nex
         let soon : free link trace ≤ at = grind (arith, nat_tests) in
         (sym same ∙ ap (λ (x : Accepted). start_at set link x (free link trace)) packet, moment, omega arith)
 
-begun-next : (set : Settings) (known : List FlowKey) (at : ℕ) (old : List Event) (link : Link) (s : Start) (f : List Event) → AreKnown set known (f ++ old) →
+begun-next : (set : Settings) (known : List FlowKey) (at : ℕ) (old : List Event) (link : Link) (s : Start) (f : List Event) → HasSettled set known old f →
     next_start set at link (f ++ old) ≡ Some s → IsBegun set at old s f
 begun-next set known at old link s f all e =
     let is = next_start-is set at link (f ++ old) s e in
     let l = next_start-link set at link (f ++ old) s e in
     let first = next_packet-first link (f ++ old) s.packet (next_start-packet set at link (f ++ old) s e) in
-    let k = all link first.0 (some (backlog link first.0 (f ++ old)) first.1) in
+    let waits = some (backlog link first.0 (f ++ old)) first.1 in
+    let k = all.are_known link first.0 waits in
+    let waited = all.waited link first.0 waits in
+    let here = ap (λ (m : Link). length (backlog m first.0 old)) l in
     let pipe : pipe_of s.packet.link ≡ k.key.pipe = ap pipe_of (l ∙ k.link_is) ∙ pipe_of-link k.key.target first.0 k.key.pipe in
     record {
       configured = is.0 ∙ (λ i. start_at set (sym l i) s.packet (sym is.1 i));
       carried = ap (λ (n : ℕ). is_some (set (ToPipe n))) pipe ∙ k.pipe_is;
       picked = ap (λ (m : Link). next_packet m (f ++ old)) l ∙ next_start-packet set at link (f ++ old) s e;
       soon = is.2;
-      when = inl (is.1 ∙ ap (λ (m : Link). free m (f ++ old)) (sym l));
+      when = inl (is.1 ∙ ap (λ (m : Link). free m (f ++ old)) (sym l), ((first.0, omega (arith, waited, here)), all.accepted));
     }
   where
     some : (q : List Accepted) → slice_get q 0 ≡ Some s.packet → 0 < length q
@@ -160,10 +184,13 @@ module _ (P : Event → List Event → Type 0) (old : List Event) where
       shape [] = refl
       shape (x ∷ later) = ap (λ (r : List Event). x ∷ r) (shape later)
 
--- What a Submit accepts: the packet, by the treatment in force for its target, with tags by what came before.
+-- What a Submit accepts: the packet, by the treatment in force for its target, with tags by what came before, which is
+-- what an Advance to its moment leaves and, where the link is idle, the beginning of a busy period.
 abbrev pub IsTaken : List Call → Call → Accepted → List Event → Type 0
-IsTaken calls (Submit target packet moment) p f = (how : Treatment) × (treatment (settings calls target) ≡ Some how)
+IsTaken calls (Submit target packet moment) p f =
+    (how : Treatment) × (treatment (settings calls target) ≡ Some how)
     × (p ≡ accept (link_of target (flow_number (keys calls) (key_of target packet.tuple how)) how.pipe) packet (flow_number (keys calls) (key_of target packet.tuple how)) how (f ++ trace_of calls))
+    × (f ++ trace_of calls ≡ opening (link_of target (flow_number (keys calls) (key_of target packet.tuple how)) how.pipe) (effective_moment (Advance moment ∷ calls)) (trace_of (Advance moment ∷ calls)))
 IsTaken calls _ p f = ⊥
 
 -- How each event of a call comes about.
@@ -187,7 +214,8 @@ module _ (calls : List Call) (c : Call) where
   at = effective_moment (c ∷ calls)
 
   causes-settled : Causes (settled (settings calls) (effective_moment (c ∷ calls)) (trace_of calls))
-  causes-settled = adds-settle (IsCaused calls c) old (λ f. AreKnown set (keys calls) (f ++ old)) set at (λ s f i. known-started set (keys calls) s (f ++ old) i) (λ link s f i e. begun-next set (keys calls) at old link s f i e) (waiting_all (links old) old) [] (all-known calls) tt
+  causes-settled = adds-settle (IsCaused calls c) old (HasSettled set (keys calls) old) set at (λ s f i. settled-more set (keys calls) old s f i)
+      (λ link s f i e. begun-next set (keys calls) at old link s f i e) (waiting_all (links old) old) [] (none-settled set (keys calls) old (all-known calls)) tt
 
   causes-join : (p : Accepted) (trace : List Event) (h : Causes trace) → IsTaken calls c p h.0 → is_some (set (ToPipe (pipe_of p.link))) ≡ true → (free p.link trace ≤ at →
       next_packet p.link (arrived p ∷ trace) ≡ Some p) → Causes (join set at p trace)
@@ -214,11 +242,12 @@ module _ (calls : List Call) (c : Call) where
   causes-opened false link trace none h = h
 
   -- A packet is taken as the verdict has it.
-  abbrev IsGiven : Packet → Verdict → Type 0
-  IsGiven packet (takes link flow how) = ((trace : List Event) (h : Causes trace) → IsTaken calls c (accept link packet flow how trace) h.0) × (is_some (set (ToPipe (pipe_of link))) ≡ true)
-  IsGiven packet _ = ⊤
+  abbrev IsGiven : Packet → List Event → Verdict → Type 0
+  IsGiven packet trace (takes link flow how) = ((h : Causes (opening link at trace)) → IsTaken calls c (accept link packet flow how (opening link at trace)) h.0)
+      × (is_some (set (ToPipe (pipe_of link))) ≡ true)
+  IsGiven packet trace _ = ⊤
 
-  causes-verdict : (packet : Packet) (v : Verdict) (trace : List Event) → GoesHome v → IsGiven packet v → Causes trace → ((link : Link) → next_start set at link trace ≡ None) →
+  causes-verdict : (packet : Packet) (v : Verdict) (trace : List Event) → GoesHome v → IsGiven packet trace v → Causes trace → ((link : Link) → next_start set at link trace ≡ None) →
       Causes (after_verdict set at packet v trace)
   causes-verdict packet no_target trace home given h ends = h
   causes-verdict packet (loses link flow) trace home given h ends = add (IsCaused calls c) old (lost link flow) trace h tt
@@ -227,20 +256,24 @@ module _ (calls : List Call) (c : Call) where
       let b = nat_eq (waiting link trace) 0 && nat_le (free link trace) at in
       let p = accept link packet flow how (opening link at trace) in
       let opens = causes-opened b link trace (λ e. eqb-true (waiting link trace) 0 (and-left (nat_eq (waiting link trace) 0) (nat_le (free link trace) at) e)) h in
-      causes-join p (opening link at trace) opens (given.0 (opening link at trace) opens) given.1
+      causes-join p (opening link at trace) opens (given.0 opens) given.1
       (λ soon. let e = opened-free b link link trace in alone-next link p (opening link at trace) refl home (λ g at_home. opened-backlog b link link g trace
           ∙ empty-home set at link g trace at_home (ends link) (omega arith)))
 
-taken-by : (calls : List Call) (target : Target) (packet : Packet) (moment : ℕ) (o : Option Treatment) → treatment (settings calls target) ≡ o → (trace : List Event) →
-    IsGiven calls (Submit target packet moment) packet (verdict_by (keys calls) target packet o trace)
-taken-by calls target packet moment None is trace = tt
-taken-by calls target packet moment (Some how) is trace =
+taken-by : (calls : List Call) (target : Target) (packet : Packet) (moment : ℕ) (o : Option Treatment) → treatment (settings calls target) ≡ o →
+    IsGiven calls (Submit target packet moment) packet (trace_of (Advance moment ∷ calls)) (verdict_by (keys calls) target packet o (trace_of (Advance moment ∷ calls)))
+taken-by calls target packet moment None is = tt
+taken-by calls target packet moment (Some how) is =
     let flow = flow_number (keys calls) (key_of target packet.tuple how) in
     let link = link_of target flow how.pipe in
-    by link flow (λ before h. (how, is, ap (λ (r : List Event). accept link packet flow how r) h.1), ap (λ (n : ℕ). is_some (settings calls (ToPipe n))) (pipe_of-link target flow how.pipe) ∙ pipe-there calls target how is) (is_lost how.loss packet.word) (is_full how.limit (map (λ p. p.stamped.len) (backlog link flow trace)))
+    by link flow (λ h. (how, is, ap (λ (r : List Event). accept link packet flow how r) h.1, sym h.1), ap (λ (n : ℕ). is_some (settings calls (ToPipe n))) (pipe_of-link target flow how.pipe) ∙ pipe-there calls target how is)
+    (is_lost how.loss packet.word) (is_full how.limit (map (λ p. p.stamped.len) (backlog link flow (trace_of (Advance moment ∷ calls)))))
   where
-    by : (link : Link) (flow : ℕ) → IsGiven calls (Submit target packet moment) packet (takes link flow how) → (b c : Bool) →
-        IsGiven calls (Submit target packet moment) packet (cond b (loses link flow) (cond c (refuses link flow) (takes link flow how)))
+    before : List Event
+    before = trace_of (Advance moment ∷ calls)
+
+    by : (link : Link) (flow : ℕ) → IsGiven calls (Submit target packet moment) packet before (takes link flow how) → (b c : Bool) →
+        IsGiven calls (Submit target packet moment) packet before (cond b (loses link flow) (cond c (refuses link flow) (takes link flow how)))
     by link flow given true c = tt
     by link flow given false true = tt
     by link flow given false false = given
@@ -255,7 +288,7 @@ call-causes calls (Configure command) = by (reply_to_command calls command)
 call-causes calls (Submit target packet moment) =
     let at = max (effective_moment calls) moment in
     let before = settled (settings calls) at (trace_of calls) in
-    causes-verdict calls (Submit target packet moment) packet (verdict calls target packet before) before (verdict-home (keys calls) target packet (treatment (settings calls target)) before) (taken-by calls target packet moment (treatment (settings calls target)) refl before) (causes-settled calls (Submit target packet moment)) (λ link. settled-ends (settings calls) at link (trace_of calls))
+    causes-verdict calls (Submit target packet moment) packet (verdict calls target packet before) before (verdict-home (keys calls) target packet (treatment (settings calls target)) before) (taken-by calls target packet moment (treatment (settings calls target)) refl) (causes-settled calls (Submit target packet moment)) (λ link. settled-ends (settings calls) at link (trace_of calls))
 call-causes calls (Advance moment) = causes-settled calls (Advance moment)
 call-causes calls (Collect moment) =
     add (IsCaused calls (Collect moment)) (trace_of calls) (collected (max (effective_moment calls) moment)) (settled (settings calls) (max (effective_moment calls) moment) (trace_of calls)) (causes-settled calls (Collect moment)) tt

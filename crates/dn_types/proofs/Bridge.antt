@@ -228,3 +228,7 @@ replies-by-standing rule calls others same c = (
   reply-standing rule calls c ∙ ap (λ (s : Standing). step_reply rule s c) same ∙ sym (reply-standing rule others c),
   standing-cons rule calls c ∙ ap (λ (s : Standing). step rule s c) same ∙ sym (standing-cons rule others c),
 )
+
+-- A call after as many as the limit changes nothing.
+pub exhausted-changes-nothing : (rule : Rule) (calls : List Call) (c : Call) → call_limit ≤ length calls → (reply rule calls c ≡ Exhausted) × (standing rule (c ∷ calls) ≡ standing rule calls)
+exhausted-changes-nothing rule calls c h = (ap (λ b. cond b Exhausted (counted_reply rule calls c)) (le-leb call_limit (length calls) h), ap (λ (cs : List Call). standing_of_counted rule cs) (counted-full c calls h))

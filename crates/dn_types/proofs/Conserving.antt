@@ -18,6 +18,7 @@ use Rattle.dn_types.specs.declared.packet.Packet.{Packet}
 use Rattle.dn_types.specs.declared.reply.Reply.{Reply}
 use Rattle.dn_types.specs.declared.reply.Reply.TheVariants.{Deleted}
 use Rattle.dn_types.specs.declared.target.Target.{Target}
+use Rattle.dn_types.proofs.Known.{all-known}
 use Rattle.dn_types.proofs.Ordered.{IsHome, link_of-home, empty-home}
 use Rattle.dn_types.proofs.Settled.{settled-ends, and-left, link_eq-true}
 
@@ -106,3 +107,12 @@ busy (Show ∷ calls) = busy-until (effective_moment calls) (effective_moment (S
 pub conserves-work : (calls : List Call) (target : Target) (flow pipe : ℕ) → 0 < length (backlog (link_of target flow pipe) flow (trace_of calls)) →
     effective_moment calls < free (link_of target flow pipe) (trace_of calls)
 conserves-work calls target flow pipe some = busy calls (link_of target flow pipe) flow (link_of-home target flow pipe) some
+
+-- So it is for any link.
+pub busy-link : (calls : List Call) (link : Link) (flow : ℕ) → 0 < length (backlog link flow (trace_of calls)) → effective_moment calls < free link (trace_of calls)
+busy-link calls link flow some =
+    let k = all-known calls link flow some in
+    let here = ap (λ (l : Link). length (backlog l flow (trace_of calls))) k.link_is in
+    let there = ap (λ (l : Link). free l (trace_of calls)) k.link_is in
+    let busy' = conserves-work calls k.key.target flow k.key.pipe (omega (arith, here, some)) in
+    omega (arith, busy', there)

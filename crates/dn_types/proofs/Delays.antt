@@ -18,8 +18,17 @@ due-by Ordered s last = refl
 
 module _ (rule : Rule) where
   still : (e : Event) (trace : List Event) (d : Delivery) → IsDeliveryOf rule trace d → IsDeliveryOf rule (e ∷ trace) d
-  still e trace d h = record { start = h.start; later = e ∷ h.later; earlier = h.earlier; happened = ap (λ (r : List Event). e ∷ r) h.happened; number = h.number; flow = h.flow; moment =
-      h.moment; due = h.due }
+  still e trace d h = record {
+    start = h.start;
+    later = e ∷ h.later;
+    earlier = h.earlier;
+    happened = ap (λ (r : List Event). e ∷ r) h.happened;
+    number = h.number;
+    flow = h.flow;
+    moment =
+        h.moment;
+    due = h.due;
+  }
 
   all-still : (e : Event) (trace : List Event) (ds : List Delivery) → All (IsDeliveryOf rule trace) ds → All (IsDeliveryOf rule (e ∷ trace)) ds
   all-still e trace ds h = λ k d lt. still e trace (get_or ds k d) (h k d lt)

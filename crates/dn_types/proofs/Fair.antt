@@ -1,16 +1,16 @@
 -- Of two flows that wait throughout a stretch, one gets about what the other gets.
-use Rattle.std.proofs.Common.{◌≡◌, ◌∙◌, ◌≤◌, ◌<◌, ◌⊎◌, inl, inr, ℕ, zero, suc, ◌+◌, ◌-◌, Bool, true, false, cond, List, [], ◌∷◌, ◌++◌, refl, ap, sym, subst, length, drop, take, arith}
+use Rattle.std.proofs.Common.{◌≡◌, ◌∙◌, ◌≤◌, ◌<◌, ◌⊎◌, inl, inr, ℕ, ◌+◌, ◌-◌, Bool, true, false, cond, List, [], ◌∷◌, ◌++◌, refl, ap, sym, subst, length, drop, arith}
 use Rattle.std.specs.Prelude.{Option, Some, None, nat_eq, slice_get, option_and_then}
 use Rattle.std.specs.List.{All}
 use Rattle.std.proofs.lemmas.Bool.{eqb-true}
-use Rattle.std.proofs.lemmas.Bool.Decides.{nat_tests}
-use Rattle.std.proofs.lemmas.List.Elements.{All-append, All-cons, All-take, All-map}
+use Rattle.std.proofs.lemmas.List.Elements.{All-map}
 use Rattle.dn_types.specs.Calls.{trace_of}
 use Rattle.dn_types.specs.FairShare.{WaitsThroughout, share, CostsAtMost}
 use Rattle.dn_types.specs.SharedLinks.{next_packet, virtual_time, link_heads, last_finish_tag}
 use Rattle.dn_types.specs.Trace.{Link, shared, link_eq, Accepted, Start, Event, opened, arrived, started, lost, refused, discarded, collected, is_of, backlog, flow_bound}
 use Rattle.dn_types.specs.Wf2q.{Stamped, heads, pick}
 use Rattle.dn_types.specs.declared.call.Call.{Call}
+use Rattle.dn_types.proofs.EachHead.{at-head, all-heads}
 use Rattle.dn_types.proofs.Firsts.{heads-same, stamped_of, pick-first}
 use Rattle.dn_types.proofs.Settled.{and-left, link_eq-true}
 use Rattle.dn_types.proofs.Settling.{and-right, first-own, backlog-own, is_below}
@@ -19,34 +19,6 @@ use Rattle.dn_types.proofs.Steady.{IsSteady, IsChain, steady, suffix-steady, cha
 
 abbrev IsPut' : Accepted → Type 0
 IsPut' p = p.stamped.start_tag ≤ p.stamped.finish_tag
-
--- ---- Heads
-
-module _ {X : Type 0} (P : X → Type 0) where
-  left : (xs ys : List X) → All P (xs ++ ys) → All P xs
-  left [] ys h = λ k d lt. absurd (omega arith)
-  left (x ∷ xs) ys h = All-cons P x xs (h 0 x (omega arith)) (left xs ys (λ j e less. h (suc j) e (omega arith)))
-
-  right : (xs ys : List X) → All P (xs ++ ys) → All P ys
-  right [] ys h = h
-  right (x ∷ xs) ys h = right xs ys (λ j e less. h (suc j) e (omega arith))
-
-  -- What holds of all heads holds of the first packet of a flow.
-  at-head : (n : ℕ) (q : ℕ → List X) (flow : ℕ) (x : X) → flow < n → slice_get (q flow) 0 ≡ Some x → All P (heads n q) → P x
-  at-head zero q flow x low first h = absurd (omega arith)
-  at-head (suc n) q flow x low first h = by (nat_eq flow n) refl (λ lt. at-head n q flow x lt first (left (heads n q) (take 1 (q n)) h))
-    where
-      one : (xs : List X) → slice_get xs 0 ≡ Some x → All P (take 1 xs) → P x
-      one [] e all = absurd cc
-      one (y ∷ ys) e all = let same : y ≡ x = cc in subst P same (all 0 y (omega arith))
-
-      by : (b : Bool) → nat_eq flow n ≡ b → (flow < n → P x) → P x
-      by true e lower = one (q n) (ap (λ m. slice_get (q m) 0) (sym (eqb-true flow n e)) ∙ first) (right (heads n q) (take 1 (q n)) h)
-      by false e lower = let lt : flow < n = grind (arith, nat_tests) in lower lt
-
-  all-heads : (n : ℕ) (q : ℕ → List X) → ((flow : ℕ) → All P (q flow)) → All P (heads n q)
-  all-heads zero q h = λ k d lt. absurd (omega arith)
-  all-heads (suc n) q h = All-append P (heads n q) (take 1 (q n)) (all-heads n q h) (All-take P 1 (q n) (h n))
 
 -- ---- A start is fair to each flow that waits
 
@@ -70,7 +42,7 @@ module _ (pipe : ℕ) where
       own_firsts f y e =
           let one = stamped-first (backlog (shared pipe) f t) y e in
           ap (λ (z : Stamped). z.flow) (sym one.2)
-              ∙ eqb-true one.0.stamped.flow f (and-right (link_eq one.0.link (shared pipe)) (nat_eq one.0.stamped.flow f) (first-own (shared pipe) f one.0 (backlog (shared pipe) f t) one.1 (backlog-own (shared pipe) f t)))
+          ∙ eqb-true one.0.stamped.flow f (and-right (link_eq one.0.link (shared pipe)) (nat_eq one.0.stamped.flow f) (first-own (shared pipe) f one.0 (backlog (shared pipe) f t) one.1 (backlog-own (shared pipe) f t)))
 
       heads_are : heads (flow_bound t) (λ f. stamped_of (backlog (shared pipe) f t)) ≡ link_heads (shared pipe) t
       heads_are = heads-same (flow_bound t) (λ f. stamped_of (backlog (shared pipe) f t)) (λ f. backlog (shared pipe) f t) (λ f. refl)
@@ -121,7 +93,7 @@ module _ (pipe : ℕ) where
       ap (λ (a : Accepted). a.stamped.start_tag) (sym second) ∙ h.0 ∙ ap (λ (a : Accepted). a.stamped.finish_tag) first
 
   -- A start of the flow is of its first packet.
-  start-first : (flow : ℕ) (s : Start) (t : List Event) → next_packet s.packet.link t ≡ Some s.packet → is_of link flow s.packet ≡ true → (next_packet link t ≡ Some s.packet)
+  pub start-first : (flow : ℕ) (s : Start) (t : List Event) → next_packet s.packet.link t ≡ Some s.packet → is_of link flow s.packet ≡ true → (next_packet link t ≡ Some s.packet)
       × (slice_get (backlog link flow t) 0 ≡ Some s.packet)
   start-first flow s t next e = (shared-next, by (pick (virtual_time (shared pipe) t) (link_heads (shared pipe) t)) shared-next)
     where
@@ -282,7 +254,7 @@ module _ (pipe : ℕ) where
 pub shares-fairly : (calls : List Call) (pipe one other most_one most_other : ℕ) (later stretch earlier : List Event) (r : Start) →
     trace_of calls ≡ later ++ (stretch ++ (started r ∷ earlier)) →
     is_of (shared pipe) one r.packet ≡ true → WaitsThroughout (shared pipe) one (stretch ++ (started r ∷ [])) earlier →
-        WaitsThroughout (shared pipe) other (stretch ++ (started r ∷ [])) earlier →
+    WaitsThroughout (shared pipe) other (stretch ++ (started r ∷ [])) earlier →
     CostsAtMost most_one (shared pipe) one (trace_of calls) → CostsAtMost most_other (shared pipe) other (trace_of calls) →
     share (shared pipe) other (stretch ++ (started r ∷ [])) ≤ share (shared pipe) one (stretch ++ (started r ∷ [])) + most_other + most_other + most_one
 shares-fairly calls pipe one other most_one most_other later stretch earlier r e is w v cheap_one cheap_other =

@@ -26,12 +26,22 @@ abbrev older : List Call
 older = to 2 ∷ to 2 ∷ to 2 ∷ to 2 ∷ to 1 ∷ to 1 ∷ to 1 ∷ to 1 ∷ Configure (Queue 2 1 1 (Slots 50) 0 None no_mask) ∷ Configure (Queue 1 1 1 (Slots 50) 0 None no_mask) ∷ Configure (Pipe 1 8000000 0 (Slots 50) 0 None no_mask) ∷ []
 
 abbrev first : Start
-first = record { packet = record { packet = 1; link = shared 1; stamped = record { flow = 0; len = 1000; weight = 1; start_tag = 65536000; finish_tag = 131072000 } }; moment =
-    1000000; transmission = 1000000; delay = 0 }
+first = record {
+  packet = record { packet = 1; link = shared 1; stamped = record { flow = 0; len = 1000; weight = 1; start_tag = 65536000; finish_tag = 131072000 } };
+  moment =
+      1000000;
+  transmission = 1000000;
+  delay = 0;
+}
 
 abbrev second : Start
-second = record { packet = record { packet = 4; link = shared 1; stamped = record { flow = 1; len = 1000; weight = 1; start_tag = 65536000; finish_tag = 131072000 } }; moment =
-    2000000; transmission = 1000000; delay = 0 }
+second = record {
+  packet = record { packet = 4; link = shared 1; stamped = record { flow = 1; len = 1000; weight = 1; start_tag = 65536000; finish_tag = 131072000 } };
+  moment =
+      2000000;
+  transmission = 1000000;
+  delay = 0;
+}
 
 -- After the starts at 1 ms and 2 ms, one of each flow.
 met : share (shared 1) 1 (started second ∷ started first ∷ []) ≤ share (shared 1) 0 (started second ∷ started first ∷ []) + 65536000 + 65536000 + 65536000

@@ -16,7 +16,7 @@ IsProper (arrived p ∷ trace) = (p.packet ≡ accepted_count trace) × IsProper
 IsProper (started s ∷ trace) = (slice_get (backlog s.packet.link s.packet.stamped.flow trace) 0 ≡ Some s.packet) × (free s.packet.link trace ≤ s.moment) × IsProper trace
 IsProper (_ ∷ trace) = IsProper trace
 
-append-none : (xs : List Accepted) → xs ++ [] ≡ xs
+pub append-none : (xs : List Accepted) → xs ++ [] ≡ xs
 append-none [] = refl
 append-none (x ∷ xs) = ap (λ (r : List Accepted). x ∷ r) (append-none xs)
 

@@ -111,8 +111,11 @@ whole-after set queues (Queue number pipe weight limit loss buckets mask) h = re
     there q n true true e is = ap (λ (m : ℕ). is_some (set (ToPipe m))) (sym (eqb-true pipe n is)) ∙ e
     there q n true false e is = h.carried q n is
     there q n false c e is = h.carried q n is
-whole-after set queues (DeletePipe number) h = record { listed = h.listed; carried =
-    λ q n is. by q n is (nat_eq number n) refl (is_some (set (ToPipe number))) (has_queues set queues number) refl (h.carried q n is) }
+whole-after set queues (DeletePipe number) h = record {
+  listed = h.listed;
+  carried =
+      λ q n is. by q n is (nat_eq number n) refl (is_some (set (ToPipe number))) (has_queues set queues number) refl (h.carried q n is);
+}
   where
     by : (q n : ℕ) → is_queue_of n (set (ToQueue q)) ≡ true → (b : Bool) → nat_eq number n ≡ b → (c d : Bool) → has_queues set queues number ≡ d → is_some (set (ToPipe n)) ≡ true →
         is_some (cond b (setting_after (cond c (cond d PipeHasQueues Deleted) NoSuchPipe) (DeletePipe number) (set (ToPipe n))) (set (ToPipe n))) ≡ true

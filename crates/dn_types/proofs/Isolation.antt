@@ -1,6 +1,6 @@
 -- What a delete and what a packet reaches, and what they leave.
 use Rattle.std.proofs.Common.{◌≡◌, ◌∙◌, ◌≢◌, ◌<◌, ⊎_elim, ℕ, ◌+◌, max, Bool, true, false, cond, ◌&&◌, List, [], ◌∷◌, ◌++◌, map, refl, ap, sym, length, arith}
-use Rattle.std.specs.Prelude.{Option, Some, None, nat_le, nat_eq, ⊤}
+use Rattle.std.specs.Prelude.{Option, Some, None, is_some, nat_le, nat_eq, ⊤}
 use Rattle.std.proofs.lemmas.Bool.{eq-eqb, eqb-true}
 use Rattle.std.proofs.lemmas.Bool.Decides.{nat_tests}
 use Rattle.dn_types.specs.Calls.{link_of, Verdict, no_target, loses, refuses, takes, accept, join, after_verdict, verdict_by, verdict, reaches, discard_reached, after_command, trace_of}
@@ -20,23 +20,25 @@ use Rattle.dn_types.specs.declared.command.Command.{Command}
 use Rattle.dn_types.specs.declared.command.Command.TheVariants.{Pipe, Queue, DeletePipe, DeleteQueue}
 use Rattle.dn_types.specs.declared.flow_key.FlowKey.{FlowKey}
 use Rattle.dn_types.specs.declared.limit.Limit.{Limit}
+use Rattle.dn_types.specs.declared.mask.Mask.{Mask}
 use Rattle.dn_types.specs.declared.packet.Packet.{Packet}
 use Rattle.dn_types.specs.declared.reply.Reply.{Reply}
 use Rattle.dn_types.specs.declared.reply.Reply.TheVariants.{Configured, Deleted}
 use Rattle.dn_types.specs.declared.rule.Rule.{Rule}
 use Rattle.dn_types.specs.declared.target.Target.{Target}
 use Rattle.dn_types.specs.declared.target.Target.TheVariants.{Pipe as ToPipe, Queue as ToQueue}
-use Rattle.dn_types.proofs.InForce.{target_eq-true}
+use Rattle.dn_types.proofs.InForce.{target_eq-true, pipe-there}
+use Rattle.dn_types.proofs.Keys.{target_eq-refl}
 use Rattle.dn_types.proofs.Known.{all-known, reached-emptied, fewer-discarded, pipe_of-link}
 use Rattle.dn_types.proofs.Settled.{link_eq-true, true_or_false, backlog-elsewhere, free-elsewhere, virtual_time-elsewhere, last_due-elsewhere}
 
 -- ---- Deletes
 
-after-deleted : (calls : List Call) (command : Command) → reply_to_command calls command ≡ Deleted →
+pub after-deleted : (calls : List Call) (command : Command) → reply_to_command calls command ≡ Deleted →
     trace_of (Configure command ∷ calls) ≡ discard_reached command 0 (keys calls) (trace_of calls)
 after-deleted calls command e = ap (λ (r : Reply). after_command r command (keys calls) (trace_of calls)) e
 
-none-left : (q : List Accepted) → (0 < length q → ⊥) → q ≡ []
+pub none-left : (q : List Accepted) → (0 < length q → ⊥) → q ≡ []
 none-left [] h = refl
 none-left (p ∷ q) h = absurd (h (omega arith))
 
@@ -50,10 +52,6 @@ pipe-delete-empties calls number link flow e of_pipe =
     let pipe : k.key.pipe ≡ number = sym (pipe_of-link k.key.target flow k.key.pipe) ∙ ap pipe_of (sym k.link_is) ∙ of_pipe in
     let none = ap (λ (q : List Accepted). length q) (reached-emptied link flow (DeletePipe number) (keys calls) (trace_of calls) k.key k.at (eq-eqb k.key.pipe number pipe)) in
     omega arith)
-
-target_eq-refl : (t : Target) → target_eq t t ≡ true
-target_eq-refl (ToPipe n) = eq-eqb n n refl
-target_eq-refl (ToQueue n) = eq-eqb n n refl
 
 pub queue-delete-empties : (calls : List Call) (number : ℕ) (link : Link) (before behind : List FlowKey) (key : FlowKey) → reply_to_command calls (DeleteQueue number) ≡ Deleted →
     keys calls ≡ before ++ key ∷ behind → key.target ≡ ToQueue number → backlog link (length before) (trace_of (Configure (DeleteQueue number) ∷ calls)) ≡ []
@@ -81,13 +79,13 @@ module _ (link : Link) (flow : ℕ) (command : Command) where
       spared key before behind (from + 1) (cond (reaches command k) (discarded from ∷ trace) trace) (omega arith) kept
       ∙ left-by (reaches command k) from trace (grind (arith, nat_tests))
 
-spared-by : (calls : List Call) (command : Command) (link : Link) (before behind : List FlowKey) (key : FlowKey) → keys calls ≡ before ++ key ∷ behind → reaches command key ≡ false →
+pub spared-by : (calls : List Call) (command : Command) (link : Link) (before behind : List FlowKey) (key : FlowKey) → keys calls ≡ before ++ key ∷ behind → reaches command key ≡ false →
     (r : Reply) → backlog link (length before) (after_command r command (keys calls) (trace_of calls)) ≡ backlog link (length before) (trace_of calls)
 spared-by calls command link before behind key parts kept Deleted = ap (λ (ks : List FlowKey). backlog link (length before) (discard_reached command 0 ks (trace_of calls))) parts
     ∙ spared link (length before) command key before behind 0 (trace_of calls) (omega arith) kept
 spared-by calls command link before behind key parts kept _ = refl
 
-false-if : (b : Bool) → (b ≡ true → ⊥) → b ≡ false
+pub false-if : (b : Bool) → (b ≡ true → ⊥) → b ≡ false
 false-if true h = absurd (h refl)
 false-if false h = refl
 
@@ -122,7 +120,7 @@ module _ (rule : Rule) (link : Link) where
 pub commands-move-nothing : (rule : Rule) (calls : List Call) (command : Command) (link : Link) →
     (free link (trace_of (Configure command ∷ calls)) ≡ free link (trace_of calls)) × (last_due rule link (trace_of (Configure command ∷ calls)) ≡ last_due rule link (trace_of calls))
     × (virtual_time link (trace_of (Configure command ∷ calls)) ≡ virtual_time link (trace_of calls))
-        × (undelivered rule (trace_of (Configure command ∷ calls)) ≡ undelivered rule (trace_of calls))
+    × (undelivered rule (trace_of (Configure command ∷ calls)) ≡ undelivered rule (trace_of calls))
 commands-move-nothing rule calls command link = same-command rule link (reply_to_command calls command) command (keys calls) (trace_of calls)
 
 -- ---- Packets
@@ -143,9 +141,13 @@ module _ (rule : Rule) (link : Link) where
       by true =
           let s = start_at set p.link p at in
           let t = arrived p ∷ trace in
-          let a = untouched-arrived p trace other in
-          (λ flow. backlog-elsewhere link s t other flow ∙ a.0 flow, free-elsewhere link s t other ∙ a.1, last_due-elsewhere link s t other rule
-              ∙ a.2, virtual_time-elsewhere link s t other ∙ a.3)
+          let a = untouched-arrived p trace other in (
+            λ flow. backlog-elsewhere link s t other flow ∙ a.0 flow,
+            free-elsewhere link s t other ∙ a.1,
+            last_due-elsewhere link s t other rule
+                ∙ a.2,
+            virtual_time-elsewhere link s t other ∙ a.3,
+          )
 
   untouched-opened : (b : Bool) (l : Link) (trace : List Event) → link_eq l link ≡ false → IsUntouched (cond b (opened l ∷ trace) trace) trace
   untouched-opened false l trace other = (λ flow. refl, refl, refl, refl)
@@ -195,7 +197,7 @@ pub packets-keep-apart : (rule : Rule) (calls : List Call) (target : Target) (pa
     let with_it = trace_of (Submit target packet moment ∷ calls) in
     let without = trace_of (Advance moment ∷ calls) in
     ((flow : ℕ) → backlog link flow with_it ≡ backlog link flow without) × (free link with_it ≡ free link without) × (last_due rule link with_it ≡ last_due rule link without)
-        × (virtual_time link with_it ≡ virtual_time link without)
+    × (virtual_time link with_it ≡ virtual_time link without)
 packets-keep-apart rule calls target packet moment command rate most carrier link set judged other =
     let at = max (effective_moment calls) moment in
     let before = settled (settings calls) at (trace_of calls) in
@@ -207,13 +209,26 @@ packets-keep-apart rule calls target packet moment command rate most carrier lin
 pub commands-count : (calls : List Call) (command : Command) →
     (reply_to_command calls command ≡ Configured → settings (Configure command ∷ calls) (subject command) ≡ Some command)
     × (reply_to_command calls command ≡ Deleted → settings (Configure command ∷ calls) (subject command) ≡ None)
+    × (reply_to_command calls command ≢ Configured → reply_to_command calls command ≢ Deleted → settings (Configure command ∷ calls) (subject command) ≡ settings calls (subject command))
     × ((target : Target) → target ≢ subject command → settings (Configure command ∷ calls) target ≡ settings calls target)
-commands-count calls command =
-    (λ e. own' ∙ ap (λ (r : Reply). setting_after r command (settings calls (subject command))) e, λ e. own'
-    ∙ ap (λ (r : Reply). setting_after r command (settings calls (subject command))) e, λ target other. ap (λ b. cond b (setting_after (reply_to_command calls command) command (settings calls target)) (settings calls target)) (apart target other))
+commands-count calls command = (
+  (λ e. own' ∙ ap (λ (r : Reply). setting_after r command (settings calls (subject command))) e),
+  (λ e. own' ∙ ap (λ (r : Reply). setting_after r command (settings calls (subject command))) e),
+  (λ not_taken not_gone. own' ∙ refused (reply_to_command calls command) not_taken not_gone),
+  (λ target other. ap (λ b. cond b (setting_after (reply_to_command calls command) command (settings calls target)) (settings calls target)) (apart target other)),
+)
   where
     own' : settings (Configure command ∷ calls) (subject command) ≡ setting_after (reply_to_command calls command) command (settings calls (subject command))
     own' = ap (λ b. cond b (setting_after (reply_to_command calls command) command (settings calls (subject command))) (settings calls (subject command))) (target_eq-refl (subject command))
 
+    refused : (r : Reply) → r ≢ Configured → r ≢ Deleted → setting_after r command (settings calls (subject command)) ≡ settings calls (subject command)
+    refused Configured not_taken not_gone = absurd (not_taken refl)
+    refused Deleted not_taken not_gone = absurd (not_gone refl)
+    refused _ not_taken not_gone = refl
+
     apart : (target : Target) → target ≢ subject command → target_eq (subject command) target ≡ false
     apart target other = ⊎_elim (λ same. absurd (other (sym (target_eq-true (subject command) target same)))) (λ no'. no') (true_or_false (target_eq (subject command) target))
+
+pub queues-have-pipes : (calls : List Call) (target : Target) (number pipe weight : ℕ) (limit : Limit) (loss : ℕ) (buckets : Option ℕ) (mask : Mask) →
+    settings calls target ≡ Some (Queue number pipe weight limit loss buckets mask) → is_some (settings calls (ToPipe pipe)) ≡ true
+queues-have-pipes calls target number pipe weight limit loss buckets mask set = pipe-there calls target (record { pipe = pipe; weight = weight; mask = mask; loss = loss; limit = limit }) (ap treatment set)

@@ -6,7 +6,7 @@ use Rattle.std.proofs.lemmas.Bool.{eqb-true, eq-eqb}
 use Rattle.std.proofs.lemmas.List.Recursion.{is_position_or_len}
 use Rattle.dn_types.specs.Calls.{link_of, Verdict, no_target, loses, refuses, takes, accept, join, after_verdict, verdict_by, verdict, reaches, discard_reached, after_command, trace_of}
 use Rattle.dn_types.specs.Clock.{effective_moment}
-use Rattle.dn_types.specs.Configuration.{Settings, settings, target_eq, has_queues, queue_numbers, setting_after, reply_to_command}
+use Rattle.dn_types.specs.Configuration.{Settings, settings, has_queues, queue_numbers, setting_after, reply_to_command}
 use Rattle.dn_types.specs.Drops.{is_lost, is_full}
 use Rattle.dn_types.specs.Flows.{Treatment, treatment, keys, key_of, key_eq, with_key, keys_with, flow_number}
 use Rattle.dn_types.specs.Links.{free}
@@ -25,7 +25,8 @@ use Rattle.dn_types.specs.declared.target.Target.{Target}
 use Rattle.dn_types.specs.declared.target.Target.TheVariants.{Pipe as ToPipe, Queue as ToQueue}
 use Rattle.dn_types.proofs.Settled.{and-left, link_eq-true}
 use Rattle.dn_types.proofs.Settling.{and-right}
-use Rattle.dn_types.proofs.InForce.{target_eq-true, pipe-there}
+use Rattle.dn_types.proofs.InForce.{pipe-there}
+use Rattle.dn_types.proofs.Keys.{key_eq-true}
 
 -- The key stands in the list at the flow's number.
 pub record StandsAt (known : List FlowKey) (flow : ℕ) (key : FlowKey) : Type 0 where
@@ -45,19 +46,17 @@ AreKnown set known trace = (link : Link) (flow : ℕ) → 0 < length (backlog li
 
 stands-more : (known : List FlowKey) (flow : ℕ) (key more : FlowKey) (b : Bool) → StandsAt known flow key → StandsAt (cond b known (known ++ more ∷ [])) flow key
 stands-more known flow key more true h = h
-stands-more known flow key more false h = record { before = h.before; behind = h.behind ++ more ∷ []; parts = ap (λ (r : List FlowKey). r ++ more ∷ []) h.parts ∙ shape h.before; place =
-    h.place }
+stands-more known flow key more false h = record {
+  before = h.before;
+  behind = h.behind ++ more ∷ [];
+  parts = ap (λ (r : List FlowKey). r ++ more ∷ []) h.parts ∙ shape h.before;
+  place =
+      h.place;
+}
   where
     shape : (xs : List FlowKey) → (xs ++ key ∷ h.behind) ++ more ∷ [] ≡ xs ++ (key ∷ (h.behind ++ more ∷ []))
     shape [] = refl
     shape (x ∷ xs) = ap (λ (r : List FlowKey). x ∷ r) (shape xs)
-
--- The key of a packet's flow, once it is known.
-pub record IsFlow (known : List FlowKey) (flow : ℕ) (key : FlowKey) : Type 0 where
-  pub found : FlowKey
-  pub at : StandsAt known flow found
-  pub target : key.target ≡ found.target
-  pub pipe : key.pipe ≡ found.pipe
 
 abbrev place : FlowKey → List FlowKey → ℕ
 place key [] = 0
@@ -66,43 +65,37 @@ place key (k ∷ known) = cond (key_eq key k) 0 (1 + place key known)
 place-is : (key : FlowKey) (known : List FlowKey) → place key known ≡ flow_number known key
 place-is key known = is_position_or_len (place key) (key_eq key) refl (λ k ks. refl) known
 
-flow-of : (key : FlowKey) (known : List FlowKey) → IsFlow (with_key key known) (place key known) key
-flow-of key [] = record { found = key; at = record { before = []; behind = []; parts = refl; place = refl }; target = refl; pipe = refl }
+flow-of : (key : FlowKey) (known : List FlowKey) → StandsAt (with_key key known) (place key known) key
+flow-of key [] = record { before = []; behind = []; parts = refl; place = refl }
 flow-of key (k ∷ known) = by (key_eq key k) refl (flow-of key known)
   where
-    same-target : key_eq key k ≡ true → key.target ≡ k.target
-    same-target e = target_eq-true key.target k.target (and-left (target_eq key.target k.target) _ (and-left _ _ (and-left _ _ e)))
-
-    same-pipe : key_eq key k ≡ true → key.pipe ≡ k.pipe
-    same-pipe e = eqb-true key.pipe k.pipe (and-right (target_eq key.target k.target) _ (and-left _ _ (and-left _ _ e)))
-
     cons : (c : Bool) → cond c (k ∷ known) (k ∷ known ++ key ∷ []) ≡ k ∷ cond c known (known ++ key ∷ [])
     cons true = refl
     cons false = refl
 
-    by : (b : Bool) → key_eq key k ≡ b → IsFlow (with_key key known) (place key known) key →
-        IsFlow (cond (b || list_any (key_eq key) known) (k ∷ known) (k ∷ known ++ key ∷ [])) (cond b 0 (1 + place key known)) key
-    by true e rest = record { found = k; at = record { before = []; behind = known; parts = refl; place = refl }; target = same-target e; pipe = same-pipe e }
+    by : (b : Bool) → key_eq key k ≡ b → StandsAt (with_key key known) (place key known) key →
+        StandsAt (cond (b || list_any (key_eq key) known) (k ∷ known) (k ∷ known ++ key ∷ [])) (cond b 0 (1 + place key known)) key
+    by true e rest = record { before = []; behind = known; parts = ap (λ (x : FlowKey). x ∷ known) (sym (key_eq-true key k e)); place = refl }
     by false e rest = record {
-      found = rest.found;
-      at = record { before = k ∷ rest.at.before; behind = rest.at.behind; parts = cons (list_any (key_eq key) known) ∙ ap (λ (r : List FlowKey). k ∷ r) rest.at.parts; place = let p =
-          rest.at.place in omega arith };
-      target = rest.target;
-      pipe = rest.pipe;
+      before = k ∷ rest.before;
+      behind = rest.behind;
+      parts = cons (list_any (key_eq key) known) ∙ ap (λ (r : List FlowKey). k ∷ r) rest.parts;
+      place = let p = rest.place in omega arith;
     }
 
-known-flow : (key : FlowKey) (known : List FlowKey) → IsFlow (with_key key known) (flow_number known key) key
-known-flow key known = subst (λ (n : ℕ). IsFlow (with_key key known) n key) (place-is key known) (flow-of key known)
+-- The key of a packet's flow, once it is known, stands at the flow's number.
+pub known-flow : (key : FlowKey) (known : List FlowKey) → StandsAt (with_key key known) (flow_number known key) key
+known-flow key known = subst (λ (n : ℕ). StandsAt (with_key key known) n key) (place-is key known) (flow-of key known)
 
 -- ---- Events
 
+pub fewer-started : (b : Bool) (q : List Accepted) → 0 < length (cond b (drop 1 q) q) → 0 < length q
+fewer-started true [] some = some
+fewer-started true (p ∷ q) some = omega arith
+fewer-started false q some = some
+
 pub known-started : (set : Settings) (known : List FlowKey) (s : Start) (trace : List Event) → AreKnown set known trace → AreKnown set known (started s ∷ trace)
-known-started set known s trace h link flow some = h link flow (fewer (is_of link flow s.packet) (backlog link flow trace) some)
-  where
-    fewer : (b : Bool) (q : List Accepted) → 0 < length (cond b (drop 1 q) q) → 0 < length q
-    fewer true [] some = some
-    fewer true (p ∷ q) some = omega arith
-    fewer false q some = some
+known-started set known s trace h link flow some = h link flow (fewer-started (is_of link flow s.packet) (backlog link flow trace) some)
 
 known-settle : (set in_force : Settings) (known : List FlowKey) (most at : ℕ) (trace : List Event) → AreKnown set known trace → AreKnown set known (settle most in_force at trace)
 known-settle set in_force known zero at trace h = h
@@ -131,37 +124,39 @@ known-more set known more trace h link flow some =
 
 -- ---- Deletes
 
-still-none : (link : Link) (flow : ℕ) (command : Command) (from : ℕ) (known : List FlowKey) (trace : List Event) → backlog link flow trace ≡ [] →
-    backlog link flow (discard_reached command from known trace) ≡ []
-still-none link flow command from [] trace h = h
-still-none link flow command from (key ∷ known) trace h =
-    still-none link flow command (from + 1) known (cond (reaches command key) (discarded from ∷ trace) trace) (one (reaches command key))
-  where
-    none : (b : Bool) (q : List Accepted) → q ≡ [] → cond b [] q ≡ []
-    none true q e = refl
-    none false q e = e
+-- What a discard of a flow's queue sets to a value, a delete that reaches the flow sets to it.
+module _ {X : Type 0} (flow : ℕ) (measure : List Event → X) (value : X) (clears : (f : ℕ) (t : List Event) → measure (discarded f ∷ t) ≡ cond (nat_eq f flow) value (measure t)) where
+  still : (command : Command) (from : ℕ) (known : List FlowKey) (trace : List Event) → measure trace ≡ value → measure (discard_reached command from known trace) ≡ value
+  still command from [] trace h = h
+  still command from (key ∷ known) trace h = still command (from + 1) known (cond (reaches command key) (discarded from ∷ trace) trace) (one (reaches command key))
+    where
+      either : (b : Bool) → cond b value (measure trace) ≡ value
+      either true = refl
+      either false = h
 
-    one : (b : Bool) → backlog link flow (cond b (discarded from ∷ trace) trace) ≡ []
-    one true = none (nat_eq from flow) (backlog link flow trace) h
-    one false = h
+      one : (b : Bool) → measure (cond b (discarded from ∷ trace) trace) ≡ value
+      one true = clears from trace ∙ either (nat_eq from flow)
+      one false = h
 
-emptied : (link : Link) (flow : ℕ) (command : Command) (key : FlowKey) (before behind : List FlowKey) (from : ℕ) (trace : List Event) → length before + from ≡ flow →
-    reaches command key ≡ true → backlog link flow (discard_reached command from (before ++ key ∷ behind) trace) ≡ []
-emptied link flow command key [] behind from trace place reached =
-    still-none link flow command (from + 1) behind (cond (reaches command key) (discarded from ∷ trace) trace) (by (reaches command key) reached (nat_eq from flow) (eq-eqb from flow (omega arith)))
-  where
-    by : (b : Bool) → b ≡ true → (c : Bool) → c ≡ true → backlog link flow (cond b (discarded from ∷ trace) trace) ≡ []
-    by true is c here = ap (λ d. cond d [] (backlog link flow trace)) (eq-eqb from flow (omega arith))
-    by false is c here = absurd cc
-emptied link flow command key (k ∷ before) behind from trace place reached =
-    emptied link flow command key before behind (from + 1) (cond (reaches command k) (discarded from ∷ trace) trace) (omega arith) reached
+  cleared : (command : Command) (key : FlowKey) (before behind : List FlowKey) (from : ℕ) (trace : List Event) → length before + from ≡ flow → reaches command key ≡ true →
+      measure (discard_reached command from (before ++ key ∷ behind) trace) ≡ value
+  cleared command key [] behind from trace place reached = still command (from + 1) behind (cond (reaches command key) (discarded from ∷ trace) trace) (by (reaches command key) reached)
+    where
+      by : (b : Bool) → b ≡ true → measure (cond b (discarded from ∷ trace) trace) ≡ value
+      by true is = clears from trace ∙ ap (λ d. cond d value (measure trace)) (eq-eqb from flow (omega arith))
+      by false is = absurd cc
+  cleared command key (k ∷ before) behind from trace place reached =
+      cleared command key before behind (from + 1) (cond (reaches command k) (discarded from ∷ trace) trace) (omega arith) reached
+
+  pub reached-cleared : (command : Command) (known : List FlowKey) (trace : List Event) (key : FlowKey) → StandsAt known flow key → reaches command key ≡ true →
+      measure (discard_reached command 0 known trace) ≡ value
+  reached-cleared command known trace key at reached =
+      ap (λ (ks : List FlowKey). measure (discard_reached command 0 ks trace)) at.parts ∙ cleared command key at.before at.behind 0 trace (let p = at.place in omega arith) reached
 
 -- A delete empties the queue of each flow that it reaches.
 pub reached-emptied : (link : Link) (flow : ℕ) (command : Command) (known : List FlowKey) (trace : List Event) (key : FlowKey) → StandsAt known flow key → reaches command key ≡ true →
     backlog link flow (discard_reached command 0 known trace) ≡ []
-reached-emptied link flow command known trace key at reached =
-    ap (λ (ks : List FlowKey). backlog link flow (discard_reached command 0 ks trace)) at.parts
-        ∙ emptied link flow command key at.before at.behind 0 trace (let p = at.place in omega arith) reached
+reached-emptied link flow command known trace key at reached = reached-cleared flow (backlog link flow) [] (λ f t. refl) command known trace key at reached
 
 pub fewer-discarded : (link : Link) (flow : ℕ) (command : Command) (from : ℕ) (known : List FlowKey) (trace : List Event) →
     0 < length (backlog link flow (discard_reached command from known trace)) → 0 < length (backlog link flow trace)
@@ -235,13 +230,11 @@ module _ (calls : List Call) where
   taken-known : (target : Target) (packet : Packet) (how : Treatment) → treatment (set target) ≡ Some how →
       IsKnown set (with_key (key_of target packet.tuple how) (keys calls)) (link_of target (flow_number (keys calls) (key_of target packet.tuple how)) how.pipe) (flow_number (keys calls) (key_of target packet.tuple how))
   taken-known target packet how is =
-      let flow = flow_number (keys calls) (key_of target packet.tuple how) in
-      let f = known-flow (key_of target packet.tuple how) (keys calls) in
       record {
-        key = f.found;
-        at = f.at;
-        link_is = (λ i. link_of (f.target i) flow (f.pipe i));
-        pipe_is = ap (λ (n : ℕ). is_some (set (ToPipe n))) (sym f.pipe) ∙ pipe-there calls target how is;
+        key = key_of target packet.tuple how;
+        at = known-flow (key_of target packet.tuple how) (keys calls);
+        link_is = refl;
+        pipe_is = pipe-there calls target how is;
       }
 
   known-join : (known : List FlowKey) (at : ℕ) (p : Accepted) (trace : List Event) → IsKnown set known p.link p.stamped.flow → AreKnown set known trace →

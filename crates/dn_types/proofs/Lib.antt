@@ -1,3 +1,4 @@
+pub mod ByWeight
 pub mod CallCounts
 mod Cases
 pub mod Begun
@@ -5,10 +6,13 @@ pub mod Bounded
 pub mod BoundedCounts
 pub mod BoundedReplies
 pub mod Bridge
+pub mod ConfiguredRate
 pub mod Conserving
 pub mod Delays
 pub mod DropLaws
 pub mod Dues
+pub mod EachHead
+pub mod Elsewhere
 pub mod ExampleWords
 mod ExamplesDeletes
 mod ExamplesLinks
@@ -20,10 +24,15 @@ pub mod Firsts
 pub mod Giving
 pub mod Histories
 pub mod InForce
+pub mod InTurn
 pub mod Isolation
+pub mod Keys
 pub mod Known
+mod LawWitnesses
 pub mod Least
+pub mod Masks
 pub mod Once
+pub mod OneLink
 pub mod Ordered
 pub mod PacketCounts
 pub mod PickLaws
@@ -31,6 +40,7 @@ pub mod Picks
 pub mod Proper
 pub mod Ranges
 pub mod Rates
+pub mod Resets
 pub mod Settled
 pub mod Settling
 pub mod Shares
@@ -39,5 +49,7 @@ mod ShortListsWf2q
 pub mod StartLaws
 pub mod Steady
 pub mod Step
+pub mod Sums
+pub mod Timely
 pub mod TransmissionTime
 mod Witnesses

@@ -133,7 +133,7 @@ module _ (n : ℕ) where
   waiting-below link flow (discarded f ∷ trace) h few = clear-below (nat_eq f flow) (backlog link flow trace) (waiting-below link flow trace h (same-count (discarded f) trace refl few))
   waiting-below link flow (collected at ∷ trace) h few = waiting-below link flow trace h (same-count (collected at) trace refl few)
 
-  start-below : (s : Start) (trace : List Event) → IsProper (started s ∷ trace) → accepted_count (started s ∷ trace) ≤ n → s.packet.packet < n
+  pub start-below : (s : Start) (trace : List Event) → IsProper (started s ∷ trace) → accepted_count (started s ∷ trace) ≤ n → s.packet.packet < n
   start-below s trace h few =
       let q = backlog s.packet.link s.packet.stamped.flow trace in
       first-all IsBelow s.packet q h.0 (waiting-below s.packet.link s.packet.stamped.flow trace h.2 (same-count (started s) trace refl few))

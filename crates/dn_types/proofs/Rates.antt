@@ -13,7 +13,7 @@ use Rattle.dn_types.proofs.Settled.{link_eq-true, link_eq-refl}
 use Rattle.dn_types.proofs.TransmissionTime.{transmission-is-least}
 
 -- A link is free later and later.
-free-later : (link : Link) (stretch earlier : List Event) → IsProper (stretch ++ earlier) → free link earlier ≤ free link (stretch ++ earlier)
+pub free-later : (link : Link) (stretch earlier : List Event) → IsProper (stretch ++ earlier) → free link earlier ≤ free link (stretch ++ earlier)
 free-later link [] earlier h = omega arith
 free-later link (opened l ∷ stretch) earlier h = free-later link stretch earlier h
 free-later link (arrived p ∷ stretch) earlier h = free-later link stretch earlier h.1
@@ -31,7 +31,7 @@ free-later link (collected at ∷ stretch) earlier h = free-later link stretch e
 free-after : (r : Start) (earlier : List Event) → free r.packet.link (started r ∷ earlier) ≡ r.moment + r.transmission
 free-after r earlier = ap {B = ℕ} (λ b. cond b (r.moment + r.transmission) (free r.packet.link earlier)) (link_eq-refl r.packet.link)
 
-shape : (later between : List Event) (e : Event) (earlier : List Event) → (later ++ e ∷ between) ++ earlier ≡ later ++ (e ∷ (between ++ earlier))
+pub shape : (later between : List Event) (e : Event) (earlier : List Event) → (later ++ e ∷ between) ++ earlier ≡ later ++ (e ∷ (between ++ earlier))
 shape [] between e earlier = refl
 shape (x ∷ later) between e earlier = ap (λ (r : List Event). x ∷ r) (shape later between e earlier)
 

@@ -23,7 +23,7 @@ link_eq-true (shared a) (shared b) e = ap shared (eqb-true a b e)
 link_eq-true (own a f) (shared b) e = absurd cc
 link_eq-true (shared a) (own b g) e = absurd cc
 
-both : (a b : Bool) → a ≡ true → b ≡ true → (a && b) ≡ true
+pub both : (a b : Bool) → a ≡ true → b ≡ true → (a && b) ≡ true
 both true b e f = f
 both false b e f = absurd cc
 

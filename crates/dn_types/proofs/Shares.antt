@@ -96,7 +96,7 @@ pub grows-by-work : (link : Link) (trace : List Event) (s : Start) → s.packet.
     let to = virtual_time link (started s ∷ trace) in
     0 < sum (map (λ h. h.weight) hs) →
     (to * sum (map (λ h. h.weight) hs) ≤ from * sum (map (λ h. h.weight) hs) + s.packet.stamped.len * 65536)
-        × (from * sum (map (λ h. h.weight) hs) + s.packet.stamped.len * 65536 < (to + 1) * sum (map (λ h. h.weight) hs))
+    × (from * sum (map (λ h. h.weight) hs) + s.packet.stamped.len * 65536 < (to + 1) * sum (map (λ h. h.weight) hs))
 grows-by-work link trace s same =
     by (virtual_time link (started s ∷ trace)) (raised (virtual_time link trace) (link_heads link trace)) (sum (map (λ h. h.weight) (link_heads link trace))) (s.packet.stamped.len * 65536) to
   where
@@ -135,7 +135,7 @@ tagged link packet flow how before = record {
 
 pub tags-by-weight : (calls : List Call) (target : Target) (packet : Packet) (moment : ℕ) (later between : List Event) (p : Accepted) (number pipe weight : ℕ) (limit : Limit) (loss : ℕ) (buckets : Option ℕ) (mask : Mask) →
     trace_of (Submit target packet moment ∷ calls) ≡ later ++ arrived p ∷ between ++ trace_of calls → settings calls target ≡ Some (Queue number pipe weight limit loss buckets mask) →
-        IsTagged packet.len weight (between ++ trace_of calls) p
+    IsTagged packet.len weight (between ++ trace_of calls) p
 tags-by-weight calls target packet moment later between p number pipe weight limit loss buckets mask e set =
     let taken = adds-among (IsCaused calls (Submit target packet moment)) (trace_of calls) (trace_of (Submit target packet moment ∷ calls)) later between (arrived p) (call-causes calls (Submit target packet moment)) e in
     let how : Treatment = taken.0 in

@@ -1,5 +1,5 @@
 -- When a packet starts, which one, and with what bandwidth and delay.
-use Rattle.std.proofs.Common.{◌≡◌, ◌∙◌, ◌⊎◌, ℕ, List, ◌∷◌, ◌++◌, refl, ap, sym, subst, true, false}
+use Rattle.std.proofs.Common.{◌≡◌, ◌∙◌, ◌⊎◌, ⊎_elim, inl, inr, ℕ, List, ◌∷◌, ◌++◌, refl, ap, sym, subst, true, false}
 use Rattle.std.specs.Prelude.{Option, Some, None, is_some}
 use Rattle.dn_types.specs.Calls.{trace_of}
 use Rattle.dn_types.specs.Clock.{effective_moment}
@@ -22,7 +22,7 @@ module _ (calls : List Call) (c : Call) (later between : List Event) (s : Start)
 
   pub starts-at-once : (s.moment ≡ free s.packet.link (between ++ trace_of calls)) ⊎ ((s.moment ≡ effective_moment (c ∷ calls)) × ((before : List Event)
       × (between ≡ arrived s.packet ∷ before)))
-  starts-at-once = begun.when
+  starts-at-once = ⊎_elim (λ free_then. inl free_then.0) (λ on_arrival. inr on_arrival) begun.when
 
   pub starts-the-next : next_packet s.packet.link (between ++ trace_of calls) ≡ Some s.packet
   starts-the-next = begun.picked

@@ -1,7 +1,7 @@
 -- In the trace of calls each busy period begins with no packet waiting, each packet is tagged behind its flow's last, and
 -- each start is of its link's next packet.
-use Rattle.std.proofs.Common.{◌≡◌, ◌∙◌, ◌≤◌, ◌<◌, ⊎_elim, ℕ, ◌+◌, Bool, true, false, cond, List, [], ◌∷◌, ◌++◌, refl, ap, sym, subst, length, drop, arith}
-use Rattle.std.specs.Prelude.{Some, nat_eq, ⊤}
+use Rattle.std.proofs.Common.{◌≡◌, ◌∙◌, ◌≤◌, ◌<◌, ⊎_elim, ℕ, ◌+◌, ◌*◌, Bool, true, false, cond, List, [], ◌∷◌, ◌++◌, refl, ap, sym, subst, length, drop, arith}
+use Rattle.std.specs.Prelude.{◌/◌, Some, nat_eq, ⊤}
 use Rattle.std.specs.List.{All}
 use Rattle.std.proofs.lemmas.List.Elements.{All-push, All-drop}
 use Rattle.std.proofs.lemmas.Bool.{eqb-true}
@@ -22,6 +22,7 @@ use Rattle.dn_types.proofs.Shares.{tagged}
 abbrev pub IsSound : Event → List Event → Type 0
 IsSound (opened l) t = waiting l t ≡ 0
 IsSound (arrived p) t = (0 < length (backlog p.link p.stamped.flow t) → p.stamped.start_tag ≡ last_finish_tag p.link p.stamped.flow t) × (p.stamped.start_tag ≤ p.stamped.finish_tag)
+    × (p.stamped.finish_tag ≡ p.stamped.start_tag + p.stamped.len * 65536 / p.stamped.weight)
 IsSound (started s) t = next_packet s.packet.link t ≡ Some s.packet
 IsSound _ t = ⊤
 
@@ -34,7 +35,7 @@ sound-taken calls (Submit target packet moment) p f h =
     let how : Treatment = h.0 in
     let flow = flow_number (keys calls) (key_of target packet.tuple how) in
     let t = tagged (link_of target flow how.pipe) packet flow how (f ++ trace_of calls) in
-    subst (λ (x : Accepted). IsSound (arrived x) (f ++ trace_of calls)) (sym h.2) (t.behind, let cost = t.cost in omega arith)
+    subst (λ (x : Accepted). IsSound (arrived x) (f ++ trace_of calls)) (sym h.2) (t.behind, (let cost = t.cost in omega arith), t.cost)
 sound-taken calls (Configure command) p f h = absurd h
 sound-taken calls (Advance moment) p f h = absurd h
 sound-taken calls (Collect moment) p f h = absurd h
@@ -98,7 +99,7 @@ module _ (link : Link) (flow : ℕ) where
           let l = link_eq-true p.link link (and-left _ (nat_eq p.stamped.flow flow) e) in
           let f = eqb-true p.stamped.flow flow (and-right (link_eq p.link link) (nat_eq p.stamped.flow flow) e) in
           chain-push (backlog link flow t) (last_finish_tag link flow t) p rest (λ some. (h.0.0 (subst (λ (q : List Accepted). 0 < length q) (sym (λ i. backlog (l i) (f i) t)) some))
-              ∙ (λ i. last_finish_tag (l i) (f i) t))
+          ∙ (λ i. last_finish_tag (l i) (f i) t))
       by false e rest = rest
   chain (started s ∷ t) h = by (is_of link flow s.packet) (chain t h.1)
     where

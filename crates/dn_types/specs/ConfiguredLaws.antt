@@ -1,5 +1,5 @@
 -- The laws of what a user configures: loss, limit, bandwidth and delay explain what becomes of a packet.
-use Rattle.std.specs.Prelude.{ℕ, ◌≡◌, ◌≢◌, ◌≤◌, ◌<◌, ◌+◌, ◌*◌, ◌%◌, ◌^◌, List, [], ◌∷◌, ◌++◌, ◌⊎◌, map, length, Some, None}
+use Rattle.std.specs.Prelude.{ℕ, ◌≡◌, ◌≢◌, ◌≤◌, ◌<◌, ◌+◌, ◌*◌, ◌%◌, ◌^◌, List, [], ◌∷◌, ◌++◌, ◌⊎◌, map, length, Option, Some, None, is_some, true}
 use Rattle.std.specs.List.{All}
 use Rattle.dn_types.specs.Calls.{trace_of, link_of}
 use Rattle.dn_types.specs.Clock.{call_limit, effective_moment}
@@ -13,19 +13,29 @@ use Rattle.dn_types.specs.Trace.{Start, Event, arrived, started, backlog, pipe_o
 use Rattle.dn_types.specs.declared.call.Call.{Call}
 use Rattle.dn_types.specs.declared.call.Call.TheVariants.{Configure, Submit, Advance}
 use Rattle.dn_types.specs.declared.command.Command.{Command}
+use Rattle.dn_types.specs.declared.command.Command.TheVariants.{Queue}
 use Rattle.dn_types.specs.declared.limit.Limit.{Limit}
+use Rattle.dn_types.specs.declared.mask.Mask.{Mask}
 use Rattle.dn_types.specs.declared.packet.Packet.{Packet}
 use Rattle.dn_types.specs.declared.reply.Reply.TheVariants.{Configured, Deleted, NoTarget}
 use Rattle.dn_types.specs.declared.rule.Rule.{Rule}
 use Rattle.dn_types.specs.declared.target.Target.{Target}
 use Rattle.dn_types.specs.declared.target.Target.TheVariants.{Pipe as ToPipe}
 
--- An accepted command is what is in force for its subject, and nothing once that is deleted. It counts for no other.
+-- An accepted command is what is in force for its subject, nothing is once that is deleted, and a refused one changes
+-- nothing. It counts for no other.
 abbrev pub CommandsCount : Type 0
 CommandsCount = (calls : List Call) (command : Command) →
     (reply_to_command calls command ≡ Configured → settings (Configure command ∷ calls) (subject command) ≡ Some command)
     × (reply_to_command calls command ≡ Deleted → settings (Configure command ∷ calls) (subject command) ≡ None)
+    × (reply_to_command calls command ≢ Configured → reply_to_command calls command ≢ Deleted →
+        settings (Configure command ∷ calls) (subject command) ≡ settings calls (subject command))
     × ((target : Target) → target ≢ subject command → settings (Configure command ∷ calls) target ≡ settings calls target)
+
+-- The pipe of a configured queue is configured.
+abbrev pub QueuesHavePipes : Type 0
+QueuesHavePipes = (calls : List Call) (target : Target) (number pipe weight : ℕ) (limit : Limit) (loss : ℕ) (buckets : Option ℕ) (mask : Mask) →
+    settings calls target ≡ Some (Queue number pipe weight limit loss buckets mask) → is_some (settings calls (ToPipe pipe)) ≡ true
 
 -- A packet to a configured target is lost exactly where the low 31 bits of its word are below the loss rate in force, and
 -- refused exactly where it isn't lost and its flow's queue is at the limit in force, by what waits at its moment.
@@ -44,7 +54,7 @@ abbrev pub StartsAtOnce : Type 0
 StartsAtOnce = (calls : List Call) (c : Call) (later between : List Event) (s : Start) →
     trace_of (c ∷ calls) ≡ later ++ started s ∷ between ++ trace_of calls →
     (s.moment ≡ free s.packet.link (between ++ trace_of calls)) ⊎ ((s.moment ≡ effective_moment (c ∷ calls)) × ((before : List Event)
-        × (between ≡ arrived s.packet ∷ before)))
+    × (between ≡ arrived s.packet ∷ before)))
 
 -- While a packet waits, its link is busy beyond the clock.
 abbrev pub IsNeverIdle : Type 0

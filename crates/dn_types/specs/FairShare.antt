@@ -30,6 +30,6 @@ abbrev pub SharesFairly : Type 0
 SharesFairly = (calls : List Call) (pipe one other most_one most_other : ℕ) (later stretch earlier : List Event) (r : Start) →
     trace_of calls ≡ later ++ (stretch ++ (started r ∷ earlier)) →
     is_of (shared pipe) one r.packet ≡ true → WaitsThroughout (shared pipe) one (stretch ++ (started r ∷ [])) earlier →
-        WaitsThroughout (shared pipe) other (stretch ++ (started r ∷ [])) earlier →
+    WaitsThroughout (shared pipe) other (stretch ++ (started r ∷ [])) earlier →
     CostsAtMost most_one (shared pipe) one (trace_of calls) → CostsAtMost most_other (shared pipe) other (trace_of calls) →
     share (shared pipe) other (stretch ++ (started r ∷ [])) ≤ share (shared pipe) one (stretch ++ (started r ∷ [])) + most_other + most_other + most_one

@@ -17,6 +17,7 @@ use Rattle.dn_types.specs.Wf2q.{Stamped, pick, raised, is_eligible, goes_before}
 use Rattle.dn_types.specs.declared.call.Call.{Call}
 use Rattle.dn_types.specs.declared.call.Call.TheVariants.{Collect}
 use Rattle.dn_types.specs.declared.entry.Entry.{Entry}
+use Rattle.dn_types.specs.declared.reply.Reply.TheVariants.{Exhausted}
 use Rattle.dn_types.specs.declared.rule.Rule.{Rule}
 use Rattle.dn_types.specs.declared.rule.Rule.TheVariants.{Ordered}
 
@@ -88,6 +89,10 @@ OwnEntriesGrow = (caller : ℕ) (history : List Entry) (e : Entry) → own_entri
 -- A call counts exactly where fewer calls than the limit were made before it.
 abbrev pub CountsUpToTheLimit : Type 0
 CountsUpToTheLimit = (c : Call) (calls : List Call) → counted (c ∷ calls) ≡ cond (nat_le call_limit (length calls)) (counted calls) (c ∷ calls)
+
+-- A call after as many as the limit is answered Exhausted and changes nothing.
+abbrev pub ExhaustedChangesNothing : Type 0
+ExhaustedChangesNothing = (rule : Rule) (calls : List Call) (c : Call) → call_limit ≤ length calls → (reply rule calls c ≡ Exhausted) × (standing rule (c ∷ calls) ≡ standing rule calls)
 
 -- Replies rest on the standing alone: where two lists of calls leave the emulator the same, one call more gets the same
 -- reply after both, and leaves it the same again.

@@ -1,4 +1,5 @@
 pub mod Bounds
+pub mod ByteShares
 pub mod Calls
 pub mod Clock
 pub mod Configuration
@@ -7,15 +8,20 @@ pub mod Deliveries
 pub mod Drops
 pub mod Explained
 pub mod FairShare
+pub mod FlowLaws
 pub mod Flows
 pub mod Given
 pub mod History
 pub mod Laws
 pub mod Links
+pub mod OtherPipes
+pub mod RateLaws
 pub mod Replies
+pub mod ResetLaws
 pub mod SharedLinks
 pub mod SharingLaws
 pub mod Standing
 pub mod Starts
+pub mod TimeLaws
 pub mod Trace
 pub mod Wf2q

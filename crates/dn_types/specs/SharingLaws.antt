@@ -28,7 +28,7 @@ use Rattle.dn_types.specs.declared.target.Target.TheVariants.{Queue as ToQueue}
 abbrev pub TagsByWeight : Type 0
 TagsByWeight = (calls : List Call) (target : Target) (packet : Packet) (moment : ℕ) (later between : List Event) (p : Accepted) (number pipe weight : ℕ) (limit : Limit) (loss : ℕ) (buckets : Option ℕ) (mask : Mask) →
     trace_of (Submit target packet moment ∷ calls) ≡ later ++ arrived p ∷ between ++ trace_of calls →
-        settings calls target ≡ Some (Queue number pipe weight limit loss buckets mask) → IsTagged packet.len weight (between ++ trace_of calls) p
+    settings calls target ≡ Some (Queue number pipe weight limit loss buckets mask) → IsTagged packet.len weight (between ++ trace_of calls) p
 
 -- No packet starts in whose favour another flow is passed over by more than a packet: the pick's start tag is at most the
 -- finish tag of each head.
@@ -55,7 +55,7 @@ GrowsByWork = (link : Link) (trace : List Event) (s : Start) → s.packet.link �
     let to = virtual_time link (started s ∷ trace) in
     0 < sum (map (λ h. h.weight) hs) →
     (to * sum (map (λ h. h.weight) hs) ≤ from * sum (map (λ h. h.weight) hs) + s.packet.stamped.len * 65536)
-        × (from * sum (map (λ h. h.weight) hs) + s.packet.stamped.len * 65536 < (to + 1) * sum (map (λ h. h.weight) hs))
+    × (from * sum (map (λ h. h.weight) hs) + s.packet.stamped.len * 65536 < (to + 1) * sum (map (λ h. h.weight) hs))
 
 -- After the delete of a pipe no packet waits for any of its links, so none of those that waited ever starts.
 abbrev pub PipeDeleteEmpties : Type 0
@@ -83,9 +83,9 @@ PipeDeleteSpares = (calls : List Call) (number : ℕ) (link : Link) (before behi
 abbrev pub CommandsMoveNothing : Type 0
 CommandsMoveNothing = (rule : Rule) (calls : List Call) (command : Command) (link : Link) →
     (free link (trace_of (Configure command ∷ calls)) ≡ free link (trace_of calls))
-        × (last_due rule link (trace_of (Configure command ∷ calls)) ≡ last_due rule link (trace_of calls))
+    × (last_due rule link (trace_of (Configure command ∷ calls)) ≡ last_due rule link (trace_of calls))
     × (virtual_time link (trace_of (Configure command ∷ calls)) ≡ virtual_time link (trace_of calls))
-        × (undelivered rule (trace_of (Configure command ∷ calls)) ≡ undelivered rule (trace_of calls))
+    × (undelivered rule (trace_of (Configure command ∷ calls)) ≡ undelivered rule (trace_of calls))
 
 -- A packet changes nothing on the links of other pipes, against a call at its moment that has none.
 abbrev pub PacketsKeepApart : Type 0
@@ -93,4 +93,4 @@ PacketsKeepApart = (rule : Rule) (calls : List Call) (target : Target) (packet :
     let with_it = trace_of (Submit target packet moment ∷ calls) in
     let without = trace_of (Advance moment ∷ calls) in
     ((flow : ℕ) → backlog link flow with_it ≡ backlog link flow without) × (free link with_it ≡ free link without)
-        × (last_due rule link with_it ≡ last_due rule link without) × (virtual_time link with_it ≡ virtual_time link without)
+    × (last_due rule link with_it ≡ last_due rule link without) × (virtual_time link with_it ≡ virtual_time link without)

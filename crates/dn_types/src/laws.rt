@@ -2,6 +2,7 @@
 //! check proves.
 
 ghost use Rattle.dn_types.specs.Bounds.{IsInRange};
+ghost use Rattle.dn_types.specs.ByteShares.{SharesByWeight};
 ghost use Rattle.dn_types.specs.ConfiguredLaws.{
   CommandsCount,
   DelaysAreExplained,
@@ -9,6 +10,7 @@ ghost use Rattle.dn_types.specs.ConfiguredLaws.{
   IsNeverIdle,
   KeepsTheRate,
   NoneUnconfigured,
+  QueuesHavePipes,
   StartsApart,
   StartsAsConfigured,
   StartsAtOnce,
@@ -21,6 +23,7 @@ ghost use Rattle.dn_types.specs.Laws.{
   DueIsLast,
   DueMomentsAreBounded,
   DueMomentsNeverFall,
+  ExhaustedChangesNothing,
   GivesOnce,
   GivesStarted,
   GivesWhatIsDue,
@@ -38,6 +41,15 @@ ghost use Rattle.dn_types.specs.Laws.{
   TransmissionIsLeast,
 };
 ghost use Rattle.dn_types.specs.FairShare.{SharesFairly};
+ghost use Rattle.dn_types.specs.FlowLaws.{FlowsAreByMask, FlowsHaveTheirKeys, FlowsStay};
+ghost use Rattle.dn_types.specs.OtherPipes.{OtherPipesChangeNothing};
+ghost use Rattle.dn_types.specs.RateLaws.{KeepsTheConfiguredRate};
+ghost use Rattle.dn_types.specs.ResetLaws.{
+  DroppedChangesNothing,
+  PipeDeleteResets,
+  QueueDeleteResets,
+  TagsBeginAfresh,
+};
 ghost use Rattle.dn_types.specs.SharingLaws.{
   CommandsMoveNothing,
   GrowsByWork,
@@ -50,6 +62,13 @@ ghost use Rattle.dn_types.specs.SharingLaws.{
   QueueDeleteSpares,
   RaisesToTheLeast,
   TagsByWeight,
+};
+ghost use Rattle.dn_types.specs.TimeLaws.{
+  DelaysAddUp,
+  GivesInOrder,
+  NoneStartsEarly,
+  StartsInTime,
+  UnlimitedTakesNoTime,
 };
 
 use crate::call::Call;
@@ -88,12 +107,13 @@ pub fn laws_of_collecting()
     ensures none_left { LeavesWhatIsNotDue }
 {}
 
-/// The replies of a lawful history are those to its calls, of which the first 2^62 count, and each
-/// of its entries is one caller's own. A reply rests on where the calls before it left the
-/// emulator, and on nothing else of their past.
+/// The replies of a lawful history are those to its calls, of which the first 2^62 count and the
+/// others change nothing, and each of its entries is one caller's own. A reply rests on where the
+/// calls before it left the emulator, and on nothing else of their past.
 pub fn laws_of_histories()
     ensures replies { LawfulReplies }
     ensures counts { CountsUpToTheLimit }
+    ensures exhausted { ExhaustedChangesNothing }
     ensures own { OwnEntriesGrow }
     ensures standing { RepliesByStanding }
 {}
@@ -127,7 +147,36 @@ pub fn laws_of_links()
     ensures configured { StartsAsConfigured }
     ensures apart { StartsApart }
     ensures rate { KeepsTheRate }
+    ensures configured_rate { KeepsTheConfiguredRate }
     ensures delay { DelaysAreExplained }
+{}
+
+/// A packet starts while a call is answered, at a moment between the clocks before and after it, and
+/// never before it was accepted. From then to its due moment it takes its wait, its transmission,
+/// its delay and what the packet before it lacks, and nothing else. A Collect gives its packets by
+/// due moment, and where two are equal by packet number.
+pub fn laws_of_time()
+    ensures in_time { StartsInTime }
+    ensures not_early { NoneStartsEarly }
+    ensures unlimited { UnlimitedTakesNoTime }
+    ensures sum { DelaysAddUp }
+    ensures in_order { GivesInOrder }
+{}
+
+/// A busy period begins with tags of 0, a delete forgets the tags of its flows, and a packet that
+/// is lost, refused or without a target changes no queue.
+pub fn laws_of_resets()
+    ensures afresh { TagsBeginAfresh }
+    ensures queue_delete { QueueDeleteResets }
+    ensures pipe_delete { PipeDeleteResets }
+    ensures dropped { DroppedChangesNothing }
+{}
+
+/// A mask says which packets to a target are of one flow: those that agree in every bit of it.
+pub fn laws_of_flows()
+    ensures keys { FlowsHaveTheirKeys }
+    ensures stay { FlowsStay }
+    ensures masks { FlowsAreByMask }
 {}
 
 /// The flows of a shared link share it by their weights.
@@ -138,10 +187,12 @@ pub fn laws_of_shares()
     ensures raised { RaisesToTheLeast }
     ensures grows { GrowsByWork }
     ensures stretch { SharesFairly }
+    ensures bytes { SharesByWeight }
 {}
 
 /// A delete empties the queues that it reaches and moves nothing that has started, and a packet
-/// changes nothing on the links of other pipes.
+/// changes nothing on the links of other pipes: whatever happens there, the links of a pipe stand
+/// as the clock alone leaves them.
 pub fn laws_of_isolation()
     ensures pipe_delete { PipeDeleteEmpties }
     ensures queue_delete { QueueDeleteEmpties }
@@ -149,5 +200,7 @@ pub fn laws_of_isolation()
     ensures pipe_spares { PipeDeleteSpares }
     ensures commands { CommandsMoveNothing }
     ensures commands_count { CommandsCount }
+    ensures queues { QueuesHavePipes }
     ensures packets { PacketsKeepApart }
+    ensures other_pipes { OtherPipesChangeNothing }
 {}

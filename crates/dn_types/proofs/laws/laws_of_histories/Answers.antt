@@ -1,5 +1,5 @@
 -- Each law is a lemma over the definitions.
-use Rattle.dn_types.proofs.Bridge.{replies-by-standing}
+use Rattle.dn_types.proofs.Bridge.{exhausted-changes-nothing, replies-by-standing}
 use Rattle.dn_types.proofs.Histories.{lawful-replies, own-entries-grow, counts-up-to-the-limit}
 use Rattle.dn_types.proofs.laws.laws_of_histories.Goals as goal
 
@@ -11,6 +11,9 @@ returns-clause-own c = own-entries-grow
 
 pub returns-clause-counts : goal.returns-clause-counts
 returns-clause-counts c = counts-up-to-the-limit
+
+pub returns-clause-exhausted : goal.returns-clause-exhausted
+returns-clause-exhausted c = exhausted-changes-nothing
 
 pub returns-clause-standing : goal.returns-clause-standing
 returns-clause-standing c = replies-by-standing

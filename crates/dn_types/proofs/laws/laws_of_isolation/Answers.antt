@@ -1,5 +1,6 @@
 -- Each law is a lemma over the definitions.
-use Rattle.dn_types.proofs.Isolation.{pipe-delete-empties, queue-delete-empties, queue-delete-spares, pipe-delete-spares, commands-move-nothing, commands-count, packets-keep-apart}
+use Rattle.dn_types.proofs.Elsewhere.{other-pipes-change-nothing}
+use Rattle.dn_types.proofs.Isolation.{pipe-delete-empties, queue-delete-empties, queue-delete-spares, pipe-delete-spares, commands-move-nothing, commands-count, packets-keep-apart, queues-have-pipes}
 use Rattle.dn_types.proofs.laws.laws_of_isolation.Goals as goal
 
 pub returns-clause-pipe_delete : goal.returns-clause-pipe_delete
@@ -22,3 +23,9 @@ returns-clause-queue_spares c = queue-delete-spares
 
 pub returns-clause-pipe_spares : goal.returns-clause-pipe_spares
 returns-clause-pipe_spares c = pipe-delete-spares
+
+pub returns-clause-queues : goal.returns-clause-queues
+returns-clause-queues c = queues-have-pipes
+
+pub returns-clause-other_pipes : goal.returns-clause-other_pipes
+returns-clause-other_pipes c = other-pipes-change-nothing

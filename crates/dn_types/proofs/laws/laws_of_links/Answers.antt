@@ -1,4 +1,5 @@
 -- Each law is a lemma over the definitions.
+use Rattle.dn_types.proofs.ConfiguredRate.{keeps-the-configured-rate}
 use Rattle.dn_types.proofs.Conserving.{conserves-work}
 use Rattle.dn_types.proofs.Delays.{delays-are-explained}
 use Rattle.dn_types.proofs.Rates.{starts-apart, keeps-the-rate}
@@ -25,3 +26,6 @@ returns-clause-rate c = keeps-the-rate
 
 pub returns-clause-delay : goal.returns-clause-delay
 returns-clause-delay c = delays-are-explained
+
+pub returns-clause-configured_rate : goal.returns-clause-configured_rate
+returns-clause-configured_rate c = keeps-the-configured-rate

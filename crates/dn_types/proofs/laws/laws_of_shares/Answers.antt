@@ -1,4 +1,5 @@
 -- Each law is a lemma over the definitions.
+use Rattle.dn_types.proofs.ByWeight.{shares-by-weight}
 use Rattle.dn_types.proofs.Fair.{shares-fairly}
 use Rattle.dn_types.proofs.Shares.{tags-by-weight, pick-is-fair, pick-is-least, raises-to-the-least, grows-by-work}
 use Rattle.dn_types.proofs.laws.laws_of_shares.Goals as goal
@@ -20,3 +21,6 @@ returns-clause-stretch c = shares-fairly
 
 pub returns-clause-least : goal.returns-clause-least
 returns-clause-least c = pick-is-least
+
+pub returns-clause-bytes : goal.returns-clause-bytes
+returns-clause-bytes c = shares-by-weight

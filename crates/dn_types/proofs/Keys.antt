@@ -1,0 +1,161 @@
+-- The keys of flows are told apart, so that each stands in one place.
+use Rattle.std.proofs.Common.{◌≡◌, ◌∙◌, ⊎_elim, ℕ, zero, suc, Bool, true, false, cond, ◌&&◌, ◌||◌, List, [], ◌∷◌, ◌++◌, refl, ap, sym, arith}
+use Rattle.std.specs.Prelude.{Option, Some, None, nat_eq, slice_get, ⊤}
+use Rattle.std.specs.List.{list_any}
+use Rattle.std.proofs.lemmas.Bool.{eqb-true, eq-eqb}
+use Rattle.std.proofs.lemmas.Option.{slice_get_within}
+use Rattle.dn_types.specs.Configuration.{settings, target_eq}
+use Rattle.dn_types.specs.Flows.{Treatment, treatment, tuple_eq, mask_eq, key_eq, key_of, with_key, keys_with, keys}
+use Rattle.dn_types.specs.declared.call.Call.{Call}
+use Rattle.dn_types.specs.declared.call.Call.TheVariants.{Configure, Submit, Advance, Collect, Show}
+use Rattle.dn_types.specs.declared.five_tuple.FiveTuple.{FiveTuple}
+use Rattle.dn_types.specs.declared.flow_key.FlowKey.{FlowKey}
+use Rattle.dn_types.specs.declared.mask.Mask.{Mask}
+use Rattle.dn_types.specs.declared.target.Target.{Target}
+use Rattle.dn_types.specs.declared.target.Target.TheVariants.{Pipe as ToPipe, Queue as ToQueue}
+use Rattle.dn_types.proofs.InForce.{target_eq-true}
+use Rattle.dn_types.proofs.Settled.{and-left, both, true_or_false}
+use Rattle.dn_types.proofs.Settling.{and-right}
+
+-- ---- Equal keys
+
+tuple_eq-true : (a b : FiveTuple) → tuple_eq a b ≡ true → a ≡ b
+tuple_eq-true a b e =
+    let four = and-left (nat_eq a.src b.src && nat_eq a.dst b.dst && nat_eq a.proto b.proto && nat_eq a.sport b.sport) (nat_eq a.dport b.dport) e in
+    let three = and-left (nat_eq a.src b.src && nat_eq a.dst b.dst && nat_eq a.proto b.proto) (nat_eq a.sport b.sport) four in
+    let two = and-left (nat_eq a.src b.src && nat_eq a.dst b.dst) (nat_eq a.proto b.proto) three in
+    let src = eqb-true a.src b.src (and-left (nat_eq a.src b.src) (nat_eq a.dst b.dst) two) in
+    let dst = eqb-true a.dst b.dst (and-right (nat_eq a.src b.src) (nat_eq a.dst b.dst) two) in
+    let proto = eqb-true a.proto b.proto (and-right (nat_eq a.src b.src && nat_eq a.dst b.dst) (nat_eq a.proto b.proto) three) in
+    let sport = eqb-true a.sport b.sport (and-right (nat_eq a.src b.src && nat_eq a.dst b.dst && nat_eq a.proto b.proto) (nat_eq a.sport b.sport) four) in
+    let dport = eqb-true a.dport b.dport (and-right (nat_eq a.src b.src && nat_eq a.dst b.dst && nat_eq a.proto b.proto && nat_eq a.sport b.sport) (nat_eq a.dport b.dport) e) in
+    (λ i. record { src = src i; dst = dst i; proto = proto i; sport = sport i; dport = dport i })
+
+mask_eq-true : (a b : Mask) → mask_eq a b ≡ true → a ≡ b
+mask_eq-true a b e =
+    let four = and-left (nat_eq a.src b.src && nat_eq a.dst b.dst && nat_eq a.proto b.proto && nat_eq a.sport b.sport) (nat_eq a.dport b.dport) e in
+    let three = and-left (nat_eq a.src b.src && nat_eq a.dst b.dst && nat_eq a.proto b.proto) (nat_eq a.sport b.sport) four in
+    let two = and-left (nat_eq a.src b.src && nat_eq a.dst b.dst) (nat_eq a.proto b.proto) three in
+    let src = eqb-true a.src b.src (and-left (nat_eq a.src b.src) (nat_eq a.dst b.dst) two) in
+    let dst = eqb-true a.dst b.dst (and-right (nat_eq a.src b.src) (nat_eq a.dst b.dst) two) in
+    let proto = eqb-true a.proto b.proto (and-right (nat_eq a.src b.src && nat_eq a.dst b.dst) (nat_eq a.proto b.proto) three) in
+    let sport = eqb-true a.sport b.sport (and-right (nat_eq a.src b.src && nat_eq a.dst b.dst && nat_eq a.proto b.proto) (nat_eq a.sport b.sport) four) in
+    let dport = eqb-true a.dport b.dport (and-right (nat_eq a.src b.src && nat_eq a.dst b.dst && nat_eq a.proto b.proto && nat_eq a.sport b.sport) (nat_eq a.dport b.dport) e) in
+    (λ i. record { src = src i; dst = dst i; proto = proto i; sport = sport i; dport = dport i })
+
+pub key_eq-true : (a b : FlowKey) → key_eq a b ≡ true → a ≡ b
+key_eq-true a b e =
+    let three = and-left (target_eq a.target b.target && nat_eq a.pipe b.pipe && mask_eq a.mask b.mask) (tuple_eq a.tuple b.tuple) e in
+    let two = and-left (target_eq a.target b.target && nat_eq a.pipe b.pipe) (mask_eq a.mask b.mask) three in
+    let target = target_eq-true a.target b.target (and-left (target_eq a.target b.target) (nat_eq a.pipe b.pipe) two) in
+    let pipe = eqb-true a.pipe b.pipe (and-right (target_eq a.target b.target) (nat_eq a.pipe b.pipe) two) in
+    let mask = mask_eq-true a.mask b.mask (and-right (target_eq a.target b.target && nat_eq a.pipe b.pipe) (mask_eq a.mask b.mask) three) in
+    let tuple = tuple_eq-true a.tuple b.tuple (and-right (target_eq a.target b.target && nat_eq a.pipe b.pipe && mask_eq a.mask b.mask) (tuple_eq a.tuple b.tuple) e) in
+    (λ i. record { target = target i; pipe = pipe i; mask = mask i; tuple = tuple i })
+
+same : (n : ℕ) → nat_eq n n ≡ true
+same n = eq-eqb n n refl
+
+pub target_eq-refl : (t : Target) → target_eq t t ≡ true
+target_eq-refl (ToPipe n) = same n
+target_eq-refl (ToQueue n) = same n
+
+five : (a b c d e : ℕ) → (nat_eq a a && nat_eq b b && nat_eq c c && nat_eq d d && nat_eq e e) ≡ true
+five a b c d e = both _ _ (both _ _ (both _ _ (both _ _ (same a) (same b)) (same c)) (same d)) (same e)
+
+key_eq-refl : (k : FlowKey) → key_eq k k ≡ true
+key_eq-refl k =
+    both _ _ (both _ _ (both _ _ (target_eq-refl k.target) (same k.pipe)) (five k.mask.src k.mask.dst k.mask.proto k.mask.sport k.mask.dport))
+    (five k.tuple.src k.tuple.dst k.tuple.proto k.tuple.sport k.tuple.dport)
+
+-- ---- Each key stands once
+
+abbrev AreApart : List FlowKey → Type 0
+AreApart [] = ⊤
+AreApart (k ∷ known) = (list_any (key_eq k) known ≡ false) × AreApart known
+
+any-push : (k key : FlowKey) (known : List FlowKey) → list_any (key_eq k) known ≡ false → key_eq k key ≡ false → list_any (key_eq k) (known ++ key ∷ []) ≡ false
+any-push k key [] none other = ap (λ b. b || false) other
+any-push k key (x ∷ known) none other = by (key_eq k x) none (λ e. any-push k key known e other)
+  where
+    by : (b : Bool) → (b || list_any (key_eq k) known) ≡ false → (list_any (key_eq k) known ≡ false → list_any (key_eq k) (known ++ key ∷ []) ≡ false) →
+        (b || list_any (key_eq k) (known ++ key ∷ [])) ≡ false
+    by true e rest = absurd cc
+    by false e rest = rest e
+
+apart-push : (key : FlowKey) (known : List FlowKey) → AreApart known → list_any (key_eq key) known ≡ false → AreApart (known ++ key ∷ [])
+apart-push key [] h none = (refl, tt)
+apart-push key (x ∷ known) h none = by (key_eq key x) refl none (λ n. apart-push key known h.1 n)
+  where
+    other : key_eq key x ≡ false → key_eq x key ≡ false
+    other e = ⊎_elim (λ is. let t : false ≡ true = sym e ∙ ap (λ (k : FlowKey). key_eq k x) (sym (key_eq-true x key is))
+        ∙ key_eq-refl x in absurd cc) (λ no'. no') (true_or_false (key_eq x key))
+
+    by : (b : Bool) → key_eq key x ≡ b → (b || list_any (key_eq key) known) ≡ false → (list_any (key_eq key) known ≡ false → AreApart (known ++ key ∷ [])) →
+        AreApart (x ∷ (known ++ key ∷ []))
+    by true e n rest = absurd cc
+    by false e n rest = (any-push x key known h.0 (other e), rest n)
+
+apart-with : (key : FlowKey) (known : List FlowKey) → AreApart known → AreApart (with_key key known)
+apart-with key known h = by (list_any (key_eq key) known) refl
+  where
+    by : (b : Bool) → list_any (key_eq key) known ≡ b → AreApart (cond b known (known ++ key ∷ []))
+    by true e = h
+    by false e = apart-push key known h e
+
+pub keys-apart : (calls : List Call) → AreApart (keys calls)
+keys-apart [] = tt
+keys-apart (Submit target packet moment ∷ calls) = by (treatment (settings calls target)) (keys-apart calls)
+  where
+    by : (o : Option Treatment) → AreApart (keys calls) → AreApart (keys_with target packet.tuple o (keys calls))
+    by None h = h
+    by (Some how) h = apart-with (key_of target packet.tuple how) (keys calls) h
+keys-apart (Configure command ∷ calls) = keys-apart calls
+keys-apart (Advance moment ∷ calls) = keys-apart calls
+keys-apart (Collect moment ∷ calls) = keys-apart calls
+keys-apart (Show ∷ calls) = keys-apart calls
+
+among : (key : FlowKey) (known : List FlowKey) (i : ℕ) → slice_get known i ≡ Some key → list_any (key_eq key) known ≡ true
+among key [] i e = let none = slice_get_within [] i key e in absurd (omega arith)
+among key (x ∷ known) zero e = let is : x ≡ key = cc in ap (λ b. b || list_any (key_eq key) known) (ap (λ (k : FlowKey). key_eq key k) is ∙ key_eq-refl key)
+among key (x ∷ known) (suc i) e = by (key_eq key x) (among key known i e)
+  where
+    by : (b : Bool) → list_any (key_eq key) known ≡ true → (b || list_any (key_eq key) known) ≡ true
+    by true there = refl
+    by false there = there
+
+-- A key stands in one place.
+pub one-place : (known : List FlowKey) (i j : ℕ) (key : FlowKey) → AreApart known → slice_get known i ≡ Some key → slice_get known j ≡ Some key → i ≡ j
+one-place [] i j key h e f = let none = slice_get_within [] i key e in absurd (omega arith)
+one-place (x ∷ known) zero zero key h e f = refl
+one-place (x ∷ known) zero (suc j) key h e f =
+    let is : x ≡ key = cc in
+    let t : false ≡ true = sym h.0 ∙ ap (λ (k : FlowKey). list_any (key_eq k) known) is ∙ among key known j f in
+    absurd cc
+one-place (x ∷ known) (suc i) zero key h e f =
+    let is : x ≡ key = cc in
+    let t : false ≡ true = sym h.0 ∙ ap (λ (k : FlowKey). list_any (key_eq k) known) is ∙ among key known i e in
+    absurd cc
+one-place (x ∷ known) (suc i) (suc j) key h e f = ap {A = ℕ} suc (one-place known i j key h.1 e f)
+
+-- ---- Keys stay
+
+pub get-more : (known more : List FlowKey) (i : ℕ) (key : FlowKey) → slice_get known i ≡ Some key → slice_get (known ++ more) i ≡ Some key
+get-more [] more i key e = let none = slice_get_within [] i key e in absurd (omega arith)
+get-more (x ∷ known) more zero key e = e
+get-more (x ∷ known) more (suc i) key e = get-more known more i key e
+
+pub keys-stay : (calls : List Call) (c : Call) (flow : ℕ) (key : FlowKey) → slice_get (keys calls) flow ≡ Some key → slice_get (keys (c ∷ calls)) flow ≡ Some key
+keys-stay calls (Submit target packet moment) flow key e = by (treatment (settings calls target))
+  where
+    with : (more : FlowKey) (b : Bool) → slice_get (cond b (keys calls) (keys calls ++ more ∷ [])) flow ≡ Some key
+    with more true = e
+    with more false = get-more (keys calls) (more ∷ []) flow key e
+
+    by : (o : Option Treatment) → slice_get (keys_with target packet.tuple o (keys calls)) flow ≡ Some key
+    by None = e
+    by (Some how) = with (key_of target packet.tuple how) (list_any (key_eq (key_of target packet.tuple how)) (keys calls))
+keys-stay calls (Configure command) flow key e = e
+keys-stay calls (Advance moment) flow key e = e
+keys-stay calls (Collect moment) flow key e = e
+keys-stay calls Show flow key e = e

@@ -1,0 +1,21 @@
+-- Each law is a lemma over the definitions.
+use Rattle.std.proofs.Common.{refl}
+use Rattle.dn_types.proofs.InTurn.{gives-in-order}
+use Rattle.dn_types.proofs.Sums.{delays-add-up}
+use Rattle.dn_types.proofs.Timely.{starts-in-time, none-starts-early}
+use Rattle.dn_types.proofs.laws.laws_of_time.Goals as goal
+
+pub returns-clause-in_time : goal.returns-clause-in_time
+returns-clause-in_time c = starts-in-time
+
+pub returns-clause-not_early : goal.returns-clause-not_early
+returns-clause-not_early c = none-starts-early
+
+pub returns-clause-unlimited : goal.returns-clause-unlimited
+returns-clause-unlimited c = λ len. refl
+
+pub returns-clause-sum : goal.returns-clause-sum
+returns-clause-sum c = delays-add-up
+
+pub returns-clause-in_order : goal.returns-clause-in_order
+returns-clause-in_order c = gives-in-order
