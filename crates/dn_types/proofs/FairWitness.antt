@@ -1,7 +1,9 @@
 -- The premises of the law of fair shares are met: two queues of one weight, each with four packets of 1,000 bytes.
-use Rattle.std.proofs.Common.{◌≡◌, ◌≤◌, ◌<◌, ◌+◌, ℕ, true, List, [], ◌∷◌, refl, arith}
+use Rattle.std.proofs.Common.{◌≡◌, ◌≤◌, ◌<◌, ◌+◌, ◌*◌, max, ℕ, true, List, [], ◌∷◌, refl, arith}
 use Rattle.std.specs.Prelude.{None, nat_le, nat_lt}
+use Rattle.std.specs.List.{All}
 use Rattle.std.proofs.lemmas.Bool.Decides.{nat_tests}
+use Rattle.std.proofs.lemmas.List.Elements.{All-nil, All-cons}
 use Rattle.dn_types.specs.Calls.{trace_of}
 use Rattle.dn_types.specs.FairShare.{share}
 use Rattle.dn_types.specs.Trace.{shared, Start, started}
@@ -10,8 +12,10 @@ use Rattle.dn_types.specs.declared.call.Call.TheVariants.{Configure, Submit, Adv
 use Rattle.dn_types.specs.declared.command.Command.TheVariants.{Pipe, Queue}
 use Rattle.dn_types.specs.declared.limit.Limit.TheVariants.{Slots}
 use Rattle.dn_types.specs.declared.target.Target.TheVariants.{Queue as ToQueue}
+use Rattle.dn_types.proofs.ByWeight.{shares-by-weight}
 use Rattle.dn_types.proofs.ExampleWords.{tuple, no_mask, packet}
 use Rattle.dn_types.proofs.Fair.{shares-fairly}
+use Rattle.dn_types.proofs.Shares.{pick-is-fair, raises-to-the-least}
 
 le : (a b : ℕ) → nat_le a b ≡ true → a ≤ b
 le a b h = grind (arith, nat_tests)
@@ -28,8 +32,7 @@ older = to 2 ∷ to 2 ∷ to 2 ∷ to 2 ∷ to 1 ∷ to 1 ∷ to 1 ∷ to 1 ∷ 
 abbrev first : Start
 first = record {
   packet = record { packet = 1; link = shared 1; stamped = record { flow = 0; len = 1000; weight = 1; start_tag = 65536000; finish_tag = 131072000 } };
-  moment =
-      1000000;
+  moment = 1000000;
   transmission = 1000000;
   delay = 0;
 }
@@ -37,8 +40,7 @@ first = record {
 abbrev second : Start
 second = record {
   packet = record { packet = 4; link = shared 1; stamped = record { flow = 1; len = 1000; weight = 1; start_tag = 65536000; finish_tag = 131072000 } };
-  moment =
-      2000000;
+  moment = 2000000;
   transmission = 1000000;
   delay = 0;
 }
@@ -49,3 +51,19 @@ met = shares-fairly (Advance 2000000 ∷ older) 1 0 1 65536000 65536000 [] (star
     (lt 0 _ refl, (lt 0 _ refl, lt 0 _ refl)) (lt 0 _ refl, (lt 0 _ refl, lt 0 _ refl))
     (λ e. le _ _ refl, (λ e. le _ _ refl, (λ e. le _ _ refl, (λ e. le _ _ refl, (λ e. le _ _ refl, (λ e. le _ _ refl, (λ e. le _ _ refl, (λ e. le _ _ refl, tt))))))))
     (λ e. le _ _ refl, (λ e. le _ _ refl, (λ e. le _ _ refl, (λ e. le _ _ refl, (λ e. le _ _ refl, (λ e. le _ _ refl, (λ e. le _ _ refl, (λ e. le _ _ refl, tt))))))))
+
+-- In bytes: 1,000 of each, and the bound is 4,000 and a packet's rounding.
+met_in_bytes : 1000 * 1 * 65536 ≤ (1000 * 1 + 2 * 1000 * 1 + 1000 * 1) * 65536 + 1 * 1 * 1
+met_in_bytes = shares-by-weight (Advance 2000000 ∷ older) 1 0 1 1 1 1000 1000 [] (started second ∷ []) (trace_of older) first refl refl
+    (lt 0 _ refl, (lt 0 _ refl, lt 0 _ refl)) (lt 0 _ refl, (lt 0 _ refl, lt 0 _ refl))
+    (lt 0 1 refl)
+    (λ e. (refl, le _ _ refl), (λ e. (refl, le _ _ refl), (λ e. (refl, le _ _ refl), (λ e. (refl, le _ _ refl), (λ e. (refl, le _ _ refl), (λ e. (refl, le _ _ refl), (λ e. (refl, le _ _ refl), (λ e. (refl, le _ _ refl), tt))))))))
+    (lt 0 1 refl)
+    (λ e. (refl, le _ _ refl), (λ e. (refl, le _ _ refl), (λ e. (refl, le _ _ refl), (λ e. (refl, le _ _ refl), (λ e. (refl, le _ _ refl), (λ e. (refl, le _ _ refl), (λ e. (refl, le _ _ refl), (λ e. (refl, le _ _ refl), tt))))))))
+
+-- The pick among heads that are there: the first packet alone.
+its_own_finish : All (λ x. first.packet.stamped.start_tag ≤ x.finish_tag) (first.packet.stamped ∷ [])
+its_own_finish = pick-is-fair 65536000 (first.packet.stamped ∷ []) first.packet.stamped refl (All-cons (λ x. x.start_tag ≤ x.finish_tag) first.packet.stamped [] (le _ _ refl) (All-nil (λ x. x.start_tag ≤ x.finish_tag)))
+
+raised_to_it : (0 ≤ 65536000) × All (λ h. 65536000 ≤ max 0 h.start_tag) (first.packet.stamped ∷ [])
+raised_to_it = raises-to-the-least 0 (first.packet.stamped ∷ [])

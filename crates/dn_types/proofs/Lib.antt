@@ -9,6 +9,7 @@ pub mod Bridge
 pub mod ConfiguredRate
 pub mod Conserving
 pub mod Delays
+mod DeleteWitnesses
 pub mod DropLaws
 pub mod Dues
 pub mod EachHead
