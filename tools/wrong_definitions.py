@@ -1,0 +1,220 @@
+#!/usr/bin/env python3
+"""Tries wrong definitions of dn_types one at a time, and asks that the laws refuse each.
+
+    tools/wrong_definitions.py              prints a table in Markdown: definition, law, what the prover refused
+    tools/wrong_definitions.py 3 17         tries these rows alone
+    tools/wrong_definitions.py --list       prints the rows and tries nothing
+
+Each row changes one line of crates/dn_types/specs in a copy from which the worked examples, the lists of calls and the
+witnesses are taken out, and checks the function of `laws` with the law that is false of the definition. A row passes where
+it is not proved. A row without a law is a choice that no law judges: it is pinned by examples alone.
+The prover is called as RT, which is `rt` where the environment names nothing else.
+"""
+import os
+import re
+import shutil
+import subprocess
+import sys
+import tempfile
+
+TOP = os.path.dirname(os.path.dirname(os.path.abspath(__file__)))
+SET_ASIDE = ['Cases', 'ExamplesDeletes', 'ExamplesLinks', 'ExamplesWf2q', 'ShortListsFlows', 'ShortListsWf2q',
+             'Witnesses', 'FairWitness', 'LawWitnesses', 'DeleteWitnesses']
+
+# What is wrong, the file, the right text, the wrong text, and the function and the clause of the law that is false of it.
+ROWS = [
+    ('weights count for nothing', 'Flows', 'pipe = pipe; weight = weight;', 'pipe = pipe; weight = 1;',
+     'laws_of_shares', 'tags'),
+    ('a cost is the bare length', 'Wf2q', 'scaled len weight = len * 65536 / weight', 'scaled len weight = len',
+     'laws_of_shares', 'tags'),
+    ('every start tag is 0', 'Wf2q', 'cond was_empty (max last_finish_tag virtual_time) last_finish_tag', '0',
+     'laws_of_shares', 'tags'),
+    ('a packet joins a backlog at virtual time', 'Wf2q',
+     'cond was_empty (max last_finish_tag virtual_time) last_finish_tag', 'max last_finish_tag virtual_time',
+     'laws_of_shares', 'tags'),
+    ('virtual time never grows', 'Wf2q', '= raised virtual_time hs + scaled len (weight_sum hs)', '= virtual_time',
+     'laws_of_shares', 'grows'),
+    ('the sum of weights counts heads', 'Wf2q', '= h.weight + weight_sum hs', '= 1 + weight_sum hs',
+     'laws_of_shares', 'grows'),
+    ('virtual time is raised to the first head', 'Wf2q', 'max virtual_time (least_start_tag h.start_tag hs)',
+     'max virtual_time h.start_tag', 'laws_of_shares', 'raised'),
+    ('virtual time is raised to the greatest start tag', 'Wf2q', 'min h.start_tag (least_start_tag most hs)',
+     'max h.start_tag (least_start_tag most hs)', 'laws_of_shares', 'raised'),
+    ('a head is eligible strictly before virtual time', 'Wf2q', '= nat_le h.start_tag virtual_time',
+     '= nat_lt h.start_tag virtual_time', 'laws_of_the_pick', 'there'),
+    ('the pick is by start tag', 'Wf2q',
+     'nat_lt a.finish_tag b.finish_tag || nat_eq a.finish_tag b.finish_tag && nat_lt a.flow b.flow',
+     'nat_lt a.start_tag b.start_tag || nat_eq a.start_tag b.start_tag && nat_lt a.flow b.flow',
+     'laws_of_shares', 'least'),
+    ('ties go to the higher flow', 'Wf2q', 'nat_lt a.flow b.flow', 'nat_lt b.flow a.flow', 'laws_of_shares', 'least'),
+    ('a busy period does not reset virtual time', 'SharedLinks',
+     'virtual_time link (opened l ∷ trace) = cond (link_eq l link) 0 (virtual_time link trace)',
+     'virtual_time link (opened l ∷ trace) = virtual_time link trace', 'laws_of_resets', 'afresh'),
+    ('a busy period keeps finish tags', 'SharedLinks',
+     'last_finish_tag link flow (opened l ∷ trace) = cond (link_eq l link) 0 (last_finish_tag link flow trace)',
+     'last_finish_tag link flow (opened l ∷ trace) = last_finish_tag link flow trace', 'laws_of_resets', 'afresh'),
+    ('a busy period never begins', 'SharedLinks', '(opened link ∷ trace) trace', 'trace trace',
+     'laws_of_resets', 'afresh'),
+    ('a delete keeps the last finish tag', 'SharedLinks',
+     'last_finish_tag link flow (discarded f ∷ trace) = cond (nat_eq f flow) 0 (last_finish_tag link flow trace)',
+     'last_finish_tag link flow (discarded f ∷ trace) = last_finish_tag link flow trace',
+     'laws_of_resets', 'queue_delete'),
+    ('nothing is ever lost', 'Drops', 'nat_lt (word % 2 ^ 31) loss', 'nat_lt word 0', 'laws_of_drops', 'explained'),
+    ('loss is by all 32 bits', 'Drops', 'nat_lt (word % 2 ^ 31) loss', 'nat_lt word loss',
+     'laws_of_drops', 'explained'),
+    ('a draw of the loss rate itself is lost', 'Drops', 'nat_lt (word % 2 ^ 31) loss', 'nat_le (word % 2 ^ 31) loss',
+     'laws_of_drops', 'explained'),
+    ('the limit in packets is off by one', 'Drops', 'nat_le count (length lengths)', 'nat_lt count (length lengths)',
+     'laws_of_drops', 'explained'),
+    ('the limit in bytes is reached at the limit', 'Drops', 'nat_lt (count * 1024) (sum lengths)',
+     'nat_le (count * 1024) (sum lengths)', 'laws_of_drops', 'explained'),
+    ('a Kbyte has 1,000 bytes', 'Drops', 'nat_lt (count * 1024) (sum lengths)', 'nat_lt (count * 1000) (sum lengths)',
+     'laws_of_drops', 'explained'),
+    ('the limit is tested before the loss', 'Calls',
+     'cond (is_lost how.loss packet.word) (loses link flow) (cond (is_full how.limit (map (λ p. p.stamped.len) '
+     '(backlog link flow trace))) (refuses link flow) (takes link flow how))',
+     'cond (is_full how.limit (map (λ p. p.stamped.len) (backlog link flow trace))) (refuses link flow) '
+     '(cond (is_lost how.loss packet.word) (loses link flow) (takes link flow how))', 'laws_of_drops', 'explained'),
+    ('a lost packet takes the first of its queue with it', 'Trace',
+     'backlog link flow (_ ∷ trace) = backlog link flow trace',
+     'backlog link flow (lost l f ∷ trace) = drop 1 (backlog link flow trace)\n'
+     'backlog link flow (_ ∷ trace) = backlog link flow trace', 'laws_of_resets', 'dropped'),
+    ('the bandwidth is doubled', 'Starts', 'loss buckets mask)) = bw\n', 'loss buckets mask)) = bw * 2\n',
+     'laws_of_links', 'configured'),
+    ('a millisecond of delay is 7 ns', 'Starts', 'delay * 1000000', 'delay * 7', 'laws_of_links', 'configured'),
+    ('the transmission time is rounded down', 'Links', '((len * 8000000000 + (bandwidth - 1)) / bandwidth)',
+     '(len * 8000000000 / bandwidth)', 'laws_of_due_moments', 'transmission'),
+    ('bandwidth 0 takes a second', 'Links', 'cond (nat_eq bandwidth 0) 0 (', 'cond (nat_eq bandwidth 0) 1000000000 (',
+     'laws_of_time', 'unlimited'),
+    ('a link is free at the start of its last packet', 'Links', '(s.moment + s.transmission) (free link trace)',
+     's.moment (free link trace)', 'laws_of_links', 'apart'),
+    ('a waiting packet starts at the call', 'Starts', 'option_map (λ p. start_at settings link p (free link trace))',
+     'option_map (λ p. start_at settings link p at)', 'laws_of_links', 'at_once'),
+    ('a due moment leaves the order of its link', 'Links', 'due_by Ordered arrival last = max last arrival',
+     'due_by Ordered arrival last = arrival', 'laws_of_due_moments', 'never_fall'),
+    ('due moments are ordered over all links', 'Links',
+     'cond (link_eq s.packet.link link) (due_by rule (arrival_time s) (last_due rule link trace)) '
+     '(last_due rule link trace)',
+     'due_by rule (arrival_time s) (last_due rule link trace)', 'laws_of_isolation', 'packets'),
+    ('the clock goes back', 'Clock', '= max (effective_moment calls) (moment_of c)', '= moment_of c',
+     'laws_of_time', 'in_time'),
+    ('a packet joins at the front', 'Trace', '(backlog link flow trace ++ p ∷ [])', '(p ∷ backlog link flow trace)',
+     'laws_of_starts', 'in_order'),
+    ('a Collect gives what one gave before', 'Deliveries', '= filter (λ d. nat_lt at d.due) (undelivered rule trace)',
+     '= undelivered rule trace', 'laws_of_collecting', 'once'),
+    ('equal due moments go by flow', 'Deliveries',
+     '(ordering_then (nat_cmp a.packet b.packet) (ordering_then (nat_cmp a.flow b.flow) (nat_cmp a.start b.start)))',
+     '(ordering_then (nat_cmp a.flow b.flow) (ordering_then (nat_cmp a.packet b.packet) (nat_cmp a.start b.start)))',
+     'laws_of_time', 'in_order'),
+    ('a pipe delete reaches nothing', 'Calls', 'reaches (DeletePipe number) key = nat_eq key.pipe number',
+     'reaches (DeletePipe number) key = false', 'laws_of_isolation', 'pipe_delete'),
+    ('a pipe delete spares the flows of queues', 'Calls', 'reaches (DeletePipe number) key = nat_eq key.pipe number',
+     'reaches (DeletePipe number) key = target_eq key.target (ToPipe number)', 'laws_of_isolation', 'pipe_delete'),
+    ('a queue delete reaches nothing', 'Calls',
+     'reaches (DeleteQueue number) key = target_eq key.target (ToQueue number)',
+     'reaches (DeleteQueue number) key = false', 'laws_of_isolation', 'queue_delete'),
+    ('a queue delete empties every queue', 'Calls',
+     'reaches (DeleteQueue number) key = target_eq key.target (ToQueue number)',
+     'reaches (DeleteQueue number) key = nat_eq 0 0', 'laws_of_isolation', 'queue_spares'),
+    ('a later command is ignored', 'Configuration', 'setting_after Configured command before = Some command',
+     'setting_after Configured command (Some before) = Some before\n'
+     'setting_after Configured command None = Some command', 'laws_of_isolation', 'commands_count'),
+    ('what is deleted stays in force', 'Configuration', 'setting_after Deleted command before = None',
+     'setting_after Deleted command before = before', 'laws_of_isolation', 'commands_count'),
+    ('a refused command counts', 'Configuration', 'setting_after _ command before = before',
+     'setting_after _ command before = Some command', 'laws_of_isolation', 'commands_count'),
+    ('a queue needs no pipe', 'Configuration', 'cond (is_some (settings (ToPipe pipe))) Configured NoSuchPipe',
+     'Configured', 'laws_of_isolation', 'queues'),
+    ('a pipe is deleted under its queues', 'Configuration',
+     '(cond (has_queues settings queues number) PipeHasQueues Deleted)', 'Deleted', 'laws_of_isolation', 'queues'),
+    ('masks count for nothing', 'Flows',
+     'record { src = bit_and t.src m.src; dst = bit_and t.dst m.dst; proto = bit_and t.proto m.proto; '
+     'sport = bit_and t.sport m.sport; dport = bit_and t.dport m.dport }', 't', 'laws_of_flows', 'masks'),
+    ('a mask forgets a field', 'Flows', 'dport = bit_and t.dport m.dport }', 'dport = t.dport }',
+     'laws_of_flows', 'masks'),
+    ('a mask keeps one field by another', 'Flows', 'src = bit_and t.src m.src;', 'src = bit_and t.src m.dst;',
+     'laws_of_flows', 'masks'),
+    ('a new flow comes first', 'Flows', '(known ++ key ∷ [])', '(key ∷ known)', 'laws_of_flows', 'stay'),
+    ('all packets to a pipe share one link', 'Calls', 'link_of (ToPipe number) flow pipe = own pipe flow',
+     'link_of (ToPipe number) flow pipe = shared pipe', None, None),
+    ('the fields of a packet play no part', 'Flows',
+     '&& mask_eq a.mask b.mask && tuple_eq a.tuple b.tuple', '&& mask_eq a.mask b.mask', 'laws_of_flows', 'masks'),
+]
+
+
+def copy_of_the_crate(folder):
+    """A copy of dn_types without what computes at single points."""
+    crate = os.path.join(folder, 'crates', 'dn_types')
+    shutil.copytree(os.path.join(TOP, 'crates', 'dn_types'), crate, ignore=shutil.ignore_patterns('out', 'must-fail'))
+    shutil.copy(os.path.join(TOP, 'HANDLES'), folder)
+    with open(os.path.join(TOP, 'crates.txt')) as whole, open(os.path.join(folder, 'crates.txt'), 'w') as own:
+        own.writelines(line for line in whole if line.startswith('dn_types'))
+    proofs = os.path.join(crate, 'proofs')
+    library = os.path.join(proofs, 'Lib.antt')
+    with open(library) as file:
+        text = file.read()
+    for name in SET_ASIDE:
+        text = re.sub('^(pub )?mod %s\n' % name, '', text, flags=re.M)
+        if os.path.exists(os.path.join(proofs, name + '.antt')):
+            os.remove(os.path.join(proofs, name + '.antt'))
+    with open(library, 'w') as file:
+        file.write(text)
+    shutil.rmtree(os.path.join(proofs, 'Cases'), ignore_errors=True)
+    return crate
+
+
+def check(crate, function):
+    """The functions that are not proved, the first lemma that was refused, and whether the check was finished."""
+    command = os.environ.get('RT', 'rt').split() + ['check', '--only', function]
+    told = subprocess.run(command, cwd=crate, stdout=subprocess.PIPE, stderr=subprocess.STDOUT, text=True).stdout
+    unproved = re.findall(r'^fn dn_types::laws::(\w+): (?!proved)', told, flags=re.M)
+    proved = re.findall(r'^fn dn_types::laws::(\w+): proved', told, flags=re.M)
+    refused = re.search(r'proofs/(\w+)\.antt:\d+:\d+: error: `([^`]+)`', told)
+    return set(unproved), refused.group(1) + '.' + refused.group(2) if refused else '', len(unproved) + len(proved) > 0
+
+
+def try_row(crate, row):
+    """One line of the table, and whether the row went as it should."""
+    wrong, name, old, new, function, clause = row
+    spec = os.path.join(crate, 'specs', name + '.antt')
+    with open(spec) as file:
+        right = file.read()
+    if old not in right:
+        return '| %s | the text to change is not in %s | |' % (wrong, name), False
+    try:
+        with open(spec, 'w') as file:
+            file.write(right.replace(old, new))
+        unproved, refused, finished = check(crate, function or 'laws')
+    finally:
+        with open(spec, 'w') as file:
+            file.write(right)
+    if function is None:
+        return '| %s | none: examples alone | %s |' % (wrong, refused), finished
+    refuses = finished and function in unproved
+    return '| %s | `%s`, `%s` | %s |' % (wrong, function, clause, refused if refuses else '**not refused**'), refuses
+
+
+def main(arguments):
+    if '--list' in arguments:
+        for place, row in enumerate(ROWS, 1):
+            print(place, row[0])
+        return 0
+    rows = [ROWS[int(argument) - 1] for argument in arguments] or ROWS
+    with tempfile.TemporaryDirectory() as folder:
+        crate = copy_of_the_crate(folder)
+        unproved, _, finished = check(crate, 'laws')
+        if unproved or not finished:
+            print('the laws are not proved of the right definitions:', ', '.join(sorted(unproved)))
+            return 1
+        print('| Wrong definition | Law that is false of it | Lemma refused |\n|---|---|---|')
+        failures = 0
+        for row in rows:
+            line, good = try_row(crate, row)
+            print(line, flush=True)
+            failures += not good
+    print('\n%d tried, %d not refused' % (len(rows), failures))
+    return 1 if failures else 0
+
+
+if __name__ == '__main__':
+    sys.exit(main(sys.argv[1:]))
