@@ -258,7 +258,7 @@ module _ (calls : List Call) (c : Call) where
       let opens = causes-opened b link trace (λ e. eqb-true (waiting link trace) 0 (and-left (nat_eq (waiting link trace) 0) (nat_le (free link trace) at) e)) h in
       causes-join p (opening link at trace) opens (given.0 opens) given.1
       (λ soon. let e = opened-free b link link trace in alone-next link p (opening link at trace) refl home (λ g at_home. opened-backlog b link link g trace
-          ∙ empty-home set at link g trace at_home (ends link) (omega arith)))
+      ∙ empty-home set at link g trace at_home (ends link) (omega arith)))
 
 taken-by : (calls : List Call) (target : Target) (packet : Packet) (moment : ℕ) (o : Option Treatment) → treatment (settings calls target) ≡ o →
     IsGiven calls (Submit target packet moment) packet (trace_of (Advance moment ∷ calls)) (verdict_by (keys calls) target packet o (trace_of (Advance moment ∷ calls)))

@@ -87,9 +87,12 @@ module _ (number bw delay : ℕ) (limit : Limit) (loss : ℕ) (buckets : Option 
   calls-at [] calls h = ([], refl, tt)
   calls-at (c ∷ after) calls h =
       let rest = calls-at after calls h.1 in
-      let new = call-causes (after ++ calls) c in
-      (new.0 ++ rest.0, new.1 ∙ ap (λ (t : List Event). new.0 ++ t) rest.1
-          ∙ assoc new.0 rest.0 (trace_of calls), both-at bw link new.0 rest.0 (call-at (after ++ calls) c new.0 (now after calls h.1) new.2) rest.2)
+      let new = call-causes (after ++ calls) c in (
+        new.0 ++ rest.0,
+        new.1 ∙ ap (λ (t : List Event). new.0 ++ t) rest.1
+            ∙ assoc new.0 rest.0 (trace_of calls),
+        both-at bw link new.0 rest.0 (call-at (after ++ calls) c new.0 (now after calls h.1) new.2) rest.2,
+      )
     where
       assoc : (xs ys zs : List Event) → xs ++ (ys ++ zs) ≡ (xs ++ ys) ++ zs
       assoc [] ys zs = refl

@@ -87,8 +87,23 @@ abbrev two : List Call
 two = to_pipe 1 0 ∷ to_pipe 1 0 ∷ pipe 1 8000000 50 ∷ []
 
 abbrev start : ℕ → ℕ → ℕ → ℕ → Start
-start number moment start_tag finish_tag = record { packet = record { packet = number; link = own 1 0; stamped = record { flow = 0; len = 1000; weight = 1; start_tag =
-    start_tag; finish_tag = finish_tag } }; moment = moment; transmission = 1000000; delay = 50000000 }
+start number moment start_tag finish_tag = record {
+  packet = record {
+    packet = number;
+    link = own 1 0;
+    stamped = record {
+      flow = 0;
+      len = 1000;
+      weight = 1;
+      start_tag =
+          start_tag;
+      finish_tag = finish_tag;
+    };
+  };
+  moment = moment;
+  transmission = 1000000;
+  delay = 50000000;
+}
 
 abbrev first : Start
 first = start 0 0 0 65536000

@@ -61,11 +61,12 @@ module _ (rule : Rule) (link : Link) where
 
   alike-started : (s : Start) (t u : List Event) → IsAlike rule link t u → IsAlike rule link (started s ∷ t) (started s ∷ u)
   alike-started s t u h =
-      let hs = alike-heads rule link t u h in
-      (λ flow. ap (λ (q : List Accepted). cond (is_of link flow s.packet) (drop 1 q) q) (h.0 flow),
-      ap {B = ℕ} (λ m. cond (link_eq s.packet.link link) (s.moment + s.transmission) m) h.1,
-      ap {B = ℕ} (λ m. cond (link_eq s.packet.link link) (due_by rule (arrival_time s) m) m) h.2,
-      (λ i. cond (link_eq s.packet.link link) (grown (h.3 i) (hs i) s.packet.stamped.len) (h.3 i)))
+      let hs = alike-heads rule link t u h in (
+        λ flow. ap (λ (q : List Accepted). cond (is_of link flow s.packet) (drop 1 q) q) (h.0 flow),
+        ap {B = ℕ} (λ m. cond (link_eq s.packet.link link) (s.moment + s.transmission) m) h.1,
+        ap {B = ℕ} (λ m. cond (link_eq s.packet.link link) (due_by rule (arrival_time s) m) m) h.2,
+        (λ i. cond (link_eq s.packet.link link) (grown (h.3 i) (hs i) s.packet.stamped.len) (h.3 i)),
+      )
 
   alike-elsewhere : (s : Start) (t : List Event) → link_eq s.packet.link link ≡ false → IsAlike rule link (started s ∷ t) t
   alike-elsewhere s t e = (λ flow. backlog-elsewhere link s t e flow, free-elsewhere link s t e, last_due-elsewhere link s t e rule, virtual_time-elsewhere link s t e)

@@ -54,16 +54,20 @@ split (x ∷ f) old (y ∷ later) e earlier h =
     let first : x ≡ y = cc in
     let rest : f ++ old ≡ later ++ e ∷ earlier = cc in
     ⊎_elim (λ (new : (between : List Event) × (f ≡ later ++ e ∷ between) × (earlier ≡ between ++ old)). inl (new.0, (λ i. first i ∷ new.1 i), new.2)) (λ (before : (rest : List Event)
-        × (old ≡ rest ++ e ∷ earlier)). inr before) (split f old later e earlier rest)
+    × (old ≡ rest ++ e ∷ earlier)). inr before) (split f old later e earlier rest)
 
 -- A start is of the newest call, or of those before it.
 pub placed : (calls : List Call) (c : Call) (later earlier : List Event) (s : Start) → trace_of (c ∷ calls) ≡ later ++ started s ∷ earlier →
     ((between : List Event) × (trace_of (c ∷ calls) ≡ later ++ started s ∷ between ++ trace_of calls) × (earlier ≡ between ++ trace_of calls)) ⊎ ((rest : List Event)
-        × (trace_of calls ≡ rest ++ started s ∷ earlier))
+    × (trace_of calls ≡ rest ++ started s ∷ earlier))
 placed calls c later earlier s e =
     let h = call-causes calls c in
-    ⊎_elim (λ (new : (between : List Event) × (h.0 ≡ later ++ started s ∷ between) × (earlier ≡ between ++ trace_of calls)). inl (new.0, h.1
-        ∙ ap (λ (f : List Event). f ++ trace_of calls) new.1, new.2))
+    ⊎_elim (λ (new : (between : List Event) × (h.0 ≡ later ++ started s ∷ between) × (earlier ≡ between ++ trace_of calls)). inl (
+      new.0,
+      h.1
+          ∙ ap (λ (f : List Event). f ++ trace_of calls) new.1,
+      new.2,
+    ))
     (λ (before : (rest : List Event) × (trace_of calls ≡ rest ++ started s ∷ earlier)). inr before) (split h.0 (trace_of calls) later (started s) earlier (sym h.1 ∙ e))
 
 -- Each start is by the command in force when a call made it.
@@ -73,12 +77,28 @@ made-by [] (x ∷ later) earlier s e = absurd cc
 made-by (c ∷ calls) later earlier s e = ⊎_elim (λ new. now new.0 new.1) (λ before. more (made-by calls before.0 earlier s before.1)) (placed calls c later earlier s e)
   where
     now : (between : List Event) → trace_of (c ∷ calls) ≡ later ++ started s ∷ between ++ trace_of calls → IsMadeBy (c ∷ calls) s
-    now between is = let by = starts-as-configured calls c later between s is in record { newer = []; call = c; older = calls; among = refl; command = by.0; in_force = by.1; by_command =
-        by.2 }
+    now between is = let by = starts-as-configured calls c later between s is in record {
+      newer = [];
+      call = c;
+      older = calls;
+      among = refl;
+      command = by.0;
+      in_force = by.1;
+      by_command =
+          by.2;
+    }
 
     more : IsMadeBy calls s → IsMadeBy (c ∷ calls) s
-    more h = record { newer = c ∷ h.newer; call = h.call; older = h.older; among = ap (λ (r : List Call). c ∷ r) h.among; command = h.command; in_force = h.in_force; by_command =
-        h.by_command }
+    more h = record {
+      newer = c ∷ h.newer;
+      call = h.call;
+      older = h.older;
+      among = ap (λ (r : List Call). c ∷ r) h.among;
+      command = h.command;
+      in_force = h.in_force;
+      by_command =
+          h.by_command;
+    }
 
 -- ---- Packet numbers
 

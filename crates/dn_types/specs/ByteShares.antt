@@ -31,7 +31,7 @@ abbrev pub SharesByWeight : Type 0
 SharesByWeight = (calls : List Call) (pipe one other weight_one weight_other longest_one longest_other : ℕ) (later stretch earlier : List Event) (r : Start) →
     trace_of calls ≡ later ++ (stretch ++ (started r ∷ earlier)) → is_of (shared pipe) one r.packet ≡ true →
     WaitsThroughout (shared pipe) one (stretch ++ (started r ∷ [])) earlier →
-        WaitsThroughout (shared pipe) other (stretch ++ (started r ∷ [])) earlier →
+    WaitsThroughout (shared pipe) other (stretch ++ (started r ∷ [])) earlier →
     0 < weight_one → IsWeighted weight_one longest_one (shared pipe) one (trace_of calls) →
     0 < weight_other → IsWeighted weight_other longest_other (shared pipe) other (trace_of calls) →
     bytes_sent (shared pipe) other (stretch ++ (started r ∷ [])) * weight_one * 65536

@@ -29,7 +29,7 @@ CommandsCount = (calls : List Call) (command : Command) →
     (reply_to_command calls command ≡ Configured → settings (Configure command ∷ calls) (subject command) ≡ Some command)
     × (reply_to_command calls command ≡ Deleted → settings (Configure command ∷ calls) (subject command) ≡ None)
     × (reply_to_command calls command ≢ Configured → reply_to_command calls command ≢ Deleted →
-        settings (Configure command ∷ calls) (subject command) ≡ settings calls (subject command))
+    settings (Configure command ∷ calls) (subject command) ≡ settings calls (subject command))
     × ((target : Target) → target ≢ subject command → settings (Configure command ∷ calls) target ≡ settings calls target)
 
 -- The pipe of a configured queue is configured.

@@ -43,7 +43,7 @@ kept_by mask tuple = record {
 abbrev pub AgreeUnder : Mask → FiveTuple → FiveTuple → Type 0
 AgreeUnder mask a b =
     (bit_and a.src mask.src ≡ bit_and b.src mask.src) × (bit_and a.dst mask.dst ≡ bit_and b.dst mask.dst)
-        × (bit_and a.proto mask.proto ≡ bit_and b.proto mask.proto)
+    × (bit_and a.proto mask.proto ≡ bit_and b.proto mask.proto)
     × (bit_and a.sport mask.sport ≡ bit_and b.sport mask.sport) × (bit_and a.dport mask.dport ≡ bit_and b.dport mask.dport)
 
 -- The flow that a reply names has the packet's target, pipe and mask, and the bits that the mask keeps of its fields.
@@ -62,7 +62,7 @@ FlowsStay = (calls : List Call) (c : Call) (flow : ℕ) (key : FlowKey) → slic
 abbrev pub FlowsAreByMask : Type 0
 FlowsAreByMask = (rule : Rule) (calls between : List Call) (target : Target) (a b : Packet) (m n : ℕ) (first second : Command) (mask : Mask) (carrier f g : ℕ) →
     settings calls target ≡ Some first → IsMaskedBy first mask carrier → settings (between ++ Submit target a m ∷ calls) target ≡ Some second →
-        IsMaskedBy second mask carrier →
+    IsMaskedBy second mask carrier →
     flow_told (reply rule calls (Submit target a m)) ≡ Some f →
-        flow_told (reply rule (between ++ Submit target a m ∷ calls) (Submit target b n)) ≡ Some g →
+    flow_told (reply rule (between ++ Submit target a m ∷ calls) (Submit target b n)) ≡ Some g →
     (AgreeUnder mask a.tuple b.tuple → f ≡ g) × (f ≡ g → AgreeUnder mask a.tuple b.tuple)

@@ -54,5 +54,5 @@ DroppedChangesNothing = (rule : Rule) (calls : List Call) (target : Target) (pac
     let without = trace_of (Advance moment ∷ calls) in
     ((flow : ℕ) → (backlog link flow with_it ≡ backlog link flow without) × (last_finish_tag link flow with_it ≡ last_finish_tag link flow without))
     × (free link with_it ≡ free link without) × (last_due rule link with_it ≡ last_due rule link without)
-        × (virtual_time link with_it ≡ virtual_time link without)
+    × (virtual_time link with_it ≡ virtual_time link without)
     × (undelivered rule with_it ≡ undelivered rule without)

@@ -30,7 +30,7 @@ StartsInTime = (calls : List Call) (c : Call) (later between : List Event) (s : 
 abbrev pub NoneStartsEarly : Type 0
 NoneStartsEarly = (rule : Rule) (after calls : List Call) (target : Target) (packet : Packet) (moment at flow number : ℕ) (later earlier : List Event) (s : Start) →
     reply rule calls (Submit target packet moment) ≡ Queued at flow number →
-        trace_of (after ++ Submit target packet moment ∷ calls) ≡ later ++ started s ∷ earlier →
+    trace_of (after ++ Submit target packet moment ∷ calls) ≡ later ++ started s ∷ earlier →
     s.packet.packet ≡ number → at ≤ s.moment
 
 -- At bandwidth 0, which is unlimited, a packet takes no time.
@@ -71,7 +71,7 @@ abbrev pub DelaysAddUp : Type 0
 DelaysAddUp = (rule : Rule) (after calls : List Call) (target : Target) (packet : Packet) (moment at flow number : ℕ) →
     reply rule calls (Submit target packet moment) ≡ Queued at flow number →
     All (λ d. d.packet ≡ number →
-        IsDelayed rule (after ++ Submit target packet moment ∷ calls) at d) (undelivered rule (trace_of (after ++ Submit target packet moment ∷ calls)))
+    IsDelayed rule (after ++ Submit target packet moment ∷ calls) at d) (undelivered rule (trace_of (after ++ Submit target packet moment ∷ calls)))
 
 -- By due moment, and where two are equal by packet number.
 abbrev pub AreInOrder : List Delivery → Type 0
