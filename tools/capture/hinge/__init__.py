@@ -1,0 +1,1 @@
+"""What the commands of the capture kit share. Times are whole nanoseconds, lengths bytes, bandwidths bit/s."""
