@@ -1,0 +1,33 @@
+"""Numbers as people read them, exactly."""
+
+from __future__ import annotations
+
+from typing import Iterable
+
+
+def ms(ns: int) -> str:
+    """Milliseconds with all six digits, so that sums can be checked by eye."""
+    return f"{ns // 10**6:,}.{ns % 10**6:06d} ms"
+
+
+def seconds(ns: int) -> str:
+    """Seconds with all nine digits."""
+    return f"{ns // 10**9:,}.{ns % 10**9:09d} s"
+
+
+def packets(count: int) -> str:
+    return f"{count:,} packet{'' if count == 1 else 's'}"
+
+
+def rows(numbers: Iterable[int], most: int = 8) -> str:
+    """Row numbers with runs as `3-7`, at most so many runs."""
+    runs: list[list[int]] = []
+    for number in sorted(numbers):
+        if runs and runs[-1][1] == number - 1:
+            runs[-1][1] = number
+        else:
+            runs.append([number, number])
+    shown = ", ".join(str(low) if low == high else f"{low}-{high}" for low, high in runs[:most])
+    left = sum(high - low + 1 for low, high in runs[most:])
+    plural = "row" if len(runs) == 1 and runs[0][0] == runs[0][1] else "rows"
+    return f"{plural} {shown}" + (f" and {left:,} more" if left else "")
