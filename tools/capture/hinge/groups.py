@@ -18,6 +18,7 @@ class Groups:
 
     of: np.ndarray
     names: list[str]
+    has_rest: bool = False  # whether the last one stands for all smaller ones
 
     def places(self) -> Iterator[tuple[str, np.ndarray]]:
         """Each group with the places of its rows, in order."""
@@ -34,7 +35,7 @@ class Groups:
         number = np.full(len(self.names), len(kept))
         number[kept] = np.arange(len(kept))
         names = [self.names[i] for i in kept]
-        return Groups(number[self.of], names + ([f"{len(rest):,} others"] if len(rest) else []))
+        return Groups(number[self.of], names + ([f"{len(rest):,} others"] if len(rest) else []), len(rest) > 0)
 
 
 def group(replay: Replay, way: str) -> Groups:

@@ -1,0 +1,31 @@
+"""Which frames of a capture come through a link, and when."""
+
+from __future__ import annotations
+
+import numpy as np
+
+from hinge.command import ROWS, Fault
+from hinge.replay import Replay
+from hinge.tables import read_table, whole_numbers
+
+
+def frames_of_rows(path: str, replay: Replay) -> np.ndarray:
+    """The frame of each row, by the index that pcap2packets wrote."""
+    table = read_table(path, {"row": whole_numbers, "frame": whole_numbers})
+    if not np.array_equal(table["row"], np.arange(1, len(replay.packets) + 1)):
+        raise Fault(f"{path}: its rows aren't those of {replay.packets.path}", ROWS)
+    return table["frame"]
+
+
+def arrivals(replay: Replay, frames: np.ndarray) -> list[tuple[int, int]]:
+    """The moment and the number of each frame that arrives, in order of arrival.
+
+    A frame that was split into packets arrives with the last of them, and not at all where one of them doesn't leave.
+    """
+    count = int(frames.max()) + 1 if len(frames) else 0
+    last, rows, left = np.zeros(count, np.int64), np.bincount(frames, minlength=count), np.zeros(count, np.int64)
+    np.maximum.at(last, frames[replay.is_out], replay.due[replay.is_out])
+    np.add.at(left, frames[replay.is_out], 1)
+    arrived = np.flatnonzero((rows > 0) & (left == rows))
+    order = np.lexsort((arrived, last[arrived]))
+    return list(zip(last[arrived][order].tolist(), arrived[order].tolist()))
