@@ -15,7 +15,7 @@ from hinge.command import ROWS, Fault, program
 
 FILE_HEADER, RECORD = struct.Struct("<IHHiIII"), struct.Struct("<IIII")
 NANOSECONDS = 0xA1B23C4D
-NS_PER_S = 10**9
+NS_PER_S, SECONDS_END = 10**9, 2**32
 
 
 @dataclass(frozen=True, slots=True)
@@ -67,4 +67,7 @@ def write_header(out: BinaryIO, link_type: int) -> None:
 
 
 def write_frame(out: BinaryIO, time: int, length: int, kept: bytes) -> None:
-    out.write(RECORD.pack(*divmod(time, NS_PER_S), len(kept), length) + kept)
+    seconds, ns = divmod(time, NS_PER_S)
+    if seconds >= SECONDS_END:
+        raise Fault("a frame arrives after the year 2106, which a pcap file can't say", ROWS)
+    out.write(RECORD.pack(seconds, ns, len(kept), length) + kept)
