@@ -3,15 +3,11 @@
 from __future__ import annotations
 
 import re
-import sys
 from dataclasses import dataclass, field
 from decimal import Decimal, InvalidOperation
-from pathlib import Path
 from typing import Iterator, Optional
 
-sys.path.append(str(Path(__file__).resolve().parents[2] / "oracle"))  # the reference reads configuration lines
-from config_lines import LineFault, parse_line  # noqa: E402
-from model import DeletePipe, DeleteQueue, Queue  # noqa: E402
+from hinge.reference import REFUSALS, Configure, FastDummynet, LineFault, parse_line
 
 ASSIGNMENT = re.compile(r"""(?:export\s+)?([A-Za-z_]\w*)=("[^"]*"|'[^']*'|[^\s;'"]*)""")
 VARIABLE = re.compile(r"\$\{([A-Za-z_]\w*)(?::?-([^}]*))?\}|\$([A-Za-z_]\w*)")
@@ -37,7 +33,7 @@ class Conversion:
     variables: dict[str, str] = field(default_factory=dict)
     lines: list[str] = field(default_factory=list)
     notes: list[str] = field(default_factory=list)
-    pipes: set[int] = field(default_factory=set)
+    emulator: FastDummynet = field(default_factory=FastDummynet)
     left_out: int = 0  # commands that configure or delete a pipe or queue
 
     def say(self, place: str, text: str) -> None:
@@ -77,7 +73,7 @@ class Conversion:
         words = asked.split()
         if words[1] == "flush":
             self.lines.clear()
-            self.pipes.clear()
+            self.emulator = FastDummynet()
             self.say(place, "all pipes and queues are deleted here, so the lines before have no effect")
             return
         if (unknown := VARIABLE.search(" ".join(words))) is not None:
@@ -107,19 +103,10 @@ class Conversion:
             command = parse_line(line)
         except LineFault as fault:
             raise LeftOut(f"word {fault.word} of '{line}': {fault.kind}") from None
-        if isinstance(command, Queue) and command.pipe not in self.pipes:
-            raise LeftOut(f"pipe {command.pipe} isn't configured before it")
-        if isinstance(command, (DeletePipe, DeleteQueue)) and not self.has(command):
-            raise LeftOut("what it deletes isn't configured before it")
-        if isinstance(command, DeletePipe):
-            self.pipes.discard(command.number)
-        elif not isinstance(command, (Queue, DeleteQueue)):
-            self.pipes.add(command.number)
+        reply = self.emulator.apply(Configure(command))
+        if type(reply) in REFUSALS:
+            raise LeftOut(REFUSALS[type(reply)])
         self.lines.append(line)
-
-    def has(self, command: DeletePipe | DeleteQueue) -> bool:
-        kind = "pipe" if isinstance(command, DeletePipe) else "queue"
-        return any(line.startswith(f"{kind} {command.number} ") for line in self.lines)
 
 
 @dataclass

@@ -6,7 +6,6 @@ packets leave a link in the order in which they start.
 
 from __future__ import annotations
 
-import sys
 from dataclasses import dataclass
 from functools import cached_property
 from pathlib import Path
@@ -16,13 +15,7 @@ import numpy as np
 
 from hinge.command import CONFIGURATION, ROWS, Fault
 from hinge.replay import NONE, Packets, Replay
-
-# The reference reads configuration lines; its modules name each other without a package.
-sys.path.append(str(Path(__file__).resolve().parents[2] / "oracle"))
-from fast import FastDummynet  # noqa: E402
-from files import ReplayFault  # noqa: E402
-from model import Configured, Pipe, Queue  # noqa: E402
-from program import configured  # noqa: E402
+from hinge.reference import Configured, FastDummynet, Pipe, Queue, ReplayFault, configured
 
 NS_PER_MS, BITS_NS = 10**6, 8 * 10**9
 
