@@ -10,8 +10,9 @@ from functools import cached_property
 
 import numpy as np
 
+from hinge.columns import Address, Number, OneOf, numbered
 from hinge.command import ROWS, Fault
-from hinge.tables import Names, numbers_or_none, one_of, read_table, whole_numbers
+from hinge.tables import read_table
 
 EVENTS = NONE, FULL, LOST, HELD, OUT = range(5)
 KINDS = ("pipe", "queue")
@@ -68,26 +69,29 @@ class Replay:
         return int(np.count_nonzero(self.event == event))
 
 
+def dotted(address: int) -> str:
+    return ".".join(str(address >> shift & 255) for shift in (24, 16, 8, 0))
+
+
 def read_packets(path: str) -> Packets:
-    addresses, targets, tuples = Names(), Names(), Names()
-    columns = read_table(path, {
-        "moment": whole_numbers, "target": one_of(KINDS), "number": whole_numbers, "src": addresses.of, "dst": addresses.of,
-        "proto": whole_numbers, "sport": whole_numbers, "dport": whole_numbers, "len": whole_numbers, "word": whole_numbers,
+    found = read_table(path, {
+        "moment": Number(), "target": OneOf(KINDS), "number": Number(), "src": Address(), "dst": Address(), "proto": Number(),
+        "sport": Number(), "dport": Number(), "len": Number(), "word": Number(),
     })
-    target = targets.of(zip(columns["target"].tolist(), columns["number"].tolist()))
-    five = ("src", "dst", "proto", "sport", "dport")
-    numbered = tuples.of(zip(*(columns[name].tolist() for name in five)))
-    kinds = [(KINDS[kind], number) for kind, number in targets.names()]
-    text = addresses.names()
-    named = [(text[src], text[dst], *rest) for src, dst, *rest in tuples.names()]
-    return Packets(path, columns["moment"], target, numbered, columns["len"], columns["word"], kinds, named)
+    target, first_of_target = numbered(found["target"], found["number"])
+    five = [found[name] for name in ("src", "dst", "proto", "sport", "dport")]
+    five_tuple, first_of_tuple = numbered(*five)
+    targets = [(KINDS[found["target"][row]], int(found["number"][row])) for row in first_of_target]
+    rows = zip(*(column[first_of_tuple].tolist() for column in five))
+    tuples = [(dotted(src), dotted(dst), proto, sport, dport) for src, dst, proto, sport, dport in rows]
+    return Packets(path, found["moment"], target, five_tuple, found["len"], found["word"], targets, tuples)
 
 
 def read_report(path: str, packets: Packets) -> Replay:
     """The report of a replay of these packets: each row has one line."""
     columns = read_table(path, {
-        "event": one_of(EVENT_NAMES), "row": whole_numbers, "flow": numbers_or_none, "packet": numbers_or_none,
-        "at": whole_numbers, "start": numbers_or_none, "due": numbers_or_none,
+        "event": OneOf(EVENT_NAMES), "row": Number(), "flow": Number(True), "packet": Number(True),
+        "at": Number(), "start": Number(True), "due": Number(True),
     })
     place = columns.pop("row") - 1
     count = np.bincount(place, minlength=len(packets)) if len(place) and place.min() >= 0 else np.zeros(len(packets), int)

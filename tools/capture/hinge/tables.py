@@ -1,99 +1,68 @@
-"""CSV files as columns of numbers, read in pieces so that a million rows fit, with the line of the first fault."""
+"""CSV files as columns of numbers, or the line of the first fault."""
 
 from __future__ import annotations
 
 import csv
-from itertools import islice
+import io
 from pathlib import Path
-from typing import Callable, Iterator
 
 import numpy as np
 
-from hinge.command import ROWS, Fault, Progress
+from hinge.columns import Bad, Column, Fields
+from hinge.command import ROWS, Fault
 
-PIECE = 1 << 16
-Reader = Callable[[tuple[str, ...]], object]
-
-
-def whole_numbers(column: tuple[str, ...]) -> np.ndarray:
-    return np.array(list(map(int, column)), dtype=np.int64)
+BYTE_ORDER_MARK = b"\xef\xbb\xbf"
+COMMA, LINE_FEED = 44, 10
 
 
-def numbers_or_none(column: tuple[str, ...]) -> np.ndarray:
-    """Numbers, and -1 where a field is empty."""
-    return np.array([int(text) if text else -1 for text in column], dtype=np.int64)
+def plain(path: str) -> bytes:
+    """The bytes of a file whose lines end in line feeds, without quotes, empty lines and a byte order mark."""
+    data = Path(path).read_bytes()
+    if data.startswith(BYTE_ORDER_MARK) or b'"' in data or b"\r" in data or b"\n\n" in data:
+        records = csv.reader(io.StringIO(data.decode("utf-8-sig"), newline=""))
+        data = "\n".join(",".join(record) for record in records if record).encode()
+    return data if data.endswith(b"\n") or not data else data + b"\n"
 
 
-class Names:
-    """Numbers names (or tuples of them) from 0 in order of first sight."""
-
-    def __init__(self, names: tuple = ()) -> None:
-        self.ids = {name: i for i, name in enumerate(names)}
-
-    def of(self, column) -> np.ndarray:
-        ids = self.ids
-        return np.array([ids.setdefault(name, len(ids)) for name in column], dtype=np.int64)
-
-    def names(self) -> list:
-        return list(self.ids)
+def fields_of(data: np.ndarray, count: int) -> list[Fields]:
+    """The fields of each column."""
+    ends = np.flatnonzero((data == COMMA) | (data == LINE_FEED))
+    if len(ends) % count:
+        raise Bad
+    begins = np.concatenate(([0], ends[:-1] + 1)) if len(ends) else ends
+    ends, begins = ends.reshape(-1, count), begins.reshape(-1, count)
+    if (data[ends[:, -1]] != LINE_FEED).any() or (data[ends[:, :-1]] != COMMA).any():
+        raise Bad
+    return [Fields(data, begins[:, place], ends[:, place] - begins[:, place]) for place in range(count)]
 
 
-def one_of(names: tuple[str, ...]) -> Reader:
-    """The number of each name among these, which are all that may stand there."""
-    ids = {name: i for i, name in enumerate(names)}
-
-    def read(column: tuple[str, ...]) -> np.ndarray:
-        try:
-            return np.array([ids[name] for name in column], dtype=np.int64)
-        except KeyError as missing:
-            raise ValueError(f"{missing} is none of {', '.join(names)}") from None
-
-    return read
-
-
-def pieces(path: str, header: str) -> Iterator[list[list[str]]]:
-    """The records of a file by pieces, without its header and its empty lines."""
-    with open(path, encoding="utf-8-sig", newline="") as file:
-        reader = csv.reader(file)
-        if (first := next(reader, None)) is not None and first != header.split(","):
-            raise Fault(f"{path} line 1: the header isn't {header}", ROWS)
-        progress, count = Progress(f"rows of {Path(path).name}"), 0
-        while piece := list(islice(reader, PIECE)):
-            count += len(piece)
-            progress.at(count)
-            yield [record for record in piece if record]
-        progress.done()
-
-
-def locate(path: str, readers: dict[str, Reader]) -> Fault:
+def locate(path: str, columns: dict[str, Column]) -> Fault:
     """The first record that can't be read, told by its line."""
     with open(path, encoding="utf-8-sig", newline="") as file:
         reader = csv.reader(file)
         next(reader, None)
         for record in filter(None, reader):
-            if len(record) != len(readers):
-                return Fault(f"{path} line {reader.line_num}: {len(record)} fields in place of {len(readers)}", ROWS)
-            for (name, read), text in zip(readers.items(), record):
+            if len(record) != len(columns):
+                return Fault(f"{path} line {reader.line_num}: {len(record)} fields in place of {len(columns)}", ROWS)
+            for (name, column), text in zip(columns.items(), record):
                 try:
-                    read((text,))
-                except (ValueError, OverflowError):
+                    column.read(Fields.of(text))
+                except Bad:
                     return Fault(f"{path} line {reader.line_num}: bad {name} {text!r}", ROWS)
     return Fault(f"{path}: can't be read", ROWS)
 
 
-def read_table(path: str, readers: dict[str, Reader]) -> dict[str, np.ndarray]:
-    """The columns of a file whose header has the names of the readers."""
-    parts: dict[str, list] = {name: [] for name in readers}
+def read_table(path: str, columns: dict[str, Column]) -> dict[str, np.ndarray]:
+    """The columns of a file whose header has these names."""
     try:
-        for piece in pieces(path, ",".join(readers)):
-            if any(len(record) != len(readers) for record in piece):
-                raise ValueError
-            for (name, read), column in zip(readers.items(), zip(*piece)):
-                parts[name].append(read(column))
+        header, _, rows = plain(path).partition(b"\n")
+        if header and header.decode() != ",".join(columns):
+            raise Fault(f"{path} line 1: the header isn't {','.join(columns)}", ROWS)
+        fields = fields_of(np.frombuffer(rows, np.uint8), len(columns))
+        return {name: column.read(found) for (name, column), found in zip(columns.items(), fields)}
     except UnicodeDecodeError:
         raise Fault(f"{path}: not UTF-8", ROWS) from None
     except csv.Error as error:
         raise Fault(f"{path}: {error}", ROWS) from None
-    except (ValueError, OverflowError):
-        raise locate(path, readers) from None
-    return {name: np.concatenate(found) if found else np.array([], dtype=np.int64) for name, found in parts.items()}
+    except Bad:
+        raise locate(path, columns) from None

@@ -4,14 +4,15 @@ from __future__ import annotations
 
 import numpy as np
 
+from hinge.columns import Number
 from hinge.command import ROWS, Fault
 from hinge.replay import Replay
-from hinge.tables import read_table, whole_numbers
+from hinge.tables import read_table
 
 
 def frames_of_rows(path: str, replay: Replay) -> np.ndarray:
     """The frame of each row, by the index that pcap2packets wrote."""
-    table = read_table(path, {"row": whole_numbers, "frame": whole_numbers})
+    table = read_table(path, {"row": Number(), "frame": Number()})
     if not np.array_equal(table["row"], np.arange(1, len(replay.packets) + 1)):
         raise Fault(f"{path}: its rows aren't those of {replay.packets.path}", ROWS)
     return table["frame"]
