@@ -1,0 +1,78 @@
+"""The table of flows against figures made by hand and from the report."""
+
+from __future__ import annotations
+
+import csv
+import io
+import unittest
+
+import numpy as np
+from kit import mixed, needs_tshark, rows_of, run, write
+
+from hinge.figures import exact_sum, jitter, mean, percentile
+from hinge.packet_rows import HEADER
+
+
+def table(*words: object) -> dict[str, dict[str, str]]:
+    done = run("stats", *words, "--csv")
+    assert done.returncode == 0, done.stderr
+    return {row["flow"]: row for row in csv.DictReader(io.StringIO(done.stdout))}
+
+
+class ByHand(unittest.TestCase):
+    def test_four_packets(self) -> None:
+        packets = write("hand.csv", HEADER + "\n" + "".join(
+            f"{moment},pipe,{pipe},10.0.0.1,10.0.0.2,17,1,2,1000,0\n" for moment, pipe in ((0, 1), (0, 1), (0, 1), (1_000_000, 1), (2_000_000, 9))))
+        report = write("hand.report", "event,row,flow,packet,at,start,due\nout,1,0,0,0,0,1000000\nout,2,0,1,0,1000000,2000000\n"
+                       "out,4,0,2,1000000,2000000,3000000\nfull,3,0,,0,,\nnone,5,,,2000000,,\n")
+        config = write("hand.config", "pipe 1 config bw 8Mbit/s queue 1\n")
+        row = table(packets, report, "--config", config)["udp 10.0.0.1:1 > 10.0.0.2:2"]
+        self.assertEqual(row, {
+            "flow": "udp 10.0.0.1:1 > 10.0.0.2:2", "packets": "5", "bytes": "5000", "offered_mbit_s": "20.000000",
+            "carried_mbit_s": "12.000000", "out": "3", "lost": "0", "full": "1", "none": "1", "held": "0", "min_ns": "1000000",
+            "mean_ns": "1666666", "p50_ns": "2000000", "p95_ns": "2000000", "p99_ns": "2000000", "max_ns": "2000000",
+            "jitter_ns": "58593", "queueing_ns": "666666", "transmission_ns": "1000000", "link_delay_ns": "0",
+        })
+        done = run("stats", packets, report, "--by", "target")
+        self.assertIn("1 rows went to pipe 9, which isn't configured", done.stderr)
+        self.assertEqual([line.split("  ")[0] for line in done.stdout.splitlines()[1:]], ["pipe 1", "pipe 9", "all"])
+
+    def test_percentiles_by_nearest_rank(self) -> None:
+        ordered = np.arange(1, 201)
+        self.assertEqual([percentile(ordered, part) for part in (50, 95, 99)], [100, 190, 198])
+        self.assertEqual([percentile(ordered[:1], part) for part in (50, 99)], [1, 1])
+        self.assertIsNone(percentile(ordered[:0], 50))
+
+    def test_sums_beyond_63_bits(self) -> None:
+        column = np.full(5, 2**62, np.int64)
+        self.assertEqual((exact_sum(column), mean(column)), (5 * 2**62, 2**62))
+
+    def test_jitter_of_a_step(self) -> None:
+        """J += (|D| - J) / 16: a steady delay has none, and one step of 16 ms leaves 1 ms."""
+        self.assertEqual(jitter(np.array([5, 5, 5])), 0)
+        self.assertEqual(jitter(np.array([0, 16_000_000])), 1_000_000)
+        self.assertIsNone(jitter(np.array([7])))
+
+
+@needs_tshark
+class Mixed(unittest.TestCase):
+    def test_counts_and_the_mean_of_the_parts(self) -> None:
+        config, packets, report = mixed("shared")
+        lines = rows_of(report)
+        rows = table(packets, report, "--config", config)
+        every = rows.pop("all")
+        for event in ("out", "lost", "full", "none", "held"):
+            count = sum(line["event"] == event for line in lines)
+            self.assertEqual(int(every[event]), count)
+            self.assertEqual(sum(int(row[event]) for row in rows.values()), count)
+        took = [int(line["due"]) - int(line["at"]) for line in lines if line["event"] == "out"]
+        self.assertEqual(int(every["mean_ns"]), sum(took) // len(took))
+        parts = sum(int(every[name]) for name in ("queueing_ns", "transmission_ns", "link_delay_ns"))
+        self.assertLessEqual(abs(parts - int(every["mean_ns"])), 3, "each mean is rounded down")
+
+    def test_the_largest_flows_and_the_rest(self) -> None:
+        _, packets, report = mixed("dsl")
+        whole, few = table(packets, report), table(packets, report, "--top", "2")
+        self.assertEqual(list(few)[2:], ["12 others", "all"])
+        self.assertEqual(list(few)[:2], list(whole)[:2])
+        self.assertEqual(sum(int(row["packets"]) for name, row in few.items() if name != "all"), int(whole["all"]["packets"]))
