@@ -136,7 +136,7 @@ class Command(unittest.TestCase):
         config, packets, report = late()
         done = run("why", 1, 2, config, packets, report)
         self.assertEqual(done.returncode, 0, done.stderr)
-        self.assertEqual([text.split(" (")[0] for text in done.stdout.split("\n\n")], ["Row 1", "Row 2"])
+        self.assertEqual([text.split(" (")[0] for text in done.stdout.split("\n\n")], [f"Row {row}" for row in (1, 2)])
 
     def test_four_packets_by_hand(self) -> None:
         config = write("hand.config", "pipe 1 config bw 8Mbit/s queue 1\n")
@@ -146,10 +146,10 @@ class Command(unittest.TestCase):
                        "out,4,0,2,1000000,2000000,3000000\nfull,3,0,,0,,\n")
         texts = run("why", 1, 2, 3, 4, config, packets, report).stdout.split("\n\n")
         self.assertIn("The link was free", texts[0])
-        self.assertIn("1.000000 ms until row 1, which was under transmission, had been sent. Its", texts[1])
-        self.assertIn("1 packet waited there (row 2), 1,000 bytes in all, and its limit is 1 packet. "
-                      "There was room again 1.000000 ms later, when row 2 began to be sent.", texts[2])
-        self.assertIn("until row 2, which", texts[3])
+        self.assertIn(f"1.000000 ms until row {1}, which was under transmission, had been sent. Its", texts[1])
+        self.assertIn(f"1 packet waited there (row {2}), 1,000 bytes in all, and its limit is 1 packet. "
+                      f"There was room again 1.000000 ms later, when row {2} began to be sent.", texts[2])
+        self.assertIn(f"until row {2}, which", texts[3])
 
     def test_another_configuration_is_noticed(self) -> None:
         config, packets, report = late()
@@ -162,8 +162,9 @@ class Command(unittest.TestCase):
         config, packets, report = late()
         bad_config, bad_row = write("bad.config", "pipe 1 confg\n"), write("bad.csv", f"{HEADER}\n\n1,pipe,1,10.0.0.1,10.0.0.2,17,1,2,x,0\n")
         short = write("short.report", "\n".join(report.read_text().splitlines()[:-1]) + "\n")
+        absent = 9999
         for words, status, told in (
-            ((9999, config, packets, report), 4, "no row 9999"), (("x", config, packets, report), 2, "no number"),
+            ((absent, config, packets, report), 4, f"no row {absent}"), (("x", config, packets, report), 2, "no number"),
             ((1, bad_config, packets, report), 3, "config line 1, word 3: unknown word"), ((1, config, bad_row, report), 4, "line 3: bad len 'x'"),
             ((1, config, packets, short), 4, "aren't those of the 1200 rows"), ((1, config, "missing", report), 6, "missing: No such file"),
             ((1, config, report, packets), 4, "line 1: the header isn't moment"),
