@@ -5,10 +5,13 @@ The outermost IP header counts. Fragments aren't put together again, since a lin
 
 from __future__ import annotations
 
+import os
 import subprocess
 import tempfile
-from contextlib import ExitStack
+from concurrent.futures import ThreadPoolExecutor
+from contextlib import ExitStack, contextmanager
 from dataclasses import dataclass
+from pathlib import Path
 from typing import IO, Iterator, Optional
 
 from hinge.command import ROWS, Fault, Progress, program, say
@@ -19,12 +22,13 @@ HEADER_BYTES = {  # of what may stand before an IP header, by tshark's name
     "eth": 14, "ethertype": 0, "vlan": 4, "ieee8021ad": 4, "pppoes": 6, "ppp": 2, "sll": 16, "raw": 0, "null": 4, "mpls": 4,
 }
 FIELDS = (
-    "frame.number frame.time_epoch frame.len frame.protocols "
+    "frame.time_epoch frame.len frame.protocols "
     "ip.src ip.dst ip.len ip.hdr_len ip.proto ip.frag_offset "
     "ipv6.src ipv6.dst ipv6.plen ipv6.nxt ipv6.hopopts.nxt ipv6.routing.nxt ipv6.fraghdr.nxt ipv6.dstopts.nxt "
     "ipv6.fraghdr.offset tcp.hdr_len tcp.srcport tcp.dstport udp.srcport udp.dstport sctp.srcport sctp.dstport "
     "dccp.srcport dccp.dstport"
 ).split()
+LARGE, FRAMES_A_PIECE = 16 << 20, 100_000
 PREFERENCES = (
     "ip.defragment:FALSE ipv6.defragment:FALSE tcp.desegment_tcp_streams:FALSE "
     "tcp.analyze_sequence_numbers:FALSE tcp.calculate_timestamps:FALSE"
@@ -78,8 +82,8 @@ def transport(value: dict[str, str], proto: int, is_later_fragment: bool) -> tup
     return int(value[f"{name}.srcport"] or 0), int(value[f"{name}.dstport"] or 0), header
 
 
-def frame_of(value: dict[str, str]) -> Optional[Frame]:
-    """The IP packet in a frame, None where there is none."""
+def frame_of(number: int, value: dict[str, str]) -> Optional[Frame]:
+    """The IP packet in the frame of a number, None where there is none."""
     protocols = value["frame.protocols"].split(":")
     ip = next((name for name in protocols if name in ("ip", "ipv6")), None)
     if ip is None or not value[f"{ip}.src"]:
@@ -97,7 +101,7 @@ def frame_of(value: dict[str, str]) -> Optional[Frame]:
         length = int(value["frame.len"]) - before
     sport, dport, header = transport(value, proto, fragment not in ("", "0"))
     return Frame(
-        int(value["frame.number"]), nanoseconds(value["frame.time_epoch"]), value[f"{ip}.src"], value[f"{ip}.dst"],
+        number, nanoseconds(value["frame.time_epoch"]), value[f"{ip}.src"], value[f"{ip}.dst"],
         proto, sport, dport, length, own + header,
     )
 
@@ -108,32 +112,48 @@ def tshark(capture: str, *words: str) -> list[str]:
     return [program("tshark", "tshark"), "-n", "-r", capture, *preferences, *words]
 
 
-def finish(process: subprocess.Popen[str], errors: IO[str], what: str) -> None:
-    """Waits for a pass, and tells tshark's own words where it failed. A capture whose last frame is incomplete is read up to it."""
-    if process.wait() == 0:
+def judge(status: int, errors: str, what: str) -> None:
+    """Tells in tshark's own words why a pass failed. A capture whose last frame is incomplete is read up to it."""
+    if status == 0:
         return
-    errors.seek(0)
-    text = " ".join(line.strip() for line in errors if line.strip() and not line.startswith("Running as"))
+    text = " ".join(line.strip() for line in errors.splitlines() if line.strip() and not line.startswith("Running as"))
     if "cut short" not in text:
         raise Fault(f"{what}: {text[:300] or 'tshark failed'}", ROWS)
     say(f"{what}: {text[:300]}")
+
+
+@contextmanager
+def pieces(capture: str) -> Iterator[list[str]]:
+    """A capture in files of so many frames, so that each processor has one to dissect; a small one stays whole."""
+    if Path(capture).stat().st_size < LARGE:
+        yield [capture]
+        return
+    with tempfile.TemporaryDirectory() as folder:
+        words = [program("editcap", "wireshark-common"), "-c", str(FRAMES_A_PIECE), capture, f"{folder}/piece.pcapng"]
+        done = subprocess.run(words, capture_output=True, text=True)
+        judge(done.returncode, done.stderr, capture)
+        yield sorted(str(path) for path in Path(folder).iterdir())
+
+
+def dissected(piece: str) -> subprocess.CompletedProcess[str]:
+    """A pass that writes a line of fields for each frame."""
+    fields = [word for field in FIELDS for word in ("-e", field)]
+    words = tshark(piece, "-T", "fields", "-E", "occurrence=f", "-E", "separator=/t", *fields)
+    return subprocess.run(words, capture_output=True, text=True)
 
 
 def frames(capture: str) -> Iterator[tuple[int, Optional[Frame]]]:
     """Each frame's number, and its IP packet where it has one."""
     with open(capture, "rb"):
         pass  # so that a missing file is told as for every other file
-    fields = [word for field in FIELDS for word in ("-e", field)]
-    words = tshark(capture, "-T", "fields", "-E", "occurrence=f", "-E", "separator=/t", *fields)
-    progress = Progress("frames")
-    with tempfile.TemporaryFile("w+") as errors:
-        with subprocess.Popen(words, stdout=subprocess.PIPE, stderr=errors, text=True, bufsize=1 << 20) as process:
-            for count, line in enumerate(process.stdout, 1):
-                yield count, frame_of(dict(zip(FIELDS, line.rstrip("\n").split("\t"))))
-                if count % 4096 == 0:
-                    progress.at(count)
-            progress.done()
-            finish(process, errors, capture)
+    number, progress = 0, Progress("frames")
+    with pieces(capture) as files, ThreadPoolExecutor(os.cpu_count()) as pool:
+        for done in pool.map(dissected, files):
+            judge(done.returncode, done.stderr, capture)
+            for number, line in enumerate(done.stdout.splitlines(), number + 1):
+                yield number, frame_of(number, dict(zip(FIELDS, line.split("\t"))))
+            progress.at(number)
+    progress.done()
 
 
 class Matches:
@@ -152,7 +172,9 @@ class Matches:
         """The frame numbers that each filter matches."""
         with self.files:
             for text, (process, _, errors) in zip(self.filters, self.passes):
-                finish(process, errors, f"--map {text!r}")
+                status = process.wait()
+                errors.seek(0)
+                judge(status, errors.read(), f"--map {text!r}")
             return {text: self._read(found) for text, (_, found, _) in zip(self.filters, self.passes)}
 
     @staticmethod

@@ -95,7 +95,8 @@ class Page:
     def lay_out(self, title: str) -> None:
         fig = self.figure
         fig.update_layout(
-            template="plotly_white", title={"text": title, "y": 0.98, "yanchor": "top"}, barmode="stack", bargap=0, hovermode="closest", hoverlabel={"align": "left"},
+            template="plotly_white", title={"text": title, "y": 0.98, "yanchor": "top"}, barmode="stack", bargap=0,
+            hovermode="closest", hoverlabel={"align": "left"},
             legend={"orientation": "h", "y": -0.08, "font": {"size": 11}}, margin={"t": 100, "l": 60, "r": 30},
         )
         for row, column, text in ((1, 1, "s"), (1, 2, "sent at, s"), (2, 1, "ms"), (2, 2, "s")):
@@ -121,7 +122,8 @@ def notes(found: Series, told: int) -> str:
     left = int(np.count_nonzero(replay.event != HELD)) - told
     if left <= 0:
         return ""
-    return f"<br><sup>{told:,} of {told + left:,} packets have a point: the fastest and the slowest of a stretch of time, and some between</sup>"
+    which = "the fastest and the slowest of a stretch of time, and some between"
+    return f"<br><sup>{told:,} of {told + left:,} packets have a point: {which}</sup>"
 
 
 def save_page(found: Series, explainer: Explainer | None, path: str, title: str) -> None:

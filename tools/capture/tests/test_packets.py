@@ -6,9 +6,12 @@ import re
 import subprocess
 import unittest
 from pathlib import Path
+from unittest import mock
 
 from captures import ETHERNET, Expected, ethernet, ip4, odd_ethernet, other_links, udp, write
 from kit import MIXED, folder, needs_tshark, rows_of, run
+
+from hinge import frames
 
 
 def expected_of(rows: list[dict[str, str]]) -> list[Expected]:
@@ -41,6 +44,12 @@ class Packets(unittest.TestCase):
                                capture_output=True, text=True, check=True).stdout.split()
         whole = [int(time.replace(".", "")) for time in times]
         self.assertEqual([int(row["moment"]) for row in rows], [time - whole[0] for time in whole])
+
+    def test_a_capture_in_pieces_has_the_same_packets(self) -> None:
+        whole = list(frames.frames(str(MIXED)))
+        with mock.patch.object(frames, "LARGE", 0), mock.patch.object(frames, "FRAMES_A_PIECE", 1000):
+            self.assertEqual(list(frames.frames(str(MIXED))), whole)
+        self.assertEqual(len(whole), 9131)
 
     def test_tags_pppoe_ipv6_fragments_and_offloaded_segments(self) -> None:
         expected = odd_ethernet(folder() / "odd.pcap")
@@ -86,8 +95,8 @@ class Packets(unittest.TestCase):
 
     def test_an_earlier_frame_behind_a_later_one_comes_in_its_place(self) -> None:
         sent = [(2_000, 1), (1_000, 2), (3_000, 3)]
-        frames = [(time, ethernet(0x0800, ip4("10.0.0.1", "10.0.0.2", 17, udp(port, 9, 1)))) for time, port in sent]
-        write(folder() / "late.pcap", ETHERNET, frames)
+        late = [(time, ethernet(0x0800, ip4("10.0.0.1", "10.0.0.2", 17, udp(port, 9, 1)))) for time, port in sent]
+        write(folder() / "late.pcap", ETHERNET, late)
         rows = packets_of(folder() / "late.pcap", "--index", "late.index")
         self.assertEqual([(row["moment"], row["sport"]) for row in rows], [("0", "2"), ("1000", "1"), ("2000", "3")])
         self.assertEqual([row["frame"] for row in rows_of(folder() / "late.index")], ["2", "1", "3"])
