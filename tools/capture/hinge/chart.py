@@ -5,7 +5,7 @@ from __future__ import annotations
 from pathlib import Path
 from typing import TYPE_CHECKING
 
-from hinge.command import module
+from hinge.command import module, working
 from hinge.series import Flow, Series
 
 if TYPE_CHECKING:
@@ -100,4 +100,5 @@ def figure(replays: list[Series], title: str) -> Figure:
 
 def save(replays: list[Series], path: str, title: str) -> None:
     module("matplotlib", "python3-matplotlib").use("Agg")
-    figure(replays, title).savefig(path, dpi=100)
+    with working("drawing"):
+        figure(replays, title).savefig(path, dpi=100)

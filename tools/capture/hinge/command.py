@@ -7,6 +7,7 @@ import importlib
 import os
 import shutil
 import sys
+import threading
 import time
 from contextlib import contextmanager
 from pathlib import Path
@@ -83,6 +84,21 @@ def writing(path: str | None) -> Iterator[TextIO]:
         return
     with open(path, "w", encoding="utf-8", newline="\n") as file:
         yield file
+
+
+@contextmanager
+def working(what: str) -> Iterator[None]:
+    """Tells on standard error, where that is a terminal, what a command is doing that takes more than two seconds."""
+    if not sys.stderr.isatty():
+        yield
+        return
+    teller = threading.Timer(PROGRESS_AFTER, lambda: print(f"\r{what} ..", end="", file=sys.stderr, flush=True))
+    teller.start()
+    try:
+        yield
+    finally:
+        teller.cancel()
+        print("\r\x1b[K", end="", file=sys.stderr, flush=True)
 
 
 class Progress:

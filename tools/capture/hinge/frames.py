@@ -14,7 +14,7 @@ from dataclasses import dataclass
 from pathlib import Path
 from typing import IO, Iterator, Optional
 
-from hinge.command import ROWS, Fault, Progress, program, say
+from hinge.command import ROWS, Fault, Progress, program, say, working
 
 PORTED = {6: "tcp", 17: "udp", 132: "sctp", 136: "udp", 33: "dccp"}
 EXTENSIONS = {0: "hopopts", 43: "routing", 44: "fraghdr", 60: "dstopts"}
@@ -142,13 +142,20 @@ def dissected(piece: str) -> subprocess.CompletedProcess[str]:
     return subprocess.run(words, capture_output=True, text=True)
 
 
+def next_of(passes: Iterator[subprocess.CompletedProcess[str]]) -> Optional[subprocess.CompletedProcess[str]]:
+    """The next pass, when it is done."""
+    with working("tshark dissects"):
+        return next(passes, None)
+
+
 def frames(capture: str) -> Iterator[tuple[int, Optional[Frame]]]:
     """Each frame's number, and its IP packet where it has one."""
     with open(capture, "rb"):
         pass  # so that a missing file is told as for every other file
     number, progress = 0, Progress("frames")
     with pieces(capture) as files, ThreadPoolExecutor(os.cpu_count()) as pool:
-        for done in pool.map(dissected, files):
+        passes = pool.map(dissected, files)
+        while (done := next_of(passes)) is not None:
             judge(done.returncode, done.stderr, capture)
             for number, line in enumerate(done.stdout.splitlines(), number + 1):
                 yield number, frame_of(number, dict(zip(FIELDS, line.split("\t"))))

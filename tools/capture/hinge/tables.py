@@ -9,7 +9,7 @@ from pathlib import Path
 import numpy as np
 
 from hinge.columns import Bad, Column, Fields
-from hinge.command import ROWS, Fault
+from hinge.command import ROWS, Fault, working
 
 BYTE_ORDER_MARK = b"\xef\xbb\xbf"
 COMMA, LINE_FEED = 44, 10
@@ -52,14 +52,20 @@ def locate(path: str, columns: dict[str, Column]) -> Fault:
     return Fault(f"{path}: can't be read", ROWS)
 
 
+def columns_of(path: str, columns: dict[str, Column]) -> dict[str, np.ndarray]:
+    """The columns of a file; Bad is raised where some field isn't of its kind."""
+    header, _, rows = plain(path).partition(b"\n")
+    if header and header.decode() != ",".join(columns):
+        raise Fault(f"{path} line 1: the header isn't {','.join(columns)}", ROWS)
+    fields = fields_of(np.frombuffer(rows, np.uint8), len(columns))
+    return {name: column.read(found) for (name, column), found in zip(columns.items(), fields)}
+
+
 def read_table(path: str, columns: dict[str, Column]) -> dict[str, np.ndarray]:
     """The columns of a file whose header has these names."""
     try:
-        header, _, rows = plain(path).partition(b"\n")
-        if header and header.decode() != ",".join(columns):
-            raise Fault(f"{path} line 1: the header isn't {','.join(columns)}", ROWS)
-        fields = fields_of(np.frombuffer(rows, np.uint8), len(columns))
-        return {name: column.read(found) for (name, column), found in zip(columns.items(), fields)}
+        with working(f"reading {Path(path).name}"):
+            return columns_of(path, columns)
     except UnicodeDecodeError:
         raise Fault(f"{path}: not UTF-8", ROWS) from None
     except csv.Error as error:
