@@ -81,3 +81,10 @@ def figures_of_all(replay: Replay, parts: Optional[Parts]) -> Figures:
     """The figures of all rows; jitter is one flow's, so they have none."""
     found = figures("all", replay, parts, np.arange(len(replay.packets)))
     return Figures(found.name, {**found.value, "jitter_ns": None})
+
+
+def untargeted(replay: Replay) -> dict[str, int]:
+    """How many rows went to each target that isn't configured."""
+    targets = replay.packets.targets
+    counts = np.bincount(replay.packets.target[replay.event == NONE], minlength=len(targets)).tolist()
+    return {f"{kind} {number}": count for (kind, number), count in zip(targets, counts) if count}

@@ -4,6 +4,7 @@ from __future__ import annotations
 
 import numpy as np
 
+from hinge.capture_file import CaptureFile, write_frame, write_header
 from hinge.columns import Number
 from hinge.command import ROWS, Fault
 from hinge.replay import Replay
@@ -30,3 +31,18 @@ def arrivals(replay: Replay, frames: np.ndarray) -> list[tuple[int, int]]:
     arrived = np.flatnonzero((rows > 0) & (left == rows))
     order = np.lexsort((arrived, last[arrived]))
     return list(zip(last[arrived][order].tolist(), arrived[order].tolist()))
+
+
+def write_arrivals(capture: CaptureFile, replay: Replay, frames: np.ndarray, path: str) -> int:
+    """Writes the frames that arrive, and tells how many there are."""
+    records = capture.records
+    if len(frames) and frames.max() > len(records):
+        raise Fault(f"the index has frame {frames.max()}, and the capture {len(records)} frames", ROWS)
+    began = records[frames[0] - 1].time - int(replay.packets.moment[0]) if len(frames) else 0
+    arrived = arrivals(replay, frames)
+    with open(path, "wb") as out:
+        write_header(out, capture.link_type)
+        for moment, frame in arrived:
+            record = records[frame - 1]
+            write_frame(out, began + moment, record.length, capture.data[record.begin:record.end])
+    return len(arrived)
