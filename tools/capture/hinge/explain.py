@@ -34,7 +34,7 @@ class Explainer:
     def paragraph(self, row: int) -> str:
         """What happened to a row of the packet file, counted from 1."""
         if not 1 <= row <= len(self.packets):
-            raise Fault(f"{self.packets.path} has rows 1 to {len(self.packets)}, and no row {row}", ROWS)
+            raise Fault(f"{self.packets.path} has {len(self.packets)} rows, and no row {row}", ROWS)
         place = row - 1
         tell = {OUT: self.delivered, HELD: self.held, LOST: self.lost, FULL: self.full, NONE: self.untargeted}
         return f"{self.sent(place)} {tell[int(self.replay.event[place])](place)}"

@@ -36,20 +36,35 @@ def fields_of(data: np.ndarray, count: int) -> list[Fields]:
     return [Fields(data, begins[:, place], ends[:, place] - begins[:, place]) for place in range(count)]
 
 
+def fault_of(record: list[str], columns: dict[str, Column]) -> str | None:
+    """What is wrong with a record."""
+    if len(record) != len(columns):
+        return f"{len(record)} fields in place of {len(columns)}"
+    for (name, column), text in zip(columns.items(), record):
+        try:
+            column.read(Fields.of(text))
+        except Bad:
+            return f"bad {name} {text!r}"
+    return None
+
+
 def locate(path: str, columns: dict[str, Column]) -> Fault:
     """The first record that can't be read, told by its line."""
-    with open(path, encoding="utf-8-sig", newline="") as file:
+    with open(path, encoding="utf-8-sig", errors="replace", newline="") as file:
         reader = csv.reader(file)
         next(reader, None)
         for record in filter(None, reader):
-            if len(record) != len(columns):
-                return Fault(f"{path} line {reader.line_num}: {len(record)} fields in place of {len(columns)}", ROWS)
-            for (name, column), text in zip(columns.items(), record):
-                try:
-                    column.read(Fields.of(text))
-                except Bad:
-                    return Fault(f"{path} line {reader.line_num}: bad {name} {text!r}", ROWS)
+            if (fault := fault_of(record, columns)) is not None:
+                return Fault(f"{path} line {reader.line_num}: {fault}", ROWS)
     return Fault(f"{path}: can't be read", ROWS)
+
+
+def located(path: str, columns: dict[str, Column]) -> Fault:
+    """The fault of a file, also where it is no CSV at all."""
+    try:
+        return locate(path, columns)
+    except csv.Error as error:
+        return Fault(f"{path}: {error}", ROWS)
 
 
 def columns_of(path: str, columns: dict[str, Column]) -> dict[str, np.ndarray]:
@@ -66,9 +81,5 @@ def read_table(path: str, columns: dict[str, Column]) -> dict[str, np.ndarray]:
     try:
         with working(f"reading {Path(path).name}"):
             return columns_of(path, columns)
-    except UnicodeDecodeError:
-        raise Fault(f"{path}: not UTF-8", ROWS) from None
-    except csv.Error as error:
-        raise Fault(f"{path}: {error}", ROWS) from None
-    except Bad:
-        raise locate(path, columns) from None
+    except (Bad, UnicodeDecodeError, csv.Error):
+        raise located(path, columns) from None

@@ -16,6 +16,8 @@ def frames_of_rows(path: str, replay: Replay) -> np.ndarray:
     table = read_table(path, {"row": Number(), "frame": Number()})
     if not np.array_equal(table["row"], np.arange(1, len(replay.packets) + 1)):
         raise Fault(f"{path}: its rows aren't those of {replay.packets.path}", ROWS)
+    if (table["frame"] < 1).any():
+        raise Fault(f"{path}: frames are counted from 1", ROWS)
     return table["frame"]
 
 

@@ -7,7 +7,7 @@ import unittest
 from functools import lru_cache
 from pathlib import Path
 
-from kit import mixed, needs_tshark, parts_of, replay, run, rows_of, write
+from kit import folder, mixed, needs_tshark, parts_of, replay, run, rows_of, write
 
 from hinge.explain import Explainer
 from hinge.links import Parts
@@ -163,10 +163,11 @@ class Command(unittest.TestCase):
         bad_config, bad_row = write("bad.config", "pipe 1 confg\n"), write("bad.csv", f"{HEADER}\n\n1,pipe,1,10.0.0.1,10.0.0.2,17,1,2,x,0\n")
         short = write("short.report", "\n".join(report.read_text().splitlines()[:-1]) + "\n")
         absent = 9999
+        (folder() / "bytes.csv").write_bytes(f"{HEADER}\n1,pipe,1,10.0.0.1,10.0.0.2,17,1,\n".encode() + b"\xff\n")
         for words, status, told in (
             ((absent, config, packets, report), 4, f"no row {absent}"), (("x", config, packets, report), 2, "no number"),
             ((1, bad_config, packets, report), 3, "config line 1, word 3: unknown word"), ((1, config, bad_row, report), 4, "line 3: bad len 'x'"),
-            ((1, config, packets, short), 4, "aren't those of the 1200 rows"), ((1, config, "missing", report), 6, "missing: No such file"),
+            ((1, config, "bytes.csv", report), 4, "line 2: 8 fields in place of 10"), ((1, config, packets, short), 4, "aren't those of the 1200 rows"), ((1, config, "missing", report), 6, "missing: No such file"),
             ((1, config, report, packets), 4, "line 1: the header isn't moment"),
         ):
             done = run("why", *words)
