@@ -1,4 +1,4 @@
-"""Writes one history with so many links that the shaper reads ahead, with the replies of tools/oracle/fast.py.
+"""Writes one history with thousands of links, with the replies of tools/oracle/fast.py.
 
     python3 tools/many_links_cases.py SEED PACKETS      (crates/check_histories reads it, by `rt try` or as it is built)
 

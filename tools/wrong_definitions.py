@@ -1,9 +1,10 @@
 #!/usr/bin/env python3
 """Tries wrong definitions of dn_types one at a time, and asks that the laws refuse each.
 
-    tools/wrong_definitions.py              prints a table in Markdown: definition, law, what the prover refused
+    tools/wrong_definitions.py              prints a table in Markdown: a law, and the wrong definitions that it refuses
     tools/wrong_definitions.py 3 17         tries these rows alone
     tools/wrong_definitions.py --list       prints the rows and tries nothing
+    tools/wrong_definitions.py --table      prints the table as it is if each row is refused, and tries nothing
 
 Each row changes one line of crates/dn_types/specs in a copy from which the worked examples, the lists of calls and the
 witnesses are taken out, and checks the function of `laws` with the law that is false of the definition. A row passes where
@@ -174,13 +175,13 @@ def check(crate, function):
 
 
 def try_row(crate, row):
-    """One line of the table, and whether the row went as it should."""
-    wrong, name, old, new, function, clause = row
+    """What was refused, and whether the row went as it should."""
+    _, name, old, new, function, _ = row
     spec = os.path.join(crate, 'specs', name + '.antt')
     with open(spec) as file:
         right = file.read()
     if old not in right:
-        return '| %s | the text to change is not in %s | |' % (wrong, name), False
+        return 'the text to change is not in ' + name, False
     try:
         with open(spec, 'w') as file:
             file.write(right.replace(old, new))
@@ -189,15 +190,29 @@ def try_row(crate, row):
         with open(spec, 'w') as file:
             file.write(right)
     if function is None:
-        return '| %s | none: examples alone | %s |' % (wrong, refused), finished
+        return refused, finished
     refuses = finished and function in unproved
-    return '| %s | `%s`, `%s` | %s |' % (wrong, function, clause, refused if refuses else '**not refused**'), refuses
+    return refused if refuses else 'not refused', refuses
+
+
+def print_table(rows):
+    """The laws in the order of their first row, each with the definitions that it refuses."""
+    by_law = {}
+    for wrong, _, _, _, function, clause in rows:
+        law = '`%s`, `%s`' % (function, clause) if function else 'none: pinned by examples alone'
+        by_law.setdefault(law, []).append(wrong)
+    print('| Law | Wrong definitions of which it is false |\n|---|---|')
+    for law, wrongs in by_law.items():
+        print('| %s | %s |' % (law, '; '.join(wrongs)))
 
 
 def main(arguments):
     if '--list' in arguments:
         for place, row in enumerate(ROWS, 1):
             print(place, row[0])
+        return 0
+    if '--table' in arguments:
+        print_table(ROWS)
         return 0
     rows = [ROWS[int(argument) - 1] for argument in arguments] or ROWS
     with tempfile.TemporaryDirectory() as folder:
@@ -206,14 +221,14 @@ def main(arguments):
         if unproved or not finished:
             print('the laws are not proved of the right definitions:', ', '.join(sorted(unproved)))
             return 1
-        print('| Wrong definition | Law that is false of it | Lemma refused |\n|---|---|---|')
-        failures = 0
+        passed = []
         for row in rows:
-            line, good = try_row(crate, row)
-            print(line, flush=True)
-            failures += not good
-    print('\n%d tried, %d not refused' % (len(rows), failures))
-    return 1 if failures else 0
+            told, good = try_row(crate, row)
+            print('%s: %s' % (row[0], told), file=sys.stderr, flush=True)
+            passed += [row] if good else []
+    print_table(passed)
+    print('\n%d tried, %d not refused' % (len(rows), len(rows) - len(passed)))
+    return 0 if len(passed) == len(rows) else 1
 
 
 if __name__ == '__main__':
