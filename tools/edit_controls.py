@@ -59,6 +59,24 @@ CONTROLS = {
         ("ghost use Rattle.dn_types.specs.Clock", "ghost use Rattle.dn_types.specs.Replies.{reply}; ghost use Rattle.dn_types.specs.Clock"),
         ("ensures err {", "ensures ok { IfOk result (λ r. (rule : RuleValue) (calls : List CallValue) → StandsAfter rule self.old calls"
          " → (r ≡ reply rule calls call.now) × StandsAfter rule self.new (call.now ∷ calls)) } ensures err {")],
+    "dn_shaper/without_the_verdict": [
+        ("Table.{flow_at, lengths}", "Table.{flow_at, lengths, verdict_of}"),
+        ("ensures fits {", "ensures value { result ≡ verdict_of rule.now.loss rule.now.limit packet.now.word"
+         " (flow_at self.now.flows flow).backlog } ensures fits {")],
+    "dn_shaper/without_what_is_due": [
+        ("Line.{after_due}", "Line.{after_due, due_first}"),
+        ("ensures pending {", "ensures value { result ≡ due_first at self.old.pending } ensures pending {")],
+    "dn_shaper/without_which_is_picked": [
+        ("ghost use Rattle.dn_types.specs.Wf2q.{pick};", "ghost use Rattle.std.specs.Option.{option_map}; ghost use Rattle.dn_types.specs.Wf2q.{pick};"),
+        ("ensures some {", "ensures picks { result ≡ option_map (λ h. h.flow) (pick self.old.virtual_time (heads_of self.old.flows)) } ensures some {")],
+    "dn_files/without_the_fault_of_a_line": [("IfOk result (λ command. Ok command ≡ answer line.now)", "result ≡ answer line.now")],
+    "dn_replay/without_the_answers_of_a_caller": [
+        ("Prelude.{OnErr};", "Prelude.{OnErr}; ghost use Rattle.dn_service.specs.Callers.{Answered};"),
+        ("ensures same_caller {", "ensures ok { IfOk result (λ reply. Answered self.old call reply self.new) } ensures same_caller {")],
+    "dn_replay/without_the_replies_of_the_shaper": [
+        ("Prelude.{List};", "Prelude.{◌≡◌, ◌∷◌, List}; ghost use Rattle.dn_types.specs.Replies.{reply};"),
+        ("ensures err {", "ensures ok { IfOk result (λ r. (rule : RuleValue) (calls : List CallValue) → StandsAfter rule self.old calls"
+         " → (r ≡ reply rule calls call.now) × StandsAfter rule self.new (call.now ∷ calls)) } ensures err {")],
 }
 
 
