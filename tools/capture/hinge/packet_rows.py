@@ -54,7 +54,7 @@ class PacketRows:
 
     def lines(self, frame: Frame, moment: int) -> Iterator[str]:
         """The rows of a frame, none where no rule gives it a target."""
-        target = self.targets.of(frame.number)
+        target = self.targets.of(frame)
         if target is None:
             self.counts["unmapped"] += 1
             return

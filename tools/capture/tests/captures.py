@@ -10,7 +10,7 @@ from pathlib import Path
 
 from hinge.capture_file import write_frame, write_header
 
-ETHERNET, RAW, COOKED = 1, 101, 113
+ETHERNET, PPP, RAW, COOKED, COOKED_2 = 1, 9, 101, 113, 276
 BEGAN = 1_700_000_000_123_456_789  # ns since 1970
 
 
@@ -67,6 +67,19 @@ def write(path: Path, link_type: int, frames: list[tuple[int, bytes]]) -> None:
             write_frame(out, time, len(frame), frame)
 
 
+def block(kind: int, body: bytes) -> bytes:
+    """A block of a pcapng file."""
+    length = len(body) + -len(body) % 4 + 12
+    return struct.pack("<II", kind, length) + body.ljust(length - 12, b"\0") + struct.pack("<I", length)
+
+
+def without_times(path: Path) -> None:
+    """A pcapng with a simple packet block, which has no time."""
+    frame = ethernet(0x0800, ip4("10.0.0.1", "10.0.0.2", 17, udp(1, 2, 3)))
+    section, interface = struct.pack("<IHHq", 0x1A2B3C4D, 1, 0, -1), struct.pack("<HHI", ETHERNET, 0, 65535)
+    path.write_bytes(block(0x0A0D0D0A, section) + block(1, interface) + block(3, struct.pack("<I", len(frame)) + frame))
+
+
 def odd_ethernet(path: Path) -> list[Expected]:
     """Ethernet with tags, PPPoE, IPv6 with an extension header, fragments, segments of length 0, and frames that aren't IP."""
     first, second = "192.0.2.1", "198.51.100.2"
@@ -103,3 +116,39 @@ def other_links(folder: Path) -> list[Expected]:
         Expected(9_999_999, "10.0.0.3", "10.0.0.4", 132, 3, 4, 32),
         Expected(21_000_001, "10.0.0.1", "10.0.0.2", 47, 0, 0, 50),
     ]
+
+
+def nested(folder: Path) -> list[Path]:
+    """Captures of headers within headers, of IPv6 fragments and extension headers, and of further links."""
+    first, second = "192.0.2.1", "198.51.100.2"
+    four, six = ip4(first, second, 17, udp(1000, 53, 40)), ip6("2001:db8::1", "2001:db8::2", 6, tcp(7, 8, 5))
+    session = struct.pack("!BBHHH", 0x11, 0, 3, len(four) + 2, 0x21) + four
+    fragment = [struct.pack("!BBHI", 17, 0, offset << 3 | more, 9) for offset, more in ((0, 1), (20, 0))]
+    options = b"".join(struct.pack("!BB6x", following, 0) for following in (43, 60, 17))  # hop-by-hop, routing, destination
+    label = struct.pack("!I", 100 << 12 | 0x1FF)
+    frames = [
+        ethernet(0x88A8, struct.pack("!HH", 5, 0x8100) + struct.pack("!HH", 6, 0x0800) + four),
+        ethernet(0x88A8, struct.pack("!HH", 5, 0x86DD) + six),
+        ethernet(0x8864, session, (7,)),
+        ethernet(0x8847, label + four),
+        ethernet(0x8847, label + six, (9,)),
+        ethernet(0x86DD, ip6("2001:db8::1", "2001:db8::2", 44, fragment[0] + udp(1, 2, 152))),
+        ethernet(0x86DD, ip6("2001:db8::1", "2001:db8::2", 44, fragment[1] + bytes(60))),
+        ethernet(0x86DD, ip6("2001:db8::1", "2001:db8::2", 0, options + udp(3, 4, 20))),
+        ethernet(0x86DD, ip6("2001:db8::1", "2001:db8::2", 58, b"\x80" + bytes(7))),
+        ethernet(0x86DD, ip6("2001:db8::1", "2001:db8::2", 4, four)),
+        ethernet(0x0800, ip4(first, second, 41, six)),
+        ethernet(0x0800, ip4(first, second, 47, bytes(2) + b"\x08\x00" + four)),
+        ethernet(0x0800, b"\x46" + four[1:20] + bytes(4) + four[20:]),  # its header has an option
+        ethernet(0x0800, four + bytes(18)),  # bytes behind the packet
+        ethernet(0x0800, b"\x43" + four[1:]),  # no valid header
+        ethernet(0x0800, four[:9]),
+        ethernet(len(four) + 8, b"\xaa\xaa\x03\0\0\0\x08\0" + four),
+        ethernet(0x0806, bytes(28), (5,)),
+    ]
+    paths = [folder / name for name in ("nested.pcap", "sll2.pcap", "ppp.pcap", "raw6.pcap")]
+    second_cooked = struct.pack("!HHIHBBQ", 0x86DD, 0, 1, 1, 4, 6, 0) + six
+    contents = [(ETHERNET, frames), (COOKED_2, [second_cooked]), (PPP, [b"\0\x21" + four, b"\0\x57" + six]), (RAW, [six, four])]
+    for path, (link_type, several) in zip(paths, contents):
+        write(path, link_type, [(BEGAN + 1_000_001 * number, frame) for number, frame in enumerate(several)])
+    return paths

@@ -2,16 +2,21 @@
 
 from __future__ import annotations
 
+import gzip
+import importlib.util
+import os
 import re
+import shutil
 import subprocess
 import unittest
 from pathlib import Path
 from unittest import mock
 
-from captures import ETHERNET, Expected, ethernet, ip4, odd_ethernet, other_links, udp, write
+from captures import ETHERNET, Expected, ethernet, ip4, nested, odd_ethernet, other_links, udp, without_times, write
 from kit import MIXED, folder, needs_tshark, rows_of, run
 
-from hinge import frames
+from hinge import tshark
+from hinge.dissect import frames
 
 
 def expected_of(rows: list[dict[str, str]]) -> list[Expected]:
@@ -35,6 +40,70 @@ def tshark_totals(capture: Path) -> tuple[int, int]:
     return four + six, four_bytes + six_bytes + 40 * six
 
 
+def without_tshark() -> dict[str, str]:
+    """An environment in which the commands find no tshark."""
+    return {**os.environ, "PATH": ""}
+
+
+def edited(name: str, capture: Path, *words: str) -> Path:
+    """What editcap makes of a capture."""
+    subprocess.run(["editcap", *words, str(capture), str(folder() / name)], check=True, capture_output=True)
+    return folder() / name
+
+
+def every_capture() -> list[Path]:
+    """Those that the tests write, mixed.pcap, and some of them in other forms."""
+    odd_ethernet(folder() / "odd.pcap")
+    other_links(folder())
+    several, raw = nested(folder()), (folder() / "raw.pcap").read_bytes()
+    half, swapped, twice = folder() / "half.pcap", folder() / "swapped.pcap", folder() / "twice.pcapng"
+    half.write_bytes(MIXED.read_bytes()[:50_000])
+    packet = raw[40:40 + int.from_bytes(raw[32:36], "little")]
+    fields = [0xA1B2C3D4, 0x2_0004, 0, 0, 65535, 101, 1_700_000_000, 123_456, len(packet), len(packet)]  # in microseconds
+    swapped.write_bytes(b"".join(field.to_bytes(4, "big") for field in fields) + packet)
+    sections = [edited("a.pcapng", folder() / "odd.pcap", "-F", "pcapng"), folder() / "other.pcapng"]
+    twice.write_bytes(b"".join(section.read_bytes() for section in sections))
+    (folder() / "mixed.pcap.gz").write_bytes(gzip.compress(MIXED.read_bytes(), 1))
+    cut = [edited(f"{size}.{capture.name}", capture, "-s", str(size), "-F", "pcap")
+           for size in (40, 56, 66) for capture in (folder() / "odd.pcap", several[0])]
+    return [MIXED, folder() / "odd.pcap", folder() / "other.pcapng", *several, half, swapped, twice, folder() / "mixed.pcap.gz", *cut]
+
+
+@needs_tshark
+@unittest.skipUnless(importlib.util.find_spec("scapy"), "scapy isn't there: apt-get install python3-scapy")
+class Dissectors(unittest.TestCase):
+    """scapy, in an environment without tshark, finds what tshark finds."""
+
+    def written(self, capture: Path, by: str) -> list[object]:
+        """The two files, the counts, and whether an incomplete last frame was told."""
+        done = run("pcap2packets", capture, "-o", f"{by}.csv", "--index", f"{by}.index", "--mtu", 1500,
+                   "--map", "udp dport 53 => queue 2", "--map", "src 2001:db8::/32 => queue 1", "--map", "=> pipe 3",
+                   env=without_tshark() if by == "scapy" else None)
+        self.assertEqual(done.returncode, 0, done.stderr)
+        self.assertEqual("scapy dissects" in done.stderr, by == "scapy")
+        files = [(folder() / f"{by}.{end}").read_text() for end in ("csv", "index")]
+        return [*files, done.stderr.splitlines()[-1], "cut short" in done.stderr]
+
+    def test_both_write_the_same_files(self) -> None:
+        for capture in every_capture():
+            with self.subTest(capture=capture.name):
+                self.assertEqual(self.written(capture, "scapy"), self.written(capture, "tshark"))
+
+    def test_what_scapy_cannot_do_is_one_line(self) -> None:
+        (folder() / "text.pcap").write_text("no capture")
+        write(folder() / "other.pcap", 147, [(0, bytes(60))])
+        without_times(folder() / "timeless.pcapng")
+        for words, status, line in (
+            ([MIXED, "--map", "tcp.flags.syn == 1 => pipe 9"], 7, "a display filter needs tshark"), (["text.pcap"], 4, "Not a supported"),
+            (["other.pcap"], 7, "link type 147 needs tshark"),
+            (["timeless.pcapng"], 4, "frame 1 of the capture has no time"), (["missing.pcap"], 6, "missing.pcap"),
+        ):
+            done = run("pcap2packets", *words, env=without_tshark())
+            self.assertEqual(done.returncode, status, done.stderr)
+            self.assertIn(line, done.stderr.splitlines()[-1])
+            self.assertNotIn("Traceback", done.stderr)
+
+
 @needs_tshark
 class Packets(unittest.TestCase):
     def test_a_real_capture_has_tsharks_counts_bytes_and_times(self) -> None:
@@ -46,9 +115,9 @@ class Packets(unittest.TestCase):
         self.assertEqual([int(row["moment"]) for row in rows], [time - whole[0] for time in whole])
 
     def test_a_capture_in_pieces_has_the_same_packets(self) -> None:
-        whole = list(frames.frames(str(MIXED)))
-        with mock.patch.object(frames, "LARGE", 0), mock.patch.object(frames, "FRAMES_A_PIECE", 1000):
-            self.assertEqual(list(frames.frames(str(MIXED))), whole)
+        whole = list(frames(str(MIXED)))
+        with mock.patch.object(tshark, "LARGE", 0), mock.patch.object(tshark, "FRAMES_A_PIECE", 1000):
+            self.assertEqual(list(frames(str(MIXED))), whole)
         self.assertEqual(len(whole), 9131)
 
     def test_tags_pppoe_ipv6_fragments_and_offloaded_segments(self) -> None:
@@ -110,8 +179,10 @@ class Packets(unittest.TestCase):
 
     def test_faults_are_one_line(self) -> None:
         (folder() / "text.pcap").write_text("no capture")
+        without_times(folder() / "timeless.pcapng")
         for words, status in (
-            (["missing.pcap"], 6), (["text.pcap"], 4), ([MIXED, "--map", "a b c => pipe 1"], 4), ([MIXED, "--map", "=> pipe 0"], 2),
+            (["missing.pcap"], 6), (["text.pcap"], 4), (["timeless.pcapng"], 4),
+            ([MIXED, "--map", "a b c => pipe 1"], 4), ([MIXED, "--map", "=> pipe 0"], 2), ([MIXED, "--map", "src 10.0.0.0/33 => pipe 1"], 2),
             ([MIXED, "--mtu", "10"], 2), ([MIXED, "-o", "nowhere/packets.csv"], 6),
         ):
             done = run("pcap2packets", *words)
