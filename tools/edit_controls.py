@@ -23,14 +23,9 @@ IS_LEAST = "ghost use Rattle.dn_heap.specs.Heap.{IsLeast}; "
 
 # For each edit the pairs that undo its mistake, each applied to the text that the edit puts in.
 CONTROLS = {
-    "dn_heap/pops_another_key": [("push(Reverse(top)).unwrap(); return Some(next);", "push(Reverse(next)).unwrap();")],
+    "dn_heap/pop_keeps_its_room": [("self.room -= 1;", "self.room += 0;")],
     "dn_heap/reserves_without_the_keys_of_the_heap": [(".min(n))", ".max(n))")],
-    "dn_wf2q/left_in_waiting_heap": [("self.waiting.push_reserved(first);", "let _ = first.slot();")],
-    "dn_wf2q/never_raises_virtual_time": [("top.tag() * 0", "top.tag() * 1")],
     "dn_wf2q/one_place_too_few": [(".saturating_sub(1)", ".saturating_sub(0)")],
-    "dn_wf2q/pick_not_counted": [("slot.is_some() as u64", "0")],
-    "dn_wf2q/picked_left_out_of_sum": [
-        ("before.saturating_add(growth(sent.len, weights.saturating_sub(sent.weight as u128).max(1)) as u128)", "self.virtual_time")],
     "dn_wf2q/picks_ineligible": [("top.tag() * 0", "top.tag() * 1")],
     "dn_wf2q/start_tag_behind_a_packet": [("|| last < virtual_time", "|| last < last")],
     "dn_wf2q/ties_by_arrival": [(".then(self.entered.cmp(&other.entered))", ".then(self.slot.cmp(&other.slot))")],
@@ -43,10 +38,8 @@ CONTROLS = {
     "dn_link/without_the_value_of_a_bandwidth": [("ensures in_range", "ensures value { result ≡ self } ensures in_range")],
     "dn_flows/full_at_bytes_counting_the_new_packet": [("u64::from(self.bytes) + u64::from(packet.len.get()) >", "u64::from(self.bytes) >")],
     "dn_flows/limit_before_loss": [("&& !self.is_full(&rule.limit)", "&& self.len == self.len")],
-    "dn_flows/makes_a_flow_for_each_packet": [("&& flow == 0", "&& flow == flow")],
+    "dn_flows/answers_the_flow_before": [("saturating_sub(1)", "saturating_sub(0)")],
     "dn_text/greatest_is_out_of_range": [(".saturating_sub(1)", ".saturating_sub(0)")],
-    "dn_text/range_before_shape": [("if value == beyond", "if value > beyond")],
-    "dn_text/separator_anywhere": [("*byte == b' '", "*byte == b'\\n'")],
     "dn_service/a_packet_recorded_twice": [("pages.history.push_reserved(", "drop(")],
     "dn_service/always_busy": [("number < 16", "number >= 16")],
     "dn_service/front_forgets": [("pages.history.clear();", "let _ = pages.history.len();")],
