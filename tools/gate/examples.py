@@ -31,7 +31,7 @@ def main(program: str) -> int:
             tally.note(f"{made.name} by tools/examples.py", "" if made.read_bytes() == (EXAMPLES / made.name).read_bytes() else "differs")
     with open(EXAMPLES / "first.txt", "rb") as first:
         done = subprocess.run([program], stdin=first, capture_output=True, text=True)
-    tally.note("the report in README.md", "" if f"```\n{done.stdout}```" in (TOP / "README.md").read_text() else "isn't what first.txt gives")
+    tally.note("the report in README.md", "" if f"< examples/first.txt\n{done.stdout}```" in (TOP / "README.md").read_text() else "isn't what first.txt gives")
     return tally.end()
 
 

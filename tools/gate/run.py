@@ -82,7 +82,7 @@ def parts(cases: str, seed: int) -> list[Part]:
     refused = "memory_refuses_leaves_no_trace"
     # A list that is refused room for more asks again for just enough, so one refusal is hidden where two in a row aren't.
     growths = [("test_replay", "memory::"), ("test_shaper", "refused_growths::"), ("test_parts", "scheduler::"),
-               ("test_parts", "heap::"), ("test_parts", "link::"), ("test_parts", "flows::"),
+               ("test_parts", "heap::"), *[("test_parts", f"{part}::a_refused_growth_changes_nothing") for part in ("link", "flows")],
                *[("test_service", f"one_caller::a_{call}_that_{refused}", row) for call in ("call", "try") for row in ("1", "2")]]
     capture = TOP / "tools" / "capture" / "test"
     return [
