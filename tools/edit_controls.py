@@ -23,7 +23,6 @@ IS_LEAST = "ghost use Rattle.dn_heap.specs.Heap.{IsLeast}; "
 
 # For each edit the pairs that undo its mistake, each applied to the text that the edit puts in.
 CONTROLS = {
-    "dn_heap/pop_keeps_its_room": [("self.room -= 1;", "self.room += 0;")],
     "dn_heap/reserves_without_the_keys_of_the_heap": [(".min(n))", ".max(n))")],
     "dn_wf2q/one_place_too_few": [(".saturating_sub(1)", ".saturating_sub(0)")],
     "dn_wf2q/picks_ineligible": [("top.tag() * 0", "top.tag() * 1")],
@@ -52,10 +51,6 @@ CONTROLS = {
         ("ghost use Rattle.dn_types.specs.Clock", "ghost use Rattle.dn_types.specs.Replies.{reply}; ghost use Rattle.dn_types.specs.Clock"),
         ("ensures err {", "ensures ok { IfOk result (λ r. (rule : RuleValue) (calls : List CallValue) → StandsAfter rule self.old calls"
          " → (r ≡ reply rule calls call.now) × StandsAfter rule self.new (call.now ∷ calls)) } ensures err {")],
-    "dn_shaper/without_the_verdict": [
-        ("Table.{flow_at, lengths}", "Table.{flow_at, lengths, verdict_of}"),
-        ("ensures fits {", "ensures value { result ≡ verdict_of rule.now.loss rule.now.limit packet.now.word"
-         " (flow_at self.now.flows flow).backlog } ensures fits {")],
     "dn_shaper/without_what_is_due": [
         ("Line.{after_due}", "Line.{after_due, due_first}"),
         ("ensures pending {", "ensures value { result ≡ due_first at self.old.pending } ensures pending {")],
