@@ -1,7 +1,8 @@
 -- What a Collect takes. The packets that `pop_due` gives one after the other, up to the first None, are `given` of
 -- the definition of the emulator, and what is left is what `undelivered` keeps: at None `due-none` and `not_due-none` say
 -- that nothing in the line is due.
-use Rattle.std.proofs.Common.{◌≡◌, ℕ, ◌<◌, ◌≤◌, Bool, true, false, cond, nat_le, nat_lt, List, [], ◌∷◌, filter, All, Some, None, is_some, refl, sym, ap, ◌∙◌, arith, inl, inr}
+use Rattle.std.proofs.Common.{◌≡◌, ℕ, ◌<◌, ◌≤◌, Bool, true, false, cond, nat_le, nat_lt, List, [], ◌∷◌, filter, All, Some, None, is_some, refl, sym, ap, subst, ◌∙◌, arith, inl, inr, length, Contains}
+use Rattle.std.specs.Prelude.{option_map, slice_get}
 use Rattle.std.specs.Ordering.{is_lt}
 use Rattle.std.proofs.lemmas.List.Elements.{All-nil, All-cons}
 use Rattle.std.proofs.lemmas.Bool.{cases_lt}
@@ -13,7 +14,7 @@ use Rattle.dn_types.specs.Links.{last_due}
 use Rattle.dn_types.specs.Trace.{Event, opened, arrived, started, lost, refused, discarded, collected}
 use Rattle.dn_link.specs.Line.{all_in_order, due_first}
 use Rattle.dn_link.proofs.Placed.{NoneBefore, Ascends, ascends_placed, ascends_filtered}
-use Rattle.dn_link.proofs.InOrder.{strict, in_order_placed, first_due}
+use Rattle.dn_link.proofs.InOrder.{strict, in_order_placed, first_due, first_in_order}
 
 -- The packets that are due at the moment, and those that aren't.
 abbrev pub due_at : ℕ → List Delivery → List Delivery
@@ -97,3 +98,24 @@ later-none at (d ∷ ds) ordered h =
 pub IsInOrder-all_in_order : (ds : List Delivery) → IsInOrder (all_in_order ds)
 IsInOrder-all_in_order [] = tt
 IsInOrder-all_in_order (d ∷ ds) = IsInOrder-in_order d (all_in_order ds) (IsInOrder-all_in_order ds)
+
+-- No packet is due before the first.
+no_sooner : (d : Delivery) (ds : List Delivery) → NoneBefore is_given_before d ds → All (λ e. d.due ≤ e.due) ds
+no_sooner d [] behind = All-nil (λ (e : Delivery). d.due ≤ e.due)
+no_sooner d (e ∷ es) behind = All-cons (λ (x : Delivery). d.due ≤ x.due) e es (due_order d e behind.0) (no_sooner d es behind.1)
+
+-- The due moment of a least packet that a heap holds is the first one's, and the least of all.
+module _ (d : Delivery) (ds : List Delivery) (held : Contains ds d) (least : All (λ e. is_lt (delivery_cmp e d) ≡ false) ds) where
+  pub least-value : Some d.due ≡ option_map (λ (x : Delivery). x.due) (slice_get (all_in_order ds) 0)
+  least-value = let found = first_in_order d ds held least in sym (ap (λ (l : List Delivery). option_map (λ (x : Delivery). x.due) (slice_get l 0)) found.1)
+
+  pub least-due : All (λ e. d.due ≤ e.due) (all_in_order ds)
+  least-due =
+      let found = first_in_order d ds held least in
+      let ordered : IsInOrder (d ∷ found.0) = subst IsInOrder found.1 (IsInOrder-all_in_order ds) in
+      subst (All (λ (e : Delivery). d.due ≤ e.due)) (sym found.1) (All-cons (λ (e : Delivery). d.due ≤ e.due) d found.0 (omega arith) (no_sooner d found.0 ordered.0))
+
+-- Where a heap gives none it holds none, and no packet is the first.
+pub none-value : (ds : List Delivery) → (0 < length ds → false ≡ true) → None ≡ option_map (λ (x : Delivery). x.due) (slice_get (all_in_order ds) 0)
+none-value [] none = refl
+none-value (d ∷ ds) none = absurd (let z : false ≡ true = none (omega arith) in cc)

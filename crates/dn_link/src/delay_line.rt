@@ -1,4 +1,4 @@
-ghost use Rattle.std.specs.Prelude.{◌≡◌, ◌+◌, ◌<◌, ◌≤◌, ◌^◌, [], length, max, is_some, All, IfSome, IfNone, IsOk, OnOk, OnErr};
+ghost use Rattle.std.specs.Prelude.{◌≡◌, ◌+◌, ◌<◌, ◌≤◌, ◌^◌, [], length, max, is_some, option_map, slice_get, All, IfSome, IfNone, IsOk, OnOk, OnErr};
 ghost use Rattle.dn_types.specs.Deliveries.{in_order};
 ghost use Rattle.dn_link.specs.Line.{all_in_order, due_first, after_due};
 
@@ -77,6 +77,18 @@ impl DelayLine {
             self.heap.pop()
         } else {
             None
+        }
+    }
+
+    /// The due moment of the first packet, in nanoseconds: no other is due sooner. None where no packet is
+    /// under way.
+    pub fn first_due(&self) -> Option<u64>
+        ensures value { result ≡ option_map (λ d. d.due) (slice_get self.now.pending 0) }
+        ensures least { IfSome result (λ due. All (λ d. due ≤ d.due) self.now.pending) }
+    {
+        match self.heap.peek() {
+            Some(first) => Some(first.due),
+            None => None,
         }
     }
 
