@@ -28,7 +28,7 @@ CALLERS = {
         "new": ["state::new_state"],
         "reserve": ["make::make_link"],
         "push_reserved": ["accept::accept", "settle::settle_one"],
-        "peek": ["settle::settle_one"],
+        "peek": ["settle::settle_one", "wake::first_free"],
         "pop": ["settle::settle_one"],
         "retain": ["discard::forget_emptied"],
     },
@@ -37,6 +37,7 @@ CALLERS = {
         "reserve": ["make::make_home", "reserve::reserve_known"],
         "push_reserved": ["start::send"],
         "pop_due": ["collect::give"],
+        "first_due": ["shaper::wake"],
         "len": ["shaper::reply_room", "collect::collect"],
     },
     "dn_link link": {

@@ -55,3 +55,4 @@ pub mod Submitting
 pub mod Taking
 pub mod Unseen
 pub mod Waiting
+pub mod Waking

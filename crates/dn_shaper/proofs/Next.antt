@@ -63,6 +63,12 @@ length-stamped : (ps : List Accepted) → length (stamped_of ps) ≡ length ps
 length-stamped [] = refl
 length-stamped (p ∷ ps) = let rest = length-stamped ps in omega arith
 
+-- Next starts that are each a function of the link are that function of the links' names.
+pub nexts-from : (next : Link → Option ℕ) (views : List LinkView) → ((k : ℕ) (v : LinkView) → slice_get views k ≡ Some v → next_start_of v ≡ next v.link) →
+    next_starts views ≡ map next (link_names views)
+nexts-from next [] h = refl
+nexts-from next (v ∷ views) h = λ i. h 0 v refl i ∷ nexts-from next views (λ k w e. h (suc k) w e) i
+
 module _ (rule : Rule) (accepted : ℕ) (keys : List FlowKey) (homes : List Home) (views : List LinkView) (flows : List FlowState) (pending : List Delivery)
     (more : List Link) (trace : List Event) (a : IsAt rule accepted keys homes views flows pending more trace) where
   -- A flow with packets on a link is at home there, and has a key.
@@ -233,11 +239,6 @@ module _ (rule : Rule) (accepted : ℕ) (keys : List FlowKey) (homes : List Home
           backlog-flow v.link flow trace p 0 e,
         )
 
-  nexts_from : (vs : List LinkView) → ((k : ℕ) (v : LinkView) → slice_get vs k ≡ Some v → next_start_of v ≡ moment_of_next trace v.link) →
-      map next_start_of vs ≡ map (moment_of_next trace) (map (λ v. v.link) vs)
-  nexts_from [] h = refl
-  nexts_from (v ∷ vs) h = λ i. h 0 v refl i ∷ nexts_from vs (λ k w e. h (suc k) w e) i
-
   -- The next starts are those of the trace.
   pub nexts-agree : next_starts views ≡ map (moment_of_next trace) (link_names views)
-  nexts-agree = nexts_from views (λ k v there. nexts_is k v there)
+  nexts-agree = nexts-from (moment_of_next trace) views (λ k v there. nexts_is k v there)

@@ -1,3 +1,4 @@
 pub mod Refinement
 pub mod Shaper
 pub mod Standing
+pub mod Waking

@@ -10,3 +10,4 @@ pub mod parts;
 pub mod settle;
 pub mod shared_link;
 pub mod start;
+pub mod wake;

@@ -1,19 +1,21 @@
-ghost use Rattle.std.specs.Prelude.{◌≡◌, ℕ, ◌≤◌, ◌^◌, List, [], ◌∷◌, length, max, IfOk, OnErr, IsOk};
+ghost use Rattle.std.specs.Prelude.{◌≡◌, ℕ, ◌<◌, ◌≤◌, ◌^◌, List, [], ◌∷◌, length, max, IfSome, IfOk, OnErr, IsOk};
 ghost use Rattle.dn_types.specs.Calls.{trace_of};
-ghost use Rattle.dn_types.specs.Clock.{call_limit, counted};
+ghost use Rattle.dn_types.specs.Clock.{call_limit, counted, effective_moment};
 ghost use Rattle.dn_types.specs.Flows.{keys};
 ghost use Rattle.dn_types.specs.Replies.{reply};
 ghost use Rattle.dn_types.specs.declared.call.Call.{Call as CallValue};
-ghost use Rattle.dn_types.specs.declared.call.Call.TheVariants.{Advance};
+ghost use Rattle.dn_types.specs.declared.call.Call.TheVariants.{Advance, Collect};
 ghost use Rattle.dn_types.specs.declared.rule.Rule.{Rule as RuleValue};
 ghost use Rattle.dn_types.specs.declared.rule.Rule.TheVariants.{Ordered};
 ghost use Rattle.dn_shaper.specs.Shaper.{CanNeedMemory, StandsAfter, held, items_in};
+ghost use Rattle.dn_shaper.specs.Waking.{wake_of};
 
 use crate::calls::advance::advance;
 use crate::calls::collect::collect;
 use crate::calls::configure::configure;
 use crate::calls::show::show;
 use crate::calls::submit::submit;
+use crate::links::wake::{earlier, first_free};
 use crate::state::{State, new_state};
 use dn_types::{Call, Delivery, Reply, Rule};
 use std::alloc::{AllocError, Global};
@@ -102,6 +104,18 @@ impl Shaper {
         ensures bound { result ≤ 2 ^ 62 }
     {
         self.state.calls
+    }
+
+    /// When to ask next, in nanoseconds: if no other call comes, no Collect with an effective moment before
+    /// it gives a packet. It is the earliest of the due moments of the packets under way and of the
+    /// moments from which the links with a backlog are free, and None where no packet waits or is under
+    /// way. A Collect at it may give none: then a packet has started, and the next answer is later.
+    pub fn wake(&self) -> Option<u64>
+        ensures value { (rule : RuleValue) (calls : List CallValue) → StandsAfter rule self.now calls → result ≡ wake_of rule (trace_of (counted calls)) }
+        ensures quiet { (rule : RuleValue) (calls : List CallValue) → StandsAfter rule self.now calls → (moment : ℕ) → IfSome result (λ next. max (effective_moment (counted calls)) moment < next) → items_in (reply rule calls (Collect moment)) ≡ 0 }
+    {
+        let due = self.state.parts.line.first_due();
+        earlier(due, first_free(&self.state.heap))
     }
 
     /// The list in the next reply has at most so many items: the greater of the count of packets that
