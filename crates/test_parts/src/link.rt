@@ -104,24 +104,33 @@ fn check_due(rt: &impl Abort, line: &mut DelayLine, moment: u64, want: Option<De
     assert!(rt; line.pop_due(moment) == want);
 }
 
-/// Pushes a packet that is due at 5 ns if there is room.
-fn push(line: &mut DelayLine, packet: u64) {
+fn check_first_due(rt: &impl Abort, line: &DelayLine, want: Option<u64>) {
+    assert!(rt; line.first_due() == want);
+}
+
+/// Pushes a packet if there is room.
+fn push(line: &mut DelayLine, due: u64, packet: u64) {
     if line.room() > 0 && line.pushed() < 100 {
-        line.push_reserved(delivery(5, packet));
+        line.push_reserved(delivery(due, packet));
     }
 }
 
 fn check_parts(rt: &impl Abort, line: &mut DelayLine) -> Result<(), AllocError> {
-    line.reserve(2)?;
-    push(line, 1);
-    push(line, 0);
-    check_line(rt, line, 2, 0);
+    line.reserve(3)?;
+    check_first_due(rt, line, None);
+    push(line, 7, 2);
+    push(line, 5, 1);
+    push(line, 5, 0);
+    check_line(rt, line, 3, 0);
+    check_first_due(rt, line, Some(5));
     check_due(rt, line, 4, None);
     check_due(rt, line, 5, Some(delivery(5, 0)));
     check_due(rt, line, 5, Some(delivery(5, 1)));
     check_due(rt, line, 5, None);
-    check_line(rt, line, 0, 2);
-    assert!(rt; line.pushed() == 2);
+    check_first_due(rt, line, Some(7));
+    check_due(rt, line, 7, Some(delivery(7, 2)));
+    check_line(rt, line, 0, 3);
+    assert!(rt; line.pushed() == 3);
     Ok(())
 }
 
@@ -145,7 +154,7 @@ fn reserved_again(rt: &impl Abort, line: &mut DelayLine, n: usize) -> Result<(),
 
 fn check_refused_growth(rt: &impl Abort, line: &mut DelayLine) -> Result<(), AllocError> {
     reserved_again(rt, line, 1)?;
-    push(line, 0);
+    push(line, 5, 0);
     reserved_again(rt, line, 2)?;
     // Room that is there takes no memory.
     assert!(rt; line.reserve(2).is_ok());

@@ -60,6 +60,15 @@ fn replies_by(alloc: Global, rule: Rule, calls: &[Call]) -> Result<Vec<Reply>, A
     }
 }
 
+/// The reply to a call. Where it is refused, it is made again.
+pub fn answer(rt: &impl Print, shaper: &mut Shaper, call: &Call) -> Result<Reply, Fail> {
+    if let Ok(reply) = shaper.apply(call) {
+        return Ok(reply);
+    }
+    println!(rt; "a growth was refused")?;
+    Ok(shaper.apply(call)?)
+}
+
 /// The reply to the call at a place is the one that its step wants.
 pub fn is_wanted(
     rt: &impl Abort,

@@ -36,4 +36,6 @@ mod step;
 #[cfg(test)]
 mod trial;
 #[cfg(test)]
+mod wake;
+#[cfg(test)]
 mod wanted;

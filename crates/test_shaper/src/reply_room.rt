@@ -1,23 +1,13 @@
 //! The room of the next reply by itself: the greater of what is held and the count of flows.
 
-use crate::example::is_wanted;
+use crate::example::{answer, is_wanted};
 use crate::step::{Step, collect, config, to_pipe};
 use crate::wanted::{delivery, queued};
 use dn_shaper::Shaper;
-use dn_types::{Call, Reply};
 use std::alloc::Global;
 use std::io::Print;
 use std::process::Abort;
 use std::test::Fail;
-
-// The reply to a call. Where it is refused, it is made again.
-fn answer(rt: &impl Print, shaper: &mut Shaper, call: &Call) -> Result<Reply, Fail> {
-    if let Ok(reply) = shaper.apply(call) {
-        return Ok(reply);
-    }
-    println!(rt; "a growth was refused")?;
-    Ok(shaper.apply(call)?)
-}
 
 // After each step the next reply has the room that stands beside it.
 fn check_rooms(
