@@ -5,7 +5,7 @@ set -e
 cd "$(dirname "$0")/.."
 kit=$(dirname "$(rt doc | tail -1)")
 (cd crates/bench_sched && rt lib)
-ours=crates/bench_sched/out/libsched_bench.a
+ours=crates/bench_sched/out/libbench_sched.a
 work=$(mktemp -d)
 trap 'rm -rf "$work"' EXIT
 cc -O2 -o "$work/refused" bench/sched_refused.c tools/refused_growths.c "$ours" "$kit/c/liblibc_c.a" \
