@@ -27,8 +27,9 @@ CONTROLS = {
     "dn_heap/reserves_without_the_keys_of_the_heap": [(".min(n))", ".max(n))")],
     "dn_wf2q/one_place_too_few": [(".saturating_sub(1)", ".saturating_sub(0)")],
     "dn_wf2q/picks_ineligible": [("top.tag() * 0", "top.tag() * 1")],
-    "dn_wf2q/start_tag_behind_a_packet": [("|| last < virtual_time", "|| last < last")],
+    "dn_wf2q/stamped_by_virtual_time": [("min(1 << 95)", "min(0)")],
     "dn_wf2q/ties_by_arrival": [(".then(self.entered.cmp(&other.entered))", ".then(self.slot.cmp(&other.slot))")],
+    "dn_wf2q/weight_at_the_pick": [("weight.max(next.weight.min(0))", "next.weight.max(weight.min(0))")],
     "dn_wf2q/without_the_least_key": [
         ("use dn_heap::MinHeap;", IS_LEAST + "ghost use Rattle.dn_wf2q.specs.Rank.{rank_cmp}; use dn_heap::MinHeap;"),
         ("ensures keys {", LEAST % "rank_cmp")],

@@ -1,5 +1,5 @@
 -- A packet arrives.
-use Rattle.std.proofs.Common.{◌≡◌, ℕ, ◌+◌, ◌^◌, ◌==◌, ◌<◌, ◌≤◌, cond, max, Bool, true, false, Some, None, List, [], ◌∷◌, ◌++◌, length, map, All, refl, sym, ap, ◌∙◌, arith, inl, inr, slice_index_or, get_or, set, sum_by, nat_lt}
+use Rattle.std.proofs.Common.{◌≡◌, ℕ, ◌+◌, ◌^◌, ◌==◌, ◌<◌, ◌≤◌, cond, max, Bool, true, false, Some, None, List, [], ◌∷◌, ◌++◌, length, map, All, refl, sym, ap, ◌∙◌, subst, arith, inl, inr, slice_index_or, get_or, set, sum_by, nat_lt}
 use Rattle.std.proofs.lemmas.List.{get_or-set_same, get_or-set_other, length-set, length-map, map-append, length_push}
 use Rattle.std.proofs.lemmas.List.Sums.{sum_by-set}
 use Rattle.std.proofs.lemmas.List.Elements.{All-weaker, All-set, All-push}
@@ -13,13 +13,15 @@ use Rattle.dn_wf2q.specs.declared.tagged_queue.TaggedQueue.{TaggedQueue}
 use Rattle.dn_wf2q.specs.declared.sched_parts.SchedParts.{SchedParts}
 use Rattle.dn_wf2q.specs.Rank.{RankView}
 use Rattle.dn_wf2q.specs.Schedule.{Flow, flow_at, no_packets, room_at, stamped, joined_by, after_arrival}
-use Rattle.dn_wf2q.specs.Kept.{Kept, IsSchedKept, IsKeptWithout, IsEligible, IsWaiting, IsWithin, AreTagsWithin, flows_of, seen, tagged, arriving, last_finish_tag_in, by_slot, places, presence, behind, head_weight, bound, none_absent, only_absent}
+use Rattle.dn_wf2q.specs.Queue.{arriving, last_finish_tag_in, packets_of, places, IsQueueKept}
+use Rattle.dn_wf2q.specs.Kept.{Kept, IsSchedKept, IsKeptWithout, IsEligible, IsWaiting, IsWithin, AreTagsWithin, flows_of, seen, tagged, by_slot, presence, behind, head_weight, bound, none_absent, only_absent}
 use Rattle.dn_wf2q.specs.Steps.{ArrivesAtSlot}
 use Rattle.dn_wf2q.proofs.BySlot.{length-by_slot, by_slot-set}
 use Rattle.dn_wf2q.proofs.Heads.{head_stays, presence_grows, presence_begins, head_begins, flow_within, flow_within_more, cond-le, flow_at_seen, room_listed, room_of_others}
 use Rattle.dn_wf2q.proofs.Counts.{waiting-set}
 use Rattle.dn_wf2q.proofs.Ranks.{absent_same, absent_other}
 use Rattle.dn_wf2q.proofs.Sent.{scaled-le}
+use Rattle.dn_wf2q.proofs.Payable.{bound_fits}
 
 module _ {flows : List Flow} {eligible waiting : Heap RankView} {virtual_time weights arrivals picks : ℕ}
     (kept : Kept none_absent [] flows eligible waiting virtual_time weights arrivals picks) (slot len weight : ℕ)
@@ -156,23 +158,24 @@ module _ (p : SchedParts) (kept : IsSchedKept p) (slot len weight : ℕ) (short 
     last_fits =
         let l = (flow_within (bound p.arrivals p.picks) (flows_of p) slot kept.kept.bounded).0 in
         let m = rw same_flow at l in
-        let few = kept.few in
-        let a = kept.kept.pushed in
-        let b = kept.kept.picked in
-        omega (arith, m)
+        omega (arith, m, bound_fits p kept)
+
+    pub was_kept : IsQueueKept p.busy_from q
+    was_kept = subst (IsQueueKept p.busy_from) (sym at) (kept.queues slot q listed)
 
     abbrev made : TaggedPacket
     made = arriving p.busy_from q p.virtual_time len weight
 
-    module _ (r : TaggedQueue) (packets : r.packets.items ≡ q.packets.items ++ made ∷ []) (last : r.last_finish_tag ≡ made.finish_tag) (arrived : r.arrived ≡ p.arrivals + 1) where
+    module _ (r : TaggedQueue) (packets : packets_of r ≡ packets_of q ++ made ∷ []) (last : r.last_finish_tag ≡ made.finish_tag) (arrived : r.arrived ≡ p.arrivals + 1)
+        (whole : IsQueueKept p.busy_from r) where
       stamped_is : tagged slot made ≡ stamped slot (seen p.busy_from slot q) p.virtual_time len weight
-      stamped_is = rw (length-map q.packets.items (tagged slot)) refl
+      stamped_is = rw (length-map (packets_of q) (tagged slot)) refl
 
       seen_is : seen p.busy_from slot r ≡ joined_by (seen p.busy_from slot q) (stamped slot (seen p.busy_from slot q) p.virtual_time len weight)
       seen_is =
           let b = kept.began in
           let e : nat_lt p.busy_from (p.arrivals + 1) ≡ true = grind (arith, nat_tests) in
-          rw (packets, last, arrived, e, map-append (tagged slot) q.packets.items (made ∷ [])) (ap (joined_by (seen p.busy_from slot q)) stamped_is)
+          rw (packets, last, arrived, e, map-append (tagged slot) (packets_of q) (made ∷ [])) (ap (joined_by (seen p.busy_from slot q)) stamped_is)
 
       flows_is : by_slot (seen p.busy_from) (set p.flows.items slot r) ≡ after_arrival (flows_of p) slot p.virtual_time len weight
       flows_is = by_slot-set (seen p.busy_from) p.flows.items slot r ∙ ap (λ y. set (flows_of p) slot y) (rw same_flow seen_is)
@@ -200,6 +203,9 @@ module _ (p : SchedParts) (kept : IsSchedKept p) (slot len weight : ℕ) (short 
           All-set (λ y. y.arrived ≤ p.arrivals + 1) p.flows.items slot r (omega arith)
           (All-weaker (λ y. y.arrived ≤ p.arrivals) (λ y. y.arrived ≤ p.arrivals + 1) (λ y h. omega arith) p.flows.items kept.arrived)
 
+      all_whole : All (IsQueueKept p.busy_from) (set p.flows.items slot r)
+      all_whole = All-set (IsQueueKept p.busy_from) p.flows.items slot r whole kept.queues
+
       -- The parts then.
       abbrev pub arrived_parts : SchedParts
       arrived_parts = record {
@@ -213,24 +219,25 @@ module _ (p : SchedParts) (kept : IsSchedKept p) (slot len weight : ℕ) (short 
         picks = p.picks;
       }
 
-      pub busy_kept : p.arrivals < 2 ^ 62 → cond (length q.packets.items == 0) (Some made) None ≡ None → IsSchedKept arrived_parts
+      pub busy_kept : p.arrivals < 2 ^ 62 → cond (length (packets_of q) == 0) (Some made) None ≡ None → IsSchedKept arrived_parts
       busy_kept few e =
-          let n = unanswered (length q.packets.items == 0) made e in
-          let busy : 0 < length q.packets.items = grind (arith, nat_tests) in
-          let long = length-map q.packets.items (tagged slot) in
+          let n = unanswered (length (packets_of q) == 0) made e in
+          let busy : 0 < length (packets_of q) = grind (arith, nat_tests) in
+          let long = length-map (packets_of q) (tagged slot) in
           record {
             kept = rw flows_is (behind_kept kept.kept slot len weight listed' short some most (rw same_flow (omega (arith, long, busy))));
             few = omega arith;
             began = let b = kept.began in omega arith;
             arrived = all_arrived;
+            queues = all_whole;
           }
 
-      pub idle_kept : (h : TaggedPacket) → p.arrivals < 2 ^ 62 → cond (length q.packets.items == 0) (Some made) None ≡ Some h → IsKeptWithout slot h arrived_parts
+      pub idle_kept : (h : TaggedPacket) → p.arrivals < 2 ^ 62 → cond (length (packets_of q) == 0) (Some made) None ≡ Some h → IsKeptWithout slot h arrived_parts
       idle_kept h few e =
-          let a = answered (length q.packets.items == 0) made h e in
+          let a = answered (length (packets_of q) == 0) made h e in
           let t = a.0 in
-          let empty : length q.packets.items ≡ 0 = grind (arith, nat_tests) in
-          let long = length-map q.packets.items (tagged slot) in
+          let empty : length (packets_of q) ≡ 0 = grind (arith, nat_tests) in
+          let long = length-map (packets_of q) (tagged slot) in
           let none : length (flow_at (flows_of p) slot).backlog ≡ 0 = rw same_flow (omega (arith, long, empty)) in
           let f = flow_at (flows_of p) slot in
           let y = stamped slot f p.virtual_time len weight in
@@ -240,6 +247,7 @@ module _ (p : SchedParts) (kept : IsSchedKept p) (slot len weight : ℕ) (short 
               few = omega arith;
               began = let b = kept.began in omega arith;
               arrived = all_arrived;
+              queues = all_whole;
             },
             rw (flows_is, get_or-set_same (flows_of p) slot (joined_by f y) no_packets listed', is) (head_begins (λ z. z ≡ y) f.backlog y none refl),
           )

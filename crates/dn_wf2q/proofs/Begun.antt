@@ -1,18 +1,22 @@
 -- A busy period begins.
-use Rattle.std.proofs.Common.{◌≡◌, ℕ, zero, suc, ◌+◌, ◌≤◌, List, [], ◌∷◌, length, All, refl, sym, ◌∙◌, arith, nat_lt, false}
+use Rattle.std.proofs.Common.{◌≡◌, ℕ, zero, suc, ◌+◌, ◌≤◌, List, [], ◌∷◌, length, All, refl, sym, ap, ◌∙◌, arith, nat_lt, false, get_or, Option, Some, None}
 use Rattle.std.specs.List.{sum_by}
 use Rattle.std.proofs.lemmas.List.{length-map}
-use Rattle.std.proofs.lemmas.List.Sums.{sum_by-cons}
+use Rattle.std.proofs.lemmas.List.Sums.{sum_by-cons, get_or-le-sum_by}
 use Rattle.std.proofs.lemmas.List.Elements.{All-nil, All-cons, All-head, All-tail}
 use Rattle.std.proofs.lemmas.Bool.Decides.{nat_tests}
 use Rattle.dn_types.specs.Wf2q.{Stamped}
 use Rattle.dn_heap.specs.Heap.{Heap}
+use Rattle.dn_wf2q.specs.declared.queued_packet.QueuedPacket.{QueuedPacket}
 use Rattle.dn_wf2q.specs.declared.tagged_queue.TaggedQueue.{TaggedQueue}
 use Rattle.dn_wf2q.specs.declared.sched_parts.SchedParts.{SchedParts}
 use Rattle.dn_wf2q.specs.Rank.{RankView}
-use Rattle.dn_wf2q.specs.Schedule.{Flow, flow_at, IsIdle, forgotten, without_tag}
-use Rattle.dn_wf2q.specs.Kept.{Kept, IsSchedKept, AreTagsWithin, flows_of, seen, by_slot, presence, behind, head_weight, bound, none_absent}
-use Rattle.dn_wf2q.proofs.Counts.{idle_no_heads}
+use Rattle.dn_wf2q.specs.Schedule.{Flow, flow_at, no_packets, IsIdle, forgotten, without_tag}
+use Rattle.dn_wf2q.specs.Kept.{Kept, IsSchedKept, AreTagsWithin, flows_of, seen, tagged, by_slot, presence, behind, head_weight, bound, none_absent}
+use Rattle.dn_wf2q.specs.Queue.{behind_of, packets_of, stamped_from, IsChained, IsQueueKept}
+use Rattle.dn_wf2q.proofs.BySlot.{length-by_slot}
+use Rattle.dn_wf2q.proofs.Heads.{flow_at_seen}
+use Rattle.dn_wf2q.proofs.Counts.{idle_no_heads, waiting_is}
 
 -- A sum over backlogs does not depend on finish tags.
 sum_forgotten : (h : List Stamped → ℕ) (flows : List Flow) → sum_by (λ fl. h fl.backlog) (forgotten flows) ≡ sum_by (λ fl. h fl.backlog) flows
@@ -67,10 +71,27 @@ module _ {flows : List Flow} {eligible waiting : Heap RankView} {virtual_time we
         waiting_room = let c = kept.waiting_room in omega arith;
       }
 
+none_waits : (a b c d last f : ℕ) (behind : List QueuedPacket) (head : Option QueuedPacket) → length (stamped_from head f behind) ≡ 0
+    → IsChained a c last f behind head → IsChained b d last f behind head
+none_waits a b c d last f behind None e k = k
+none_waits a b c d last f behind (Some h) e k = absurd (omega arith)
+
+-- No packet waits in any queue, so that none has to have arrived in this busy period.
+idle_queues : (p : SchedParts) → IsIdle (flows_of p) → All (IsQueueKept p.busy_from) p.flows.items → (a : ℕ) → All (IsQueueKept a) p.flows.items
+idle_queues p idle h a = λ i d l.
+    let q = get_or p.flows.items i d in
+    let long = length-by_slot (seen p.busy_from) p.flows.items in
+    let one : length (flow_at (flows_of p) i).backlog ≤ sum_by (λ fl. length fl.backlog) (flows_of p) = get_or-le-sum_by (λ fl. length fl.backlog) (flows_of p) i no_packets (omega (arith, long, l)) in
+    let all = waiting_is (flows_of p) in
+    let same = ap (λ (fl : Flow). length fl.backlog) (flow_at_seen p.busy_from p.flows.items i d l) in
+    let count = length-map (packets_of q) (tagged i) in
+    none_waits p.busy_from a q.arrived q.arrived q.last_finish_tag q.finish_tag (behind_of q.behind) q.head (omega (arith, one, all, idle, same, count)) (h i d l)
+
 pub begun : (p : SchedParts) → IsSchedKept p → IsIdle (flows_of p) → IsSchedKept (record p { virtual_time = 0; busy_from = p.arrivals })
 begun p kept idle = record {
   kept = rw (flows_forgotten p.busy_from p.arrivals p.flows.items kept.arrived) (begun_kept kept.kept idle);
   few = kept.few;
   began = omega arith;
   arrived = kept.arrived;
+  queues = idle_queues p idle kept.queues p.arrivals;
 }

@@ -14,7 +14,8 @@ use Rattle.dn_wf2q.specs.declared.tagged_queue.TaggedQueue.{TaggedQueue}
 use Rattle.dn_wf2q.specs.declared.sched_parts.SchedParts.{SchedParts}
 use Rattle.dn_wf2q.specs.Rank.{RankView, rank_cmp}
 use Rattle.dn_wf2q.specs.Schedule.{Flow, flow_at, no_packets, after_discard}
-use Rattle.dn_wf2q.specs.Kept.{Kept, IsSchedKept, HeadIs, IsEligible, IsWaiting, IsWithin, AreTagsWithin, presence, behind, head_weight, ranks_at, bound, flows_of, seen, tagged, by_slot, first_packet, places, none_absent}
+use Rattle.dn_wf2q.specs.Queue.{first_packet, places, packets_of, IsQueueKept}
+use Rattle.dn_wf2q.specs.Kept.{Kept, IsSchedKept, HeadIs, IsEligible, IsWaiting, IsWithin, AreTagsWithin, presence, behind, head_weight, ranks_at, bound, flows_of, seen, tagged, by_slot, none_absent}
 use Rattle.dn_wf2q.specs.Steps.{DiscardsSlot}
 use Rattle.dn_wf2q.proofs.BySlot.{length-by_slot, by_slot-set}
 use Rattle.dn_wf2q.proofs.Heads.{head_says, head_there, head_both, head_weighs, presence-le, flow_at_seen, room_grows, cond_zero, next_is}
@@ -145,8 +146,8 @@ beyond p slot l =
     }
 
 module _ (p : SchedParts) (kept : IsSchedKept p) (slot : ℕ) (listed : slot < length p.flows.items) (q : TaggedQueue)
-    (at : q ≡ get_or p.flows.items slot q) (r : TaggedQueue) (packets : r.packets.items ≡ []) (last : r.last_finish_tag ≡ 0)
-    (arrived : r.arrived ≡ q.arrived) (room : places q ≤ places r) where
+    (at : q ≡ get_or p.flows.items slot q) (r : TaggedQueue) (packets : packets_of r ≡ []) (last : r.last_finish_tag ≡ 0)
+    (arrived : r.arrived ≡ q.arrived) (whole : (b : ℕ) → IsQueueKept b r) (room : places q ≤ places r) where
   same_flow : flow_at (flows_of p) slot ≡ seen p.busy_from slot q
   same_flow = flow_at_seen p.busy_from p.flows.items slot q listed ∙ ap (seen p.busy_from slot) (sym at)
 
@@ -177,6 +178,9 @@ module _ (p : SchedParts) (kept : IsSchedKept p) (slot : ℕ) (listed : slot < l
   all_arrived : All (λ x. x.arrived ≤ p.arrivals) (set p.flows.items slot r)
   all_arrived = All-set (λ x. x.arrived ≤ p.arrivals) p.flows.items slot r (rw (arrived, at) (kept.arrived slot q listed)) kept.arrived
 
+  all_whole : All (IsQueueKept p.busy_from) (set p.flows.items slot r)
+  all_whole = All-set (IsQueueKept p.busy_from) p.flows.items slot r (whole p.busy_from) kept.queues
+
   abbrev pub left_parts : Heap RankView → Heap RankView → ℕ → SchedParts
   left_parts es ws w = record {
     flows = with_item p.flows slot r;
@@ -190,14 +194,14 @@ module _ (p : SchedParts) (kept : IsSchedKept p) (slot : ℕ) (listed : slot < l
   }
 
   made : (es ws : Heap RankView) (w : ℕ) → Kept none_absent [] (set (flows_of p) slot no_packets) es ws p.virtual_time w p.arrivals p.picks → IsSchedKept (left_parts es ws w)
-  made es ws w k = record { kept = rw flows_is k; few = kept.few; began = kept.began; arrived = all_arrived }
+  made es ws w k = record { kept = rw flows_is k; few = kept.few; began = kept.began; arrived = all_arrived; queues = all_whole }
 
-  pub idle_left : q.packets.items ≡ [] → IsSchedKept (left_parts p.eligible p.waiting p.weights)
+  pub idle_left : packets_of q ≡ [] → IsSchedKept (left_parts p.eligible p.waiting p.weights)
   idle_left nil = made p.eligible p.waiting p.weights (forgot_idle kept.kept slot listed' (rw (same_flow, nil) refl) (rw (same_flow, nil) refl))
 
-  module _ (h : TaggedPacket) (is : first_packet q.packets.items ≡ Some h) where
+  module _ (h : TaggedPacket) (is : first_packet (packets_of q) ≡ Some h) where
     is' : HeadIs (λ x. x ≡ tagged slot h) (flow_at (flows_of p) slot).backlog
-    is' = rw same_flow (next_is slot q.packets.items h is)
+    is' = rw same_flow (next_is slot (packets_of q) h is)
 
     weight_is : head_weight (flow_at (flows_of p) slot).backlog ≡ h.weight
     weight_is = head_weighs (tagged slot h) (flow_at (flows_of p) slot).backlog is'

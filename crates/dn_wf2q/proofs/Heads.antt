@@ -1,5 +1,5 @@
 -- Heads of flows.
-use Rattle.std.proofs.Common.{◌≡◌, ℕ, zero, suc, ◌+◌, ◌<◌, ◌≤◌, List, [], ◌∷◌, ◌++◌, length, refl, ap, arith, inl, inr, All, get_or, set, map, take, Some, None, Bool, true, false, cond}
+use Rattle.std.proofs.Common.{◌≡◌, ℕ, zero, suc, ◌+◌, ◌<◌, ◌≤◌, List, [], ◌∷◌, ◌++◌, length, refl, sym, ap, arith, inl, inr, All, get_or, set, map, take, Some, None, IfSome, Bool, true, false, cond}
 use Rattle.std.proofs.lemmas.List.{get_or-set_same, get_or-set_other, get_or_past, length_push}
 use Rattle.std.proofs.lemmas.List.Elements.{All-nil, All-weaker}
 use Rattle.std.proofs.lemmas.Bool.{cases_lt, cases_eq}
@@ -7,7 +7,8 @@ use Rattle.dn_types.specs.Wf2q.{Stamped}
 use Rattle.dn_wf2q.specs.declared.tagged_packet.TaggedPacket.{TaggedPacket}
 use Rattle.dn_wf2q.specs.declared.tagged_queue.TaggedQueue.{TaggedQueue}
 use Rattle.dn_wf2q.specs.Schedule.{Flow, flow_at, no_packets, room_at}
-use Rattle.dn_wf2q.specs.Kept.{HeadIs, first_packet, places, seen, tagged, by_slot, IsWithin, AreTagsWithin, presence, behind, head_weight}
+use Rattle.dn_wf2q.specs.Queue.{first_packet, places}
+use Rattle.dn_wf2q.specs.Kept.{HeadIs, seen, tagged, by_slot, IsWithin, AreTagsWithin, presence, behind, head_weight}
 use Rattle.dn_wf2q.proofs.BySlot.{by_slot_at}
 
 -- P holds of the head, if there is one
@@ -151,6 +152,11 @@ room_of_others (x ∷ xs) (suc f) q (suc g) n = room_of_others xs f q g (λ e. n
 pub some_packets : (P : Stamped → Type 0) (slot : ℕ) (q : List TaggedPacket) → HeadIs P (map (tagged slot) q) → 0 < length q
 some_packets P slot [] h = absurd h
 some_packets P slot (p ∷ q) h = omega arith
+
+-- The head's finish tag is the first packet's.
+pub first_finishes : (slot tag : ℕ) (q : List TaggedPacket) → 0 < length q → IfSome (first_packet q) (λ head. head.finish_tag ≡ tag) → HeadIs (λ x. tag ≡ x.finish_tag) (map (tagged slot) q)
+first_finishes slot tag [] l h = absurd (omega arith)
+first_finishes slot tag (p ∷ q) l h = sym h
 
 -- Where a queue has a first packet, that is the head and all that is there of heads.
 pub first_facts : (slot : ℕ) (q : List TaggedPacket) (h : TaggedPacket) → first_packet q ≡ Some h

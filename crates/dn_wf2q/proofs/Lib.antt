@@ -1,6 +1,8 @@
+pub mod Queues
 pub mod BySlot
 pub mod Heads
 pub mod Ranks
+pub mod Payable
 pub mod Counts
 pub mod Scan
 pub mod Steps

@@ -6,6 +6,7 @@ use Rattle.dn_wf2q.specs.declared.tagged_packet.TaggedPacket.{TaggedPacket}
 use Rattle.dn_wf2q.specs.declared.tagged_queue.TaggedQueue.{TaggedQueue}
 use Rattle.dn_wf2q.specs.declared.sched_parts.SchedParts.{SchedParts}
 use Rattle.dn_wf2q.specs.Schedule.{flow_at}
+use Rattle.dn_wf2q.specs.Queue.{packets_of}
 use Rattle.dn_wf2q.specs.Kept.{flows_of, seen, tagged, by_slot}
 
 tagged_own : (slot : ℕ) (ps : List TaggedPacket) → All (λ (p : Stamped). p.flow ≡ slot) (map (tagged slot) ps)
@@ -14,7 +15,7 @@ tagged_own slot (p ∷ ps) = All-cons (λ (p : Stamped). p.flow ≡ slot) (tagge
 
 own_by : (b : ℕ) (s : ℕ → ℕ) (qs : List TaggedQueue) (g : ℕ) → All (λ (p : Stamped). p.flow ≡ s g) (flow_at (by_slot (λ i. seen b (s i)) qs) g).backlog
 own_by b s [] g = All-nil (λ (p : Stamped). p.flow ≡ s g)
-own_by b s (q ∷ qs) zero = tagged_own (s 0) q.packets.items
+own_by b s (q ∷ qs) zero = tagged_own (s 0) (packets_of q)
 own_by b s (q ∷ qs) (suc g) = own_by b (λ i. s (suc i)) qs g
 
 pub own_slots : (p : SchedParts) (g : ℕ) → All (λ (x : Stamped). x.flow ≡ g) (flow_at (flows_of p) g).backlog

@@ -1,15 +1,15 @@
 -- A flow moves from the waiting heap to the eligible one.
-use Rattle.std.proofs.Common.{◌≡◌, ℕ, ◌+◌, ◌<◌, ◌≤◌, ◌∷◌, length, map, Some, IsPermutation, sym, ap, ◌∙◌, arith, get_or}
+use Rattle.std.proofs.Common.{◌≡◌, ℕ, ◌+◌, ◌<◌, ◌≤◌, ◌∷◌, length, map, IfSome, IsPermutation, sym, ap, ◌∙◌, arith, get_or}
 use Rattle.std.proofs.lemmas.List.Sorted.{length_permutation}
 use Rattle.dn_heap.specs.Heap.{Heap}
-use Rattle.dn_wf2q.specs.declared.tagged_packet.TaggedPacket.{TaggedPacket}
 use Rattle.dn_wf2q.specs.declared.tagged_queue.TaggedQueue.{TaggedQueue}
 use Rattle.dn_wf2q.specs.declared.sched_parts.SchedParts.{SchedParts}
 use Rattle.dn_wf2q.specs.Rank.{RankView}
 use Rattle.dn_wf2q.specs.Schedule.{flow_at}
-use Rattle.dn_wf2q.specs.Kept.{IsSchedKept, HeadIs, flows_of, seen, tagged, first_packet}
+use Rattle.dn_wf2q.specs.Queue.{first_packet, packets_of}
+use Rattle.dn_wf2q.specs.Kept.{IsSchedKept, HeadIs, flows_of, seen, tagged}
 use Rattle.dn_wf2q.proofs.BySlot.{length-by_slot}
-use Rattle.dn_wf2q.proofs.Heads.{head_listed, flow_at_seen, some_packets, head_weaker, next_is}
+use Rattle.dn_wf2q.proofs.Heads.{head_listed, flow_at_seen, some_packets, head_weaker, first_finishes}
 use Rattle.dn_wf2q.proofs.Steps.{popped_waits, promoted_kept, ranks_at-le}
 
 -- The key k of this slot left the waiting heap.
@@ -33,19 +33,20 @@ module _ (p : SchedParts) (kept : IsSchedKept p) (k : RankView) (slot : ℕ) (th
     same_flow : flow_at (flows_of p) slot ≡ seen p.busy_from slot q
     same_flow = flow_at_seen p.busy_from p.flows.items slot q listed ∙ ap (seen p.busy_from slot) (sym at)
 
-    pub has_head : 0 < length q.packets.items
-    has_head = some_packets (λ x. k.tag ≡ x.start_tag) slot q.packets.items (rw same_flow at waits)
+    has_head : 0 < length (packets_of q)
+    has_head = some_packets (λ x. k.tag ≡ x.start_tag) slot (packets_of q) (rw same_flow at waits)
 
     -- It enters the eligible heap under the key e.
-    pub moved : (head : TaggedPacket) (e : RankView) (es : Heap RankView) → first_packet q.packets.items ≡ Some head
-        → k.tag ≤ p.virtual_time → e.slot ≡ slot → e.tag ≡ head.finish_tag → IsPermutation (e ∷ p.eligible.keys) es.keys
+    pub moved : (finish : ℕ) (e : RankView) (es : Heap RankView) → IfSome (first_packet (packets_of q)) (λ head. head.finish_tag ≡ finish)
+        → k.tag ≤ p.virtual_time → e.slot ≡ slot → e.tag ≡ finish → IsPermutation (e ∷ p.eligible.keys) es.keys
         → es.room + 1 ≡ p.eligible.room → es.moves ≡ p.eligible.moves + 1 → ws.room ≡ p.waiting.room + 1 → ws.moves ≡ p.waiting.moves
         → IsSchedKept (record p { eligible = es; waiting = ws })
-    moved head e es first low same tag into er em wr wm = record {
+    moved finish e es first low same tag into er em wr wm = record {
       kept = promoted_kept kept.kept k e es ws perm into (same ∙ this) low
-          (rw (← this, same_flow) (head_weaker (λ x. x ≡ tagged slot head) (λ x. e.tag ≡ x.finish_tag) (λ x y. rw y tag) (map (tagged slot) q.packets.items) (next_is slot q.packets.items head first)))
+          (rw (← this, same_flow) (head_weaker (λ x. finish ≡ x.finish_tag) (λ x. e.tag ≡ x.finish_tag) (λ x y. tag ∙ y) (map (tagged slot) (packets_of q)) (first_finishes slot finish (packets_of q) has_head first)))
           er em wr wm;
       few = kept.few;
       began = kept.began;
       arrived = kept.arrived;
+      queues = kept.queues;
     }

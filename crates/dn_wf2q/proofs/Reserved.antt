@@ -1,5 +1,5 @@
 -- Room is made, for a queue that is there or by adding queues without a packet.
-use Rattle.std.proofs.Common.{◌≡◌, ℕ, zero, suc, ◌+◌, ◌-◌, ◌<◌, ◌≤◌, List, [], ◌∷◌, ◌++◌, length, map, All, refl, sym, ap, ◌∙◌, arith, slice_index_or, get_or, set, sum_by, replicate, nat_lt, Result, Ok, Err, OnOk, OnErr}
+use Rattle.std.proofs.Common.{◌≡◌, ℕ, zero, suc, ◌+◌, ◌-◌, ◌<◌, ◌≤◌, List, [], ◌∷◌, ◌++◌, length, map, All, refl, sym, ap, ◌∙◌, subst, arith, slice_index_or, get_or, set, sum_by, replicate, nat_lt, Result, Ok, Err, OnOk, OnErr}
 use Rattle.std.proofs.lemmas.List.{append_assoc, append-nil, length-append, length-replicate, set-get_or, get_or-map, get_or-set_same, get_or_read, length-set}
 use Rattle.std.proofs.lemmas.List.Sums.{sum_by-append, sum_by-cons}
 use Rattle.std.proofs.lemmas.List.Folds.{sum_by-replicate}
@@ -11,7 +11,8 @@ use Rattle.dn_wf2q.specs.declared.tagged_queue.TaggedQueue.{TaggedQueue}
 use Rattle.dn_wf2q.specs.declared.sched_parts.SchedParts.{SchedParts}
 use Rattle.dn_wf2q.specs.Rank.{RankView}
 use Rattle.dn_wf2q.specs.Schedule.{Flow, flow_at, no_packets, padded, room_at}
-use Rattle.dn_wf2q.specs.Kept.{Kept, IsSchedKept, IsWithin, AreTagsWithin, flows_of, seen, by_slot, places, presence, behind, head_weight, bound, none_absent}
+use Rattle.dn_wf2q.specs.Queue.{places, packets_of, IsQueueKept}
+use Rattle.dn_wf2q.specs.Kept.{Kept, IsSchedKept, IsWithin, AreTagsWithin, flows_of, seen, by_slot, presence, behind, head_weight, bound, none_absent}
 use Rattle.dn_wf2q.specs.Steps.{MakesRoom, IsBlank, IsExtended}
 use Rattle.dn_wf2q.proofs.BySlot.{length-by_slot, by_slot-set, by_slot-append}
 use Rattle.dn_wf2q.proofs.Heads.{flow_at_seen, room_grows, cond_zero}
@@ -27,11 +28,17 @@ one_added xs ys q e b = record {
 pub extended_seen : (b : ℕ) (xs ys : List TaggedQueue) (n : ℕ) → IsExtended xs ys → length ys ≡ n → by_slot (seen b) ys ≡ padded (by_slot (seen b) xs) n
 extended_seen b xs ys n e l =
     let m : length e.more ≡ n - length (by_slot (seen b) xs) = omega (arith, length-by_slot (seen b) xs, length-append xs e.more, ap length e.is) in
-    let blank = All-weaker IsBlank (λ q. (slot : ℕ) → seen b slot q ≡ no_packets) (λ q h slot. rw (h.0, h.1, cond_zero (nat_lt b q.arrived)) refl) e.more e.blank in
+    let blank = All-weaker IsBlank (λ q. (slot : ℕ) → seen b slot q ≡ no_packets) (λ q h slot. rw (h.0, h.2, cond_zero (nat_lt b q.arrived)) refl) e.more e.blank in
     rw (e.is, ← m) (by_slot-append (seen b) xs e.more no_packets blank)
 
 extended_arrived : (a : ℕ) (xs ys : List TaggedQueue) → IsExtended xs ys → All (λ q. q.arrived ≤ a) xs → All (λ q. q.arrived ≤ a) ys
-extended_arrived a xs ys e h = rw e.is (All-append (λ q. q.arrived ≤ a) xs e.more h (All-weaker IsBlank (λ q. q.arrived ≤ a) (λ q b. let z = b.2 in omega arith) e.more e.blank))
+extended_arrived a xs ys e h = rw e.is (All-append (λ q. q.arrived ≤ a) xs e.more h (All-weaker IsBlank (λ q. q.arrived ≤ a) (λ q b. let z = b.3 in omega arith) e.more e.blank))
+
+blank_kept : (b : ℕ) (q : TaggedQueue) → IsBlank q → IsQueueKept b q
+blank_kept b q blank = rw blank.0 blank.1
+
+extended_kept : (b : ℕ) (xs ys : List TaggedQueue) → IsExtended xs ys → All (IsQueueKept b) xs → All (IsQueueKept b) ys
+extended_kept b xs ys e h = rw e.is (All-append (IsQueueKept b) xs e.more h (All-weaker IsBlank (IsQueueKept b) (λ q blank. blank_kept b q blank) e.more e.blank))
 
 room_extended : (xs ms : List TaggedQueue) (g : ℕ) → room_at (map places xs) g ≤ room_at (map places (xs ++ ms)) g
 room_extended [] ms g = omega arith
@@ -131,7 +138,8 @@ module _ (p : SchedParts) (kept : IsSchedKept p) (slot : ℕ) (listed : slot < l
   pub has_place : 0 < room_at (map places p.flows.items) slot → 0 < places q
   has_place h = rw room_is at h
 
-  module _ (r : TaggedQueue) (packets : r.packets.items ≡ q.packets.items) (last : r.last_finish_tag ≡ q.last_finish_tag) (arrived : r.arrived ≡ q.arrived) (room : places q ≤ places r) where
+  module _ (r : TaggedQueue) (packets : packets_of r ≡ packets_of q) (last : r.last_finish_tag ≡ q.last_finish_tag) (arrived : r.arrived ≡ q.arrived)
+      (whole : (b : ℕ) → IsQueueKept b q → IsQueueKept b r) (room : places q ≤ places r) where
     seen_is : seen p.busy_from slot r ≡ flow_at (flows_of p) slot
     seen_is =
         let a : seen p.busy_from slot r ≡ seen p.busy_from slot q = rw (packets, last, arrived) refl in
@@ -172,6 +180,8 @@ module _ (p : SchedParts) (kept : IsSchedKept p) (slot : ℕ) (listed : slot < l
       few = kept.few;
       began = kept.began;
       arrived = All-set (λ x. x.arrived ≤ p.arrivals) p.flows.items slot r (rw (arrived, at) (kept.arrived slot q listed)) kept.arrived;
+      queues = All-set (IsQueueKept p.busy_from) p.flows.items slot r
+          (whole p.busy_from (subst (IsQueueKept p.busy_from) (sym at) (kept.queues slot q listed))) kept.queues;
     }
 
 -- Queues are added.
@@ -192,6 +202,7 @@ kept_extended p new kept n e l le ek wk em wm er wr ee ww nt nw nb na np =
       few = let f = kept.few in omega arith;
       began = let f = kept.began in omega arith;
       arrived = rw na (extended_arrived p.arrivals p.flows.items new.flows.items e kept.arrived);
+      queues = rw nb (extended_kept p.busy_from p.flows.items new.flows.items e kept.queues);
     }
 
 pub room_added : (xs ys : List TaggedQueue) → IsExtended xs ys → (g : ℕ) → room_at (map places xs) g ≤ room_at (map places ys) g

@@ -14,7 +14,8 @@ use Rattle.dn_wf2q.specs.declared.tagged_queue.TaggedQueue.{TaggedQueue}
 use Rattle.dn_wf2q.specs.declared.sched_parts.SchedParts.{SchedParts}
 use Rattle.dn_wf2q.specs.Rank.{RankView}
 use Rattle.dn_wf2q.specs.Schedule.{Flow, flow_at, no_packets, heads_of, after_pick, without_head}
-use Rattle.dn_wf2q.specs.Kept.{Kept, IsSchedKept, IsKeptBut, IsKeptWithout, HeadIs, IsEligible, IsWaiting, IsWithin, AreTagsWithin, flows_of, seen, tagged, first_packet, places, presence, behind, head_weight, ranks_at, bound, none_absent, only_absent}
+use Rattle.dn_wf2q.specs.Queue.{first_packet, places, packets_of, IsQueueKept}
+use Rattle.dn_wf2q.specs.Kept.{Kept, IsSchedKept, IsKeptBut, IsKeptWithout, HeadIs, IsEligible, IsWaiting, IsWithin, AreTagsWithin, flows_of, seen, tagged, presence, behind, head_weight, ranks_at, bound, none_absent, only_absent}
 use Rattle.dn_wf2q.specs.Steps.{SendsHead}
 use Rattle.dn_wf2q.proofs.BySlot.{length-by_slot, by_slot-set}
 use Rattle.dn_wf2q.proofs.Heads.{head_listed, head_weaker, flow_at_seen, some_packets, flow_within, within_more, flow_within_more, length-split, room_grows, first_facts, cond_zero}
@@ -140,16 +141,17 @@ module _ (p : SchedParts) (kept : IsSchedKept p) (k : RankView) (es : Heap RankV
     same_flow : flow_at (flows_of p) k.slot ≡ seen p.busy_from k.slot q
     same_flow = flow_at_seen p.busy_from p.flows.items k.slot q listed ∙ ap (seen p.busy_from k.slot) (sym at)
 
-    pub has_head : 0 < length q.packets.items
-    has_head = some_packets (λ x. (k.tag ≡ x.finish_tag) × (x.start_tag ≤ p.virtual_time)) k.slot q.packets.items (rw same_flow at ready)
+    pub has_head : 0 < length (packets_of q)
+    has_head = some_packets (λ x. (k.tag ≡ x.finish_tag) × (x.start_tag ≤ p.virtual_time)) k.slot (packets_of q) (rw same_flow at ready)
 
-    module _ (r : TaggedQueue) (sent : TaggedPacket) (is : q.packets.items ≡ sent ∷ r.packets.items)
-        (last : r.last_finish_tag ≡ q.last_finish_tag) (arrived : r.arrived ≡ q.arrived) (room : places r ≡ places q + 1) where
+    module _ (r : TaggedQueue) (sent : TaggedPacket) (is : packets_of q ≡ sent ∷ packets_of r)
+        (last : r.last_finish_tag ≡ q.last_finish_tag) (arrived : r.arrived ≡ q.arrived)
+        (whole : (b : ℕ) → IsQueueKept b q → IsQueueKept b r) (room : places r ≡ places q + 1) where
       abbrev head : Stamped
       head = tagged k.slot sent
 
       abbrev rest : List Stamped
-      rest = map (tagged k.slot) r.packets.items
+      rest = map (tagged k.slot) (packets_of r)
 
       rest_is : (flow_at (flows_of p) k.slot).backlog ≡ head ∷ rest
       rest_is = rw (same_flow, is) refl
@@ -201,6 +203,11 @@ module _ (p : SchedParts) (kept : IsSchedKept p) (k : RankView) (es : Heap RankV
       still_arrived : All (λ x. x.arrived ≤ p.arrivals) (set p.flows.items k.slot r)
       still_arrived = All-set (λ x. x.arrived ≤ p.arrivals) p.flows.items k.slot r (rw (arrived, at) (kept.arrived k.slot q listed)) kept.arrived
 
+      all_whole : All (IsQueueKept p.busy_from) (set p.flows.items k.slot r)
+      all_whole =
+          All-set (IsQueueKept p.busy_from) p.flows.items k.slot r
+          (whole p.busy_from (subst (IsQueueKept p.busy_from) (sym at) (kept.queues k.slot q listed))) kept.queues
+
       -- The parts then.
       abbrev pub sent_parts : SchedParts
       sent_parts = record {
@@ -226,10 +233,11 @@ module _ (p : SchedParts) (kept : IsSchedKept p) (k : RankView) (es : Heap RankV
               few = kept.few;
               began = kept.began;
               arrived = still_arrived;
+              queues = all_whole;
             }
 
         -- No packet is left at the slot.
-        pub last_kept : r.packets.items ≡ [] → IsSchedKept sent_parts
+        pub last_kept : packets_of r ≡ [] → IsSchedKept sent_parts
         last_kept nil =
             let none : rest ≡ [] = rw nil refl in
             record {
@@ -237,12 +245,13 @@ module _ (p : SchedParts) (kept : IsSchedKept p) (k : RankView) (es : Heap RankV
               few = kept.few;
               began = kept.began;
               arrived = still_arrived;
+              queues = all_whole;
             }
 
         -- Some packet is, and is the new head.
-        pub more_kept : (next : TaggedPacket) → first_packet r.packets.items ≡ Some next → IsKeptWithout k.slot next sent_parts
+        pub more_kept : (next : TaggedPacket) → first_packet (packets_of r) ≡ Some next → IsKeptWithout k.slot next sent_parts
         more_kept next e =
-            let f = first_facts k.slot r.packets.items next e in
+            let f = first_facts k.slot (packets_of r) next e in
             let here =
             flow_at_seen p.busy_from (set p.flows.items k.slot r) k.slot r (let l = length-set p.flows.items k.slot r in omega (arith, listed))
             ∙ ap (seen p.busy_from k.slot) (get_or-set_same p.flows.items k.slot r r listed) in

@@ -1,26 +1,22 @@
 -- What the parts of a scheduler stand for, and what holds of them between calls.
-use Rattle.std.specs.Prelude.{◌≡◌, ℕ, suc, ◌+◌, ◌-◌, ◌*◌, ◌^◌, ◌<◌, ◌≤◌, ◌==◌, nat_lt, cond, List, [], ◌∷◌, length, map, Option, Some, None}
+use Rattle.std.specs.Prelude.{◌≡◌, ℕ, suc, ◌+◌, ◌*◌, ◌^◌, ◌<◌, ◌≤◌, ◌==◌, cond, List, [], ◌∷◌, length, map}
 use Rattle.std.specs.List.{sum_by, All}
-use Rattle.std.specs.VecDeque.{deque_len, deque_capacity}
-use Rattle.dn_types.specs.Wf2q.{Stamped, scaled, start_tag_on_arrival, weight_sum}
+use Rattle.dn_types.specs.Wf2q.{Stamped, weight_sum}
 use Rattle.dn_heap.specs.Heap.{Heap}
 use Rattle.dn_wf2q.specs.declared.tagged_packet.TaggedPacket.{TaggedPacket}
 use Rattle.dn_wf2q.specs.declared.tagged_queue.TaggedQueue.{TaggedQueue}
 use Rattle.dn_wf2q.specs.declared.sched_parts.SchedParts.{SchedParts}
 use Rattle.dn_wf2q.specs.Rank.{RankView}
 use Rattle.dn_wf2q.specs.Schedule.{Flow, Schedule, flow_at}
+use Rattle.dn_wf2q.specs.Queue.{packets_of, places, last_finish_tag_in, IsQueueKept}
 
 -- A packet of the queue at a slot.
 abbrev pub tagged : ℕ → TaggedPacket → Stamped
 tagged slot p = record { flow = slot; len = p.len; weight = p.weight; start_tag = p.start_tag; finish_tag = p.finish_tag }
 
--- The last finish tag of a queue, where the busy period began after so many arrivals: an older tag counts for 0.
-abbrev pub last_finish_tag_in : ℕ → TaggedQueue → ℕ
-last_finish_tag_in busy_from q = cond (nat_lt busy_from q.arrived) q.last_finish_tag 0
-
 -- The flow that a queue at a slot stands for.
 abbrev pub seen : ℕ → ℕ → TaggedQueue → Flow
-seen busy_from slot q = record { backlog = map (tagged slot) q.packets.items; last_finish_tag = last_finish_tag_in busy_from q }
+seen busy_from slot q = record { backlog = map (tagged slot) (packets_of q); last_finish_tag = last_finish_tag_in busy_from q }
 
 -- A function of slot and element, at each element of a list.
 abbrev pub by_slot : {X Y : Type 0} → (ℕ → X → Y) → List X → List Y
@@ -29,10 +25,6 @@ by_slot f (x ∷ xs) = f 0 x ∷ by_slot (λ slot. f (suc slot)) xs
 
 abbrev pub flows_of : SchedParts → List Flow
 flows_of p = by_slot (seen p.busy_from) p.flows.items
-
--- For how many packets a queue has room.
-abbrev pub places : TaggedQueue → ℕ
-places q = deque_capacity q.packets - deque_len q.packets
 
 abbrev pub schedule_of : SchedParts → Schedule
 schedule_of p = record {
@@ -43,17 +35,6 @@ schedule_of p = record {
   picks = p.picks;
   moves = p.eligible.moves + p.waiting.moves;
 }
-
--- The packet that a queue appends on an arrival.
-abbrev pub arriving : ℕ → TaggedQueue → ℕ → ℕ → ℕ → TaggedPacket
-arriving busy_from q virtual_time len weight =
-    let start = start_tag_on_arrival (length q.packets.items == 0) (last_finish_tag_in busy_from q) virtual_time in
-    record { start_tag = start; finish_tag = start + scaled len weight; len = len; weight = weight }
-
--- The first packet of a queue.
-abbrev pub first_packet : List TaggedPacket → Option TaggedPacket
-first_packet [] = None
-first_packet (p ∷ ps) = Some p
 
 -- 1 where a packet waits, else 0.
 abbrev pub presence : List Stamped → ℕ
@@ -121,6 +102,7 @@ pub record IsKeptBut (absent : ℕ → ℕ) (out : List Stamped) (p : SchedParts
   pub few : p.arrivals ≤ 2 ^ 62
   pub began : p.busy_from ≤ p.arrivals
   pub arrived : All (λ q. q.arrived ≤ p.arrivals) p.flows.items
+  pub queues : All (IsQueueKept p.busy_from) p.flows.items
 
 -- Every head is in a heap.
 abbrev pub none_absent : ℕ → ℕ

@@ -1,4 +1,5 @@
 pub mod Schedule
 pub mod Rank
+pub mod Queue
 pub mod Kept
 pub mod Steps

@@ -1,11 +1,12 @@
 -- What each step of a call changes.
-use Rattle.std.specs.Prelude.{◌≡◌, ℕ, ◌+◌, ◌≤◌, List, [], ◌∷◌, ◌++◌, length, map, take}
+use Rattle.std.specs.Prelude.{◌≡◌, ℕ, ◌+◌, ◌≤◌, List, [], ◌∷◌, ◌++◌, length, map, take, None}
 use Rattle.std.specs.List.{All}
 use Rattle.dn_types.specs.Wf2q.{Stamped, scaled, weight_sum}
 use Rattle.dn_wf2q.specs.declared.tagged_queue.TaggedQueue.{TaggedQueue}
 use Rattle.dn_wf2q.specs.declared.sched_parts.SchedParts.{SchedParts}
 use Rattle.dn_wf2q.specs.Schedule.{flow_at, room_at, heads_of, waiting_of, after_arrival, after_pick, after_discard, forgotten}
-use Rattle.dn_wf2q.specs.Kept.{flows_of, places}
+use Rattle.dn_wf2q.specs.Queue.{behind_of, places}
+use Rattle.dn_wf2q.specs.Kept.{flows_of}
 
 -- Only the heaps and the running sum of weights change.
 pub record OnlyHeaps (old new : SchedParts) : Type 0 where
@@ -60,7 +61,7 @@ pub record Begins (old new : SchedParts) : Type 0 where
 
 -- A queue that has had no packet.
 abbrev pub IsBlank : TaggedQueue → Type 0
-IsBlank q = (q.packets.items ≡ []) × (q.last_finish_tag ≡ 0) × (q.arrived ≡ 0)
+IsBlank q = (q.head ≡ None) × (behind_of q.behind ≡ []) × (q.last_finish_tag ≡ 0) × (q.arrived ≡ 0)
 
 -- The second list is the first and then such queues.
 pub record IsExtended (xs ys : List TaggedQueue) : Type 0 where

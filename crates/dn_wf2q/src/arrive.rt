@@ -1,6 +1,7 @@
 ghost use Rattle.std.specs.Prelude.{◌≡◌, ◌<◌, ◌≤◌, ◌^◌, map};
 ghost use Rattle.dn_wf2q.specs.Schedule.{room_at};
-ghost use Rattle.dn_wf2q.specs.Kept.{IsSchedKept, IsKeptWithout, places};
+ghost use Rattle.dn_wf2q.specs.Queue.{places};
+ghost use Rattle.dn_wf2q.specs.Kept.{IsSchedKept, IsKeptWithout};
 ghost use Rattle.dn_wf2q.specs.Steps.{ArrivesAtSlot, OnlyHeaps};
 
 use crate::rank::Rank;

@@ -2,8 +2,10 @@
 #![tactic(auto)]
 
 mod arrive;
+mod behind;
 mod discard;
 mod pick;
+mod queued_packet;
 mod rank;
 mod reserve;
 mod scaled;

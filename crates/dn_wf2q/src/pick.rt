@@ -68,7 +68,7 @@ impl SchedParts {
         }
         if let Some(first) = self.waiting.pop() {
             let slot = first.slot();
-            let finish_tag = self.flows[slot].front().finish_tag;
+            let finish_tag = self.flows[slot].finish_tag();
             self.eligible.push_reserved(Rank::new(finish_tag, slot));
         }
         true

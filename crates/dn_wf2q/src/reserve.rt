@@ -1,15 +1,13 @@
-ghost use Rattle.std.specs.Prelude.{◌≡◌, ◌+◌, ◌<◌, ◌≤◌, [], length, map, IsOk, OnOk, OnErr};
-ghost use Rattle.std.specs.VecDeque.{deque_capacity};
+ghost use Rattle.std.specs.Prelude.{◌≡◌, ◌+◌, ◌<◌, ◌≤◌, length, map, IsOk, OnOk, OnErr};
 ghost use Rattle.std.specs.Vec.{vec_len, vec_capacity};
 ghost use Rattle.dn_wf2q.specs.Schedule.{padded, room_at};
-ghost use Rattle.dn_wf2q.specs.Kept.{IsSchedKept, flows_of, places};
+ghost use Rattle.dn_wf2q.specs.Queue.{places};
+ghost use Rattle.dn_wf2q.specs.Kept.{IsSchedKept, flows_of};
 ghost use Rattle.dn_wf2q.specs.Steps.{IsExtended, MakesRoom};
 
 use crate::sched_parts::SchedParts;
-use crate::tagged_packet::TaggedPacket;
 use crate::tagged_queue::TaggedQueue;
 use std::alloc::{AllocError, Global};
-use std::collections::VecDeque;
 
 impl SchedParts {
     /// Room for one more arrival at a slot, and a queue for it where there is none.
@@ -23,7 +21,7 @@ impl SchedParts {
         ensures kept { IsSchedKept self.new }
     {
         if slot < self.flows.len() {
-            return self.flows[slot].reserve_place();
+            return self.flows[slot].reserve_place(alloc);
         }
         // Where the sum saturates, it is more than any vector holds, so that its growth is refused.
         let flows = slot.saturating_add(1);
@@ -32,37 +30,21 @@ impl SchedParts {
         // counts too, so that refusals don't add up.
         self.eligible.reserve(flows - self.eligible.len())?;
         self.waiting.reserve(flows - self.waiting.len())?;
-        let packets = VecDeque::with_capacity(alloc, 1)?;
-        add_queues(&mut self.flows, alloc, slot, packets);
+        add_queues(&mut self.flows, slot);
         Ok(())
     }
 }
 
-/// Adds queues that have had no packet, the last of them at `slot` and with this room.
-fn add_queues(
-    flows: &mut Vec<TaggedQueue>,
-    alloc: Global,
-    slot: usize,
-    packets: VecDeque<TaggedPacket>,
-)
+/// Adds queues that have had no packet, the last of them at `slot`.
+fn add_queues(flows: &mut Vec<TaggedQueue>, slot: usize)
     requires above { vec_len flows.old ≤ slot }
     requires room { slot < vec_capacity flows.old }
-    requires empty { packets.items ≡ [] }
-    requires place { 0 < deque_capacity packets }
     ensures extended { IsExtended flows.old.items flows.new.items }
     ensures len { length flows.new.items ≡ slot + 1 }
     ensures place { 0 < room_at (map places flows.new.items) slot }
 {
     'blanks: while flows.len() < slot {
-        flows.push_reserved(TaggedQueue {
-            packets: VecDeque::new(alloc),
-            last_finish_tag: 0,
-            arrived: 0,
-        });
+        flows.push_reserved(TaggedQueue::new());
     }
-    flows.push_reserved(TaggedQueue {
-        packets,
-        last_finish_tag: 0,
-        arrived: 0,
-    });
+    flows.push_reserved(TaggedQueue::new());
 }

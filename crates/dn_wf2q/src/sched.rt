@@ -14,8 +14,9 @@ use std::marker::Model;
 ///
 /// A flow is named by its *slot*, its place among the flows of this link. The queues stand in one
 /// vector by slot, so the highest slot that was reserved decides the memory: about 112 bytes for
-/// each slot up to it, besides 48 bytes for each packet that a flow has room for. Number the flows
-/// of a link 0, 1, 2, .. as they are first seen. Ties between finish tags go to the lower slot.
+/// each slot up to it, and a block of 56 bytes or more for each flow that had room behind a packet
+/// (4 bytes for each packet beyond four). Number the flows of a link 0, 1, 2, .. as they are first
+/// seen. Ties between finish tags go to the lower slot.
 ///
 /// Memory is taken by `reserve_flow` alone. Tags and virtual time stay below 2^96 and pushes into
 /// the heaps below 2^63, since there are at most 2^62 arrivals.

@@ -1,32 +1,56 @@
-ghost use Rattle.std.specs.Prelude.{◌≡◌, ◌+◌, ◌<◌, ◌≤◌, ◌^◌, ◌==◌, [], ◌∷◌, ◌++◌, length, cond, Some, None, IsOk, OnOk};
-ghost use Rattle.dn_wf2q.specs.Kept.{arriving, first_packet, last_finish_tag_in, places};
+ghost use Rattle.std.specs.Prelude.{ℕ, ◌≡◌, ◌+◌, ◌<◌, ◌≤◌, ◌^◌, ◌==◌, [], ◌∷◌, ◌++◌, length, cond, Some, None, IsOk, IfSome, OnOk, All};
+ghost use Rattle.dn_wf2q.specs.Steps.{IsBlank};
+ghost use Rattle.dn_wf2q.specs.Queue.{IsPayable, IsQueueKept, arriving, behind_of, finishing, first_packet, last_behind, last_finish_tag_in, packets_of, places, spare_of, stamped_behind};
 
+use crate::behind::Behind;
+use crate::queued_packet::QueuedPacket;
 use crate::scaled::cost;
 use crate::tagged_packet::TaggedPacket;
-use std::alloc::AllocError;
-use std::collections::VecDeque;
+use std::alloc::{AllocError, Global};
 
-/// The packets of one flow that wait, oldest first.
+/// The packets of one flow that wait, oldest first. The head stands here, so that a flow with one
+/// packet takes no memory of its own, and the others stand behind it without tags: a packet's start
+/// tag behind another is that one's finish tag, and it is told when the packet becomes the head.
 #[derive(Drop)]
 pub(crate) struct TaggedQueue {
-    pub(crate) packets: VecDeque<TaggedPacket>,
+    /// The head's finish tag.
+    pub(crate) finish_tag: u128,
     pub(crate) last_finish_tag: u128,
     /// The count of arrivals at this flow's last one. Where a busy period has begun since then, the
     /// last finish tag counts for 0, so that the beginning of one need not go through all flows.
     pub(crate) arrived: u64,
+    pub(crate) head: Option<QueuedPacket>,
+    pub(crate) behind: Behind,
 }
 
 impl TaggedQueue {
+    /// A queue that has had no packet.
+    pub(crate) fn new() -> TaggedQueue
+        ensures blank { IsBlank result }
+    {
+        TaggedQueue {
+            finish_tag: 0,
+            last_finish_tag: 0,
+            arrived: 0,
+            head: None,
+            behind: Behind::new(),
+        }
+    }
+
     /// Makes room for one more packet.
-    pub(crate) fn reserve_place(&mut self) -> Result<(), AllocError>
+    pub(crate) fn reserve_place(&mut self, alloc: Global) -> Result<(), AllocError>
         ensures succeeds { 0 < places self.old → IsOk result }
         ensures ok { OnOk result (0 < places self.new) }
-        ensures packets { self.new.packets.items ≡ self.old.packets.items }
+        ensures packets { packets_of self.new ≡ packets_of self.old }
         ensures last_finish_tag { self.new.last_finish_tag ≡ self.old.last_finish_tag }
         ensures arrived { self.new.arrived ≡ self.old.arrived }
         ensures room { places self.old ≤ places self.new }
+        ensures kept { (busy_from : ℕ) → IsQueueKept busy_from self.old → IsQueueKept busy_from self.new }
     {
-        self.packets.reserve(1)
+        if self.head.is_none() {
+            return Ok(());
+        }
+        self.behind.reserve_place(alloc)
     }
 
     /// Puts a packet at the end, and answers it where it is the head.
@@ -42,72 +66,117 @@ impl TaggedQueue {
         requires weight { 0 < weight }
         requires virtual_time { virtual_time < 2 ^ 96 }
         requires last_finish_tag { last_finish_tag_in busy_from self.old < 2 ^ 96 }
-        ensures head { result ≡ cond (length self.old.packets.items == 0) (Some (arriving busy_from self.old virtual_time len weight)) None }
-        ensures packets { self.new.packets.items ≡ self.old.packets.items ++ arriving busy_from self.old virtual_time len weight ∷ [] }
+        requires later { busy_from < arrivals }
+        requires kept { IsQueueKept busy_from self.old }
+        ensures head { result ≡ cond (length (packets_of self.old) == 0) (Some (arriving busy_from self.old virtual_time len weight)) None }
+        ensures packets { packets_of self.new ≡ packets_of self.old ++ arriving busy_from self.old virtual_time len weight ∷ [] }
         ensures last_finish_tag { self.new.last_finish_tag ≡ (arriving busy_from self.old virtual_time len weight).finish_tag }
         ensures arrived { self.new.arrived ≡ arrivals }
         ensures room { places self.new + 1 ≡ places self.old }
+        ensures kept { IsQueueKept busy_from self.new }
     {
-        let last = if busy_from < self.arrived {
+        let last = self.last_in(busy_from);
+        let packet = QueuedPacket { len, weight };
+        self.arrived = arrivals;
+        if self.head.is_some() {
+            self.last_finish_tag = last + cost(len, weight) as u128;
+            self.behind.push(packet);
+            return None;
+        }
+        let start_tag = last.max(virtual_time);
+        let finish_tag = start_tag + cost(len, weight) as u128;
+        self.finish_tag = finish_tag;
+        self.last_finish_tag = finish_tag;
+        self.head = Some(packet);
+        Some(TaggedPacket {
+            start_tag,
+            finish_tag,
+            len,
+            weight,
+        })
+    }
+
+    /// The last finish tag, as it counts in a busy period that began after so many arrivals.
+    fn last_in(&self, busy_from: u64) -> u128
+        ensures value { result ≡ last_finish_tag_in busy_from self.now }
+    {
+        if busy_from < self.arrived {
             self.last_finish_tag
         } else {
             0
-        };
-        let is_head = self.packets.is_empty();
-        let start_tag = if is_head {
-            last.max(virtual_time)
-        } else {
-            last
-        };
-        let packet = TaggedPacket {
-            start_tag,
-            finish_tag: start_tag + cost(len, weight) as u128,
-            len,
-            weight,
-        };
-        self.last_finish_tag = packet.finish_tag;
-        self.arrived = arrivals;
-        self.packets.push_back_reserved(packet);
-        if is_head { Some(packet) } else { None }
+        }
     }
 
     /// Takes the head out, and answers it and the next one.
-    pub(crate) fn take_head(&mut self) -> (TaggedPacket, Option<TaggedPacket>)
-        requires some { 0 < length self.old.packets.items }
-        ensures sent { self.old.packets.items ≡ result.0 ∷ self.new.packets.items }
-        ensures next { result.1 ≡ first_packet self.new.packets.items }
+    pub(crate) fn take_head(&mut self) -> (QueuedPacket, Option<TaggedPacket>)
+        requires some { 0 < length (packets_of self.old) }
+        requires payable { All IsPayable (packets_of self.old) }
+        ensures sent { packets_of self.old ≡ finishing self.old.finish_tag result.0 ∷ packets_of self.new }
+        ensures next { result.1 ≡ first_packet (packets_of self.new) }
         ensures last_finish_tag { self.new.last_finish_tag ≡ self.old.last_finish_tag }
         ensures arrived { self.new.arrived ≡ self.old.arrived }
         ensures room { places self.new ≡ places self.old + 1 }
+        ensures kept { (busy_from : ℕ) → IsQueueKept busy_from self.old → IsQueueKept busy_from self.new }
     {
-        let sent = self.packets.pop_front().unwrap();
-        let next = self.packets.front().copied();
-        (sent, next)
+        let sent = self.head.unwrap();
+        (sent, self.next_head())
     }
 
-    /// The head of a backlogged flow.
-    pub(crate) fn front(&self) -> TaggedPacket
-        requires some { 0 < length self.now.packets.items }
-        ensures head { first_packet self.now.packets.items ≡ Some result }
+    /// The packet behind the head becomes the head.
+    fn next_head(&mut self) -> Option<TaggedPacket>
+        requires finish_tag { self.old.finish_tag < 2 ^ 96 }
+        requires payable { All IsPayable (stamped_behind self.old.finish_tag (behind_of self.old.behind)) }
+        ensures next { result ≡ first_packet (packets_of self.new) }
+        ensures packets { packets_of self.new ≡ stamped_behind self.old.finish_tag (behind_of self.old.behind) }
+        ensures last_finish_tag { self.new.last_finish_tag ≡ self.old.last_finish_tag }
+        ensures arrived { self.new.arrived ≡ self.old.arrived }
+        ensures room { places self.new ≡ spare_of self.old.behind + 1 }
+        ensures kept { (busy_from : ℕ) → busy_from < self.old.arrived → self.old.last_finish_tag ≡ last_behind self.old.finish_tag (behind_of self.old.behind) → IsQueueKept busy_from self.new }
     {
-        *self.packets.front().unwrap()
+        self.head = self.behind.pop();
+        let next = self.head?;
+        let start_tag = self.finish_tag;
+        self.finish_tag = start_tag + cost(next.len, next.weight) as u128;
+        Some(TaggedPacket {
+            start_tag,
+            finish_tag: self.finish_tag,
+            len: next.len,
+            weight: next.weight,
+        })
+    }
+
+    /// The head's finish tag, where there is a head.
+    pub(crate) fn finish_tag(&self) -> u128
+        ensures value { IfSome (first_packet (packets_of self.now)) (λ head. head.finish_tag ≡ result) }
+    {
+        self.finish_tag
     }
 
     /// The head, where there is one.
     pub(crate) fn head(&self) -> Option<TaggedPacket>
-        ensures head { result ≡ first_packet self.now.packets.items }
+        requires payable { All IsPayable (packets_of self.now) }
+        ensures head { result ≡ first_packet (packets_of self.now) }
     {
-        self.packets.front().copied()
+        let head = self.head?;
+        let cost = cost(head.len, head.weight) as u128;
+        Some(TaggedPacket {
+            start_tag: self.finish_tag.saturating_sub(cost),
+            finish_tag: self.finish_tag,
+            len: head.len,
+            weight: head.weight,
+        })
     }
 
     /// Lets all packets and the last finish tag go.
     pub(crate) fn clear(&mut self)
-        ensures packets { self.new.packets.items ≡ [] }
+        ensures packets { packets_of self.new ≡ [] }
         ensures last_finish_tag { self.new.last_finish_tag ≡ 0 }
         ensures arrived { self.new.arrived ≡ self.old.arrived }
         ensures room { places self.old ≤ places self.new }
+        ensures kept { (busy_from : ℕ) → IsQueueKept busy_from self.new }
     {
-        self.packets.clear();
+        self.head = None;
+        self.behind.clear();
         self.last_finish_tag = 0;
     }
 }

@@ -1,4 +1,4 @@
-use Rattle.std.proofs.Common.{arith, refl}
+use Rattle.std.proofs.Common.{arith}
 use Rattle.dn_wf2q.proofs.Reserved.{one_added}
 use Rattle.dn_wf2q.proofs.reserve.add_queues.Goals as goal
 
@@ -6,7 +6,7 @@ pub blanks-preserved : goal.blanks-preserved
 blanks-preserved c =
     let i = c.blanks.invariant in
     let i2 = i.2 in
-    (rw c.push_reserved.ensures.items (one_added _ _ _ i.0 (c.new.ensures.items, refl, refl)), omega arith, omega arith)
+    (rw c.push_reserved.ensures.items (one_added _ _ _ i.0 c.new.ensures.blank), omega arith, omega arith)
 
 pub returns-clause-extended : goal.returns-clause-extended
-returns-clause-extended c = rw c.push_reserved-2.ensures.items (one_added _ _ _ c.blanks.invariant.0 (c.requires.empty, refl, refl))
+returns-clause-extended c = rw c.push_reserved-2.ensures.items (one_added _ _ _ c.blanks.invariant.0 c.new-2.ensures.blank)

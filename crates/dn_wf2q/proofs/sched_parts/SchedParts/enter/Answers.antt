@@ -34,6 +34,7 @@ returns-then-head-self-clause-kept c = record {
   few = c.requires.kept.0.few;
   began = c.requires.kept.0.began;
   arrived = c.requires.kept.0.arrived;
+  queues = c.requires.kept.0.queues;
 }
 
 pub returns-else-head-self-clause-kept : goal.returns-else-head-self-clause-kept
@@ -46,4 +47,5 @@ returns-else-head-self-clause-kept c = record {
   few = c.requires.kept.0.few;
   began = c.requires.kept.0.began;
   arrived = c.requires.kept.0.arrived;
+  queues = c.requires.kept.0.queues;
 }

@@ -4,18 +4,13 @@ use Rattle.std.proofs.lemmas.List.Elements.{All-contains}
 use Rattle.std.specs.Ordering.{is_lt}
 use Rattle.dn_wf2q.specs.Rank.{RankView, rank_cmp}
 use Rattle.dn_wf2q.proofs.Ranks.{not_before}
-use Rattle.dn_wf2q.proofs.Promoted.{listed, has_room, has_head, moved}
+use Rattle.dn_wf2q.proofs.Promoted.{listed, has_room, moved}
 use Rattle.dn_wf2q.proofs.sched_parts.SchedParts.promote_one.Goals as goal
 
 pub index-requires : goal.index-requires
 index-requires c =
     let l = listed c.args.self.now c.requires.kept c.in-Some-pop.first c.slot-slot.result c.slot-slot.ensures.value c.pop.new.self c.in-Some-pop.ensures.keys in
     omega (arith, c.args.self.now.flows.ok.0)
-
-pub front-finish_tag-requires : goal.front-finish_tag-requires
-front-finish_tag-requires c = record {
-  some = has_head c.args.self.now c.requires.kept c.in-Some-pop.first c.slot-slot.result c.slot-slot.ensures.value c.pop.new.self c.in-Some-pop.ensures.keys c.index.result.now c.index.ensures;
-}
 
 pub push_reserved-requires-clause-reserved : goal.push_reserved-requires-clause-reserved
 push_reserved-requires-clause-reserved c = has_room c.args.self.now c.requires.kept c.in-Some-pop.first c.slot-slot.result c.slot-slot.ensures.value c.pop.new.self c.in-Some-pop.ensures.keys
@@ -29,7 +24,7 @@ returns-in-Some-pop-clause-kept c =
     let tag = c.tag.ensures.value in
     let e = c.new.ensures.value in
     moved c.args.self.now c.requires.kept k c.slot-slot.result c.slot-slot.ensures.value c.pop.new.self c.in-Some-pop.ensures.keys
-    c.index.result.now c.index.ensures c.front-finish_tag.result c.new.result c.push_reserved.new.self c.front-finish_tag.ensures.head
+    c.index.result.now c.index.ensures c.finish_tag-finish_tag.result c.new.result c.push_reserved.new.self c.finish_tag-finish_tag.ensures.value
     (omega arith) (ap (λ (x : RankView). x.slot) e) (ap (λ (x : RankView). x.tag) e) c.push_reserved.ensures.keys
     c.push_reserved.ensures.room c.push_reserved.ensures.moves c.in-Some-pop.ensures.room c.pop.ensures.keeps_moves
 

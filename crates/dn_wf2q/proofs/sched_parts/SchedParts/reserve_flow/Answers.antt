@@ -12,30 +12,30 @@ pub returns-then-slot-len-clause-reserves : goal.returns-then-slot-len-clause-re
 returns-then-slot-len-clause-reserves c =
     reserves_same c.args.self.now c.requires.kept c.args.slot (omega (arith, c.args.self.now.flows.ok.0)) c.index_mut.result.now
     c.index_mut.ensures.value c.reserve_place.new.self c.reserve_place.ensures.packets c.reserve_place.ensures.last_finish_tag
-    c.reserve_place.ensures.arrived c.reserve_place.ensures.room _ refl refl refl refl refl refl
+    c.reserve_place.ensures.arrived c.reserve_place.ensures.kept c.reserve_place.ensures.room _ refl refl refl refl refl refl
 
 pub returns-then-slot-len-clause-ok : goal.returns-then-slot-len-clause-ok
 returns-then-slot-len-clause-ok c =
-    on_ok_always c.reserve_place.result _ (flows_same c.args.self.now c.requires.kept c.args.slot (omega (arith, c.args.self.now.flows.ok.0)) c.index_mut.result.now c.index_mut.ensures.value c.reserve_place.new.self c.reserve_place.ensures.packets c.reserve_place.ensures.last_finish_tag c.reserve_place.ensures.arrived c.reserve_place.ensures.room ∙ sym (padded_same c.args.self.now c.requires.kept c.args.slot (omega (arith, c.args.self.now.flows.ok.0)) c.index_mut.result.now c.index_mut.ensures.value c.reserve_place.new.self c.reserve_place.ensures.packets c.reserve_place.ensures.last_finish_tag c.reserve_place.ensures.arrived c.reserve_place.ensures.room))
+    on_ok_always c.reserve_place.result _ (flows_same c.args.self.now c.requires.kept c.args.slot (omega (arith, c.args.self.now.flows.ok.0)) c.index_mut.result.now c.index_mut.ensures.value c.reserve_place.new.self c.reserve_place.ensures.packets c.reserve_place.ensures.last_finish_tag c.reserve_place.ensures.arrived c.reserve_place.ensures.kept c.reserve_place.ensures.room ∙ sym (padded_same c.args.self.now c.requires.kept c.args.slot (omega (arith, c.args.self.now.flows.ok.0)) c.index_mut.result.now c.index_mut.ensures.value c.reserve_place.new.self c.reserve_place.ensures.packets c.reserve_place.ensures.last_finish_tag c.reserve_place.ensures.arrived c.reserve_place.ensures.kept c.reserve_place.ensures.room))
 
 pub returns-then-slot-len-clause-err : goal.returns-then-slot-len-clause-err
 returns-then-slot-len-clause-err c =
     on_err_always c.reserve_place.result _ (flows_same c.args.self.now c.requires.kept c.args.slot
     (omega (arith, c.args.self.now.flows.ok.0)) c.index_mut.result.now c.index_mut.ensures.value c.reserve_place.new.self
-    c.reserve_place.ensures.packets c.reserve_place.ensures.last_finish_tag c.reserve_place.ensures.arrived
+    c.reserve_place.ensures.packets c.reserve_place.ensures.last_finish_tag c.reserve_place.ensures.arrived c.reserve_place.ensures.kept
     c.reserve_place.ensures.room)
 
 pub returns-then-slot-len-clause-place : goal.returns-then-slot-len-clause-place
 returns-then-slot-len-clause-place c =
     on_ok c.reserve_place.result _ _ (place_same c.args.self.now c.requires.kept c.args.slot (omega (arith, c.args.self.now.flows.ok.0))
     c.index_mut.result.now c.index_mut.ensures.value c.reserve_place.new.self c.reserve_place.ensures.packets
-    c.reserve_place.ensures.last_finish_tag c.reserve_place.ensures.arrived c.reserve_place.ensures.room) c.reserve_place.ensures.ok
+    c.reserve_place.ensures.last_finish_tag c.reserve_place.ensures.arrived c.reserve_place.ensures.kept c.reserve_place.ensures.room) c.reserve_place.ensures.ok
 
 pub returns-then-slot-len-clause-kept : goal.returns-then-slot-len-clause-kept
 returns-then-slot-len-clause-kept c =
     kept_same c.args.self.now c.requires.kept c.args.slot (omega (arith, c.args.self.now.flows.ok.0)) c.index_mut.result.now
     c.index_mut.ensures.value c.reserve_place.new.self c.reserve_place.ensures.packets c.reserve_place.ensures.last_finish_tag
-    c.reserve_place.ensures.arrived c.reserve_place.ensures.room
+    c.reserve_place.ensures.arrived c.reserve_place.ensures.kept c.reserve_place.ensures.room
 
 -- There is none yet.
 pub overflow_sub-flows-2 : goal.overflow_sub-flows-2

@@ -1,4 +1,6 @@
 use Rattle.std.proofs.Common.{◌+◌, length, refl, sym, ap, ◌∙◌, arith}
+use Rattle.dn_wf2q.specs.Queue.{finishing, packets_of}
+use Rattle.dn_wf2q.proofs.Payable.{payable}
 use Rattle.dn_wf2q.proofs.Ranks.{zero_from_none}
 use Rattle.dn_wf2q.proofs.Heads.{next_is_none}
 use Rattle.dn_wf2q.proofs.Own.{own_slots}
@@ -26,6 +28,9 @@ index_mut-requires c =
 
 pub take_head-next-requires : goal.take_head-next-requires
 take_head-next-requires c = record {
+  payable = payable c.args.self.now c.requires.kept c.slot-slot.result (listed c.args.self.now c.requires.kept
+      (record { tag = c.in_ok-first.first.tag; slot = c.slot-slot.result }) c.pop.new.self
+      (rw c.slot-slot.ensures.value c.in_ok-first.ensures.keys)) c.index_mut.result.now c.index_mut.ensures.value;
   some =
       has_head c.args.self.now c.requires.kept (record { tag = c.in_ok-first.first.tag; slot = c.slot-slot.result }) c.pop.new.self
       (rw c.slot-slot.ensures.value c.in_ok-first.ensures.keys) c.index_mut.result.now c.index_mut.ensures.value;
@@ -37,7 +42,7 @@ growth-requires c =
     let w =
     weighs c.args.self.now c.requires.kept (record { tag = c.in_ok-first.first.tag; slot = c.slot-slot.result }) c.pop.new.self
     (rw c.slot-slot.ensures.value c.in_ok-first.ensures.keys) c.index_mut.result.now c.index_mut.ensures.value
-    c.take_head-next.new.self c.take_head-next.result.0 t.sent t.last_finish_tag t.arrived t.room in
+    c.take_head-next.new.self (finishing c.index_mut.result.now.finish_tag c.take_head-next.result.0) t.sent t.last_finish_tag t.arrived t.kept t.room in
     let w0 = w.0 in
     let w1 = w.1 in
     record { some = omega arith }
@@ -47,7 +52,7 @@ overflow_sub-self c =
     let t = c.take_head-next.ensures in
     (weighs c.args.self.now c.requires.kept (record { tag = c.in_ok-first.first.tag; slot = c.slot-slot.result }) c.pop.new.self
     (rw c.slot-slot.ensures.value c.in_ok-first.ensures.keys) c.index_mut.result.now c.index_mut.ensures.value c.take_head-next.new.self
-    c.take_head-next.result.0 t.sent t.last_finish_tag t.arrived t.room).1
+    (finishing c.index_mut.result.now.finish_tag c.take_head-next.result.0) t.sent t.last_finish_tag t.arrived t.kept t.room).1
 
 -- The next packet of the flow is its head.
 pub enter-requires : goal.enter-requires
@@ -58,7 +63,7 @@ enter-requires c =
           rw c.growth.ensures.value (more_kept c.args.self.now c.requires.kept
           (record { tag = c.in_ok-first.first.tag; slot = c.slot-slot.result }) c.pop.new.self
           (rw c.slot-slot.ensures.value c.in_ok-first.ensures.keys) c.index_mut.result.now c.index_mut.ensures.value
-          c.take_head-next.new.self c.take_head-next.result.0 t.sent t.last_finish_tag t.arrived t.room c.pop.ensures.keeps_moves
+          c.take_head-next.new.self (finishing c.index_mut.result.now.finish_tag c.take_head-next.result.0) t.sent t.last_finish_tag t.arrived t.kept t.room c.pop.ensures.keeps_moves
           c.in_ok-first.ensures.room c.in-Some.head (sym t.next ∙ c.in-Some.is));
     }
 
@@ -68,7 +73,7 @@ returns-in-Some-clause-picks c =
     let h =
     head_is c.args.self.now c.requires.kept (record { tag = c.in_ok-first.first.tag; slot = c.slot-slot.result }) c.pop.new.self
     (rw c.slot-slot.ensures.value c.in_ok-first.ensures.keys) c.index_mut.result.now c.index_mut.ensures.value
-    c.take_head-next.new.self c.take_head-next.result.0 t.sent t.last_finish_tag t.arrived t.room in
+    c.take_head-next.new.self (finishing c.index_mut.result.now.finish_tag c.take_head-next.result.0) t.sent t.last_finish_tag t.arrived t.kept t.room in
     let e =
     picked_is c.requires.kept.kept (own_slots c.args.self.now) (record { tag = c.in_ok-first.first.tag; slot = c.slot-slot.result })
     c.pop.new.self.keys (rw c.slot-slot.ensures.value c.in_ok-first.ensures.keys)
@@ -81,7 +86,7 @@ returns-in-Some-clause-some c =
     let h =
     head_is c.args.self.now c.requires.kept (record { tag = c.in_ok-first.first.tag; slot = c.slot-slot.result }) c.pop.new.self
     (rw c.slot-slot.ensures.value c.in_ok-first.ensures.keys) c.index_mut.result.now c.index_mut.ensures.value
-    c.take_head-next.new.self c.take_head-next.result.0 t.sent t.last_finish_tag t.arrived t.room in
+    c.take_head-next.new.self (finishing c.index_mut.result.now.finish_tag c.take_head-next.result.0) t.sent t.last_finish_tag t.arrived t.kept t.room in
     let e =
     picked_is c.requires.kept.kept (own_slots c.args.self.now) (record { tag = c.in_ok-first.first.tag; slot = c.slot-slot.result })
     c.pop.new.self.keys (rw c.slot-slot.ensures.value c.in_ok-first.ensures.keys)
@@ -89,7 +94,7 @@ returns-in-Some-clause-some c =
     let s = c.enter.ensures.same in
     rw e (sends c.args.self.now c.requires.kept (record { tag = c.in_ok-first.first.tag; slot = c.slot-slot.result }) c.pop.new.self
     (rw c.slot-slot.ensures.value c.in_ok-first.ensures.keys) c.index_mut.result.now c.index_mut.ensures.value c.take_head-next.new.self
-    c.take_head-next.result.0 t.sent t.last_finish_tag t.arrived t.room c.enter.new.self (rw s.flows refl) s.busy_from
+    (finishing c.index_mut.result.now.finish_tag c.take_head-next.result.0) t.sent t.last_finish_tag t.arrived t.kept t.room c.enter.new.self (rw s.flows refl) s.busy_from
     (s.virtual_time ∙ ap (λ g. c.args.self.now.virtual_time + g) c.growth.ensures.value) s.arrivals s.picks)
 
 pub returns-in_default-clause-picks : goal.returns-in_default-clause-picks
@@ -98,7 +103,7 @@ returns-in_default-clause-picks c =
     let h =
     head_is c.args.self.now c.requires.kept (record { tag = c.in_ok-first.first.tag; slot = c.slot-slot.result }) c.pop.new.self
     (rw c.slot-slot.ensures.value c.in_ok-first.ensures.keys) c.index_mut.result.now c.index_mut.ensures.value
-    c.take_head-next.new.self c.take_head-next.result.0 t.sent t.last_finish_tag t.arrived t.room in
+    c.take_head-next.new.self (finishing c.index_mut.result.now.finish_tag c.take_head-next.result.0) t.sent t.last_finish_tag t.arrived t.kept t.room in
     let e =
     picked_is c.requires.kept.kept (own_slots c.args.self.now) (record { tag = c.in_ok-first.first.tag; slot = c.slot-slot.result })
     c.pop.new.self.keys (rw c.slot-slot.ensures.value c.in_ok-first.ensures.keys)
@@ -111,14 +116,14 @@ returns-in_default-clause-some c =
     let h =
     head_is c.args.self.now c.requires.kept (record { tag = c.in_ok-first.first.tag; slot = c.slot-slot.result }) c.pop.new.self
     (rw c.slot-slot.ensures.value c.in_ok-first.ensures.keys) c.index_mut.result.now c.index_mut.ensures.value
-    c.take_head-next.new.self c.take_head-next.result.0 t.sent t.last_finish_tag t.arrived t.room in
+    c.take_head-next.new.self (finishing c.index_mut.result.now.finish_tag c.take_head-next.result.0) t.sent t.last_finish_tag t.arrived t.kept t.room in
     let e =
     picked_is c.requires.kept.kept (own_slots c.args.self.now) (record { tag = c.in_ok-first.first.tag; slot = c.slot-slot.result })
     c.pop.new.self.keys (rw c.slot-slot.ensures.value c.in_ok-first.ensures.keys)
     (rw c.slot-slot.ensures.value c.in_ok-first.ensures.least) c.requires.promoted _ h in
     rw e (sends c.args.self.now c.requires.kept (record { tag = c.in_ok-first.first.tag; slot = c.slot-slot.result }) c.pop.new.self
     (rw c.slot-slot.ensures.value c.in_ok-first.ensures.keys) c.index_mut.result.now c.index_mut.ensures.value c.take_head-next.new.self
-    c.take_head-next.result.0 t.sent t.last_finish_tag t.arrived t.room _ refl refl
+    (finishing c.index_mut.result.now.finish_tag c.take_head-next.result.0) t.sent t.last_finish_tag t.arrived t.kept t.room _ refl refl
     (ap (λ g. c.args.self.now.virtual_time + g) c.growth.ensures.value) refl refl)
 
 pub returns-in_default-clause-kept : goal.returns-in_default-clause-kept
@@ -127,5 +132,5 @@ returns-in_default-clause-kept c =
     rw c.growth.ensures.value (last_kept c.args.self.now c.requires.kept
     (record { tag = c.in_ok-first.first.tag; slot = c.slot-slot.result }) c.pop.new.self
     (rw c.slot-slot.ensures.value c.in_ok-first.ensures.keys) c.index_mut.result.now c.index_mut.ensures.value c.take_head-next.new.self
-    c.take_head-next.result.0 t.sent t.last_finish_tag t.arrived t.room c.pop.ensures.keeps_moves c.in_ok-first.ensures.room
-    (next_is_none c.take_head-next.new.self.packets.items (sym t.next ∙ c.in_default.is)))
+    (finishing c.index_mut.result.now.finish_tag c.take_head-next.result.0) t.sent t.last_finish_tag t.arrived t.kept t.room c.pop.ensures.keeps_moves c.in_ok-first.ensures.room
+    (next_is_none (packets_of c.take_head-next.new.self) (sym t.next ∙ c.in_default.is)))

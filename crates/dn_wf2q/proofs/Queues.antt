@@ -1,0 +1,67 @@
+-- The packets of a queue, by the head's finish tag and those behind it.
+use Rattle.std.proofs.Common.{◌≡◌, ℕ, ◌+◌, ◌^◌, ◌==◌, ◌<◌, cond, true, false, is_some, Some, None, IfNone, Option, List, [], ◌∷◌, ◌++◌, length, All, refl, ap, ◌∙◌, arith, nat_lt, option_to_list}
+use Rattle.std.proofs.lemmas.List.Elements.{All-head, All-tail}
+use Rattle.std.proofs.lemmas.Bool.Decides.{nat_tests}
+use Rattle.dn_types.specs.Wf2q.{scaled, start_tag_on_arrival}
+use Rattle.dn_wf2q.specs.declared.queued_packet.QueuedPacket.{QueuedPacket}
+use Rattle.dn_wf2q.specs.Queue.{finishing, starting, stamped_behind, stamped_from, last_behind, IsChained, IsPayable}
+
+stamped_behind-push : (f : ℕ) (ps : List QueuedPacket) (p : QueuedPacket) → stamped_behind f (ps ++ p ∷ []) ≡ stamped_behind f ps ++ starting (last_behind f ps) p ∷ []
+stamped_behind-push f [] p = refl
+stamped_behind-push f (x ∷ ps) p = ap (λ l. starting f x ∷ l) (stamped_behind-push (f + scaled x.len x.weight) ps p)
+
+last_behind-push : (f : ℕ) (ps : List QueuedPacket) (p : QueuedPacket) → last_behind f (ps ++ p ∷ []) ≡ last_behind f ps + scaled p.len p.weight
+last_behind-push f [] p = refl
+last_behind-push f (x ∷ ps) p = last_behind-push (f + scaled x.len x.weight) ps p
+
+-- A packet that joins others starts at the last finish tag.
+pub joined : (b arrived last f v : ℕ) (behind : List QueuedPacket) (head : Option QueuedPacket) (p : QueuedPacket) → is_some head ≡ true
+    → IsChained b arrived last f behind head
+    → stamped_from head f (behind ++ p ∷ []) ≡ stamped_from head f behind ++ starting (start_tag_on_arrival (length (stamped_from head f behind) == 0) (cond (nat_lt b arrived) last 0) v) p ∷ []
+joined b arrived last f v behind None p e k = absurd (cc)
+joined b arrived last f v behind (Some h) p e k =
+    let l = k.0 in
+    let t : nat_lt b arrived ≡ true = grind (arith, nat_tests) in
+    let z : (length (stamped_from (Some h) f behind) == 0) ≡ false = grind (arith, nat_tests) in
+    rw (z, t, stamped_behind-push f behind p, k.1) refl
+
+pub joined_chained : (b arrived last f later : ℕ) (behind : List QueuedPacket) (head : Option QueuedPacket) (p : QueuedPacket) → is_some head ≡ true → b < later
+    → IsChained b arrived last f behind head
+    → IsChained b later (cond (nat_lt b arrived) last 0 + scaled p.len p.weight) f (behind ++ p ∷ []) head
+joined_chained b arrived last f later behind None p e m k = absurd (cc)
+joined_chained b arrived last f later behind (Some h) p e m k =
+    let l = k.0 in
+    let t : nat_lt b arrived ≡ true = grind (arith, nat_tests) in
+    (m, rw (t, last_behind-push f behind p, k.1) refl)
+
+-- What a head that is there says.
+module _ (head : Option QueuedPacket) (h : QueuedPacket) (is : head ≡ Some h) (f : ℕ) (behind : List QueuedPacket) where
+  pub headed : stamped_from head f behind ≡ finishing f h ∷ stamped_behind f behind
+  headed = rw is refl
+
+  pub head_payable : All IsPayable (stamped_from head f behind) → (0 < h.weight) × (f < 2 ^ 96)
+  head_payable all = All-head IsPayable (finishing f h) (stamped_behind f behind) (rw is at all)
+
+  pub behind_payable : All IsPayable (stamped_from head f behind) → All IsPayable (stamped_behind f behind)
+  behind_payable all = All-tail IsPayable (finishing f h) (stamped_behind f behind) (rw is at all)
+
+-- The first of the packets behind a head.
+module _ (f : ℕ) (ps qs : List QueuedPacket) (o : Option QueuedPacket) (p : QueuedPacket) (is : ps ≡ option_to_list o ++ qs) (some : o ≡ Some p) where
+  first_is : ps ≡ p ∷ qs
+  first_is = is ∙ ap (λ x. option_to_list x ++ qs) some
+
+  pub next_payable : All IsPayable (stamped_behind f ps) → (0 < p.weight) × (f + scaled p.len p.weight < 2 ^ 96)
+  next_payable all = All-head IsPayable (starting f p) (stamped_behind (f + scaled p.len p.weight) qs) (rw first_is at all)
+
+-- There is none.
+module _ (f : ℕ) (ps qs : List QueuedPacket) (o : Option QueuedPacket) (is : ps ≡ option_to_list o ++ qs) (none : o ≡ None) (all : IfNone o (qs ≡ [])) where
+  none_left : qs ≡ []
+  none_left = rw none at all
+
+  pub no_next : stamped_from o f qs ≡ stamped_behind f ps
+  no_next =
+      let empty : ps ≡ [] = is ∙ ap (λ x. option_to_list x ++ qs) none ∙ none_left in
+      rw (none, empty) refl
+
+  pub none_chained : (b arrived last : ℕ) → IsChained b arrived last f qs o
+  none_chained b arrived last = rw none none_left
