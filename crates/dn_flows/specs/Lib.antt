@@ -1,3 +1,4 @@
+pub mod Hashing
 pub mod KeyWords
 pub mod Store
 pub mod Table

@@ -4,6 +4,8 @@ ghost use Rattle.dn_flows.specs.Table.{flow_at, is_known, flows_with, IsUnused, 
 
 use crate::drop_rule::DropRule;
 use crate::flow_queue::FlowQueue;
+use crate::hash_key::HashKey;
+use crate::keyed_hash::KeyedHash;
 use crate::packet_store::PacketStore;
 use crate::table_key::TableKey;
 use crate::unsent::Unsent;
@@ -22,7 +24,7 @@ use std::marker::Model;
 /// gone through round and round.
 #[derive(Drop)]
 pub struct Flows {
-    keys: IndexSet<TableKey>,
+    keys: IndexSet<TableKey, KeyedHash>,
     queues: Vec<FlowQueue>,
     /// The other counts of each flow, in the order of the queues.
     unsent: Vec<Unsent>,
@@ -44,13 +46,22 @@ impl Model for Flows {
 }
 
 impl Flows {
-    /// The table without a flow. It takes no memory.
+    /// The table without a flow, whose hash has no secret: for packets that no stranger chooses. It takes
+    /// no memory.
     pub fn new(alloc: Global) -> Flows
         ensures keys { result.keys ≡ [] }
         ensures flows { result.flows ≡ [] }
     {
+        Flows::with_key(alloc, HashKey(0))
+    }
+
+    /// The table without a flow, which hashes by the key. It takes no memory.
+    pub fn with_key(alloc: Global, key: HashKey) -> Flows
+        ensures keys { result.keys ≡ [] }
+        ensures flows { result.flows ≡ [] }
+    {
         Flows {
-            keys: IndexSet::new(alloc),
+            keys: IndexSet::with_hasher(alloc, KeyedHash::new(key)),
             queues: Vec::new(alloc),
             unsent: Vec::new(alloc),
             packets: PacketStore::new(alloc),

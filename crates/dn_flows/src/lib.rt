@@ -2,8 +2,12 @@
 #![tactic(auto)]
 
 mod drop_rule;
+mod factors;
 mod flow_queue;
 mod flows;
+mod hash_key;
+mod keyed_hash;
+mod keyed_hasher;
 mod packet_store;
 mod stored;
 mod table_key;
@@ -13,5 +17,6 @@ mod waiting;
 
 pub use drop_rule::DropRule;
 pub use flows::Flows;
+pub use hash_key::HashKey;
 pub use verdict::Verdict;
 pub use waiting::Waiting;

@@ -1,6 +1,6 @@
 //! Tests. A test's function makes the table and no more, since what owns a table is dear to prove.
 use crate::given::{at_most, counts, discard, is_told, key, note_both, packet, pop, push, verdict};
-use dn_flows::{DropRule, Flows, Verdict, Waiting};
+use dn_flows::{DropRule, Flows, HashKey, Verdict, Waiting};
 use dn_types::{Len, Limit, Loss};
 use std::alloc::AllocError;
 use std::process::Abort;
@@ -36,6 +36,15 @@ fn check_parts<R: Abort>(rt: &R, flows: &mut Flows) -> Result<(), AllocError> {
 #[test]
 fn parts_by_themselves(rt: HostRuntime) -> Result<(), AllocError> {
     let mut flows = Flows::new(rt.alloc());
+    let outcome = check_parts(&rt, &mut flows);
+    drop(flows);
+    outcome
+}
+
+// The numbers don't depend on the key of the hash.
+#[test]
+fn parts_under_a_key(rt: HostRuntime) -> Result<(), AllocError> {
+    let mut flows = Flows::with_key(rt.alloc(), HashKey(u128::MAX));
     let outcome = check_parts(&rt, &mut flows);
     drop(flows);
     outcome
