@@ -9,5 +9,6 @@ mod settings;
 mod shaper;
 mod state;
 
+pub use dn_flows::HashKey;
 pub use runs::run;
 pub use shaper::Shaper;

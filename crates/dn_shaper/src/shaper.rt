@@ -17,6 +17,7 @@ use crate::calls::show::show;
 use crate::calls::submit::submit;
 use crate::links::wake::{earlier, first_free};
 use crate::state::{State, new_state};
+use dn_flows::HashKey;
 use dn_types::{Call, Delivery, Reply, Rule};
 use std::alloc::{AllocError, Global};
 use std::marker::Model;
@@ -63,8 +64,16 @@ impl Shaper {
     pub fn with_rule(alloc: Global, rule: Rule) -> Shaper
         ensures { StandsAfter rule result [] }
     {
+        Shaper::with_key(alloc, rule, HashKey(0))
+    }
+
+    /// The same with a secret for the table of its flows, for packets that a stranger chooses. No reply
+    /// depends on the key.
+    pub fn with_key(alloc: Global, rule: Rule, key: HashKey) -> Shaper
+        ensures { StandsAfter rule result [] }
+    {
         Shaper {
-            state: new_state(alloc, rule),
+            state: new_state(alloc, rule, key),
             given: Vec::new(alloc),
             alloc,
         }

@@ -6,7 +6,7 @@ use crate::links::next_start::NextStart;
 use crate::links::parts::Parts;
 use crate::room::shared_places::SharedPlaces;
 use crate::settings::configured::Configured;
-use dn_flows::Flows;
+use dn_flows::{Flows, HashKey};
 use dn_heap::RunHeap;
 use dn_link::DelayLine;
 use dn_types::Rule;
@@ -25,7 +25,7 @@ pub struct State {
 }
 
 /// A shaper before its first call. It takes no memory.
-pub fn new_state(alloc: Global, rule: Rule) -> State
+pub fn new_state(alloc: Global, rule: Rule, key: HashKey) -> State
     ensures sound { IsSound result }
     ensures stands { StandsAt rule result [] }
 {
@@ -33,7 +33,7 @@ pub fn new_state(alloc: Global, rule: Rule) -> State
         parts: Parts {
             rule,
             accepted: 0,
-            flows: Flows::new(alloc),
+            flows: Flows::with_key(alloc, key),
             homes: Vec::new(alloc),
             links: Vec::new(alloc),
             waiting: 0,

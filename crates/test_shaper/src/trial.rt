@@ -1,8 +1,8 @@
 use crate::example::is_wanted;
 use crate::shown_step::ShownStep;
 use crate::step::Step;
-use dn_shaper::Shaper;
-use dn_types::{Call, Reply, Statuses};
+use dn_shaper::{HashKey, Shaper};
+use dn_types::{Call, Reply, Rule, Statuses};
 use std::alloc::Global;
 use std::io::Print;
 use std::process::Abort;
@@ -19,11 +19,11 @@ pub struct Trial {
 }
 
 impl Trial {
-    /// A shaper before its first call.
+    /// A shaper before its first call, with a key, where the list of an example is run without one.
     fn new(alloc: Global) -> Trial {
         Trial {
             alloc,
-            shaper: Shaper::new(alloc),
+            shaper: Shaper::with_key(alloc, Rule::Ordered, HashKey(7)),
             shown: Reply::Status {
                 list: Statuses::from_vec(Vec::new(alloc)),
             },
