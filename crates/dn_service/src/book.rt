@@ -4,8 +4,8 @@ ghost use Rattle.dn_types.specs.declared.rule.Rule.TheVariants.{Ordered};
 ghost use Rattle.dn_service.specs.Histories.{entry_of};
 
 use crate::room::Room;
-use dn_shaper::Shaper;
-use dn_types::{Call, Entry, Reply};
+use dn_shaper::{HashKey, Shaper};
+use dn_types::{Call, Entry, Reply, Rule};
 use std::alloc::{AllocError, Global};
 use std::marker::Model;
 
@@ -42,11 +42,11 @@ impl Model for Book {
 
 impl Book {
     /// A new shaper, with no calls.
-    pub(crate) fn new(alloc: Global) -> Result<Book, AllocError>
+    pub(crate) fn new(alloc: Global, key: HashKey) -> Result<Book, AllocError>
         ensures { IfOk result (λ book. book ≡ []) }
     {
         let pages = Pages {
-            shaper: Shaper::new(alloc),
+            shaper: Shaper::with_key(alloc, Rule::Ordered, key),
             history: Vec::new(alloc),
             room: Room::new(alloc),
         };

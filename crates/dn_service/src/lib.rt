@@ -20,6 +20,7 @@ mod view;
 pub use caller::Caller;
 pub use close_fault::CloseFault;
 pub use closed::Closed;
+pub use dn_shaper::HashKey;
 pub use open_fault::OpenFault;
 pub use service::Service;
 pub use try_fault::TryFault;

@@ -12,6 +12,7 @@ use crate::rule::{BookSeat, BookTable};
 use crate::take_in::{first_missing, take_in};
 use crate::unclosed::Unclosed;
 use atomic_table::Table;
+use dn_shaper::HashKey;
 use std::alloc::{AllocError, Global};
 use std::marker::Model;
 use std::sync::Arc;
@@ -42,12 +43,12 @@ impl Model for Service {
 }
 
 /// The table with a new book, and its first seat.
-fn new_table(alloc: Global, count: usize) -> Result<(BookTable, BookSeat), AllocError>
+fn new_table(alloc: Global, count: usize, key: HashKey) -> Result<(BookTable, BookSeat), AllocError>
     ensures table { IfOk result (λ made. (made.1.table_id ≡ made.0.shared.table_id) × (made.1.table_id.words ≡ 1)) }
     ensures seat { IfOk result (λ made. made.1.me ≡ (first_seat count, [])) }
 {
     let mut slots = Vec::with_capacity(alloc, 1)?;
-    slots.push_reserved(Some(Book::new(alloc)?));
+    slots.push_reserved(Some(Book::new(alloc, key)?));
     match Table::new(alloc, &[0], slots, &count) {
         Ok(made) => Ok(made),
         Err(_) => Err(AllocError),
@@ -65,10 +66,25 @@ impl Service {
         ensures of { IfOk result (λ made. All (IsOf made.0) made.1.items) }
         ensures err { IfErr result (λ fault. IsOpenFault n fault) }
     {
+        Service::open_with_key(alloc, n, HashKey(0))
+    }
+
+    /// The same with a secret for the table of its flows, for packets that a stranger chooses. No reply
+    /// depends on the key.
+    pub fn open_with_key(
+        alloc: Global,
+        n: usize,
+        key: HashKey,
+    ) -> Result<(Service, Vec<Caller>), OpenFault>
+        ensures service { IfOk result (λ made. (made.0.callers ≡ n) × (0 < n) × (n ≤ 16)) }
+        ensures callers { IfOk result (λ made. made.1.items ≡ new_callers made.0 0 n) }
+        ensures of { IfOk result (λ made. All (IsOf made.0) made.1.items) }
+        ensures err { IfErr result (λ fault. IsOpenFault n fault) }
+    {
         if n == 0 || n > MOST_CALLERS {
             return Err(OpenFault::BadCount);
         }
-        let Ok((table, mut seat)) = new_table(alloc, n) else {
+        let Ok((table, mut seat)) = new_table(alloc, n, key) else {
             return Err(OpenFault::OutOfMemory);
         };
         let Ok(table) = Arc::new(alloc, table) else {

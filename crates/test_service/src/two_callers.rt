@@ -3,7 +3,7 @@ ghost use Rattle.dn_service.specs.Callers.{IsSameCaller};
 
 use crate::calls::{advance, collect, history_of, made, packet, pipe};
 use crate::replies::{check_delivered, check_queued};
-use dn_service::{Caller, OpenFault, Service};
+use dn_service::{Caller, HashKey, OpenFault, Service};
 use dn_types::{Delivery, Entry, Reply};
 use std::alloc::Global;
 use std::process::Abort;
@@ -33,7 +33,7 @@ fn check_turns<R: Abort>(rt: &R, history: &[Entry]) {
 
 #[test]
 fn tries_of_two_callers_by_turns(rt: HostRuntime) -> Result<(), Fail> {
-    let (service, mut callers) = Service::open(rt.alloc(), 2)?;
+    let (service, mut callers) = Service::open_with_key(rt.alloc(), 2, HashKey(7))?;
     let (zero, one) = callers.split_at_mut(1);
     take_turns(&rt, &mut zero[0], &mut one[0]);
     let history = history_of(service, callers)?;

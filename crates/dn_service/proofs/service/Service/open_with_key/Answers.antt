@@ -1,7 +1,7 @@
 use Rattle.std.proofs.Common.{rules, ◌≡◌, sym, subst, All}
 use Rattle.dn_service.specs.Callers.{ServiceView, IsOf, new_callers}
 use Rattle.dn_service.proofs.Handing.{new_are_of}
-use Rattle.dn_service.proofs.service.Service.open.Goals as goal
+use Rattle.dn_service.proofs.service.Service.open_with_key.Goals as goal
 
 pub returns-clause-of : goal.returns-clause-of
 returns-clause-of c =
