@@ -6,6 +6,7 @@ use crate::verdict::Verdict;
 use dn_files::{ReplayFault, Source, write_text};
 use dn_history::read_history;
 use dn_records::{Inlet, Outlet};
+use dn_shaper::HashKey;
 use std::alloc::{AllocError, Global};
 
 /// The line that tells a verdict on a history of this many entries.
@@ -25,6 +26,7 @@ fn verdict_line(alloc: Global, entries: usize, verdict: Verdict) -> Result<Strin
 /// where a write of the line failed.
 pub fn audit_file<I: Inlet, O: Outlet>(
     alloc: Global,
+    key: HashKey,
     history: &mut I,
     out: &mut O,
 ) -> Result<Verdict, ReplayFault>
@@ -41,7 +43,7 @@ pub fn audit_file<I: Inlet, O: Outlet>(
     ensures faults { IfErr result (λ fault. IsAuditFault fault) }
 {
     let (rule, entries) = read_history(alloc, history)?;
-    let Ok(verdict) = audit(alloc, rule, entries.as_slice()) else {
+    let Ok(verdict) = audit(alloc, key, rule, entries.as_slice()) else {
         return Err(ReplayFault::OutOfMemory);
     };
     let Ok(line) = verdict_line(alloc, entries.len(), verdict) else {

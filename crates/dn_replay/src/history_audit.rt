@@ -4,7 +4,7 @@ ghost use Rattle.dn_shaper.specs.Shaper.{StandsAfter};
 ghost use Rattle.dn_replay.specs.Audit.{CanWantMemory, IsVerdict};
 
 use crate::verdict::Verdict;
-use dn_shaper::Shaper;
+use dn_shaper::{HashKey, Shaper};
 use dn_types::{Entry, Rule};
 use std::alloc::{AllocError, Global};
 
@@ -26,11 +26,16 @@ fn compare_replies(shaper: &mut Shaper, entries: &[Entry]) -> Result<Verdict, Al
 /// Asks a new shaper the calls of a history, oldest first, and compares each reply with the entry's.
 /// The first that differs is the answer. It doesn't matter which caller made a call. Err says that memory was
 /// refused for a call.
-pub fn audit(alloc: Global, rule: Rule, entries: &[Entry]) -> Result<Verdict, AllocError>
+pub fn audit(
+    alloc: Global,
+    key: HashKey,
+    rule: Rule,
+    entries: &[Entry],
+) -> Result<Verdict, AllocError>
     ensures ok { IfOk result (λ verdict. IsVerdict rule entries.now verdict) }
     ensures err { OnErr result (CanWantMemory rule entries.now) }
 {
-    let mut shaper = Shaper::with_rule(alloc, rule);
+    let mut shaper = Shaper::with_key(alloc, rule, key);
     let verdict = compare_replies(&mut shaper, entries);
     // The proof of a drop by a call has one step, where that of a drop at the end has one for each field.
     drop(shaper);

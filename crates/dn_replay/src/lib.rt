@@ -12,6 +12,7 @@ pub use callers::{Gate, NoGate, replay_callers};
 pub use dn_files::{ReplayFault, Row, Source, read_config, read_packets};
 pub use dn_history::{read_history, write_history};
 pub use dn_records::{FromReader, FromWriter, Inlet, Outlet};
+pub use dn_shaper::HashKey;
 pub use file_audit::audit_file;
 pub use history_audit::audit;
 pub use one_caller::replay::{replay, replay_joined};

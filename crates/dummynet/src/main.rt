@@ -9,10 +9,12 @@ use clap::{ArgMatches, Command, Error};
 use command::command;
 use dn_records::{FromReader, FromWriter};
 use dn_replay::{
-    NoGate, ReplayFault, Source, audit_file, replay, replay_callers, replay_joined, write_history,
+    HashKey, NoGate, ReplayFault, Source, audit_file, replay, replay_callers, replay_joined,
+    write_history,
 };
 use late_file::LateFile;
 use std::process::ExitCode;
+use std::random::RandomSource;
 use std::rt::{Env, Files};
 use std::sync::Wait;
 use std::thread::Threads;
@@ -24,11 +26,14 @@ const DONE: u8 = 0;
 // The status of a command line that isn't understood.
 const USAGE: u8 = 2;
 
+// The status where the system doesn't give what is read from it.
+const UNREAD: u8 = 6;
+
 /// From standard input to standard output.
-fn replay_input<R: Input + Print + AllocGlobal>(rt: &R) -> Result<(), ReplayFault> {
+fn replay_input<R: Input + Print + AllocGlobal>(rt: &R, key: HashKey) -> Result<(), ReplayFault> {
     let mut input = FromReader::new(rt.reader());
     let mut out = FromWriter::new(io::writer(rt));
-    let _history = replay_joined(rt.alloc(), &mut input, &mut out)?;
+    let _history = replay_joined(rt.alloc(), key, &mut input, &mut out)?;
     Ok(())
 }
 
@@ -37,6 +42,7 @@ fn replay_input<R: Input + Print + AllocGlobal>(rt: &R) -> Result<(), ReplayFaul
 /// the file is made, or emptied if it is there, once the text of the history stands whole in memory.
 fn replay_files<R: Files + Print + AllocGlobal + Threads + Wait + Sync>(
     rt: &R,
+    key: HashKey,
     found: &ArgMatches<'_>,
 ) -> Result<(), ReplayFault> {
     let Ok(config) = fs::open(rt, found.get_str("config").unwrap_or("")) else {
@@ -50,8 +56,17 @@ fn replay_files<R: Files + Print + AllocGlobal + Threads + Wait + Sync>(
     let mut out = FromWriter::new(io::writer(rt));
     let alloc = rt.alloc();
     let entries = match found.get_one::<usize>("callers") {
-        Some(n) => replay_callers(rt, alloc, n, &mut config, &mut packets, &mut out, &NoGate)?,
-        None => replay(alloc, &mut config, &mut packets, &mut out)?,
+        Some(n) => replay_callers(
+            rt,
+            alloc,
+            key,
+            n,
+            &mut config,
+            &mut packets,
+            &mut out,
+            &NoGate,
+        )?,
+        None => replay(alloc, key, &mut config, &mut packets, &mut out)?,
     };
     let Some(path) = found.get_str("history") else {
         return Ok(());
@@ -64,29 +79,34 @@ fn replay_files<R: Files + Print + AllocGlobal + Threads + Wait + Sync>(
 }
 
 /// Audits the history in a file, and writes its verdict to standard output. Answers the verdict's status.
-fn audit_history<R: Files + Print + AllocGlobal>(rt: &R, path: &str) -> Result<u8, ReplayFault> {
+fn audit_history<R: Files + Print + AllocGlobal>(
+    rt: &R,
+    key: HashKey,
+    path: &str,
+) -> Result<u8, ReplayFault> {
     let Ok(file) = fs::open(rt, path) else {
         return Err(ReplayFault::Read(Source::History));
     };
     let mut history = FromReader::new(file);
     let mut out = FromWriter::new(io::writer(rt));
-    let verdict = audit_file(rt.alloc(), &mut history, &mut out)?;
+    let verdict = audit_file(rt.alloc(), key, &mut history, &mut out)?;
     Ok(verdict.status())
 }
 
 /// Does what the words ask for, and answers the status of what was done.
 fn run<R: Input + Files + Print + AllocGlobal + Threads + Wait + Sync>(
     rt: &R,
+    key: HashKey,
     matches: &ArgMatches<'_>,
 ) -> Result<u8, ReplayFault> {
     match matches.subcommand() {
-        Some(("audit", found)) => audit_history(rt, found.get_str("history").unwrap_or("")),
+        Some(("audit", found)) => audit_history(rt, key, found.get_str("history").unwrap_or("")),
         Some((_, found)) => {
-            replay_files(rt, found)?;
+            replay_files(rt, key, found)?;
             Ok(DONE)
         }
         None => {
-            replay_input(rt)?;
+            replay_input(rt, key)?;
             Ok(DONE)
         }
     }
@@ -143,17 +163,39 @@ fn understood<'a>(command: &mut Command<'a>, words: &'a [String]) -> Result<ArgM
     Ok(matches)
 }
 
+/// The secret by which the flow table hashes, drawn anew in each run, so that who writes a packet file
+/// can't know it.
+fn drawn_key<R: RandomSource>(rt: &R) -> io::Result<HashKey> {
+    let mut bytes = [0; 16];
+    rt.fill_bytes(&mut bytes)?;
+    Ok(HashKey(u128::from_le_bytes(bytes)))
+}
+
+/// Does what was understood, and answers the status.
+fn done_by_matches<R>(rt: &R, matches: &ArgMatches<'_>) -> u8
+where
+    R: Input + Files + Print + Eprint + AllocGlobal + Threads + Wait + Sync + RandomSource,
+{
+    match drawn_key(rt) {
+        Ok(key) => status_of(rt, run(rt, key, matches)),
+        Err(_) => {
+            let _ = eprintln!(rt; "cannot read random numbers");
+            UNREAD
+        }
+    }
+}
+
 /// Does what the words of the command line say, and answers the status.
 fn done_by_words<R>(rt: &R, words: &[String]) -> u8
 where
-    R: Input + Files + Print + Eprint + AllocGlobal + Threads + Wait + Sync,
+    R: Input + Files + Print + Eprint + AllocGlobal + Threads + Wait + Sync + RandomSource,
 {
     let mut command = match command(rt.alloc()) {
         Ok(command) => command,
         Err(error) => return status_of_words(rt, &error),
     };
     match understood(&mut command, words) {
-        Ok(matches) => status_of(rt, run(rt, &matches)),
+        Ok(matches) => done_by_matches(rt, &matches),
         Err(error) => status_of_words(rt, &error),
     }
 }
@@ -161,7 +203,7 @@ where
 /// Does what the command line says, and answers the status.
 fn done<R>(rt: &R) -> u8
 where
-    R: Env + Input + Files + Print + Eprint + AllocGlobal + Threads + Wait + Sync,
+    R: Env + Input + Files + Print + Eprint + AllocGlobal + Threads + Wait + Sync + RandomSource,
 {
     let args = match env::args(rt) {
         Ok(args) => args,

@@ -2,7 +2,7 @@ use crate::gates::{Count, Meeting, OneFirst};
 use crate::headers::{PACKET_HEADER, REPORT_HEADER};
 use crate::replays::replay_files;
 use dn_records::{FromReader, FromWriter};
-use dn_replay::{Gate, NoGate, ReplayFault, replay, replay_callers};
+use dn_replay::{Gate, HashKey, NoGate, ReplayFault, replay, replay_callers};
 use dn_types::{Call, Entry};
 use std::alloc::Global;
 use std::sync::Wait;
@@ -40,7 +40,16 @@ pub fn replay_by<G: Gate + Sync, R: Threads + Wait + Sync>(
     let mut config = FromReader::new(config.as_bytes());
     let mut packets = FromReader::new(packets.as_bytes());
     let mut out = FromWriter::new(written);
-    replay_callers(rt, alloc, n, &mut config, &mut packets, &mut out, gate)
+    replay_callers(
+        rt,
+        alloc,
+        HashKey(7),
+        n,
+        &mut config,
+        &mut packets,
+        &mut out,
+        gate,
+    )
 }
 
 // Whether a report has a line for each of so many rows that came out.
@@ -156,7 +165,7 @@ fn has_same_history<R: Threads + Wait + Sync>(
     let mut config = FromReader::new(PIPE.as_bytes());
     let mut packets = FromReader::new(SEVEN_ROWS.as_bytes());
     let mut out = FromWriter::new(alone);
-    let history = replay(alloc, &mut config, &mut packets, &mut out)?;
+    let history = replay(alloc, HashKey(7), &mut config, &mut packets, &mut out)?;
     Ok(entries.as_slice() == history.as_slice())
 }
 

@@ -1,6 +1,6 @@
 use dn_replay::{
-    FromReader, FromWriter, NoGate, Verdict, audit, audit_file, read_config, read_packets, replay,
-    replay_callers, write_history, write_report,
+    FromReader, FromWriter, HashKey, NoGate, Verdict, audit, audit_file, read_config, read_packets,
+    replay, replay_callers, write_history, write_report,
 };
 use dn_types::Rule;
 use std::test::Fail;
@@ -8,6 +8,7 @@ use std::test::Fail;
 #[test]
 fn the_example_of_the_readme(rt: HostRuntime) -> Result<(), Fail> {
     let alloc = rt.alloc();
+    let key = HashKey(7);
     let config = b"pipe 1 config bw 8Mbit/s\n".as_slice();
     let packets = b"moment,target,number,src,dst,proto,sport,dport,len,word\n\
         0,pipe,1,10.0.0.1,10.0.0.2,17,1000,2000,1000,0\n"
@@ -17,15 +18,16 @@ fn the_example_of_the_readme(rt: HostRuntime) -> Result<(), Fail> {
     let mut out = FromWriter::new(&mut output);
     let history = replay(
         alloc,
+        key,
         &mut FromReader::new(config),
         &mut FromReader::new(packets),
         &mut out,
     )?;
     write_report(alloc, 1, &history, &mut out)?;
     write_history(alloc, &history, &mut FromWriter::new(&mut file))?;
-    let verdict = audit(alloc, Rule::Ordered, &history)?;
+    let verdict = audit(alloc, key, Rule::Ordered, &history)?;
     assert!(rt; verdict == Verdict::Lawful);
-    let same = audit_file(alloc, &mut FromReader::new(file.as_slice()), &mut out)?;
+    let same = audit_file(alloc, key, &mut FromReader::new(file.as_slice()), &mut out)?;
     assert!(rt; same == verdict);
     let rows = read_packets(alloc, &mut FromReader::new(packets))?;
     let commands = read_config(alloc, &mut FromReader::new(config))?;
@@ -33,6 +35,7 @@ fn the_example_of_the_readme(rt: HostRuntime) -> Result<(), Fail> {
     let shared = replay_callers(
         &rt,
         alloc,
+        key,
         3,
         &mut FromReader::new(config),
         &mut FromReader::new(packets),

@@ -1,7 +1,9 @@
 use crate::fakes::{FailingReader, Sink, WhenFull};
 use crate::history::ONE_CALLER;
 use crate::history_files::text_with;
-use dn_replay::{FromReader, FromWriter, Inlet, Outlet, ReplayFault, Source, Verdict, audit_file};
+use dn_replay::{
+    FromReader, FromWriter, HashKey, Inlet, Outlet, ReplayFault, Source, Verdict, audit_file,
+};
 use std::alloc::Global;
 use std::test::Fail;
 
@@ -9,7 +11,12 @@ use std::test::Fail;
 fn audits(alloc: Global, file: &str, answer: Result<Verdict, ReplayFault>, line: &str) -> bool {
     let mut written = Vec::new(alloc);
     let mut input = FromReader::new(file.as_bytes());
-    let found = audit_file(alloc, &mut input, &mut FromWriter::new(&mut written));
+    let found = audit_file(
+        alloc,
+        HashKey(7),
+        &mut input,
+        &mut FromWriter::new(&mut written),
+    );
     found == answer && written.as_slice() == line.as_bytes()
 }
 
@@ -83,7 +90,12 @@ fn read_fails(alloc: Global, good: usize) -> bool {
         rest: ONE_CALLER.as_bytes(),
         good,
     });
-    let answer = audit_file(alloc, &mut input, &mut FromWriter::new(&mut written));
+    let answer = audit_file(
+        alloc,
+        HashKey(7),
+        &mut input,
+        &mut FromWriter::new(&mut written),
+    );
     answer == Err(ReplayFault::Read(Source::History)) && input.failed() && written.is_empty()
 }
 
@@ -99,7 +111,7 @@ fn write_fails(alloc: Global, line: &[u8], room: usize, when_full: WhenFull) -> 
     let mut sink = Sink::new(alloc, room, when_full);
     let mut out = FromWriter::new(&mut sink);
     let mut input = FromReader::new(ONE_CALLER.as_bytes());
-    let answer = audit_file(alloc, &mut input, &mut out);
+    let answer = audit_file(alloc, HashKey(7), &mut input, &mut out);
     out.failed()
         && answer == Err(ReplayFault::Write(Source::Report))
         && Some(sink.held.as_slice()) == line.get(..room)

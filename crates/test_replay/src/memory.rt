@@ -5,8 +5,8 @@ use crate::histories::one_caller;
 use crate::history::ONE_CALLER;
 use crate::history_files::is_read_as;
 use dn_replay::{
-    FromReader, FromWriter, NoGate, ReplayFault, Verdict, audit, audit_file, replay, replay_joined,
-    write_history,
+    FromReader, FromWriter, HashKey, NoGate, ReplayFault, Verdict, audit, audit_file, replay,
+    replay_joined, write_history,
 };
 use dn_text::split_joined;
 use dn_types::Rule;
@@ -19,7 +19,7 @@ use std::thread::Threads;
 fn replay_one(alloc: Global, written: &mut Vec<u8>) -> Result<usize, ReplayFault> {
     let mut input = FromReader::new(FULL_QUEUE.as_bytes());
     let mut out = FromWriter::new(written);
-    replay_joined(alloc, &mut input, &mut out).map(|entries| entries.len())
+    replay_joined(alloc, HashKey(7), &mut input, &mut out).map(|entries| entries.len())
 }
 
 // The same of its two parts.
@@ -28,7 +28,7 @@ fn replay_two(alloc: Global, written: &mut Vec<u8>) -> Result<usize, ReplayFault
     let mut config = FromReader::new(config);
     let mut packets = FromReader::new(packets);
     let mut out = FromWriter::new(written);
-    replay(alloc, &mut config, &mut packets, &mut out).map(|entries| entries.len())
+    replay(alloc, HashKey(7), &mut config, &mut packets, &mut out).map(|entries| entries.len())
 }
 
 // The same of a replay by two callers.
@@ -42,7 +42,7 @@ fn replay_by_two<R: Threads + Wait + Sync>(
 // The verdict on the file of one caller's history. What it writes is added to `written`.
 fn audit_one(alloc: Global, written: &mut Vec<u8>) -> Result<Verdict, ReplayFault> {
     let mut file = FromReader::new(ONE_CALLER.as_bytes());
-    audit_file(alloc, &mut file, &mut FromWriter::new(written))
+    audit_file(alloc, HashKey(7), &mut file, &mut FromWriter::new(written))
 }
 
 // An empty output with room for a text, so that writing the text grows nothing of it.
@@ -129,9 +129,9 @@ fn a_refused_history_is_read_again(rt: HostRuntime) -> Result<(), Fail> {
 fn a_refused_audit_is_made_again(rt: HostRuntime) -> Result<(), Fail> {
     let alloc = rt.alloc();
     let entries = one_caller(alloc)?;
-    let mut verdict = audit(alloc, Rule::Ordered, &entries);
+    let mut verdict = audit(alloc, HashKey(7), Rule::Ordered, &entries);
     if verdict.is_err() {
-        verdict = audit(alloc, Rule::Ordered, &entries);
+        verdict = audit(alloc, HashKey(7), Rule::Ordered, &entries);
     }
     assert!(rt; verdict == Ok(Verdict::Lawful));
     Ok(())

@@ -16,18 +16,19 @@ use crate::report::write_report;
 use dn_files::{ReplayFault, Row};
 use dn_records::{Inlet, Outlet};
 use dn_service::{Caller, OpenFault, Service};
+use dn_shaper::HashKey;
 use dn_types::Entry;
 use std::alloc::{AllocError, Global};
 use std::sync::Wait;
 use std::thread::Threads;
 
 /// A service and its n callers.
-fn open(alloc: Global, n: usize) -> Result<(Service, Vec<Caller>), ReplayFault>
+fn open(alloc: Global, n: usize, key: HashKey) -> Result<(Service, Vec<Caller>), ReplayFault>
     ensures count { IfOk result (λ opened. IsCount n × (opened.0.callers ≡ n)) }
     ensures callers { IfOk result (λ opened. opened.1.items ≡ new_callers opened.0 0 n) }
     ensures err { IfErr result (λ fault. IsUnopened n fault) }
 {
-    match Service::open(alloc, n) {
+    match Service::open_with_key(alloc, n, key) {
         Ok(opened) => Ok(opened),
         Err(OpenFault::BadCount) => Err(ReplayFault::BadCount),
         Err(OpenFault::OutOfMemory) => Err(ReplayFault::OutOfMemory),
@@ -89,6 +90,7 @@ fn history<G: Gate + Sync, R: Threads + Wait + Sync>(
 pub fn replay_callers<C: Inlet, P: Inlet, O: Outlet, G: Gate + Sync, R: Threads + Wait + Sync>(
     rt: &R,
     alloc: Global,
+    key: HashKey,
     n: usize,
     config: &mut C,
     packets: &mut P,
@@ -112,8 +114,8 @@ pub fn replay_callers<C: Inlet, P: Inlet, O: Outlet, G: Gate + Sync, R: Threads 
         (C.remaining config.old) (P.remaining packets.old)
         (O.contents out.old) (O.contents out.new) (O.has_failed out.new) fault) }
 {
-    let opened = open(alloc, n)?;
-    let mut run = Run::new(alloc);
+    let opened = open(alloc, n, key)?;
+    let mut run = Run::new(alloc, key);
     let read = commands_and_rows(alloc, &mut run, config, packets);
     // The proof of a drop by a call has one step, where that of a drop at each exit has one for each field.
     drop(run);

@@ -10,6 +10,7 @@ use crate::one_caller::run::Run;
 use crate::report::write_report;
 use dn_files::{ReplayFault, Row};
 use dn_records::{Inlet, Outlet};
+use dn_shaper::HashKey;
 use dn_types::Entry;
 use std::alloc::Global;
 
@@ -65,9 +66,11 @@ fn replay_by<C: Inlet, P: Inlet, O: Outlet>(
 
 /// Replays a packet file through a configuration for one caller: it makes the command of each
 /// configuration line, submits each row, and then takes all packets that are due by 2^62 ns. It writes
-/// the report and answers the history. Nothing is written before both inputs were read and judged.
+/// the report and answers the history. Nothing is written before both inputs were read and judged. No
+/// answer depends on the key, the secret of the flow table.
 pub fn replay<C: Inlet, P: Inlet, O: Outlet>(
     alloc: Global,
+    key: HashKey,
     config: &mut C,
     packets: &mut P,
     out: &mut O,
@@ -92,7 +95,7 @@ pub fn replay<C: Inlet, P: Inlet, O: Outlet>(
         (AskFor (C.remaining config.old) (P.remaining packets.old))
         (O.contents out.old) (O.contents out.new) (O.has_failed out.new) fault) }
 {
-    let mut run = Run::new(alloc);
+    let mut run = Run::new(alloc, key);
     let history = replay_by(alloc, &mut run, config, packets, out);
     // The proof of a drop by a call has one step, where that of a drop at the end has one for each field.
     drop(run);
@@ -125,6 +128,7 @@ fn replay_joined_by<I: Inlet, O: Outlet>(
 /// `--`, and then a packet file.
 pub fn replay_joined<I: Inlet, O: Outlet>(
     alloc: Global,
+    key: HashKey,
     input: &mut I,
     out: &mut O,
 ) -> Result<Vec<Entry>, ReplayFault>
@@ -140,7 +144,7 @@ pub fn replay_joined<I: Inlet, O: Outlet>(
         IsUnreplayed (InputFailed (I.has_failed input.new)) (AsksFor (I.remaining input.old))
         (O.contents out.old) (O.contents out.new) (O.has_failed out.new) fault) }
 {
-    let mut run = Run::new(alloc);
+    let mut run = Run::new(alloc, key);
     let history = replay_joined_by(alloc, &mut run, input, out);
     drop(run);
     history

@@ -7,8 +7,8 @@ ghost use Rattle.dn_replay.specs.Runs.{HasMade, replayed, submit, submitted};
 ghost use Rattle.std.specs.Prelude.{IfErr, Ok};
 
 use dn_files::{ReplayFault, Row};
-use dn_shaper::Shaper;
-use dn_types::{Call, Command, Entry, Moment, Reply};
+use dn_shaper::{HashKey, Shaper};
+use dn_types::{Call, Command, Entry, Moment, Reply, Rule};
 use std::alloc::{AllocError, Global};
 use std::mem;
 
@@ -54,11 +54,11 @@ fn refusal(line: usize, reply: &Reply) -> Option<ReplayFault>
 impl Run {
     /// A run without a call.
     #[tactic(auto, unfolding(crate::specs::Runs::history_of))]
-    pub(crate) fn new(alloc: Global) -> Run
+    pub(crate) fn new(alloc: Global, key: HashKey) -> Run
         ensures { HasMade result [] }
     {
         Run {
-            shaper: Shaper::new(alloc),
+            shaper: Shaper::with_key(alloc, Rule::Ordered, key),
             history: Vec::new(alloc),
         }
     }

@@ -4,7 +4,7 @@ use Rattle.dn_replay.proofs.AuditSteps.{err-weaker}
 use Rattle.dn_replay.proofs.history_audit.audit.Goals as goal
 
 pub returns-clause-ok : goal.returns-clause-ok
-returns-clause-ok c = IfOk-weaker c.compare_replies-verdict.result _ _ (λ verdict found. found c.args.rule c.with_rule-shaper.ensures) c.compare_replies-verdict.ensures.ok
+returns-clause-ok c = IfOk-weaker c.compare_replies-verdict.result _ _ (λ verdict found. found c.args.rule c.with_key-shaper.ensures) c.compare_replies-verdict.ensures.ok
 
 pub returns-clause-err : goal.returns-clause-err
-returns-clause-err c = err-weaker c.compare_replies-verdict.result (λ wants. wants c.args.rule c.with_rule-shaper.ensures) c.compare_replies-verdict.ensures.err
+returns-clause-err c = err-weaker c.compare_replies-verdict.result (λ wants. wants c.args.rule c.with_key-shaper.ensures) c.compare_replies-verdict.ensures.err
