@@ -91,6 +91,8 @@ def parts(cases: str, seed: int) -> list[Part]:
         Part("cases of the reference", [python, "tools/gate/cases.py", program, str(seed), str(RANDOM_CASES), cases]),
         Part("replays by callers", [python, "tools/callers_checks.py", program, str(seed), str(RUNS_BY_CALLERS)]),
         Part("the program without memory", [python, "tools/gate/memory.py", program], "cc"),
+        Part("chosen keys", [python, "tools/gate/hostile.py", program], "valgrind"),
+        Part("keys of the hash", [python, "tools/gate/hash_key.py", program], "cc"),
         Part("the command line", [python, "tools/gate/command_line.py", program]),
         Part("the wrapper, ./build and ./install", [python, "tools/gate/wrapper.py", program]),
         Part("examples", [python, "tools/gate/examples.py", program]),

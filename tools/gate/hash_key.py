@@ -1,0 +1,66 @@
+"""The key of the flow table's hash: whatever the system gives for it, the report and the history are the same, and where the
+system gives none, the program says so and writes nothing.
+
+    python3 tools/gate/hash_key.py PROGRAM
+
+It needs cc, for a library that answers getentropy in the system's place.
+"""
+
+from __future__ import annotations
+
+import os
+import subprocess
+import sys
+from pathlib import Path
+from tempfile import TemporaryDirectory
+
+from tally import Tally
+
+EXAMPLES = Path(__file__).resolve().parent.parent.parent / "examples"
+# Each byte is KEY, or there are none where KEY isn't set.
+GIVEN = r"""
+#include <errno.h>
+#include <stdlib.h>
+#include <string.h>
+#include <sys/types.h>
+int getentropy(void *bytes, size_t count) {
+    const char *key = getenv("KEY");
+    if (key == NULL) { errno = ENOSYS; return -1; }
+    memset(bytes, atoi(key), count);
+    return 0;
+}
+"""
+KEYS = ("0", "1", "85", "255")
+
+
+def run(program: str, words: list[str], place: str, key: dict[str, str]) -> tuple[int, bytes, bytes]:
+    """The status and both streams, where getentropy is answered by the key."""
+    env = {**{name: value for name, value in os.environ.items() if name != "KEY"}, "LD_PRELOAD": f"{place}/given.so", **key}
+    done = subprocess.run([program, *words], capture_output=True, env=env, timeout=120)
+    return done.returncode, done.stdout, done.stderr
+
+
+def main(program: str) -> int:
+    tally = Tally()
+    config, packets = (str(EXAMPLES / f"weights.{end}") for end in ("config", "csv"))
+    report = (EXAMPLES / "weights.report").read_bytes()
+    with TemporaryDirectory() as place:
+        history = f"{place}/history"
+        words = ["replay", config, packets, "--history", history]
+        subprocess.run(["cc", "-O2", "-shared", "-fPIC", "-x", "c", "-o", f"{place}/given.so", "-"], input=GIVEN.encode(), check=True)
+        histories = set()
+        for key in KEYS:
+            tally.equal(f"the report with the key of bytes {key}", (0, report, b""), run(program, words, place, {"KEY": key}))
+            histories.add(Path(history).read_bytes())
+        tally.equal("histories", 1, len(histories))
+        Path(history).unlink()
+        none = (6, b"", b"cannot read random numbers\n")
+        for name, asked in ("a replay", words), ("an audit", ["audit", packets]), ("a joined input", []):
+            tally.equal(f"{name} without random numbers", none, run(program, asked, place, {}))
+        tally.equal("a history without random numbers", False, Path(history).exists())
+        tally.equal("help without random numbers", 0, run(program, ["--help"], place, {})[0])
+    return tally.end()
+
+
+if __name__ == "__main__":
+    sys.exit(main(sys.argv[1]))
