@@ -25,7 +25,7 @@ class HistoryReader:
     """Reads one record after the other. A fault has the number of the record at hand."""
 
     def __init__(self, data: bytes) -> None:
-        self.records = read_records(data)
+        self.records = [record for record in read_records(data) if not record[0].startswith(b"#")]  # without remarks
         self.taken = 0
         self.version = 0
 

@@ -1,6 +1,8 @@
 -- The records of a written history file are those that were written.
-use Rattle.std.proofs.Common.{◌≡◌, refl, List, [], ◌∷◌, ◌++◌, length}
-use Rattle.std.specs.Prelude.{flat_map, map}
+use Rattle.std.proofs.Common.{◌≡◌, ◌∙◌, refl, ap, ℕ, List, [], ◌∷◌, ◌++◌, length}
+use Rattle.std.specs.Prelude.{flat_map, map, not}
+use Rattle.std.proofs.lemmas.List.Elements.{filter-append}
+use Rattle.csv.specs.Records.{field_at}
 use Rattle.csv.specs.Reading.{strip_bom}
 use Rattle.csv.specs.Writing.{escaped, fields_text, is_blank}
 use Rattle.dn_types.specs.declared.delivery.Delivery.{Delivery}
@@ -10,8 +12,9 @@ use Rattle.dn_types.specs.declared.reply.Reply.{Reply}
 use Rattle.dn_types.specs.declared.reply.Reply.TheVariants as r
 use Rattle.dn_records.specs.Records.{AllFilled, Fields, HasNoMark, records_of, text_of}
 use Rattle.dn_records.proofs.ReadBack.{read-back}
-use Rattle.dn_history.specs.EntryRecords.{delivery_record, item_records, status_record}
-use Rattle.dn_history.specs.HistoryText.{end_record, entry_records, history_records, history_text}
+use Rattle.dn_history.specs.EntryRecords.{call_record, delivery_record, item_records, reply_record, status_record}
+use Rattle.dn_history.specs.HistoryText.{end_record, entry_records, history_header, history_records, history_text}
+use Rattle.dn_history.specs.Remarks.{is_remark, without_remarks}
 
 filled-append : (front back : List Fields) → AllFilled front → AllFilled back → AllFilled (front ++ back)
 filled-append [] back f b = b
@@ -40,8 +43,48 @@ no-mark : (entries : List Entry) → HasNoMark (history_text entries)
 unfolding history_text text_of fields_text is_blank escaped strip_bom
 no-mark entries = refl
 
-pub history-back : (entries : List Entry) → records_of (history_text entries) ≡ history_records entries
+records-back : (entries : List Entry) → records_of (history_text entries) ≡ history_records entries
 unfolding history_text
-history-back entries =
+records-back entries =
     let filled = filled-append (flat_map entry_records entries) (end_record (length entries) ∷ []) (entries-filled entries) tt in
     read-back (history_records entries) filled (no-mark entries)
+
+-- No written record is a remark.
+plain-append : (front back : List Fields) → without_remarks front ≡ front → without_remarks back ≡ back → without_remarks (front ++ back) ≡ front ++ back
+plain-append front back f b = rw (filter-append (λ fields. not (is_remark fields)) front back, f, b) refl
+
+deliveries-plain : (list : List Delivery) → without_remarks (map delivery_record list) ≡ map delivery_record list
+unfolding field_at
+deliveries-plain [] = refl
+deliveries-plain (d ∷ list) = ap (λ (rs : List Fields). delivery_record d ∷ rs) (deliveries-plain list)
+
+statuses-plain : (list : List FlowStatus) → without_remarks (map status_record list) ≡ map status_record list
+unfolding field_at
+statuses-plain [] = refl
+statuses-plain (s ∷ list) = ap (λ (rs : List Fields). status_record s ∷ rs) (statuses-plain list)
+
+items-plain : (reply : Reply) → without_remarks (item_records reply) ≡ item_records reply
+items-plain (r.Delivered at list) = deliveries-plain list
+items-plain (r.Status list) = statuses-plain list
+items-plain _ = refl
+
+pub entry-plain : (e : Entry) → without_remarks (entry_records e) ≡ entry_records e
+unfolding field_at
+entry-plain e = ap (λ (rs : List Fields). call_record e.caller e.call ∷ reply_record e.reply ∷ rs) (items-plain e.reply)
+
+entries-plain : (entries : List Entry) → without_remarks (flat_map entry_records entries) ≡ flat_map entry_records entries
+entries-plain [] = refl
+entries-plain (e ∷ rest) = plain-append (entry_records e) (flat_map entry_records rest) (entry-plain e) (entries-plain rest)
+
+end-plain : (count : ℕ) → without_remarks (end_record count ∷ []) ≡ end_record count ∷ []
+unfolding field_at
+end-plain count = refl
+
+history-plain : (entries : List Entry) → without_remarks (history_records entries) ≡ history_records entries
+unfolding field_at
+history-plain entries =
+    ap (λ (rs : List Fields). history_header ∷ rs)
+    (plain-append (flat_map entry_records entries) (end_record (length entries) ∷ []) (entries-plain entries) (end-plain (length entries)))
+
+pub history-back : (entries : List Entry) → without_remarks (records_of (history_text entries)) ≡ history_records entries
+history-back entries = ap without_remarks (records-back entries) ∙ history-plain entries

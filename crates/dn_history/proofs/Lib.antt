@@ -8,4 +8,5 @@ pub mod HistoryReading
 pub mod HistorySteps
 pub mod HistoryWitness
 pub mod ItemsBack
+pub mod Remarks
 pub mod RepliesBack

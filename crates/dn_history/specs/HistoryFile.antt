@@ -14,6 +14,7 @@ use Rattle.dn_history.specs.HistoryItems.{delivery_item, status_item}
 use Rattle.dn_history.specs.HistoryRecords.{caller_of, has_deletes, is_call, is_delete, is_end, is_reply, long_at, plain_call, plain_reply, rule_of, told_count, two_of, version_of}
 use Rattle.dn_files.specs.Reading.{◌>>=◌, within_limit}
 use Rattle.dn_history.specs.RecordsLeft.{Read, Rest, in_record, items_from, next_record}
+use Rattle.dn_history.specs.Remarks.{without_remarks}
 use Rattle.dn_history.specs.declared.history_version.HistoryVersion.{HistoryVersion}
 use Rattle.dn_files.specs.declared.replay_fault.ReplayFault.{ReplayFault}
 use Rattle.dn_files.specs.declared.replay_fault.ReplayFault.TheVariants.{BadRecord, OutOfMemory}
@@ -107,9 +108,9 @@ history_from rest = do
   entries ← entries_of version first.1
   Ok (rule_of version, entries)
 
--- The rule and the entries of a history's text.
+-- The rule and the entries of a history's text. Remarks are passed over, and have no number.
 abbrev pub history_in : List ℕ → Result (Rule × List Entry) ReplayFault
-history_in text = history_from (record { number = 1; records = records_of text })
+history_in text = history_from (record { number = 1; records = without_remarks (records_of text) })
 
 -- The greatest length of a history file in bytes.
 abbrev pub history_limit : ℕ

@@ -6,3 +6,4 @@ pub mod HistoryRecords
 pub mod HistoryText
 pub mod Ranges
 pub mod RecordsLeft
+pub mod Remarks

@@ -5,5 +5,5 @@ mod history_version;
 mod read;
 mod write;
 
-pub use read::read_history;
-pub use write::write_history;
+pub use read::{is_call, read_caller, read_history, read_plain_call};
+pub use write::{write_end, write_entry, write_history};

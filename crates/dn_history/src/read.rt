@@ -6,6 +6,8 @@ mod fields;
 mod history;
 mod items;
 mod numbered_records;
+mod remarks;
 mod replies;
 
+pub use calls::{is_call, read_caller, read_plain_call};
 pub use history::read_history;

@@ -7,4 +7,4 @@ mod ranges;
 mod replies;
 mod target;
 
-pub use history::write_history;
+pub use history::{write_end, write_entry, write_history};

@@ -17,7 +17,7 @@ use dn_files::{
 use dn_types::{Call, Command};
 
 /// The caller of a call record, or the field's place.
-pub(crate) fn read_caller(fields: &ByteRecord) -> Result<usize, u64>
+pub fn read_caller(fields: &ByteRecord) -> Result<usize, u64>
     ensures { result ≡ caller_of (fields_of fields.now) }
 {
     let caller = number_at(fields, 2, 0, 15)?;
@@ -25,7 +25,7 @@ pub(crate) fn read_caller(fields: &ByteRecord) -> Result<usize, u64>
 }
 
 /// Whether a record is the call of this name, with this many fields.
-pub(crate) fn is_call(fields: &ByteRecord, name: &[u8], count: usize) -> bool
+pub fn is_call(fields: &ByteRecord, name: &[u8], count: usize) -> bool
     ensures { result ≡ is_call name.now count (fields_of fields.now) }
 {
     is_name(fields, 1, b"c") && is_form(fields, 3, name, count)
@@ -45,7 +45,7 @@ fn read_submit(fields: &ByteRecord) -> Result<Call, u64>
 
 /// The call of a record that isn't a configuration, or the place of the first bad field.
 #[tactic(auto, unfolding(crate::specs::HistoryRecords::plain_call))]
-pub(crate) fn read_plain_call(fields: &ByteRecord) -> Result<Call, u64>
+pub fn read_plain_call(fields: &ByteRecord) -> Result<Call, u64>
     ensures { result ≡ plain_call (fields_of fields.now) }
 {
     if is_call(fields, b"submit", 13) {

@@ -3,15 +3,18 @@ ghost use Rattle.csv.specs.Records.{fields_of};
 ghost use Rattle.dn_records.specs.Records.{records_of};
 ghost use Rattle.dn_history.specs.HistoryFile.{nothing_in};
 ghost use Rattle.dn_history.specs.RecordsLeft.{next_record};
+ghost use Rattle.dn_history.specs.Remarks.{without_remarks};
 ghost use Rattle.dn_files.specs.Reading.{IsFaultOf};
 
+use crate::read::remarks::read_unremarked;
 use csv::ByteRecord;
 use dn_files::ReplayFault;
 use dn_records::RecordReader;
 use std::alloc::Global;
 use std::marker::Model;
 
-/// The records of a text that are left, with the number of the next one. The first has number 1.
+/// The records of a text that are left, but for remarks, with the number of the next one. The first has
+/// number 1.
 #[derive(Drop)]
 pub(crate) struct NumberedRecords<'a> {
     number: u64,
@@ -21,10 +24,11 @@ pub(crate) struct NumberedRecords<'a> {
 impl<'a> Model for NumberedRecords<'a> {
     ghost use Rattle.std.specs.Prelude.{◌+◌, ◌<◌, ◌^◌, length};
     ghost use Rattle.dn_history.specs.RecordsLeft.{Rest};
+    ghost use Rattle.dn_history.specs.Remarks.{without_remarks};
 
     ghost Value = { Rest };
 
-    ghost view = { λ s. record { number = s.number; records = s.records } };
+    ghost view = { λ s. record { number = s.number; records = without_remarks s.records } };
 
     ghost invariant = { λ s. s.number + length s.records < 2 ^ 64 };
 }
@@ -32,7 +36,7 @@ impl<'a> Model for NumberedRecords<'a> {
 impl<'a> NumberedRecords<'a> {
     /// The records of a text, from the first on.
     pub(crate) fn new(alloc: Global, text: &'a [u8]) -> NumberedRecords<'a>
-        ensures { result ≡ record { number = 1; records = records_of text.now } }
+        ensures { result ≡ record { number = 1; records = without_remarks (records_of text.now) } }
     {
         NumberedRecords {
             number: 1,
@@ -53,7 +57,7 @@ impl<'a> NumberedRecords<'a> {
         ensures fewer { OnOk result (length self.new.records < length self.old.records) }
         ensures err { IfErr result (λ fault. IsFaultOf (next_record self.old) fault) }
     {
-        let Ok(found) = self.records.read(fields) else {
+        let Ok(found) = read_unremarked(&mut self.records, fields) else {
             return Err(ReplayFault::OutOfMemory);
         };
         if !found {
@@ -69,7 +73,7 @@ impl<'a> NumberedRecords<'a> {
         ensures fewer { OnOk result (length self.new.records ≤ length self.old.records) }
         ensures err { IfErr result (λ fault. IsFaultOf (nothing_in self.old self.old.records) fault) }
     {
-        let Ok(found) = self.records.read(fields) else {
+        let Ok(found) = read_unremarked(&mut self.records, fields) else {
             return Err(ReplayFault::OutOfMemory);
         };
         if found {

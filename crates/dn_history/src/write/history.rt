@@ -29,7 +29,11 @@ fn write_header(writer: &mut RecordWriter) -> Result<(), AllocError>
 
 /// Adds the records of an entry.
 #[tactic(auto, using(crate::proofs::HistorySteps::entry_is))]
-fn write_entry(alloc: Global, writer: &mut RecordWriter, entry: &Entry) -> Result<(), AllocError>
+pub fn write_entry(
+    alloc: Global,
+    writer: &mut RecordWriter,
+    entry: &Entry,
+) -> Result<(), AllocError>
     ensures { OnOk result (writer.new.text ≡ writer.old.text ++ text_of (entry_records entry.now)) }
 {
     write_call(alloc, writer, entry.caller, &entry.call)?;
@@ -52,7 +56,7 @@ fn write_entries(
 }
 
 /// Adds the last record.
-fn write_end(writer: &mut RecordWriter, count: usize) -> Result<(), AllocError>
+pub fn write_end(writer: &mut RecordWriter, count: usize) -> Result<(), AllocError>
     ensures { OnOk result (writer.new.text ≡ writer.old.text ++ line_of (end_record count)) }
 {
     writer.write(&[Field::Text("end"), number(count as u64)])

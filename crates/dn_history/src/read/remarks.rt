@@ -1,0 +1,44 @@
+ghost use Rattle.std.specs.Prelude.{◌≡◌, ◌<◌, ◌≤◌, true, [], length, IfOk, OnErr};
+ghost use Rattle.csv.specs.Records.{fields_of};
+ghost use Rattle.dn_records.specs.Records.{Takes};
+ghost use Rattle.dn_history.specs.Remarks.{is_remark, without_remarks};
+
+use csv::ByteRecord;
+use dn_files::column;
+use dn_records::RecordReader;
+use std::alloc::AllocError;
+
+/// Whether a record is a remark.
+fn is_remark(fields: &ByteRecord) -> bool
+    ensures { result ≡ is_remark (fields_of fields.now) }
+{
+    match column(fields, 1) {
+        [] => false,
+        [first, ..] => *first == b'#',
+    }
+}
+
+/// Reads the next record that is no remark into `fields`, and answers whether there was one. After an
+/// error no record is left.
+#[tactic(auto, using(crate::proofs::Remarks::passed_over, crate::proofs::Remarks::found_plain, crate::proofs::Remarks::none_left, crate::proofs::HistoryReading::emptied))]
+pub(crate) fn read_unremarked(
+    records: &mut RecordReader<'_>,
+    fields: &mut ByteRecord,
+) -> Result<bool, AllocError>
+    ensures ok { IfOk result (λ found. Takes (without_remarks records.old) (without_remarks records.new) found (fields_of fields.new)) }
+    ensures fewer { IfOk result (λ found. found ≡ true → length records.new < length records.old) }
+    ensures shorter { IfOk result (λ _. length records.new ≤ length records.old) }
+    ensures err { OnErr result (records.new ≡ []) }
+{
+    loop {
+        match records.read(fields) {
+            Ok(true) => {
+                if !is_remark(fields) {
+                    return Ok(true);
+                }
+            }
+            Ok(false) => return Ok(false),
+            Err(error) => return Err(error),
+        }
+    }
+}
