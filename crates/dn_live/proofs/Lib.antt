@@ -1,0 +1,5 @@
+pub mod Commands
+pub mod FieldSteps
+pub mod LineSteps
+pub mod SessionSteps
+pub mod Transcripts

@@ -1,0 +1,245 @@
+-- A session, line by line.
+use Rattle.std.proofs.Common.{◌≡◌, ◌∙◌, refl, sym, ap, subst, ℕ, ◌<◌, ◌≤◌, ◌+◌, inl, Bool, true, false, List, [], ◌∷◌, ◌++◌, Option, Some, None, length, length-append, take, append_assoc, append-nil, arith}
+use Rattle.std.proofs.Math.Seq.{take-append-add}
+use Rattle.std.proofs.lemmas.List.{take-append-le}
+use Rattle.std.proofs.lemmas.List.Elements.{All-cons, All-nil}
+use Rattle.std.proofs.KnownBytes.{Appends-trans, Consumes-trans}
+use Rattle.std.specs.List.{All}
+use Rattle.std.specs.Prelude.{codes}
+use Rattle.std.specs.Io.KnownBytes.{Appends, Consumes, IsAtEnd, Keeps, prepend_known}
+use Rattle.csv.specs.Writing.{fields_text, is_blank}
+use Rattle.dn_types.specs.declared.call.Call.{Call}
+use Rattle.dn_types.specs.declared.rule.Rule.TheVariants.{Ordered}
+use Rattle.dn_shaper.specs.Shaper.{StandsAfter}
+use Rattle.dn_shaper.specs.declared.state.State.{State}
+use Rattle.dn_history.specs.HistoryText.{end_record, history_header}
+use Rattle.dn_records.specs.Devices.{AppendsPart}
+use Rattle.dn_records.specs.Records.{text_of}
+use Rattle.dn_records.proofs.TextSteps.{text-append}
+use Rattle.dn_files.specs.Reading.{IsTextOf}
+use Rattle.dn_files.specs.Writing.{IsUnwritten}
+use Rattle.dn_files.specs.declared.replay_fault.ReplayFault.{ReplayFault}
+use Rattle.dn_files.specs.declared.replay_fault.ReplayFault.TheVariants.{BadRow, Read, Write, TooLong, OutOfMemory, Config, ConfigText, NoSuchPipe, BadRecord, BadCount, PipeHasQueues, NoSuchQueue}
+use Rattle.dn_files.specs.declared.source.Source.TheVariants.{History}
+use Rattle.dn_live.specs.Asked.{asked}
+use Rattle.dn_live.specs.LinesTaken.{HasFront, IsLine, IsNotTaken, TakesLine}
+use Rattle.dn_live.specs.Session.{answer, answers, bad_lines, bad_of, bad_tail, begun, calls_after, calls_of, closing, count_of, IsBrokenOff, IsServed, lines_text, served_of, tail_answer}
+use Rattle.dn_live.specs.declared.asked.Asked.{Asked}
+use Rattle.dn_live.specs.declared.asked.Asked.TheVariants.{Nothing, Next, Calls, Bad}
+use Rattle.dn_live.specs.declared.served.Served.{Served}
+use Rattle.dn_live.proofs.LineSteps.{front, front-behind}
+
+pub counts : (calls : List Call) (what : Asked) → length (calls_after calls what) ≡ length calls + count_of what
+counts calls Nothing = omega arith
+counts calls Next = omega arith
+counts calls (Calls caller call) = omega arith
+counts calls (Bad bad) = omega arith
+
+pub one-at-most : (what : Asked) → count_of what ≤ 1
+one-at-most Nothing = omega arith
+one-at-most Next = omega arith
+one-at-most (Calls caller call) = omega arith
+one-at-most (Bad bad) = omega arith
+
+pub one-bad-at-most : (what : Asked) → bad_of what ≤ 1
+one-bad-at-most Nothing = omega arith
+one-bad-at-most Next = omega arith
+one-bad-at-most (Calls caller call) = omega arith
+one-bad-at-most (Bad bad) = omega arith
+
+pub header-is : begun [] ≡ codes "dummynet-history,3\n"
+unfolding answers text_of fields_text is_blank
+header-is = refl
+
+-- One line more.
+pub begun-more : (lines : List (List ℕ)) (line : List ℕ) → begun (line ∷ lines) ≡ begun lines ++ text_of (answer (length lines + 1) (calls_of lines) (asked line))
+unfolding answers
+begun-more lines line = text-append (history_header ∷ answers lines) (answer (length lines + 1) (calls_of lines) (asked line))
+
+pub calls-more : (lines : List (List ℕ)) (line : List ℕ) → calls_of (line ∷ lines) ≡ calls_after (calls_of lines) (asked line)
+unfolding calls_of
+calls-more lines line = refl
+
+pub no-calls : calls_of [] ≡ []
+unfolding calls_of
+no-calls = refl
+
+pub taken-more : (lines : List (List ℕ)) (line : List ℕ) (known mid new : Option (List ℕ)) → Consumes known mid (lines_text lines) → Consumes mid new (line ++ 10 ∷ []) → Consumes known new (lines_text (line ∷ lines))
+unfolding lines_text
+taken-more lines line known mid new p q = Consumes-trans known mid new (lines_text lines) (line ++ 10 ∷ []) p q
+
+pub taken-none : (known : Option (List ℕ)) (left : List ℕ) → left ≡ [] → Consumes known (prepend_known left known) (lines_text [])
+unfolding lines_text
+taken-none None left e = tt
+taken-none (Some xs) left e = rw e refl
+
+pub ended : (known new : Option (List ℕ)) (text : List ℕ) → Consumes known new text → IsAtEnd new → IsTextOf known text
+ended None new text p e = tt
+ended (Some xs) None text p e = absurd p
+ended (Some xs) (Some ys) text p e = sym (p ∙ ap (λ (t : List ℕ). text ++ t) e ∙ append-nil text)
+
+pub appends-kept : (a b c : Option (List ℕ)) (bs : List ℕ) → Appends a b bs → Keeps b c → Appends a c bs
+appends-kept None b c bs p q = tt
+appends-kept (Some x) None c bs p q = absurd p
+appends-kept (Some x) (Some y) None bs p q = absurd q
+appends-kept (Some x) (Some y) (Some z) bs p q = q ∙ p
+
+pub part-more : (a c : Option (List ℕ)) (x z : List ℕ) → AppendsPart a c x → AppendsPart a c (x ++ z)
+part-more a c x z h =
+    let k = h.0 in
+    let lt : k < length x = h.1 in
+    let le : k ≤ length x = omega arith in
+    (k, omega (arith, length-append x z, lt), rw (take-append-le k x z le) h.2)
+
+pub part-after : (a b c : Option (List ℕ)) (x y : List ℕ) → Appends a b x → AppendsPart b c y → AppendsPart a c (x ++ y)
+part-after a b c x y p h =
+    let k = h.0 in
+    (length x + k, omega (arith, length-append x y, h.1), rw (take-append-add x y k) (Appends-trans a b c x (take k y) p h.2))
+
+one-none : IsLine []
+one-none = (λ k d lt. absurd (omega arith), omega arith)
+
+no-lines : All IsLine ([] ∷ [])
+no-lines = All-cons IsLine [] [] one-none (All-nil IsLine)
+
+front-none : (known : Option (List ℕ)) → HasFront known (lines_text [] ++ [])
+unfolding lines_text
+front-none None = tt
+front-none (Some xs) = (xs, refl)
+
+-- The first record wasn't written whole.
+pub head-broken : (known : Option (List ℕ)) (read_failed : Bool) (old new : Option (List ℕ)) (failed : Bool) (fault : ReplayFault)
+    → read_failed ≡ false → (fault ≡ Write History) × (failed ≡ true) × AppendsPart old new (begun []) → IsBrokenOff known read_failed old new failed fault
+head-broken known read_failed old new failed fault r h =
+    rw h.0 (refl, r, h.1, ([], [], front-none known, no-lines, part-more old new (begun []) (closing [] []) h.2))
+
+-- What stands after some lines.
+module _ (known : Option (List ℕ)) (read_failed : Bool) (old mid new : Option (List ℕ)) (failed : Bool) (lines : List (List ℕ)) (read : HasFront known (lines_text lines)) (all : All IsLine lines) where
+  -- No line was taken.
+  pub next-broken : (left : Option (List ℕ)) (fault : ReplayFault) → Consumes known left (lines_text lines) → Appends old new (begun lines) → failed ≡ false → IsNotTaken left read_failed fault
+      → IsBrokenOff known read_failed old new failed fault
+  next-broken left (Read what) took app f h = (f, (lines, (read, all, app), h))
+  next-broken left (TooLong what) took app f h =
+      let (piece, begins, one, long) = h.2 in
+      (f, (lines, (read, all, app), (h.0, h.1, inl (piece, front-behind known left (lines_text lines) piece took begins, one, long))))
+  next-broken left OutOfMemory took app f h = (f, (lines, (read, all, app), h))
+  next-broken left (Write what) took app f h = absurd h
+  next-broken left (Config l e) took app f h = absurd h
+  next-broken left (ConfigText l) took app f h = absurd h
+  next-broken left (NoSuchPipe l) took app f h = absurd h
+  next-broken left (BadRow r e) took app f h = absurd h
+  next-broken left (BadRecord n) took app f h = absurd h
+  next-broken left BadCount took app f h = absurd h
+  next-broken left (PipeHasQueues l) took app f h = absurd h
+  next-broken left (NoSuchQueue l) took app f h = absurd h
+
+  -- A text behind what was written for the lines wasn't written: it begins what is written of these lines and this tail.
+  pub unwritten : (fault : ReplayFault) (more : List (List ℕ)) (tail text rest : List ℕ) → begun more ++ closing more tail ≡ (begun lines ++ text) ++ rest
+      → HasFront known (lines_text more ++ tail) → All IsLine (tail ∷ more) → read_failed ≡ false → Appends old mid (begun lines)
+      → IsUnwritten History text mid new failed fault → IsBrokenOff known read_failed old new failed fault
+  unwritten (Write what) more tail text rest e fr one r app h =
+      (h.0, r, h.1, (more, tail, fr, one, rw e (part-more old new (begun lines ++ text) rest (part-after old mid new (begun lines) text app h.2))))
+  unwritten OutOfMemory more tail text rest e fr one r app h = (h.0, (lines, (read, all, appends-kept old mid new (begun lines) app h.1), r))
+  unwritten (Read what) more tail text rest e fr one r app h = absurd h
+  unwritten (TooLong what) more tail text rest e fr one r app h = absurd h
+  unwritten (Config l x) more tail text rest e fr one r app h = absurd h
+  unwritten (ConfigText l) more tail text rest e fr one r app h = absurd h
+  unwritten (NoSuchPipe l) more tail text rest e fr one r app h = absurd h
+  unwritten (BadRow w x) more tail text rest e fr one r app h = absurd h
+  unwritten (BadRecord n) more tail text rest e fr one r app h = absurd h
+  unwritten BadCount more tail text rest e fr one r app h = absurd h
+  unwritten (PipeHasQueues l) more tail text rest e fr one r app h = absurd h
+  unwritten (NoSuchQueue l) more tail text rest e fr one r app h = absurd h
+
+  -- The answer to a line wasn't written.
+  pub line-broken : (fault : ReplayFault) (line : List ℕ) → HasFront known (lines_text (line ∷ lines)) → IsLine line → read_failed ≡ false → Appends old mid (begun lines)
+      → IsUnwritten History (text_of (answer (length lines + 1) (calls_of lines) (asked line))) mid new failed fault → IsBrokenOff known read_failed old new failed fault
+  line-broken fault line fr one r app h =
+      unwritten fault (line ∷ lines) [] (text_of (answer (length lines + 1) (calls_of lines) (asked line))) (closing (line ∷ lines) [])
+      (ap (λ (t : List ℕ). t ++ closing (line ∷ lines) []) (begun-more lines line))
+      (rw append-nil fr) (All-cons IsLine [] (line ∷ lines) one-none (All-cons IsLine line lines one all)) r app h
+
+  -- The end wasn't written.
+  pub end-broken : (fault : ReplayFault) (tail : List ℕ) → HasFront known (lines_text lines ++ tail) → IsLine tail → read_failed ≡ false → Appends old mid (begun lines)
+      → IsUnwritten History (closing lines tail) mid new failed fault → IsBrokenOff known read_failed old new failed fault
+  end-broken fault tail fr one r app h =
+      unwritten fault lines tail (closing lines tail) [] (sym (append-nil (begun lines ++ closing lines tail))) fr (All-cons IsLine tail lines one all) r app h
+
+pub stands-first : (shaper : State) → StandsAfter Ordered shaper [] → StandsAfter Ordered shaper (calls_of [])
+unfolding calls_of
+stands-first shaper h = h
+
+pub stands-more : (shaper : State) (lines : List (List ℕ)) (line : List ℕ) → StandsAfter Ordered shaper (calls_after (calls_of lines) (asked line)) → StandsAfter Ordered shaper (calls_of (line ∷ lines))
+unfolding calls_of
+stands-more shaper lines line h = h
+
+pub count-first : 0 ≡ length (calls_of [])
+unfolding calls_of
+count-first = refl
+
+pub bad-first : 0 ≡ bad_lines []
+unfolding bad_lines
+bad-first = refl
+
+count-more : (lines : List (List ℕ)) (line : List ℕ) (calls made : ℕ) → calls ≡ length (calls_of lines) → made ≡ count_of (asked line) → calls + made ≡ length (calls_of (line ∷ lines))
+count-more lines line calls made e f = omega (arith, e, f, counts (calls_of lines) (asked line), ap length (calls-more lines line))
+
+bad-more : (lines : List (List ℕ)) (line : List ℕ) (bad made : ℕ) → bad ≡ bad_lines lines → made ≡ bad_of (asked line) → bad + made ≡ bad_lines (line ∷ lines)
+unfolding bad_lines
+bad-more lines line bad made e f = omega (arith, e, f)
+
+-- What stands after some lines, where a further one or the tail was taken.
+module _ (known mid new old wrote : Option (List ℕ)) (lines : List (List ℕ)) (line slice : List ℕ) (found : Bool) (so_far : Served) (number : ℕ) (taken : Consumes known mid (lines_text lines)) (all : All IsLine lines) (app : Appends old wrote (begun lines)) (count : so_far.calls ≡ length (calls_of lines)) (bads : so_far.bad ≡ bad_lines lines) (at : number ≡ length lines + 1) (takes : TakesLine mid new found line) (one : IsLine line) (same : slice ≡ line) where
+  closing-is : text_of (tail_answer number slice ++ end_record so_far.calls ∷ []) ≡ closing lines line
+  closing-is = rw (same, count, at) refl
+
+  answer-is : text_of (answer number (calls_of lines) (asked slice)) ≡ text_of (answer (length lines + 1) (calls_of lines) (asked line))
+  answer-is = rw (same, at) refl
+
+  served-is : record { calls = so_far.calls; bad = so_far.bad + bad_tail slice } ≡ served_of lines line
+  served-is = rw (same, count, bads) refl
+
+  pub served : (now : Option (List ℕ)) (told : Served) → found ≡ false
+      → (told ≡ record { calls = so_far.calls; bad = so_far.bad + bad_tail slice }) × Appends wrote now (text_of (tail_answer number slice ++ end_record so_far.calls ∷ [])) → IsServed known old now told
+  served now told f w =
+      let took = rw f at takes in (
+        lines,
+        line,
+        ended known new (lines_text lines ++ line) (Consumes-trans known mid new (lines_text lines) line taken took.0) took.1,
+        All-cons IsLine line lines one all,
+        Appends-trans old wrote now (begun lines) (closing lines line) app (subst (Appends wrote now) closing-is w.1),
+        w.0 ∙ served-is,
+      )
+
+  pub unended : (now : Option (List ℕ)) (read_failed failed : Bool) (fault : ReplayFault) → found ≡ false → read_failed ≡ false
+      → IsUnwritten History (text_of (tail_answer number slice ++ end_record so_far.calls ∷ [])) wrote now failed fault → IsBrokenOff known read_failed old now failed fault
+  unended now read_failed failed fault f r h =
+      let took = rw f at takes in
+      end-broken known read_failed old wrote now failed lines (front known mid (lines_text lines) taken) all fault line
+      (front known new (lines_text lines ++ line) (Consumes-trans known mid new (lines_text lines) line taken took.0)) one r app
+      (subst (λ (t : List ℕ). IsUnwritten History t wrote now failed fault) closing-is h)
+
+  took-line : found ≡ true → Consumes known new (lines_text (line ∷ lines))
+  took-line f = taken-more lines line known mid new taken (rw f at takes)
+
+  pub unanswered : (now : Option (List ℕ)) (read_failed failed : Bool) (fault : ReplayFault) → found ≡ true → read_failed ≡ false
+      → IsUnwritten History (text_of (answer number (calls_of lines) (asked slice))) wrote now failed fault → IsBrokenOff known read_failed old now failed fault
+  unanswered now read_failed failed fault f r h =
+      line-broken known read_failed old wrote now failed lines (front known mid (lines_text lines) taken) all fault line
+      (front known new (lines_text (line ∷ lines)) (took-line f)) one r app (subst (λ (t : List ℕ). IsUnwritten History t wrote now failed fault) answer-is h)
+
+  pub line-more : (now : Option (List ℕ)) (shaper : State) (made next : Served) → found ≡ true → (made.calls ≡ count_of (asked slice)) × (made.bad ≡ bad_of (asked slice))
+      → next ≡ record { calls = so_far.calls + made.calls; bad = so_far.bad + made.bad }
+      → StandsAfter Ordered shaper (calls_after (calls_of lines) (asked slice)) × Appends wrote now (text_of (answer number (calls_of lines) (asked slice)))
+      → (more : List (List ℕ)) × Consumes known new (lines_text more) × All IsLine more × Appends old now (begun more) × StandsAfter Ordered shaper (calls_of more)
+      × (next.calls ≡ length (calls_of more)) × (next.bad ≡ bad_lines more) × (number + 1 ≡ length more + 1)
+  line-more now shaper made next f m is h = (
+    line ∷ lines,
+    took-line f,
+    All-cons IsLine line lines one all,
+    rw begun-more (Appends-trans old wrote now (begun lines) _ app (subst (Appends wrote now) answer-is h.1)),
+    stands-more shaper lines line (rw same at h.0),
+    ap (λ (s : Served). s.calls) is ∙ count-more lines line so_far.calls made.calls count (rw same at m.0),
+    ap (λ (s : Served). s.bad) is ∙ bad-more lines line so_far.bad made.bad bads (rw same at m.1),
+    omega (arith, at),
+  )

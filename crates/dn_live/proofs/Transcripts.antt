@@ -1,0 +1,109 @@
+-- What is written of a session is the history of its calls, but for remarks.
+use Rattle.std.proofs.Common.{◌≡◌, ◌∙◌, refl, sym, ap, subst, ℕ, ◌+◌, not, List, [], ◌∷◌, ◌++◌, filter, Option, Some, None, length, length-append, append_assoc, append-nil, arith}
+use Rattle.std.specs.Prelude.{flat_map}
+use Rattle.std.specs.Io.KnownBytes.{Appends}
+use Rattle.std.proofs.lemmas.List.Concat.{flat_map-append}
+use Rattle.std.proofs.lemmas.List.Elements.{filter-append}
+use Rattle.csv.specs.Records.{field_at}
+use Rattle.dn_types.specs.Calls.{trace_of}
+use Rattle.dn_types.specs.Clock.{counted}
+use Rattle.dn_types.specs.History.{IsLawful, calls_of as history_calls}
+use Rattle.dn_types.specs.Replies.{reply}
+use Rattle.dn_types.specs.declared.call.Call.{Call}
+use Rattle.dn_types.specs.declared.entry.Entry.{Entry}
+use Rattle.dn_types.specs.declared.rule.Rule.TheVariants.{Ordered}
+use Rattle.dn_types.proofs.Histories.{calls_of-more, lawful-more}
+use Rattle.dn_records.specs.Records.{Fields, text_of}
+use Rattle.dn_records.proofs.TextSteps.{text-append}
+use Rattle.dn_shaper.specs.Waking.{wake_of}
+use Rattle.dn_history.specs.HistoryText.{end_record, entry_records, history_header, history_records}
+use Rattle.dn_history.specs.Remarks.{is_remark, without_remarks}
+use Rattle.dn_history.proofs.HistoryBack.{entry-plain}
+use Rattle.dn_live.specs.Asked.{asked}
+use Rattle.dn_live.specs.Session.{answer, answers, begun, calls_after, calls_of, closing, IsServed, next_record, tail_answer}
+use Rattle.dn_live.specs.Transcripts.{entries_of, entry_after, entry_of, IsTranscript}
+use Rattle.dn_live.specs.declared.asked.Asked.{Asked}
+use Rattle.dn_live.specs.declared.asked.Asked.TheVariants.{Nothing, Next, Calls, Bad}
+use Rattle.dn_live.specs.declared.served.Served.{Served}
+
+-- A history whose calls are these.
+abbrev IsHistory : List Entry → List Call → Type 0
+IsHistory entries calls = IsLawful Ordered entries × (history_calls entries ≡ calls) × (length entries ≡ length calls)
+
+as-before : (calls : List Call) (entries : List Entry) → IsHistory entries calls → IsHistory (entries ++ []) calls
+as-before calls entries h = subst (λ (es : List Entry). IsHistory es calls) (sym (append-nil entries)) h
+
+one-more : (calls : List Call) (entries : List Entry) (what : Asked) → IsHistory entries calls → IsHistory (entries ++ entry_of calls what) (calls_after calls what)
+one-more calls entries Nothing h = as-before calls entries h
+one-more calls entries Next h = as-before calls entries h
+one-more calls entries (Bad bad) h = as-before calls entries h
+one-more calls entries (Calls caller call) h =
+    let e : Entry = entry_after calls caller call in (
+      lawful-more Ordered entries e h.0 (ap (λ (cs : List Call). reply Ordered cs call) (sym h.1)),
+      calls_of-more entries e ∙ ap (λ (cs : List Call). call ∷ cs) h.1,
+      omega (arith, length-append entries (e ∷ []), h.2),
+    )
+
+history : (lines : List (List ℕ)) → IsHistory (entries_of lines) (calls_of lines)
+unfolding entries_of calls_of
+history [] = (tt, refl, refl)
+history (line ∷ lines) = one-more (calls_of lines) (entries_of lines) (asked line) (history lines)
+
+next-plain : (moment : Option ℕ) → without_remarks (next_record moment ∷ []) ≡ []
+unfolding field_at
+next-plain None = refl
+next-plain (Some moment) = refl
+
+-- Without its remarks an answer is the records of an entry.
+answer-plain : (number : ℕ) (calls : List Call) (what : Asked) → without_remarks (answer number calls what) ≡ flat_map entry_records (entry_of calls what)
+unfolding field_at
+answer-plain number calls Nothing = refl
+answer-plain number calls Next = next-plain (wake_of Ordered (trace_of (counted calls)))
+answer-plain number calls (Bad bad) = refl
+answer-plain number calls (Calls caller call) = entry-plain (entry_after calls caller call) ∙ sym (append-nil (entry_records (entry_after calls caller call)))
+
+plain-append : (front back : List Fields) → without_remarks (front ++ back) ≡ without_remarks front ++ without_remarks back
+plain-append front back = filter-append (λ fields. not (is_remark fields)) front back
+
+answers-plain : (lines : List (List ℕ)) → without_remarks (answers lines) ≡ flat_map entry_records (entries_of lines)
+unfolding answers entries_of
+answers-plain [] = refl
+answers-plain (line ∷ lines) =
+    let now = answer (length lines + 1) (calls_of lines) (asked line) in
+    plain-append (answers lines) now
+    ∙ ap (λ (rs : List Fields). rs ++ without_remarks now) (answers-plain lines)
+    ∙ ap (λ (rs : List Fields). flat_map entry_records (entries_of lines) ++ rs) (answer-plain (length lines + 1) (calls_of lines) (asked line))
+    ∙ sym (flat_map-append entry_records (entries_of lines) (entry_of (calls_of lines) (asked line)))
+
+tail-plain : (number : ℕ) (tail : List ℕ) (rest : List Fields) → without_remarks (tail_answer number tail ++ rest) ≡ without_remarks rest
+unfolding field_at
+tail-plain number [] rest = refl
+tail-plain number (b ∷ tail) rest = refl
+
+end-plain : (count : ℕ) → without_remarks (end_record count ∷ []) ≡ end_record count ∷ []
+unfolding field_at
+end-plain count = refl
+
+-- The records of a session.
+abbrev session : List (List ℕ) → List ℕ → List Fields
+session lines tail = history_header ∷ (answers lines ++ (tail_answer (length lines + 1) tail ++ end_record (length (calls_of lines)) ∷ []))
+
+session-plain : (lines : List (List ℕ)) (tail : List ℕ) → without_remarks (session lines tail) ≡ history_records (entries_of lines)
+unfolding field_at
+session-plain lines tail =
+    let count = length (calls_of lines) in
+    let last = tail_answer (length lines + 1) tail ++ end_record count ∷ [] in
+    let last_is : without_remarks last ≡ end_record (length (entries_of lines)) ∷ [] = tail-plain (length lines + 1) tail (end_record count ∷ []) ∙ end-plain count ∙ ap (λ (n : ℕ). end_record n ∷ []) (sym (history lines).2) in
+    ap (λ (rs : List Fields). history_header ∷ rs)
+    (plain-append (answers lines) last ∙ ap (λ (rs : List Fields). rs ++ without_remarks last) (answers-plain lines) ∙ ap (λ (rs : List Fields). flat_map entry_records (entries_of lines) ++ rs) last_is)
+
+pub transcript : (known old new : Option (List ℕ)) (served : Served) → IsServed known old new served → IsTranscript old new
+transcript known old new served (lines, tail, text, all, app, is) = (
+  entries_of lines,
+  (history lines).0,
+  (
+    session lines tail,
+    subst (Appends old new) (sym (text-append (history_header ∷ answers lines) (tail_answer (length lines + 1) tail ++ end_record (length (calls_of lines)) ∷ []))) app,
+    session-plain lines tail,
+  ),
+)
