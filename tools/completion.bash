@@ -3,7 +3,7 @@ _dummynet() {
     local word=${COMP_WORDS[COMP_CWORD]} before=${COMP_WORDS[COMP_CWORD - 1]} command=${COMP_WORDS[1]}
     COMPREPLY=()
     if [ "$COMP_CWORD" = 1 ]; then
-        mapfile -t COMPREPLY < <(compgen -W 'replay audit help --help --version' -- "$word")
+        mapfile -t COMPREPLY < <(compgen -W 'replay audit live help --help --version' -- "$word")
     elif [ "$before" = --callers ]; then
         mapfile -t COMPREPLY < <(compgen -W '1 2 4 8 16' -- "$word")
     elif [ "$command" = replay ] && [ "${word#-}" != "$word" ]; then

@@ -140,7 +140,7 @@ def texts(tally: Tally, program: str) -> None:
     """Help and version, and the words of the usage fault that is the program's own."""
     with TemporaryDirectory() as folder:
         for words, wanted in ((["--version"], ["dummynet 1.", "rattle-kit"]), (["-V"], ["dummynet 1.", "rattle-kit"]),
-                              (["--help"], ["CONFIG", "PACKETS", "HISTORY", "Example:", "replay", "audit"]), (["-h"], ["Usage: dummynet"]),
+                              (["--help"], ["CONFIG", "PACKETS", "HISTORY", "Example:", "replay", "audit", "live"]), (["-h"], ["Usage: dummynet"]),
                               (["help"], ["Usage: dummynet"]), (["replay", "--help"], ["CONFIG", "PACKETS", "--callers", "--history"]),
                               (["help", "replay"], ["CONFIG"]), (["audit", "--help"], ["HISTORY"])):
             done = run(program, words, folder, "")

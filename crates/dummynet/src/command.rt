@@ -70,6 +70,13 @@ fn audit<'a>(alloc: Global) -> Result<Command<'a>, AllocError> {
         .arg(required(alloc, "history", "HISTORY", "A file that --history wrote"))
 }
 
+// The command that serves a live session.
+fn live<'a>(alloc: Global) -> Command<'a> {
+    Command::new(alloc, "live").about(
+        "Emulates for programs that run: calls on standard input are answered at once on standard output, as a history",
+    )
+}
+
 /// The command line of the program.
 pub fn command<'a>(alloc: Global) -> Result<Command<'a>, Error> {
     let replay = replay(alloc)?;
@@ -81,6 +88,7 @@ pub fn command<'a>(alloc: Global) -> Result<Command<'a>, Error> {
         )
         .after_help(EXAMPLE)
         .subcommand(replay)?
-        .subcommand(audit)?;
+        .subcommand(audit)?
+        .subcommand(live(alloc))?;
     Ok(all)
 }

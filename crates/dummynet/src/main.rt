@@ -7,6 +7,7 @@ mod late_file;
 use clap::error::ErrorKind;
 use clap::{ArgMatches, Command, Error};
 use command::command;
+use dn_live::live;
 use dn_records::{FromReader, FromWriter};
 use dn_replay::{
     HashKey, NoGate, ReplayFault, Source, audit_file, replay, replay_callers, replay_joined,
@@ -93,6 +94,14 @@ fn audit_history<R: Files + Print + AllocGlobal>(
     Ok(verdict.status())
 }
 
+/// Serves a live session from standard input to standard output.
+fn serve<R: Input + Print + AllocGlobal>(rt: &R, key: HashKey) -> Result<u8, ReplayFault> {
+    let mut input = FromReader::new(rt.reader());
+    let mut out = FromWriter::new(io::writer(rt));
+    let served = live(rt.alloc(), key, &mut input, &mut out)?;
+    Ok(served.status())
+}
+
 /// Does what the words ask for, and answers the status of what was done.
 fn run<R: Input + Files + Print + AllocGlobal + Threads + Wait + Sync>(
     rt: &R,
@@ -101,6 +110,7 @@ fn run<R: Input + Files + Print + AllocGlobal + Threads + Wait + Sync>(
 ) -> Result<u8, ReplayFault> {
     match matches.subcommand() {
         Some(("audit", found)) => audit_history(rt, key, found.get_str("history").unwrap_or("")),
+        Some(("live", _)) => serve(rt, key),
         Some((_, found)) => {
             replay_files(rt, key, found)?;
             Ok(DONE)
