@@ -27,6 +27,7 @@ MADE = TOP / "crates" / "dummynet" / "out" / "dummynet"
 TALLY = re.compile(r"(\d+) passed, (\d+) failed")
 RANDOM_CASES = 400
 RUNS_BY_CALLERS = 100
+LIVE_SESSIONS = 200
 
 
 class Tally(NamedTuple):
@@ -81,7 +82,7 @@ def parts(cases: str, seed: int) -> list[Part]:
     python, program = sys.executable, str(MADE)
     refused = "memory_refuses_leaves_no_trace"
     # A list that is refused room for more asks again for just enough, so one refusal is hidden where two in a row aren't.
-    growths = [("test_replay", "memory::"), ("test_shaper", "refused_growths::"), ("test_parts", "scheduler::"),
+    growths = [("test_replay", "memory::"), ("test_live", "memory::"), ("test_shaper", "refused_growths::"), ("test_parts", "scheduler::"),
                ("test_parts", "heap::"), *[("test_parts", f"{part}::a_refused_growth_changes_nothing") for part in ("link", "flows")],
                *[("test_service", f"one_caller::a_{call}_that_{refused}", row) for call in ("call", "try") for row in ("1", "2")]]
     capture = TOP / "tools" / "capture" / "test"
@@ -90,6 +91,7 @@ def parts(cases: str, seed: int) -> list[Part]:
         *[Part(f"refused growths: {' '.join(words)}", [python, "tools/gate/growths.py", *words], "cc") for words in growths],
         Part("cases of the reference", [python, "tools/gate/cases.py", program, str(seed), str(RANDOM_CASES), cases]),
         Part("replays by callers", [python, "tools/callers_checks.py", program, str(seed), str(RUNS_BY_CALLERS)]),
+        Part("live sessions", [python, "tools/gate/live.py", program, str(seed), str(LIVE_SESSIONS)]),
         Part("the program without memory", [python, "tools/gate/memory.py", program], "cc"),
         Part("chosen keys", [python, "tools/gate/hostile.py", program], "valgrind"),
         Part("keys of the hash", [python, "tools/gate/hash_key.py", program], "cc"),

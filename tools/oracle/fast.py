@@ -233,6 +233,11 @@ class FastDummynet:
                 self.start(link, link.free)
             self.list_link(link)
 
+    def next_moment(self) -> Optional[int]:
+        """The first moment at which a packet leaves the emulator or a link with a backlog is free, if there is one."""
+        dues = [self.delay_line[0].due] if self.delay_line else []
+        return min(dues + [link.free for link in self.links if link.backlog], default=None)
+
     # ---- calls --------------------------------------------------------------------------------------------
 
     def apply(self, c: Call) -> Reply:

@@ -1,0 +1,172 @@
+"""Live sessions of the program on two pipes, beside those of the independent reference.
+
+    python3 tools/gate/live.py PROGRAM SEED COUNT
+
+COUNT random sessions of the seed, with bad lines, comments and questions between their calls; one that is fed byte by byte,
+where each answer has to come before the next line; lines at the limit of their length; pipes that are closed or full; and the
+audit of a session as it stands, and with one byte of it changed.
+"""
+
+from __future__ import annotations
+
+import os
+import select
+import subprocess
+import sys
+from pathlib import Path
+from random import Random
+from tempfile import TemporaryDirectory
+
+from tally import Tally
+
+sys.path.insert(0, str(Path(__file__).resolve().parent.parent / "oracle"))
+
+from history import call_text  # noqa: E402
+from live import LINE_LIMIT, session  # noqa: E402
+from model import Configure  # noqa: E402
+from scenarios import STYLES, random_calls  # noqa: E402
+from spelling import spell  # noqa: E402
+
+SUBMIT = b"c,0,submit,pipe,1,10.0.0.1,10.0.0.2,17,1000,2000,1000,0,%d"
+# A line, and what is said of it behind its number.
+BAD = [
+    (b"hello", "1,word 1: unknown word"), (b"r,queued,0,0,0", "1,word 1: unknown word"), (b"next ", "1,word 1: unknown word"),
+    (b"pipe 1 config bw", "1,word 4: missing value"), (b"pipe 1 config bw 3x", "1,word 5: bad number"),
+    (b"pipe 65536 config", "1,word 2: out of range"), (b"pipe 1 config red 1", "1,word 4: left out"),
+    (b"queue 1 config", "1,word 1: needs a pipe"), (b"pipe 1 config \xff", "1,not UTF-8"),
+    (b"c", "2,bad field"), (b"c,16,show", "2,bad field"), (b"c,0,shows", "3,bad field"), (b"c,0,show,", "3,bad field"),
+    (b"c,0,collect,-1", "4,bad field"), (b"c,0,collect,4611686018427387905", "4,bad field"),
+    (b"c,0,configure,", "4,no command"), (b"c,0,configure,pipe 1 config bw 3x", "4,word 5: bad number"), (b"c,0,configure,\xff", "4,not UTF-8"),
+    (SUBMIT.replace(b"pipe,1", b"link,1") % 0, "4,bad field"), (SUBMIT.replace(b"pipe,1", b"pipe,0") % 0, "5,bad field"),
+    (SUBMIT.replace(b"10.0.0.1", b"10.0.0") % 0, "6,bad field"), (SUBMIT.replace(b"10.0.0.2", b"10.0.0.256") % 0, "7,bad field"),
+    (SUBMIT.replace(b",17,", b",256,") % 0, "8,bad field"), (SUBMIT.replace(b",1000,2", b",65536,2") % 0, "9,bad field"),
+    (SUBMIT.replace(b",2000,", b",+2,") % 0, "10,bad field"), (SUBMIT.replace(b"2000,1000", b"2000,0") % 0, "11,bad field"),
+    (SUBMIT.replace(b"1000,0,", b"1000,4294967296,") % 0, "12,bad field"), (SUBMIT % 2**63, "13,bad field"),
+    (b"c,0,show\rc,0,show", "0,not one record"),
+]
+
+
+def told(program: str, data: bytes, **how: object) -> tuple[bytes, bytes, int]:
+    done = subprocess.run([program, "live"], input=data, stderr=subprocess.PIPE, timeout=120, **{"stdout": subprocess.PIPE, **how})  # type: ignore[call-overload]
+    return done.stdout, done.stderr, done.returncode
+
+
+def wanted(data: bytes) -> tuple[bytes, bytes, int]:
+    texts, status = session(data)
+    return "".join(texts).encode(), b"", status
+
+
+def random_session(rng: Random, number: int) -> bytes:
+    """Calls of a random style, some in other forms, with other lines between them."""
+    lines: list[bytes] = []
+    for caller, call in random_calls(rng, STYLES[number % len(STYLES)], rng.randint(10, 120), 16, rng.random() < 0.6):
+        while rng.random() < 0.3:
+            lines.append(rng.choice([b"", b"# a note", b"next", b"next", rng.choice(BAD)[0]]))
+        text = call_text(caller, call).encode()
+        if isinstance(call, Configure) and rng.random() < 0.5:
+            text = spell(rng, call.command).encode()
+        elif rng.random() < 0.1:
+            text = b",".join(b'"%s"' % field for field in text.split(b","))
+        lines.append(text + rng.choice([b"", b"", b"", b"\r"]))
+    return b"\n".join([*lines, rng.choice([b"", b"", b"c,0,sh"])])
+
+
+class Piped:
+    """A session on two pipes."""
+
+    def __init__(self, program: str) -> None:
+        self.process = subprocess.Popen([program, "live"], stdin=subprocess.PIPE, stdout=subprocess.PIPE, bufsize=0)
+        assert self.process.stdin and self.process.stdout
+        self.to, self.of = self.process.stdin.fileno(), self.process.stdout.fileno()
+
+    def is_silent(self) -> bool:
+        return not select.select([self.of], [], [], 0)[0]
+
+    def read(self, count: int) -> bytes:
+        """So many bytes, or those that have come within ten seconds."""
+        data = b""
+        while len(data) < count and select.select([self.of], [], [], 10)[0]:
+            piece = os.read(self.of, count - len(data))
+            if not piece:
+                break
+            data += piece
+        return data
+
+    def end(self) -> tuple[bytes, int]:
+        self.process.stdin.close()  # type: ignore[union-attr]
+        rest = self.read(1 << 16)
+        return rest, self.process.wait(timeout=10)
+
+
+def byte_by_byte(tally: Tally, program: str, lines: list[bytes]) -> None:
+    """Each answer comes as soon as its line is whole, and nothing before."""
+    texts, status = session(b"".join(line + b"\n" for line in lines))
+    piped = Piped(program)
+    tally.equal("the header comes at once", texts[0].encode(), piped.read(len(texts[0])))
+    for line, text in zip(lines, texts[1:]):
+        early = False
+        for byte in line:
+            os.write(piped.to, bytes([byte]))
+            early = early or not piped.is_silent()
+        os.write(piped.to, b"\n")
+        tally.equal(f"the answer to {line!r}", (False, text.encode()), (early, piped.read(len(text))))
+    tally.equal("the end of a session", (texts[-1].encode(), status), piped.end())
+
+
+def bad_lines(tally: Tally, program: str) -> None:
+    """Each bad line is told and changes nothing."""
+    for line, said in BAD:
+        lines = [b"pipe 1 config bw 8Mbit/s", SUBMIT % 0, line, b"c,3,collect,1000000"]
+        out, _, status = told(program, b"".join(one + b"\n" for one in lines))
+        rest, _, _ = told(program, b"".join(one + b"\n" for one in lines if one is not line))
+        remark = f"#,bad,3,{said}\n".encode()
+        tally.equal(f"{line!r} is told", (4, 1, rest), (status, out.count(remark), out.replace(remark, b"")))
+
+
+def limits(tally: Tally, program: str) -> None:
+    for line in (b"#" + b"x" * (LINE_LIMIT - 1), b"pipe 1 config" + b" " * (LINE_LIMIT - 13)):
+        tally.equal(f"a line of {len(line)} bytes", wanted(line + b"\n"), told(program, line + b"\n"))
+        begun = b"dummynet-history,3\n"
+        tally.equal("one byte more", (begun, b"input too long\n", 6), told(program, line + b"x\n"))
+        tally.equal("one byte more, without a line feed", (begun, b"input too long\n", 6), told(program, line + b"x"))
+
+
+def devices(tally: Tally, program: str) -> None:
+    with open("/dev/full", "wb") as full:
+        tally.equal("a full device", (None, b"cannot write history\n", 6), told(program, b"", stdout=full))
+    done = subprocess.run(["sh", "-c", 'exec "$0" live <&-', program], capture_output=True)
+    tally.equal("standard input closed", (b"dummynet-history,3\n", b"cannot read input\n", 6), (done.stdout, done.stderr, done.returncode))
+    done = subprocess.run([program, "live", "more"], capture_output=True, input=b"")
+    tally.equal("a word too many", (b"", 2), (done.stdout, done.returncode))
+
+
+def audits(tally: Tally, program: str, data: bytes) -> None:
+    """A session is lawful as it stands, and a changed one isn't."""
+    out, _, _ = told(program, data)
+    count = out.rpartition(b"end,")[2].strip().decode()
+    with TemporaryDirectory() as folder:
+        path = Path(folder) / "session"
+        for name, text, line, status in (("as it stands", out, f"lawful {count}", 0), ("with one byte changed", out.replace(b"r,queued,0,0,0", b"r,queued,0,0,1", 1), "differs 1", 1)):
+            path.write_bytes(text)
+            done = subprocess.run([program, "audit", path], capture_output=True, text=True)
+            tally.equal(f"the audit of a session {name}", (f"{line}\n", "", status), (done.stdout, done.stderr, done.returncode))
+
+
+def main(program: str, seed: str, count: str) -> int:
+    tally, rng = Tally(), Random(int(seed))
+    print(f"seed {seed}", flush=True)
+    lines = [b"next", b"pipe 1 config bw 8Mbit/s queue 1", SUBMIT % 0, b"next", b"", b"# a note", SUBMIT % 0, SUBMIT % 0, b"hello", b"next",
+             b"c,1,collect,1000000", b"next", b"c,1,collect,2000000", b"next", b'"c",0,show', b"pipe 1 delete\r"]
+    byte_by_byte(tally, program, lines)
+    bad_lines(tally, program)
+    limits(tally, program)
+    devices(tally, program)
+    audits(tally, program, b"".join(line + b"\n" for line in lines[1:]))
+    for number in range(int(count)):
+        data = random_session(rng, number)
+        tally.equal(f"session {number} of the seed", wanted(data), told(program, data))
+    return tally.end()
+
+
+if __name__ == "__main__":
+    sys.exit(main(*sys.argv[1:]))
