@@ -11,5 +11,6 @@ mod read_line;
 mod served;
 mod session;
 
+pub use dn_shaper::HashKey;
 pub use served::Served;
 pub use session::live;

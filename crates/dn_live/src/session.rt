@@ -20,7 +20,8 @@ use crate::served::Served;
 use csv::ByteRecord;
 use dn_files::{ReplayFault, Source, write_text};
 use dn_records::{Inlet, Outlet, write_whole};
-use dn_shaper::Shaper;
+use dn_shaper::{HashKey, Shaper};
+use dn_types::Rule;
 use std::alloc::Global;
 
 /// Writes the record that names the format.
@@ -160,9 +161,10 @@ fn serve<I: Inlet, O: Outlet>(
 /// No history is kept: a session takes the memory that its shaper takes, and that of one line and one
 /// answer. A line has at most 65,536 bytes. The fault is `TooLong(Input)` at a longer one, `Read(Input)` where a
 /// read failed, `Write(History)` where a write failed, and `OutOfMemory` where memory was refused; the lines
-/// before it are answered.
+/// before it are answered. No answer depends on the key, the secret of the flow table.
 pub fn live<I: Inlet, O: Outlet>(
     alloc: Global,
+    key: HashKey,
     input: &mut I,
     out: &mut O,
 ) -> Result<Served, ReplayFault>
@@ -179,7 +181,7 @@ pub fn live<I: Inlet, O: Outlet>(
     ensures err { IfErr result (λ fault. IsBrokenOff (I.remaining input.old) (I.has_failed input.new)
         (O.contents out.old) (O.contents out.new) (O.has_failed out.new) fault) }
 {
-    let mut shaper = Shaper::new(alloc);
+    let mut shaper = Shaper::with_key(alloc, Rule::Ordered, key);
     let served = serve(alloc, &mut shaper, input, out);
     // The proof of a drop by a call has one step, where that of a drop at the end has one for each field.
     drop(shaper);

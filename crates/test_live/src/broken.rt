@@ -1,7 +1,7 @@
 use crate::fakes::{FailingReader, Sink, WhenFull};
 use crate::sessions::{answered, input, session};
 use dn_files::{ReplayFault, Source};
-use dn_live::live;
+use dn_live::{HashKey, live};
 use dn_records::{FromReader, FromWriter, Inlet, Outlet};
 use std::alloc::{AllocError, Global};
 use std::test::Fail;
@@ -12,7 +12,12 @@ fn read_fails(alloc: Global, text: &[u8], good: usize) -> Result<bool, AllocErro
     let lines = text[..good].iter().filter(|byte| **byte == b'\n').count();
     let wanted = answered(alloc, lines)?;
     let mut inlet = FromReader::new(FailingReader { rest: text, good });
-    let answer = live(alloc, &mut inlet, &mut FromWriter::new(&mut written));
+    let answer = live(
+        alloc,
+        HashKey(7),
+        &mut inlet,
+        &mut FromWriter::new(&mut written),
+    );
     Ok(
         answer == Err(ReplayFault::Read(Source::Input))
             && inlet.failed()
@@ -43,7 +48,7 @@ fn write_fails(
     let mut sink = Sink::new(alloc, room, when_full);
     let mut out = FromWriter::new(&mut sink);
     let mut inlet = FromReader::new(text);
-    let answer = live(alloc, &mut inlet, &mut out);
+    let answer = live(alloc, HashKey(7), &mut inlet, &mut out);
     out.failed()
         && answer == Err(ReplayFault::Write(Source::History))
         && Some(sink.held.as_slice()) == wanted.get(..room)
@@ -69,7 +74,12 @@ fn is_too_long(alloc: Global, bytes: usize, end: &str) -> Result<bool, AllocErro
     text.push_str(end)?;
     let mut written = Vec::new(alloc);
     let mut inlet = FromReader::new(text.as_bytes());
-    let answer = live(alloc, &mut inlet, &mut FromWriter::new(&mut written));
+    let answer = live(
+        alloc,
+        HashKey(7),
+        &mut inlet,
+        &mut FromWriter::new(&mut written),
+    );
     Ok(answer == Err(ReplayFault::TooLong(Source::Input)))
 }
 

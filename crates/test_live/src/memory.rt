@@ -1,6 +1,6 @@
 use crate::sessions::{SERVED, input, session};
 use dn_files::ReplayFault;
-use dn_live::{Served, live};
+use dn_live::{HashKey, Served, live};
 use dn_records::{FromReader, FromWriter};
 use std::alloc::Global;
 use std::test::Fail;
@@ -8,7 +8,7 @@ use std::test::Fail;
 // Serves a session. What it writes is added to `written`.
 fn serve(alloc: Global, text: &[u8], written: &mut Vec<u8>) -> Result<Served, ReplayFault> {
     let mut inlet = FromReader::new(text);
-    live(alloc, &mut inlet, &mut FromWriter::new(written))
+    live(alloc, HashKey(7), &mut inlet, &mut FromWriter::new(written))
 }
 
 // Run with each growth refused in turn, this test passes for every one: what was written before is a front of the

@@ -1,4 +1,4 @@
-use dn_live::{Served, live};
+use dn_live::{HashKey, Served, live};
 use dn_records::{FromReader, FromWriter};
 use std::alloc::{AllocError, Global};
 use std::test::Fail;
@@ -100,7 +100,12 @@ pub fn session(alloc: Global) -> Result<String, AllocError> {
 fn serves(alloc: Global, input: &str, served: Served, session: &str) -> bool {
     let mut written = Vec::new(alloc);
     let mut reader = FromReader::new(input.as_bytes());
-    let answer = live(alloc, &mut reader, &mut FromWriter::new(&mut written));
+    let answer = live(
+        alloc,
+        HashKey(7),
+        &mut reader,
+        &mut FromWriter::new(&mut written),
+    );
     answer == Ok(served) && written.as_slice() == session.as_bytes()
 }
 
