@@ -44,6 +44,12 @@ def program() -> str:
     return os.environ.get("DUMMYNET") or shutil.which("dummynet") or str(Path(__file__).resolve().parents[2] / "dummynet")
 
 
+def cause(fault: Exception) -> str:
+    """Why a host ends, in a line for its user."""
+    name = f"{fault.filename}: " if isinstance(fault, OSError) and fault.filename else ""
+    return f"{name}{fault.strerror}" if isinstance(fault, OSError) and fault.strerror else str(fault)
+
+
 def pieces(lines: Iterable[str]) -> Iterator[list[bytes]]:
     """Lines in pieces that any pipe holds. A host that writes more before it reads can wait for ever: the session waits for room
     for its answers, and the host for room for its lines."""

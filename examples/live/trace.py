@@ -22,7 +22,7 @@ from pathlib import Path
 from typing import NamedTuple
 
 import udp_proxy
-from session import BadLine, Failed
+from session import BadLine, Failed, cause
 from udp_proxy import Proxy
 
 
@@ -71,7 +71,7 @@ def main() -> None:
     except BadLine as fault:
         sys.exit(f"trace.py: '{asked.pipe}': {fault}")
     except (Failed, OSError) as fault:
-        sys.exit(f"trace.py: {fault}")
+        sys.exit(f"trace.py: {cause(fault)}")
 
 
 if __name__ == "__main__":

@@ -8,8 +8,9 @@ PORT or HOST:PORT. A LINK is a configuration line where it has a blank, else a f
 
     udp_proxy.py 7000 localhost:7001 'pipe 1 config bw 8Mbit/s delay 20' 'pipe 2 config delay 20' --transcript session.history
 
-^C or SIGTERM ends it: it prints what went through and how late it was itself. `dummynet audit session.history` tells whether the
-link did what was configured. Each client has a socket of its own towards SERVER. DUMMYNET names the program.
+It prints `ready` and where it listens when it does (PORT 0 takes any that is free). ^C or SIGTERM ends it: it prints what went through
+and how late it was itself. `dummynet audit session.history` tells whether the link did what was configured. Each client has a socket
+of its own towards SERVER. DUMMYNET names the program.
 """
 
 from __future__ import annotations
@@ -27,7 +28,7 @@ from pathlib import Path
 from typing import BinaryIO, Iterator, NamedTuple, Optional
 
 from lateness import Lateness
-from session import BadLine, Failed, Session, program
+from session import BadLine, Failed, Session, cause, program
 
 Address = tuple[str, int]
 HEADERS = 28  # bytes of IPv4 and UDP before the data, which a link carries too
@@ -173,19 +174,20 @@ def proxy(asked: argparse.Namespace) -> Iterator[Proxy]:
         made = Proxy(session, asked.listen, asked.server, asked.seed)
         for number in (signal.SIGINT, signal.SIGTERM):
             signal.signal(number, made.stop)
+        print("ready at {}:{}".format(*made.front.getsockname()), flush=True)
         yield made
         print(made.report(), file=sys.stderr)
 
 
 def main() -> None:
-    parser = argparse.ArgumentParser(description="A UDP path between two programs through emulated links: pipe 1 to the server, pipe 2 back.")
+    parser = argparse.ArgumentParser(description="A UDP path between two programs: pipe 1 to the server, pipe 2 back.")
     arguments(parser)
     try:
         with proxy(parser.parse_args()) as made:
             while not made.stopped:
                 made.turn()
     except (Failed, OSError) as fault:
-        sys.exit(f"udp_proxy.py: {fault}")
+        sys.exit(f"udp_proxy.py: {cause(fault)}")
 
 
 if __name__ == "__main__":

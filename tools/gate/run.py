@@ -97,6 +97,7 @@ def parts(cases: str, seed: int) -> list[Part]:
         Part("keys of the hash", [python, "tools/gate/hash_key.py", program], "cc"),
         Part("the command line", [python, "tools/gate/command_line.py", program]),
         Part("the wrapper, ./build and ./install", [python, "tools/gate/wrapper.py", program]),
+        Part("hosts of a live session", [python, "tools/gate/hosts.py", program]),
         Part("examples", [python, "tools/gate/examples.py", program]),
         Part("the release", [python, "tools/gate/release.py", program]),
         Part("the manual page", [python, "tools/gate/manual.py", program], "mandoc"),
