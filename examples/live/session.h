@@ -88,14 +88,21 @@ static inline struct session session_start(FILE *transcript) {
     return made;
 }
 
-/* Asks for what a configuration line says, and answers NULL, or else the record that refuses it. */
+/* The text behind so many commas. */
+static inline const char *behind(const char *text, int commas) {
+    while (commas > 0 && *text != 0) commas -= *text++ == ',';
+    return text;
+}
+
+/* Asks for what a configuration line says, and answers NULL, or else why it was refused, until the next call. */
 static inline const char *session_configure(struct session *session, const char *line) {
     if (strcspn(line, "#") == strspn(line, " \t\r")) return NULL; /* no words: it would have no answer */
     session_say(session, line, strlen(line));
     session_say(session, "\n", 1);
     const char *answer = session_record(session);
-    if (begins(answer, "c,")) answer = session_record(session);
-    return begins(answer, "r,configured") || begins(answer, "r,deleted") ? NULL : answer;
+    if (begins(answer, "#,bad")) return behind(answer, 4);
+    answer = session_record(session);
+    return begins(answer, "r,configured") || begins(answer, "r,deleted") ? NULL : behind(answer, 1);
 }
 
 /* Ends the session, keeps what it still says, and answers its status. */

@@ -91,7 +91,7 @@ class Session:
         """The next answer: a remark, or the record of the call, that of its reply and its items."""
         mark, *rest = self.fields()
         if mark == "#" and rest[0] == "bad":
-            raise BadLine(f"word {rest[2]}: {', '.join(rest[3:]) or 'bad'}")
+            raise BadLine(rest[3] if rest[2] == "1" else f"field {rest[2]}: {rest[3]}")
         if mark == "#":
             return Answer(rest[0], [int(number) for number in rest[1:]], [])
         _, outcome, *numbers = self.fields()

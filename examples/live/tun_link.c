@@ -83,6 +83,7 @@ static void configure(const char *path) {
         const char *refused = session_configure(&session, line);
         if (refused) {
             fprintf(stderr, "tun_link: %s line %d: %s\n", path, number, refused);
+            session_end(&session);
             exit(3);
         }
     }
