@@ -10,6 +10,10 @@ if [ $# -lt 3 ]; then
     echo 'usage: namespaces.sh CONFIG TRANSCRIPT COMMAND [ARGUMENT..]' >&2
     exit 2
 fi
+if [ "$(id -u)" != 0 ]; then
+    echo 'namespaces.sh: only root can make network namespaces' >&2
+    exit 6
+fi
 here=$(cd "$(dirname "$0")" && pwd) || exit 6
 config=$1 transcript=$2
 shift 2

@@ -73,11 +73,9 @@ static uint32_t word(void) {
 }
 
 /* Asks for the links that a file tells. */
-static void configure(const char *path) {
-    FILE *file = fopen(path, "r");
+static void configure(const char *path, FILE *file) {
     char *line = NULL;
     size_t room = 0;
-    if (!file) fail_by_system(path);
     for (int number = 1; getline(&line, &room, file) >= 0; number++) {
         line[strcspn(line, "\n")] = 0;
         const char *refused = session_configure(&session, line);
@@ -239,14 +237,15 @@ static void report(void) {
 }
 
 int main(int count, char **words) {
-    FILE *transcript = NULL;
+    FILE *config, *transcript = NULL;
     if (count != 4 && count != 5) {
         fprintf(stderr, "usage: tun_link LEFT RIGHT CONFIG [TRANSCRIPT]\n");
         return 2;
     }
+    if (!(config = fopen(words[3], "r"))) fail_by_system(words[3]);
     if (count == 5 && !(transcript = fopen(words[4], "w"))) fail_by_system(words[4]);
     session = session_start(transcript);
-    configure(words[3]);
+    configure(words[3], config);
     for (int way = 0; way < 2; way++) interfaces[way] = made_interface(words[1 + way]);
     prctl(PR_SET_TIMERSLACK, 1); /* else the system wakes it up to 50 us after the moment */
     sigset_t signals, before;
