@@ -70,6 +70,17 @@ def rounds(client: socket.socket, server: socket.socket, port: int, count: int) 
     return took
 
 
+def burst(client: socket.socket, server: socket.socket, port: int, count: int) -> list[float]:
+    """Seconds after the first of so many datagrams, sent at once, at which each had come."""
+    begun, came = time.monotonic(), []
+    for _ in range(count):
+        client.sendto(bytes(SIZE), ("127.0.0.1", port))
+    for _ in range(count):
+        server.recvfrom(65536)
+        came.append(time.monotonic() - begun)
+    return came
+
+
 def audited(program: str, transcript: Path) -> str:
     return subprocess.run([program, "audit", transcript], capture_output=True, text=True).stdout.strip()
 
@@ -78,20 +89,29 @@ def calls(transcript: Path, name: str) -> int:
     return len(re.findall(rf"^c,0,{name}\b", transcript.read_text(), re.M))
 
 
+def moved(transcript: Path) -> list[tuple[str, str]]:
+    """Packets that counted at another moment than that of their Submit, since a call before it was ahead of the clock."""
+    pairs = re.findall(r"^c,0,submit,.*,(\d+)\nr,queued,(\d+),", transcript.read_text(), re.M)
+    return [pair for pair in pairs if pair[0] != pair[1]]
+
+
 def udp(tally: Tally, program: str, folder: Path) -> None:
-    """Two clients in turn, whose datagrams come back to them alone, and never early."""
+    """Two clients in turn, whose datagrams come back to them alone, and a burst; nothing comes early."""
     kept = folder / "udp.history"
     with sockets(3) as [server, *clients]:
         host = Host(program, ["udp_proxy.py", "0", str(server.getsockname()[1]), *LINKS, "--transcript", str(kept)])
         took = [second for client in clients for second in rounds(client, server, host.port, 12)]
+        came = burst(clients[0], server, host.port, 20)
         status, said = host.end()
     tally.note("no datagram is early or another one", "" if min(took) >= ROUND else f"a round of {min(took)} s")
+    tally.note("each of a burst waits for those before it", "" if all(at >= 0.021 + i / 1000 for i, at in enumerate(came)) else f"they came at {came}")
     tally.equal("the host's status", 0, status)
-    tally.equal("what the host counted", ["to the server: 24 came, 24 sent on, 0 lost, 0 met a full queue",
+    tally.equal("what the host counted", ["to the server: 44 came, 44 sent on, 0 lost, 0 met a full queue",
                                           "back: 24 came, 24 sent on, 0 lost, 0 met a full queue"], re.findall(r"^.* a full queue", said, re.M))
     tally.note("the host tells its lateness", "" if LATE.search(said) else said)
-    tally.equal("submitted", 48, calls(kept, "submit"))
-    tally.equal("the audit", f"lawful {2 + 48 + calls(kept, 'collect')}", audited(program, kept))
+    tally.equal("submitted", 68, calls(kept, "submit"))
+    tally.equal("packets that counted later than they came", [], moved(kept))
+    tally.equal("the audit", f"lawful {2 + 68 + calls(kept, 'collect')}", audited(program, kept))
     kept.write_text(re.sub(r"^r,queued,(\d+),(\d+),\d+$", r"r,full,\1,\2", kept.read_text(), count=1, flags=re.M))
     tally.equal("the audit where a packet that was queued is said to be refused", "differs 2", audited(program, kept))
 
