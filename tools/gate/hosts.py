@@ -104,7 +104,8 @@ def udp(tally: Tally, program: str, folder: Path) -> None:
         came = burst(clients[0], server, host.port, 20)
         status, said = host.end()
     tally.note("no datagram is early or another one", "" if min(took) >= ROUND else f"a round of {min(took)} s")
-    tally.note("each of a burst waits for those before it", "" if all(at >= 0.021 + i / 1000 for i, at in enumerate(came)) else f"they came at {came}")
+    early = [at for i, at in enumerate(came) if at < 0.021 + i / 1000]
+    tally.equal("those of a burst that don't wait for the ones before", [], early)
     tally.equal("the host's status", 0, status)
     tally.equal("what the host counted", ["to the server: 44 came, 44 sent on, 0 lost, 0 met a full queue",
                                           "back: 24 came, 24 sent on, 0 lost, 0 met a full queue"], re.findall(r"^.* a full queue", said, re.M))
@@ -172,6 +173,17 @@ def namespaces(tally: Tally, program: str, folder: Path, tun_link: Path) -> None
     tally.equal("namespaces that are left", before, subprocess.run(["ip", "netns"], capture_output=True, text=True).stdout)
 
 
+def page(tally: Tally, program: str, folder: Path) -> None:
+    """What docs/LIVE.md shows of a session in Python and of one without a clock is what they print."""
+    text = (TOP / "docs" / "LIVE.md").read_text()
+    [(source, printed)] = re.findall(r"```\n(from session .*?)```\n\n```\n(.*?)```", text, re.S)
+    done = subprocess.run([sys.executable, "-c", source], cwd=LIVE, env={**os.environ, "DUMMYNET": program}, capture_output=True, text=True)
+    tally.equal("the session in Python", (printed, ""), (done.stdout, done.stderr))
+    [(source, printed)] = re.findall(r"\$ ./dummynet live <<END\n(.*?)END\n(.*?)```", text, re.S)
+    done = subprocess.run([program, "live"], input=source, capture_output=True, text=True)
+    tally.equal("the session without a clock", (0, printed, ""), (done.returncode, done.stdout, done.stderr))
+
+
 def in_c(tally: Tally, program: str, folder: Path) -> None:
     if shutil.which("cc") is None:
         print("the hosts in C: skipped, since there is no cc on the path")
@@ -189,7 +201,7 @@ def in_c(tally: Tally, program: str, folder: Path) -> None:
 def main(program: str) -> int:
     tally = Tally()
     with TemporaryDirectory() as folder:
-        for part in (udp, losses, refusals, trace, in_c):
+        for part in (page, udp, losses, refusals, trace, in_c):
             part(tally, program, Path(folder))
     return tally.end()
 
