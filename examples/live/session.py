@@ -16,9 +16,10 @@ import shutil
 import subprocess
 from pathlib import Path
 from types import TracebackType
-from typing import BinaryIO, Iterable, Iterator, NamedTuple, Optional
+from typing import Iterable, Iterator, NamedTuple, Optional
 
 BEGUN = b"dummynet-history,3\n"
+MOST = 250_000_000  # bytes of a transcript; an audit reads at most 268,435,456
 LISTS = ("delivered", "status")  # the replies that end in a count of items
 
 
@@ -66,15 +67,20 @@ def pieces(lines: Iterable[str]) -> Iterator[list[bytes]]:
 
 
 class Session:
-    def __init__(self, words: str, transcript: Optional[BinaryIO] = None) -> None:
-        """Starts the program, and keeps all that it writes where there is a transcript. In a process group of its own, so that a
-        ^C on the terminal is for the host alone, which then ends the session."""
-        self.transcript = transcript
-        self.process = subprocess.Popen([words, "live"], stdin=subprocess.PIPE, stdout=subprocess.PIPE, bufsize=0, start_new_session=True)
+    def __init__(self, words: str, transcript: Optional[str] = None, most: int = MOST) -> None:
+        """Begins a session, and keeps all that the program writes in the file of that name, if there is one."""
+        self.words, self.name, self.most, self.rolled = words, transcript, most, 0
+        self.links: list[str] = []
+        self.begin(transcript)
+
+    def begin(self, transcript: Optional[str]) -> None:
+        """In a process group of its own, so that a ^C on the terminal is for the host alone, which then ends the session."""
+        self.transcript = open(transcript, "wb") if transcript else None
+        self.process = subprocess.Popen([self.words, "live"], stdin=subprocess.PIPE, stdout=subprocess.PIPE, bufsize=0, start_new_session=True)
         assert self.process.stdin and self.process.stdout
         self.lines, self.answers = self.process.stdin, io.BufferedReader(self.process.stdout)  # type: ignore[type-var]
         if self.record() != BEGUN:
-            raise Failed(f"{words} live doesn't begin a session")
+            raise Failed(f"{self.words} live doesn't begin a session")
 
     def record(self) -> bytes:
         text: bytes = self.answers.readline()
@@ -112,6 +118,19 @@ class Session:
             [answer] = self.ask([text])
             if answer.outcome not in ("configured", "deleted"):
                 raise BadLine(answer.outcome.replace("-", " "))
+            self.links.append(text)
+
+    def quiet(self) -> None:
+        """To be called where nothing waits and nothing is under way: where the transcript is long, ends the session, and goes on
+        in another one with the same links, and a file with a number behind its name. Packets count from 0 again."""
+        if self.transcript and self.transcript.tell() > self.most:
+            if status := self.close():
+                raise Failed(f"the session ended with status {status}")
+            self.rolled += 1
+            links, self.links = self.links, []
+            self.begin(f"{self.name}.{self.rolled}")
+            for link in links:
+                self.configure(link)
 
     def close(self) -> int:
         """Ends the session, keeps what it still says, and answers the program's status."""
@@ -119,6 +138,7 @@ class Session:
         rest = self.answers.read()
         if self.transcript:
             self.transcript.write(rest)
+            self.transcript.close()
         return self.process.wait()
 
     def __enter__(self) -> Session:

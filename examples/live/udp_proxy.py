@@ -25,10 +25,10 @@ import sys
 import time
 from collections import Counter
 from pathlib import Path
-from typing import BinaryIO, Iterator, NamedTuple, Optional
+from typing import Iterator, NamedTuple, Optional
 
 from lateness import Lateness
-from session import BadLine, Failed, Session, cause, program
+from session import MOST, BadLine, Failed, Session, cause, program
 
 Address = tuple[str, int]
 HEADERS = 28  # bytes of IPv4 and UDP before the data, which a link carries too
@@ -118,6 +118,8 @@ class Proxy:
         self.wake = min(answers[-1].numbers, default=None)
         for packet, _, _, moment in answers[-2].items if due else []:
             self.send(self.held.pop(int(packet)), int(moment))
+        if self.wake is None and not self.held:
+            self.session.quiet()
 
     def send(self, it: Datagram, due: int) -> None:
         try:
@@ -160,15 +162,14 @@ def arguments(parser: argparse.ArgumentParser) -> None:
     parser.add_argument("server", type=address, metavar="SERVER", help="PORT or HOST:PORT of the server")
     parser.add_argument("links", nargs="+", metavar="LINK", help="a configuration line, or a file of such lines")
     parser.add_argument("--transcript", metavar="FILE", help="keeps the session in FILE, for dummynet audit")
+    parser.add_argument("--most", type=int, default=MOST, metavar="BYTES", help="of FILE, before a quiet link goes on in FILE.1, FILE.2 ..")
     parser.add_argument("--seed", type=int, metavar="N", help="of the random words, by which a link loses packets")
 
 
 @contextlib.contextmanager
 def proxy(asked: argparse.Namespace) -> Iterator[Proxy]:
     """A proxy over a session of its own, which a signal stops, and which reports in the end."""
-    with contextlib.ExitStack() as stack:
-        kept: Optional[BinaryIO] = stack.enter_context(open(asked.transcript, "wb")) if asked.transcript else None
-        session = stack.enter_context(Session(program(), kept))
+    with Session(program(), asked.transcript, asked.most) as session:
         for link in asked.links:
             configure(session, link)
         made = Proxy(session, asked.listen, asked.server, asked.seed)

@@ -130,6 +130,18 @@ def losses(tally: Tally, program: str, folder: Path) -> None:
     tally.equal("the audit of losses", "lawful 11", audited(program, kept))
 
 
+def rolling(tally: Tally, program: str, folder: Path) -> None:
+    """Three rounds with a transcript that is long at once: each file is a whole history, of one packet but for the last."""
+    kept = folder / "rolled.history"
+    with sockets(2) as [server, client]:
+        host = Host(program, ["udp_proxy.py", "0", str(server.getsockname()[1]), "pipe 1 config delay 5", "pipe 2 config", "--transcript", str(kept),
+                              "--most", "1"])
+        rounds(client, server, host.port, 3)
+        status, said = host.end()
+    files = [kept, *(Path(f"{kept}.{number}") for number in range(1, 7))]
+    tally.equal("the audits of the files", (0, ["lawful 4"] * 6 + ["lawful 2"]), (status, [audited(program, file) for file in files]))
+
+
 def refusals(tally: Tally, program: str, folder: Path) -> None:
     """What a host says where it can't begin."""
     (folder / "links").write_text("pipe 1 config # a comment\n\nqueue 1 config\n")
@@ -201,7 +213,7 @@ def in_c(tally: Tally, program: str, folder: Path) -> None:
 def main(program: str) -> int:
     tally = Tally()
     with TemporaryDirectory() as folder:
-        for part in (page, udp, losses, refusals, trace, in_c):
+        for part in (page, udp, losses, rolling, refusals, trace, in_c):
             part(tally, program, Path(folder))
     return tally.end()
 
