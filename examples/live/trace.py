@@ -1,7 +1,7 @@
 #!/usr/bin/env python3
 """A UDP path whose bandwidth follows a recorded trace, as that of a phone that moves.
 
-    trace.py TRACE PIPE LISTEN SERVER LINK.. [--transcript FILE] [--seed N]
+    trace.py TRACE PIPE LISTEN SERVER LINK.. [--transcript FILE] [--most BYTES] [--seed N]
 
 TRACE is a file of lines `seconds,bit/s`, the seconds from the start and not falling, with a header or without. At each of them PIPE,
 a configuration line of a pipe without `bw`, is asked for with that rate, while the traffic goes on; the last rate stays. The rest is as

@@ -1,15 +1,15 @@
 #!/usr/bin/env python3
 """A UDP path between two programs through emulated links.
 
-    udp_proxy.py LISTEN SERVER LINK.. [--transcript FILE] [--seed N]
+    udp_proxy.py LISTEN SERVER LINK.. [--transcript FILE] [--most BYTES] [--seed N]
 
 Datagrams that come to LISTEN go through pipe 1 to SERVER, and what SERVER answers goes back through pipe 2. LISTEN and SERVER are
 PORT or HOST:PORT. A LINK is a configuration line where it has a blank, else a file of such lines:
 
     udp_proxy.py 7000 localhost:7001 'pipe 1 config bw 8Mbit/s delay 20' 'pipe 2 config delay 20' --transcript session.history
 
-It prints `ready` and where it listens when it does (PORT 0 takes any that is free). ^C or SIGTERM ends it: it prints what went through
-and how late it was itself. `dummynet audit session.history` tells whether the link did what was configured. Each client has a socket
+It prints `ready at HOST:PORT` once it listens (PORT 0 takes a free one). ^C or SIGTERM ends it: it prints what went through, and
+how late it was itself. `dummynet audit session.history` tells whether the link did what was configured. Each client has a socket
 of its own towards SERVER. DUMMYNET names the program.
 """
 
