@@ -176,6 +176,9 @@ def namespaces(tally: Tally, program: str, folder: Path, tun_link: Path) -> None
     """Three pings through 2 x 20 ms, and nothing left behind."""
     kept = folder / "ping.history"
     before = subprocess.run(["ip", "netns"], capture_output=True, text=True).stdout
+    if re.search(r"^(left|right)\b", before, re.M):
+        print("two namespaces: skipped, since those of another run are there")
+        return
     done = subprocess.run([LIVE / "namespaces.sh", LIVE / "40ms.config", kept, "ping", "-c", "3", "-i", "0.2", "10.8.0.2"], capture_output=True,
                           text=True, stdin=subprocess.DEVNULL, env={**os.environ, "DUMMYNET": program, "TUN_LINK": str(tun_link)})
     times = [float(text) for text in re.findall(r"time=([0-9.]+) ms", done.stdout)]
