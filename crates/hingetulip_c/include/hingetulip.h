@@ -1,0 +1,191 @@
+/*
+ * hingetulip.h: the link emulator dummynet, as ipfw(8) configures it, in the caller's own process.
+ *
+ * Handles. A handle is closed where it is {0}, as in `struct dn_handle h = {0};`, and the library has no other state. One
+ * thread at a time uses a handle, the one that opened it; handles don't know of one another. An open handle isn't copied, and
+ * its fields are the library's alone. What a handle owns is let go by dn_close, or by dn_open on it again.
+ *
+ * Moments are in nanoseconds, from 0 to DN_LAST_MOMENT, on a clock of the caller's own. A call at an earlier moment than the
+ * last call counts as one at the last, and the reply says which moment counted.
+ *
+ * Each call answers an enum dn_status. Under DN_OK all that the call tells is written; under every other status what the
+ * caller handed in is as it was, but for what that status is said to write, and the handle stands as it stood, but for the
+ * three refusals of dn_configure, which count as calls and change nothing else. No pointer may be NULL, also that of a list
+ * of no items.
+ *
+ * Later versions change no function, no struct and no number of this one: what they add has a name of its own, or takes the
+ * place of a field `reserved`, which is 0 in what the caller hands in, else DN_BAD_RESERVED, and is written as 0.
+ */
+#ifndef HINGETULIP_H
+#define HINGETULIP_H
+
+#include <stdbool.h>
+#include <stddef.h>
+#include <stdint.h>
+
+#ifdef __cplusplus
+extern "C" {
+#endif
+
+/* The version of this header: its three numbers, as major * 1000000 + minor * 1000 + patch. */
+#define DN_VERSION 1000000u
+
+/* The last moment of a call: 2^62 ns. */
+#define DN_LAST_MOMENT ((uint64_t)1 << 62)
+
+/* What dn_wake tells where nothing waits and nothing is under way. */
+#define DN_NEVER UINT64_MAX
+
+enum dn_status {
+    DN_OK = 0,
+    DN_EXHAUSTED = 1,       /* the handle answered 2^62 calls before: nothing changes any more */
+    DN_NO_SUCH_PIPE = 2,    /* refused: the queue's pipe isn't configured, or there is no such pipe to delete */
+    DN_PIPE_HAS_QUEUES = 3, /* refused: a configured queue names the pipe that is to be deleted */
+    DN_NO_SUCH_QUEUE = 4,   /* refused: there is no such queue to delete */
+    DN_CLOSED = 5,          /* the handle is closed */
+    DN_MEMORY = 6,          /* memory was refused; the same call may be made again */
+    DN_ROOM = 7,            /* the list is too short: *count is a length that is enough */
+    DN_LINE = 8,            /* the line is no command: *fault says what is wrong, and where */
+    DN_BAD_MOMENT = 9,      /* a moment above DN_LAST_MOMENT */
+    DN_BAD_RULE = 10,       /* no enum dn_rule */
+    DN_BAD_KIND = 11,       /* no enum dn_kind */
+    DN_BAD_NUMBER = 12,     /* a pipe or a queue numbered 0 */
+    DN_BAD_LENGTH = 13,     /* a packet of 0 bytes */
+    DN_BAD_RESERVED = 14    /* a field `reserved` that isn't 0 */
+};
+
+/* How the due moments of the packets on one link follow one another. */
+enum dn_rule {
+    DN_ORDERED = 0, /* a packet is due no sooner than the one before it */
+    DN_FREE = 1     /* a packet is due when its bits and the pipe's delay have passed, whatever is before it */
+};
+
+/* What a packet is sent to. */
+enum dn_kind { DN_PIPE = 0, DN_QUEUE = 1 };
+
+/* What became of a packet. */
+enum dn_outcome {
+    DN_QUEUED = 0,   /* it was accepted, and a dn_collect will give it */
+    DN_LOST = 1,     /* it was lost by the loss rate (plr) */
+    DN_FULL = 2,     /* its queue was full */
+    DN_NO_TARGET = 3 /* its pipe or queue isn't configured */
+};
+
+/* What is wrong with a line. */
+enum dn_fault_kind {
+    DN_NOT_UTF8 = 0,      /* it is no UTF-8 */
+    DN_UNKNOWN_WORD = 1,  /* this word is no keyword here */
+    DN_MISSING_VALUE = 2, /* the line ends behind this word, or this `mask` has no field */
+    DN_NOT_A_NUMBER = 3,  /* this word isn't written as the number that is asked for */
+    DN_OUT_OF_RANGE = 4,  /* this word is a number outside its range */
+    DN_LEFT_OUT = 5,      /* ipfw(8) has this word, and this library leaves it out */
+    DN_NEEDS_PIPE = 6     /* the line of a queue, which this word begins, doesn't name its pipe */
+};
+
+struct dn_handle {
+    void *at;
+    bool open;
+};
+
+struct dn_fault {
+    uint64_t word; /* the word that the fault concerns, from 1; 0 under DN_NOT_UTF8 */
+    uint32_t kind; /* an enum dn_fault_kind */
+    uint32_t reserved;
+};
+
+/* A packet that arrives. Addresses are IPv4, the first number in the highest byte: 10.0.0.1 is 0x0a000001. */
+struct dn_packet {
+    uint64_t moment; /* when it arrives, ns, at most DN_LAST_MOMENT */
+    uint32_t src;
+    uint32_t dst;
+    uint32_t word;   /* a random word: the packet is lost where its low 31 bits are below the loss rate times 2^31 */
+    uint16_t sport;
+    uint16_t dport;
+    uint16_t length; /* bytes, from 1 */
+    uint16_t number; /* the number of the pipe or the queue, from 1 */
+    uint8_t kind;    /* an enum dn_kind */
+    uint8_t proto;   /* the protocol, as in the IP header: 6 TCP, 17 UDP */
+    uint16_t reserved;
+};
+
+struct dn_fate {
+    uint64_t at;      /* the moment that counted, ns */
+    uint64_t flow;    /* the packet's flow, from 0 in order of first sight; 0 under DN_NO_TARGET */
+    uint64_t packet;  /* the packet's number: how many were accepted before it; 0 where it wasn't accepted */
+    uint32_t outcome; /* an enum dn_outcome */
+    uint32_t reserved;
+};
+
+/* A packet that leaves the emulator. */
+struct dn_delivery {
+    uint64_t due;    /* when it leaves, ns */
+    uint64_t packet; /* its number, as dn_submit told it */
+    uint64_t flow;
+    uint64_t start;  /* when its transmission began, ns */
+    uint64_t reserved;
+};
+
+/* The state of a flow: what waits in its queue, and the counts of its packets so far. */
+struct dn_flow {
+    uint64_t flow;
+    uint64_t queued;    /* packets in the queue */
+    uint64_t bytes;     /* bytes in the queue */
+    uint64_t lost;      /* packets lost by the loss rate */
+    uint64_t full;      /* packets that found the queue full */
+    uint64_t started;   /* packets whose transmission has begun */
+    uint64_t discarded; /* packets that a delete took out of the queue */
+    uint32_t src;       /* the flow's addresses, ports and protocol, as the mask keeps them */
+    uint32_t dst;
+    uint16_t sport;
+    uint16_t dport;
+    uint16_t number; /* of the pipe or the queue to which the packets were sent */
+    uint16_t pipe;   /* the number of the pipe that carries them */
+    uint8_t kind;    /* an enum dn_kind */
+    uint8_t proto;
+    uint16_t reserved;
+    uint32_t reserved2;
+};
+
+/* The version of the library, as DN_VERSION. */
+uint32_t dn_version(void);
+
+/* Opens a handle under an enum dn_rule: it has no pipe, no queue, no packet, and its clock stands at 0. What the handle held
+   is let go. DN_BAD_RULE: the handle is as it was. DN_MEMORY: the handle is closed. */
+uint32_t dn_open(struct dn_handle *handle, uint32_t rule);
+
+/* Closes a handle, and lets go what it held. DN_CLOSED: it was closed. */
+uint32_t dn_close(struct dn_handle *handle);
+
+/* Obeys a line of a configuration, as `pipe 1 config bw 8Mbit/s delay 20`: `length` bytes of UTF-8, which need no 0 behind
+   them. A line without words is answered DN_OK and changes nothing. Only DN_LINE writes *fault. */
+uint32_t dn_configure(struct dn_handle *handle, const uint8_t *line, size_t length, struct dn_fault *fault);
+
+/* A packet arrives. DN_OK writes *fate. */
+uint32_t dn_submit(struct dn_handle *handle, const struct dn_packet *packet, struct dn_fate *fate);
+
+/* The first `count` packets arrive one after the other, as by dn_submit, until one isn't answered DN_OK, whose status is the
+   answer. *done is always written: how many were answered DN_OK, whose fates stand in the first places of `fates`; the others
+   are as they were. With `room` below `count` the answer is DN_ROOM, and no packet arrives. */
+uint32_t dn_submit_many(struct dn_handle *handle, const struct dn_packet *packets, size_t count, struct dn_fate *fates, size_t room,
+                        uint64_t *done);
+
+/* Moves the clock. DN_OK writes *at: where the clock stands, ns. */
+uint32_t dn_advance(struct dn_handle *handle, uint64_t moment, uint64_t *at);
+
+/* Moves the clock, and takes the packets that are due, in the order in which they are due. DN_OK: *count of them stand in the
+   first places of `list`, which has `room` places. DN_ROOM: nothing happened, and with *count places the call is answered; that
+   can be more than comes, since it counts all packets that wait or are under way, or all flows where those are more. */
+uint32_t dn_collect(struct dn_handle *handle, uint64_t moment, struct dn_delivery *list, size_t room, uint64_t *count);
+
+/* Tells the state of all flows, in the order of their numbers. DN_OK, DN_ROOM: as for dn_collect. */
+uint32_t dn_show(struct dn_handle *handle, struct dn_flow *list, size_t room, uint64_t *count);
+
+/* When to collect: DN_OK writes *moment, the first moment at which a packet is due or its transmission begins, if no other call
+   comes, or DN_NEVER. Each dn_collect before it gives nothing. It changes nothing, and counts as no call. */
+uint32_t dn_wake(struct dn_handle *handle, uint64_t *moment);
+
+#ifdef __cplusplus
+}
+#endif
+
+#endif
