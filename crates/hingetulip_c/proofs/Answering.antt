@@ -1,0 +1,26 @@
+-- A call on the shaper that a handle holds is a call on the handle.
+use Rattle.std.proofs.Common.{◌≡◌, ◌≤◌, ℕ, List, [], ◌∷◌, sym, subst, length, take, arith}
+use Rattle.dn_types.specs.Replies.{reply}
+use Rattle.dn_types.specs.declared.call.Call.{Call}
+use Rattle.dn_types.specs.declared.reply.Reply.{Reply}
+use Rattle.dn_types.specs.declared.rule.Rule.{Rule}
+use Rattle.dn_shaper.specs.Shaper.{StandsAfter, items_in}
+use Rattle.dn_shaper.specs.declared.state.State.{State}
+use Rattle.hingetulip_c.specs.Handles.{HeldAfter, AnswersHeld}
+
+pub answers_held : (s s' : State) (xs ys : List State) (call : Call) (r : Reply) → xs ≡ s ∷ [] → ys ≡ s' ∷ []
+    → ((rule : Rule) (calls : List Call) → StandsAfter rule s calls → (r ≡ reply rule calls call) × StandsAfter rule s' (call ∷ calls)) → AnswersHeld call xs ys r
+answers_held s s' xs ys call r e f ok rule calls stands =
+    let a = ok rule calls (subst (λ (l : List State). HeldAfter rule l calls) e stands) in (a.0, subst (λ (l : List State). HeldAfter rule l (call ∷ calls)) (sym f) a.1)
+
+at_most : (a b c : ℕ) → a ≤ b → b ≤ c → a ≤ c
+at_most a b c p q = omega arith
+
+-- What was written of the reply is what the definition's has, where the list has the room that was asked for.
+pub listed : {X : Type 0} (of : Reply → List X) (rule : Rule) (calls : List Call) (call call' : Call) (xs xs' ys : List State) (r : Reply) (room had : ℕ) (new : List X)
+    → xs' ≡ xs → call' ≡ call → AnswersHeld call' xs' ys r → ((c : Call) → items_in (reply rule calls c) ≤ room) → room ≤ had
+    → (items_in r ≤ had → take (length (of r)) new ≡ of r) → HeldAfter rule xs calls → take (length (of (reply rule calls call))) new ≡ of (reply rule calls call)
+listed of rule calls call call' xs xs' ys r room had new same named ok few fits wrote stands =
+    let a = ok rule calls (subst (λ (l : List State). HeldAfter rule l calls) (sym same) stands) in
+    let e : r ≡ reply rule calls call = subst (λ (c : Call). r ≡ reply rule calls c) named a.0 in
+    subst (λ (x : Reply). take (length (of x)) new ≡ of x) e (wrote (subst (λ (x : Reply). items_in x ≤ had) (sym e) (at_most (items_in (reply rule calls call)) room had (few call) fits)))

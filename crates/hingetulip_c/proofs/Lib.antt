@@ -1,0 +1,4 @@
+pub mod Answering
+pub mod Handles
+pub mod Many
+pub mod RawBoxes

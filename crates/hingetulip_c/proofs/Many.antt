@@ -1,0 +1,56 @@
+-- Each turn of the loop over packets tells the fate of one packet more.
+use Rattle.std.proofs.Common.{◌≡◌, ◌≢◌, ◌∙◌, ◌<◌, ◌+◌, ⊎_elim, ℕ, true, false, List, [], ◌∷◌, ◌++◌, get_or, map, reverse, take, drop, set, length, ap, sym, subst, arith}
+use Rattle.std.proofs.lemmas.Bool.{cases_eq}
+use Rattle.std.proofs.lemmas.Bool.Decides.{nat_tests}
+use Rattle.std.proofs.lemmas.List.{reverse-append, take_more, map-append, get_or_default, get_or-set_same, get_or-set_other, get_or-drop, drop-drop, drop-set-lt}
+use Rattle.dn_types.specs.Replies.{reply}
+use Rattle.dn_types.specs.declared.call.Call.{Call}
+use Rattle.dn_types.specs.declared.rule.Rule.{Rule}
+use Rattle.hingetulip_c.specs.Many.{AreTold, reply_at, sent}
+use Rattle.hingetulip_c.specs.Statuses.{answered}
+use Rattle.hingetulip_c.specs.Submits.{submit_of, fate_status, fate_of}
+use Rattle.hingetulip_c.specs.declared.records.c_fate.CFate.{CFate}
+use Rattle.hingetulip_c.specs.declared.records.c_packet.CPacket.{CPacket}
+
+pub sent-more : (packets : List CPacket) (i : ℕ) (p : CPacket) (calls : List Call) → i < length packets
+    → sent (take (i + 1) packets) calls ≡ submit_of (get_or packets i p) ∷ sent (take i packets) calls
+sent-more packets i p calls within =
+    ap (λ (ps : List CPacket). sent ps calls) (take_more packets i p within)
+    ∙ ap (λ (cs : List Call). reverse cs ++ calls) (map-append submit_of (take i packets) (get_or packets i p ∷ []))
+    ∙ ap (λ (cs : List Call). cs ++ calls) (reverse-append (map submit_of (take i packets)) (submit_of (get_or packets i p) ∷ []))
+
+-- What isn't written is as it was.
+same-at : (old now : List CFate) (i : ℕ) (f : CFate) → drop i now ≡ drop i old → get_or now i f ≡ get_or old i f
+same-at old now i f same =
+    let none : i + 0 ≡ i = omega arith in
+    ap (λ (n : ℕ). get_or now n f) (sym none) ∙ sym (get_or-drop i now 0 f) ∙ ap (λ (fs : List CFate). get_or fs 0 f) same ∙ get_or-drop i old 0 f ∙ ap (λ (n : ℕ). get_or old n f) none
+
+pub others-more : (old now : List CFate) (i : ℕ) (fate : CFate) → drop i now ≡ drop i old → drop (i + 1) (set now i fate) ≡ drop (i + 1) old
+others-more old now i fate same = drop-set-lt (i + 1) now i fate (omega arith) ∙ sym (drop-drop 1 i now) ∙ ap (λ (fs : List CFate). drop 1 fs) same ∙ drop-drop 1 i old
+
+module _ (rule : Rule) (calls : List Call) (packets : List CPacket) (old now : List CFate) (i : ℕ) (fate : CFate) where
+  abbrev Told : List CFate → ℕ → CPacket → CFate → Type 0
+  Told fates place p f = (fate_status (reply_at rule calls packets place p) ≡ 0) × (get_or fates place f ≡ fate_of (get_or old place f) (reply_at rule calls packets place p))
+
+  -- The packet of this turn, whatever stands for those beyond the end.
+  told-now : i < length packets → i < length now → drop i now ≡ drop i old → (status : ℕ) (p' : CPacket) (f' : CFate) → status ≡ 0 → status ≡ fate_status (reply_at rule calls packets i p')
+      → fate ≡ fate_of (get_or now i f') (reply_at rule calls packets i p') → (p : CPacket) (f : CFate) → Told (set now i fate) i p f
+  told-now within room same status p' f' zero status_is fate_is p f =
+      let packet : get_or packets i p' ≡ get_or packets i p = get_or_default packets i p' p within in
+      let before : get_or now i f' ≡ get_or old i f = get_or_default now i f' f room ∙ same-at old now i f same in
+      let r : reply_at rule calls packets i p' ≡ reply_at rule calls packets i p = λ k. reply rule (sent (take i packets) calls) (submit_of (packet k)) in
+      (ap fate_status (sym r) ∙ sym status_is ∙ zero, get_or-set_same now i fate f room ∙ fate_is ∙ (λ k. fate_of (before k) (r k)))
+
+  pub told-more : i < length packets → i < length now → drop i now ≡ drop i old → (status : ℕ) (p' : CPacket) (f' : CFate) → status ≡ 0 → status ≡ fate_status (reply_at rule calls packets i p')
+      → fate ≡ fate_of (get_or now i f') (reply_at rule calls packets i p') → AreTold i rule calls packets old now → AreTold (i + 1) rule calls packets old (set now i fate)
+  told-more within room same status p' f' zero status_is fate_is so_far place p f less = ⊎_elim
+      (λ (here : place ≡ i). subst (λ (n : ℕ). Told (set now i fate) n p f) (sym here) (told-now within room same status p' f' zero status_is fate_is p f))
+      (λ (apart : place ≡ i → ⊥). let before : place < i = omega arith in let is = so_far place p f before in (is.0, get_or-set_other now i place fate f apart ∙ is.1))
+      (cases_eq place i)
+
+-- A status that is neither of a call that was answered.
+pub unanswered : (status : ℕ) → status ≢ 0 → status ≢ 1 → answered status ≡ false
+unanswered status some more = grind (arith, nat_tests)
+
+pub is_answered : (status : ℕ) → status ≡ 0 → answered status ≡ true
+is_answered status zero = ap answered zero

@@ -1,0 +1,10 @@
+-- The list has the reply's items.
+use Rattle.std.proofs.Common.{ap, length}
+use Rattle.dn_types.specs.declared.call.Call.TheVariants.{Collect}
+use Rattle.hingetulip_c.specs.Lists.{deliveries_of}
+use Rattle.hingetulip_c.proofs.Answering.{listed}
+use Rattle.hingetulip_c.proofs.exports.collect.dn_collect.Goals as goal
+
+pub returns-in-Ok-clause-list : goal.returns-in-Ok-clause-list
+returns-in-Ok-clause-list c is rule calls stands =
+    listed deliveries_of rule calls (Collect c.args.moment) (Collect c.in-Some.moment) c.args.handle.now.held c.room.new.self.held c.apply.new.self.held c.in-Ok.reply c.in-Some-room.room (length c.args.list.now) c.put_deliveries.new.list c.in-Some-room.ensures.same (ap Collect c.in-Some.ensures.value) c.in-Ok.ensures.ok (c.in-Some-room.ensures.fits rule calls stands) c.if-list-room.false c.put_deliveries.ensures.list stands

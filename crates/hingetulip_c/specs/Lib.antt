@@ -1,0 +1,6 @@
+pub mod Faults
+pub mod Handles
+pub mod Lists
+pub mod Many
+pub mod Statuses
+pub mod Submits

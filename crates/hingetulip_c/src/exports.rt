@@ -1,0 +1,10 @@
+//! The calls of the header. Where a call could answer two statuses, it tests its numbers before the handle.
+
+mod advance;
+mod collect;
+mod configure;
+mod lifetime;
+mod show;
+mod submit;
+mod submit_many;
+mod wake;

@@ -1,0 +1,34 @@
+ghost use Rattle.std.specs.Prelude.{◌≡◌, ◌^◌, ◌<◌, ◌≤◌, ◌⊎◌, List, [], ◌∷◌, true, false};
+ghost use Rattle.dn_types.specs.Replies.{reply};
+ghost use Rattle.dn_types.specs.declared.call.Call.{Call as CallValue};
+ghost use Rattle.dn_types.specs.declared.call.Call.TheVariants.{Advance};
+ghost use Rattle.dn_types.specs.declared.rule.Rule.{Rule as RuleValue};
+ghost use Rattle.hingetulip_c.specs.Handles.{HeldAfter, StillHeld};
+ghost use Rattle.hingetulip_c.specs.Statuses.{answered, clock_status, clock_of};
+
+use crate::handle::Handle;
+use crate::status::BAD_MOMENT;
+use crate::written::put_clock;
+use dn_types::{Call, Moment};
+use std::alloc::Global;
+
+/// Moves the clock, and says where it stands.
+#[unsafe(no_mangle)]
+pub extern "C" fn dn_advance(alloc: Global, handle: &mut Handle, moment: u64, at: &mut u64) -> u32
+    ensures closed { handle.old.held ≡ [] → (answered result ≡ false) × (handle.new.held ≡ []) }
+    ensures refused { answered result ≡ false → StillHeld handle.old.held handle.new.held }
+    ensures no_clock { answered result ≡ false → at.new ≡ at.old }
+    ensures why { answered result ≡ false → ((result ≡ 9) × (2 ^ 62 < moment)) ⊎ ((result ≡ 5) × (handle.old.held ≡ [])) ⊎ (result ≡ 6) }
+    ensures in_range { answered result ≡ true → moment ≤ 2 ^ 62 }
+    ensures status { answered result ≡ true → (rule : RuleValue) (calls : List CallValue) → HeldAfter rule handle.old.held calls → result ≡ clock_status (reply rule calls (Advance moment)) }
+    ensures clock { answered result ≡ true → (rule : RuleValue) (calls : List CallValue) → HeldAfter rule handle.old.held calls → at.new ≡ clock_of at.old (reply rule calls (Advance moment)) }
+    ensures stands { answered result ≡ true → (rule : RuleValue) (calls : List CallValue) → HeldAfter rule handle.old.held calls → HeldAfter rule handle.new.held (Advance moment ∷ calls) }
+{
+    let Some(moment) = Moment::new(moment) else {
+        return BAD_MOMENT;
+    };
+    match handle.apply(alloc, &Call::Advance(moment)) {
+        Ok(reply) => put_clock(&reply, at),
+        Err(status) => status,
+    }
+}

@@ -1,0 +1,51 @@
+ghost use Rattle.std.specs.Prelude.{◌≡◌, ◌^◌, ◌<◌, ◌≤◌, ◌⊎◌, List, [], ◌∷◌, true, false, length, take};
+ghost use Rattle.dn_types.specs.Replies.{reply};
+ghost use Rattle.dn_types.specs.declared.call.Call.{Call as CallValue};
+ghost use Rattle.dn_types.specs.declared.call.Call.TheVariants.{Collect};
+ghost use Rattle.dn_types.specs.declared.rule.Rule.{Rule as RuleValue};
+ghost use Rattle.hingetulip_c.specs.Handles.{HeldAfter, StillHeld};
+ghost use Rattle.hingetulip_c.specs.Lists.{deliveries_of, room_after};
+ghost use Rattle.hingetulip_c.specs.Statuses.{answered, collect_status, collect_count};
+
+use crate::copy::put_deliveries;
+use crate::handle::Handle;
+use crate::records::CDelivery;
+use crate::status::{BAD_MOMENT, CLOSED, ROOM};
+use dn_types::{Call, Moment};
+use std::alloc::Global;
+
+/// Moves the clock, and takes the packets that are due.
+#[unsafe(no_mangle)]
+pub extern "C" fn dn_collect(
+    alloc: Global,
+    handle: &mut Handle,
+    moment: u64,
+    list: &mut [CDelivery],
+    count: &mut u64,
+) -> u32
+    ensures closed { handle.old.held ≡ [] → (answered result ≡ false) × (handle.new.held ≡ []) }
+    ensures refused { answered result ≡ false → StillHeld handle.old.held handle.new.held }
+    ensures no_list { answered result ≡ false → list.new ≡ list.old }
+    ensures why { answered result ≡ false → ((result ≡ 9) × (2 ^ 62 < moment)) ⊎ ((result ≡ 5) × (handle.old.held ≡ [])) ⊎ (result ≡ 6) ⊎ (result ≡ 7) }
+    ensures in_range { answered result ≡ true → moment ≤ 2 ^ 62 }
+    ensures room { result ≡ 7 → (rule : RuleValue) (calls : List CallValue) → HeldAfter rule handle.old.held calls → (count.new ≡ room_after rule calls) × (length list.old < room_after rule calls) }
+    ensures status { answered result ≡ true → (rule : RuleValue) (calls : List CallValue) → HeldAfter rule handle.old.held calls → result ≡ collect_status (reply rule calls (Collect moment)) }
+    ensures count { answered result ≡ true → (rule : RuleValue) (calls : List CallValue) → HeldAfter rule handle.old.held calls → count.new ≡ collect_count count.old (reply rule calls (Collect moment)) }
+    ensures list { answered result ≡ true → (rule : RuleValue) (calls : List CallValue) → HeldAfter rule handle.old.held calls → take (length (deliveries_of (reply rule calls (Collect moment)))) list.new ≡ deliveries_of (reply rule calls (Collect moment)) }
+    ensures stands { answered result ≡ true → (rule : RuleValue) (calls : List CallValue) → HeldAfter rule handle.old.held calls → HeldAfter rule handle.new.held (Collect moment ∷ calls) }
+{
+    let Some(moment) = Moment::new(moment) else {
+        return BAD_MOMENT;
+    };
+    let Some(room) = handle.room(alloc) else {
+        return CLOSED;
+    };
+    if list.len() < room {
+        *count = room as u64;
+        return ROOM;
+    }
+    match handle.apply(alloc, &Call::Collect(moment)) {
+        Ok(reply) => put_deliveries(&reply, list, count),
+        Err(status) => status,
+    }
+}

@@ -1,0 +1,57 @@
+ghost use Rattle.std.specs.Prelude.{◌≡◌, ◌<◌, ◌≤◌, ◌⊎◌, cond, nat_eq, []};
+ghost use Rattle.dn_types.specs.declared.rule.Rule.TheVariants.{Ordered, Free};
+ghost use Rattle.hingetulip_c.specs.Handles.{HeldAfter};
+
+use crate::handle::Handle;
+use crate::status::{BAD_RULE, CLOSED, MEMORY, OK};
+use dn_shaper::Shaper;
+use dn_types::Rule;
+use std::alloc::Global;
+
+const VERSION: u32 = 1_000_000;
+
+/// The version of the library: major * 1,000,000 + minor * 1,000 + patch.
+#[unsafe(no_mangle)]
+pub extern "C" fn dn_version() -> u32
+    ensures { result ≡ 1000000 }
+{
+    VERSION
+}
+
+/// Opens a handle, without a pipe, a queue or a packet. What it held is let go.
+#[unsafe(no_mangle)]
+pub extern "C" fn dn_open(alloc: Global, handle: &mut Handle, rule: u32) -> u32
+    ensures opened { result ≡ 0 → HeldAfter (cond (nat_eq rule 0) Ordered Free) handle.new.held [] }
+    ensures memory { result ≡ 6 → handle.new.held ≡ [] }
+    ensures bad_rule { result ≡ 10 → (1 < rule) × (handle.new.held ≡ handle.old.held) }
+    ensures statuses { (result ≡ 0) ⊎ (result ≡ 6) ⊎ (result ≡ 10) }
+    ensures known { result ≡ 0 → rule ≤ 1 }
+{
+    let rule = match rule {
+        0 => Rule::Ordered,
+        1 => Rule::Free,
+        _ => return BAD_RULE,
+    };
+    let _old = handle.take(alloc);
+    match Box::new(alloc, Shaper::with_rule(alloc, rule)) {
+        Ok(shaper) => {
+            let _none = handle.put(alloc, shaper);
+            OK
+        }
+        Err(_) => MEMORY,
+    }
+}
+
+/// Closes a handle, and lets go what it held.
+#[unsafe(no_mangle)]
+pub extern "C" fn dn_close(alloc: Global, handle: &mut Handle) -> u32
+    ensures closed { handle.new.held ≡ [] }
+    ensures again { result ≡ 5 → handle.old.held ≡ [] }
+    ensures status { handle.old.held ≡ [] → result ≡ 5 }
+    ensures statuses { (result ≡ 0) ⊎ (result ≡ 5) }
+{
+    match handle.take(alloc) {
+        Some(_shaper) => OK,
+        None => CLOSED,
+    }
+}

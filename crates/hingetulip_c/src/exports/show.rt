@@ -1,0 +1,46 @@
+ghost use Rattle.std.specs.Prelude.{◌≡◌, ◌<◌, ◌⊎◌, List, [], ◌∷◌, true, false, length, take};
+ghost use Rattle.dn_types.specs.Replies.{reply};
+ghost use Rattle.dn_types.specs.declared.call.Call.{Call as CallValue};
+ghost use Rattle.dn_types.specs.declared.call.Call.TheVariants.{Show as ShowCall};
+ghost use Rattle.dn_types.specs.declared.rule.Rule.{Rule as RuleValue};
+ghost use Rattle.hingetulip_c.specs.Handles.{HeldAfter, StillHeld};
+ghost use Rattle.hingetulip_c.specs.Lists.{flows_of, room_after};
+ghost use Rattle.hingetulip_c.specs.Statuses.{answered, show_status, show_count};
+
+use crate::copy::put_flows;
+use crate::handle::Handle;
+use crate::records::CFlow;
+use crate::status::{CLOSED, ROOM};
+use dn_types::Call;
+use std::alloc::Global;
+
+/// Tells the state of all flows.
+#[unsafe(no_mangle)]
+pub extern "C" fn dn_show(
+    alloc: Global,
+    handle: &mut Handle,
+    list: &mut [CFlow],
+    count: &mut u64,
+) -> u32
+    ensures closed { handle.old.held ≡ [] → (answered result ≡ false) × (handle.new.held ≡ []) }
+    ensures refused { answered result ≡ false → StillHeld handle.old.held handle.new.held }
+    ensures no_list { answered result ≡ false → list.new ≡ list.old }
+    ensures why { answered result ≡ false → ((result ≡ 5) × (handle.old.held ≡ [])) ⊎ (result ≡ 6) ⊎ (result ≡ 7) }
+    ensures room { result ≡ 7 → (rule : RuleValue) (calls : List CallValue) → HeldAfter rule handle.old.held calls → (count.new ≡ room_after rule calls) × (length list.old < room_after rule calls) }
+    ensures status { answered result ≡ true → (rule : RuleValue) (calls : List CallValue) → HeldAfter rule handle.old.held calls → result ≡ show_status (reply rule calls ShowCall) }
+    ensures count { answered result ≡ true → (rule : RuleValue) (calls : List CallValue) → HeldAfter rule handle.old.held calls → count.new ≡ show_count count.old (reply rule calls ShowCall) }
+    ensures list { answered result ≡ true → (rule : RuleValue) (calls : List CallValue) → HeldAfter rule handle.old.held calls → take (length (flows_of (reply rule calls ShowCall))) list.new ≡ flows_of (reply rule calls ShowCall) }
+    ensures stands { answered result ≡ true → (rule : RuleValue) (calls : List CallValue) → HeldAfter rule handle.old.held calls → HeldAfter rule handle.new.held (ShowCall ∷ calls) }
+{
+    let Some(room) = handle.room(alloc) else {
+        return CLOSED;
+    };
+    if list.len() < room {
+        *count = room as u64;
+        return ROOM;
+    }
+    match handle.apply(alloc, &Call::Show) {
+        Ok(reply) => put_flows(&reply, list, count),
+        Err(status) => status,
+    }
+}

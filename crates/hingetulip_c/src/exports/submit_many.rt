@@ -1,0 +1,49 @@
+ghost use Rattle.std.specs.Prelude.{◌≡◌, ◌≢◌, ◌<◌, ◌⊎◌, ◌↔◌, List, [], ◌∷◌, length, get_or, take, drop};
+ghost use Rattle.dn_types.specs.declared.call.Call.{Call as CallValue};
+ghost use Rattle.dn_types.specs.declared.rule.Rule.{Rule as RuleValue};
+ghost use Rattle.hingetulip_c.specs.Handles.{HeldAfter};
+ghost use Rattle.hingetulip_c.specs.Many.{AreTold, sent};
+ghost use Rattle.hingetulip_c.specs.Submits.{Faulty, submit_of};
+ghost use Rattle.hingetulip_c.specs.declared.records.c_packet.CPacket.{CPacket as PacketValue};
+
+use crate::exports::submit::dn_submit;
+use crate::handle::Handle;
+use crate::records::{CFate, CPacket};
+use crate::status::{OK, ROOM};
+use std::alloc::Global;
+
+/// Packets arrive one after the other, until one isn't answered.
+#[unsafe(no_mangle)]
+pub extern "C" fn dn_submit_many(
+    alloc: Global,
+    handle: &mut Handle,
+    packets: &[CPacket],
+    fates: &mut [CFate],
+    done: &mut u64,
+) -> u32
+    ensures room { (result ≡ 7) ↔ (length fates.old < length packets.now) }
+    ensures none { result ≡ 7 → done.new ≡ 0 }
+    ensures all { result ≡ 0 → done.new ≡ length packets.now }
+    ensures stops { result ≢ 0 → result ≢ 7 → done.new < length packets.now }
+    ensures why { result ≢ 0 → result ≢ 1 → result ≢ 7 → (p : PacketValue) → Faulty (get_or packets.now done.new p) result ⊎ ((result ≡ 5) × (handle.new.held ≡ [])) ⊎ (result ≡ 6) }
+    ensures fates { (rule : RuleValue) (calls : List CallValue) → HeldAfter rule handle.old.held calls → AreTold done.new rule calls packets.now fates.old fates.new }
+    ensures others { drop done.new fates.new ≡ drop done.new fates.old }
+    ensures stands { result ≢ 1 → (rule : RuleValue) (calls : List CallValue) → HeldAfter rule handle.old.held calls → HeldAfter rule handle.new.held (sent (take done.new packets.now) calls) }
+    ensures exhausted { result ≡ 1 → (p : PacketValue) (rule : RuleValue) (calls : List CallValue) → HeldAfter rule handle.old.held calls → HeldAfter rule handle.new.held (submit_of (get_or packets.now done.new p) ∷ sent (take done.new packets.now) calls) }
+{
+    if fates.len() < packets.len() {
+        *done = 0;
+        return ROOM;
+    }
+    for i in 0..packets.len() {
+        let mut fate = fates[i];
+        let status = dn_submit(alloc, handle, &packets[i], &mut fate);
+        if status != OK {
+            *done = i as u64;
+            return status;
+        }
+        fates[i] = fate;
+    }
+    *done = packets.len() as u64;
+    OK
+}

@@ -1,0 +1,42 @@
+ghost use Rattle.std.specs.Prelude.{◌≡◌, ◌<◌, ◌⊎◌, ℕ, max, List, [], IfSome, unwrap_or};
+ghost use Rattle.dn_types.specs.Calls.{trace_of};
+ghost use Rattle.dn_types.specs.Clock.{counted, effective_moment};
+ghost use Rattle.dn_types.specs.Replies.{reply};
+ghost use Rattle.dn_types.specs.declared.call.Call.{Call as CallValue};
+ghost use Rattle.dn_types.specs.declared.call.Call.TheVariants.{Collect};
+ghost use Rattle.dn_types.specs.declared.rule.Rule.{Rule as RuleValue};
+ghost use Rattle.dn_shaper.specs.Shaper.{items_in};
+ghost use Rattle.dn_shaper.specs.Waking.{wake_of};
+ghost use Rattle.hingetulip_c.specs.Handles.{HeldAfter};
+
+use crate::handle::Handle;
+use crate::status::{CLOSED, OK};
+use std::alloc::Global;
+
+/// The moment, and 2^64 - 1 for none.
+fn or_never(first: Option<u64>) -> u64
+    ensures value { result ≡ unwrap_or first 18446744073709551615 }
+    ensures before { (at : ℕ) → at < result → IfSome first (λ moment. at < moment) }
+{
+    match first {
+        Some(moment) => moment,
+        None => u64::MAX,
+    }
+}
+
+/// The first moment at which a packet is due or starts, if no other call comes, and 2^64 - 1 where none waits or is under way.
+#[unsafe(no_mangle)]
+pub extern "C" fn dn_wake(alloc: Global, handle: &mut Handle, moment: &mut u64) -> u32
+    ensures closed { handle.old.held ≡ [] → result ≡ 5 }
+    ensures same { handle.new.held ≡ handle.old.held }
+    ensures statuses { (result ≡ 0) ⊎ ((result ≡ 5) × (handle.old.held ≡ []) × (moment.new ≡ moment.old)) }
+    ensures value { result ≡ 0 → (rule : RuleValue) (calls : List CallValue) → HeldAfter rule handle.old.held calls → moment.new ≡ unwrap_or (wake_of rule (trace_of (counted calls))) 18446744073709551615 }
+    ensures quiet { result ≡ 0 → (rule : RuleValue) (calls : List CallValue) → HeldAfter rule handle.old.held calls → (at : ℕ) → max (effective_moment (counted calls)) at < moment.new → items_in (reply rule calls (Collect at)) ≡ 0 }
+{
+    let Some(shaper) = handle.take(alloc) else {
+        return CLOSED;
+    };
+    *moment = or_never(shaper.wake());
+    let _none = handle.put(alloc, shaper);
+    OK
+}

@@ -1,0 +1,125 @@
+ghost use Rattle.std.specs.Prelude.{◌≡◌, ◌≤◌, List, [], ◌∷◌, Err, IfOk, OnErr, IfErr, IfSome, IfNone, ◌⊎◌};
+ghost use Rattle.std.specs.Option.{MatchOption};
+ghost use Rattle.std_alloc.specs.Box.Ownership.{box_owns};
+ghost use Rattle.libc.specs.Heap.{chunk};
+ghost use Rattle.dn_types.specs.Clock.{counted};
+ghost use Rattle.dn_types.specs.declared.call.Call.{Call as CallValue};
+ghost use Rattle.dn_types.specs.declared.rule.Rule.{Rule as RuleValue};
+ghost use Rattle.dn_shaper.specs.Shaper.{CanNeedMemory, items_in};
+ghost use Rattle.dn_types.specs.Replies.{reply};
+ghost use Rattle.dn_shaper.specs.contracts.shaper.Shaper.{the_row};
+ghost use Rattle.dn_shaper.specs.declared.state.State.{State};
+ghost use Rattle.hingetulip_c.specs.Handles.{owned_by, HeldAfter, StillHeld, AnswersHeld};
+ghost use Rattle.hingetulip_c.specs.Lists.{room_after};
+ghost use base.Stored.{coded_list};
+
+use crate::raw_box::RawBox;
+use crate::status::{CLOSED, MEMORY};
+use dn_shaper::Shaper;
+use dn_types::{Call, Reply};
+use std::alloc::Global;
+use std::marker::Model;
+
+/// A shaper that C holds, or nothing: `dn_handle`.
+#[repr(C)]
+pub struct Handle {
+    at: *mut u8,
+    there: bool,
+    pub ghost held: { List State } by { coded_list the_row.coded },
+}
+
+impl Model for Handle {
+    ghost also_owns = { λ h. owned_by (box_owns chunk the_row h.at) h.there h.held };
+}
+
+impl Handle {
+    /// A handle that holds what the pointer owns.
+    fn of(shaper: RawBox<Shaper, Global>) -> Handle
+        ensures { result.held ≡ shaper.held ∷ [] }
+    {
+        let RawBox { pointer, alloc: _ } = shaper;
+        Handle {
+            at: pointer as *mut u8,
+            there: true,
+        }
+    }
+
+    /// A handle that holds nothing.
+    fn closed() -> Handle
+        ensures { result.held ≡ [] }
+    {
+        Handle {
+            at: std::ptr::null_mut(),
+            there: false,
+        }
+    }
+
+    /// What the handle holds.
+    fn into_raw_box(self, alloc: Global) -> Option<RawBox<Shaper, Global>>
+        ensures { MatchOption result (self.held ≡ []) (λ b. self.held ≡ b.held ∷ []) }
+    {
+        let Handle { at, there } = self;
+        if there {
+            Some(RawBox {
+                pointer: at as *mut Shaper,
+                alloc,
+            })
+        } else {
+            None
+        }
+    }
+
+    /// Takes the shaper, and leaves the handle closed.
+    pub(crate) fn take(&mut self, alloc: Global) -> Option<Box<Shaper>>
+        ensures taken { MatchOption result (self.old.held ≡ []) (λ shaper. self.old.held ≡ shaper.value ∷ []) }
+        ensures closed { self.new.held ≡ [] }
+    {
+        let old = std::mem::replace(self, Handle::closed());
+        match old.into_raw_box(alloc) {
+            Some(shaper) => Some(shaper.whole()),
+            None => None,
+        }
+    }
+
+    /// Puts a shaper into the handle, and gives back what it held.
+    pub(crate) fn put(&mut self, alloc: Global, shaper: Box<Shaper>) -> Option<Box<Shaper>>
+        ensures { self.new.held ≡ shaper.value ∷ [] }
+    {
+        let old = std::mem::replace(self, Handle::of(RawBox::apart(shaper)));
+        match old.into_raw_box(alloc) {
+            Some(shaper) => Some(shaper.whole()),
+            None => None,
+        }
+    }
+
+    /// Answers a call. Err is CLOSED or MEMORY, and the shaper stands as it stood.
+    pub(crate) fn apply(&mut self, alloc: Global, call: &Call) -> Result<Reply, u32>
+        ensures ok { IfOk result (λ r. AnswersHeld call.now self.old.held self.new.held r) }
+        ensures err { OnErr result (StillHeld self.old.held self.new.held) }
+        ensures closed { self.old.held ≡ [] → (result ≡ Err 5) × (self.new.held ≡ []) }
+        ensures why { IfErr result (λ status. ((status ≡ 5) × (self.old.held ≡ [])) ⊎ ((status ≡ 6) × ((rule : RuleValue) (calls : List CallValue) → HeldAfter rule self.old.held calls → CanNeedMemory (counted calls) call.now))) }
+    {
+        let Some(mut shaper) = self.take(alloc) else {
+            return Err(CLOSED);
+        };
+        let reply = shaper.apply(call);
+        let _none = self.put(alloc, shaper);
+        match reply {
+            Ok(reply) => Ok(reply),
+            Err(_) => Err(MEMORY),
+        }
+    }
+
+    /// How many items the list of the next reply can have, and None where the handle is closed.
+    pub(crate) fn room(&mut self, alloc: Global) -> Option<usize>
+        ensures same { self.new.held ≡ self.old.held }
+        ensures room { IfSome result (λ room. (rule : RuleValue) (calls : List CallValue) → HeldAfter rule self.old.held calls → room ≡ room_after rule calls) }
+        ensures fits { IfSome result (λ room. (rule : RuleValue) (calls : List CallValue) → HeldAfter rule self.old.held calls → (c : CallValue) → items_in (reply rule calls c) ≤ room) }
+        ensures closed { IfNone result (self.old.held ≡ []) }
+    {
+        let shaper = self.take(alloc)?;
+        let room = shaper.reply_room();
+        let _none = self.put(alloc, shaper);
+        Some(room)
+    }
+}

@@ -1,0 +1,13 @@
+//! What C hands in and is handed, field by field as in the header.
+
+mod c_delivery;
+mod c_fate;
+mod c_fault;
+mod c_flow;
+mod c_packet;
+
+pub use c_delivery::CDelivery;
+pub use c_fate::CFate;
+pub use c_fault::CFault;
+pub use c_flow::CFlow;
+pub use c_packet::CPacket;
