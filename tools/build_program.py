@@ -1,12 +1,13 @@
-"""Proves and builds the program, crates that don't need one another side by side, and puts it into built/.
+"""Proves and builds the program or the C library, crates that don't need one another side by side, and puts it into built/.
 
-    python3 tools/build_program.py
+    python3 tools/build_program.py [--lib]
 
 Two commands of rt never work in one crate's folder at once, and one that works on a crate holds the folders of those below it.
 So each crate is built in a folder of its own, outside the repository, which gets the built libraries of the crates below.
 What was proved is given to the repository's crates/*/out in the end, so that the next build begins with it. The program
-stands in built/SUM/dummynet, where SUM is the checksum of its sources (tools/program_sources). A failed build leaves what was
-built before as it was, answers status 70, and names the log of the crate that failed.
+stands in built/SUM/dummynet, and the library in built/SUM/libhingetulip.a and libhingetulip.so.1, where SUM is the checksum of the
+sources (tools/program_sources). A failed build leaves what was built before as it was, answers status 70, and names the log of the
+crate that failed.
 """
 
 from __future__ import annotations
@@ -20,41 +21,61 @@ import time
 from concurrent.futures import FIRST_COMPLETED, Future, ThreadPoolExecutor, wait
 from pathlib import Path
 from tempfile import mkdtemp
+from typing import Callable, NamedTuple
+
+from link_library import STATIC, link
 
 TOP = Path(__file__).resolve().parent.parent
 BUILT = TOP / "built"
 PROGRAM = "dummynet"
+LIBRARY = "hingetulip_c"
 FAILED = 70
+USAGE = 2
 LANES = max(1, min(4, len(os.sched_getaffinity(0))))
 # About the minutes that a crate's first check takes on four cores, by which the time that is left is told.
 MINUTES = {"dn_types": 2.3, "dn_text": 0.6, "dn_config": 2.0, "dn_records": 1.5, "dn_heap": 1.3, "dn_flows": 1.7, "dn_link": 1.2,
            "dn_wf2q": 2.9, "dn_shaper": 3.7, "dn_service": 2.2, "dn_files": 2.6, "dn_history": 2.5, "dn_live": 2.0,
-           "dn_replay": 5.5, PROGRAM: 4.7}
+           "dn_replay": 5.5, PROGRAM: 4.7, LIBRARY: 2.0}
 
 
 class BuildFault(Exception):
-    """Why there is no program. Its text is one line for the user."""
+    """Why nothing was built. Its text is one line for the user."""
+
+
+class Product(NamedTuple):
+    """What is built: how it is called, its crate, what rt leaves of that, the file by which it is known, and how it is put there."""
+
+    called: str
+    crate: str
+    made: str
+    known_by: str
+    put: Callable[[Path, Path], None]
 
 
 def say(text: str) -> None:
     print(f"{PROGRAM}: {text}", file=sys.stderr, flush=True)
 
 
-def sources(word: str = "") -> str:
-    """The checksum of the sources, or the program's crates, lowest first, as tools/program_sources gives them."""
-    done = subprocess.run([TOP / "tools" / "program_sources", *filter(None, [word])], capture_output=True, text=True)
+def sources(*words: str) -> str:
+    """The checksum of a crate's sources, or what it is built of, lowest first, as tools/program_sources gives them."""
+    done = subprocess.run([TOP / "tools" / "program_sources", *words], capture_output=True, text=True)
     if done.returncode:
         raise BuildFault(f"the sources can't be read: {done.stderr.strip()}")
     return done.stdout.strip()
 
 
-def dependencies() -> dict[str, list[str]]:
-    """The program's crates, lowest first, each with those of them that it names in crates.txt."""
-    names = sources("--crates").split()
+def crate_of(line: str) -> str:
+    """The crate that a line of crates.txt is about, and the empty text for none."""
+    return (line.partition("#")[0].partition(":")[0].split() or [""])[0]
+
+
+def dependencies(crate: str) -> dict[str, list[str]]:
+    """The crates of a product, lowest first, each with those of them that it names in crates.txt."""
+    names = sources("--crates", crate).split()
     found: dict[str, list[str]] = {}
     for line in (TOP / "crates.txt").read_text().splitlines():
-        name, _, below = line.partition("#")[0].partition(":")
-        found[name.strip()] = [word for word in below.split() if word in names]
+        below = line.partition("#")[0].partition(":")[2]
+        found[crate_of(line)] = [word for word in below.split() if word in names]
     return {name: found[name] for name in names}
 
 
@@ -94,7 +115,7 @@ class Builder:
                     shutil.copytree(of, place / "crates" / member / part)
                 elif of.is_file():
                     shutil.copyfile(of, place / "crates" / member / part)
-        lines = [line for line in (TOP / "crates.txt").read_text().splitlines() if line.partition(":")[0].strip() in members]
+        lines = [line for line in (TOP / "crates.txt").read_text().splitlines() if crate_of(line) in members]
         (place / "crates.txt").write_text("".join(f"{line}\n" for line in lines))
         shutil.copyfile(TOP / "HANDLES", place / "HANDLES")
         for member in members[:-1]:
@@ -164,54 +185,69 @@ def copied(one: Path, other: Path) -> None:
         shutil.copytree(one, other, symlinks=True, copy_function=link_or_copy)
 
 
-def put_in_place(made: Path, target: Path) -> None:
+def put_program(made: Path, folder: Path) -> None:
     """The new program, whole from its first moment, and then none of older sources."""
-    target.parent.mkdir(exist_ok=True)
-    room = target.parent / f"new-{os.getpid()}"
+    room = folder / f"new-{os.getpid()}"
     shutil.copyfile(made, room)
     room.chmod(0o755)
-    room.replace(target)
-    for older in BUILT.glob(f"*/{PROGRAM}"):
-        if older != target:
+    room.replace(folder / PROGRAM)
+
+
+PRODUCTS = {
+    (): Product("program", PROGRAM, PROGRAM, PROGRAM, put_program),
+    ("--lib",): Product("C library", LIBRARY, f"lib{LIBRARY}.a", STATIC, link),
+}
+
+
+def put_in_place(product: Product, made: Path, folder: Path) -> None:
+    folder.mkdir(exist_ok=True)
+    product.put(made, folder)
+    for older in BUILT.glob(f"*/{product.known_by}"):
+        if older.parent != folder:
             shutil.rmtree(older.parent)
 
 
-def build() -> None:
-    """Builds the program, unless another build of the same sources ended meanwhile."""
+def build(product: Product) -> None:
+    """Builds a product, unless another build of the same sources ended meanwhile."""
     if shutil.which("rt") is None:
-        raise BuildFault("the program can't be built: there is no `rt` on the path (Rattle's toolchain)")
+        raise BuildFault(f"the {product.called} can't be built: there is no `rt` on the path (Rattle's toolchain)")
     asked = time.time()
     with open(BUILT / "lock", "w") as lock:
         fcntl.flock(lock, fcntl.LOCK_EX)
-        target = BUILT / sources() / PROGRAM
-        if target.exists() and target.stat().st_mtime > asked:
+        folder = BUILT / sources(product.crate)
+        known = folder / product.known_by
+        if known.exists() and known.stat().st_mtime > asked:
             return
-        below = dependencies()
+        below = dependencies(product.crate)
         say(f"proving and building {len(below)} crates, logs in {BUILT / 'log'}")
         work = Path(mkdtemp(prefix="hingetulip-build-"))
         builder = Builder(work, below)
         try:
             builder.build_all()
-            if BUILT / sources() / PROGRAM != target:
-                raise BuildFault("the sources changed while the program was built; build it again")
-            put_in_place(builder.folder(PROGRAM) / "out" / PROGRAM, target)
+            if BUILT / sources(product.crate) != folder:
+                raise BuildFault(f"the sources changed while the {product.called} was built; build it again")
+            put_in_place(product, builder.folder(product.crate) / "out" / product.made, folder)
         finally:
             builder.give_back()
             shutil.rmtree(work, ignore_errors=True)
 
 
-def main() -> int:
+def main(words: list[str]) -> int:
+    product = PRODUCTS.get(tuple(words))
+    if product is None:
+        print("usage: ./build [--lib]", file=sys.stderr)
+        return USAGE
     BUILT.mkdir(exist_ok=True)
     try:
-        build()
+        build(product)
     except BuildFault as fault:
         say(str(fault))
         return FAILED
     except OSError as error:
-        say(f"the program could not be built: {error}")
+        say(f"the {product.called} could not be built: {error}")
         return FAILED
     return 0
 
 
 if __name__ == "__main__":
-    sys.exit(main())
+    sys.exit(main(sys.argv[1:]))

@@ -20,17 +20,19 @@ from tempfile import TemporaryDirectory
 from tally import Tally
 
 TOP = Path(__file__).resolve().parent.parent.parent
-SCRIPTS = ("dummynet", "build", "install", "tools/program_sources", "tools/build_program.py", "tools/release", "tools/completion.bash",
+SCRIPTS = ("dummynet", "build", "install", "tools/program_sources", "tools/build_program.py", "tools/link_library.py", "tools/release", "tools/completion.bash",
            "docs/dummynet.1", "crates.txt", "HANDLES")
 PRETENDED = """#!/bin/sh
 crate=$(basename "$PWD")
 case $1 in
 version) echo 'rattle-kit-none logic 0'; exit ;;
+doc) echo "$KIT/START-HERE.md"; exit ;;
 esac
 echo "$1 $crate" >>"$CALLS"
 [ "$crate" != "$FAILS" ] || { echo 'no proof'; exit 1; }
 mkdir -p out/rlib out/incremental
 for below in ../*; do [ -d "$below/out/rlib" ] || { echo "$below isn't built"; exit 1; }; done
+[ "$crate" != hingetulip_c ] || { echo 'int dn_version(void) { return 1; }' | cc -xc -fPIC -c -o out/it.o - && ar rc out/libhingetulip_c.a out/it.o; }
 [ "$1" = lib ] || { printf '#!/bin/sh\\necho built "$@"\\n' >out/dummynet; chmod 755 out/dummynet; }
 """
 RELEASE = "#!/bin/sh\necho release \"$@\"\n"
@@ -47,12 +49,19 @@ class Copy:
             (self.top / file).parent.mkdir(parents=True, exist_ok=True)
             shutil.copy(TOP / file, self.top / file)
         crates = subprocess.run([TOP / "tools" / "program_sources", "--crates"], capture_output=True, text=True, check=True).stdout.split()
-        for crate in [*crates, "test_parts"]:
+        for file in ("include/hingetulip.h", "hingetulip.pc"):
+            to = self.top / "crates" / "hingetulip_c" / file
+            to.parent.mkdir(parents=True, exist_ok=True)
+            shutil.copy(TOP / "crates" / "hingetulip_c" / file, to)
+        for crate in [*crates, "hingetulip_c", "test_parts"]:
             shutil.copytree(TOP / "crates" / crate / "src", self.top / "crates" / crate / "src")
         self.crates = crates
         self.plain.mkdir()
         (self.plain / "python3").write_text(f'#!/bin/sh\nexec "{sys.executable}" "$@"\n')
         (self.plain / "python3").chmod(0o755)
+        self.kit = Path(place) / "kit"
+        (self.kit / "c").mkdir(parents=True)
+        (self.kit / "c" / "liblibc_c.a").write_bytes(b"!<arch>\n")
         self.tools.mkdir()
         (self.tools / "rt").write_text(PRETENDED)
         (self.tools / "rt").chmod(0o755)
@@ -63,7 +72,7 @@ class Copy:
         path = os.environ["PATH"].split(":")
         plain = [folder for folder in path if not (Path(folder) / "rt").exists()]
         env = {**os.environ, "PATH": ":".join([str(self.tools)] * has_rt + [str(self.plain), *plain]), "CALLS": str(self.calls), "FAILS": fails,
-               "TMPDIR": str(self.temporary)}
+               "TMPDIR": str(self.temporary), "KIT": str(self.kit)}
         return subprocess.run([str(self.top / script), *words], cwd="/", env=env, capture_output=True, text=True, stdin=subprocess.DEVNULL)
 
     def sources(self) -> str:
@@ -155,6 +164,27 @@ def released_and_installed(tally: Tally, copy: Copy) -> None:
     tally.note("no release of what isn't built", "" if done.returncode == 1 and "isn't built" in done.stderr else f"got {done}")
 
 
+def the_library(tally: Tally, copy: Copy) -> None:
+    """./build --lib and ./install --lib, where there is a C compiler."""
+    if shutil.which("cc") is None:
+        print("the C library: skipped, since there is no cc on the path")
+        return
+    programs = copy.built()
+    prefix = copy.top.parent / "library"
+    done = copy.run("--lib", str(prefix), script="install", has_rt=False)
+    tally.equal("no toolchain, no library", 70, done.returncode)
+    done = copy.run("--lib", script="build", fails="hingetulip_c")
+    tally.equal("a failed build of the library", 70, done.returncode)
+    done = copy.run("--lib", script="build")
+    tally.note("./build --lib", "" if done.returncode == 0 else f"got {done}")
+    tally.equal("./build --lib leaves the programs", programs, copy.built())
+    done = copy.run("--lib", str(prefix), script="install", has_rt=False)
+    tally.note("./install --lib", "" if done.returncode == 0 else f"got {done}")
+    tally.equal("what is installed of the library", ["include/hingetulip.h", "lib/libhingetulip.a", "lib/libhingetulip.so", "lib/libhingetulip.so.1",
+                "lib/pkgconfig/hingetulip.pc"], sorted(str(it.relative_to(prefix)) for it in prefix.rglob("*") if it.is_file()))
+    tally.equal("./build of something else", 2, copy.run("--all", script="build").returncode)
+
+
 def through_the_wrapper(tally: Tally, program: str) -> None:
     """The streams and the status of the real program, where one stands for the present sources."""
     with TemporaryDirectory() as place:
@@ -178,6 +208,7 @@ def main(program: str) -> int:
         which_program(tally, copy)
         stale(tally, copy)
         released_and_installed(tally, copy)
+        the_library(tally, copy)
     through_the_wrapper(tally, program)
     return tally.end()
 
