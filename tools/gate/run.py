@@ -28,6 +28,7 @@ TALLY = re.compile(r"(\d+) passed, (\d+) failed")
 RANDOM_CASES = 400
 RUNS_BY_CALLERS = 100
 LIVE_SESSIONS = 200
+SCENARIOS_IN_C = 200
 
 
 class Tally(NamedTuple):
@@ -92,6 +93,7 @@ def parts(cases: str, seed: int) -> list[Part]:
         Part("cases of the reference", [python, "tools/gate/cases.py", program, str(seed), str(RANDOM_CASES), cases]),
         Part("replays by callers", [python, "tools/callers_checks.py", program, str(seed), str(RUNS_BY_CALLERS)]),
         Part("live sessions", [python, "tools/gate/live.py", program, str(seed), str(LIVE_SESSIONS)]),
+        Part("the C library", [python, "tools/gate/c_library.py", str(seed), str(SCENARIOS_IN_C)], "gcc"),
         Part("the program without memory", [python, "tools/gate/memory.py", program], "cc"),
         Part("chosen keys", [python, "tools/gate/hostile.py", program], "valgrind"),
         Part("keys of the hash", [python, "tools/gate/hash_key.py", program], "cc"),

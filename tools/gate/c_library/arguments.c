@@ -1,0 +1,187 @@
+/* Every refusal of hingetulip.h: its status, and that nothing else changed; and two handles side by side. */
+#include "hingetulip.h"
+#include <stdio.h>
+#include <string.h>
+
+static int tried, failed;
+
+static void holds(bool it, const char *what, int line) {
+    tried++;
+    if (it) return;
+    failed++;
+    printf("line %d: %s\n", line, what);
+}
+
+#define HOLDS(it) holds(it, #it, __LINE__)
+
+static uint32_t configured(struct dn_handle *handle, const char *line, struct dn_fault *fault) {
+    return dn_configure(handle, (const uint8_t *)line, strlen(line), fault);
+}
+
+/* A packet of 1,000 bytes to pipe 1. */
+static struct dn_packet good(uint64_t moment) {
+    struct dn_packet packet = {.moment = moment, .src = 1, .dst = 2, .sport = 3, .dport = 4, .length = 1000, .number = 1, .kind = DN_PIPE, .proto = 17};
+    return packet;
+}
+
+static bool untouched(const void *bytes, size_t count) {
+    for (const uint8_t *at = bytes; count > 0; at++, count--)
+        if (*at != 77) return false;
+    return true;
+}
+
+static void every_call_of_a_closed_handle(void) {
+    struct dn_handle handle = {0};
+    struct dn_packet packet = good(0);
+    struct dn_fate fate;
+    struct dn_fault fault;
+    struct dn_delivery delivery;
+    struct dn_flow flow;
+    uint64_t number;
+    memset(&fate, 77, sizeof fate);
+    memset(&fault, 77, sizeof fault);
+    memset(&delivery, 77, sizeof delivery);
+    memset(&flow, 77, sizeof flow);
+    memset(&number, 77, sizeof number);
+    HOLDS(dn_close(&handle) == DN_CLOSED);
+    HOLDS(configured(&handle, "pipe 1 config", &fault) == DN_CLOSED);
+    HOLDS(dn_submit(&handle, &packet, &fate) == DN_CLOSED);
+    HOLDS(dn_advance(&handle, 0, &number) == DN_CLOSED);
+    HOLDS(dn_collect(&handle, 0, &delivery, 1, &number) == DN_CLOSED);
+    HOLDS(dn_show(&handle, &flow, 1, &number) == DN_CLOSED);
+    HOLDS(dn_wake(&handle, &number) == DN_CLOSED);
+    HOLDS(untouched(&fate, sizeof fate) && untouched(&fault, sizeof fault) && untouched(&delivery, sizeof delivery));
+    HOLDS(untouched(&flow, sizeof flow) && untouched(&number, sizeof number));
+    HOLDS(dn_submit_many(&handle, &packet, 1, &fate, 1, &number) == DN_CLOSED && number == 0 && untouched(&fate, sizeof fate));
+    HOLDS(handle.at == NULL && !handle.open);
+}
+
+static void packets_out_of_range(struct dn_handle *handle) {
+    struct dn_fate fate;
+    memset(&fate, 77, sizeof fate);
+    struct dn_packet packet = good(DN_LAST_MOMENT + 1);
+    HOLDS(dn_submit(handle, &packet, &fate) == DN_BAD_MOMENT);
+    packet.moment = UINT64_MAX;
+    HOLDS(dn_submit(handle, &packet, &fate) == DN_BAD_MOMENT);
+    packet = good(0);
+    for (int kind = 2; kind < 256; kind++) {
+        packet.kind = (uint8_t)kind;
+        HOLDS(dn_submit(handle, &packet, &fate) == DN_BAD_KIND);
+    }
+    packet = good(0);
+    packet.number = 0;
+    HOLDS(dn_submit(handle, &packet, &fate) == DN_BAD_NUMBER);
+    packet = good(0);
+    packet.length = 0;
+    HOLDS(dn_submit(handle, &packet, &fate) == DN_BAD_LENGTH);
+    packet = good(0);
+    packet.reserved = 1;
+    HOLDS(dn_submit(handle, &packet, &fate) == DN_BAD_RESERVED);
+    HOLDS(untouched(&fate, sizeof fate));
+}
+
+static void lines_that_are_none(struct dn_handle *handle) {
+    static const struct {
+        const char *line;
+        uint32_t status, kind;
+        uint64_t word;
+    } CASES[] = {{"pipe 1 config bw 8Mbps", DN_LINE, DN_NOT_A_NUMBER, 5}, {"pipe 1 config speed 8", DN_LINE, DN_UNKNOWN_WORD, 4},
+                 {"pipe 1 config bw", DN_LINE, DN_MISSING_VALUE, 4},      {"pipe 0 config", DN_LINE, DN_OUT_OF_RANGE, 2},
+                 {"ipfw pipe show", DN_LINE, DN_LEFT_OUT, 3},             {"queue 1 config weight 2", DN_LINE, DN_NEEDS_PIPE, 1},
+                 {"pipe 1 config \xff", DN_LINE, DN_NOT_UTF8, 0},         {"queue 1 config pipe 9", DN_NO_SUCH_PIPE, 77, 77},
+                 {"pipe 9 delete", DN_NO_SUCH_PIPE, 77, 77},              {"queue 9 delete", DN_NO_SUCH_QUEUE, 77, 77},
+                 {"", DN_OK, 77, 77},                                     {"  # nothing", DN_OK, 77, 77}};
+    for (size_t i = 0; i < sizeof CASES / sizeof *CASES; i++) {
+        struct dn_fault fault = {77, 77, 77};
+        HOLDS(configured(handle, CASES[i].line, &fault) == CASES[i].status);
+        HOLDS(fault.kind == CASES[i].kind && fault.word == CASES[i].word);
+    }
+    struct dn_fault fault = {77, 77, 77};
+    HOLDS(configured(handle, "pipe 3 config", &fault) == DN_OK && configured(handle, "queue 3 config pipe 3", &fault) == DN_OK);
+    HOLDS(configured(handle, "pipe 3 delete", &fault) == DN_PIPE_HAS_QUEUES);
+    HOLDS(configured(handle, "queue 3 delete", &fault) == DN_OK && configured(handle, "pipe 3 delete", &fault) == DN_OK);
+    HOLDS(fault.kind == 77 && fault.word == 77);
+}
+
+static void moments_and_rules_out_of_range(struct dn_handle *handle) {
+    struct dn_delivery list[2];
+    uint64_t number;
+    memset(list, 77, sizeof list);
+    memset(&number, 77, sizeof number);
+    HOLDS(dn_advance(handle, DN_LAST_MOMENT + 1, &number) == DN_BAD_MOMENT);
+    HOLDS(dn_collect(handle, UINT64_MAX, list, 2, &number) == DN_BAD_MOMENT);
+    HOLDS(untouched(list, sizeof list) && untouched(&number, sizeof number));
+    struct dn_handle before = *handle;
+    HOLDS(dn_open(handle, 2) == DN_BAD_RULE && dn_open(handle, UINT32_MAX) == DN_BAD_RULE);
+    HOLDS(handle->at == before.at && handle->open);
+}
+
+/* Two packets on their way, with room for one. */
+static void lists_that_are_too_short(struct dn_handle *handle) {
+    struct dn_fault fault;
+    struct dn_delivery list[3];
+    struct dn_flow flow;
+    struct dn_packet two[2] = {good(0), good(0)};
+    struct dn_fate fates[2];
+    uint64_t count;
+    memset(list, 77, sizeof list);
+    memset(&flow, 77, sizeof flow);
+    memset(fates, 77, sizeof fates);
+    HOLDS(configured(handle, "pipe 1 config bw 8Mbit/s", &fault) == DN_OK);
+    HOLDS(dn_submit_many(handle, two, 2, fates, 1, &count) == DN_ROOM && count == 0 && untouched(fates, sizeof fates));
+    HOLDS(dn_submit_many(handle, two, 0, fates, 0, &count) == DN_OK && count == 0 && untouched(fates, sizeof fates));
+    HOLDS(dn_submit_many(handle, two, 2, fates, 2, &count) == DN_OK && count == 2 && fates[1].packet == 1);
+    HOLDS(dn_collect(handle, 2000000, list, 1, &count) == DN_ROOM && count == 2 && untouched(list, sizeof list));
+    HOLDS(dn_show(handle, &flow, 0, &count) == DN_ROOM && count >= 1 && untouched(&flow, sizeof flow));
+    HOLDS(dn_collect(handle, 2000000, list, 2, &count) == DN_OK && count == 2 && list[0].due == 1000000 && list[1].due == 2000000);
+    HOLDS(untouched(list + 2, sizeof *list));
+}
+
+/* The second of three packets is out of range: the first alone is answered. */
+static void packets_up_to_a_bad_one(struct dn_handle *handle) {
+    struct dn_packet three[3] = {good(3000000), good(3000000), good(3000000)};
+    struct dn_fate fates[3];
+    uint64_t done;
+    three[1].length = 0;
+    memset(fates, 77, sizeof fates);
+    HOLDS(dn_submit_many(handle, three, 3, fates, 3, &done) == DN_BAD_LENGTH && done == 1);
+    HOLDS(fates[0].outcome == DN_QUEUED && fates[0].packet == 2 && untouched(fates + 1, 2 * sizeof *fates));
+}
+
+static void two_handles_side_by_side(void) {
+    struct dn_handle slow = {0}, fast = {0};
+    struct dn_fault fault;
+    struct dn_delivery list[4];
+    struct dn_fate fate;
+    uint64_t count, wake;
+    HOLDS(dn_open(&slow, DN_ORDERED) == DN_OK && dn_open(&fast, DN_FREE) == DN_OK);
+    HOLDS(configured(&slow, "pipe 1 config bw 8Kbit/s", &fault) == DN_OK && configured(&fast, "pipe 1 config delay 1", &fault) == DN_OK);
+    struct dn_packet packet = good(5);
+    HOLDS(dn_submit(&slow, &packet, &fate) == DN_OK && fate.packet == 0 && dn_submit(&fast, &packet, &fate) == DN_OK && fate.packet == 0);
+    HOLDS(dn_wake(&slow, &wake) == DN_OK && wake == 1000000005 && dn_wake(&fast, &wake) == DN_OK && wake == 1000005);
+    HOLDS(dn_collect(&fast, 1000005, list, 4, &count) == DN_OK && count == 1 && list[0].due == 1000005);
+    HOLDS(dn_collect(&slow, 1000005, list, 4, &count) == DN_OK && count == 0);
+    HOLDS(dn_close(&fast) == DN_OK);
+    HOLDS(dn_collect(&slow, 1000000005, list, 4, &count) == DN_OK && count == 1 && list[0].due == 1000000005);
+    HOLDS(dn_wake(&slow, &wake) == DN_OK && wake == DN_NEVER);
+    HOLDS(dn_close(&slow) == DN_OK && dn_close(&slow) == DN_CLOSED);
+}
+
+int main(void) {
+    struct dn_handle handle = {0};
+    uint64_t at;
+    HOLDS(dn_version() == DN_VERSION);
+    every_call_of_a_closed_handle();
+    HOLDS(dn_open(&handle, DN_ORDERED) == DN_OK && handle.open);
+    packets_out_of_range(&handle);
+    lines_that_are_none(&handle);
+    moments_and_rules_out_of_range(&handle);
+    HOLDS(dn_advance(&handle, 0, &at) == DN_OK && at == 0); /* nothing of all that moved the clock */
+    lists_that_are_too_short(&handle);
+    packets_up_to_a_bad_one(&handle);
+    HOLDS(dn_open(&handle, DN_FREE) == DN_OK); /* lets go of what was open */
+    HOLDS(dn_close(&handle) == DN_OK && dn_close(&handle) == DN_CLOSED);
+    two_handles_side_by_side();
+    printf("%d of %d hold\n", tried - failed, tried);
+    return failed != 0;
+}
