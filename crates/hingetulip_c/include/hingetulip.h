@@ -10,8 +10,8 @@
  *
  * Each call answers an enum dn_status. Under DN_OK all that the call tells is written; under every other status what the
  * caller handed in is as it was, but for what that status is said to write, and the handle stands as it stood, but for the
- * three refusals of dn_configure, which count as calls and change nothing else. No pointer may be NULL, also that of a list
- * of no items.
+ * three refusals of dn_configure, which count as calls and change nothing else. Where two statuses fit, a call answers that of
+ * a number, a line or the room for fates before DN_CLOSED. No pointer may be NULL, also that of a list of no items.
  *
  * Later versions change no function, no struct and no number of this one: what they add has a name of its own, or takes the
  * place of a field `reserved`, which is 0 in what the caller hands in, else DN_BAD_RESERVED, and is written as 0.

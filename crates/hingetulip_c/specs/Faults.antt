@@ -5,6 +5,7 @@ use Rattle.dn_config.specs.declared.fault.LineFault.{LineFault}
 use Rattle.dn_config.specs.declared.fault.LineFault.TheVariants.{UnknownWord, MissingValue, BadNumber, OutOfRange, LeftOut, NeedsPipe, OutOfMemory}
 use Rattle.hingetulip_c.specs.declared.records.c_fault.CFault.{CFault}
 
+-- The number of a fault's kind in the header.
 abbrev pub kind_of : LineFault → ℕ
 kind_of (UnknownWord at) = 1
 kind_of (MissingValue at) = 2

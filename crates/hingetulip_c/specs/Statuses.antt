@@ -11,6 +11,7 @@ answered status = nat_eq status 0 || nat_eq status 1
 abbrev pub taken : ℕ → Bool
 taken status = nat_le status 4
 
+-- The status that the reply to a command is.
 abbrev pub configure_status : Reply → ℕ
 configure_status Configured = 0
 configure_status Deleted = 0
