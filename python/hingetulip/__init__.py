@@ -1,0 +1,28 @@
+"""The link emulator dummynet, as ipfw(8) configures it: packets go in with the moment at which they arrive, and come out when
+they are due.
+
+    import hingetulip
+
+    with hingetulip.Shaper() as shaper:
+        shaper.configure("pipe 1 config bw 8Mbit/s delay 20ms")
+        shaper.submit(0, 1000, pipe=1)
+        print(shaper.collect(shaper.wake()))
+
+Moments are whole nanoseconds on a clock of the caller's own, from 0 to LAST_MOMENT. Lengths are bytes. Nothing is random but the
+words that a Shaper draws for packets that are submitted without one, and they follow from its seed.
+
+The emulator is the C library libhingetulip.so, which is looked for when the module is imported: where HINGETULIP_LIBRARY says,
+if it is set, else beside the module, then in the `lib` of the prefix below which the module lies, then where the system looks.
+"""
+
+from __future__ import annotations
+
+from hingetulip.batches import Deliveries, Fates, Packets
+from hingetulip.errors import ClosedError, ExhaustedError, HingetulipError, LineError, OutOfMemoryError, RangeError, RefusedError
+from hingetulip.library import LAST_MOMENT, LIBRARY, VERSION
+from hingetulip.records import Delivery, Fate, FlowStatus, Outcome, Rule
+from hingetulip.shaper import Shaper
+
+__all__ = ["LAST_MOMENT", "LIBRARY", "VERSION", "ClosedError", "Deliveries", "Delivery", "ExhaustedError", "Fate", "Fates", "FlowStatus",
+           "HingetulipError", "LineError", "OutOfMemoryError", "Outcome", "Packets", "RangeError", "RefusedError", "Rule", "Shaper"]
+__version__ = VERSION

@@ -1,0 +1,49 @@
+"""What a call raises. A call that raised changed nothing, unless its exception says otherwise."""
+
+from __future__ import annotations
+
+from typing import TYPE_CHECKING, Optional
+
+if TYPE_CHECKING:
+    from hingetulip.batches import Fates
+
+
+class HingetulipError(Exception):
+    """What every exception of this module is."""
+
+    fates: Optional[Fates] = None
+    """Of `submit_many`: the fates of the packets before the one that wasn't answered."""
+
+
+class ClosedError(HingetulipError, ValueError):
+    """The shaper was closed."""
+
+
+class LineError(HingetulipError, ValueError):
+    """A line is no command. Its text is that of the program `dummynet`, as `word 5: bad number`."""
+
+    def __init__(self, kind: str, word: int) -> None:
+        super().__init__(f"word {word}: {kind}" if word else kind)
+        self.kind = kind
+        """What is wrong, as `bad number`."""
+        self.word = word
+        """The word at which that shows, from 1; 0 where the line isn't text."""
+
+    def __reduce__(self) -> tuple[type[LineError], tuple[str, int]]:
+        return LineError, (self.kind, self.word)
+
+
+class RefusedError(HingetulipError):
+    """A command isn't obeyed as things stand: `no such pipe`, `pipe has queues` or `no such queue`."""
+
+
+class RangeError(HingetulipError, ValueError):
+    """A number is out of its range."""
+
+
+class OutOfMemoryError(HingetulipError, MemoryError):
+    """Memory was refused. The same call may be made again."""
+
+
+class ExhaustedError(HingetulipError):
+    """The shaper answered 2^62 calls, and answers no more."""

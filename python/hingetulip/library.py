@@ -1,0 +1,92 @@
+"""The C library: where it lies, and its functions as hingetulip.h declares them."""
+
+from __future__ import annotations
+
+import os
+from ctypes import PyDLL, Structure, c_bool, c_uint32, c_void_p
+from pathlib import Path
+from typing import Iterator
+
+from hingetulip.errors import (
+    ClosedError, ExhaustedError, HingetulipError, OutOfMemoryError, RangeError, RefusedError,
+)
+
+NAMES = ("libhingetulip.so.1", "libhingetulip.so")
+MAJOR = 1  # of the library's version; later minor ones only add
+LAST_MOMENT = 2**62
+NEVER = 2**64 - 1
+
+OK, ROOM, LINE = 0, 7, 8
+FAILURES: dict[int, tuple[type[HingetulipError], str]] = {
+    1: (ExhaustedError, "the shaper answered 2^62 calls before"),
+    2: (RefusedError, "no such pipe"),
+    3: (RefusedError, "pipe has queues"),
+    4: (RefusedError, "no such queue"),
+    5: (ClosedError, "the shaper is closed"),
+    6: (OutOfMemoryError, "out of memory"),
+    9: (RangeError, "a moment isn't in 0 to 2^62 ns"),
+    10: (RangeError, "no rule"),
+    11: (RangeError, "a kind that is neither 0, for a pipe, nor 1, for a queue"),
+    12: (RangeError, "the number of a pipe or queue isn't in 1 to 65535"),
+    13: (RangeError, "a length isn't in 1 to 65535 bytes"),
+}
+FAULT_KINDS = ("not UTF-8", "unknown word", "missing value", "bad number", "out of range", "left out", "needs a pipe")
+
+
+class Handle(Structure):
+    """What the library keeps of a shaper. It stays where it is while it is open."""
+
+    _fields_ = [("at", c_void_p), ("open", c_bool)]
+
+
+FUNCTIONS = ("dn_version", "dn_open", "dn_close", "dn_configure", "dn_submit", "dn_submit_many", "dn_advance", "dn_collect", "dn_show", "dn_wake")
+
+
+def failure(status: int) -> HingetulipError:
+    """The exception of a status."""
+    kind, text = FAILURES.get(status, (HingetulipError, f"status {status}"))
+    return kind(text)
+
+
+def places() -> Iterator[str]:
+    """Where the library is looked for: beside this module, in `lib` below each folder in which it lies, and by the system."""
+    here = Path(__file__).resolve().parent
+    for folder in (here, *(above / "lib" for above in here.parents)):
+        yield from (str(folder / name) for name in NAMES if (folder / name).exists())
+    yield NAMES[0]
+
+
+def loaded(place: str) -> PyDLL:
+    """The library at a place, with its functions, whose arguments have to be of the types of ctypes.
+
+    Python's lock is kept during a call, which takes less time than to give the lock up and to have it again.
+    """
+    library = PyDLL(place)
+    for name in FUNCTIONS:
+        getattr(library, name).restype = c_uint32
+    version = library.dn_version()
+    if version // 1_000_000 != MAJOR:
+        raise ImportError(f"{place} has version {version}, and not {MAJOR}.x")
+    return library
+
+
+def found() -> tuple[PyDLL, str]:
+    """The library and its place: the one that HINGETULIP_LIBRARY names, else the first of `places` that can be loaded."""
+    named = os.environ.get("HINGETULIP_LIBRARY")
+    faults = []
+    for place in [named] if named else places():
+        try:
+            return loaded(place), place
+        except (OSError, AttributeError, ImportError) as fault:
+            faults.append(str(fault))
+    raise ImportError(f"{NAMES[0]} can't be loaded ({'; '.join(faults)}); the variable HINGETULIP_LIBRARY can name it")
+
+
+CALLS, LIBRARY = found()
+
+
+def version_text(version: int) -> str:
+    return f"{version // 1_000_000}.{version // 1_000 % 1_000}.{version % 1_000}"
+
+
+VERSION = version_text(CALLS.dn_version())

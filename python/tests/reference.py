@@ -1,0 +1,102 @@
+"""The reference of this repository beside the module: its scenarios, and the module's answers in its words."""
+
+from __future__ import annotations
+
+import sys
+from functools import cache
+from pathlib import Path
+from typing import Iterable, Optional, Sequence
+
+TOOLS = Path(__file__).resolve().parents[2] / "tools"
+sys.path[:0] = [str(TOOLS), str(TOOLS / "oracle")]
+
+import hingetulip  # noqa: E402
+import model  # noqa: E402
+from broken import bad_line  # noqa: E402
+from config_lines import LineFault, parse_line  # noqa: E402
+from fast import FastDummynet  # noqa: E402
+from printing import command_text  # noqa: E402
+from scenarios import STYLES  # noqa: E402
+from shaper_cases import histories  # noqa: E402
+
+__all__ = ["STYLES", "FastDummynet", "LineFault", "answer", "bad_line", "deliveries", "model", "next_event", "packets_of", "parse_line",
+           "reply_of", "scenarios"]
+
+SEED, SCENARIOS, CALLS = 35, 200, 45
+REFUSALS = {"no such pipe": model.NoSuchPipe(), "pipe has queues": model.PipeHasQueues(), "no such queue": model.NoSuchQueue()}
+REPLIES = {hingetulip.Outcome.QUEUED: model.Queued, hingetulip.Outcome.LOST: model.Lost, hingetulip.Outcome.FULL: model.Full,
+           hingetulip.Outcome.NO_TARGET: model.NoTarget}
+Scenario = tuple[hingetulip.Rule, list[model.Call], list[model.Reply]]
+
+
+@cache
+def scenarios() -> list[Scenario]:
+    """The rule, the calls and the replies of random scenarios, the same each time."""
+    return [(hingetulip.Rule[rule.upper()], [call for _, call in calls], replies) for rule, calls, replies in histories(SEED, SCENARIOS, CALLS)]
+
+
+def configured(shaper: hingetulip.Shaper, command: model.Command) -> model.Reply:
+    try:
+        shaper.configure(command_text(command))
+    except hingetulip.RefusedError as refusal:
+        return REFUSALS[str(refusal)]
+    return model.Deleted() if isinstance(command, (model.DeletePipe, model.DeleteQueue)) else model.Configured()
+
+
+def reply_of(fate: hingetulip.Fate) -> model.Reply:
+    return REPLIES[fate.outcome](*(number for number in (fate.at, fate.flow, fate.packet) if number is not None))
+
+
+def submitted(shaper: hingetulip.Shaper, call: model.Submit) -> model.Reply:
+    t, target = call.packet.tuple, {call.target.kind: call.target.number}
+    return reply_of(shaper.submit(call.moment, call.packet.len, **target, src=t.src, dst=t.dst, proto=t.proto, sport=t.sport, dport=t.dport,
+                                  word=call.packet.word))
+
+
+def packets_of(calls: Sequence[model.Submit]) -> hingetulip.Packets:
+    tuples = [call.packet.tuple for call in calls]
+    packets = hingetulip.Packets(len(calls), moment=[call.moment for call in calls], length=[call.packet.len for call in calls],
+                                 pipe=[call.target.number for call in calls], src=[t.src for t in tuples], dst=[t.dst for t in tuples],
+                                 proto=[t.proto for t in tuples], sport=[t.sport for t in tuples], dport=[t.dport for t in tuples],
+                                 word=[call.packet.word for call in calls])
+    for place, call in enumerate(calls):
+        packets.kind[place] = call.target.kind == "queue"
+    return packets
+
+
+def deliveries(found: Iterable[hingetulip.Delivery]) -> tuple[model.Delivery, ...]:
+    return tuple(model.Delivery(d.due, d.packet, d.flow, d.start) for d in found)
+
+
+def collected(shaper: hingetulip.Shaper, moment: int) -> model.Reply:
+    found = deliveries(shaper.collect(moment))
+    return model.Delivered(shaper.advance(0), found)
+
+
+def status(shaper: hingetulip.Shaper, masks: list[model.FiveTuple]) -> model.Reply:
+    """What `show` tells, with the masks of the flows, which it doesn't tell."""
+    told, found = [], shaper.show()
+    for flow, mask in zip(found, masks):
+        target = model.Target("pipe", flow.pipe) if flow.queue is None else model.Target("queue", flow.queue)
+        key = model.FlowKey(target, flow.pipe, mask, model.FiveTuple(flow.src, flow.dst, flow.proto, flow.sport, flow.dport))
+        told.append(model.FlowStatus(flow.flow, key, flow.queued, flow.bytes, flow.lost, flow.full, flow.started, flow.discarded))
+    return model.Status(tuple(told) if len(found) == len(masks) else ())
+
+
+def answer(shaper: hingetulip.Shaper, call: model.Call, wanted: model.Reply) -> model.Reply:
+    """The module's answer to a call. Of what is wanted only the masks of a status are read."""
+    if isinstance(call, model.Configure):
+        return configured(shaper, call.command)
+    if isinstance(call, model.Submit):
+        return submitted(shaper, call)
+    if isinstance(call, model.Advance):
+        return model.Advanced(shaper.advance(call.moment))
+    if isinstance(call, model.Collect):
+        return collected(shaper, call.moment)
+    return status(shaper, [flow.key.mask for flow in wanted.list])
+
+
+def next_event(net: FastDummynet) -> Optional[int]:
+    """When the reference starts or delivers a packet next."""
+    moments = [d.due for d in net.delay_line] + [link.free for link in net.links if link.backlog]
+    return min(moments, default=None)

@@ -1,0 +1,219 @@
+"""Each call of the module, and each way in which it raises, against values worked out by hand.
+
+A packet of 1,000 bytes takes 1 ms at 8 Mbit/s.
+"""
+
+from __future__ import annotations
+
+import copy
+import os
+import pickle
+import subprocess
+import sys
+import unittest
+from array import array
+from pathlib import Path
+from tempfile import TemporaryDirectory
+
+import hingetulip
+from hingetulip import Deliveries, Delivery, Fate, FlowStatus, LineError, Outcome, Packets, RangeError, Shaper
+
+MS = 1_000_000
+LINE = "pipe 1 config bw 8Mbit/s delay 20ms queue 1"
+SOURCES = Path(hingetulip.__file__).resolve().parent
+
+
+class Calls(unittest.TestCase):
+    def setUp(self) -> None:
+        self.shaper = Shaper()
+        self.addCleanup(self.shaper.close)
+        self.shaper.configure(LINE)
+
+    def test_the_four_fates(self) -> None:
+        fates = [self.shaper.submit(5, 1000, pipe=1) for _ in range(3)]
+        self.assertEqual([Fate(Outcome.QUEUED, 5, 0, 0), Fate(Outcome.QUEUED, 5, 0, 1), Fate(Outcome.FULL, 5, 0, None)], fates)
+        self.assertEqual(Fate(Outcome.NO_TARGET, 7, None, None), self.shaper.submit(7, 1000, queue=1))
+        self.shaper.configure("pipe 2 config plr 0.5")
+        self.assertEqual(Fate(Outcome.LOST, 7, 1, None), self.shaper.submit(0, 1000, pipe=2, word=2**30 - 1))
+        self.assertEqual(Fate(Outcome.QUEUED, 7, 1, 2), self.shaper.submit(0, 1000, pipe=2, word=2**30))
+
+    def test_wake_collect_and_advance(self) -> None:
+        self.assertIsNone(self.shaper.wake())
+        for _ in range(2):
+            self.shaper.submit(0, 1000, pipe=1)
+        self.assertEqual(MS, self.shaper.wake())
+        self.assertEqual([], self.shaper.collect(MS))
+        self.assertEqual(21 * MS, self.shaper.wake())
+        self.assertEqual(3 * MS, self.shaper.advance(3 * MS))
+        self.assertEqual(3 * MS, self.shaper.advance(0))
+        self.assertEqual([Delivery(21 * MS, 0, 0, 0), Delivery(22 * MS, 1, 0, MS)], self.shaper.collect(2**62))
+        self.assertIsNone(self.shaper.wake())
+
+    def test_show(self) -> None:
+        self.shaper.configure("queue 3 config pipe 1 mask src-ip 0xff dst-port 1 proto 0xff")
+        for _ in range(3):
+            self.shaper.submit(0, 1000, queue=3, src=0x0A000001, dst=2, proto=17, sport=4, dport=5)
+        self.shaper.submit(0, 500, pipe=1)
+        self.assertEqual([FlowStatus(0, 3, 1, 1, 0, 17, 0, 1, 2, 2000, 0, 0, 1, 0), FlowStatus(1, None, 1, 0, 0, 0, 0, 0, 0, 0, 0, 0, 1, 0)],
+                         self.shaper.show())
+        self.shaper.configure("queue 3 delete")
+        self.assertEqual((0, 0, 1, 2), self.shaper.show()[0][-6:-4] + self.shaper.show()[0][-2:])
+
+    def test_lists_that_outgrow_their_room(self) -> None:
+        self.shaper.configure("pipe 1 config mask src-ip 0xffff")
+        for count in (64, 65, 1000):
+            fates = self.shaper.submit_many(Packets(count, moment=0, length=1, pipe=1, src=range(count)))
+            self.assertEqual(list(range(count)), list(fates.flow))
+            self.assertEqual(count, len(self.shaper.show()))
+            self.assertEqual(list(fates.packet), [delivery.packet for delivery in self.shaper.collect(0)])
+
+    def test_rules(self) -> None:
+        """A packet that is sent when the delay was cut overtakes by one rule, and waits for the one before it by the other."""
+        for rule, dues in ((hingetulip.Rule.ORDERED, [20 * MS, 20 * MS]), (hingetulip.Rule.FREE, [0, 20 * MS])):
+            with Shaper(rule) as shaper:
+                shaper.configure("pipe 1 config delay 20")
+                shaper.submit(0, 1, pipe=1)
+                shaper.configure("pipe 1 config")
+                shaper.submit(0, 1, pipe=1)
+                self.assertEqual(dues, [delivery.due for delivery in shaper.collect(20 * MS)])
+
+    def test_words_follow_from_the_seed(self) -> None:
+        told = []
+        for seed in (1, 1, 2):
+            with Shaper(seed=seed) as shaper:
+                shaper.configure("pipe 1 config plr 0.5")
+                told.append(([shaper.submit(0, 1, pipe=1).outcome for _ in range(100)],
+                             list(shaper.submit_many(Packets(100, moment=0, length=1, pipe=1)).outcome)))
+        self.assertEqual(told[0], told[1])
+        self.assertNotEqual(told[0], told[2])
+        for outcomes in told[0]:
+            self.assertTrue(25 < outcomes.count(Outcome.LOST) < 75)
+
+
+class Batches(unittest.TestCase):
+    def setUp(self) -> None:
+        self.shaper = Shaper()
+        self.addCleanup(self.shaper.close)
+        self.shaper.configure(LINE)
+
+    def test_columns(self) -> None:
+        packets = Packets(3, moment=array("Q", [0, 0, MS]), length=1000, pipe=1, word=0)
+        fates = self.shaper.submit_many(packets)
+        self.assertEqual(([0, 0, MS], [0, 0, 0], [0, 1, 2], [0, 0, 0]), tuple(map(list, (fates.at, fates.flow, fates.packet, fates.outcome))))
+        taken = self.shaper.collect_many(22 * MS)
+        self.assertEqual(([21 * MS, 22 * MS], [0, 1], [0, 0], [0, MS]), tuple(map(list, (taken.due, taken.packet, taken.flow, taken.start))))
+        self.assertEqual(["<Packets: 3>", "<Fates: 3>", "<Deliveries: 2>"], list(map(repr, (packets, fates, taken))))
+        packets.moment[:] = array("Q", [30 * MS] * 3)
+        packets.length[2] = 500
+        self.assertEqual([0, 0, 2], list(self.shaper.submit_many(packets).outcome))
+
+    def test_a_sequence(self) -> None:
+        fates = self.shaper.submit_many(Packets(3, moment=0, length=1000, pipe=1))
+        self.assertEqual([Fate(Outcome.QUEUED, 0, 0, 1), Fate(Outcome.FULL, 0, 0, None)], fates[1:])
+        self.assertEqual((fates[2], fates[0]), (fates[-1], fates[-3]))
+        self.assertEqual(list(fates), [fates[0], *fates[1:]])
+        for place in (3, -4):
+            self.assertRaises(IndexError, fates.__getitem__, place)
+        taken = self.shaper.collect_many(21 * MS)
+        self.assertIsInstance(taken, Deliveries)
+        self.assertEqual([Delivery(21 * MS, 0, 0, 0)], list(taken))
+
+    def test_nothing(self) -> None:
+        self.assertEqual([], list(self.shaper.submit_many(Packets(0, moment=0, length=1, pipe=1))))
+        self.assertEqual([], list(self.shaper.collect_many(0)))
+
+    def test_a_packet_that_is_not_answered(self) -> None:
+        packets = Packets(3, moment=0, length=[1000, 0, 1000], pipe=1)
+        with self.assertRaises(RangeError) as raised:
+            self.shaper.submit_many(packets)
+        self.assertEqual([Fate(Outcome.QUEUED, 0, 0, 0)], list(raised.exception.fates or ()))
+        self.assertEqual(1, self.shaper.show()[0].started + self.shaper.show()[0].queued)
+
+    def test_values_that_do_not_fit(self) -> None:
+        for values in (dict(moment=-1), dict(length=65536), dict(src=[0, 2**32, 0]), dict(proto=256)):
+            self.assertRaises(RangeError, Packets, 3, **{"moment": 0, "length": 1, "pipe": 1, **values})
+        for values, error in ((dict(moment=[1, 2]), ValueError), (dict(length=1.5), TypeError), (dict(sport=["x"] * 3), TypeError),
+                              (dict(queue=1), TypeError), (dict(pipe=None), TypeError)):
+            self.assertRaises(error, Packets, 3, **{"moment": 0, "length": 1, "pipe": 1, **values})
+
+
+class Faults(unittest.TestCase):
+    def setUp(self) -> None:
+        self.shaper = Shaper()
+        self.addCleanup(self.shaper.close)
+        self.shaper.configure(LINE)
+
+    def test_lines(self) -> None:
+        for line, text, kind, word in (("pipe 1 config bw 8Mbps", "word 5: bad number", "bad number", 5),
+                                       ("queue 1 config weight 3", "word 1: needs a pipe", "needs a pipe", 1),
+                                       (b"pipe 1 config # \xff", "not UTF-8", "not UTF-8", 0), ("pipe \udcff", "not UTF-8", "not UTF-8", 0)):
+            with self.assertRaises(LineError) as raised:
+                self.shaper.configure(line)
+            fault = raised.exception
+            self.assertEqual((text, kind, word), (str(fault), fault.kind, fault.word))
+            again = pickle.loads(pickle.dumps(fault))
+            self.assertEqual((text, kind, word), (str(again), again.kind, again.word))
+        self.shaper.configure("  # a note")
+        self.shaper.configure(b"")
+
+    def test_refusals(self) -> None:
+        self.shaper.configure("queue 1 config pipe 1")
+        for line, text in (("queue 2 config pipe 3", "no such pipe"), ("pipe 1 delete", "pipe has queues"), ("queue 2 delete", "no such queue")):
+            with self.assertRaises(hingetulip.RefusedError) as raised:
+                self.shaper.configure(line)
+            self.assertEqual(text, str(raised.exception))
+
+    def test_numbers(self) -> None:
+        for values in (dict(moment=-1), dict(moment=2**62 + 1), dict(moment=2**64), dict(length=0), dict(length=65536), dict(pipe=0),
+                       dict(pipe=65536), dict(src=2**32), dict(dst=-1), dict(sport=65536), dict(dport=-1), dict(proto=256), dict(word=2**32)):
+            with self.subTest(values):
+                self.assertRaises(RangeError, self.shaper.submit, **{"moment": 0, "length": 1, "pipe": 1, **values})
+        for values in (dict(moment=0.5), dict(length="1"), dict(src="10.0.0.1"), dict(pipe=None), dict(queue=1)):
+            with self.subTest(values):
+                self.assertRaises(TypeError, self.shaper.submit, **{"moment": 0, "length": 1, "pipe": 1, **values})
+        for call in (self.shaper.collect, self.shaper.collect_many, self.shaper.advance):
+            for moment in (-1, 2**62 + 1, 2**64):
+                self.assertRaises(RangeError, call, moment)
+            self.assertRaises(TypeError, call, 1.0)
+        self.assertEqual([], self.shaper.show())
+
+    def test_a_closed_shaper(self) -> None:
+        with self.shaper as shaper:
+            self.assertFalse(shaper.closed)
+        self.assertTrue(self.shaper.closed)
+        self.shaper.close()
+        packets = Packets(1, moment=0, length=1, pipe=1)
+        for call in (lambda: self.shaper.submit(0, 1, pipe=1), lambda: self.shaper.submit_many(packets), lambda: self.shaper.collect(0),
+                     lambda: self.shaper.advance(0), self.shaper.show, self.shaper.wake, lambda: self.shaper.configure(LINE)):
+            self.assertRaises(hingetulip.ClosedError, call)
+
+    def test_no_copies(self) -> None:
+        for copied in (copy.copy, copy.deepcopy, pickle.dumps):
+            self.assertRaises(TypeError, copied, self.shaper)
+
+
+class Finding(unittest.TestCase):
+    def run_at(self, place: Path, **variables: str) -> subprocess.CompletedProcess[str]:
+        """Imports the module that lies in a folder, and prints where its library was found."""
+        kept = {name: value for name, value in os.environ.items() if name not in ("HINGETULIP_LIBRARY", "PYTHONPATH")}
+        return subprocess.run([sys.executable, "-c", "import hingetulip; print(hingetulip.LIBRARY)"], cwd=place, capture_output=True, text=True,
+                              env={**kept, "PYTHONPATH": str(place), "PYTHONDONTWRITEBYTECODE": "1", **variables})
+
+    def test_places(self) -> None:
+        with TemporaryDirectory() as prefix:
+            top = Path(prefix).resolve()
+            module = top / "lib" / "python" / "hingetulip"
+            module.mkdir(parents=True)
+            for source in SOURCES.glob("*.py"):
+                (module / source.name).write_bytes(source.read_bytes())
+            done = self.run_at(module.parent, HINGETULIP_LIBRARY=str(top / "none.so"))
+            self.assertIn("none.so", done.stderr)
+            self.assertIn("HINGETULIP_LIBRARY can name it", done.stderr)
+            for place in (top / "lib" / "libhingetulip.so", top / "lib" / "libhingetulip.so.1", module / "libhingetulip.so"):
+                place.symlink_to(Path(hingetulip.LIBRARY).resolve())
+                done = self.run_at(module.parent)
+                self.assertEqual((f"{place}\n", ""), (done.stdout, done.stderr))
+
+
+if __name__ == "__main__":
+    unittest.main()
