@@ -1,0 +1,122 @@
+"""The C library and the Python module as a user has them: from a prefix, and as docs/EMBEDDING.md and hingetulip(3) print them.
+
+    python3 tools/gate/embedding.py ARCHIVE
+
+ARCHIVE is what rt has built of crates/hingetulip_c. ./install puts it below a new prefix. From there the programs of both pages are
+compiled by what pkg-config says, the page's Python session and its simulation are run, and so are the module's own tests.
+"""
+
+from __future__ import annotations
+
+import os
+import re
+import shutil
+import subprocess
+import sys
+from pathlib import Path
+from tempfile import TemporaryDirectory
+
+from tally import Tally
+
+TOP = Path(__file__).resolve().parent.parent.parent
+PAGE = (TOP / "docs" / "EMBEDDING.md").read_text()
+MANUAL = TOP / "docs" / "hingetulip.3"
+FIRST, SIMULATION = TOP / "examples" / "embed" / "first.c", TOP / "examples" / "embed" / "aimd.py"
+WARNINGS = ["-Wall", "-Wextra", "-Werror"]
+AROUND = "#include <hingetulip.h>\n#include <stdio.h>\n#include <string.h>\nint main(void)\n{\n%s\nreturn 0;\n}\n"
+Done = subprocess.CompletedProcess  # of a program that was run
+
+
+class Prefix:
+    """A folder into which ./install --lib has put the library, and what a user sets to use it from there."""
+
+    def __init__(self, folder: Path, place: Path) -> None:
+        self.folder, self.place = folder, place
+        kept = {name: value for name, value in os.environ.items() if name != "HINGETULIP_LIBRARY"}
+        self.env = {**kept, "PKG_CONFIG_PATH": f"{folder}/lib/pkgconfig", "LD_LIBRARY_PATH": f"{folder}/lib", "PYTHONPATH": f"{folder}/lib/python",
+                    "PYTHONDONTWRITEBYTECODE": "1"}
+
+    def run(self, *words: object) -> Done[str]:
+        return subprocess.run(list(map(str, words)), cwd=self.place, env=self.env, stdin=subprocess.DEVNULL, stdout=subprocess.PIPE,
+                              stderr=subprocess.STDOUT, text=True)
+
+    def built(self, source: Path, *flags: str) -> Done[str]:
+        """A program of a C file, built as the page says, and run."""
+        compiled = self.run("sh", "-c", f'cc {" ".join(flags)} "$0" $(pkg-config --cflags --libs hingetulip) -o program', source)
+        return self.run("./program") if compiled.returncode == 0 else compiled
+
+
+def blocks(language: str) -> list[str]:
+    """The blocks of a language on the page."""
+    return re.findall(rf"^```{language}\n(.*?)^```$", PAGE, re.M | re.S)
+
+
+def printed_after(command: str) -> str:
+    """What the page prints under a command."""
+    found = re.search(rf"^\$ [^\n]*{re.escape(command)}[^\n]*\n((?:[^`$][^\n]*\n)*)", PAGE, re.M)
+    return found[1] if found else f"the page has no command {command}"
+
+
+def from_c(tally: Tally, prefix: Prefix) -> None:
+    tally.equal("the page's C program is examples/embed/first.c", [FIRST.read_text()], blocks("c"))
+    done = prefix.built(FIRST, *WARNINGS)
+    tally.equal("examples/embed/first.c", (0, printed_after("./first")), (done.returncode, done.stdout))
+    example = re.search(r"^\.Bd -literal[^\n]*\n(.*?)^\.Ed", MANUAL.read_text(), re.M | re.S)
+    source = prefix.place / "example.c"
+    source.write_text(AROUND % (example[1] if example else "").replace("\\e", "\\"))
+    done = prefix.built(source, *WARNINGS)
+    tally.equal("the example of hingetulip(3)", (0, "packet 0 left at 21000 us\npacket 1 left at 22000 us\n"), (done.returncode, done.stdout))
+
+
+def from_python(tally: Tally, prefix: Prefix) -> None:
+    session = prefix.place / "session"
+    session.write_text("\n".join(blocks("python")))
+    done = prefix.run(sys.executable, "-m", "doctest", session)
+    tally.equal("the page's Python session", (0, ""), (done.returncode, done.stdout))
+    done = prefix.run(sys.executable, SIMULATION)
+    tally.equal("the page's simulation", (0, printed_after("aimd.py")), (done.returncode, done.stdout))
+    done = prefix.run(sys.executable, TOP / "python" / "tests")
+    found = re.search(r"(\d+) passed, (\d+) failed$", done.stdout.strip())
+    tally.note("the module's tests", "" if found and done.returncode == 0 else done.stdout)
+    tally.passed += int(found[1]) if found else 0
+
+
+def manual(tally: Tally, prefix: Prefix) -> None:
+    """The manual page names all that the header declares, and mandoc has nothing to say of it."""
+    header = (prefix.folder / "include" / "hingetulip.h").read_text()
+    text = MANUAL.read_text()
+    for name in sorted(set(re.findall(r"\b(?:dn_\w+(?=\()|DN_[A-Z0-9_]+(?= = ))", header))):
+        tally.note(f"hingetulip(3): {name}", "" if re.search(rf"\b{name}\b", text) else "isn't named")
+    if shutil.which("mandoc"):
+        tally.equal("mandoc -Tlint", "", prefix.run("mandoc", "-Tlint", "-Wstyle", MANUAL).stdout)
+
+
+def tried(tally: Tally, folder: Path, place: Path) -> None:
+    prefix = Prefix(folder, place)
+    if shutil.which("cc") and shutil.which("pkg-config"):
+        from_c(tally, prefix)
+    else:
+        print("the programs in C: skipped, since there is no cc or no pkg-config on the path")
+    from_python(tally, prefix)
+    manual(tally, prefix)
+
+
+def install(archive: str, prefix: Path) -> Done[str]:
+    """What rt has built goes where ./build --lib leaves it, and ./install takes it from there."""
+    asked = subprocess.run([TOP / "tools" / "program_sources", "hingetulip_c"], capture_output=True, text=True, check=True)
+    subprocess.run([sys.executable, TOP / "tools" / "link_library.py", archive, TOP / "built" / asked.stdout.strip()], check=True)
+    return subprocess.run([TOP / "install", "--lib", prefix], stdout=subprocess.PIPE, stderr=subprocess.STDOUT, text=True)
+
+
+def main(archive: str) -> int:
+    tally = Tally()
+    with TemporaryDirectory() as folder, TemporaryDirectory() as place:
+        done = install(archive, Path(folder))
+        tally.note("./install --lib", "" if done.returncode == 0 else done.stdout)
+        if done.returncode == 0:
+            tried(tally, Path(folder), Path(place))
+    return tally.end()
+
+
+if __name__ == "__main__":
+    sys.exit(main(sys.argv[1]))
