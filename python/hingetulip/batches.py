@@ -124,7 +124,7 @@ class Packets(Batch):
         super().__init__(bytearray(PACKET.record.size * count))
         self.draws = word is None
         given = {"moment": moment, "length": length, "number": number, "kind": int(pipe is None), "src": src, "dst": dst, "proto": proto,
-                 "sport": sport, "dport": dport, "word": word or 0}
+                 "sport": sport, "dport": dport, "word": 0 if word is None else word}
         for name, values in given.items():
             self._fill(name, values)
 

@@ -1,4 +1,4 @@
-"""What a Shaper answers."""
+"""What a Shaper answers. Moments are ns, lengths bytes, and flows and packets are numbered from 0."""
 
 from __future__ import annotations
 
@@ -7,74 +7,70 @@ from typing import NamedTuple, Optional
 
 
 class Rule(IntEnum):
-    """How the packets of one link follow one another."""
+    """How the packets of one link follow one another.
+
+    ORDERED: a packet is due no sooner than the one before it. FREE: a packet is due when its bits and the pipe's delay have passed, so
+    where the delay is cut one can overtake another.
+    """
 
     ORDERED = 0
-    """A packet is due no sooner than the one before it."""
     FREE = 1
-    """A packet is due when its bits and the pipe's delay have passed, so that one can overtake another where the delay is cut."""
 
 
 class Outcome(IntEnum):
-    """What became of a packet that was submitted."""
+    """What became of a packet that was submitted.
+
+    QUEUED: it was accepted, and a collect will give it. LOST: it was lost by the loss rate (`plr`). FULL: its queue was full.
+    NO_TARGET: its pipe or queue isn't configured.
+    """
 
     QUEUED = 0
-    """It was accepted, and a collect will give it."""
     LOST = 1
-    """It was lost by the loss rate (`plr`)."""
     FULL = 2
-    """Its queue was full."""
     NO_TARGET = 3
-    """Its pipe or queue isn't configured."""
 
 
 class Fate(NamedTuple):
-    """The answer to a packet."""
+    """The answer to a packet.
+
+    `at` is the moment that counted: the packet's own, or that of an earlier call where the clock stood later. `flow` is None without a
+    target. `packet` is how many packets were accepted before it, and None where it wasn't accepted.
+    """
 
     outcome: Outcome
     at: int
-    """The moment that counted, in ns: the packet's own, or that of an earlier call where the clock stood later."""
     flow: Optional[int]
-    """The packet's flow, numbered from 0 by first sight; None without a target."""
     packet: Optional[int]
-    """How many packets were accepted before it; None where it wasn't accepted."""
 
 
 class Delivery(NamedTuple):
-    """A packet that leaves the emulator."""
+    """A packet that leaves the emulator at `due`. `packet` is as `Fate` told it, and its transmission began at `start`."""
 
     due: int
-    """When it leaves, in ns."""
     packet: int
-    """The number that `Fate.packet` told."""
     flow: int
     start: int
-    """When its transmission began, in ns."""
 
 
 class FlowStatus(NamedTuple):
-    """The state of a flow."""
+    """The state of a flow, and the counts of its packets so far.
+
+    They were sent to `queue`, or, where that is None, to the pipe; `pipe` carries them. Addresses, protocol and ports are those of the
+    flow's packets in the bits of the mask, and 0 in the others. `queued` packets of `bytes` bytes wait in its queue. `lost` is by the
+    loss rate, and `full` by a full queue; the transmission of `started` has begun, and a delete took `discarded` out of the queue.
+    """
 
     flow: int
     queue: Optional[int]
-    """The queue to which its packets were sent; None where they were sent to the pipe."""
     pipe: int
-    """The pipe that carries them."""
     src: int
-    """Addresses, protocol and ports are those of the flow's packets in the bits of the mask, and 0 in the others."""
     dst: int
     proto: int
     sport: int
     dport: int
     queued: int
-    """Packets that wait in the flow's queue."""
     bytes: int
-    """Bytes that wait there."""
     lost: int
-    """Packets that were lost by the loss rate."""
     full: int
-    """Packets that found the queue full."""
     started: int
-    """Packets whose transmission has begun."""
     discarded: int
-    """Packets that a delete took out of the queue."""
