@@ -71,13 +71,13 @@ def timed(load: Load, count: int) -> float:
     return took / count * 1e6
 
 
-def main(rounds: int = 9, count: int = 200_000) -> None:
+def main(rounds: int = 60, count: int = 20_000) -> None:
     least = {name: float("inf") for name in LOADS}
     for _ in range(rounds):
         for name, load in LOADS.items():
             least[name] = min(least[name], timed(load, count))
     for name, took in least.items():
-        print(f"{name}: {took:.2f} us a packet")
+        print(f"Python, {name}: {took:.2f} us a packet")
 
 
 if __name__ == "__main__":

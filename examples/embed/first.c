@@ -32,7 +32,7 @@ static bool submit(struct dn_handle *link, uint64_t moment)
 /* Goes from each moment at which something happens to the next, until nothing is under way. */
 static bool collect(struct dn_handle *link)
 {
-    struct dn_delivery list[16];
+    struct dn_delivery list[16]; /* no more are under way; with too few places the answer is DN_ROOM */
     uint64_t moment, count;
     while (dn_wake(link, &moment) == DN_OK && moment != DN_NEVER) {
         if (dn_collect(link, moment, list, sizeof list / sizeof *list, &count) != DN_OK)

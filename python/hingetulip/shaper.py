@@ -16,6 +16,7 @@ from hingetulip.library import CALLS, FAULT_KINDS, LAST_MOMENT, LINE, NEVER, OK,
 from hingetulip.records import Delivery, Fate, FlowStatus, Rule
 
 NEITHER_OR_BOTH = "a packet is sent to a pipe or to a queue"
+NOTHING = memoryview(b"")
 pack_packet, unpack_fate = PACKET.record.pack_into, FATE.record.unpack
 
 
@@ -67,7 +68,8 @@ class Listing:
             status = self.call(*arguments)
         if status != OK:
             raise failure(status)
-        return records[:self.size * self.count.value]
+        count = self.count.value
+        return records[:self.size * count] if count else NOTHING
 
 
 class Shaper:
