@@ -12,6 +12,7 @@ import subprocess
 import sys
 import unittest
 from array import array
+from concurrent.futures import ThreadPoolExecutor
 from pathlib import Path
 from tempfile import TemporaryDirectory
 
@@ -88,6 +89,17 @@ class Calls(unittest.TestCase):
         self.assertNotEqual(told[0], told[2])
         for outcomes in told[0]:
             self.assertTrue(25 < outcomes.count(Outcome.LOST) < 75)
+
+    def test_a_shaper_for_each_thread(self) -> None:
+        def told(number: int) -> list[Delivery]:
+            with Shaper() as shaper:
+                shaper.configure("pipe 1 config bw 8Mbit/s queue 1000")
+                for moment in range(500):
+                    shaper.submit(moment, 1000 + number, pipe=1)
+                return shaper.collect(2**62)
+
+        with ThreadPoolExecutor(4) as pool:
+            self.assertEqual([told(number) for number in range(4)], list(pool.map(told, range(4))))
 
 
 class Batches(unittest.TestCase):
