@@ -1,9 +1,10 @@
 """The C library and the Python module as a user has them: from a prefix, and as docs/EMBEDDING.md and hingetulip(3) print them.
 
-    python3 tools/gate/embedding.py ARCHIVE
+    python3 tools/gate/embedding.py
 
-ARCHIVE is what rt has built of crates/hingetulip_c. ./install puts it below a new prefix. From there the programs of both pages are
-compiled by what pkg-config says, the page's Python session and its simulation are run, and so are the module's own tests.
+`./install --lib` puts the library of the present sources below a new prefix, and builds it first where there is none. From there the
+programs of both pages are compiled by what pkg-config says, the page's Python session and its simulation are run, and so are the
+module's own tests.
 """
 
 from __future__ import annotations
@@ -24,6 +25,8 @@ MANUAL = TOP / "docs" / "hingetulip.3"
 EXAMPLES = TOP / "examples" / "embed"
 FIRST, LINK, SIMULATION = EXAMPLES / "first.c", EXAMPLES / "tun_link.c", EXAMPLES / "aimd.py"
 WARNINGS = ["-Wall", "-Wextra", "-Werror"]
+INSTALLED = ["include/hingetulip.h", "lib/libhingetulip.a", "lib/libhingetulip.so", "lib/libhingetulip.so.1", "lib/pkgconfig/hingetulip.pc",
+             "share/man/man3/hingetulip.3"]
 AROUND = "#include <hingetulip.h>\n#include <stdio.h>\n#include <string.h>\nint main(void)\n{\n%s\nreturn 0;\n}\n"
 Done = subprocess.CompletedProcess  # of a program that was run
 
@@ -96,25 +99,20 @@ def manual(tally: Tally, prefix: Prefix) -> None:
 
 def tried(tally: Tally, folder: Path, place: Path) -> None:
     prefix = Prefix(folder, place)
-    if shutil.which("cc") and shutil.which("pkg-config"):
+    module = [f"lib/{it.relative_to(TOP)}" for it in (TOP / "python" / "hingetulip").iterdir() if it.suffix in (".py", ".typed")]
+    tally.equal("what is installed", sorted(INSTALLED + module), sorted(str(it.relative_to(folder)) for it in folder.rglob("*") if not it.is_dir()))
+    if shutil.which("pkg-config"):
         from_c(tally, prefix)
     else:
-        print("the programs in C: skipped, since there is no cc or no pkg-config on the path")
+        print("the programs in C: skipped, since there is no pkg-config on the path")
     from_python(tally, prefix)
     manual(tally, prefix)
 
 
-def install(archive: str, prefix: Path) -> Done[str]:
-    """What rt has built goes where ./build --lib leaves it, and ./install takes it from there."""
-    asked = subprocess.run([TOP / "tools" / "program_sources", "hingetulip_c"], capture_output=True, text=True, check=True)
-    subprocess.run([sys.executable, TOP / "tools" / "link_library.py", archive, TOP / "built" / asked.stdout.strip()], check=True)
-    return subprocess.run([TOP / "install", "--lib", prefix], stdout=subprocess.PIPE, stderr=subprocess.STDOUT, text=True)
-
-
-def main(archive: str) -> int:
+def main() -> int:
     tally = Tally()
     with TemporaryDirectory() as folder, TemporaryDirectory() as place:
-        done = install(archive, Path(folder))
+        done = subprocess.run([TOP / "install", "--lib", folder], stdout=subprocess.PIPE, stderr=subprocess.STDOUT, text=True)
         tally.note("./install --lib", "" if done.returncode == 0 else done.stdout)
         if done.returncode == 0:
             tried(tally, Path(folder), Path(place))
@@ -122,4 +120,4 @@ def main(archive: str) -> int:
 
 
 if __name__ == "__main__":
-    sys.exit(main(sys.argv[1]))
+    sys.exit(main())

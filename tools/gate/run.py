@@ -94,6 +94,7 @@ def parts(cases: str, seed: int) -> list[Part]:
         Part("replays by callers", [python, "tools/callers_checks.py", program, str(seed), str(RUNS_BY_CALLERS)]),
         Part("live sessions", [python, "tools/gate/live.py", program, str(seed), str(LIVE_SESSIONS)]),
         Part("the C library", [python, "tools/gate/c_library.py", str(seed), str(SCENARIOS_IN_C)], "gcc"),
+        Part("the C library and Python from a prefix", [python, "tools/gate/embedding.py"], "cc"),
         Part("the program without memory", [python, "tools/gate/memory.py", program], "cc"),
         Part("chosen keys", [python, "tools/gate/hostile.py", program], "valgrind"),
         Part("keys of the hash", [python, "tools/gate/hash_key.py", program], "cc"),
