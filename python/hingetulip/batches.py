@@ -66,14 +66,14 @@ class Answers(Batch, Sequence[Item], Generic[Item]):
 
 OUTCOMES = tuple(Outcome)
 QUEUED, NO_TARGET = Outcome.QUEUED, Outcome.NO_TARGET
-fate = Fate._make  # takes half the time of Fate itself
+make_fate = Fate._make
 
 
 def read_fate(at: int, flow: int, packet: int, outcome: int) -> Fate:
     """A fate from the fields of the library's struct."""
     if outcome == 0:
-        return fate((QUEUED, at, flow, packet))
-    return fate((OUTCOMES[outcome], at, None if outcome == NO_TARGET else flow, None))
+        return make_fate((QUEUED, at, flow, packet))
+    return make_fate((OUTCOMES[outcome], at, None if outcome == NO_TARGET else flow, None))
 
 
 class Fates(Answers[Fate]):

@@ -16,7 +16,7 @@ MAJOR = 1  # of the library's version; later minor ones only add
 LAST_MOMENT = 2**62
 NEVER = 2**64 - 1
 
-OK, ROOM, LINE = 0, 7, 8
+ROOM, LINE = 7, 8
 FAILURES: dict[int, tuple[type[HingetulipError], str]] = {
     1: (ExhaustedError, "the shaper answered 2^62 calls before"),
     2: (RefusedError, "no such pipe"),

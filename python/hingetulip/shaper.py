@@ -5,36 +5,30 @@ from __future__ import annotations
 from ctypes import byref, c_char, c_size_t, c_uint32, c_uint64
 from operator import index
 from random import Random
+from struct import Struct
 from struct import error as StructError
 from types import TracebackType
 from typing import Any, Callable, NoReturn, Optional, Union
 
-from hingetulip.batches import Deliveries, Fates, Packets, read_fate
+from hingetulip.batches import QUEUED, Deliveries, Fates, Packets, make_fate, read_fate
 from hingetulip.errors import LineError, RangeError
 from hingetulip.layout import DELIVERY, FATE, FAULT, FLOW, PACKET, Layout
-from hingetulip.library import CALLS, FAULT_KINDS, LAST_MOMENT, LINE, NEVER, OK, ROOM, Handle, failure
+from hingetulip.library import CALLS, FAULT_KINDS, LAST_MOMENT, LINE, NEVER, ROOM, Handle, failure
 from hingetulip.records import Delivery, Fate, FlowStatus, Rule
 
 NEITHER_OR_BOTH = "a packet is sent to a pipe or to a queue"
 NOTHING = memoryview(b"")
-pack_packet, unpack_fate = PACKET.record.pack_into, FATE.record.unpack
-
-
-def checked(moment: int) -> int:
-    """The moment, where it is one: of what has more than 64 bits, the library would see the low ones."""
-    moment = index(moment)
-    if not 0 <= moment <= LAST_MOMENT:
-        raise RangeError(f"moment {moment} isn't in 0 to 2^62 ns")
-    return moment
+pack_packet, unpack_fate, iterate_deliveries = PACKET.record.pack_into, FATE.record.unpack, DELIVERY.record.iter_unpack
+pack_moment = Struct("=Q").pack_into
 
 
 def unpackable(**fields: Any) -> Exception:
-    """What is wrong with the fields of a packet that don't fit in the library's struct."""
+    """What is wrong with fields of a packet, or the moment of another call, that don't fit in the library's types."""
     for name, value in fields.items():
-        bits = 8 * PACKET.width(name)
+        most = LAST_MOMENT if name == "moment" else 256 ** PACKET.width(name) - 1
         try:
-            if not 0 <= index(value) < 2**bits:
-                return RangeError(f"{name} {value} isn't in 0 to {2**bits - 1}")
+            if not 0 <= index(value) <= most:
+                return RangeError(f"{name} {value} isn't in 0 to {most}")
         except TypeError:
             return TypeError(f"{name} {value!r} is no whole number")
     return AssertionError(fields)
@@ -66,7 +60,7 @@ class Listing:
         if status == ROOM:
             records, arguments = self.room = self.made(max(self.count.value, 2 * len(records) // self.size))
             status = self.call(*arguments)
-        if status != OK:
+        if status:
             raise failure(status)
         count = self.count.value
         return records[:self.size * count] if count else NOTHING
@@ -135,7 +129,10 @@ class Shaper:
         Addresses are numbers: 10.0.0.1 is 0x0a000001. The packet is lost where the low 31 bits of its word are below the loss rate
         (`plr`) times 2^31; a word that isn't given is drawn. RangeError: a number is out of its range.
         """
-        number, kind = (queue, 1) if pipe is None else (pipe, 0)
+        if pipe is None:
+            number, kind = queue, 1
+        else:
+            number, kind = pipe, 0
         if number is None or kind == 0 and queue is not None:
             raise TypeError(NEITHER_OR_BOTH)
         if word is None:
@@ -146,9 +143,10 @@ class Shaper:
             raise unpackable(moment=moment, src=src, dst=dst, word=word, sport=sport, dport=dport, length=length, number=number,
                              proto=proto) from None
         status = CALLS.dn_submit(*self._submitted)
-        if status != OK:
+        if status:
             raise failure(status)
-        return read_fate(*unpack_fate(self._fate))
+        at, flow, packet, outcome = unpack_fate(self._fate)
+        return make_fate((QUEUED, at, flow, packet)) if outcome == 0 else read_fate(at, flow, packet, outcome)
 
     def submit_many(self, packets: Packets) -> Fates:
         """The packets arrive one after the other, as by `submit`, in one call of the library, which takes a fraction of the time.
@@ -162,7 +160,7 @@ class Shaper:
         given, written = (byref((c_char * len(records)).from_buffer(records)) for records in (packets.records, fates))
         status = CALLS.dn_submit_many(self._self, given, c_size_t(count), written, c_size_t(count), byref(self._number))
         answered = Fates(memoryview(fates)[:FATE.size * self._number.value])
-        if status != OK:
+        if status:
             error = failure(status)
             error.fates = answered
             raise error
@@ -170,19 +168,19 @@ class Shaper:
 
     def advance(self, moment: int) -> int:
         """Moves the clock to `moment` ns, if it stands earlier, and tells where it stands, in ns. It takes no packet out."""
-        self._moment.value = checked(moment)
+        self._set_moment(moment)
         self._succeed(CALLS.dn_advance(*self._advanced))
         return self._number.value
 
     def collect(self, moment: int) -> list[Delivery]:
         """Moves the clock to `moment` ns, and takes the packets that are due, in the order in which they are due."""
-        self._moment.value = checked(moment)
+        self._set_moment(moment)
         records = self._collected.listed()
-        return list(map(Delivery._make, DELIVERY.record.iter_unpack(records))) if records else []
+        return list(map(Delivery._make, iterate_deliveries(records))) if records else []
 
     def collect_many(self, moment: int) -> Deliveries:
         """As `collect`, but what is taken is kept as the library wrote it, to be read by columns."""
-        self._moment.value = checked(moment)
+        self._set_moment(moment)
         return Deliveries(bytearray(self._collected.listed()))
 
     def show(self) -> list[FlowStatus]:
@@ -198,7 +196,14 @@ class Shaper:
         self._succeed(CALLS.dn_wake(self._self, byref(self._number)))
         return None if self._number.value == NEVER else self._number.value
 
+    def _set_moment(self, moment: int) -> None:
+        """The moment of the next call. ctypes would cut one of more than 64 bits."""
+        try:
+            pack_moment(self._moment, 0, moment)
+        except StructError:
+            raise unpackable(moment=moment) from None
+
     @staticmethod
     def _succeed(status: int) -> None:
-        if status != OK:
+        if status:
             raise failure(status)

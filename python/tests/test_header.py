@@ -50,7 +50,7 @@ class Header(unittest.TestCase):
 
     def test_statuses(self) -> None:
         statuses = numbers("dn_status")
-        self.assertEqual((library.OK, library.ROOM, library.LINE), (statuses["DN_OK"], statuses["DN_ROOM"], statuses["DN_LINE"]))
+        self.assertEqual((0, library.ROOM, library.LINE), (statuses["DN_OK"], statuses["DN_ROOM"], statuses["DN_LINE"]))
         for name, kind in EXCEPTIONS.items():
             self.assertIs(kind, type(library.failure(statuses[name])), name)
         self.assertEqual({*statuses} - {*EXCEPTIONS}, {"DN_OK", "DN_ROOM", "DN_LINE", "DN_BAD_RESERVED"})
