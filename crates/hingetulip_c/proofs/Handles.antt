@@ -16,10 +16,9 @@ use denote.Steps.{nothing}
 use denote.Struct.Struct.{within}
 use denote.Struct.Owning.{shape}
 use Rattle.std_alloc.specs.Box.Ownership.{box_owns}
-use Rattle.libc.specs.Heap.{chunk}
 use Rattle.dn_shaper.specs.contracts.shaper.Shaper as shaper
 use Rattle.hingetulip_c.specs.contracts.handle.Handle as handle
-use Rattle.hingetulip_c.specs.Handles.{owned_by}
+use Rattle.hingetulip_c.specs.Handles.{freed, owned_by}
 use Rattle.hingetulip_c.proofs.RawBoxes.{two}
 
 abbrev pub Hd : RattleType
@@ -29,7 +28,7 @@ abbrev pub R : RattleType
 R = shaper.the_row
 
 abbrev pub kept : Ptr → Bool → List R.Denot → Fml
-kept p y xs = owned_by (box_owns chunk R p) y xs
+kept p y xs = owned_by (box_owns freed R p) y xs
 
 pub ptr_good : (p : Ptr) → T (has_ty ty_ptr (ptr_val p)) × WT (ptr_val p)
 ptr_good (block_ptr b o) = (tt, tt)
@@ -57,7 +56,7 @@ module _ {M : Type 1} {𝓤 : Ura M} {𝓛 : Logic 𝓤} {K : Type 0} {Γ : List
   -- closed, or open with one value
   pub two_cases : K → (p : Ptr) (y : Bool) (xs : List R.Denot)
       → (y ≡ false → xs ≡ [] → Seq K 𝓛 Γ G)
-      → ((x : R.Denot) → y ≡ true → xs ≡ x ∷ [] → Seq K 𝓛 (‵ (box_owns chunk R p x) ∷ Γ) G)
+      → ((x : R.Denot) → y ≡ true → xs ≡ x ∷ [] → Seq K 𝓛 (‵ (box_owns freed R p x) ∷ Γ) G)
       → Seq K 𝓛 (‵ (kept p y xs) ∷ Γ) G
   two_cases t p true (x ∷ []) none one = one x refl refl
   two_cases t p true [] none one = use1 𝓛 (given ⊥ (‵ ftrue)) (never_e 𝓤 _) $ learn t (λ z. absurd z)

@@ -6,7 +6,14 @@ use Rattle.dn_types.specs.declared.reply.Reply.{Reply}
 use Rattle.dn_types.specs.declared.rule.Rule.{Rule}
 use Rattle.dn_shaper.specs.Shaper.{StandsAfter}
 use Rattle.dn_shaper.specs.declared.state.State.{State}
+use Rattle.std.specs.contracts.impls.GlobalAllocator.TheImpl.{ghosts}
+use mir.Syntax.{Ty}
+use denote.RawPtr.{Ptr}
 use base.Fml.{Fml, ftrue, ffalse}
+
+-- What allows a block of the global allocator to be freed. The allocator is one for all, so any value of it tells.
+abbrev pub freed : Ty → Ptr → Fml
+freed = ghosts.dealloc_token (record { memory = record { seal = tt } })
 
 -- What a handle owns: the one value that it holds where it is open, and nothing where it is closed.
 abbrev pub owned_by : {A : Type 0} → (A → Fml) → Bool → List A → Fml

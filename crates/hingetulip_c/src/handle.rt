@@ -1,7 +1,6 @@
 ghost use Rattle.std.specs.Prelude.{◌≡◌, ◌≤◌, List, [], ◌∷◌, Err, IfOk, OnErr, IfErr, IfSome, IfNone, ◌⊎◌};
 ghost use Rattle.std.specs.Option.{MatchOption};
 ghost use Rattle.std_alloc.specs.Box.Ownership.{box_owns};
-ghost use Rattle.libc.specs.Heap.{chunk};
 ghost use Rattle.dn_types.specs.Clock.{counted};
 ghost use Rattle.dn_types.specs.declared.call.Call.{Call as CallValue};
 ghost use Rattle.dn_types.specs.declared.rule.Rule.{Rule as RuleValue};
@@ -9,7 +8,7 @@ ghost use Rattle.dn_shaper.specs.Shaper.{CanNeedMemory, items_in};
 ghost use Rattle.dn_types.specs.Replies.{reply};
 ghost use Rattle.dn_shaper.specs.contracts.shaper.Shaper.{the_row};
 ghost use Rattle.dn_shaper.specs.declared.state.State.{State};
-ghost use Rattle.hingetulip_c.specs.Handles.{owned_by, HeldAfter, StillHeld, AnswersHeld};
+ghost use Rattle.hingetulip_c.specs.Handles.{freed, owned_by, HeldAfter, StillHeld, AnswersHeld};
 ghost use Rattle.hingetulip_c.specs.Lists.{room_after};
 ghost use base.Stored.{coded_list};
 
@@ -29,7 +28,7 @@ pub struct Handle {
 }
 
 impl Model for Handle {
-    ghost also_owns = { λ h. owned_by (box_owns chunk the_row h.at) h.there h.held };
+    ghost also_owns = { λ h. owned_by (box_owns freed the_row h.at) h.there h.held };
 }
 
 impl Handle {

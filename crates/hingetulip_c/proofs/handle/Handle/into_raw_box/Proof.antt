@@ -32,7 +32,7 @@ use Rattle.std.proofs.cell.Inside.{Good}
 use Rattle.std.proofs.option.Made.{Some-of, none_of}
 use Rattle.std_alloc.proofs.ResultValues.{and_tt}
 use Rattle.std_alloc.specs.Box.Ownership.{box_owns}
-use Rattle.libc.specs.Heap.{chunk}
+use Rattle.hingetulip_c.specs.Handles.{freed}
 use Rattle.std.proofs.raw_atomic.Walks.{proved_at, leaves}
 use Rattle.hingetulip_c.proofs.RawBoxes.{Row, two, allocator, typed, made}
 use Rattle.hingetulip_c.proofs.Handles.{Hd, R, handle_out, handle_good, ptr_good, two_cases}
@@ -64,7 +64,7 @@ into_raw_box_spec 𝓤 𝓛 𝓜 𝓡 wired =
     use0 𝓛 (‵ (Out.own_val None (v₁ ∷ []))) (none_of 𝓛 Lo) $ use0 𝓛 (raw (fact 𝓤 (d.held ≡ []))) (fact_i 𝓤 (d.held ≡ []) (emp 𝓤) has) $ nothing ! $ nothing ! $ fjoin ! $ nothing ! $ fjoin ! $
     returns ! (look_at ! 0 refl) $ free_all ! refl $ keep ! (4 ∷ 0 ∷ 2 ∷ 1 ∷ []) $ by ! (leaves 𝓛 ended hs c z v₁ None (_, (_, tt)) (tt, (tt, tt))))))
     (λ x is has.
-    in_a_block ! d.at (λ p. box_owns chunk R p x) (fst∗ 𝓤 (never 𝓤) (sem 𝓛 (chunk (bare (lone R.mir)) null_ptr))) (λ b o e.
+    in_a_block ! d.at (λ p. box_owns freed R p x) (fst∗ 𝓤 (never 𝓤) (sem 𝓛 (freed (bare (lone R.mir)) null_ptr))) (λ b o e.
     let w : Val = two (vptr b o) (vbool true) in let word : Val = two (vptr b o) h in let fitting = typed R Z LZ ghosts b o h fits in let v₁ : Val = live 1 (vcons word vnil) in
     let r : Lo.Denot = record { pointer = block_ptr b o; alloc = a; held = x } in
     let good : Good (layout Out) v₁ = (and_tt _ fitting.0, (record { fits = lit< tt }, (fitting.1, tt))) in
