@@ -9,7 +9,12 @@ use std::test::Fail;
 // Whether a session whose input fails after so many bytes is told as failed, and has answered the lines before.
 fn read_fails(alloc: Global, text: &[u8], good: usize) -> Result<bool, AllocError> {
     let mut written = Vec::new(alloc);
-    let lines = text[..good].iter().filter(|byte| **byte == b'\n').count();
+    let mut lines = 0usize;
+    for byte in text.iter().take(good) {
+        if *byte == b'\n' {
+            lines = lines.saturating_add(1);
+        }
+    }
     let wanted = answered(alloc, lines)?;
     let mut inlet = FromReader::new(FailingReader { rest: text, good });
     let answer = live(

@@ -16,10 +16,18 @@ fn serve(alloc: Global, text: &[u8], written: &mut Vec<u8>) -> Result<Served, Re
 #[test]
 fn a_refused_session_is_served_again(rt: HostRuntime) -> Result<(), Fail> {
     let alloc = rt.alloc();
-    let text = input(alloc)?;
-    let wanted = session(alloc)?;
+    let text = match input(alloc) {
+        Ok(text) => text,
+        Err(_) => input(alloc)?,
+    };
+    let wanted = match session(alloc) {
+        Ok(wanted) => wanted,
+        Err(_) => session(alloc)?,
+    };
     let mut written = Vec::new(alloc);
-    written.reserve(wanted.len())?;
+    if written.reserve(wanted.len()).is_err() {
+        written.reserve(wanted.len())?;
+    }
     let mut answer = serve(alloc, text.as_bytes(), &mut written);
     if answer == Err(ReplayFault::OutOfMemory) {
         assert!(rt; wanted.as_bytes().starts_with(written.as_slice()));
