@@ -2,7 +2,7 @@
 
     python3 tools/gate/hosts.py PROGRAM
 
-The clock of a machine that does other work says only that nothing comes early; how late a host is stands in docs/PERFORMANCE.md.
+The clock of a machine that does other work says only that nothing comes early; how late a host is, bench/live_udp.py tells.
 The two namespaces are tried by root alone, and where there are ip, ping and cc.
 """
 
