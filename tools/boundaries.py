@@ -48,7 +48,7 @@ CALLERS = {
     },
     "dn_link timing": {"tx_time": ["start::send"]},
     "dn_flows flows": {
-        "new": ["state::new_state"],
+        "with_key": ["state::new_state"],
         "len": ["prepare::prepare", "configure::discard_flows", "show::statuses", "shaper::reply_room"],
         "find_or_make": ["prepare::prepare"],
         "forget_last": ["make::house_last"],
