@@ -2,7 +2,7 @@
 
     python3 tools/gate/c_library.py SEED COUNT
 
-It takes the library of the present sources, which `./build --lib` builds where there is none: `rt ci` proves it and builds none.
+It takes the library of the present sources, as tools/library finds it: `rt ci` proves it and builds none.
 COUNT random scenarios are written by the reference with the reply to each call, and made by c_library/scenarios.c through the
 header, packet by packet and many at once. All is compiled with the sanitizers for addresses and undefined behaviour, and with
 warnings as errors.
@@ -104,11 +104,8 @@ def scenario(rng: Random) -> Iterator[str]:
 
 def library() -> Path:
     """The static library of the present sources."""
-    done = subprocess.run([TOOLS / "program_sources", "hingetulip_c"], capture_output=True, text=True, check=True)
-    found = TOOLS.parent / "built" / done.stdout.strip() / STATIC
-    if not found.exists():
-        subprocess.run([TOOLS.parent / "build", "--lib"], check=True)
-    return found
+    done = subprocess.run([TOOLS / "library"], stdout=subprocess.PIPE, text=True, check=True)
+    return Path(done.stdout.strip()) / STATIC
 
 
 def program(place: Path, name: str, *more: str | Path) -> Path:

@@ -1,4 +1,4 @@
-"""Compares release/ with the program that was built, byte for byte.
+"""Compares release/ with the program that was built, byte for byte, and the sources of both with the present ones.
 
     python3 tools/gate/release.py PROGRAM
 
@@ -17,6 +17,7 @@ from tally import Tally
 
 TOP = Path(__file__).resolve().parent.parent.parent
 RELEASE = TOP / "release"
+LIBRARY = ["libhingetulip.a", "libhingetulip.so.1"]
 
 
 def main(program: str) -> int:
@@ -26,9 +27,13 @@ def main(program: str) -> int:
         return tally.end()
     sources = subprocess.run([TOP / "tools" / "program_sources"], capture_output=True, text=True, check=True).stdout
     released = (RELEASE / "dummynet").read_bytes()
+    names = ["dummynet", *(name for name in LIBRARY if (RELEASE / name).is_file())]
     anew = "tools/release makes it anew from what ./check or ./build has built"
     tally.note("sources", "" if (RELEASE / "sources").read_text() == sources else f"the release was built from other sources; {anew}")
-    tally.equal("checksum", f"{sha256(released).hexdigest()}  dummynet\n", (RELEASE / "SHA256SUMS").read_text())
+    sums = "".join(f"{sha256((RELEASE / name).read_bytes()).hexdigest()}  {name}\n" for name in names)
+    tally.equal("checksums", sums, (RELEASE / "SHA256SUMS").read_text())
+    library = subprocess.run([TOP / "tools" / "program_sources", "hingetulip_c"], capture_output=True, text=True, check=True).stdout
+    tally.note("sources of the library", "" if (RELEASE / "library-sources").read_text() == library else f"the released library was built from other sources; {anew}, with ./build --lib before it")
     kit = subprocess.run(["rt", "version"], capture_output=True, text=True, check=True).stdout.split()[0]
     if f"built by {kit}." not in (RELEASE / "README.md").read_text().replace("\n", " "):
         print(f"the release was built by another kit than {kit}, so its bytes aren't compared")

@@ -20,8 +20,8 @@ from tempfile import TemporaryDirectory
 from tally import Tally
 
 TOP = Path(__file__).resolve().parent.parent.parent
-SCRIPTS = ("dummynet", "build", "install", "tools/program_sources", "tools/build_program.py", "tools/link_library.py", "tools/release", "tools/completion.bash",
-           "docs/dummynet.1", "crates.txt", "HANDLES")
+SCRIPTS = ("dummynet", "build", "install", "tools/program_sources", "tools/build_program.py", "tools/link_library.py", "tools/library", "tools/release",
+           "tools/completion.bash", "docs/dummynet.1", "crates.txt", "HANDLES")
 PRETENDED = """#!/bin/sh
 crate=$(basename "$PWD")
 case $1 in
