@@ -21,10 +21,24 @@ use Rattle.dn_history.specs.Remarks.{is_remark, without_remarks}
 use Rattle.dn_history.proofs.HistoryBack.{entry-plain}
 use Rattle.dn_live.specs.Asked.{asked}
 use Rattle.dn_live.specs.Session.{answer, answers, begun, calls_after, calls_of, closing, IsServed, next_record, tail_answer}
-use Rattle.dn_live.specs.Transcripts.{entries_of, entry_after, entry_of, IsTranscript}
+use Rattle.dn_live.specs.Transcripts.{IsTranscript}
 use Rattle.dn_live.specs.declared.asked.Asked.{Asked}
 use Rattle.dn_live.specs.declared.asked.Asked.TheVariants.{Nothing, Next, Calls, Bad}
 use Rattle.dn_live.specs.declared.served.Served.{Served}
+
+-- The entry of a call after the calls before it.
+abbrev entry_after : List Call → ℕ → Call → Entry
+entry_after calls caller call = record { caller = caller; call = call; reply = reply Ordered calls call }
+
+-- The entry of what a line asks for, if that is a call.
+abbrev entry_of : List Call → Asked → List Entry
+entry_of calls (Calls caller call) = entry_after calls caller call ∷ []
+entry_of calls _ = []
+
+-- The entries of lines, oldest first.
+unfoldable entries_of : List (List ℕ) → List Entry
+entries_of [] = []
+entries_of (line ∷ lines) = entries_of lines ++ entry_of (calls_of lines) (asked line)
 
 -- A history whose calls are these.
 abbrev IsHistory : List Entry → List Call → Type 0
