@@ -1,4 +1,4 @@
-"""Makes the C library of the archive that rt has built of crates/hingetulip_c: libhingetulip.a, and libhingetulip.so.1 with a link.
+"""Makes the C library of the archive that rt has built of crates/hingetulip_c: libhingetulip.a and libhingetulip.so.1.
 
     python3 tools/link_library.py ARCHIVE FOLDER
 
@@ -8,13 +8,12 @@ shared one gives out the names that begin with `dn_` alone.
 
 from __future__ import annotations
 
-import os
 import subprocess
 import sys
 from pathlib import Path
 from tempfile import TemporaryDirectory
 
-STATIC, SHARED, LINK = "libhingetulip.a", "libhingetulip.so.1", "libhingetulip.so"
+STATIC, SHARED = "libhingetulip.a", "libhingetulip.so.1"
 
 
 def kit_archive() -> Path:
@@ -40,8 +39,6 @@ def link(archive: Path, folder: Path) -> None:
             "-Wl,--whole-archive", static, "-Wl,--no-whole-archive")
         static.replace(folder / STATIC)
         shared.replace(folder / SHARED)
-    if not (folder / LINK).is_symlink():
-        os.symlink(SHARED, folder / LINK)
 
 
 if __name__ == "__main__":
