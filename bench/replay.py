@@ -1,0 +1,87 @@
+"""Runs the program beside plain Rust, by turns, and prints what each took.
+
+    python3 bench/replay.py PROGRAM TWIN [ROUNDS [ROWS]]
+
+PROGRAM is dummynet, and TWIN the plain Rust of bench/twin, which answers the same reports, byte for byte (that is checked). A figure
+is the median, over the rounds, of user and system time by the twin's in the same round; memory is the most that stood in it. All run on
+one processor, and the twin's replay is the first in each round. Bench/replay.sh builds both and calls this.
+"""
+
+from __future__ import annotations
+
+import os
+import statistics
+import subprocess
+import sys
+from dataclasses import dataclass, field
+from pathlib import Path
+from tempfile import TemporaryDirectory
+
+from loads import CONFIGS, write
+
+PROCESSOR = 2
+MIB = 1024
+
+
+@dataclass
+class Form:
+    """A command of a load, and what its runs took: seconds of user and system time, and KiB of memory."""
+
+    name: str
+    words: list[str]
+    seconds: list[float] = field(default_factory=list)
+    memory: int = 0
+
+    def run(self) -> None:
+        with subprocess.Popen(self.words, stdout=subprocess.DEVNULL) as child:
+            _, status, used = os.wait4(child.pid, 0)
+            child.returncode = os.waitstatus_to_exitcode(status)
+        if child.returncode != 0:
+            sys.exit(f"{' '.join(self.words)}: status {child.returncode}")
+        self.seconds.append(used.ru_utime + used.ru_stime)
+        self.memory = max(self.memory, used.ru_maxrss)
+
+    def row(self, load: str, first: Form) -> str:
+        ratio = statistics.median(own / other for own, other in zip(self.seconds, first.seconds, strict=True))
+        return f"| {load} | {self.name} | {statistics.median(self.seconds):.3f} s | {ratio:.2f} | {self.memory / MIB:.0f} MiB |"
+
+
+def report(words: list[str]) -> bytes:
+    return subprocess.run(words, stdout=subprocess.PIPE, check=True).stdout
+
+
+def forms(program: str, twin: str, config: Path, packets: Path, folder: Path) -> list[Form]:
+    files = ["replay", str(config), str(packets)]
+    history = ["--history", str(folder / "history")]
+    return [
+        Form("plain Rust", [twin, *files]),
+        Form("dummynet", [program, *files]),
+        Form("plain Rust, with a history", [twin, *files, *history]),
+        Form("dummynet, with a history", [program, *files, *history]),
+        Form("dummynet, the audit of that history", [program, "audit", str(folder / "history")]),
+    ]
+
+
+def table(load: str, program: str, twin: str, rounds: int, rows: int) -> None:
+    with TemporaryDirectory() as name:
+        folder = Path(name)
+        config, packets = write(load, rows, folder)
+        tried = forms(program, twin, config, packets, folder)
+        if report(tried[0].words) != report(tried[1].words):
+            sys.exit(f"{load}: the reports differ")
+        for _ in range(rounds):
+            for form in tried:
+                form.run()
+        for form in tried:
+            print(form.row(load, tried[0]), flush=True)
+
+
+def main(program: str, twin: str, rounds: str = "9", rows: str = "1000000") -> None:
+    os.sched_setaffinity(0, {PROCESSOR})
+    print("| Load | What | User and system time | By plain Rust's replay | Memory |\n|---|---|---|---|---|")
+    for load in CONFIGS:
+        table(load, program, twin, int(rounds), int(rows))
+
+
+if __name__ == "__main__":
+    main(*sys.argv[1:])
