@@ -1,11 +1,9 @@
 -- What is picked is the first of its slot's backlog, and it is the next packet of the link.
-use Rattle.std.proofs.Common.{◌≡◌, ◌∙◌, ◌≤◌, ◌<◌, ◌⊎◌, ℕ, zero, suc, max, Bool, true, false, cond, List, [], ◌∷◌, ◌++◌, map, get_or, refl, ap, sym, subst, length, take, arith, ⊎_elim, inl, inr}
-use Rattle.std.specs.Prelude.{Option, Some, None, nat_eq, slice_get, option_map}
-use Rattle.std.specs.List.{All, filter}
-use Rattle.std.proofs.lemmas.List.{take-map, map-append}
-use Rattle.std.proofs.lemmas.List.Elements.{All-append, All-filter}
+use Rattle.std.proofs.Common.{◌≡◌, ◌∙◌, ◌≤◌, ◌<◌, ◌⊎◌, ℕ, zero, suc, max, List, [], ◌∷◌, map, refl, ap, sym, subst, length, arith, ⊎_elim, inl, inr}
+use Rattle.std.specs.Prelude.{Some, None, nat_eq, slice_get, option_map}
+use Rattle.std.specs.List.{All}
 use Rattle.std.proofs.lemmas.Bool.{eqb-true}
-use Rattle.dn_types.specs.Wf2q.{Stamped, heads, pick, raised, first_to_go, earlier, goes_before, is_eligible, grown}
+use Rattle.dn_types.specs.Wf2q.{Stamped, heads, pick, grown}
 use Rattle.dn_types.specs.Trace.{Link, link_eq, Accepted, Event, backlog, flow_bound}
 use Rattle.dn_types.specs.SharedLinks.{virtual_time, link_heads}
 use Rattle.dn_wf2q.specs.Schedule.{Flow, Schedule, flow_at as slot_at, heads_of}
@@ -13,63 +11,9 @@ use Rattle.dn_shaper.specs.Refinement.Slots.{Ascends}
 use Rattle.dn_shaper.proofs.Slots.{flow_from}
 use Rattle.dn_shaper.specs.Refinement.Views.{stamped_of, slotted}
 use Rattle.dn_shaper.specs.Refinement.Agreement.{IsScheduleAt}
+use Rattle.dn_types.proofs.Firsts.{heads-same, pick-first}
 use Rattle.dn_types.proofs.Settling.{backlog-own, backlog-above, and-right, IsOwn}
 use Rattle.dn_shaper.proofs.Slots.{flows-rise, flow-at, moved, heads-moved, heads-between, pick-moved, grown-moved, le-to}
-
-pub heads-same : (n : ℕ) (q : ℕ → List Stamped) (r : ℕ → List Accepted) → ((f : ℕ) → q f ≡ stamped_of (r f)) → heads n q ≡ stamped_of (heads n r)
-heads-same zero q r h = refl
-heads-same (suc n) q r h =
-    ap (λ (xs : List Stamped). xs ++ take 1 (q n)) (heads-same n q r h)
-    ∙ ap (λ (xs : List Stamped). stamped_of (heads n r) ++ take 1 xs) (h n)
-    ∙ ap (λ (xs : List Stamped). stamped_of (heads n r) ++ xs) (take-map (λ (p : Accepted). p.stamped) 1 (r n))
-    ∙ sym (map-append (λ (p : Accepted). p.stamped) (heads n r) (take 1 (r n)))
-
--- ---- What is picked is the first of its flow's queue
-
-module _ (P : Stamped → Type 0) where
-  all-one : (x : Stamped) → P x → All P (x ∷ [])
-  all-one x h = λ k d lt. at_zero k d lt
-    where
-      at_zero : (k : ℕ) (d : Stamped) → k < length (x ∷ []) → P (get_or (x ∷ []) k d)
-      at_zero zero d lt = h
-      at_zero (suc k) d lt = absurd (omega arith)
-
-  all-first : (x : Stamped) (xs : List Stamped) → All P (x ∷ xs) → P x
-  all-first x xs h = h 0 x (omega arith)
-
-  all-rest : (x : Stamped) (xs : List Stamped) → All P (x ∷ xs) → All P xs
-  all-rest x xs h = λ k d lt. h (suc k) d (omega arith)
-
-  earlier-one-of : (x : Stamped) (o : Option Stamped) (h : Stamped) → P x → ((y : Stamped) → o ≡ Some y → P y) → earlier x o ≡ Some h → P h
-  earlier-one-of x None h px po e = let same : x ≡ h = cc in subst P same px
-  earlier-one-of x (Some y) h px po e = by_test (goes_before y x) e
-    where
-      by_test : (b : Bool) → Some (cond b y x) ≡ Some h → P h
-      by_test true e = let same : y ≡ h = cc in subst P same (po y refl)
-      by_test false e = let same : x ≡ h = cc in subst P same px
-
-  first_to_go-one-of : (xs : List Stamped) (h : Stamped) → All P xs → first_to_go xs ≡ Some h → P h
-  first_to_go-one-of [] h all e = absurd cc
-  first_to_go-one-of (x ∷ xs) h all e = earlier-one-of x (first_to_go xs) h (all-first x xs all) (λ y ey. first_to_go-one-of xs y (all-rest x xs all) ey) e
-
-module _ (q : ℕ → List Stamped) (own_firsts : (f : ℕ) (h : Stamped) → slice_get (q f) 0 ≡ Some h → h.flow ≡ f) where
-  abbrev IsFirst : Stamped → Type 0
-  IsFirst h = slice_get (q h.flow) 0 ≡ Some h
-
-  take-first : (f : ℕ) (xs : List Stamped) → q f ≡ xs → All IsFirst (take 1 xs)
-  take-first f [] e = λ k d lt. absurd (omega arith)
-  take-first f (x ∷ xs) e =
-      let first : slice_get (q f) 0 ≡ Some x = ap (λ (ys : List Stamped). slice_get ys 0) e in
-      all-one IsFirst x (ap (λ g. slice_get (q g) 0) (own_firsts f x first) ∙ first)
-
-  heads-first : (n : ℕ) → All IsFirst (heads n q)
-  heads-first zero = λ k d lt. absurd (omega arith)
-  heads-first (suc n) = All-append IsFirst (heads n q) (take 1 (q n)) (heads-first n) (take-first n (q n) refl)
-
-  pub pick-first : (n v : ℕ) (h : Stamped) → pick v (heads n q) ≡ Some h → slice_get (q h.flow) 0 ≡ Some h
-  pick-first n v h e = first_to_go-one-of IsFirst (filter (is_eligible (raised v (heads n q))) (heads n q)) h (All-filter (is_eligible (raised v (heads n q))) IsFirst (heads n q) (heads-first n)) e
-
--- ---- Slots and flows
 
 pub slot_or : (slots : List ℕ) (slot : ℕ) → ((flow : ℕ) × (slice_get slots slot ≡ Some flow)) ⊎ (length slots ≤ slot)
 slot_or [] slot = inr (omega arith)
