@@ -6,6 +6,7 @@ use Rattle.std.proofs.lemmas.Bool.Decides.{nat_tests}
 use Rattle.std.proofs.lemmas.List.Elements.{All-nil, All-cons}
 use Rattle.dn_types.specs.Calls.{trace_of}
 use Rattle.dn_types.specs.FairShare.{share}
+use Rattle.dn_types.specs.SharedLinks.{link_heads, virtual_time}
 use Rattle.dn_types.specs.Trace.{shared, Start, started}
 use Rattle.dn_types.specs.declared.call.Call.{Call}
 use Rattle.dn_types.specs.declared.call.Call.TheVariants.{Configure, Submit, Advance}
@@ -15,7 +16,7 @@ use Rattle.dn_types.specs.declared.target.Target.TheVariants.{Queue as ToQueue}
 use Rattle.dn_types.proofs.ByWeight.{shares-by-weight}
 use Rattle.dn_types.proofs.ExampleWords.{tuple, no_mask, packet}
 use Rattle.dn_types.proofs.Fair.{shares-fairly}
-use Rattle.dn_types.proofs.Shares.{pick-is-fair, raises-to-the-least}
+use Rattle.dn_types.proofs.Shares.{pick-is-fair, pick-is-least, raises-to-the-least}
 
 le : (a b : ℕ) → nat_le a b ≡ true → a ≤ b
 le a b h = grind (arith, nat_tests)
@@ -60,6 +61,11 @@ met_in_bytes = shares-by-weight (Advance 2000000 ∷ older) 1 0 1 1 1 1000 1000 
     (λ e. (refl, le _ _ refl), (λ e. (refl, le _ _ refl), (λ e. (refl, le _ _ refl), (λ e. (refl, le _ _ refl), (λ e. (refl, le _ _ refl), (λ e. (refl, le _ _ refl), (λ e. (refl, le _ _ refl), (λ e. (refl, le _ _ refl), tt))))))))
     (lt 0 1 refl)
     (λ e. (refl, le _ _ refl), (λ e. (refl, le _ _ refl), (λ e. (refl, le _ _ refl), (λ e. (refl, le _ _ refl), (λ e. (refl, le _ _ refl), (λ e. (refl, le _ _ refl), (λ e. (refl, le _ _ refl), (λ e. (refl, le _ _ refl), tt))))))))
+
+-- At 1 ms the first packets of both flows have the same finish tag, and that of the lesser flow number starts.
+lesser_flow : 0 ≤ 1
+lesser_flow =
+    (pick-is-least (virtual_time (shared 1) (trace_of older)) (link_heads (shared 1) (trace_of older)) first.packet.stamped refl 1 second.packet.stamped (lt _ _ refl) (le _ _ refl)).1 refl
 
 -- The pick among heads that are there: the first packet alone.
 its_own_finish : All (λ x. first.packet.stamped.start_tag ≤ x.finish_tag) (first.packet.stamped ∷ [])

@@ -1,15 +1,16 @@
 -- Each law of what a user configures at an example: its premises hold, and what it speaks of is there.
 use Rattle.std.proofs.Common.{◌≡◌, ◌≤◌, ◌<◌, ◌⊎◌, ◌+◌, ◌*◌, ℕ, true, List, [], ◌∷◌, refl, arith, drop, take}
-use Rattle.std.specs.Prelude.{◌%◌, ◌^◌, Some, None, nat_le, nat_lt}
+use Rattle.std.specs.Prelude.{◌%◌, ◌^◌, Some, None, nat_le, nat_lt, slice_get}
 use Rattle.std.specs.List.{All}
 use Rattle.std.proofs.lemmas.Bool.Decides.{nat_tests}
 use Rattle.dn_types.specs.Calls.{trace_of}
 use Rattle.dn_types.specs.Clock.{effective_moment}
 use Rattle.dn_types.specs.Configuration.{settings}
 use Rattle.dn_types.specs.Deliveries.{undelivered, given}
-use Rattle.dn_types.specs.Explained.{IsStartBy, IsTagged}
+use Rattle.dn_types.specs.Explained.{IsStartBy, IsTagged, IsDeliveryOf}
 use Rattle.dn_types.specs.FlowLaws.{AgreeUnder}
-use Rattle.dn_types.specs.Links.{free}
+use Rattle.dn_types.specs.Flows.{keys}
+use Rattle.dn_types.specs.Links.{free, transmission_time}
 use Rattle.dn_types.specs.Replies.{reply}
 use Rattle.dn_types.specs.SharedLinks.{next_packet, last_finish_tag, virtual_time}
 use Rattle.dn_types.specs.TimeLaws.{IsDelayed, AreInOrder}
@@ -17,24 +18,27 @@ use Rattle.dn_types.specs.Trace.{own, shared, Accepted, Start, Event, arrived, b
 use Rattle.dn_types.specs.declared.call.Call.{Call}
 use Rattle.dn_types.specs.declared.call.Call.TheVariants.{Configure, Submit, Advance}
 use Rattle.dn_types.specs.declared.command.Command.{Command}
-use Rattle.dn_types.specs.declared.command.Command.TheVariants.{Pipe, DeleteQueue}
+use Rattle.dn_types.specs.declared.command.Command.TheVariants.{Pipe, DeletePipe, DeleteQueue}
 use Rattle.dn_types.specs.declared.limit.Limit.TheVariants.{Slots}
 use Rattle.dn_types.specs.declared.reply.Reply.TheVariants.{Queued, Lost, Full}
 use Rattle.dn_types.specs.declared.rule.Rule.TheVariants.{Ordered}
 use Rattle.dn_types.specs.declared.target.Target.TheVariants.{Pipe as ToPipe, Queue as ToQueue}
 use Rattle.dn_types.proofs.Conserving.{conserves-work}
 use Rattle.dn_types.proofs.ConfiguredRate.{keeps-the-configured-rate}
+use Rattle.dn_types.proofs.Delays.{delays-are-explained}
 use Rattle.dn_types.proofs.DropLaws.{drops-are-explained}
-use Rattle.dn_types.proofs.ExampleWords.{tuple, mask, no_mask, packet, worded, pipe, queue, to_pipe, to_queue, key}
+use Rattle.dn_types.proofs.ExampleWords.{tuple, mask, no_mask, packet, worded, pipe, queue, to_pipe, to_queue, key, delivery}
 use Rattle.dn_types.proofs.InTurn.{gives-in-order}
 use Rattle.dn_types.proofs.Isolation.{queue-delete-empties, packets-keep-apart}
+use Rattle.dn_types.proofs.Keys.{keys-stay}
 use Rattle.dn_types.proofs.Masks.{flows-are-by-mask}
-use Rattle.dn_types.proofs.Rates.{starts-apart}
+use Rattle.dn_types.proofs.Rates.{starts-apart, keeps-the-rate}
 use Rattle.dn_types.proofs.Resets.{tags-begin-afresh, queue-delete-resets, dropped-changes-nothing}
 use Rattle.dn_types.proofs.Shares.{tags-by-weight}
 use Rattle.dn_types.proofs.StartLaws.{starts-at-once, starts-the-next, starts-as-configured}
 use Rattle.dn_types.proofs.Sums.{delays-add-up}
 use Rattle.dn_types.proofs.Timely.{starts-in-time, none-starts-early}
+use Rattle.dn_types.proofs.TransmissionTime.{unlimited-takes-no-time}
 
 lt : (a b : ℕ) → nat_lt a b ≡ true → a < b
 lt a b h = grind (arith, nat_tests)
@@ -80,6 +84,10 @@ agree = (flows-are-by-mask Ordered by_port [] (ToPipe 1) (packet (tuple 1 2 17 1
 -- 3000 and 2000 don't.
 another_flow : reply Ordered (to_port 2000 ∷ by_port) (to_port 3000) ≡ Queued 0 1 1
 another_flow = refl
+
+-- The flow keeps its number once its pipe is deleted.
+it_stays : slice_get (keys (Configure (DeletePipe 1) ∷ to_port 2000 ∷ by_port)) 0 ≡ Some (key (ToPipe 1) 1 (mask 0 0 0 0 65280) (tuple 0 0 0 0 1792))
+it_stays = keys-stay (to_port 2000 ∷ by_port) (Configure (DeletePipe 1)) 0 (key (ToPipe 1) 1 (mask 0 0 0 0 65280) (tuple 0 0 0 0 1792)) refl
 
 -- ---- Links: two packets of 1,000 bytes at 0, at 8 Mbit/s with a delay of 50 ms
 
@@ -131,6 +139,21 @@ at_the_rate : 1000 * 8 * 10 ^ 9 + 0 * 8000000 ≤ 1000000 * 8000000
 at_the_rate = keeps-the-configured-rate (Advance 1000000 ∷ to_pipe 1 0 ∷ to_pipe 1 0 ∷ []) (pipe 1 8000000 50 ∷ []) 1 8000000 50 (Slots 50) 0 None no_mask [] (take 1 (trace_of two)) (drop 2 (trace_of two)) second first
     (refl, (refl, (refl, refl))) (omega arith) refl refl refl
 
+-- The pipe is then slowed to 1 Mbit/s, at which the second starts. The first still counts at its own rate.
+abbrev slowed : List Call
+slowed = pipe 1 1000000 50 ∷ two
+
+abbrev slow : Start
+slow = record second { transmission = 8000000 }
+
+at_its_own_rate : 1000 * 8 * 10 ^ 9 + 0 * 8000000 ≤ 1000000 * 8000000
+at_its_own_rate = keeps-the-rate (Advance 1000000 ∷ slowed) [] (take 1 (trace_of two)) (drop 2 (trace_of two)) slow first 8000000 refl refl (lt 0 8000000 refl) ((λ e. refl), tt)
+
+-- Each is due 51 ms after its start, and the first is due by then.
+explained : All (IsDeliveryOf Ordered (trace_of (Advance 1000000 ∷ two))) (delivery 0 0 0 51000000 ∷ delivery 1 0 1000000 52000000 ∷ [])
+    × All (IsDeliveryOf Ordered (trace_of (Advance 1000000 ∷ two))) (delivery 0 0 0 51000000 ∷ [])
+explained = delays-are-explained Ordered 51000000 (trace_of (Advance 1000000 ∷ two))
+
 in_time : (0 ≤ 1000000) × (1000000 ≤ 1000000)
 in_time = starts-in-time two (Advance 1000000) [] [] second refl
 
@@ -139,6 +162,13 @@ not_early = none-starts-early Ordered (Advance 1000000 ∷ []) (drop 1 two) (ToP
 
 it_adds_up : All (λ d. d.packet ≡ 1 → IsDelayed Ordered (Advance 1000000 ∷ two) 0 d) (undelivered Ordered (trace_of (Advance 1000000 ∷ two)))
 it_adds_up = delays-add-up Ordered (Advance 1000000 ∷ []) (drop 1 two) (ToPipe 1) (worded 0) 0 0 0 1 refl
+
+-- At bandwidth 0 both start at once, and their link is free at once.
+takes_no_time : transmission_time 0 1000 ≡ 0
+takes_no_time = unlimited-takes-no-time 1000
+
+free_at_once : free (own 1 0) (trace_of (to_pipe 1 0 ∷ to_pipe 1 0 ∷ pipe 1 0 50 ∷ [])) ≡ 0
+free_at_once = refl
 
 both_in_order : AreInOrder (given Ordered 60000000 (trace_of (Advance 1000000 ∷ two)))
 both_in_order = gives-in-order Ordered 60000000 (trace_of (Advance 1000000 ∷ two))

@@ -1,5 +1,5 @@
--- The transmission time is the least that is long enough.
-use Rattle.std.proofs.Common.{◌≡◌, ◌≤◌, ◌<◌, ℕ, suc, ◌+◌, ◌*◌, ◌-◌, cond, false, ap, arith}
+-- The transmission time is the least that is long enough, and none where the bandwidth is unlimited.
+use Rattle.std.proofs.Common.{◌≡◌, ◌≤◌, ◌<◌, ℕ, suc, ◌+◌, ◌*◌, ◌-◌, cond, false, ap, refl, arith}
 use Rattle.std.specs.Prelude.{◌/◌, ◌^◌, nat_eq}
 use Rattle.std.proofs.Math.Nat.{lt-div-mul-add, div-lt_iff_lt-mul, suc-mul}
 use Rattle.std.proofs.lemmas.Bool.Decides.{nat_tests}
@@ -23,3 +23,6 @@ transmission-is-least bandwidth len h =
     let product : transmission_time bandwidth len * bandwidth ≡ (len * 8000000000 + (bandwidth - 1)) / bandwidth * bandwidth = ap {B = ℕ} (λ t. t * bandwidth) time in
     let long = enough (len * 8000000000) bandwidth h in
     (omega (arith, bits, product, long), λ t fits. let short = least (len * 8000000000) bandwidth h t (omega (arith, bits, fits)) in omega (arith, time, short))
+
+pub unlimited-takes-no-time : (len : ℕ) → transmission_time 0 len ≡ 0
+unlimited-takes-no-time len = refl

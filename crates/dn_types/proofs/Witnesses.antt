@@ -1,13 +1,14 @@
 -- Each law at the calls of a worked example, where it says something: its premises hold, and what it speaks of is there.
-use Rattle.std.specs.Prelude.{◌≡◌, ◌≤◌, ◌<◌, ◌+◌, ◌*◌, ◌^◌, ℕ, List, [], ◌∷◌, ◌++◌, length, map, reverse, take, Some, None, refl, drop}
+use Rattle.std.specs.Prelude.{◌≡◌, ◌≤◌, ◌<◌, ◌+◌, ◌-◌, ◌*◌, ◌^◌, ℕ, true, List, [], ◌∷◌, ◌++◌, length, map, replicate, reverse, take, Some, None, is_some, refl, drop}
 use Rattle.std.specs.List.{All, count_by}
 use Rattle.std.proofs.Common.{arith}
+use Rattle.std.proofs.lemmas.List.{length-append, length-replicate}
 use Rattle.std.proofs.lemmas.List.Elements.{All-nil, All-cons}
 use Rattle.dn_types.specs.Bounds.{IsInRange, HasBoundedMoments, HasBoundedBytes, HasBoundedCounts}
 use Rattle.dn_types.specs.Calls.{trace_of}
-use Rattle.dn_types.specs.Clock.{counted}
+use Rattle.dn_types.specs.Clock.{call_limit, counted}
 use Rattle.dn_types.specs.Configuration.{settings}
-use Rattle.dn_types.specs.Deliveries.{given, undelivered}
+use Rattle.dn_types.specs.Deliveries.{delivery_of, given, undelivered}
 use Rattle.dn_types.specs.Given.{accepted_since, started_since, is_packet, start_count, given_count}
 use Rattle.dn_types.specs.History.{IsLawful, calls_of, own_entries}
 use Rattle.dn_types.specs.Laws.{IsFirstEligible}
@@ -16,26 +17,28 @@ use Rattle.dn_types.specs.Replies.{replies, reply}
 use Rattle.dn_types.specs.SharedLinks.{link_heads, virtual_time, waiting}
 use Rattle.dn_types.specs.Standing.{standing}
 use Rattle.dn_types.specs.Starts.{next_start, settled}
-use Rattle.dn_types.specs.Trace.{Event, own, shared, backlog, Start}
+use Rattle.dn_types.specs.Trace.{Event, own, shared, backlog, Start, started}
 use Rattle.dn_types.specs.Wf2q.{Stamped, pick}
 use Rattle.dn_types.specs.declared.call.Call.{Call}
 use Rattle.dn_types.specs.declared.call.Call.TheVariants.{Advance, Collect, Show}
 use Rattle.dn_types.specs.declared.entry.Entry.{Entry}
 use Rattle.dn_types.specs.declared.reply.Reply.{Reply}
-use Rattle.dn_types.specs.declared.reply.Reply.TheVariants.{Configured, Delivered, Queued, Status}
+use Rattle.dn_types.specs.declared.reply.Reply.TheVariants.{Configured, Delivered, Exhausted, Queued, Status}
 use Rattle.dn_types.specs.declared.rule.Rule.TheVariants.{Ordered}
 use Rattle.dn_types.specs.declared.target.Target.TheVariants.{Pipe as ToPipe}
 use Rattle.dn_types.proofs.BoundedCounts.{bounded-counts}
 use Rattle.dn_types.proofs.BoundedReplies.{bounded-moments, due-moments-bounded, bounded-bytes}
-use Rattle.dn_types.proofs.Bridge.{replies-by-standing}
-use Rattle.dn_types.proofs.Dues.{due-moments-never-fall, gives-once, gives-what-is-due, leaves-what-is-not-due}
+use Rattle.dn_types.proofs.Bridge.{exhausted-changes-nothing, replies-by-standing}
+use Rattle.dn_types.proofs.Dues.{due-is-last, due-moments-never-fall, gives-once, gives-what-is-due, leaves-what-is-not-due}
 use Rattle.dn_types.proofs.ExampleWords.{delivery, key, no_mask, pipe, queue, status, to_pipe, to_queue, tuple}
 use Rattle.dn_types.proofs.Giving.{gives-started}
 use Rattle.dn_types.proofs.Histories.{counts-up-to-the-limit, lawful-replies, own-entries-grow}
 use Rattle.dn_types.proofs.Once.{starts-once}
 use Rattle.dn_types.proofs.Ordered.{sends-one-at-a-time, starts-in-order}
 use Rattle.dn_types.proofs.PickLaws.{pick-is-first}
+use Rattle.dn_types.proofs.Picks.{pick-some}
 use Rattle.dn_types.proofs.Settled.{settled-ends}
+use Rattle.dn_types.proofs.Shares.{grows-by-work, pick-is-least}
 use Rattle.dn_types.proofs.TransmissionTime.{transmission-is-least}
 
 -- Two packets to queue 1 of weight 1 and three to queue 2 of weight 3, all at 0, newest first.
@@ -82,11 +85,23 @@ it_started_once = starts-once 2 (Advance 1000000 ∷ calls)
 abbrev picked : Stamped
 picked = record { flow = 0; len = 1000; weight = 1; start_tag = 65536000; finish_tag = 131072000 }
 
+one_is_there : is_some (pick (virtual_time (shared 1) before) (link_heads (shared 1) before)) ≡ true
+one_is_there = pick-some (virtual_time (shared 1) before) (link_heads (shared 1) before) (omega arith)
+
 it_is_picked : pick (virtual_time (shared 1) before) (link_heads (shared 1) before) ≡ Some picked
 it_is_picked = refl
 
 it_is_first : IsFirstEligible (virtual_time (shared 1) before) (link_heads (shared 1) before) picked
 it_is_first = pick-is-first (virtual_time (shared 1) before) (link_heads (shared 1) before) picked refl
+
+-- At 1 ms the first packets of both queues have the start tag 65536000, which virtual time has reached. That of queue 2 is
+-- picked, and its finish tag is the lesser.
+lesser_finish_tag : 87381333 ≤ 131072000
+lesser_finish_tag = (pick-is-least (virtual_time (shared 1) (drop 1 before)) (link_heads (shared 1) (drop 1 before)) newest.packet.stamped refl 0 picked (omega arith) (omega arith)).0
+
+-- The weights of both are 4 together, so its 1,000 bytes let virtual time grow by 250.
+grown_by_250 : (81920000 * 4 ≤ 65536000 * 4 + 1000 * 65536) × (65536000 * 4 + 1000 * 65536 < (81920000 + 1) * 4)
+grown_by_250 = grows-by-work (shared 1) (drop 1 before) newest refl (omega arith)
 
 -- ---- Due moments
 
@@ -101,6 +116,18 @@ two_delays = pipe 1 8000000 0 ∷ to_pipe 1 0 ∷ pipe 1 8000000 50 ∷ []
 -- The second packet is due with the first, and by its own delay it would be due at 3 ms.
 due_with_the_first : last_due Ordered (own 1 0) (trace_of (to_pipe 1 2000000 ∷ two_delays)) ≡ 51000000
 due_with_the_first = refl
+
+abbrev without_delay : Start
+without_delay = record {
+  packet = record { packet = 1; link = own 1 0; stamped = record { flow = 0; len = 1000; weight = 1; start_tag = 65536000; finish_tag = 131072000 } };
+  moment = 1000000;
+  transmission = 1000000;
+  delay = 0;
+}
+
+-- Its own due moment is then the last of its link.
+it_is_the_last : (delivery_of Ordered without_delay 51000000).due ≡ last_due Ordered (own 1 0) (started without_delay ∷ trace_of two_delays)
+it_is_the_last = due-is-last Ordered without_delay (trace_of two_delays)
 
 never_falls : last_due Ordered (own 1 0) (trace_of two_delays) ≤ last_due Ordered (own 1 0) (trace_of (to_pipe 1 2000000 ∷ two_delays))
 never_falls = due-moments-never-fall (own 1 0) (take 3 (trace_of (to_pipe 1 2000000 ∷ two_delays))) (trace_of two_delays)
@@ -148,6 +175,24 @@ one_own_entry_more = own-entries-grow 0 (entry 0 (pipe 1 8000000 0) Configured �
 
 all_count : counted (Collect 2000000 ∷ calls) ≡ Collect 2000000 ∷ calls
 all_count = counts-up-to-the-limit (Collect 2000000) calls
+
+-- A pipe, and then so many calls that ask for the states of the flows.
+shows : ℕ → List Call
+shows count = replicate count Show ++ pipe 1 8000000 0 ∷ []
+
+one_more : (count : ℕ) → length (shows count) ≡ count + 1
+unfolding shows
+one_more count = let all = length-append (replicate count Show) (pipe 1 8000000 0 ∷ []) in let first = length-replicate count Show in omega arith
+
+as_many : call_limit ≤ length (shows (2 ^ 62 - 1))
+as_many = let counts = one_more (2 ^ 62 - 1) in omega arith
+
+-- After 2^62 calls a packet is answered Exhausted, and leaves all as it is. After the first of them alone it is Queued.
+exhausted : (reply Ordered (shows (2 ^ 62 - 1)) (to_pipe 1 0) ≡ Exhausted) × (standing Ordered (to_pipe 1 0 ∷ shows (2 ^ 62 - 1)) ≡ standing Ordered (shows (2 ^ 62 - 1)))
+exhausted = exhausted-changes-nothing Ordered (shows (2 ^ 62 - 1)) (to_pipe 1 0) as_many
+
+not_yet : reply Ordered (pipe 1 8000000 0 ∷ []) (to_pipe 1 0) ≡ Queued 0 0 0
+not_yet = refl
 
 -- ---- The standing
 

@@ -1,8 +1,8 @@
 -- Each law is a lemma over the definitions.
-use Rattle.std.proofs.Common.{refl}
 use Rattle.dn_types.proofs.InTurn.{gives-in-order}
 use Rattle.dn_types.proofs.Sums.{delays-add-up}
 use Rattle.dn_types.proofs.Timely.{starts-in-time, none-starts-early}
+use Rattle.dn_types.proofs.TransmissionTime.{unlimited-takes-no-time}
 use Rattle.dn_types.proofs.laws.laws_of_time.Goals as goal
 
 pub returns-clause-in_time : goal.returns-clause-in_time
@@ -12,7 +12,7 @@ pub returns-clause-not_early : goal.returns-clause-not_early
 returns-clause-not_early c = none-starts-early
 
 pub returns-clause-unlimited : goal.returns-clause-unlimited
-returns-clause-unlimited c = λ len. refl
+returns-clause-unlimited c = unlimited-takes-no-time
 
 pub returns-clause-sum : goal.returns-clause-sum
 returns-clause-sum c = delays-add-up
