@@ -1,10 +1,10 @@
 -- When a packet starts, which one, and with what bandwidth and delay.
 use Rattle.std.proofs.Common.{◌≡◌, ◌∙◌, ◌⊎◌, ⊎_elim, inl, inr, ℕ, List, ◌∷◌, ◌++◌, refl, ap, sym, subst, true, false}
-use Rattle.std.specs.Prelude.{Option, Some, None, is_some}
+use Rattle.std.specs.Prelude.{Option, Some, None, is_some, ⊤}
 use Rattle.dn_types.specs.Calls.{trace_of}
 use Rattle.dn_types.specs.Clock.{effective_moment}
 use Rattle.dn_types.specs.Configuration.{settings}
-use Rattle.dn_types.specs.Explained.{IsPipe, IsStartBy}
+use Rattle.dn_types.specs.Explained.{IsStartBy}
 use Rattle.dn_types.specs.Links.{free, transmission_time}
 use Rattle.dn_types.specs.SharedLinks.{next_packet}
 use Rattle.dn_types.specs.Starts.{start_at, bandwidth_of, delay_of}
@@ -15,6 +15,10 @@ use Rattle.dn_types.specs.declared.command.Command.TheVariants.{Pipe, Queue, Del
 use Rattle.dn_types.specs.declared.target.Target.TheVariants.{Pipe as ToPipe}
 use Rattle.dn_types.proofs.InForce.{IsKept, IsOfTarget, settings-kept}
 use Rattle.dn_types.proofs.Begun.{IsBegun, IsCaused, call-causes, adds-among}
+
+abbrev IsPipe : Command → Type 0
+IsPipe (Pipe number bw delay limit loss buckets mask) = ⊤
+IsPipe _ = ⊥
 
 module _ (calls : List Call) (c : Call) (later between : List Event) (s : Start) (e : trace_of (c ∷ calls) ≡ later ++ started s ∷ between ++ trace_of calls) where
   pub begun : IsBegun (settings calls) (effective_moment (c ∷ calls)) (trace_of calls) s between

@@ -33,10 +33,6 @@ IsExplained rate most draw lengths (Full at flow) = (rate ≤ draw) × IsAtLimit
 IsExplained rate most draw lengths (Queued at flow number) = (rate ≤ draw) × (IsAtLimit most (lengths flow) → ⊥)
 IsExplained rate most draw lengths _ = ⊥
 
-abbrev pub IsPipe : Command → Type 0
-IsPipe (Pipe number bw delay limit loss buckets mask) = ⊤
-IsPipe _ = ⊥
-
 -- A start with the bandwidth and the delay of a pipe, which is in milliseconds.
 abbrev pub IsStartBy : Command → Start → Type 0
 IsStartBy (Pipe number bw delay limit loss buckets mask) s = (s.transmission ≡ transmission_time bw s.packet.stamped.len)
