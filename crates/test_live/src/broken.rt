@@ -1,10 +1,10 @@
-use crate::fakes::{FailingReader, Sink, WhenFull};
 use crate::sessions::{answered, input, session};
 use dn_files::{ReplayFault, Source};
 use dn_live::{HashKey, live};
 use dn_records::{FromReader, FromWriter, Inlet, Outlet};
 use std::alloc::{AllocError, Global};
 use std::test::Fail;
+use test_devices::{Parts, Sink, WhenFull};
 
 // Whether a session whose input fails after so many bytes is told as failed, and has answered the lines before.
 fn read_fails(alloc: Global, text: &[u8], good: usize) -> Result<bool, AllocError> {
@@ -16,7 +16,7 @@ fn read_fails(alloc: Global, text: &[u8], good: usize) -> Result<bool, AllocErro
         }
     }
     let wanted = answered(alloc, lines)?;
-    let mut inlet = FromReader::new(FailingReader { rest: text, good });
+    let mut inlet = FromReader::new(Parts::failing(text, good));
     let answer = live(
         alloc,
         HashKey(7),

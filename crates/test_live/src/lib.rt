@@ -4,8 +4,6 @@
 #[cfg(test)]
 mod broken;
 #[cfg(test)]
-mod fakes;
-#[cfg(test)]
 mod memory;
 #[cfg(test)]
 mod sessions;

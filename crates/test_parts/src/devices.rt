@@ -1,9 +1,9 @@
-use crate::fakes::{Sink, Source, WhenFull};
 use dn_records::{
     FromReader, FromWriter, Inlet, Outlet, ReadFault, WriteFault, read_whole, write_whole,
 };
 use std::io;
 use std::test::Fail;
+use test_devices::{Parts, Sink, WhenFull};
 
 const TEXT: &[u8] = b"abcdef";
 
@@ -11,12 +11,7 @@ const TEXT: &[u8] = b"abcdef";
 fn an_input_is_read_whole_however_it_is_cut(rt: HostRuntime) -> Result<(), Fail> {
     for step in 1..=7 {
         for (limit, whole) in [(5, false), (6, true), (7, true)] {
-            let mut inlet = FromReader::new(Source {
-                rest: TEXT,
-                step,
-                good: usize::MAX,
-                calls: 0,
-            });
+            let mut inlet = FromReader::new(Parts::of(TEXT, step));
             let outcome = read_whole(rt.alloc(), &mut inlet, limit);
             assert!(rt; !inlet.failed(), "step {step}");
             match outcome {
@@ -41,7 +36,7 @@ fn an_input_that_never_ends_is_too_long(rt: HostRuntime) {
 fn a_read_that_fails_is_told(rt: HostRuntime) {
     for good in 0..=6 {
         for limit in 0..=7 {
-            let mut source = Source {
+            let mut source = Parts {
                 rest: TEXT,
                 step: 1,
                 good,
@@ -68,11 +63,7 @@ fn a_read_that_fails_is_told(rt: HostRuntime) {
 
 #[test]
 fn a_text_is_written_byte_by_byte(rt: HostRuntime) {
-    let mut sink = Sink {
-        held: Vec::new(rt.alloc()),
-        room: 6,
-        when_full: WhenFull::Fails,
-    };
+    let mut sink = Sink::new(rt.alloc(), 6, WhenFull::Fails);
     let mut outlet = FromWriter::new(&mut sink);
     assert!(rt; write_whole(&mut outlet, TEXT).is_ok());
     assert!(rt; write_whole(&mut outlet, b"").is_ok());
@@ -85,11 +76,7 @@ fn a_text_is_written_byte_by_byte(rt: HostRuntime) {
 fn a_write_that_fails_is_told(rt: HostRuntime) {
     for room in 0..6usize {
         for when_full in [WhenFull::Fails, WhenFull::TakesNothing] {
-            let mut sink = Sink {
-                held: Vec::new(rt.alloc()),
-                room,
-                when_full,
-            };
+            let mut sink = Sink::new(rt.alloc(), room, when_full);
             let mut outlet = FromWriter::new(&mut sink);
             let outcome = write_whole(&mut outlet, TEXT);
             assert!(rt; outcome == Err(WriteFault), "room {room}");

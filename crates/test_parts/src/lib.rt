@@ -6,8 +6,6 @@ mod config;
 #[cfg(test)]
 mod devices;
 #[cfg(test)]
-mod fakes;
-#[cfg(test)]
 mod file_texts;
 #[cfg(test)]
 mod files;

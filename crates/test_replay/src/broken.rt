@@ -1,4 +1,3 @@
-use crate::fakes::{FailingReader, Sink, WhenFull};
 use crate::headers::PACKET_HEADER;
 use crate::replays::{replay_files, replay_joined_reader, replay_readers, replay_text};
 use dn_config::LineFault;
@@ -8,6 +7,7 @@ use std::alloc::{AllocError, Global};
 use std::io;
 use std::io::Read;
 use std::test::Fail;
+use test_devices::{Parts, Sink, WhenFull};
 
 pub const FULL_QUEUE: &str = "pipe 1 config bw 8Mbit/s queue 1\n--\n\
     moment,target,number,src,dst,proto,sport,dport,len,word\n\
@@ -113,17 +113,14 @@ fn a_failed_read_is_told_by_its_name(rt: HostRuntime) {
     let config = b"pipe 1 config\n".as_slice();
     let packets = PACKET_HEADER.as_bytes();
     for good in 0..=config.len() {
-        let failing = FailingReader { rest: config, good };
+        let failing = Parts::failing(config, good);
         assert!(rt;
             read_fails(alloc, failing, packets, Source::Config),
             "{good} bytes"
         );
     }
     for good in 0..=packets.len() {
-        let failing = FailingReader {
-            rest: packets,
-            good,
-        };
+        let failing = Parts::failing(packets, good);
         assert!(rt;
             read_fails(alloc, config, failing, Source::Packets),
             "{good} bytes"
@@ -133,10 +130,7 @@ fn a_failed_read_is_told_by_its_name(rt: HostRuntime) {
 
 // Whether a joined input that fails after so many of its bytes is told as failed, and nothing is written.
 fn joined_read_fails(alloc: Global, good: usize) -> bool {
-    let mut input = FromReader::new(FailingReader {
-        rest: FULL_QUEUE.as_bytes(),
-        good,
-    });
+    let mut input = FromReader::new(Parts::failing(FULL_QUEUE.as_bytes(), good));
     let mut written = Vec::new(alloc);
     let outcome = replay_joined(
         alloc,

@@ -1,4 +1,3 @@
-use crate::fakes::{FailingReader, Sink, WhenFull};
 use crate::history::ONE_CALLER;
 use crate::history_files::text_with;
 use dn_replay::{
@@ -6,6 +5,7 @@ use dn_replay::{
 };
 use std::alloc::Global;
 use std::test::Fail;
+use test_devices::{Parts, Sink, WhenFull};
 
 // Whether the audit of a file answers this, and writes this line or nothing.
 fn audits(alloc: Global, file: &str, answer: Result<Verdict, ReplayFault>, line: &str) -> bool {
@@ -86,10 +86,7 @@ fn a_file_without_its_last_record_has_no_verdict(rt: HostRuntime) -> Result<(), 
 // Whether a file that fails after so many of its bytes is told as failed, and nothing is written.
 fn read_fails(alloc: Global, good: usize) -> bool {
     let mut written = Vec::new(alloc);
-    let mut input = FromReader::new(FailingReader {
-        rest: ONE_CALLER.as_bytes(),
-        good,
-    });
+    let mut input = FromReader::new(Parts::failing(ONE_CALLER.as_bytes(), good));
     let answer = audit_file(
         alloc,
         HashKey(7),

@@ -1,4 +1,3 @@
-use crate::fakes::{Sink, WhenFull};
 use crate::histories::{NO_BITS, entry, flow_state, number, one_caller, pipe_one, submit};
 use dn_replay::{FromReader, FromWriter, Outlet, ReplayFault, Source, read_history, write_history};
 use dn_types::{
@@ -7,6 +6,7 @@ use dn_types::{
 };
 use std::alloc::{AllocError, Global};
 use std::test::Fail;
+use test_devices::{Sink, WhenFull};
 
 pub const ONE_CALLER: &str = "dummynet-history,3\n\
     c,0,configure,pipe 1 config bw 8000000bit/s\n\

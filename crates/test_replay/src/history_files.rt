@@ -1,10 +1,10 @@
-use crate::fakes::FailingReader;
 use crate::histories::one_caller;
 use dn_replay::{FromReader, Inlet, ReplayFault, Source, read_history};
 use dn_types::{Deliveries, Delivery, Entry, FlowKey, FlowStatus, Reply, Rule, Statuses, Target};
 use std::alloc::Global;
 use std::io;
 use std::test::Fail;
+use test_devices::Parts;
 
 // The file of one caller's history, record by record.
 const RECORDS: [&str; 12] = [
@@ -202,10 +202,7 @@ fn old_histories_are_read(rt: HostRuntime) -> Result<(), Fail> {
 
 #[test]
 fn a_failed_read_of_a_history_is_told(rt: HostRuntime) {
-    let mut failing = FromReader::new(FailingReader {
-        rest: b"dummynet-history,3\nend,0\n",
-        good: 20,
-    });
+    let mut failing = FromReader::new(Parts::failing(b"dummynet-history,3\nend,0\n", 20));
     let fault = ReplayFault::Read(Source::History);
     assert!(rt; read_history(rt.alloc(), &mut failing).err() == Some(fault));
     assert!(rt; failing.failed());

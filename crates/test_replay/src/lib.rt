@@ -12,8 +12,6 @@ mod closed;
 #[cfg(test)]
 mod example;
 #[cfg(test)]
-mod fakes;
-#[cfg(test)]
 mod file_audits;
 #[cfg(test)]
 mod gates;
