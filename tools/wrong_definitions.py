@@ -6,9 +6,9 @@
     tools/wrong_definitions.py --list       prints the rows and tries nothing
     tools/wrong_definitions.py --table      prints the table as it is if each row is refused, and tries nothing
 
-Each row changes one line of crates/dn_types/specs in a copy from which the worked examples, the lists of calls and the
-witnesses are taken out, and checks the function of `laws` with the law that is false of the definition. A row passes where
-it is not proved. A row without a law is a choice that no law judges: it is pinned by examples alone.
+Each row changes one line of crates/dn_types/specs, or a few of one file, in a copy from which the worked examples, the lists
+of calls and the witnesses are taken out, and checks the function of `laws` with the law that is false of the definition. A row
+passes where it is not proved. A row without a law is a choice that no law judges: it is pinned by examples alone.
 The prover is called as RT, which is `rt` where the environment names nothing else.
 """
 import os
@@ -22,7 +22,8 @@ TOP = os.path.dirname(os.path.dirname(os.path.abspath(__file__)))
 SET_ASIDE = ['Cases', 'ExamplesDeletes', 'ExamplesLinks', 'ExamplesWf2q', 'ShortListsFlows', 'ShortListsWf2q',
              'Witnesses', 'FairWitness', 'LawWitnesses', 'DeleteWitnesses']
 
-# What is wrong, the file, the right text, the wrong text, and the function and the clause of the law that is false of it.
+# What is wrong, the file, the right text, the wrong text (or as many of each as there are places to change), and the
+# function and the clause of the law that is false of it.
 ROWS = [
     ('weights count for nothing', 'Flows', 'pipe = pipe; weight = weight;', 'pipe = pipe; weight = 1;',
      'laws_of_shares', 'tags'),
@@ -47,6 +48,21 @@ ROWS = [
      'nat_lt a.finish_tag b.finish_tag || nat_eq a.finish_tag b.finish_tag && nat_lt a.flow b.flow',
      'nat_lt a.start_tag b.start_tag || nat_eq a.start_tag b.start_tag && nat_lt a.flow b.flow',
      'laws_of_shares', 'least'),
+    ('a finish tag is by the weight at the pick', 'Calls',
+     ('TheVariants.{DeletePipe, DeleteQueue}', 'TheVariants.{Deleted}', 'List, [], ◌∷◌, map,', 'Option, Some, None}\n',
+      'abbrev pub after_command :', 'after_command _ command known trace = trace\n'),
+     ('TheVariants.{Queue, DeletePipe, DeleteQueue}', 'TheVariants.{Configured, Deleted}',
+      '◌&&◌, List, [], ◌∷◌, map, take, drop,', 'Option, Some, None}\nuse Rattle.std.specs.List.{list_any}\n',
+      'abbrev tagged_at_the_pick : Command → List FlowKey → List Event → Event → Event\n'
+      'tagged_at_the_pick (Queue number pipe weight limit loss buckets mask) known trace (arrived p) = '
+      'cond (list_any (λ q. nat_eq q.packet p.packet) (backlog p.link p.stamped.flow trace) '
+      '&& list_any (λ k. target_eq k.target (ToQueue number)) (take 1 (drop p.stamped.flow known))) '
+      '(arrived (record p { stamped = record p.stamped { '
+      'finish_tag = p.stamped.start_tag + scaled p.stamped.len weight } })) (arrived p)\n'
+      'tagged_at_the_pick command known trace e = e\n\n'
+      'abbrev pub after_command :',
+      'after_command Configured command known trace = map (tagged_at_the_pick command known trace) trace\n'
+      'after_command _ command known trace = trace\n'), 'laws_of_shares', 'stretch'),
     ('ties go to the higher flow', 'Wf2q', 'nat_lt a.flow b.flow', 'nat_lt b.flow a.flow', 'laws_of_shares', 'least'),
     ('a busy period does not reset virtual time', 'SharedLinks',
      'virtual_time link (opened l ∷ trace) = cond (link_eq l link) 0 (virtual_time link trace)',
@@ -180,11 +196,14 @@ def try_row(crate, row):
     spec = os.path.join(crate, 'specs', name + '.antt')
     with open(spec) as file:
         right = file.read()
-    if old not in right:
-        return 'the text to change is not in ' + name, False
+    wrong = right
+    for before, after in zip(*((old, new) if isinstance(old, tuple) else ((old,), (new,)))):
+        if before not in wrong:
+            return 'the text to change is not in ' + name, False
+        wrong = wrong.replace(before, after)
     try:
         with open(spec, 'w') as file:
-            file.write(right.replace(old, new))
+            file.write(wrong)
         unproved, refused, finished = check(crate, function or 'laws')
     finally:
         with open(spec, 'w') as file:
