@@ -1,10 +1,11 @@
 -- Sums over heads and backlogs, as sums over the flows.
-use Rattle.std.proofs.Common.{◌≡◌, ℕ, zero, suc, ◌+◌, ◌<◌, List, [], ◌∷◌, ◌++◌, length, take, refl, sym, ap, ◌∙◌, arith, set, sum_by}
+use Rattle.std.proofs.Common.{◌≡◌, ◌↔◌, ℕ, zero, suc, ◌+◌, ◌<◌, ◌≤◌, List, All, [], ◌∷◌, ◌++◌, length, take, refl, sym, ap, ◌∙◌, arith, set, sum_by}
 use Rattle.std.proofs.lemmas.List.{append_assoc, append-nil, length-append}
 use Rattle.std.proofs.lemmas.List.Sums.{sum_by-cons, sum_by-set}
+use Rattle.std.proofs.lemmas.List.Elements.{All-head, All-tail}
 use Rattle.dn_types.specs.Wf2q.{Stamped, heads, total, weight_sum}
 use Rattle.dn_wf2q.specs.Schedule.{Flow, flow_at, no_packets, heads_of, waiting_of, IsIdle}
-use Rattle.dn_wf2q.specs.Kept.{presence, head_weight}
+use Rattle.dn_wf2q.specs.Kept.{AreTagsWithin, IsWithin, presence, head_weight}
 
 -- The first packets of a list of flows.
 abbrev pub first_packets : List Flow → List Stamped
@@ -117,3 +118,36 @@ heads_of_idle flows idle = heads_are flows ∙ empty_from_length (first_packets 
 
 pub idle_from_heads : (flows : List Flow) → heads_of flows ≡ [] → IsIdle flows
 idle_from_heads flows e = no_heads_idle flows (sym (length_first flows) ∙ ap length (sym (heads_are flows) ∙ e))
+
+-- A head weighs something.
+presence_weighs : (b : ℕ) (q : List Stamped) → All (IsWithin b) q → presence q ≤ head_weight q
+presence_weighs b [] h = omega arith
+presence_weighs b (p ∷ q) h = let one = All-head (IsWithin b) p q h in let some = one.3 in omega arith
+
+none_weighs : (q : List Stamped) → presence q ≡ 0 → head_weight q ≡ 0
+none_weighs [] e = refl
+none_weighs (p ∷ q) e = absurd (omega arith)
+
+weight_or_none : (b : ℕ) (flows : List Flow) → All (AreTagsWithin b) flows
+    → (sum_by (λ fl. head_weight fl.backlog) flows ≡ 0 → sum_by (λ fl. presence fl.backlog) flows ≡ 0) × (sum_by (λ fl. presence fl.backlog) flows ≡ 0 → sum_by (λ fl. head_weight fl.backlog) flows ≡ 0)
+weight_or_none b [] all = (λ e. refl, λ e. refl)
+weight_or_none b (fl ∷ fls) all =
+    let w = sum_by-cons (λ fl. head_weight fl.backlog) fl fls in
+    let h = sum_by-cons (λ fl. presence fl.backlog) fl fls in
+    let rest = weight_or_none b fls (All-tail (AreTagsWithin b) fl fls all) in
+    let r0 = rest.0 in
+    let r1 = rest.1 in
+    let one = All-head (AreTagsWithin b) fl fls all in (
+      λ e. let l = presence_weighs b fl.backlog one.1 in
+          let x : sum_by (λ fl. head_weight fl.backlog) fls ≡ 0 = omega (arith, w, e) in
+          let y = r0 x in
+          omega (arith, h, w, e, l, y),
+      λ e. let x : sum_by (λ fl. presence fl.backlog) fls ≡ 0 = omega (arith, h, e) in
+          let y = r1 x in
+          let z = none_weighs fl.backlog (omega (arith, h, e)) in
+          omega (arith, w, y, z),
+    )
+
+-- No packet waits exactly where the heads weigh nothing.
+pub idle_weighs : (b : ℕ) (flows : List Flow) → All (AreTagsWithin b) flows → (sum_by (λ fl. head_weight fl.backlog) flows ≡ 0) ↔ IsIdle flows
+idle_weighs b flows all = (λ e. no_heads_idle flows ((weight_or_none b flows all).0 e), λ i. (weight_or_none b flows all).1 (idle_no_heads flows i))

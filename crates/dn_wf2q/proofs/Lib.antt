@@ -12,5 +12,6 @@ pub mod Sent
 pub mod Own
 pub mod Arrived
 pub mod Begun
-pub mod Discarded
 pub mod Reserved
+pub mod Swept
+pub mod Discarded

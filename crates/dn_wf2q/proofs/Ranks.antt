@@ -4,7 +4,7 @@ use Rattle.std.proofs.lemmas.List.Sums.{sum_by-cons}
 use Rattle.std.proofs.lemmas.List.Sorted.{sum_by_pushed, sum_by_popped}
 use Rattle.std.proofs.lemmas.List.Elements.{All-nil, All-cons}
 use Rattle.std.proofs.lemmas.Bool.{cases_eq, cases_order, cases_lt}
-use Rattle.std.specs.Ordering.{is_lt, is_eq}
+use Rattle.std.specs.Ordering.{is_lt}
 use Rattle.std.proofs.lemmas.Bool.Decides.{nat_tests}
 use Rattle.dn_wf2q.specs.Rank.{RankView, rank_cmp}
 use Rattle.dn_wf2q.specs.Kept.{rank_at, ranks_at}
@@ -67,18 +67,6 @@ zero_from_none n h = elim (cases_lt 0 n) [
   | inl l ↦ absurd (let f = h l in cc)
   | inr m ↦ omega arith
 ]
-
-pub same_rank : (x y : RankView) → is_eq (rank_cmp x y) ≡ true → (x.tag ≡ y.tag) × (x.slot ≡ y.slot)
-same_rank x y h = elim (cases_order x.tag y.tag) [
-  | inl e ↦ elim (cases_order x.slot y.slot) [
-    | inl f ↦ (e, f)
-    | inr r ↦ absurd (let z : is_eq (rank_cmp x y) ≡ false = grind (arith, nat_tests) in cc)
-  ]
-  | inr r ↦ absurd (let z : is_eq (rank_cmp x y) ≡ false = grind (arith, nat_tests) in cc)
-]
-
-pub rank_same : (x y : RankView) → x.tag ≡ y.tag → x.slot ≡ y.slot → is_eq (rank_cmp x y) ≡ true
-rank_same x y e f = grind (arith, nat_tests)
 
 -- What is absent at a slot, and at the others.
 pub absent_same : (this slot n : ℕ) → this ≡ slot → cond (this == slot) n 0 ≡ n

@@ -1,15 +1,15 @@
-ghost use Rattle.dn_wf2q.specs.Kept.{IsSchedKept};
+ghost use Rattle.dn_wf2q.specs.Kept.{IsStaleKept};
 ghost use Rattle.dn_wf2q.specs.Steps.{DiscardsSlot};
 
-use crate::rank::Rank;
 use crate::sched_parts::SchedParts;
 
 impl SchedParts {
-    /// Lets all packets of a slot go, and its last finish tag.
-    pub(crate) fn discard(&mut self, slot: usize)
-        requires kept { IsSchedKept self.old }
+    /// Lets all packets of a slot go, and its last finish tag. The key of its head stays in its heap,
+    /// which is then stale: to look for it would cost a pass for each flow that is discarded.
+    pub(crate) fn discard(&mut self, slot: usize, stale: &mut bool)
+        requires kept { IsStaleKept stale.old self.old }
         ensures discarded { DiscardsSlot slot self.old self.new }
-        ensures kept { IsSchedKept self.new }
+        ensures kept { IsStaleKept stale.new self.new }
     {
         if self.flows.len() <= slot {
             return;
@@ -21,9 +21,6 @@ impl SchedParts {
             return;
         };
         self.weights -= head.weight as u128;
-        if self.waiting.take_out(&Rank::new(head.start_tag, slot)) {
-            return;
-        }
-        self.eligible.take_out(&Rank::new(head.finish_tag, slot));
+        *stale = true;
     }
 }

@@ -11,6 +11,7 @@ mod reserve;
 mod scaled;
 mod sched;
 mod sched_parts;
+mod sweep;
 mod tagged_packet;
 mod tagged_queue;
 

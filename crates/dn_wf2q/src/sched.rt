@@ -23,18 +23,21 @@ use std::marker::Model;
 #[derive(Drop)]
 pub struct Sched {
     parts: SchedParts,
+    /// Whether a flow was discarded since the heaps were swept. Then they may hold keys of flows
+    /// without a packet.
+    stale: bool,
     alloc: Global,
 }
 
 impl Model for Sched {
     ghost use Rattle.dn_wf2q.specs.Schedule.{Schedule};
-    ghost use Rattle.dn_wf2q.specs.Kept.{IsSchedKept, schedule_of};
+    ghost use Rattle.dn_wf2q.specs.Kept.{IsStaleKept, schedule_of};
 
     ghost Value = { Schedule };
 
     ghost view = { λ s. schedule_of s.parts };
 
-    ghost invariant = { λ s. IsSchedKept s.parts };
+    ghost invariant = { λ s. IsStaleKept s.stale s.parts };
 }
 
 impl Sched {
@@ -53,6 +56,7 @@ impl Sched {
                 arrivals: 0,
                 picks: 0,
             },
+            stale: false,
             alloc,
         }
     }
@@ -74,6 +78,7 @@ impl Sched {
         ensures keeps_room { self.new.room ≡ self.old.room }
         ensures keeps_counts { KeepsCounts self.old self.new }
     {
+        self.parts.refresh(&mut self.stale);
         self.parts.begin_busy()
     }
 
@@ -88,6 +93,7 @@ impl Sched {
         ensures keeps_counts { KeepsCounts self.old self.new }
         ensures err { OnErr result (self.new.flows ≡ self.old.flows) }
     {
+        self.parts.refresh(&mut self.stale);
         self.parts.reserve_flow(self.alloc, slot)
     }
 
@@ -102,6 +108,7 @@ impl Sched {
         ensures keeps_picks { self.new.picks ≡ self.old.picks }
         ensures keeps_room { (other : ℕ) → (other ≡ slot → ⊥) → room_at self.old.room other ≤ room_at self.new.room other }
     {
+        self.parts.refresh(&mut self.stale);
         self.parts.arrive(slot, len.get(), weight.get())
     }
 
@@ -114,11 +121,13 @@ impl Sched {
         ensures idle { (result ≡ None) ↔ IsIdle self.old.flows }
         ensures none { IfNone result (self.new ≡ self.old) }
     {
+        self.parts.refresh(&mut self.stale);
         self.parts.pick()
     }
 
     /// Lets all packets of a slot go, and its last finish tag with them. Virtual time and the tags
-    /// of the other flows stay. It looks at every key of a heap.
+    /// of the other flows stay. It looks at no other flow: the next call that needs the heaps sweeps
+    /// them, in one pass for all flows that were discarded before it.
     pub fn discard(&mut self, slot: usize)
         ensures flows { self.new.flows ≡ after_discard self.old.flows slot }
         ensures fewer { waiting_of self.new.flows + length (flow_at self.old.flows slot).backlog ≡ waiting_of self.old.flows }
@@ -126,7 +135,7 @@ impl Sched {
         ensures keeps_room { KeepsRoom self.old self.new }
         ensures keeps_counts { KeepsCounts self.old self.new }
     {
-        self.parts.discard(slot)
+        self.parts.discard(slot, &mut self.stale)
     }
 
     /// Virtual time: the progress of an ideal link that serves all backlogged flows at once.

@@ -1,6 +1,6 @@
 ghost use Rattle.std.specs.Prelude.{◌≡◌, ◌+◌, ◌*◌, ◌≤◌, ◌↔◌, IsTrue};
 ghost use Rattle.dn_wf2q.specs.Schedule.{IsIdle};
-ghost use Rattle.dn_wf2q.specs.Kept.{IsSchedKept, flows_of};
+ghost use Rattle.dn_wf2q.specs.Kept.{IsSchedKept, flows_of, swept};
 ghost use Rattle.dn_wf2q.specs.Steps.{Begins};
 
 use crate::rank::Rank;
@@ -24,15 +24,16 @@ pub(crate) struct SchedParts {
 }
 
 impl SchedParts {
+    /// Whether no packet waits. A head weighs at least 1.
     pub(crate) fn is_idle(&self) -> bool
-        requires kept { IsSchedKept self.now }
+        requires kept { IsSchedKept (swept self.now) }
         ensures idle { IsTrue result ↔ IsIdle (flows_of self.now) }
     {
-        self.eligible.is_empty() && self.waiting.is_empty()
+        self.weights == 0
     }
 
     pub(crate) fn moves(&self) -> u64
-        requires kept { IsSchedKept self.now }
+        requires kept { IsSchedKept (swept self.now) }
         ensures value { result ≡ self.now.eligible.moves + self.now.waiting.moves }
         ensures least { self.now.picks ≤ result }
         ensures most { result ≤ 2 * self.now.arrivals }

@@ -5,8 +5,12 @@ use Rattle.dn_wf2q.specs.Schedule.{heads_of, IsIdle}
 use Rattle.dn_wf2q.specs.Kept.{flows_of}
 use Rattle.dn_wf2q.proofs.Counts.{heads_of_idle, idle_from_heads}
 use Rattle.dn_wf2q.proofs.Scan.{pick_none}
+use Rattle.dn_wf2q.proofs.Swept.{swept_kept}
 use Rattle.dn_wf2q.proofs.sched_parts.SchedParts.pick.Goals as goal
 use Rattle.dn_wf2q.proofs.sched_parts.SchedParts.pick.Goals.{After-send}
+
+pub is_idle-requires : goal.is_idle-requires
+is_idle-requires c = record { kept = swept_kept c.args.self.now c.requires.kept }
 
 pub returns-then-is_idle-clause-picks : goal.returns-then-is_idle-clause-picks
 returns-then-is_idle-clause-picks c = rw (heads_of_idle (flows_of c.args.self.now) (c.is_idle.ensures.idle.0 c.if-is_idle.true)) refl

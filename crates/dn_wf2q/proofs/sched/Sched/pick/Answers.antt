@@ -1,0 +1,5 @@
+use Rattle.dn_wf2q.proofs.Swept.{fresh}
+use Rattle.dn_wf2q.proofs.sched.Sched.pick.Goals as goal
+
+pub invariant_of-self : goal.invariant_of-self
+invariant_of-self c = fresh c.refresh.new.stale c.pick.new.self c.pick.ensures.kept
