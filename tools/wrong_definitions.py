@@ -113,6 +113,8 @@ ROWS = [
      'cond (link_eq s.packet.link link) (due_by rule (arrival_time s) (last_due rule link trace)) '
      '(last_due rule link trace)',
      'due_by rule (arrival_time s) (last_due rule link trace)', 'laws_of_isolation', 'packets'),
+    ('a Show forgets what happened', 'Calls', 'after_call calls Show trace = trace', 'after_call calls Show trace = []',
+     'laws_of_time', 'stay'),
     ('the clock goes back', 'Clock', '= max (effective_moment calls) (moment_of c)', '= moment_of c',
      'laws_of_time', 'in_time'),
     ('a packet joins at the front', 'Trace', '(backlog link flow trace ++ p ∷ [])', '(p ∷ backlog link flow trace)',

@@ -1,5 +1,5 @@
 -- Each law of what a user configures at an example: its premises hold, and what it speaks of is there.
-use Rattle.std.proofs.Common.{◌≡◌, ◌≤◌, ◌<◌, ◌⊎◌, ◌+◌, ◌*◌, ℕ, true, List, [], ◌∷◌, refl, arith, drop, take}
+use Rattle.std.proofs.Common.{◌≡◌, ◌≤◌, ◌<◌, ◌⊎◌, ◌+◌, ◌*◌, ℕ, true, List, [], ◌∷◌, ◌++◌, refl, arith, drop, take}
 use Rattle.std.specs.Prelude.{◌%◌, ◌^◌, Some, None, nat_le, nat_lt, slice_get}
 use Rattle.std.specs.List.{All}
 use Rattle.std.proofs.lemmas.Bool.Decides.{nat_tests}
@@ -14,7 +14,7 @@ use Rattle.dn_types.specs.Links.{free, transmission_time}
 use Rattle.dn_types.specs.Replies.{reply}
 use Rattle.dn_types.specs.SharedLinks.{next_packet, last_finish_tag, virtual_time}
 use Rattle.dn_types.specs.TimeLaws.{IsDelayed, AreInOrder}
-use Rattle.dn_types.specs.Trace.{own, shared, Accepted, Start, Event, arrived, backlog}
+use Rattle.dn_types.specs.Trace.{own, shared, Accepted, Start, Event, arrived, started, backlog}
 use Rattle.dn_types.specs.declared.call.Call.{Call}
 use Rattle.dn_types.specs.declared.call.Call.TheVariants.{Configure, Submit, Advance}
 use Rattle.dn_types.specs.declared.command.Command.{Command}
@@ -37,7 +37,7 @@ use Rattle.dn_types.proofs.Resets.{tags-begin-afresh, queue-delete-resets, dropp
 use Rattle.dn_types.proofs.Shares.{tags-by-weight}
 use Rattle.dn_types.proofs.StartLaws.{starts-at-once, starts-the-next, starts-as-configured}
 use Rattle.dn_types.proofs.Sums.{delays-add-up}
-use Rattle.dn_types.proofs.Timely.{starts-in-time, none-starts-early}
+use Rattle.dn_types.proofs.Timely.{events-stay, starts-in-time, none-starts-early}
 use Rattle.dn_types.proofs.TransmissionTime.{unlimited-takes-no-time}
 
 lt : (a b : ℕ) → nat_lt a b ≡ true → a < b
@@ -153,6 +153,13 @@ at_its_own_rate = keeps-the-rate (Advance 1000000 ∷ slowed) [] (take 1 (trace_
 explained : All (IsDeliveryOf Ordered (trace_of (Advance 1000000 ∷ two))) (delivery 0 0 0 51000000 ∷ delivery 1 0 1000000 52000000 ∷ [])
     × All (IsDeliveryOf Ordered (trace_of (Advance 1000000 ∷ two))) (delivery 0 0 0 51000000 ∷ [])
 explained = delays-are-explained Ordered 51000000 (trace_of (Advance 1000000 ∷ two))
+
+they_stay : (added : List Event) × (trace_of (Advance 1000000 ∷ two) ≡ added ++ trace_of two)
+they_stay = events-stay two (Advance 1000000)
+
+-- The second start is all that is added.
+one_is_added : trace_of (Advance 1000000 ∷ two) ≡ started second ∷ trace_of two
+one_is_added = refl
 
 in_time : (0 ≤ 1000000) × (1000000 ≤ 1000000)
 in_time = starts-in-time two (Advance 1000000) [] [] second refl

@@ -24,6 +24,9 @@ use Rattle.dn_types.proofs.PacketCounts.{start-below}
 use Rattle.dn_types.proofs.Rates.{free-later, shape}
 use Rattle.dn_types.proofs.StartLaws.{begun, starts-as-configured}
 
+pub events-stay : (calls : List Call) (c : Call) → (added : List Event) × (trace_of (c ∷ calls) ≡ added ++ trace_of calls)
+events-stay calls c = let adds = call-causes calls c in (adds.0, adds.1)
+
 pub starts-in-time : (calls : List Call) (c : Call) (later between : List Event) (s : Start) → trace_of (c ∷ calls) ≡ later ++ started s ∷ between ++ trace_of calls →
     (effective_moment calls ≤ s.moment) × (s.moment ≤ effective_moment (c ∷ calls))
 starts-in-time calls c later between s e = (⊎_elim (λ waited. when-free waited.0 waited.1.0.0 waited.1.0.1) (λ on_arrival. let same = on_arrival.0 in omega arith) b.when, b.soon)

@@ -1,4 +1,4 @@
--- The laws of time: between which moments a packet starts, what its delay is the sum of, and in which order deliveries come.
+-- The laws of time: that what has happened stays, between which moments a packet starts, what its delay is the sum of, and in which order deliveries come.
 use Rattle.std.specs.Prelude.{ℕ, ◌≡◌, ◌≤◌, ◌+◌, ◌-◌, ⊤, List, [], ◌∷◌, ◌++◌, Some}
 use Rattle.std.specs.List.{All}
 use Rattle.dn_types.specs.Calls.{trace_of}
@@ -19,6 +19,10 @@ use Rattle.dn_types.specs.declared.rule.Rule.{Rule}
 use Rattle.dn_types.specs.declared.rule.Rule.TheVariants.{Free, Ordered}
 use Rattle.dn_types.specs.declared.target.Target.{Target}
 use Rattle.dn_types.specs.declared.target.Target.TheVariants.{Pipe as ToPipe}
+
+-- What has happened stays: a call adds to it and changes nothing of it, so that a packet keeps the tags that it arrived with.
+abbrev pub EventsStay : Type 0
+EventsStay = (calls : List Call) (c : Call) → (added : List Event) × (trace_of (c ∷ calls) ≡ added ++ trace_of calls)
 
 -- What a call starts, starts no sooner than the clock before it and no later than the clock after it.
 abbrev pub StartsInTime : Type 0

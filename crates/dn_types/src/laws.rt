@@ -65,6 +65,7 @@ ghost use Rattle.dn_types.specs.SharingLaws.{
 };
 ghost use Rattle.dn_types.specs.TimeLaws.{
   DelaysAddUp,
+  EventsStay,
   GivesInOrder,
   NoneStartsEarly,
   StartsInTime,
@@ -151,11 +152,13 @@ pub fn laws_of_links()
     ensures delay { DelaysAreExplained }
 {}
 
-/// A packet starts while a call is answered, at a moment between the clocks before and after it, and
-/// never before it was accepted. From then to its due moment it takes its wait, its transmission,
-/// its delay and what the packet before it lacks, and nothing else. A Collect gives its packets by
-/// due moment, and where two are equal by packet number.
+/// What has happened stays: each call adds to it and changes nothing of it. A packet starts while a
+/// call is answered, at a moment between the clocks before and after it, and never before it was
+/// accepted. From then to its due moment it takes its wait, its transmission, its delay and what the
+/// packet before it lacks, and nothing else. A Collect gives its packets by due moment, and where two
+/// are equal by packet number.
 pub fn laws_of_time()
+    ensures stay { EventsStay }
     ensures in_time { StartsInTime }
     ensures not_early { NoneStartsEarly }
     ensures unlimited { UnlimitedTakesNoTime }

@@ -1,9 +1,12 @@
 -- Each law is a lemma over the definitions.
 use Rattle.dn_types.proofs.InTurn.{gives-in-order}
 use Rattle.dn_types.proofs.Sums.{delays-add-up}
-use Rattle.dn_types.proofs.Timely.{starts-in-time, none-starts-early}
+use Rattle.dn_types.proofs.Timely.{events-stay, starts-in-time, none-starts-early}
 use Rattle.dn_types.proofs.TransmissionTime.{unlimited-takes-no-time}
 use Rattle.dn_types.proofs.laws.laws_of_time.Goals as goal
+
+pub returns-clause-stay : goal.returns-clause-stay
+returns-clause-stay c = events-stay
 
 pub returns-clause-in_time : goal.returns-clause-in_time
 returns-clause-in_time c = starts-in-time
