@@ -5,3 +5,5 @@ pub mod WordCuts
 pub mod LineCuts
 pub mod Points
 pub mod Marks
+pub mod Shorts
+pub mod UntilParts

@@ -4,3 +4,4 @@ pub mod Words
 pub mod Lines
 pub mod Taking
 pub mod Joined
+pub mod Until

@@ -7,6 +7,7 @@ mod joined;
 mod lines;
 mod number_fault;
 mod numbers;
+mod until;
 mod words;
 
 pub use address::read_address;
@@ -15,4 +16,5 @@ pub use joined::split_joined;
 pub use lines::Lines;
 pub use number_fault::NumberFault;
 pub use numbers::{read_number, read_numeral};
+pub use until::{address_until, number_until};
 pub use words::Words;

@@ -1,0 +1,106 @@
+ghost use Rattle.std.specs.Prelude.{◌≡◌, ◌≤◌, ◌<◌, true, length, option_map, IfSome};
+ghost use Rattle.std.specs.List.{prefix_len};
+ghost use Rattle.std.specs.Char.{is_ascii_digit};
+ghost use Rattle.std.specs.Result.{result_ok};
+ghost use Rattle.std.specs.Str.Parse.{digits_value};
+ghost use Rattle.dn_text.specs.Numbers.{all_digits, digits, number_within};
+ghost use Rattle.dn_text.specs.Until.{address_until, behind_byte, number_until};
+
+use crate::digits::split_digits;
+use crate::numbers::read_number;
+
+// Numbers of that many decimal digits fit into a u64.
+const SHORT: usize = 19;
+
+/// The value of the digits that a text begins with, and how many there are. None where there are 19 and
+/// the text goes on.
+fn short_digits(text: &[u8]) -> Option<(u64, usize)>
+    ensures count { IfSome result (λ p. p.1 ≡ prefix_len is_ascii_digit text.now) }
+    ensures value { IfSome result (λ p. p.0 ≡ digits_value 10 (digits text.now)) }
+{
+    let front = &text[..text.len().min(SHORT)];
+    let mut value = 0u64;
+    for (i, byte) in front.iter().enumerate() {
+        if !byte.is_ascii_digit() {
+            return Some((value, i));
+        }
+        value = value * 10 + u64::from(*byte - b'0');
+    }
+    if text.len() > front.len() {
+        return None;
+    }
+    Some((value, front.len()))
+}
+
+/// The number of a range that some digits write whose value is known.
+#[tactic(auto, unfolding(crate::specs::Numbers::number_of, crate::specs::Numbers::numeral_of, crate::specs::Numbers::within))]
+fn ranged(digits: &[u8], value: u64, least: u64, greatest: u64) -> Option<u64>
+    requires all_digits { all_digits 10 digits.now ≡ true }
+    requires value { value ≡ digits_value 10 digits.now }
+    ensures value { result ≡ result_ok (number_within least greatest digits.now) }
+    ensures in_range { IfSome result (λ n. (least ≤ n) × (n ≤ greatest)) }
+{
+    if digits.is_empty() {
+        return None;
+    }
+    if digits.len() > 1 && digits[0] == b'0' {
+        return None;
+    }
+    if value < least || value > greatest {
+        return None;
+    }
+    Some(value)
+}
+
+/// What stands behind a byte at the front of a text.
+fn behind_byte(text: &[u8], byte: u8) -> Option<&[u8]>
+    ensures { option_map (λ rest. rest.now) result ≡ behind_byte byte text.now }
+{
+    match text {
+        [first, rest @ ..] if *first == byte => Some(rest),
+        _ => None,
+    }
+}
+
+/// As `number_until`, in two passes over the digits.
+#[tactic(auto, unfolding(crate::specs::Until::number_until))]
+fn long_number_until(text: &[u8], end: u8, least: u64, greatest: u64) -> Option<(u64, &[u8])>
+    ensures value { option_map (λ p. (p.0, p.1.now)) result ≡ number_until end least greatest text.now }
+    ensures in_range { IfSome result (λ p. (least ≤ p.0) × (p.0 ≤ greatest)) }
+{
+    let (digits, behind) = split_digits(text);
+    let number = read_number(digits, least, greatest).ok()?;
+    let rest = behind_byte(behind, end)?;
+    Some((number, rest))
+}
+
+/// The number from `least` to `greatest` whose decimal digits a text begins with, and what stands
+/// behind the byte `end` that follows them. None where the digits are no number of the range, as with
+/// a zero in front of others, or where another byte or nothing follows. The text may be of any length.
+#[tactic(auto, unfolding(crate::specs::Until::number_until))]
+pub fn number_until(text: &[u8], end: u8, least: u64, greatest: u64) -> Option<(u64, &[u8])>
+    ensures value { option_map (λ p. (p.0, p.1.now)) result ≡ number_until end least greatest text.now }
+    ensures in_range { IfSome result (λ p. (least ≤ p.0) × (p.0 ≤ greatest)) }
+{
+    let Some((value, count)) = short_digits(text) else {
+        return long_number_until(text, end, least, greatest);
+    };
+    let (digits, behind) = text.split_at(count);
+    let number = ranged(digits, value, least, greatest)?;
+    let rest = behind_byte(behind, end)?;
+    Some((number, rest))
+}
+
+/// The IPv4 address that a text begins with, and what stands behind the byte `end` that follows it: four
+/// numbers 0 to 255 with points between them, the first the highest byte. None for any other text.
+#[tactic(auto, unfolding(crate::specs::Until::address_until))]
+pub fn address_until(text: &[u8], end: u8) -> Option<(u32, &[u8])>
+    ensures { option_map (λ p. (p.0, p.1.now)) result ≡ address_until end text.now }
+{
+    let (first, text) = number_until(text, b'.', 0, 255)?;
+    let (second, text) = number_until(text, b'.', 0, 255)?;
+    let (third, text) = number_until(text, b'.', 0, 255)?;
+    let (fourth, text) = number_until(text, end, 0, 255)?;
+    let address = first * 16_777_216 + second * 65_536 + third * 256 + fourth;
+    Some((address as u32, text))
+}
