@@ -1,3 +1,4 @@
+pub mod FirstLine
 pub mod Lines
 pub mod NextRecord
 pub mod ReadBack

@@ -11,7 +11,7 @@ use Rattle.dn_records.specs.Records.{AllFilled, Fields, HasNoMark, line_of, reco
 ends : (body blank : List ℕ) → 1 ≤ length (body ++ (blank ++ (10 ∷ [])))
 ends body blank = simp (length-append {A = ℕ}) (omega arith)
 
-line-some : (fields : Fields) → 1 ≤ length (line_of fields)
+pub line-some : (fields : Fields) → 1 ≤ length (line_of fields)
 line-some fields = ends (row_body default_writer fields) _
 
 -- the text of some records reads as these records in as many turns, and then as nothing
