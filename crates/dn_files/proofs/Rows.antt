@@ -3,6 +3,7 @@ use Rattle.std.proofs.Common.{◌≡◌, ◌∙◌, ℕ, ◌+◌, true, false, L
 use Rattle.std.proofs.lemmas.List.{append-nil}
 use Rattle.dn_records.specs.Records.{Fields, Takes}
 use Rattle.dn_files.specs.PacketFile.{TakesRow, is_header, row_of, rows_below, rows_from}
+pub use Rattle.dn_files.specs.PacketParts.{with_front}
 use Rattle.dn_files.specs.Reading.{◌>>=◌, IsFaultOf}
 use Rattle.dn_files.specs.declared.replay_fault.ReplayFault.{ReplayFault}
 use Rattle.dn_files.specs.declared.replay_fault.ReplayFault.TheVariants.{BadRow}
@@ -14,10 +15,6 @@ pub bad_row : (number field : ℕ) (old new : List Fields) (fields : Fields) →
 unfolding rows_from
 bad_row number field [] new fields takes bad = let no = takes.0 in cc
 bad_row number field (first ∷ rest) new fields takes bad = rw (← takes.1, bad) refl
-
--- The rows that were read, and those that are still read.
-abbrev pub with_front : List Row → Result (List Row) ReplayFault → Result (List Row) ReplayFault
-with_front front read = read >>= λ rows. Ok (front ++ rows)
 
 regroup : (front : List Row) (row : Row) (read : Result (List Row) ReplayFault) → with_front front (read >>= λ rows. Ok (row ∷ rows)) ≡ with_front (front ++ row ∷ []) read
 regroup front row (Ok rows) = ap (λ (rs : List Row). Ok rs) (simp append_assoc)
@@ -65,7 +62,9 @@ pub fewer : (old new : List Fields) (row : Row) → TakesRow old new (Some row) 
 fewer [] new row takes = let no : Some row ≡ None = takes in cc
 fewer (first ∷ rest) new row takes = rw (takes.2) (omega arith)
 
--- One row more, as a loop has it.
-pub next : (front : List Row) (old new : List Fields) (row : Row) (whole : Result (List Row) ReplayFault) → TakesRow old new (Some row)
-    → with_front front (rows_from (length front + 1) old) ≡ whole → with_front (front ++ row ∷ []) (rows_from (length (front ++ row ∷ []) + 1) new) ≡ whole
-next front old new row whole takes so_far = rw (length-append front (row ∷ [])) (sym (one_more front (length front + 1) old new row takes) ∙ so_far)
+-- One row more, as a loop has it that began at this number.
+pub next : (first : ℕ) (front : List Row) (old new : List Fields) (row : Row) (whole : Result (List Row) ReplayFault) → TakesRow old new (Some row)
+    → with_front front (rows_from (first + length front) old) ≡ whole → with_front (front ++ row ∷ []) (rows_from (first + length (front ++ row ∷ [])) new) ≡ whole
+next first front old new row whole takes so_far =
+    let number : first + length (front ++ row ∷ []) ≡ first + length front + 1 = omega (arith, length-append front (row ∷ [])) in
+    rw number (sym (one_more front (first + length front) old new row takes) ∙ so_far)

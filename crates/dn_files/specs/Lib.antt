@@ -2,5 +2,8 @@ pub mod ConfigFile
 pub mod Faults
 pub mod Fields
 pub mod PacketFile
+pub mod PacketParts
+pub mod PlainFields
 pub mod Reading
+pub mod Unread
 pub mod Writing

@@ -1,4 +1,5 @@
-ghost use Rattle.std.specs.Prelude.{◌≡◌, false, Ok, IfOk, IfErr};
+ghost use Rattle.std.specs.Prelude.{◌≡◌, ◌≤◌, ◌^◌, false, Ok, IfOk, IfErr};
+ghost use Rattle.dn_records.specs.Records.{records_of};
 ghost use Rattle.dn_files.specs.PacketFile.{TakesRow, packet_file, rows_from, rows_of};
 ghost use Rattle.dn_files.specs.Reading.{IsFaultOf, IsRefusal, ReadsAs};
 ghost use Rattle.dn_files.specs.declared.source.Source.TheVariants.{Packets};
@@ -36,18 +37,20 @@ fn next_row(
     }
 }
 
-/// The rows of the records that are left, the first with number 1. Each record is read into `fields`.
+/// The rows of the records that are left, the first with this number. Each record is read into `fields`.
 fn rows_below(
     alloc: Global,
     reader: &mut RecordReader<'_>,
     fields: &mut ByteRecord,
+    first: u64,
 ) -> Result<Vec<Row>, ReplayFault>
-    ensures ok { IfOk result (λ rows. rows_from 1 reader.old ≡ Ok rows.items) }
-    ensures err { IfErr result (λ fault. IsFaultOf (rows_from 1 reader.old) fault) }
+    requires { first ≤ 2 ^ 62 }
+    ensures ok { IfOk result (λ rows. rows_from first reader.old ≡ Ok rows.items) }
+    ensures err { IfErr result (λ fault. IsFaultOf (rows_from first reader.old) fault) }
 {
     let mut rows = Vec::new(alloc);
     loop {
-        match next_row(reader, fields, rows.len() as u64 + 1) {
+        match next_row(reader, fields, first + rows.len() as u64) {
             Ok(Some(row)) => {
                 // The prover has to meet the module of this type here.
                 let _target = row.target;
@@ -78,7 +81,22 @@ pub fn rows_of_text(alloc: Global, text: &[u8]) -> Result<Vec<Row>, ReplayFault>
     if !is_header(&fields) {
         return Err(ReplayFault::BadRow { row: 0, field: 0 });
     }
-    rows_below(alloc, &mut reader, &mut fields)
+    rows_below(alloc, &mut reader, &mut fields, 1)
+}
+
+/// The rows of a text without a header, the first with this number.
+pub(crate) fn rows_from_text(
+    alloc: Global,
+    text: &[u8],
+    first: u64,
+) -> Result<Vec<Row>, ReplayFault>
+    requires { first ≤ 2 ^ 62 }
+    ensures ok { IfOk result (λ rows. rows_from first (records_of text.now) ≡ Ok rows.items) }
+    ensures err { IfErr result (λ fault. IsFaultOf (rows_from first (records_of text.now)) fault) }
+{
+    let mut reader = RecordReader::new(alloc, text);
+    let mut fields = ByteRecord::new(alloc);
+    rows_below(alloc, &mut reader, &mut fields, first)
 }
 
 /// The rows of a packet file of at most 67,108,864 bytes, in their order. The fault of a file is that

@@ -1,0 +1,158 @@
+-- A packet file that comes in parts: one step of its reader.
+use Rattle.std.proofs.Common.{◌≡◌, ◌∙◌, refl, sym, ap, subst, ℕ, zero, suc, ◌+◌, ◌-◌, ◌<◌, ◌≤◌, cond, true, List, [], ◌∷◌, ◌++◌, length, take, drop, Result, Ok, Err, arith, append_assoc, length-append}
+use Rattle.std.specs.Prelude.{OnOk}
+use Rattle.std.specs.Result.{is_ok}
+use Rattle.std.proofs.lemmas.List.{append-nil, drop-append-le, drop-drop, drop-set, take-append-drop}
+use Rattle.std.proofs.Math.ListN.{set}
+use Rattle.std.proofs.Math.Seq.{drop-append_seam}
+use Rattle.csv.specs.Writing.{fields_text, is_blank}
+use Rattle.csv.specs.Reading.{strip_bom}
+use Rattle.csv.specs.Records.{field_at}
+use Rattle.csv.specs.declared.parser.State.TheVariants as st
+use Rattle.dn_records.specs.Reading.{records_after}
+use Rattle.dn_records.specs.Records.{Fields, line_of, records_of}
+use Rattle.dn_records.proofs.ReadBack.{line-some}
+use Rattle.dn_records.proofs.FirstLine.{behind-feed, line-first}
+use Rattle.dn_files.specs.PacketFile.{is_header, row_of, rows_below, rows_from, rows_of}
+use Rattle.dn_files.specs.PacketParts.{BeginsRow, HasRead, header, rows_left, with_front}
+use Rattle.dn_files.specs.Reading.{IsFaultOf}
+use Rattle.dn_files.specs.Unread.{Unread}
+use Rattle.dn_files.specs.declared.replay_fault.ReplayFault.{ReplayFault}
+use Rattle.dn_files.specs.declared.row.Row.{Row}
+use Rattle.dn_files.proofs.Inputs.{carried}
+use Rattle.dn_files.proofs.Rows.{one_more, starts}
+
+-- Nothing has been fed.
+pub fresh : (items : List ℕ) → items ≡ [] → HasRead (record { number = 0; text = drop 0 items }) [] []
+unfolding rows_left
+fresh items none = record { goes_on = λ more. rw none (sym (starts (rows_of more))) }
+
+-- A part more.
+part_more : (number : ℕ) (left part text : List ℕ) (rows : List Row) → HasRead (record { number = number; text = left }) text rows
+    → HasRead (record { number = number; text = left ++ part }) (text ++ part) rows
+part_more number left part text rows has = record {
+  goes_on = λ more.
+      ap rows_of (append_assoc text part more) ∙ has.goes_on (part ++ more) ∙ ap (λ (t : List ℕ). with_front rows (rows_left number t)) (sym (append_assoc left part more));
+}
+
+pub fed : {T E : Type 0} (r : Result T E) (number start : ℕ) (items new part : List ℕ) (old mid : Unread) → new ≡ cond (is_ok r) (items ++ part) items → start ≤ length items
+    → record { number = number; text = drop start items } ≡ mid → mid ≡ old
+    → OnOk r ((text : List ℕ) → (rows : List Row) → HasRead old text rows → HasRead (record { number = number; text = drop start new }) (text ++ part) rows)
+fed (Err e) number start items new part old mid is le view same = tt
+fed (Ok x) number start items new part old mid is le view same = λ text rows has.
+    let had : HasRead (record { number = number; text = drop start items }) text rows = subst (λ (u : Unread). HasRead u text rows) (sym (view ∙ same)) has in
+    rw (is, drop-append-le start items part le) (part_more number (drop start items) part text rows had)
+
+-- The bytes before a place are forgotten, but for the last of them.
+pub forgotten : (start : ℕ) (items : List ℕ) → 0 < start → drop 1 (drop (start - 1) items) ≡ drop start items
+forgotten start items some = drop-drop 1 (start - 1) items ∙ ap (λ k. drop k items) (omega arith)
+
+-- What stands behind a line, by its length.
+cut : (start : ℕ) (items line rest : List ℕ) → start ≤ length items → drop start items ≡ line ++ rest → drop (length items - length rest) items ≡ rest
+cut start items line rest le is =
+    let whole : items ≡ (take start items ++ line) ++ rest = sym (take-append-drop start items) ∙ ap (λ (t : List ℕ). take start items ++ t) is ∙ sym (append_assoc (take start items) line rest) in
+    let count : length items ≡ length (take start items ++ line) + length rest = ap (length {A = ℕ}) whole ∙ length-append (take start items ++ line) rest in
+    ap (λ k. drop k items) (let n : length items - length rest ≡ length (take start items ++ line) = omega arith in n)
+    ∙ ap (drop (length (take start items ++ line))) whole ∙ drop-append_seam (take start items ++ line) rest
+
+-- The header is a header.
+header-is : is_header header ≡ true
+unfolding is_header field_at
+header-is = refl
+
+first-record : (tail : List ℕ) → records_of (line_of header ++ tail) ≡ header ∷ records_after st.StartRecord tail
+unfolding strip_bom fields_text is_blank
+first-record tail = line-first _ _ tail
+
+header_passed : (rest text : List ℕ) (rows : List Row) → HasRead (record { number = 0; text = line_of header ++ rest }) text rows → HasRead (record { number = 1; text = rest }) text rows
+unfolding rows_left rows_below
+header_passed rest text rows has = record {
+  goes_on = λ more.
+      let next : rows_of ((line_of header ++ rest) ++ more) ≡ rows_from 1 (records_after st.StartRecord (rest ++ more)) =
+      ap rows_of (append_assoc (line_of header) rest more) ∙ ap rows_below (first-record (rest ++ more)) ∙ rw header-is refl in
+      has.goes_on more ∙ ap (with_front rows) next;
+}
+
+-- The header was read, and the text behind it is left.
+pub header_taken : (number start len : ℕ) (items rest : List ℕ) (old : Unread) → record { number = number; text = drop start items } ≡ old → number ≡ 0 → start ≤ length items
+    → drop start items ≡ line_of header ++ rest → len ≡ length items → (text : List ℕ) → (rows : List Row) → HasRead old text rows
+    → HasRead (record { number = 1; text = drop (len - length rest) items }) text rows
+header_taken number start len items rest old view first le is count text rows has =
+    let had : HasRead (record { number = 0; text = line_of header ++ rest }) text rows =
+    subst (λ (u : Unread). HasRead u text rows) (sym view ∙ ap (λ n. record { number = n; text = drop start items }) first ∙ ap (λ (t : List ℕ). record { number = 0; text = t }) is) has in
+    rw (count, cut start items (line_of header) rest le is) (header_passed rest text rows had)
+
+-- The rows from a row on.
+pub later : (number : ℕ) (text : List ℕ) → 0 < number → rows_left number text ≡ rows_from number (records_after st.StartRecord text)
+unfolding rows_left
+later zero text some = absurd (omega arith)
+later (suc n) text some = refl
+
+row_passed : (number : ℕ) (fields : Fields) (row : Row) (rest text : List ℕ) (rows : List Row) → 0 < number → row_of fields ≡ Ok row
+    → HasRead (record { number = number; text = line_of fields ++ rest }) text rows → HasRead (record { number = number + 1; text = rest }) text (rows ++ row ∷ [])
+unfolding row_of
+row_passed number [] row rest text rows some says has = cc says
+row_passed number (field ∷ fields) row rest text rows some says has = record {
+  goes_on = λ more.
+      let front : (line_of (field ∷ fields) ++ rest) ++ more ≡ line_of (field ∷ fields) ++ (rest ++ more) = append_assoc (line_of (field ∷ fields)) rest more in
+      let left = records_after st.StartRecord (rest ++ more) in
+      let old = (field ∷ fields) ∷ left in
+      has.goes_on more ∙ ap (λ (t : List ℕ). with_front rows (rows_left number t)) front
+      ∙ ap (with_front rows) (later number (line_of (field ∷ fields) ++ (rest ++ more)) some ∙ ap (rows_from number) (line-first field fields (rest ++ more)))
+      ∙ one_more rows number old left row (says, refl, refl)
+      ∙ ap (with_front (rows ++ row ∷ [])) (sym (later (number + 1) (rest ++ more) (omega arith)));
+}
+
+-- A row was read, and the text behind it is left.
+pub row_taken : (number start len : ℕ) (items rest : List ℕ) (row : Row) (old : Unread) → record { number = number; text = drop start items } ≡ old → 0 < number → start ≤ length items
+    → BeginsRow (drop start items) row rest → len ≡ length items → (text : List ℕ) → (rows : List Row) → HasRead old text rows
+    → HasRead (record { number = number + 1; text = drop (len - length rest) items }) text (rows ++ row ∷ [])
+row_taken number start len items rest row old view some le begins count text rows has =
+    let had : HasRead (record { number = number; text = line_of begins.fields ++ rest }) text rows =
+    subst (λ (u : Unread). HasRead u text rows) (sym view ∙ ap (λ (t : List ℕ). record { number = number; text = t }) begins.stands) has in
+    rw (count, cut start items (line_of begins.fields) rest le begins.stands) (row_passed number begins.fields row rest text rows some begins.says had)
+
+-- What is left behind the header is no longer.
+pub header_shorter : (number start len : ℕ) (items rest : List ℕ) (old : Unread) → record { number = number; text = drop start items } ≡ old → start ≤ length items
+    → drop start items ≡ line_of header ++ rest → len ≡ length items → length (drop (len - length rest) items) ≤ length old.text
+header_shorter number start len items rest old view le is count =
+    let left = cut start items (line_of header) rest le is in
+    let was : length (drop start items) ≡ length old.text = ap (λ (u : Unread). length u.text) view in
+    let sum : length (drop start items) ≡ length (line_of header) + length rest = ap (length {A = ℕ}) is ∙ length-append (line_of header) rest in
+    rw (count, left) (omega arith)
+
+-- What is left behind a row is shorter.
+pub row_shorter : (number start len : ℕ) (items rest : List ℕ) (row : Row) (old : Unread) → record { number = number; text = drop start items } ≡ old → start ≤ length items
+    → BeginsRow (drop start items) row rest → len ≡ length items → length (drop (len - length rest) items) < length old.text
+row_shorter number start len items rest row old view le begins count =
+    let left = cut start items (line_of begins.fields) rest le begins.stands in
+    let was : length (drop start items) ≡ length old.text = ap (λ (u : Unread). length u.text) view in
+    let sum : length (drop start items) ≡ length (line_of begins.fields) + length rest = ap (length {A = ℕ}) begins.stands ∙ length-append (line_of begins.fields) rest in
+    let some = line-some begins.fields in
+    rw (count, left) (omega arith)
+
+-- What is left once the text has ended.
+pub finished : (number : ℕ) (left : List ℕ) (old : Unread) (read : Result (List Row) ReplayFault) → record { number = number; text = left } ≡ old → rows_left number left ≡ read
+    → (text : List ℕ) → (rows : List Row) → HasRead old text rows → rows_of text ≡ with_front rows read
+finished number left old read view is text rows has =
+    let had : HasRead (record { number = number; text = left }) text rows = subst (λ (u : Unread). HasRead u text rows) (sym view) has in
+    ap rows_of (sym (append-nil text)) ∙ had.goes_on [] ∙ ap (λ (t : List ℕ). with_front rows (rows_left number t)) (append-nil left) ∙ ap (with_front rows) is
+
+pub finished_fault : (number : ℕ) (left : List ℕ) (old : Unread) (read : Result (List Row) ReplayFault) (fault : ReplayFault) → record { number = number; text = left } ≡ old → rows_left number left ≡ read
+    → IsFaultOf read fault → (text : List ℕ) → (rows : List Row) → HasRead old text rows → IsFaultOf (rows_of text) fault
+finished_fault number left old read fault view is own text rows has =
+    carried read (rows_of text) fault (λ f e. finished number left old read view is text rows has ∙ ap (with_front rows) e) own
+
+-- What is left is read behind a line feed that stands in the place of the last byte read.
+pub behind_line : (number start : ℕ) (items written : List ℕ) → 0 < number → 0 < start → start ≤ length items → written ≡ set items (start - 1) 10
+    → rows_left number (drop start items) ≡ rows_from number (records_of (drop (start - 1) written))
+behind_line number start items written some behind le is =
+    let place : start - 1 < length items = omega arith in
+    let next : start - 1 + 1 ≡ start = omega arith in
+    later number (drop start items) some
+    ∙ ap (rows_from number) (sym (ap records_of (ap (drop (start - 1)) is ∙ drop-set items (start - 1) 10 place ∙ ap (λ k. 10 ∷ drop k items) next) ∙ behind-feed (drop start items)))
+
+-- The first row of a reader is that of the file.
+pub at_header : (number : ℕ) (left : List ℕ) → number ≡ 0 → rows_left number left ≡ rows_of left
+unfolding rows_left
+at_header number left none = rw none refl

@@ -1,0 +1,90 @@
+ghost use Rattle.std.specs.Prelude.{◌≡◌, ◌≢◌, ◌++◌, ℕ, List, IfSome, MatchOption};
+ghost use Rattle.dn_records.specs.Records.{line_of};
+ghost use Rattle.dn_files.specs.PacketParts.{BeginsRow, BeginsTarget, BeginsTuple, header};
+
+use crate::row::Row;
+use dn_text::{address_until, number_until};
+use dn_types::{FiveTuple, Len, Moment, Number, Packet, Target};
+
+/// What stands behind the header at the front of a text, where the header is written plainly.
+pub(crate) fn behind_header(text: &[u8]) -> Option<&[u8]>
+    ensures { MatchOption result ((rest : List ℕ) → text.now ≢ line_of header ++ rest)
+        (λ rest. text.now ≡ line_of header ++ rest.now) }
+{
+    text.strip_prefix(b"moment,target,number,src,dst,proto,sport,dport,len,word\n")
+}
+
+/// The pipe at the front of a text, and what stands behind the comma after its number.
+fn pipe_at_front(text: &[u8]) -> Option<(Target, &[u8])>
+    ensures { IfSome result (λ p. BeginsTarget text.now p.0 p.1.now) }
+{
+    let rest = text.strip_prefix(b"pipe,")?;
+    let (number, rest) = number_until(rest, b',', 1, 65_535)?;
+    Some((Target::Pipe(Number::new(number as u32)?), rest))
+}
+
+/// The queue at the front of a text, and what stands behind the comma after its number.
+fn queue_at_front(text: &[u8]) -> Option<(Target, &[u8])>
+    ensures { IfSome result (λ p. BeginsTarget text.now p.0 p.1.now) }
+{
+    let rest = text.strip_prefix(b"queue,")?;
+    let (number, rest) = number_until(rest, b',', 1, 65_535)?;
+    Some((Target::Queue(Number::new(number as u32)?), rest))
+}
+
+/// The target at the front of a text, and what stands behind the comma after its number.
+fn target_at_front(text: &[u8]) -> Option<(Target, &[u8])>
+    ensures { IfSome result (λ p. BeginsTarget text.now p.0 p.1.now) }
+{
+    match pipe_at_front(text) {
+        Some(found) => Some(found),
+        None => queue_at_front(text),
+    }
+}
+
+/// The addresses, protocol and ports at the front of a text, and what stands behind the comma after them.
+fn tuple_at_front(text: &[u8]) -> Option<(FiveTuple, &[u8])>
+    ensures { IfSome result (λ p. BeginsTuple text.now p.0 p.1.now) }
+{
+    let (src, text) = address_until(text, b',')?;
+    let (dst, text) = address_until(text, b',')?;
+    let (proto, text) = number_until(text, b',', 0, 255)?;
+    let (sport, text) = number_until(text, b',', 0, 65_535)?;
+    let (dport, text) = number_until(text, b',', 0, 65_535)?;
+    let tuple = FiveTuple {
+        src,
+        dst,
+        proto: proto as u8,
+        sport: sport as u16,
+        dport: dport as u16,
+    };
+    Some((tuple, text))
+}
+
+/// The row whose plain line a text begins with, and what stands behind that line. None where the text
+/// begins otherwise, as with a quote, a carriage return, a faulty row or a part of a row.
+pub(crate) fn plain_row(text: &[u8]) -> Option<(Row, &[u8])>
+    ensures { IfSome result (λ p. BeginsRow text.now p.0 p.1.now) }
+{
+    let (moment, text) = number_until(text, b',', 0, 1 << 62)?;
+    // The prover has no rule for `?` at a pair of a value of dn_types and a slice.
+    let Some((target, text)) = target_at_front(text) else {
+        return None;
+    };
+    let Some((tuple, text)) = tuple_at_front(text) else {
+        return None;
+    };
+    let (len, text) = number_until(text, b',', 1, 65_535)?;
+    let (word, text) = number_until(text, b'\n', 0, 4_294_967_295)?;
+    let packet = Packet {
+        tuple,
+        len: Len::new(len as u16)?,
+        word: word as u32,
+    };
+    let row = Row {
+        moment: Moment::new(moment)?,
+        target,
+        packet,
+    };
+    Some((row, text))
+}
