@@ -1,7 +1,6 @@
 -- A new shaper stands after no call.
 use Rattle.std.proofs.Common.{◌≡◌, ◌∙◌, ◌^◌, ℕ, List, [], map, refl, ap, sym, subst, length, arith}
-use Rattle.std.specs.Prelude.{Some, None, nat_eq, slice_get}
-use Rattle.std.specs.Map.{lookup}
+use Rattle.std.specs.Prelude.{Option, Some, None, slice_get}
 use Rattle.std.proofs.lemmas.List.Elements.{All-nil}
 use Rattle.dn_types.specs.Trace.{Link}
 use Rattle.dn_types.specs.declared.delivery.Delivery.{Delivery}
@@ -14,7 +13,7 @@ use Rattle.dn_shaper.specs.declared.links.home.Home.{Home}
 use Rattle.dn_shaper.specs.declared.state.State.{State}
 use Rattle.dn_shaper.specs.Refinement.Agreement.{AgreesWith, IsAt, link_names}
 use Rattle.dn_shaper.specs.Refinement.NextStarts.{Holds, next_at, backlogged}
-use Rattle.dn_shaper.specs.Refinement.Settings.{settings_of}
+use Rattle.dn_shaper.specs.Refinement.Settings.{at_number, settings_of}
 use Rattle.dn_shaper.specs.Refinement.Sound.{IsIndexed, IsSound}
 use Rattle.dn_shaper.specs.Standing.{StandsAt}
 use Rattle.dn_shaper.specs.Refinement.Starting.{AreCountsWithin, Within}
@@ -72,8 +71,8 @@ module _ (s : State) (accepted : s.parts.accepted ≡ 0) (keys : s.parts.flows.k
       (record { once = λ place. refl; moments = All-nil (λ k. next_at [] k.place ≡ Some k.moment) })
 
   -- No place is noted of any pipe.
-  unnoted : (pipe : ℕ) → lookup (nat_eq pipe) s.shared ≡ None
-  unnoted pipe = ap (λ (ps : List (ℕ × ℕ)). lookup (nat_eq pipe) ps) shared
+  unnoted : (pipe : ℕ) → at_number s.shared pipe ≡ None
+  unnoted pipe = ap (λ (ps : List (Option ℕ)). at_number ps pipe) shared
 
   indexed-none : IsIndexed s []
   indexed-none = record {

@@ -20,7 +20,7 @@ use Rattle.dn_shaper.specs.declared.state.State.{State}
 use Rattle.dn_shaper.specs.Refinement.Agreement.{AgreesWith, link_names}
 use Rattle.dn_shaper.specs.Refinement.Arriving.{KeepsFlows}
 use Rattle.dn_shaper.specs.Refinement.Configuring.{Lists, Puts, DiscardsReached}
-use Rattle.dn_shaper.specs.Refinement.Settings.{settings_of}
+use Rattle.dn_shaper.specs.Refinement.Settings.{InForce, settings_of}
 use Rattle.dn_shaper.specs.Refinement.Settling.{AreInStep}
 use Rattle.dn_shaper.specs.Refinement.Calls.{Does}
 use Rattle.dn_shaper.specs.Refinement.Sound.{IsSound}
@@ -89,7 +89,7 @@ module _ (command : Command) (reply : Reply) (old new : State)
 -- ---- The three ways to answer
 
 module _ (command : Command) (old : State) (sound : IsSound old) where
-  pub obeys-put : (configured : List (Target × Command)) → Puts command (Some command) (settings_of old.configured) (settings_of configured) →
+  pub obeys-put : (configured : InForce) → Puts command (Some command) (settings_of old.configured) (settings_of configured) →
       Obeys command Configured old (record { parts = old.parts; heap = old.heap; shared = old.shared; configured = configured; now = old.now; calls = old.calls })
   obeys-put configured puts = record {
     settings_are = puts;
@@ -105,7 +105,7 @@ module _ (command : Command) (old : State) (sound : IsSound old) where
     calls_are = refl;
   }
 
-  pub obeys-delete : (configured : List (Target × Command)) (parts : Parts) (heap : Heap NextStart) →
+  pub obeys-delete : (configured : InForce) (parts : Parts) (heap : Heap NextStart) →
       Puts command None (settings_of old.configured) (settings_of configured) → KeepsFlows old.parts parts → DiscardsReached command old.parts parts →
       AreInStep parts heap → ((n : ℕ) → Within n old.parts → Within n parts) → heap.moves + parts.waiting ≤ old.heap.moves + old.parts.waiting
       → Obeys command Deleted old (record { parts = parts; heap = heap; shared = old.shared; configured = configured; now = old.now; calls = old.calls })

@@ -1,8 +1,7 @@
 -- The places that are noted for the links which queues share, and the links that are not there.
 use Rattle.std.proofs.Common.{◌≡◌, ◌∙◌, ◌≤◌, ◌⊎◌, ℕ, suc, Bool, true, false, cond, ◌||◌, List, [], ◌∷◌, ◌++◌, map, refl, ap, sym, length, arith, inl, inr}
-use Rattle.std.specs.Prelude.{Some, None, nat_eq, slice_get}
+use Rattle.std.specs.Prelude.{Option, Some, None, nat_eq, slice_get}
 use Rattle.std.specs.List.{list_any}
-use Rattle.std.specs.Map.{lookup}
 use Rattle.std.proofs.lemmas.List.Folds.{list_any-append}
 use Rattle.std.proofs.lemmas.Bool.{cases_eq}
 use Rattle.dn_types.specs.Calls.{link_of}
@@ -18,6 +17,7 @@ use Rattle.dn_shaper.specs.Refinement.Homing.{NotesFor, shared_only}
 use Rattle.dn_shaper.specs.Refinement.Slots.{top}
 use Rattle.dn_shaper.specs.Refinement.Sound.{IsIndexed}
 use Rattle.dn_shaper.specs.Refinement.Views.{LinkView, carried_link, carried_slots, view_of}
+use Rattle.dn_shaper.specs.Refinement.Settings.{at_number}
 use Rattle.dn_flows.proofs.Places.{eq-no, eq-yes, get-kept, get-last}
 use Rattle.dn_types.proofs.Settling.{and-no}
 
@@ -37,43 +37,43 @@ own-unknown queues (p ∷ links) pipe n h = ap (λ b. b || list_any (link_eq (ow
 
 -- The place that is noted for a flow is that of its link.
 pub noted-found : (s : State) (names : List Link) → IsIndexed s names → (target : Target) (flow pipe place : ℕ) →
-    shared_only target (lookup (nat_eq pipe) s.shared) ≡ Some place → (slice_get names place ≡ Some (shared pipe)) × (link_of target flow pipe ≡ shared pipe)
+    shared_only target (at_number s.shared pipe) ≡ Some place → (slice_get names place ≡ Some (shared pipe)) × (link_of target flow pipe ≡ shared pipe)
 noted-found s names is (ToPipe number) flow pipe place e = absurd cc
 noted-found s names is (ToQueue number) flow pipe place e = (is.found pipe place e, refl)
 
 -- Where no place is noted, the link is not there.
 pub unnoted-unknown : (s : State) (queues : ℕ → ℕ) (links : List LinkParts) → IsIndexed s (link_names (map (view_of queues) links)) →
     (target : Target) (flow pipe : ℕ) → ((k : ℕ) (v : LinkView) → slice_get (map (view_of queues) links) k ≡ Some v → top 0 v.slots ≤ flow) →
-    shared_only target (lookup (nat_eq pipe) s.shared) ≡ None → list_any (link_eq (link_of target flow pipe)) (link_names (map (view_of queues) links)) ≡ false
+    shared_only target (at_number s.shared pipe) ≡ None → list_any (link_eq (link_of target flow pipe)) (link_names (map (view_of queues) links)) ≡ false
 unnoted-unknown s queues links is (ToPipe number) flow pipe below e = own-unknown queues links pipe flow below
 unnoted-unknown s queues links is (ToQueue number) flow pipe below e = is.missing pipe e
 
 -- The place of a link that was made is noted where it is shared.
 pub noted-more : (old new : State) (names : List Link) → IsIndexed old names → (target : Target) (flow pipe place : ℕ) → place ≡ length names →
-    shared_only target (lookup (nat_eq pipe) old.shared) ≡ None → NotesFor target pipe place old.shared new.shared →
+    shared_only target (at_number old.shared pipe) ≡ None → NotesFor target pipe place old.shared new.shared →
     IsIndexed new (names ++ link_of target flow pipe ∷ [])
 noted-more old new names is (ToPipe number) flow pipe place last none notes = record {
-  found = λ p k e. get-kept names (own pipe flow) (shared p) k (is.found p k (ap (λ (es : List (ℕ × ℕ)). lookup (nat_eq p) es) (sym notes) ∙ e));
+  found = λ p k e. get-kept names (own pipe flow) (shared p) k (is.found p k (ap (λ (es : List (Option ℕ)). at_number es p) (sym notes) ∙ e));
   missing = λ p e.
       list_any-append (link_eq (shared p)) names (own pipe flow ∷ [])
-      ∙ ap (λ b. b || false) (is.missing p (ap (λ (es : List (ℕ × ℕ)). lookup (nat_eq p) es) (sym notes) ∙ e));
+      ∙ ap (λ b. b || false) (is.missing p (ap (λ (es : List (Option ℕ)). at_number es p) (sym notes) ∙ e));
 }
 noted-more old new names is (ToQueue number) flow pipe place last none notes = record {
   found = λ p k e. found p k e (cases_eq pipe p);
   missing = λ p e. missing p e (cases_eq pipe p);
 }
   where
-    now_at : (p : ℕ) (b : Bool) → nat_eq pipe p ≡ b → lookup (nat_eq p) new.shared ≡ cond b (Some place) (lookup (nat_eq p) old.shared)
-    now_at p b test = notes p ∙ ap (λ x. cond x (Some place) (lookup (nat_eq p) old.shared)) test
+    now_at : (p : ℕ) (b : Bool) → nat_eq pipe p ≡ b → at_number new.shared p ≡ cond b (Some place) (at_number old.shared p)
+    now_at p b test = notes p ∙ ap (λ x. cond x (Some place) (at_number old.shared p)) test
 
-    found : (p k : ℕ) → lookup (nat_eq p) new.shared ≡ Some k → (pipe ≡ p) ⊎ (pipe ≡ p → ⊥) → slice_get (names ++ shared pipe ∷ []) k ≡ Some (shared p)
+    found : (p k : ℕ) → at_number new.shared p ≡ Some k → (pipe ≡ p) ⊎ (pipe ≡ p → ⊥) → slice_get (names ++ shared pipe ∷ []) k ≡ Some (shared p)
     found p k e (inl same) =
         let both : Some place ≡ Some k = sym (now_at p true (eq-yes pipe p same)) ∙ e in
         let k_is : place ≡ k = cc in
         ap (slice_get (names ++ shared pipe ∷ [])) (sym k_is ∙ last) ∙ get-last names (shared pipe) ∙ ap (λ q. Some (shared q)) same
     found p k e (inr ne) = get-kept names (shared pipe) (shared p) k (is.found p k (sym (now_at p false (eq-no pipe p ne)) ∙ e))
 
-    missing : (p : ℕ) → lookup (nat_eq p) new.shared ≡ None → (pipe ≡ p) ⊎ (pipe ≡ p → ⊥) → list_any (link_eq (shared p)) (names ++ shared pipe ∷ []) ≡ false
+    missing : (p : ℕ) → at_number new.shared p ≡ None → (pipe ≡ p) ⊎ (pipe ≡ p → ⊥) → list_any (link_eq (shared p)) (names ++ shared pipe ∷ []) ≡ false
     missing p e (inl same) = absurd (let t : Some place ≡ None = sym (now_at p true (eq-yes pipe p same)) ∙ e in cc)
     missing p e (inr ne) =
         list_any-append (link_eq (shared p)) names (shared pipe ∷ [])

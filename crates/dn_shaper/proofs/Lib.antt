@@ -30,6 +30,7 @@ pub mod Next
 pub mod NextStarts
 pub mod Noted
 pub mod Noting
+pub mod Numbered
 pub mod Opened
 pub mod Ordered
 pub mod Preparing
@@ -37,7 +38,6 @@ pub mod Putting
 pub mod QueueCounts
 pub mod Quiet
 pub mod Reached
-pub mod Recounting
 pub mod Replying
 pub mod Reserved
 pub mod Reserving

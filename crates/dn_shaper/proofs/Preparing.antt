@@ -1,7 +1,6 @@
 -- Where only room was made, a shaper stays sound. So does one whose last flow, which was made for a packet, is taken out.
 use Rattle.std.proofs.Common.{◌≡◌, ◌∙◌, ◌≤◌, ◌<◌, ◌-◌, ◌⊎◌, ℕ, zero, suc, ◌+◌, Bool, true, false, not, cond, ◌||◌, List, [], ◌∷◌, ◌++◌, refl, ap, sym, subst, length, take, arith, ⊎_elim, inl, inr}
-use Rattle.std.specs.Prelude.{Some, Result, Ok, Err, OnErr, is_err, nat_eq, slice_get}
-use Rattle.std.specs.Map.{lookup}
+use Rattle.std.specs.Prelude.{Option, Some, Result, Ok, Err, OnErr, is_err, slice_get}
 use Rattle.std.specs.List.{list_any, position_or_len}
 use Rattle.std.proofs.lemmas.Bool.{cases_lt}
 use Rattle.std.proofs.lemmas.List.{get_or-take, get_or_past, length-take-le}
@@ -24,6 +23,7 @@ use Rattle.dn_shaper.specs.Refinement.Sound.{IsSound}
 use Rattle.dn_shaper.specs.Refinement.Starting.{Within}
 use Rattle.dn_shaper.specs.Refinement.Submitting.{IsMade}
 use Rattle.dn_shaper.specs.Refinement.Views.{LinkView, views_of, next_starts, home, queue_lengths}
+use Rattle.dn_shaper.specs.Refinement.Settings.{at_number}
 use Rattle.dn_shaper.proofs.Alone.{all-seen-same}
 use Rattle.dn_shaper.proofs.Events.{append-none}
 use Rattle.dn_flows.proofs.Places.{length-more}
@@ -80,8 +80,8 @@ reserves-sound old new o s = record {
   indexed =
       let names = reserved-names old.parts new.parts o.parts in
       record {
-        found = λ pipe place e. ap (λ (ls : List Link). slice_get ls place) names ∙ s.indexed.found pipe place (ap (λ (es : List (ℕ × ℕ)). lookup (nat_eq pipe) es) (sym o.shared) ∙ e);
-        missing = λ pipe e. ap (λ (ls : List Link). list_any (link_eq (shared pipe)) ls) names ∙ s.indexed.missing pipe (ap (λ (es : List (ℕ × ℕ)). lookup (nat_eq pipe) es) (sym o.shared) ∙ e);
+        found = λ pipe place e. ap (λ (ls : List Link). slice_get ls place) names ∙ s.indexed.found pipe place (ap (λ (es : List (Option ℕ)). at_number es pipe) (sym o.shared) ∙ e);
+        missing = λ pipe e. ap (λ (ls : List Link). list_any (link_eq (shared pipe)) ls) names ∙ s.indexed.missing pipe (ap (λ (es : List (Option ℕ)). at_number es pipe) (sym o.shared) ∙ e);
       };
 }
 

@@ -1,6 +1,6 @@
 -- A shaper stands after a Submit call more, and stays sound.
 use Rattle.std.proofs.Common.{◌≡◌, ◌∙◌, ◌≤◌, ◌^◌, ℕ, suc, ◌+◌, max, not, ◌||◌, Bool, true, false, cond, List, [], ◌∷◌, ◌++◌, refl, ap, sym, subst, arith, ⊎_elim, true≢false}
-use Rattle.std.specs.Prelude.{◌&&◌, Option, Some, nat_eq, slice_get}
+use Rattle.std.specs.Prelude.{◌&&◌, Option, None, Some, nat_eq, slice_get}
 use Rattle.std.specs.List.{list_any}
 use Rattle.dn_heap.specs.Heap.{Heap}
 use Rattle.dn_types.specs.Calls.{link_of, verdict_by, after_verdict, trace_of}
@@ -14,6 +14,7 @@ use Rattle.dn_types.specs.declared.call.Call.TheVariants.{Submit}
 use Rattle.dn_types.specs.declared.flow_key.FlowKey.{FlowKey}
 use Rattle.dn_types.specs.declared.packet.Packet.{Packet}
 use Rattle.dn_types.specs.declared.reply.Reply.{Reply}
+use Rattle.dn_types.specs.declared.reply.Reply.TheVariants.{NoTarget}
 use Rattle.dn_types.specs.declared.target.Target.{Target}
 use Rattle.dn_types.specs.declared.target.Target.TheVariants.{Pipe as ToPipe, Queue as ToQueue}
 use Rattle.dn_types.proofs.Settled.{and-left, true_or_false}
@@ -26,7 +27,7 @@ use Rattle.dn_shaper.specs.Refinement.Arriving.{KeepsFlows}
 use Rattle.dn_shaper.specs.Refinement.Making.{KeepsCalls, Prepares, OnlyMakesRoom}
 use Rattle.dn_shaper.specs.Refinement.Calls.{counted_at, Does, StillStands}
 use Rattle.dn_shaper.specs.Refinement.Settings.{settings_of}
-use Rattle.dn_shaper.specs.Refinement.Settling.{AreInStep}
+use Rattle.dn_shaper.specs.Refinement.Settling.{AreInStep, OnlyStarts, SettlesAll}
 use Rattle.dn_shaper.specs.Refinement.Sound.{IsSound}
 use Rattle.dn_shaper.specs.Refinement.Starting.{Within}
 use Rattle.dn_shaper.specs.Refinement.Submitting.{Answers, verdict_on}
@@ -126,6 +127,13 @@ module _ (old new : State) (target : Target) (packet : Packet) (at : ℕ) (reply
           (λ (x : Settings × ℕ × List FlowKey). IsOutcome x.0 x.1 x.2 target packet (treatment (x.0 target)) (trace_of calls) new.parts reply)
           (λ i. (s.settings_are i, now i, s.keys_are i))
           (submits.outcome (trace_of calls) s.agrees)
+
+-- ---- A target without a treatment
+
+pub submits-none : (target : Target) (packet : Packet) (at : ℕ) (old : State) (parts : Parts) (heap : Heap NextStart) → SettlesAll (settings_of old.configured) at old.parts parts →
+    OnlyStarts old.parts old.heap parts heap → (o : Option Treatment) → None ≡ o → Submits target packet o at old parts (NoTarget at)
+submits-none target packet at old parts heap settles only o none = subst (λ (o : Option Treatment). Submits target packet o at old parts (NoTarget at)) none
+    (record { rule_is = only.rule; keys_are = only.keys; outcome = λ trace a. (refl, settles [] trace a) })
 
 -- ---- A target with a treatment
 

@@ -1,8 +1,7 @@
 -- The home of a new flow is the next slot of a link that is there.
 use Rattle.std.proofs.Common.{◌≡◌, ◌∙◌, ◌≤◌, ◌<◌, ◌⊎◌, ℕ, cond, List, [], ◌∷◌, ◌++◌, set, ap, sym, subst, length, arith, inl, inr}
-use Rattle.std.specs.Prelude.{Option, Some, None, nat_eq, nat_lt, slice_get}
+use Rattle.std.specs.Prelude.{Option, Some, None, nat_lt, slice_get}
 use Rattle.std.specs.List.{list_any}
-use Rattle.std.specs.Map.{lookup}
 use Rattle.std.proofs.lemmas.Bool.{cases_eq}
 use Rattle.dn_types.specs.Calls.{link_of}
 use Rattle.dn_types.specs.Trace.{Link, shared, link_eq, Event}
@@ -17,6 +16,7 @@ use Rattle.dn_shaper.specs.Refinement.Sound.{IsIndexed, IsSound}
 use Rattle.dn_shaper.specs.Refinement.Starting.{IsReady, Within}
 use Rattle.dn_shaper.specs.Refinement.Submitting.{IsMade}
 use Rattle.dn_shaper.specs.Refinement.Views.{LinkView, views_of, next_starts, next_start_of, waits_in_all}
+use Rattle.dn_shaper.specs.Refinement.Settings.{at_number}
 use Rattle.dn_shaper.proofs.Events.{length-set}
 use Rattle.dn_shaper.proofs.Indexed.{noted-found}
 use Rattle.dn_shaper.proofs.Made.{joined-agrees}
@@ -100,6 +100,6 @@ module _ (old new : State) (t : Table) (key : FlowKey) (one : IsOneMore key old.
         (subst (λ (ds : List (Option ℕ)). Holds ds old.heap.keys) (sym nexts-same) sound.kept.held) (ap backlogged nexts-same)
         (let l = ap {B = ℕ} (λ (vs : List LinkView). length vs) s.views_are ∙ length-set (views_of old.parts) place s.view' in let p = sound.kept.places in let r = g.heap.room in omega arith)
         (record {
-          found = λ pipe k e. ap (λ (ls : List Link). slice_get ls k) names-same ∙ index.found pipe k (ap (λ (es : List (ℕ × ℕ)). lookup (nat_eq pipe) es) (sym unnoted) ∙ e);
-          missing = λ pipe e. ap (λ (ls : List Link). list_any (link_eq (shared pipe)) ls) names-same ∙ index.missing pipe (ap (λ (es : List (ℕ × ℕ)). lookup (nat_eq pipe) es) (sym unnoted) ∙ e);
+          found = λ pipe k e. ap (λ (ls : List Link). slice_get ls k) names-same ∙ index.found pipe k (ap (λ (es : List (Option ℕ)). at_number es pipe) (sym unnoted) ∙ e);
+          missing = λ pipe e. ap (λ (ls : List Link). list_any (link_eq (shared pipe)) ls) names-same ∙ index.missing pipe (ap (λ (es : List (Option ℕ)). at_number es pipe) (sym unnoted) ∙ e);
         }) sound

@@ -48,7 +48,7 @@ if-ok (Err e) f p = tt
 
 -- ---- The home of a new flow, by whether a place is noted for its key
 
-module _ (key : FlowKey) (flow : ℕ) (h : Home) (old new : List LinkView) (heap : Heap NextStart) (noted noted' : List (ℕ × ℕ)) (o : Option ℕ) where
+module _ (key : FlowKey) (flow : ℕ) (h : Home) (old new : List LinkView) (heap : Heap NextStart) (noted noted' : List (Option ℕ)) (o : Option ℕ) where
   pub houses-some : (place : ℕ) → o ≡ Some place → Shares flow place h old new → noted' ≡ noted → Houses o key flow h old new heap noted noted'
   houses-some place is shares same = subst (λ (x : Option ℕ). Houses x key flow h old new heap noted noted') (sym is) (shares, same)
 

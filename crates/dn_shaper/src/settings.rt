@@ -1,5 +1,6 @@
 //! What is in force for each pipe and queue, and how packets are treated by it.
+pub mod commands;
 pub mod configured;
-pub mod in_force;
+pub mod queue_counts;
 pub mod rates;
 pub mod treatment;

@@ -1,6 +1,5 @@
 -- The home that a new flow gets: the next slot of the link that its pipe's queues share, or the first of a new link.
-use Rattle.std.specs.Prelude.{◌≡◌, ℕ, ◌+◌, ◌-◌, ◌<◌, ◌≤◌, take, cond, List, [], ◌∷◌, ◌++◌, length, Option, Some, None, nat_eq, slice_get, slice_set}
-use Rattle.std.specs.Map.{lookup}
+use Rattle.std.specs.Prelude.{◌≡◌, ℕ, ◌+◌, ◌-◌, ◌<◌, ◌≤◌, take, List, [], ◌∷◌, ◌++◌, length, Option, Some, None, slice_get, slice_set}
 use Rattle.dn_heap.specs.Heap.{Heap}
 use Rattle.dn_types.specs.Calls.{link_of}
 use Rattle.dn_types.specs.Trace.{Link}
@@ -14,19 +13,20 @@ use Rattle.dn_shaper.specs.declared.links.home.Home.{Home}
 use Rattle.dn_shaper.specs.declared.state.State.{State}
 use Rattle.dn_shaper.specs.Refinement.Making.{HasSlotRoom, KeepsAt, KeepsCalls, OnlyRoom, OnlyMakesRoom}
 use Rattle.dn_shaper.specs.Refinement.Views.{LinkView, no_schedule, views_of}
+use Rattle.dn_shaper.specs.Refinement.Settings.{Sets, at_number}
 
 -- The place of the link that a flow with the key shares, where the key is one of a queue and the link is noted.
 abbrev pub shared_only : Target → Option ℕ → Option ℕ
 shared_only (ToPipe number) place = None
 shared_only (ToQueue number) place = place
 
-abbrev pub place_for : FlowKey → List (ℕ × ℕ) → Option ℕ
-place_for key noted = shared_only key.target (lookup (nat_eq key.pipe) noted)
+abbrev pub place_for : FlowKey → List (Option ℕ) → Option ℕ
+place_for key noted = shared_only key.target (at_number noted key.pipe)
 
 -- The place of a new link is noted for its pipe, where it is one that the queues on the pipe share.
-abbrev pub NotesFor : Target → ℕ → ℕ → List (ℕ × ℕ) → List (ℕ × ℕ) → Type 0
+abbrev pub NotesFor : Target → ℕ → ℕ → List (Option ℕ) → List (Option ℕ) → Type 0
 NotesFor (ToPipe number) pipe place old new = new ≡ old
-NotesFor (ToQueue number) pipe place old new = (other : ℕ) → lookup (nat_eq other) new ≡ cond (nat_eq pipe other) (Some place) (lookup (nat_eq other) old)
+NotesFor (ToQueue number) pipe place old new = Sets pipe (Some place) old new
 
 -- A flow takes the next slot of a shared link, with room for a packet.
 pub record TakesSlot (flow : ℕ) (old new : LinkView) : Type 0 where
@@ -67,7 +67,7 @@ pub record Opens (link : Link) (flow : ℕ) (h : Home) (old new : List LinkView)
   pub room : length old + 1 ≤ heap.room
 
 -- A flow with the key gets a home, by the place of the link that is noted for it.
-abbrev pub Houses : Option ℕ → FlowKey → ℕ → Home → List LinkView → List LinkView → Heap NextStart → List (ℕ × ℕ) → List (ℕ × ℕ) → Type 0
+abbrev pub Houses : Option ℕ → FlowKey → ℕ → Home → List LinkView → List LinkView → Heap NextStart → List (Option ℕ) → List (Option ℕ) → Type 0
 Houses (Some place) key flow h old new heap noted noted' = Shares flow place h old new × (noted' ≡ noted)
 Houses None key flow h old new heap noted noted' = Opens (link_of key.target flow key.pipe) flow h old new heap × NotesFor key.target key.pipe h.place noted noted'
 

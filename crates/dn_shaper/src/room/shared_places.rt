@@ -1,25 +1,24 @@
-ghost use Rattle.std.specs.Prelude.{◌≡◌, ℕ, [], None, Some, cond, nat_eq, OnOk, OnErr};
-ghost use Rattle.std.specs.Map.{lookup};
+ghost use Rattle.std.specs.Prelude.{◌≡◌, ℕ, ◌<◌, [], Some, length, OnOk, OnErr};
 ghost use Rattle.dn_shaper.specs.Refinement.Homing.{NotesFor, place_for};
+ghost use Rattle.dn_shaper.specs.Refinement.Settings.{Sets, at_number};
 
 use dn_types::{FlowKey, Number, Target};
-use indexmap::IndexMap;
 use std::alloc::{AllocError, Global};
 use std::marker::Model;
 
-/// The place of the link that the queues on a pipe share, by the pipe. Contracts see a list of pipes
-/// with places.
+/// The place of the link that the queues on a pipe share, by the pipe's number. One is found by a read
+/// at the number, so that no choice of numbers makes it dear.
 #[derive(Drop)]
 pub struct SharedPlaces {
-    places: IndexMap<Number, usize>,
+    places: Vec<Option<usize>>,
 }
 
 impl Model for SharedPlaces {
-    ghost use Rattle.std.specs.Prelude.{ℕ, List};
+    ghost use Rattle.std.specs.Prelude.{ℕ, List, Option};
 
-    ghost Value = { List (ℕ × ℕ) };
+    ghost Value = { List (Option ℕ) };
 
-    ghost view = { λ a. a.places.entries };
+    ghost view = { λ a. a.places.items };
 }
 
 impl SharedPlaces {
@@ -28,25 +27,40 @@ impl SharedPlaces {
         ensures { result ≡ [] }
     {
         SharedPlaces {
-            places: IndexMap::new(alloc),
+            places: Vec::new(alloc),
         }
     }
 
     /// The place of the link that the queues on the pipe share, where they have one.
     fn get(&self, pipe: Number) -> Option<usize>
-        ensures { result ≡ lookup (nat_eq pipe) self.now }
+        ensures { result ≡ at_number self.now pipe }
     {
-        self.places.get(&pipe).copied()
+        match self.places.get(pipe.get() as usize) {
+            Some(place) => *place,
+            None => None,
+        }
+    }
+
+    /// Makes a place for the number of the pipe, with none under it where it had none.
+    fn extend(&mut self, pipe: Number) -> Result<(), AllocError>
+        ensures same { (other : ℕ) → at_number self.new other ≡ at_number self.old other }
+        ensures place { OnOk result (pipe < length self.new) }
+        ensures err { OnErr result (self.new ≡ self.old) }
+    {
+        let wanted = pipe.get() as usize + 1;
+        if self.places.len() < wanted {
+            self.places.resize(wanted, None)?;
+        }
+        Ok(())
     }
 
     /// Notes the place of a pipe's shared link.
     fn insert(&mut self, pipe: Number, place: usize) -> Result<(), AllocError>
-        ensures inserts { OnOk result ((other : ℕ) → lookup (nat_eq other) self.new ≡ cond (nat_eq pipe other) (Some place) (lookup (nat_eq other) self.old)) }
+        ensures inserts { OnOk result (Sets pipe (Some place) self.old self.new) }
         ensures err { OnErr result (self.new ≡ self.old) }
     {
-        let Ok(_) = self.places.insert(pipe, place) else {
-            return Err(AllocError);
-        };
+        self.extend(pipe)?;
+        self.places[pipe.get() as usize] = Some(place);
         Ok(())
     }
 

@@ -9,12 +9,12 @@ ghost use Rattle.dn_shaper.specs.Refinement.QueueCounts.{named_pipe};
 ghost use Rattle.dn_shaper.specs.Refinement.Settings.{settings_of};
 ghost use Rattle.dn_shaper.specs.Refinement.Submitting.{treatment_of};
 
-use crate::settings::in_force::{InForce, count_queue, discount_queue, replace};
+use crate::settings::commands::Commands;
+use crate::settings::queue_counts::QueueCounts;
 use crate::settings::rates::Rates;
 use crate::settings::treatment::Treatment;
 use dn_flows::DropRule;
 use dn_types::{Bandwidth, Buckets, Command, Delay, Limit, Mask, Number, Reply, Target, Weight};
-use indexmap::IndexMap;
 use std::alloc::{AllocError, Global};
 use std::marker::Model;
 
@@ -28,12 +28,12 @@ fn subject(command: &Command) -> Target
     }
 }
 
-/// The pipe that is named where this is in force for the target, if that is a queue.
-fn named_pipe(target: &Target, setting: Option<&Command>) -> Option<Number>
-    ensures { result ≡ named_pipe target.now (option_copied setting.entry) }
+/// The pipe that is named by the queue, where this is in force for one.
+fn named_pipe(setting: Option<&Command>) -> Option<Number>
+    ensures { result ≡ named_pipe (option_copied setting.entry) }
 {
-    match (target, setting) {
-        (Target::Queue(_), Some(Command::Queue { pipe, .. })) => Some(*pipe),
+    match setting {
+        Some(Command::Queue { pipe, .. }) => Some(*pipe),
         _ => None,
     }
 }
@@ -81,25 +81,24 @@ fn treatment_by(target: &Target, command: &Command) -> Option<Treatment>
     }
 }
 
-/// The commands that are in force, by the pipe or the queue that they are about, and with each pipe
-/// the count of its queues. Contracts see a list of the commands with these.
+/// The commands that are in force for pipes and for queues, and with each pipe the count of its queues.
+/// Contracts see the commands.
 #[derive(Drop)]
 pub struct Configured {
-    commands: IndexMap<Target, InForce>,
+    pipes: Commands,
+    queues: Commands,
+    counts: QueueCounts,
 }
 
 impl Model for Configured {
-    ghost use Rattle.std.specs.Prelude.{List};
-    ghost use Rattle.dn_types.specs.declared.command.Command.{Command};
-    ghost use Rattle.dn_types.specs.declared.target.Target.{Target};
+    ghost use Rattle.dn_shaper.specs.Refinement.QueueCounts.{CountsQueues};
+    ghost use Rattle.dn_shaper.specs.Refinement.Settings.{InForce};
 
-    ghost Value = { List (Target × Command) };
+    ghost Value = { InForce };
 
-    ghost use Rattle.dn_shaper.specs.Refinement.QueueCounts.{commands_in, CountsQueues};
+    ghost view = { λ a. record { pipes = a.pipes; queues = a.queues } };
 
-    ghost view = { λ a. commands_in a.commands.entries };
-
-    ghost invariant = { λ a. CountsQueues a.commands.entries };
+    ghost invariant = { λ a. CountsQueues (record { pipes = a.pipes; queues = a.queues }) a.counts };
 }
 
 impl Configured {
@@ -108,7 +107,9 @@ impl Configured {
         ensures none { (target : TargetValue) → settings_of result target ≡ None }
     {
         Configured {
-            commands: IndexMap::new(alloc),
+            pipes: Commands::new(alloc),
+            queues: Commands::new(alloc),
+            counts: QueueCounts::new(alloc),
         }
     }
 
@@ -116,9 +117,9 @@ impl Configured {
     fn command(&self, target: Target) -> Option<&Command>
         ensures { option_copied result ≡ settings_of self.now target }
     {
-        match self.commands.get(&target) {
-            Some(in_force) => Some(&in_force.command),
-            None => None,
+        match target {
+            Target::Pipe(number) => self.pipes.get(number),
+            Target::Queue(number) => self.queues.get(number),
         }
     }
 
@@ -160,10 +161,7 @@ impl Configured {
     fn has_queues(&self, pipe: Number) -> bool
         ensures { (queues : List ℕ) → Lists (settings_of self.now) queues → result ≡ has_queues (settings_of self.now) queues pipe }
     {
-        match self.commands.get(&Target::Pipe(pipe)) {
-            Some(in_force) => in_force.queues > 0,
-            None => false,
-        }
+        self.counts.of(pipe) > 0
     }
 
     /// How a command is answered.
@@ -205,30 +203,41 @@ impl Configured {
         ensures err { OnErr result (settings_of self.new ≡ settings_of self.old) }
         ensures only_new { OnErr result (settings_of self.old (subject command.now) ≡ None) }
     {
-        // The prover asks that a body that moves a command into or out of a map names the types in it.
+        // The prover asks that a body that moves a command names the types in it.
         let _limit: Option<Limit> = None;
         let _buckets: Option<Buckets> = None;
         let _mask: Option<Mask> = None;
-        let target = subject(command);
-        let replaced = replace(&mut self.commands, target, *command)?;
-        let left = named_pipe(&target, replaced.as_ref());
-        discount_queue(&mut self.commands, left);
-        count_queue(&mut self.commands, named_pipe(&target, Some(command)));
-        Ok(())
+        match subject(command) {
+            Target::Pipe(number) => {
+                self.counts.extend(number)?;
+                self.pipes.put(number, command)?;
+                Ok(())
+            }
+            Target::Queue(number) => {
+                // The proof takes the bound of the number from this.
+                let _number = number.get();
+                let replaced = self.queues.put(number, command)?;
+                self.counts.discount(named_pipe(replaced.as_ref()));
+                self.counts.count(named_pipe(Some(command)));
+                Ok(())
+            }
+        }
     }
 
     /// Takes out what an accepted delete is about.
     pub fn remove(&mut self, command: &Command)
-        requires accepted { IsAnswered (settings_of self.old) command.now Reply.Deleted }
         ensures { Puts command.now None (settings_of self.old) (settings_of self.new) }
     {
-        // The prover asks that a body that moves a command into or out of a map names the types in it.
-        let _limit: Option<Limit> = None;
-        let _buckets: Option<Buckets> = None;
-        let _mask: Option<Mask> = None;
-        let target = subject(command);
-        let removed = self.commands.swap_remove(&target).unwrap();
-        let left = named_pipe(&target, Some(&removed.command));
-        discount_queue(&mut self.commands, left);
+        match subject(command) {
+            Target::Pipe(number) => {
+                let _ = self.pipes.take(number);
+            }
+            Target::Queue(number) => {
+                // The proof takes the bound of the number from this.
+                let _number = number.get();
+                let removed = self.queues.take(number);
+                self.counts.discount(named_pipe(removed.as_ref()));
+            }
+        }
     }
 }

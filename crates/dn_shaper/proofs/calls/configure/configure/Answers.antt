@@ -1,10 +1,21 @@
 -- The command is answered and obeyed, and counts.
-use Rattle.std.proofs.Common.{sym, subst}
+use Rattle.std.proofs.Common.{◌∙◌, sym, subst}
 use Rattle.dn_types.specs.declared.reply.Reply.{Reply}
+use Rattle.dn_wf2q.proofs.Reserved.{on_err_always}
 use Rattle.dn_shaper.specs.declared.state.State.{State}
 use Rattle.dn_shaper.proofs.Configuring.{Obeys, obeys-put, obeys-delete, obeys-refused, configured-does, configured-sound}
 use Rattle.dn_shaper.proofs.calls.configure.configure.Goals as goal
 use Rattle.dn_shaper.proofs.calls.configure.configure.Goals.{in-Configured+in_ok-put-in-Configured, in-Deleted, in_default}
+
+pub put-requires : goal.put-requires
+put-requires c = record { accepted = λ queues lists. sym c.in-Configured.is ∙ c.reply-reply.ensures queues lists }
+
+pub returns-in_err-put-in-Configured-clause-err : goal.returns-in_err-put-in-Configured-clause-err
+returns-in_err-put-in-Configured-clause-err c = on_err_always c.from_residual.result _
+    (λ rule calls s. record { rule_is = s.rule_is; calls_are = s.calls_are; now_is = s.now_is; settings_are = c.in_err-put-in-Configured.ensures.err ∙ s.settings_are; keys_are = s.keys_are; agrees = s.agrees })
+
+pub returns-in_err-put-in-Configured-clause-only_accepted : goal.returns-in_err-put-in-Configured-clause-only_accepted
+returns-in_err-put-in-Configured-clause-only_accepted c = on_err_always c.from_residual.result _ (λ queues lists. sym c.in-Configured.is ∙ c.reply-reply.ensures queues lists)
 
 pub returns-clause-does : goal.returns-clause-does
 returns-clause-does c =

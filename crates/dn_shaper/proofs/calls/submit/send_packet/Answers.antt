@@ -1,16 +1,25 @@
 -- What the verdict makes of the parts, or what they stay where memory is refused.
-use Rattle.std.proofs.Common.{◌∙◌, ap}
+use Rattle.std.proofs.Common.{◌∙◌, ap, refl}
 use Rattle.dn_types.specs.Flows.{flow_number, key_of, treatment, with_key}
+use Rattle.dn_types.specs.declared.reply.Reply.TheVariants.{NoTarget}
 use Rattle.dn_types.specs.declared.target.Target.{Target}
 use Rattle.dn_wf2q.proofs.Reserved.{on_err_always}
 use Rattle.dn_shaper.specs.declared.state.State.{State}
 use Rattle.dn_shaper.specs.Refinement.Settings.{settings_of}
 use Rattle.dn_shaper.specs.Refinement.Submitting.{treatment_of}
-use Rattle.dn_shaper.proofs.Sending.{submits-does, submits-some, sound-settled, sound-then, still-stands}
+use Rattle.dn_shaper.proofs.Sending.{submits-does, submits-none, submits-some, sound-settled, sound-then, still-stands}
 use Rattle.dn_shaper.proofs.calls.submit.send_packet.Goals as goal
 
 pub returns-in_err-flow-in-Some-clause-err : goal.returns-in_err-flow-in-Some-clause-err
 returns-in_err-flow-in-Some-clause-err c = on_err_always c.from_residual.result _ (still-stands c.args.state.now c.prepare.new.state c.prepare.ensures.keeps c.in_err-flow-in-Some.ensures.err)
+
+pub returns-in-None-clause-does : goal.returns-in-None-clause-does
+returns-in-None-clause-does c =
+    let old = c.args.state.now in
+    let new : State = record { parts = c.settle.new.parts; heap = c.settle.new.heap; shared = old.shared; configured = old.configured; now = old.now; calls = old.calls } in
+    submits-does old new c.args.target.now c.args.packet.now c.args.at (NoTarget c.args.at) refl refl
+    (submits-none c.args.target.now c.args.packet.now c.args.at old c.settle.new.parts c.settle.new.heap c.settle.ensures.settled c.settle.ensures.only
+    (treatment (settings_of old.configured c.args.target.now)) c.in-None.ensures.value)
 
 pub returns-in-None-clause-sound : goal.returns-in-None-clause-sound
 returns-in-None-clause-sound c = sound-settled c.args.state.now c.settle.new.parts c.settle.new.heap c.args.at c.requires.early c.requires.sound c.settle.ensures.kept c.settle.ensures.only.names c.settle.ensures.only.within c.settle.ensures.only.moves

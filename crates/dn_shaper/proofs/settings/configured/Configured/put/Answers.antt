@@ -1,56 +1,58 @@
 -- The command takes the place of what was in force for its subject, and a queue moves from one pipe's count to another's.
-use Rattle.std.proofs.Common.{◌∙◌, ap}
-use Rattle.std.specs.Prelude.{Some}
+use Rattle.std.proofs.Common.{◌∙◌, ap, sym, subst, arith}
+use Rattle.std.specs.Prelude.{Some, OnErr, Result, Ok, Err}
+use Rattle.dn_types.specs.declared.reply.Reply.TheVariants.{Configured}
+use Rattle.dn_types.specs.declared.target.Target.TheVariants.{Pipe as ToPipe}
+use Rattle.dn_shaper.specs.Refinement.Configuring.{IsAnswered}
 use Rattle.dn_shaper.specs.Refinement.QueueCounts.{named_pipe}
-use Rattle.dn_shaper.proofs.Putting.{puts-after, counted-before, counts-more, few, still-there}
+use Rattle.dn_shaper.specs.Refinement.Settings.{InForce, settings_of}
+use Rattle.dn_shaper.proofs.Putting.{counted-before, counts-queue, few, not-in-force, pipe-there, place-for}
 use Rattle.dn_shaper.proofs.settings.configured.Configured.put.Goals as goal
 
-pub discount_queue-requires : goal.discount_queue-requires
-discount_queue-requires c =
-    let es0 = c.self.inside.commands.entries in
-    let es1 = c.replace.new.commands.entries in
-    let target = c.subject-target.result in
-    let told = c.in_ok-replaced.ensures in
-    let left-is = c.named_pipe-left.ensures ∙ ap (named_pipe target) (c.as_ref.ensures.value ∙ told.replaced) in
+on-err : {A E P : Type 0} (result : Result A E) → P → OnErr result P
+on-err (Ok a) p = tt
+on-err (Err e) p = p
+
+pub returns-in_err-extend-in-Pipe-clause-only_new : goal.returns-in_err-extend-in-Pipe-clause-only_new
+returns-in_err-extend-in-Pipe-clause-only_new c =
+    let old : InForce = record { pipes = c.self.inside.pipes; queues = c.self.inside.queues } in
+    on-err c.from_residual.result
+    (ap (settings_of c.args.self.now) (sym c.in-Pipe.ensures) ∙ ap (λ (v : InForce). settings_of v (ToPipe c.in-Pipe.number)) (sym c.self.view_is)
+    ∙ not-in-force old c.self.inside.counts c.self.invariant c.in-Pipe.number c.in_err-extend-in-Pipe.ensures.only_new)
+
+pub discount-requires : goal.discount-requires
+discount-requires c =
+    let old : InForce = record { pipes = c.self.inside.pipes; queues = c.self.inside.queues } in
+    let small = c.get-number.ensures in
+    let told = c.in_ok-replaced-in-Queue.ensures in
+    let left-is = c.named_pipe.ensures ∙ ap named_pipe (c.as_ref.ensures.value ∙ told.replaced) in
     record {
-      counted = counted-before c.args.command.now
-          (Some c.args.command.now) target c.subject-target.ensures c.args.self.now es0 es1 c.self.view_is c.self.invariant told.replaces told.counts c.named_pipe-left.result left-is;
+      counted = counted-before c.in-Queue.number (omega (arith, small.value, small.in_range)) (Some c.args.command.now) old c.put-in-Queue.new.self c.self.inside.counts c.self.invariant told.puts
+          c.named_pipe.result left-is;
     }
 
-pub count_queue-requires-clause-there : goal.count_queue-requires-clause-there
-count_queue-requires-clause-there c =
-    let es0 = c.self.inside.commands.entries in
-    let es1 = c.replace.new.commands.entries in
-    let target = c.subject-target.result in
-    let told = c.in_ok-replaced.ensures in
-    still-there c.args.command.now target c.subject-target.ensures c.args.self.now es0 es1 c.discount_queue.new.commands.entries c.self.view_is told.replaces c.discount_queue.ensures.commands c.requires.accepted c.named_pipe.result c.named_pipe.ensures
+pub count-requires-clause-place : goal.count-requires-clause-place
+count-requires-clause-place c =
+    let old : InForce = record { pipes = c.self.inside.pipes; queues = c.self.inside.queues } in
+    let answered = subst (λ (v : InForce). IsAnswered (settings_of v) c.args.command.now Configured) (sym c.self.view_is) c.requires.accepted in
+    place-for old c.self.inside.counts c.discount.new.self c.self.invariant c.discount.ensures.places (named_pipe (Some c.args.command.now)) c.named_pipe-in-Queue.result
+    c.named_pipe-in-Queue.ensures (pipe-there c.args.command.now old answered)
 
-pub count_queue-requires-clause-few : goal.count_queue-requires-clause-few
-count_queue-requires-clause-few c =
-    let es0 = c.self.inside.commands.entries in
-    let es1 = c.replace.new.commands.entries in
-    let target = c.subject-target.result in
-    let told = c.in_ok-replaced.ensures in
-    let left-is = c.named_pipe-left.ensures ∙ ap (named_pipe target) (c.as_ref.ensures.value ∙ told.replaced) in
-    few c.args.command.now
-    (Some c.args.command.now) target c.subject-target.ensures c.args.self.now es0 es1 c.self.view_is c.self.invariant told.replaces told.counts c.named_pipe-left.result left-is c.discount_queue.new.commands.entries c.discount_queue.ensures.commands c.discount_queue.ensures.counts
+pub count-requires-clause-few : goal.count-requires-clause-few
+count-requires-clause-few c =
+    let old : InForce = record { pipes = c.self.inside.pipes; queues = c.self.inside.queues } in
+    let small = c.get-number.ensures in
+    let told = c.in_ok-replaced-in-Queue.ensures in
+    let left-is = c.named_pipe.ensures ∙ ap named_pipe (c.as_ref.ensures.value ∙ told.replaced) in
+    few c.in-Queue.number (omega (arith, small.value, small.in_range)) (Some c.args.command.now) old c.put-in-Queue.new.self c.self.inside.counts c.self.invariant told.puts
+    c.named_pipe.result left-is c.discount.new.self c.discount.ensures.counts c.discount.ensures.places
 
-pub invariant_of-self-2 : goal.invariant_of-self-2
-invariant_of-self-2 c =
-    let es0 = c.self.inside.commands.entries in
-    let es1 = c.replace.new.commands.entries in
-    let target = c.subject-target.result in
-    let told = c.in_ok-replaced.ensures in
-    let left-is = c.named_pipe-left.ensures ∙ ap (named_pipe target) (c.as_ref.ensures.value ∙ told.replaced) in
-    counts-more c.args.command.now
-    (Some c.args.command.now) target c.subject-target.ensures c.args.self.now es0 es1 c.self.view_is c.self.invariant told.replaces told.counts c.named_pipe-left.result left-is c.discount_queue.new.commands.entries c.discount_queue.ensures.commands c.discount_queue.ensures.counts c.named_pipe.result c.named_pipe.ensures c.count_queue.new.commands.entries c.count_queue.ensures.commands c.count_queue.ensures.counts
-
-pub returns-clause-puts : goal.returns-clause-puts
-returns-clause-puts c =
-    let es0 = c.self.inside.commands.entries in
-    let es1 = c.replace.new.commands.entries in
-    let target = c.subject-target.result in
-    let told = c.in_ok-replaced.ensures in
-    puts-after c.args.command.now
-    (Some c.args.command.now) target c.subject-target.ensures c.args.self.now es0 es1 c.self.view_is c.self.invariant told.replaces told.counts c.count_queue.new.commands.entries
-    (c.count_queue.ensures.commands ∙ c.discount_queue.ensures.commands)
+pub invariant_of-self-in-Queue : goal.invariant_of-self-in-Queue
+invariant_of-self-in-Queue c =
+    let old : InForce = record { pipes = c.self.inside.pipes; queues = c.self.inside.queues } in
+    let small = c.get-number.ensures in
+    let told = c.in_ok-replaced-in-Queue.ensures in
+    let left-is = c.named_pipe.ensures ∙ ap named_pipe (c.as_ref.ensures.value ∙ told.replaced) in
+    counts-queue c.in-Queue.number (omega (arith, small.value, small.in_range)) (Some c.args.command.now) old c.put-in-Queue.new.self c.self.inside.counts c.self.invariant told.puts
+    c.named_pipe.result left-is c.discount.new.self c.discount.ensures.counts c.discount.ensures.places
+    c.named_pipe-in-Queue.result c.named_pipe-in-Queue.ensures c.count.new.self c.count.ensures.counts c.count.ensures.places

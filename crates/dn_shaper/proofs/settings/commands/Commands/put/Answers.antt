@@ -1,0 +1,23 @@
+-- The place was made before, and the command is all that is written.
+use Rattle.std.proofs.Common.{◌<◌, ap, arith, length}
+use Rattle.std.specs.Prelude.{Some}
+use Rattle.std.specs.Box.{with_value}
+use Rattle.std.proofs.lemmas.List.{length-map}
+use Rattle.dn_shaper.proofs.Numbered.{command-in, puts-in}
+use Rattle.dn_shaper.proofs.settings.commands.Commands.put.Goals as goal
+
+pub returns-in-Some-clause-puts : goal.returns-in-Some-clause-puts
+returns-in-Some-clause-puts c =
+    let places = c.self.inside.places.items in
+    let within : c.get.result < length places =
+    let long = length-map places command-in in let seen = ap length c.self.view_is in let place = c.in_ok-extend.ensures.place in let is = c.get.ensures.value in omega arith in
+    puts-in places c.extend.new.self c.args.self.now c.get.result c.args.number (Some (with_value c.in-Some.kept c.replace.new.dest)) (Some c.args.command.now) c.self.view_is c.get.ensures.value
+    within (ap Some c.replace.ensures.after) c.in_ok-extend.ensures.same
+
+pub returns-clause-puts : goal.returns-clause-puts
+returns-clause-puts c =
+    let places = c.self.inside.places.items in
+    let within : c.get.result < length places =
+    let long = length-map places command-in in let seen = ap length c.self.view_is in let place = c.in_ok-extend.ensures.place in let is = c.get.ensures.value in omega arith in
+    puts-in places c.extend.new.self c.args.self.now c.get.result c.args.number (Some c.in_ok-new.field-0) (Some c.args.command.now) c.self.view_is c.get.ensures.value
+    within (ap Some c.in_ok-new.ensures.ok) c.in_ok-extend.ensures.same

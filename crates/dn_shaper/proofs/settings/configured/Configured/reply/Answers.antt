@@ -1,0 +1,31 @@
+-- A pipe that is in force is deleted unless a queue names it.
+use Rattle.std.proofs.Common.{◌≡◌, ◌∙◌, Bool, true, false, cond, ap, sym}
+use Rattle.std.specs.Prelude.{is_some}
+use Rattle.dn_types.specs.Configuration.{command_reply, has_queues}
+use Rattle.dn_types.specs.declared.reply.Reply.{Reply}
+use Rattle.dn_types.specs.declared.reply.Reply.TheVariants.{Deleted, NoSuchPipe, PipeHasQueues}
+use Rattle.dn_types.specs.declared.target.Target.TheVariants.{Pipe as ToPipe}
+use Rattle.dn_shaper.specs.Refinement.Settings.{settings_of}
+use Rattle.dn_shaper.proofs.settings.configured.Configured.reply.Goals as goal
+
+pub returns-then-has_queues : goal.returns-then-has_queues
+returns-then-has_queues c queues lists =
+    let old = settings_of c.args.self.now in
+    let number = c.in-DeletePipe.number in
+    let has : is_some (old (ToPipe number)) ≡ true = sym c.has-in-DeletePipe.ensures ∙ c.if-not-has.false in
+    let named : has_queues old queues number ≡ true = sym (c.has_queues.ensures queues lists) ∙ c.if-has_queues.true in
+    sym
+    (ap (command_reply old queues) c.in-DeletePipe.is
+    ∙ ap (λ (b : Bool). cond {A = Reply} b (cond (has_queues old queues number) PipeHasQueues Deleted) NoSuchPipe) has
+    ∙ ap (λ (b : Bool). cond {A = Reply} b PipeHasQueues Deleted) named)
+
+pub returns-else-has_queues : goal.returns-else-has_queues
+returns-else-has_queues c queues lists =
+    let old = settings_of c.args.self.now in
+    let number = c.in-DeletePipe.number in
+    let has : is_some (old (ToPipe number)) ≡ true = sym c.has-in-DeletePipe.ensures ∙ c.if-not-has.false in
+    let named : has_queues old queues number ≡ false = sym (c.has_queues.ensures queues lists) ∙ c.if-has_queues.false in
+    sym
+    (ap (command_reply old queues) c.in-DeletePipe.is
+    ∙ ap (λ (b : Bool). cond {A = Reply} b (cond (has_queues old queues number) PipeHasQueues Deleted) NoSuchPipe) has
+    ∙ ap (λ (b : Bool). cond {A = Reply} b PipeHasQueues Deleted) named)
