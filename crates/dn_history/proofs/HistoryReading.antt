@@ -1,6 +1,6 @@
 -- Reading the records of a history one after the other.
 use Rattle.std.proofs.Common.{◌≡◌, ◌∙◌, ℕ, zero, suc, ◌+◌, ◌-◌, ◌<◌, ◌≤◌, true, false, List, [], ◌∷◌}
-use Rattle.std.proofs.Common.{◌++◌, length, Option, Some, None, Result, Ok, Err, refl, sym, ap, arith, append_assoc, length-append}
+use Rattle.std.proofs.Common.{◌++◌, length, Option, Some, None, Result, Ok, Err, refl, sym, ap, arith, append_assoc}
 use Rattle.std.proofs.lemmas.List.{append-nil}
 use Rattle.csv.specs.Machine.{Read as ReadOff, next_record as next_read}
 use Rattle.csv.specs.Reading.{default_config, records_from, records_next, strip_bom}
@@ -9,10 +9,9 @@ use Rattle.csv.specs.declared.parser.State.{State}
 use Rattle.csv.specs.declared.parser.State.TheVariants.{StartRecord}
 use Rattle.dn_types.specs.declared.entry.Entry.{Entry}
 use Rattle.dn_records.specs.Records.{Fields, Takes, records_of}
-use Rattle.dn_history.specs.HistoryFile.{before, entries_from, entry_from, nothing_in}
+use Rattle.dn_history.specs.HistoryFile.{before, nothing_in}
 use Rattle.dn_history.specs.RecordsLeft.{Rest, item_from, items_from, next_record}
 use Rattle.dn_files.specs.Reading.{◌>>=◌, IsFaultOf}
-use Rattle.dn_history.specs.declared.history_version.HistoryVersion.{HistoryVersion}
 use Rattle.dn_files.specs.declared.replay_fault.ReplayFault.{ReplayFault}
 use Rattle.dn_files.specs.declared.replay_fault.ReplayFault.TheVariants.{BadRecord}
 use Rattle.dn_files.proofs.Inputs.{carried}
@@ -109,41 +108,14 @@ joined : (front : List Entry) (entry : Entry) (read : Result (List Entry) Replay
 joined front entry (Ok entries) = ap (λ (es : List Entry). Ok es) (simp append_assoc)
 joined front entry (Err fault) = refl
 
--- So far these entries were read, and the turns are enough for the records that are left.
-pub record IsSoFar (version : HistoryVersion) (front : List Entry) (rest : Rest) (whole : Result (List Entry) ReplayFault) : Type 0 where
-  pub turns : ℕ
-  pub enough : length rest.records < turns
-  pub so_far : after_front front (entries_from turns version (length front) rest) ≡ whole
+-- One entry more, none, and a fault.
+pub entry_read : (front : List Entry) (old new : Result (List Entry) ReplayFault) (entry : Entry) (whole : Result (List Entry) ReplayFault)
+    → old ≡ before (Some entry) new → after_front front old ≡ whole → after_front (front ++ entry ∷ []) new ≡ whole
+entry_read front old new entry whole is so_far = let here = rw is at so_far in sym (joined front entry new) ∙ here
 
-pub entry_read : (version : HistoryVersion) (front : List Entry) (old new : Rest) (entry : Entry) (whole : Result (List Entry) ReplayFault)
-    → entry_from version (length front) old ≡ Ok (Some entry, new) → length new.records < length old.records → IsSoFar version front old whole → IsSoFar version (front ++ entry ∷ []) new whole
-unfolding entries_from
-entry_read version front old new entry whole is fewer held = go held.turns held.enough held.so_far
-  where
-    go : (turns : ℕ) → length old.records < turns → after_front front (entries_from turns version (length front) old) ≡ whole → IsSoFar version (front ++ entry ∷ []) new whole
-    go zero enough so_far = absurd (omega (arith, enough))
-    go (suc turns) enough so_far =
-        let here = rw is at so_far in
-        record {
-          turns = turns;
-          enough = omega (arith, enough, fewer);
-          so_far = rw (length-append front (entry ∷ [])) (sym (joined front entry (entries_from turns version (length front + 1) new)) ∙ here);
-        }
+pub end_read : (front : List Entry) (old whole : Result (List Entry) ReplayFault) → old ≡ Ok [] → after_front front old ≡ whole → whole ≡ Ok front
+end_read front old whole is so_far = let here = rw is at so_far in sym here ∙ ap (λ (es : List Entry). Ok es) (append-nil front)
 
-pub end_read : (version : HistoryVersion) (front : List Entry) (old new : Rest) (whole : Result (List Entry) ReplayFault)
-    → entry_from version (length front) old ≡ Ok (None, new) → IsSoFar version front old whole → whole ≡ Ok front
-unfolding entries_from
-end_read version front old new whole is held = go held.turns held.enough held.so_far
-  where
-    go : (turns : ℕ) → length old.records < turns → after_front front (entries_from turns version (length front) old) ≡ whole → whole ≡ Ok front
-    go zero enough so_far = absurd (omega (arith, enough))
-    go (suc turns) enough so_far = let here = rw is at so_far in sym here ∙ ap (λ (es : List Entry). Ok es) (append-nil front)
-
-pub bad_entry : (version : HistoryVersion) (front : List Entry) (old : Rest) (fault : ReplayFault) (whole : Result (List Entry) ReplayFault)
-    → IsFaultOf (entry_from version (length front) old) fault → IsSoFar version front old whole → IsFaultOf whole fault
-unfolding entries_from
-bad_entry version front old fault whole is held = go held.turns held.enough held.so_far
-  where
-    go : (turns : ℕ) → length old.records < turns → after_front front (entries_from turns version (length front) old) ≡ whole → IsFaultOf whole fault
-    go zero enough so_far = absurd (omega (arith, enough))
-    go (suc turns) enough so_far = carried (entry_from version (length front) old) whole fault (λ f e. let here = rw e at so_far in sym here) is
+pub bad_entry : (front : List Entry) (old : Result (List Entry) ReplayFault) (fault : ReplayFault) (whole : Result (List Entry) ReplayFault)
+    → IsFaultOf old fault → after_front front old ≡ whole → IsFaultOf whole fault
+bad_entry front old fault whole is so_far = carried old whole fault (λ f e. let here = rw e at so_far in sym here) is

@@ -1,5 +1,6 @@
 pub mod CallsBack
 pub mod EntriesBack
+pub mod EntryTurns
 pub mod FieldsBack
 pub mod HistoryBack
 pub mod HistoryExample

@@ -1,5 +1,6 @@
 -- Records are taken one by one, and remarks are passed over.
-use Rattle.std.proofs.Common.{◌≡◌, ◌∙◌, refl, sym, ap, ◌<◌, ◌≤◌, Bool, true, false, cond, not, List, [], ◌∷◌, length, arith}
+use Rattle.std.proofs.Common.{◌≡◌, ◌∙◌, refl, ap, ◌≤◌, true, false, inl, inr, List, [], ◌∷◌, length, arith}
+use Rattle.std.proofs.lemmas.Bool.{cases_Bool}
 use Rattle.dn_records.specs.Records.{Fields, Takes}
 use Rattle.dn_history.specs.Remarks.{is_remark, without_remarks}
 
@@ -23,3 +24,10 @@ found_plain (first ∷ rest) new whole fields takes plain same =
 pub none_left : (old new whole : List Fields) (fields : Fields) → Takes old new false fields → without_remarks whole ≡ without_remarks old → Takes (without_remarks whole) (without_remarks new) false fields
 none_left [] new whole fields takes same = rw same (refl, ap without_remarks takes.1)
 none_left (first ∷ rest) new whole fields takes same = let no = takes.0 in cc
+
+-- They are no more than all records.
+pub plain_le : (records : List Fields) → length (without_remarks records) ≤ length records
+plain_le [] = omega arith
+plain_le (first ∷ rest) =
+    let le = plain_le rest in
+    elim (cases_Bool (is_remark first)) [ inl remark ↦ rw remark (omega (arith, le)) | inr plain ↦ rw plain (omega (arith, le)) ]

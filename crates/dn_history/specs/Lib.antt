@@ -1,3 +1,4 @@
+pub mod EntriesLeft
 pub mod EntryRecords
 pub mod HistoryFaults
 pub mod HistoryFile

@@ -2,12 +2,15 @@
 
 mod calls;
 mod entries;
+mod entry_reader;
 mod fields;
 mod history;
 mod items;
 mod numbered_records;
+mod progress;
 mod remarks;
 mod replies;
 
 pub use calls::{is_call, read_caller, read_plain_call};
-pub use history::read_history;
+pub use entry_reader::EntryReader;
+pub use history::{HISTORY_LIMIT, read_history};

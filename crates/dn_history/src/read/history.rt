@@ -1,34 +1,27 @@
 ghost use Rattle.std.specs.Prelude.{◌≡◌, false, Ok, IfOk, IfErr};
 ghost use Rattle.dn_history.specs.HistoryFaults.{IsHistoryFault};
-ghost use Rattle.dn_history.specs.HistoryFile.{entries_of, history_file, history_in};
+ghost use Rattle.dn_history.specs.HistoryFile.{history_file, history_in};
 ghost use Rattle.dn_files.specs.Reading.{IsFaultOf, IsRefusal, ReadsAs};
 ghost use Rattle.dn_files.specs.declared.source.Source.TheVariants.{History};
 
-use crate::history_version::HistoryVersion;
-use crate::read::entries::next_entry;
-use crate::read::numbered_records::NumberedRecords;
-use csv::ByteRecord;
+use crate::read::entry_reader::EntryReader;
 use dn_files::{ReplayFault, Source, read_input};
 use dn_records::Inlet;
 use dn_types::{Entry, Rule};
 use std::alloc::Global;
 
-// The greatest length of a history file in bytes.
-const HISTORY_LIMIT: usize = 268_435_456;
+/// The greatest length of a history file in bytes.
+pub const HISTORY_LIMIT: usize = 268_435_456;
 
-/// The entries of the records that are left. Each record is read into `fields`.
-fn entries_of_records(
-    alloc: Global,
-    version: HistoryVersion,
-    records: &mut NumberedRecords<'_>,
-    fields: &mut ByteRecord,
-) -> Result<Vec<Entry>, ReplayFault>
-    ensures ok { IfOk result (λ entries. entries_of version records.old ≡ Ok entries.items) }
-    ensures err { IfErr result (λ fault. IsFaultOf (entries_of version records.old) fault) }
+/// The entries that a reader has left.
+fn entries_left(alloc: Global, reader: &mut EntryReader<'_>) -> Result<Vec<Entry>, ReplayFault>
+    ensures ok { IfOk result (λ entries. reader.old.entries ≡ Ok entries.items) }
+    ensures rule { reader.new.rule ≡ reader.old.rule }
+    ensures err { IfErr result (λ fault. IsFaultOf reader.old.entries fault) }
 {
     let mut entries = Vec::new(alloc);
     loop {
-        match next_entry(alloc, version, entries.len(), records, fields) {
+        match reader.next() {
             Ok(Some(entry)) => {
                 if entries.push(entry).is_err() {
                     return Err(ReplayFault::OutOfMemory);
@@ -41,22 +34,16 @@ fn entries_of_records(
 }
 
 /// The rule and the entries of a history's text.
-#[tactic(auto, unfolding(crate::specs::HistoryFile::history_from))]
 fn history_of_text(alloc: Global, text: &[u8]) -> Result<(Rule, Vec<Entry>), ReplayFault>
     ensures ok { IfOk result (λ history. history_in text.now ≡ Ok (history.0, history.1.items)) }
     ensures err { IfErr result (λ fault. IsFaultOf (history_in text.now) fault) }
 {
-    let mut records = NumberedRecords::new(alloc, text);
-    let mut fields = ByteRecord::new(alloc);
-    match records.next(&mut fields) {
-        Ok(()) => {}
+    let mut reader = match EntryReader::new(alloc, text) {
+        Ok(reader) => reader,
         Err(fault) => return Err(fault),
-    }
-    let Ok(version) = HistoryVersion::read(&fields) else {
-        return Err(ReplayFault::BadRecord(1));
     };
-    match entries_of_records(alloc, version, &mut records, &mut fields) {
-        Ok(entries) => Ok((version.rule(), entries)),
+    match entries_left(alloc, &mut reader) {
+        Ok(entries) => Ok((reader.rule(), entries)),
         Err(fault) => Err(fault),
     }
 }
