@@ -1,8 +1,11 @@
 -- An audit, one entry at a time.
-use Rattle.std.proofs.Common.{◌≡◌, ◌≢◌, ◌∙◌, ℕ, ◌+◌, ◌<◌, ◌≤◌, Result, Ok, Err, List, [], ◌∷◌, ◌++◌, take, length, get_or, refl, sym, ap, subst}
-use Rattle.std.specs.Prelude.{OnErr}
-use Rattle.std.proofs.lemmas.List.{take_all, take_more}
-use Rattle.std.proofs.lemmas.Option.{slice_get_read}
+use Rattle.std.proofs.Common.{◌≡◌, ◌≢◌, ◌∙◌, true, ℕ, ◌+◌, ◌<◌, ◌≤◌, Result, Ok, Err, List, [], ◌∷◌, ◌++◌, take, drop, length, length-append, get_or, refl, sym, ap, subst, arith}
+use Rattle.std.specs.Prelude.{OnErr, OnOk}
+use Rattle.std.specs.Result.{is_ok}
+use Rattle.std.proofs.Math.ListN.{get_or-append}
+use Rattle.std.proofs.Math.Seq.{get_or-append_seam, take-append_seam}
+use Rattle.std.proofs.lemmas.List.{length-take-le, take-append-drop, take-append-le, take_all, take_more}
+use Rattle.std.proofs.lemmas.Option.{get_or_from_slice_get, slice_get_read, slice_get_within}
 use Rattle.dn_types.specs.Clock.{counted}
 use Rattle.dn_types.specs.History.{IsLawful, calls_of}
 use Rattle.dn_types.specs.Replies.{reply}
@@ -12,38 +15,88 @@ use Rattle.dn_types.specs.declared.rule.Rule.{Rule}
 use Rattle.dn_types.proofs.Histories.{calls_of-more, lawful-more}
 use Rattle.dn_shaper.specs.Shaper.{CanNeedMemory, StandsAfter}
 use Rattle.dn_shaper.specs.declared.state.State.{State}
-use Rattle.dn_replay.specs.Audit.{calls_before, CanWantMemory, IsLawfulUpTo, IsVerdict}
-use Rattle.dn_replay.specs.declared.verdict.Verdict.TheVariants.{Differs}
+use Rattle.dn_replay.specs.Audit.{CanWantMemory, HasAudited, IsLawfulUpTo, IsVerdict}
+use Rattle.dn_replay.specs.declared.verdict.Verdict.{Verdict}
+use Rattle.dn_replay.specs.declared.verdict.Verdict.TheVariants.{Differs, Lawful}
+use Rattle.dn_replay.specs.declared.running_audit.RunningAudit.{RunningAudit}
 
--- The i-th entry.
-module _ (history : List Entry) (i : ℕ) (e : Entry) (within : i < length history) (there : e ≡ get_or history i e) where
-  one-more : take (i + 1) history ≡ take i history ++ e ∷ []
-  one-more = take_more history i e within ∙ ap (λ (x : Entry). take i history ++ x ∷ []) (sym there)
+-- One entry more.
+module _ (rule : Rule) (history : List Entry) (e : Entry) where
+  within : length history < length (history ++ e ∷ [])
+  within = omega (arith, length-append history (e ∷ []))
 
-  module _ (rule : Rule) (lawful : IsLawful rule (take i history)) where
-    up-to : IsLawfulUpTo rule history i e
-    up-to = record { there = slice_get_read history (length history) i e refl within there; lawful = lawful }
+  up-to : IsLawful rule history → IsLawfulUpTo rule (history ++ e ∷ []) (length history) e
+  up-to lawful = record {
+    there = slice_get_read (history ++ e ∷ []) (length (history ++ e ∷ [])) (length history) e refl within (sym (get_or-append_seam history e [] e));
+    lawful = rw (take-append_seam history (e ∷ [])) lawful;
+  }
 
-    pub stands-next : (shaper : State) → StandsAfter rule shaper (e.call ∷ calls_before history i) → StandsAfter rule shaper (calls_before history (i + 1))
-    stands-next shaper stands = subst (λ (cs : List Call). StandsAfter rule shaper cs) (sym (ap calls_of one-more ∙ calls_of-more (take i history) e)) stands
+  -- It is alike, differs, or wants memory.
+  pub alike : (shaper : State) → IsLawful rule history → e.reply ≡ reply rule (calls_of history) e.call → StandsAfter rule shaper (e.call ∷ calls_of history)
+      → HasAudited rule (record { shaper = shaper; verdict = Lawful }) (history ++ e ∷ [])
+  alike shaper lawful is stands = record {
+    found = lawful-more rule history e lawful is;
+    stands = λ _. subst (λ (cs : List Call). StandsAfter rule shaper cs) (sym (calls_of-more history e)) stands;
+  }
 
-    pub lawful-next : e.reply ≡ reply rule (calls_before history i) e.call → IsLawful rule (take (i + 1) history)
-    lawful-next is = subst (λ (front : List Entry). IsLawful rule front) (sym one-more) (lawful-more rule (take i history) e lawful is)
+  pub differing : (shaper : State) → IsLawful rule history → e.reply ≢ reply rule (calls_of history) e.call → HasAudited rule (record { shaper = shaper; verdict = Differs (length history) }) (history ++ e ∷ [])
+  differing shaper lawful other = record { found = (e, up-to lawful, rw (take-append_seam history (e ∷ [])) other); stands = λ bad. cc bad }
 
-    pub differs : e.reply ≢ reply rule (calls_before history i) e.call → IsVerdict rule history (Differs i)
-    differs other = (e, up-to, other)
+  pub wants : IsLawful rule history → CanNeedMemory (counted (calls_of history)) e.call → CanWantMemory rule (history ++ e ∷ [])
+  wants lawful needs = (length history, e, up-to lawful, rw (take-append_seam history (e ∷ [])) needs)
 
-    pub wants : CanNeedMemory (counted (calls_before history i)) e.call → CanWantMemory rule history
-    wants needs = (i, e, up-to, needs)
+pub is-lawful : (verdict : Verdict) → ((i : ℕ) → verdict ≡ Differs i → ⊥) → verdict ≡ Lawful
+is-lawful Lawful none = refl
+is-lawful (Differs i) none = absurd (none i refl)
+
+-- What is found of the front of a history and is no lawful history, is found of the whole.
+later : (rule : Rule) (front more : List Entry) (i : ℕ) (e : Entry) → IsLawfulUpTo rule front i e → IsLawfulUpTo rule (front ++ more) i e
+later rule front more i e found =
+    let within = slice_get_within front i e found.there in
+    let below : i < length (front ++ more) = omega (arith, within, length-append front more) in
+    let is : e ≡ get_or (front ++ more) i e = sym (get_or-append front more e i within ∙ get_or_from_slice_get front i e e found.there) in
+    record {
+      there = slice_get_read (front ++ more) (length (front ++ more)) i e refl below is;
+      lawful = rw (take-append-le i front more (omega (arith, within))) found.lawful;
+    }
+
+still-differs : (rule : Rule) (front more : List Entry) (i : ℕ) → IsVerdict rule front (Differs i) → IsVerdict rule (front ++ more) (Differs i)
+still-differs rule front more i (e, found, other) =
+    let within = slice_get_within front i e found.there in
+    (e, later rule front more i e found, rw (take-append-le i front more (omega (arith, within))) other)
+
+still-wants : (rule : Rule) (front more : List Entry) → CanWantMemory rule front → CanWantMemory rule (front ++ more)
+still-wants rule front more (i, e, found, needs) =
+    let within = slice_get_within front i e found.there in
+    (i, e, later rule front more i e found, rw (take-append-le i front more (omega (arith, within))) needs)
+
+pub after-difference : (rule : Rule) (front more : List Entry) (audit : RunningAudit) (i : ℕ) → audit.verdict ≡ Differs i → HasAudited rule audit front → HasAudited rule audit (front ++ more)
+after-difference rule front more audit i is audited = record {
+  found = rw is (still-differs rule front more i (rw is at audited.found));
+  stands = λ lawful. let no = sym is ∙ lawful in cc no;
+}
+
+-- The entry at a place of a history.
+module _ (rule : Rule) (history : List Entry) (i : ℕ) (e : Entry) (below : i < length history) (there : e ≡ get_or history i e) where
+  one-more : take i history ++ e ∷ [] ≡ take (i + 1) history
+  one-more = sym (take_more history i e below ∙ ap (λ (x : Entry). take i history ++ x ∷ []) (sym there))
+
+  pub next-audited : (audit : RunningAudit) → (i ≡ length (take i history) → HasAudited rule audit (take i history ++ e ∷ [])) → HasAudited rule audit (take (i + 1) history)
+  next-audited audit audited = subst (λ (front : List Entry). HasAudited rule audit front) one-more (audited (sym (length-take-le i history (omega (arith, below)))))
+
+  pub wants-later : CanWantMemory rule (take i history ++ e ∷ []) → CanWantMemory rule history
+  wants-later wants =
+      let front = subst (λ (front : List Entry). CanWantMemory rule front) one-more wants in
+      subst (λ (whole : List Entry). CanWantMemory rule whole) (take-append-drop (i + 1) history) (still-wants rule (take (i + 1) history) (drop (i + 1) history) front)
 
 -- No entry is left.
-pub all-lawful : (rule : Rule) (history : List Entry) (i : ℕ) → length history ≤ i → IsLawful rule (take i history) → IsLawful rule history
-all-lawful rule history i none lawful = subst (λ (front : List Entry). IsLawful rule front) (take_all i history none) lawful
+pub all-audited : (rule : Rule) (history : List Entry) (i : ℕ) (audit : RunningAudit) → length history ≤ i → HasAudited rule audit (take i history) → HasAudited rule audit history
+all-audited rule history i audit none audited = subst (λ (front : List Entry). HasAudited rule audit front) (take_all i history none) audited
 
 pub on_err : {T E P : Type 0} (r : Result T E) → P → OnErr r P
 on_err (Ok x) p = tt
 on_err (Err e) p = p
 
-pub err-weaker : {T E P Q : Type 0} (r : Result T E) → (P → Q) → OnErr r P → OnErr r Q
-err-weaker (Ok x) less p = tt
-err-weaker (Err e) less p = less p
+pub when_ok : {T E P : Type 0} (r : Result T E) → is_ok r ≡ true → OnOk r P → P
+when_ok (Ok x) good p = p
+when_ok (Err e) good p = cc good

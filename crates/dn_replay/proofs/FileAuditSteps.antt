@@ -1,16 +1,19 @@
 -- Why a history file isn't audited, step by step.
-use Rattle.std.proofs.Common.{◌≡◌, ◌∙◌, ap, ℕ, Bool, false, length, List, Option}
+use Rattle.std.proofs.Common.{◌≡◌, ◌∙◌, refl, ap, ℕ, Bool, false, length, List, [], ◌∷◌, ◌++◌, ◌+◌, length-append, arith, Option, Result, Ok}
 use Rattle.dn_types.specs.declared.entry.Entry.{Entry}
 use Rattle.dn_types.specs.declared.rule.Rule.{Rule}
-use Rattle.dn_replay.specs.Audit.{IsVerdict}
-use Rattle.dn_replay.specs.FileAudit.{IsAuditFault, IsTold, IsUnaudited, verdict_line}
+use Rattle.dn_replay.specs.Audit.{HasAudited}
+use Rattle.dn_replay.specs.FileAudit.{AreAudited, HasVerdict, IsAuditFault, IsTold, IsUnaudited, verdict_line}
 use Rattle.dn_history.specs.HistoryFaults.{IsHistoryFault}
-use Rattle.dn_history.specs.HistoryFile.{history_file}
-use Rattle.dn_files.specs.Reading.{IsRefusal, ReadsAs}
+use Rattle.dn_history.specs.EntriesLeft.{EntriesLeft, history_left}
+use Rattle.dn_history.specs.HistoryFile.{history_file, history_in, history_limit}
+use Rattle.dn_history.proofs.HistoryReading.{after_front, end_read}
+use Rattle.dn_files.specs.Reading.{IsRefusal, IsTextOf, within_limit}
 use Rattle.dn_files.specs.Writing.{IsUnwritten}
 use Rattle.dn_files.specs.declared.replay_fault.ReplayFault.{ReplayFault}
 use Rattle.dn_files.specs.declared.replay_fault.ReplayFault.TheVariants.{BadRow, Read, Write, TooLong, OutOfMemory, Config, ConfigText, NoSuchPipe, BadRecord, BadCount, PipeHasQueues, NoSuchQueue}
 use Rattle.dn_files.specs.declared.source.Source.TheVariants.{History, Report}
+use Rattle.dn_replay.specs.declared.running_audit.RunningAudit.{RunningAudit}
 use Rattle.dn_replay.specs.declared.verdict.Verdict.{Verdict}
 use Rattle.dn_replay.proofs.ReplaySteps.{keeps}
 
@@ -46,10 +49,26 @@ untold known old new read_failed failed verdict line BadCount sound told h = abs
 untold known old new read_failed failed verdict line (PipeHasQueues l) sound told h = absurd h
 untold known old new read_failed failed verdict line (NoSuchQueue l) sound told h = absurd h
 
--- The bytes that are written are the line of a verdict on the entries that were read, by their count.
-pub told : (known : Option (List ℕ)) (rule : Rule) (entries : List Entry) (verdict : Verdict) (count : ℕ) (line bytes : List ℕ)
-    → ReadsAs history_file known (rule, entries) → IsVerdict rule entries verdict → count ≡ length entries → line ≡ verdict_line count verdict → bytes ≡ line → IsTold known verdict bytes
-told known rule entries verdict count line bytes reads found counted is same = ((rule, entries), reads, found, same ∙ is ∙ ap (λ (n : ℕ). verdict_line n verdict) counted)
+-- The text that was read is a history with this verdict, and the bytes that are written are the line of that.
+pub told : (known : Option (List ℕ)) (text : List ℕ) (verdict : Verdict) (count : ℕ) (line bytes : List ℕ)
+    → IsTextOf known text → within_limit history_limit History text ≡ Ok text → HasVerdict text verdict count → line ≡ verdict_line count verdict → bytes ≡ line → IsTold known verdict bytes
+told known text verdict count line bytes is within (history, reads, found, counted) line_is same =
+    (history, (text, is, rw within reads), found, same ∙ line_is ∙ ap (λ (n : ℕ). verdict_line n verdict) counted)
+
+-- No entry is left.
+pub all-audited : (rule : Rule) (front : List Entry) (old whole : Result (List Entry) ReplayFault) (audit : RunningAudit) (given : ℕ)
+    → given ≡ length front → old ≡ Ok [] → after_front front old ≡ whole → HasAudited rule audit front → AreAudited rule whole audit given
+all-audited rule front old whole audit given counted none so_far audited = (front, end_read front old whole none so_far, counted, audited)
+
+-- One entry more.
+pub counted-more : (front : List Entry) (e : Entry) (old new : ℕ) → new ≡ old + 1 → old ≡ length front → new ≡ length (front ++ e ∷ [])
+counted-more front e old new more counted = omega (arith, more, counted, length-append front (e ∷ []))
+
+-- The verdict on the entries that were left is that on the history.
+pub of_history : (text : List ℕ) (left : EntriesLeft) (rule : Rule) (audit : RunningAudit) (verdict : Verdict) (count given : ℕ)
+    → history_in text ≡ history_left left → rule ≡ left.rule → AreAudited rule left.entries audit given → verdict ≡ audit.verdict → count ≡ given → HasVerdict text verdict count
+of_history text left rule audit verdict count given is same (entries, all, counted, audited) found told_count =
+    ((left.rule, entries), is ∙ rw all refl, rw (← same, found) audited.found, told_count ∙ counted)
 
 -- Why a history file isn't read, as a fault of its audit.
 pub of_reading : (fault : ReplayFault) → IsHistoryFault fault → IsAuditFault fault

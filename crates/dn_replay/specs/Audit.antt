@@ -6,7 +6,8 @@ use Rattle.dn_types.specs.Replies.{reply}
 use Rattle.dn_types.specs.declared.call.Call.{Call}
 use Rattle.dn_types.specs.declared.entry.Entry.{Entry}
 use Rattle.dn_types.specs.declared.rule.Rule.{Rule}
-use Rattle.dn_shaper.specs.Shaper.{CanNeedMemory}
+use Rattle.dn_shaper.specs.Shaper.{CanNeedMemory, StandsAfter}
+use Rattle.dn_replay.specs.declared.running_audit.RunningAudit.{RunningAudit}
 use Rattle.dn_replay.specs.declared.verdict.Verdict.{Verdict}
 use Rattle.dn_replay.specs.declared.verdict.Verdict.TheVariants.{Lawful, Differs}
 
@@ -28,6 +29,11 @@ IsVerdict rule history (Differs i) = (e : Entry) × IsLawfulUpTo rule history i 
 -- Memory can be wanted: the history is lawful up to an entry whose call may take some after the calls before it.
 abbrev pub CanWantMemory : Rule → List Entry → Type 0
 CanWantMemory rule history = (i : ℕ) × (e : Entry) × IsLawfulUpTo rule history i e × CanNeedMemory (counted (calls_before history i)) e.call
+
+-- What an audit has come to after these entries: this is found of them, and while none differs its shaper answered their calls.
+pub record HasAudited (rule : Rule) (audit : RunningAudit) (history : List Entry) : Type 0 where
+  pub found : IsVerdict rule history audit.verdict
+  pub stands : audit.verdict ≡ Lawful → StandsAfter rule audit.shaper (calls_of history)
 
 -- The status with which the program ends: 0 for a lawful history, and 1 for one that differs.
 abbrev pub verdict_status : Verdict → ℕ

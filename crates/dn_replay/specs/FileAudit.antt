@@ -1,17 +1,18 @@
 -- The audit of a history file: the verdict on the history in it by its own rule, and the line that tells the verdict.
-use Rattle.std.specs.Prelude.{◌≡◌, ℕ, Bool, false, List, ◌++◌, length, codes, decimal, Option}
+use Rattle.std.specs.Prelude.{◌≡◌, ℕ, Bool, false, List, ◌++◌, length, codes, decimal, Option, Result, Ok}
 use Rattle.std.specs.Io.KnownBytes.{Appends}
 use Rattle.dn_types.specs.declared.entry.Entry.{Entry}
 use Rattle.dn_types.specs.declared.rule.Rule.{Rule}
-use Rattle.dn_replay.specs.Audit.{IsVerdict}
+use Rattle.dn_replay.specs.Audit.{HasAudited, IsVerdict}
 use Rattle.dn_history.specs.HistoryFaults.{IsHistoryFault}
-use Rattle.dn_history.specs.HistoryFile.{history_file}
+use Rattle.dn_history.specs.HistoryFile.{history_file, history_in}
 use Rattle.dn_files.specs.Reading.{IsRefusal, ReadsAs}
 use Rattle.dn_replay.specs.Replays.{NothingWritten}
 use Rattle.dn_files.specs.Writing.{IsUnwritten}
 use Rattle.dn_files.specs.declared.replay_fault.ReplayFault.{ReplayFault}
 use Rattle.dn_files.specs.declared.replay_fault.ReplayFault.TheVariants.{Write}
 use Rattle.dn_files.specs.declared.source.Source.TheVariants.{History, Report}
+use Rattle.dn_replay.specs.declared.running_audit.RunningAudit.{RunningAudit}
 use Rattle.dn_replay.specs.declared.verdict.Verdict.{Verdict}
 use Rattle.dn_replay.specs.declared.verdict.Verdict.TheVariants.{Lawful, Differs}
 
@@ -19,6 +20,14 @@ use Rattle.dn_replay.specs.declared.verdict.Verdict.TheVariants.{Lawful, Differs
 abbrev pub verdict_line : ℕ → Verdict → List ℕ
 verdict_line entries Lawful = codes "lawful " ++ decimal entries ++ codes "\n"
 verdict_line entries (Differs i) = codes "differs " ++ decimal i ++ codes "\n"
+
+-- The entries that a reader had left were all audited, and this is their count.
+abbrev pub AreAudited : Rule → Result (List Entry) ReplayFault → RunningAudit → ℕ → Type 0
+AreAudited rule left audit count = (entries : List Entry) × (left ≡ Ok entries) × (count ≡ length entries) × HasAudited rule audit entries
+
+-- A text is a history of this many entries with this verdict by its own rule.
+abbrev pub HasVerdict : List ℕ → Verdict → ℕ → Type 0
+HasVerdict text verdict count = (history : Rule × List Entry) × (history_in text ≡ Ok history) × IsVerdict history.0 history.1 verdict × (count ≡ length history.1)
 
 -- What a file may have held is read as a history with this verdict by the rule of the file, and this is the verdict's line.
 abbrev pub IsTold : Option (List ℕ) → Verdict → List ℕ → Type 0

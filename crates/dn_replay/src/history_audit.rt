@@ -1,26 +1,22 @@
-ghost use Rattle.std.specs.Prelude.{[], IfOk, OnErr};
+ghost use Rattle.std.specs.Prelude.{[], IfOk, OnErr, OnOk};
 ghost use Rattle.dn_types.specs.declared.rule.Rule.{Rule as RuleValue};
-ghost use Rattle.dn_shaper.specs.Shaper.{StandsAfter};
-ghost use Rattle.dn_replay.specs.Audit.{CanWantMemory, IsVerdict};
+ghost use Rattle.dn_replay.specs.Audit.{CanWantMemory, HasAudited, IsVerdict};
 
+use crate::running_audit::RunningAudit;
 use crate::verdict::Verdict;
-use dn_shaper::{HashKey, Shaper};
+use dn_shaper::HashKey;
 use dn_types::{Entry, Rule};
 use std::alloc::{AllocError, Global};
 
-/// Asks a shaper before its first call the calls of a history, oldest first, and compares each reply
-/// with the entry's.
-fn compare_replies(shaper: &mut Shaper, entries: &[Entry]) -> Result<Verdict, AllocError>
-    ensures ok { IfOk result (λ verdict. (rule : RuleValue) → StandsAfter rule shaper.old [] → IsVerdict rule entries.now verdict) }
-    ensures err { OnErr result ((rule : RuleValue) → StandsAfter rule shaper.old [] → CanWantMemory rule entries.now) }
+/// Audits all entries of a history, oldest first.
+fn compare_replies(audit: &mut RunningAudit, entries: &[Entry]) -> Result<(), AllocError>
+    ensures ok { OnOk result ((rule : RuleValue) → HasAudited rule audit.old [] → HasAudited rule audit.new entries.now) }
+    ensures err { OnErr result ((rule : RuleValue) → HasAudited rule audit.old [] → CanWantMemory rule entries.now) }
 {
     for (index, entry) in entries.iter().enumerate() {
-        let reply = shaper.apply(&entry.call)?;
-        if reply != entry.reply {
-            return Ok(Verdict::Differs(index));
-        }
+        audit.compare(index, entry)?;
     }
-    Ok(Verdict::Lawful)
+    Ok(())
 }
 
 /// Asks a new shaper the calls of a history, oldest first, and compares each reply with the entry's.
@@ -35,9 +31,13 @@ pub fn audit(
     ensures ok { IfOk result (λ verdict. IsVerdict rule entries.now verdict) }
     ensures err { OnErr result (CanWantMemory rule entries.now) }
 {
-    let mut shaper = Shaper::with_key(alloc, rule, key);
-    let verdict = compare_replies(&mut shaper, entries);
+    let mut audit = RunningAudit::new(alloc, key, rule);
+    let outcome = compare_replies(&mut audit, entries);
+    let verdict = audit.verdict();
     // The proof of a drop by a call has one step, where that of a drop at the end has one for each field.
-    drop(shaper);
-    verdict
+    drop(audit);
+    match outcome {
+        Ok(()) => Ok(verdict),
+        Err(error) => Err(error),
+    }
 }

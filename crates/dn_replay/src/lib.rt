@@ -6,6 +6,7 @@ mod file_audit;
 mod history_audit;
 mod one_caller;
 mod report;
+mod running_audit;
 mod verdict;
 
 pub use callers::{Gate, NoGate, replay_callers};
