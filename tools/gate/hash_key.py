@@ -1,14 +1,18 @@
 """The key of the flow table's hash: whatever the system gives for it, the report and the history are the same, and where the
-system gives none, the program says so and writes nothing.
+system gives none, the program says so and writes nothing. The key reaches the hash: packets whose keys collide where it is 0 cost much with
+that key and little with another.
 
     python3 tools/gate/hash_key.py PROGRAM
 
-It needs cc, for a library that answers getentropy in the system's place.
+It needs cc, for a library that answers getentropy in the system's place. The cost is counted by valgrind, where that is there;
+tools/hostile/known_key.py writes the packets.
 """
 
 from __future__ import annotations
 
 import os
+import re
+import shutil
 import subprocess
 import sys
 from pathlib import Path
@@ -31,6 +35,10 @@ int getentropy(void *bytes, size_t count) {
 }
 """
 KEYS = ("0", "1", "85", "255")
+HOSTILE = Path(__file__).resolve().parent.parent / "hostile"
+COUNTED = ["valgrind", "--tool=cachegrind", "--cache-sim=no", "--cachegrind-out-file=/dev/null"]
+FLOWS = 8_000
+LEAST = 5  # it is about 19
 
 
 def run(program: str, words: list[str], place: str, key: dict[str, str]) -> tuple[int, bytes, bytes]:
@@ -38,6 +46,24 @@ def run(program: str, words: list[str], place: str, key: dict[str, str]) -> tupl
     env = {**{name: value for name, value in os.environ.items() if name != "KEY"}, "LD_PRELOAD": f"{place}/given.so", **key}
     done = subprocess.run([program, *words], capture_output=True, env=env, timeout=120)
     return done.returncode, done.stdout, done.stderr
+
+
+def instructions(program: str, place: str, key: str) -> int:
+    """What a replay costs whose keys collide where the key of the hash is 0."""
+    words = [*COUNTED, program, "replay", f"{place}/chosen.config", f"{place}/chosen.packets"]
+    env = {**os.environ, "LD_PRELOAD": f"{place}/given.so", "KEY": key}
+    done = subprocess.run(words, stdout=subprocess.DEVNULL, stderr=subprocess.PIPE, env=env, text=True, check=True)
+    return int(re.search(r"I +refs: +([\d,]+)", done.stderr)[1].replace(",", ""))
+
+
+def count_known_key(tally: Tally, program: str, place: str) -> None:
+    if shutil.which("valgrind") is None:
+        print("the cost of a known key: skipped, since there is no valgrind on the path")
+        return
+    subprocess.run([sys.executable, HOSTILE / "known_key.py", str(FLOWS), place], check=True)
+    known, other = (instructions(program, place, key) for key in ("0", "1"))
+    print(f"{FLOWS} flows chosen for the key 0 take {known} instructions with it, and {other} with another")
+    tally.note("a known key", "" if known >= LEAST * other else f"the flows chosen for it cost less than {LEAST} times as much")
 
 
 def main(program: str) -> int:
@@ -59,6 +85,7 @@ def main(program: str) -> int:
             tally.equal(f"{name} without random numbers", none, run(program, asked, place, {}))
         tally.equal("a history without random numbers", False, Path(history).exists())
         tally.equal("help without random numbers", 0, run(program, ["--help"], place, {})[0])
+        count_known_key(tally, program, place)
     return tally.end()
 
 
