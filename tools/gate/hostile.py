@@ -1,8 +1,8 @@
-"""Packets that a stranger chose cost no more than their count: twice as many take at most 2.3 times the instructions.
+"""Calls that a stranger chose cost no more than their count: twice as many take at most 2.3 times the instructions.
 
     python3 tools/gate/hostile.py PROGRAM
 
-The instructions are counted by valgrind, so that no other work on the machine matters. tools/hostile writes the packets.
+The instructions are counted by valgrind, so that no other work on the machine matters. tools/hostile writes the inputs.
 """
 
 from __future__ import annotations
@@ -21,20 +21,44 @@ FEWER = 4_000
 MOST = 2.3
 
 
-def instructions(program: str, flows: int, folder: str) -> int:
-    """What a replay of so many flows costs, whose keys were chosen to collide."""
-    subprocess.run([sys.executable, HOSTILE / "chosen_keys.py", str(flows), folder], check=True)
-    words = [*COUNTED, program, "replay", f"{folder}/chosen.config", f"{folder}/chosen.packets"]
-    done = subprocess.run(words, stdout=subprocess.DEVNULL, stderr=subprocess.PIPE, text=True, check=True)
-    return int(re.search(r"I +refs: +([\d,]+)", done.stderr)[1].replace(",", ""))
+def written(generator: str, count: int, to: str) -> None:
+    subprocess.run([sys.executable, HOSTILE / generator, str(count), to], check=True)
+
+
+def counted(words: list[str], given: str) -> int:
+    """How many instructions the program takes."""
+    with open(given, "rb") as stdin:
+        done = subprocess.run([*COUNTED, *words], stdin=stdin, stdout=subprocess.DEVNULL, stderr=subprocess.PIPE, check=True)
+    return int(re.search(rb"I +refs: +([\d,]+)", done.stderr)[1].replace(b",", b""))
+
+
+def chosen_keys(program: str, flows: int, folder: str) -> int:
+    """A replay of packets whose flows were chosen to collide."""
+    written("chosen_keys.py", flows, folder)
+    return counted([program, "replay", f"{folder}/chosen.config", f"{folder}/chosen.packets"], "/dev/null")
+
+
+def session(generator: str, program: str, count: int, folder: str) -> int:
+    """A live session of chosen calls."""
+    calls = f"{folder}/calls"
+    written(generator, count, calls)
+    return counted([program, "live"], calls)
+
+
+def queue_delete(program: str, flows: int, folder: str) -> int:
+    return session("queue_delete.py", program, flows, folder)
+
+
+CASES = {"flows with chosen keys": chosen_keys, "flows of one deleted queue": queue_delete}
 
 
 def main(program: str) -> int:
     tally = Tally()
-    with TemporaryDirectory() as folder:
-        fewer, more = (instructions(program, flows, folder) for flows in (FEWER, 2 * FEWER))
-    print(f"{FEWER} flows with chosen keys take {fewer} instructions, and {2 * FEWER} take {more}: {more / fewer:.2f} times as many")
-    tally.note("chosen keys", "" if more <= MOST * fewer else f"more than {MOST} times the instructions")
+    for name, cost in CASES.items():
+        with TemporaryDirectory() as folder:
+            fewer, more = (cost(program, count, folder) for count in (FEWER, 2 * FEWER))
+        print(f"{FEWER} {name} take {fewer} instructions, and {2 * FEWER} take {more}: {more / fewer:.2f} times as many")
+        tally.note(name, "" if more <= MOST * fewer else f"more than {MOST} times the instructions")
     return tally.end()
 
 
