@@ -70,7 +70,7 @@ more list i packet d old lt =
     ∙ ap (option_or old) (sym (find-append (λ d. nat_eq d.packet packet) (take i list) (get_or list i d ∷ [])))
     ∙ ap (λ (l : List Delivery). option_or old (delivery_of_packet packet l)) (sym (take_more list i d lt))
 
-deliveries-append : (front : List Entry) (e : Entry) → deliveries (front ++ e ∷ []) ≡ deliveries front ++ delivered e.reply
+pub deliveries-append : (front : List Entry) (e : Entry) → deliveries (front ++ e ∷ []) ≡ deliveries front ++ delivered e.reply
 unfolding deliveries
 deliveries-append [] e = append-nil _
 deliveries-append (x ∷ front) e = rw (deliveries-append front e) (sym (append_assoc (delivered x.reply) (deliveries front) (delivered e.reply)))

@@ -4,9 +4,16 @@ pub mod CallerSteps
 pub mod Deliveries
 pub mod EachCaller
 pub mod FileAuditSteps
+pub mod KeptOrder
+pub mod KeptReport
+pub mod KeptSteps
+pub mod LineBytes
 pub mod LineSteps
 pub mod Orders
+pub mod OtherSteps
 pub mod OwnFaults
+pub mod PacketNumbers
+pub mod PartSteps
 pub mod ReplaySteps
 pub mod Runs
 pub mod SameReplies

@@ -36,22 +36,22 @@ rises-from place [] up = tt
 rises-from place (y ∷ ys) up =
     (at_least-from place (place y) ys (λ j d lt. up 0 (suc j) d (omega arith) (omega arith)), rises-from place ys (λ i j d le lt. up (suc i) (suc j) d (omega arith) (omega arith)))
 
-lower : {X : Type 0} (place : X → ℕ) (m n : ℕ) (ys : List X) → n ≤ m → AtLeast place m ys → AtLeast place n ys
+pub lower : {X : Type 0} (place : X → ℕ) (m n : ℕ) (ys : List X) → n ≤ m → AtLeast place m ys → AtLeast place n ys
 lower place m n [] le h = tt
 lower place m n (y ∷ ys) le h = (omega (arith, h.0), lower place m n ys le h.1)
 
-none-at : {X : Type 0} (place : X → ℕ) (n m : ℕ) (ys : List X) → n < m → AtLeast place m ys → at place n ys ≡ []
+pub none-at : {X : Type 0} (place : X → ℕ) (n m : ℕ) (ys : List X) → n < m → AtLeast place m ys → at place n ys ≡ []
 none-at place n m [] lt h = refl
 none-at place n m (y ∷ ys) lt h =
     let above : m ≤ place y = h.0 in
     let other : nat_eq n (place y) ≡ false = grind (arith, nat_tests) in
     rw other (none-at place n m ys lt h.1)
 
-itself : (n : ℕ) → nat_eq n n ≡ true
+pub itself : (n : ℕ) → nat_eq n n ≡ true
 itself n = grind (arith, nat_tests)
 
 -- Two lists that rise and have the same at each place of an element are the same.
-Agree : {X : Type 0} → (X → ℕ) → List X → List X → Type 0
+abbrev pub Agree : {X : Type 0} → (X → ℕ) → List X → List X → Type 0
 Agree {X} place xs ys = (x : X) → at place (place x) ys ≡ at place (place x) xs
 
 same_tails : {X : Type 0} (b : Bool) (x y : X) (xs ys : List X) → x ≡ y → cond b (y ∷ ys) ys ≡ cond b (x ∷ xs) xs → ys ≡ xs
@@ -67,8 +67,7 @@ trichotomy a b = elim (cases_Bool (nat_lt a b)) [
   ]
 ]
 
-unique : {X : Type 0} (place : X → ℕ) (xs ys : List X) → Rises place xs → Rises place ys → Agree place xs ys → xs ≡ ys
-unfolding Agree
+pub unique : {X : Type 0} (place : X → ℕ) (xs ys : List X) → Rises place xs → Rises place ys → Agree place xs ys → xs ≡ ys
 unique place [] [] rx ry h = refl
 unique place [] (y ∷ ys) rx ry h = let e = rw (itself (place y)) at (h y) in cc
 unique place (x ∷ xs) [] rx ry h = let e = rw (itself (place x)) at (h x) in cc
@@ -122,12 +121,12 @@ placed-level place n x (y ∷ ys) = elim (cases_Bool (nat_lt (place y) (place x)
   | inr behind ↦ rw behind refl
 ]
 
-in_order-rises : {X : Type 0} (place : X → ℕ) (xs : List X) → Rises place (sorted_by place xs)
+pub in_order-rises : {X : Type 0} (place : X → ℕ) (xs : List X) → Rises place (sorted_by place xs)
 unfolding sorted_by
 in_order-rises place [] = tt
 in_order-rises place (x ∷ xs) = placed-rises place x (sorted_by place xs) (in_order-rises place xs)
 
-in_order-level : {X : Type 0} (place : X → ℕ) (n : ℕ) (xs : List X) → at place n (sorted_by place xs) ≡ at place n xs
+pub in_order-level : {X : Type 0} (place : X → ℕ) (n : ℕ) (xs : List X) → at place n (sorted_by place xs) ≡ at place n xs
 unfolding sorted_by
 in_order-level place n [] = refl
 in_order-level place n (x ∷ xs) = placed-level place n x (sorted_by place xs) ∙ ap (λ (l : List _). cond (nat_eq n (place x)) (x ∷ l) l) (in_order-level place n xs)
@@ -142,7 +141,6 @@ level-at place x (y ∷ ys) = rw (level (place x) (place y), level-at place x ys
 
 -- What a stable sort gives is the list in order.
 pub sorted_is : {X : Type 0} (place : X → ℕ) (xs ys : List X) → IsNonDecreasingBy place ys → IsStableByKey place nat_cmp xs ys → ys ≡ sorted_by place xs
-unfolding Agree
 sorted_is place xs ys up stable =
     unique place ys (sorted_by place xs) (rises-from place ys up) (in_order-rises place xs)
     (λ x. in_order-level place (place x) xs ∙ sym (level-at place x xs) ∙ sym (stable x) ∙ level-at place x ys)

@@ -3,6 +3,8 @@ pub mod CallerReplays
 pub mod Callers
 pub mod Configuring
 pub mod FileAudit
+pub mod Kept
+pub mod Parts
 pub mod Replays
 pub mod Report
 pub mod Runs

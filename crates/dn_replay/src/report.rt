@@ -1,8 +1,16 @@
 //! The report of a history: what became of the packet of each row.
 
 mod delivered;
+mod fate;
+mod kept;
+mod line_bytes;
+mod line_text;
+mod parts;
 mod report_line;
 mod report_lines;
 mod write;
+mod write_kept;
 
+pub(crate) use kept::Kept;
 pub use write::write_report;
+pub(crate) use write_kept::write_kept;

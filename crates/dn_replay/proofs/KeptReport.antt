@@ -1,0 +1,94 @@
+-- The report of a run is that of what is kept of it.
+use Rattle.std.proofs.Common.{◌≡◌, ◌∙◌, sym, ap, refl, ℕ, ◌+◌, ◌<◌, ◌≤◌, ◌^◌, max, arith, length, List, [], ◌∷◌, ◌++◌, map, Bool, true, false, cond}
+use Rattle.std.specs.Prelude.{filter, nat_le, nat_lt}
+use Rattle.std.specs.List.{All, count_by}
+use Rattle.std.proofs.lemmas.Bool.Decides.{nat_tests}
+use Rattle.std.proofs.lemmas.List.{append-nil}
+use Rattle.std.proofs.lemmas.List.Elements.{All-filter, All-nil}
+use Rattle.std.proofs.lemmas.List.Sums.{sum_by-cons}
+use Rattle.dn_types.specs.Calls.{trace_of}
+use Rattle.dn_types.specs.Clock.{call_limit, effective_moment}
+use Rattle.dn_types.specs.Configuration.{settings}
+use Rattle.dn_types.specs.Deliveries.{given as given_at, undelivered}
+use Rattle.dn_types.specs.Given.{given_count, is_packet}
+use Rattle.dn_types.specs.Replies.{counted_reply, reply}
+use Rattle.dn_types.specs.Starts.{settled}
+use Rattle.dn_types.specs.Trace.{Event, accepted_count, collected}
+use Rattle.dn_types.specs.declared.call.Call.{Call}
+use Rattle.dn_types.specs.declared.call.Call.TheVariants.{Collect}
+use Rattle.dn_types.specs.declared.delivery.Delivery.{Delivery}
+use Rattle.dn_types.specs.declared.entry.Entry.{Entry}
+use Rattle.dn_types.specs.declared.reply.Reply.TheVariants.{Exhausted}
+use Rattle.dn_types.specs.declared.rule.Rule.TheVariants.{Ordered}
+use Rattle.dn_types.proofs.Dues.{gives-once}
+use Rattle.dn_types.proofs.InTurn.{gives-in-order}
+use Rattle.dn_types.proofs.Ordered.{trace-proper}
+use Rattle.dn_types.proofs.PacketCounts.{undelivered-below}
+use Rattle.dn_records.specs.Records.{text_of}
+use Rattle.dn_replay.specs.Kept.{AreKnown, CanReport, HasKept, accepted_places, delivery_line, fate_lines, kept_lines}
+use Rattle.dn_replay.specs.Report.{delivered, deliveries, is_other, is_out, line_fields, lines_after, outs_in_order, report, report_header, row_number, sorted_by, submit_lines}
+use Rattle.dn_replay.specs.Runs.{entry_after, history_of}
+use Rattle.dn_replay.specs.declared.report.fate.Fate.{Fate}
+use Rattle.dn_replay.specs.declared.report.kept.Kept.{Kept}
+use Rattle.dn_replay.specs.declared.report.report_line.ReportLine.{ReportLine}
+use Rattle.dn_replay.proofs.Deliveries.{deliveries-append}
+use Rattle.dn_replay.proofs.KeptOrder.{AreGiven, others-by-row, outs-as-given}
+use Rattle.dn_replay.proofs.KeptSteps.{lines-push}
+use Rattle.dn_replay.proofs.PacketNumbers.{settled-accepts}
+
+nothing-given : (n : ℕ) (given : List Delivery) → given ≡ [] → AreGiven n given
+nothing-given n given none = rw none (record { numbers = All-nil (λ d. d.packet < n); once = λ packet. omega arith; in_order = tt })
+
+-- What a Collect after the calls gives: packets that the calls accepted, each once, in order.
+module _ (calls : List Call) (moment : ℕ) where
+  counted-given : (n : ℕ) → accepted_count (trace_of calls) ≡ n → AreGiven n (given_at Ordered (max (effective_moment calls) moment) (settled (settings calls) (max (effective_moment calls) moment) (trace_of calls)))
+  counted-given n count =
+      let at = max (effective_moment calls) moment in
+      let trace = settled (settings calls) (max (effective_moment calls) moment) (trace_of calls) in
+      let few : accepted_count (settled (settings calls) (max (effective_moment calls) moment) (trace_of calls)) ≤ n = (let same = settled-accepts (settings calls) (max (effective_moment calls) moment) (trace_of calls) in omega (arith, same, count)) in
+      record {
+        numbers = All-filter (λ d. nat_le d.due at) (λ d. d.packet < n) (undelivered Ordered trace) (undelivered-below n Ordered trace (trace-proper (Collect moment ∷ calls)) few);
+        once = λ packet. (let all = gives-once Ordered packet (Collect moment ∷ calls) in omega (arith, all));
+        in_order = gives-in-order Ordered at trace;
+      }
+
+  pub reply-given : (n : ℕ) (given : List Delivery) → (length calls ≤ call_limit → accepted_count (trace_of calls) ≡ n) → given ≡ delivered (reply Ordered calls (Collect moment)) → AreGiven n given
+  reply-given n given count is = by (nat_le call_limit (length calls)) refl is
+    where
+      by : (b : Bool) → nat_le call_limit (length calls) ≡ b → given ≡ delivered (cond b Exhausted (counted_reply Ordered calls (Collect moment))) → AreGiven n given
+      by true e is = nothing-given n given is
+      by false e is =
+          let few : length calls ≤ call_limit = grind (arith, nat_tests) in
+          rw is (counted-given n (count few))
+
+-- The last Collect has no line.
+last-line : (calls : List Call) (ds : List Delivery) → lines_after 1 ds [] (history_of (Collect (2 ^ 62) ∷ calls)) ≡ lines_after 1 ds [] (history_of calls)
+unfolding history_of
+last-line calls ds = lines-push 1 ds [] (history_of calls) (entry_after calls (Collect (2 ^ 62))) ∙ append-nil (lines_after 1 ds [] (history_of calls))
+
+module _ (kept : Kept) (given : List Delivery) (calls : List Call) (h : CanReport kept given calls) where
+  are-given : AreGiven (length kept.accepted.items) given
+  are-given = reply-given calls (2 ^ 62) (length kept.accepted.items) given h.kept_is.numbers h.given_is
+
+  pub are-known : AreKnown kept given
+  are-known = record { places = h.kept_is.places; numbers = are-given.numbers }
+
+  all-deliveries : deliveries (history_of (Collect (2 ^ 62) ∷ calls)) ≡ given
+  unfolding history_of
+  all-deliveries = deliveries-append (history_of calls) (entry_after calls (Collect (2 ^ 62))) ∙ rw (h.kept_is.undelivered) (sym h.given_is)
+
+  -- The lines of a run are those of what is kept.
+  all-lines : submit_lines 1 (history_of (Collect (2 ^ 62) ∷ calls)) ≡ fate_lines 1 0 given kept.fates.items
+  all-lines =
+      ap (λ (ds : List Delivery). lines_after 1 ds [] (history_of (Collect (2 ^ 62) ∷ calls))) all-deliveries
+      ∙ last-line calls given
+      ∙ h.kept_is.lines given
+
+  pub report-is-kept : report 1 (history_of (Collect (2 ^ 62) ∷ calls)) ≡ text_of (report_header ∷ map line_fields (kept_lines kept given))
+  unfolding report
+  report-is-kept =
+      let outs = outs-as-given kept.accepted.items kept.fates.items given h.kept_is.places are-given in
+      let others = others-by-row given kept.fates.items in
+      ap (λ (ls : List ReportLine). text_of (report_header ∷ map line_fields (outs_in_order (filter is_out ls) ++ sorted_by row_number (filter is_other ls)))) all-lines
+      ∙ ap (λ (ls : List ReportLine). text_of (report_header ∷ map line_fields (ls ++ sorted_by row_number (filter is_other (fate_lines 1 0 given kept.fates.items))))) outs
+      ∙ ap (λ (ls : List ReportLine). text_of (report_header ∷ map line_fields (map (delivery_line kept.accepted.items kept.fates.items) given ++ ls))) others

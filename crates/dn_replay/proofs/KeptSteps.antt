@@ -1,0 +1,188 @@
+-- What is kept of a run, one call at a time.
+use Rattle.std.proofs.Common.{◌≡◌, ◌∙◌, sym, ap, refl, ℕ, suc, ◌+◌, ◌*◌, ◌<◌, ◌≤◌, arith, length, List, [], ◌∷◌, ◌++◌, Bool, true, false, cond, inl, inr, append_assoc, length-append}
+use Rattle.std.specs.Prelude.{◌&&◌, nat_eq, nat_le, option_to_list, Option, Some, None, is_some}
+use Rattle.std.specs.List.{count_by}
+use Rattle.std.proofs.lemmas.Bool.{cases_Bool}
+use Rattle.std.proofs.lemmas.List.{append-nil, length_push}
+use Rattle.std.proofs.lemmas.List.Sums.{sum_by-cons}
+use Rattle.dn_types.specs.Calls.{Verdict, no_target, loses, refuses, takes, verdict, trace_of}
+use Rattle.dn_types.specs.Clock.{call_limit, effective_moment}
+use Rattle.dn_types.specs.Configuration.{Settings, command_reply, has_queues, queue_numbers, settings, reply_to_command}
+use Rattle.dn_types.specs.Replies.{counted_reply, reply, reply_to_verdict}
+use Rattle.dn_types.specs.Starts.{settled}
+use Rattle.dn_types.specs.Trace.{Event, accepted_count}
+use Rattle.dn_types.specs.declared.call.Call.{Call}
+use Rattle.dn_types.specs.declared.call.Call.TheVariants.{Configure, Submit}
+use Rattle.dn_types.specs.declared.command.Command.{Command}
+use Rattle.dn_types.specs.declared.command.Command.TheVariants.{Pipe, Queue, DeletePipe, DeleteQueue}
+use Rattle.dn_types.specs.declared.delivery.Delivery.{Delivery}
+use Rattle.dn_types.specs.declared.entry.Entry.{Entry}
+use Rattle.dn_types.specs.declared.packet.Packet.{Packet}
+use Rattle.dn_types.specs.declared.reply.Reply.{Reply}
+use Rattle.dn_types.specs.declared.reply.Reply.TheVariants.{Configured, NoSuchPipe, Deleted, PipeHasQueues, NoSuchQueue, Queued, Lost, Full, NoTarget, Advanced, Delivered, Status, Exhausted}
+use Rattle.dn_types.specs.declared.rule.Rule.TheVariants.{Ordered}
+use Rattle.dn_types.specs.declared.target.Target.{Target}
+use Rattle.dn_types.specs.declared.target.Target.TheVariants.{Pipe as ToPipe, Queue as ToQueue}
+use Rattle.dn_replay.specs.Kept.{HasKept, accepted_places, fate_line, fate_lines, fate_of, is_accepted}
+use Rattle.dn_replay.specs.Report.{delivered, deliveries, entry_line, is_submit, lines_after, reply_line, submits_by}
+use Rattle.dn_replay.specs.Runs.{entry_after, history_of}
+use Rattle.dn_replay.specs.declared.report.fate.Fate.{Fate}
+use Rattle.dn_replay.specs.declared.report.kept.Kept.{Kept}
+use Rattle.dn_replay.proofs.Deliveries.{deliveries-append}
+use Rattle.dn_replay.proofs.PacketNumbers.{configured-accepts, number-is, submitted-accepts}
+
+-- ---- One more at the end
+
+pub lines-push : (n : ℕ) (given : List Delivery) (before entries : List Entry) (e : Entry)
+    → lines_after n given before (entries ++ e ∷ []) ≡ lines_after n given before entries ++ option_to_list (entry_line n given (submits_by e.caller (before ++ entries)) e)
+unfolding lines_after
+lines-push n given before [] e = rw (append-nil before) (append-nil _)
+lines-push n given before (x ∷ entries) e =
+    rw (lines-push n given (before ++ x ∷ []) entries e, append_assoc before (x ∷ []) entries)
+    (sym (append_assoc (option_to_list (entry_line n given (submits_by x.caller before) x)) (lines_after n given (before ++ x ∷ []) entries) _))
+
+count-cons : (p : Entry → Bool) (e : Entry) (entries : List Entry) → count_by p (e ∷ entries) ≡ cond (p e) 1 0 + count_by p entries
+count-cons p e entries = sum_by-cons (λ x. cond (p x) 1 0) e entries
+
+count-push : (p : Entry → Bool) (entries : List Entry) (e : Entry) → count_by p (entries ++ e ∷ []) ≡ count_by p entries + cond (p e) 1 0
+count-push p [] e = let one = count-cons p e [] in omega (arith, one)
+count-push p (x ∷ entries) e =
+    let rest = count-push p entries e in
+    let a = count-cons p x (entries ++ e ∷ []) in
+    let b = count-cons p x entries in
+    omega (arith, rest, a, b)
+
+fates-push : (row packet place : ℕ) (given : List Delivery) (fates : List Fate) (f : Fate)
+    → fate_lines row packet given (fates ++ f ∷ []) ≡ fate_lines row packet given fates ++ option_to_list (fate_line (row + length fates) (packet + length (accepted_places place fates)) given f)
+unfolding fate_lines accepted_places
+fates-push row packet place given [] f =
+    let same_row : row + 0 ≡ row = omega arith in
+    let same_packet : packet + 0 ≡ packet = omega arith in
+    rw (same_row, same_packet) (append-nil _)
+fates-push row packet place given (x ∷ fates) f = elim (cases_Bool (is_accepted x)) [
+  | inl is ↦
+      let next_row : row + suc (length fates) ≡ (row + 1) + length fates = omega arith in
+      let next_packet : packet + suc (length (accepted_places (place + 1) fates)) ≡ (packet + 1) + length (accepted_places (place + 1) fates) = omega arith in
+      rw (is, next_row, next_packet, fates-push (row + 1) (packet + 1) (place + 1) given fates f)
+      (sym (append_assoc (option_to_list (fate_line row packet given x)) (fate_lines (row + 1) (packet + 1) given fates) _))
+  | inr other ↦
+      let next_row : row + suc (length fates) ≡ (row + 1) + length fates = omega arith in
+      rw (other, next_row, fates-push (row + 1) packet (place + 1) given fates f)
+      (sym (append_assoc (option_to_list (fate_line row packet given x)) (fate_lines (row + 1) packet given fates) _))
+]
+
+places-push : (place : ℕ) (fates : List Fate) (f : Fate) → accepted_places place (fates ++ f ∷ []) ≡ accepted_places place fates ++ cond (is_accepted f) ((place + length fates) ∷ []) []
+unfolding accepted_places
+places-push place [] f = let same : place + 0 ≡ place = omega arith in rw same refl
+places-push place (x ∷ fates) f = elim (cases_Bool (is_accepted x)) [
+  | inl is ↦
+      let next : place + suc (length fates) ≡ (place + 1) + length fates = omega arith in
+      rw (is, next, places-push (place + 1) fates f) refl
+  | inr other ↦
+      let next : place + suc (length fates) ≡ (place + 1) + length fates = omega arith in
+      rw (other, next, places-push (place + 1) fates f) refl
+]
+
+-- ---- Replies
+
+-- The line by a reply is that by the fate, where a packet's number is the count of those before it.
+line-by-fate : (row packet : ℕ) (given : List Delivery) (r : Reply) → ((at flow number : ℕ) → r ≡ Queued at flow number → number ≡ packet)
+    → reply_line row given r ≡ fate_line row packet given (fate_of r)
+line-by-fate row packet given (Queued at flow number) h = rw (h at flow number refl) refl
+line-by-fate row packet given (Lost at flow) h = refl
+line-by-fate row packet given (Full at flow) h = refl
+line-by-fate row packet given (NoTarget at) h = refl
+line-by-fate row packet given Configured h = refl
+line-by-fate row packet given NoSuchPipe h = refl
+line-by-fate row packet given Deleted h = refl
+line-by-fate row packet given PipeHasQueues h = refl
+line-by-fate row packet given NoSuchQueue h = refl
+line-by-fate row packet given (Advanced at) h = refl
+line-by-fate row packet given (Delivered at list) h = refl
+line-by-fate row packet given (Status list) h = refl
+line-by-fate row packet given Exhausted h = refl
+
+verdict-delivers-none : (at : ℕ) (v : Verdict) (trace : List Event) → delivered (reply_to_verdict at v trace) ≡ []
+verdict-delivers-none at no_target trace = refl
+verdict-delivers-none at (loses link flow) trace = refl
+verdict-delivers-none at (refuses link flow) trace = refl
+verdict-delivers-none at (takes link flow how) trace = refl
+
+-- A Submit delivers nothing, and no command does.
+submit-delivers-none : (calls : List Call) (target : Target) (packet : Packet) (moment : ℕ) → delivered (reply Ordered calls (Submit target packet moment)) ≡ []
+submit-delivers-none calls target packet moment = by (nat_le call_limit (length calls))
+  where
+    by : (b : Bool) → delivered (cond b Exhausted (counted_reply Ordered calls (Submit target packet moment))) ≡ []
+    by true = refl
+    by false = verdict-delivers-none _ (verdict calls target packet _) _
+
+one-of : (b : Bool) (x y : Reply) → delivered x ≡ [] → delivered y ≡ [] → delivered (cond b x y) ≡ []
+one-of true x y p q = p
+one-of false x y p q = q
+
+command-delivers-none : (set : Settings) (queues : List ℕ) (command : Command) → delivered (command_reply set queues command) ≡ []
+command-delivers-none set queues (Pipe number bw delay limit loss buckets mask) = refl
+command-delivers-none set queues (Queue number pipe weight limit loss buckets mask) = one-of (is_some (set (ToPipe pipe))) Configured NoSuchPipe refl refl
+command-delivers-none set queues (DeletePipe number) =
+    one-of (is_some (set (ToPipe number))) (cond (has_queues set queues number) PipeHasQueues Deleted) NoSuchPipe (one-of (has_queues set queues number) PipeHasQueues Deleted refl refl) refl
+command-delivers-none set queues (DeleteQueue number) = one-of (is_some (set (ToQueue number))) Deleted NoSuchQueue refl refl
+
+configure-delivers-none : (calls : List Call) (command : Command) → delivered (reply Ordered calls (Configure command)) ≡ []
+configure-delivers-none calls command =
+    one-of (nat_le call_limit (length calls)) Exhausted (reply_to_command calls command) refl (command-delivers-none (settings calls) (queue_numbers calls) command)
+
+-- ---- The calls
+
+pub nothing-kept : (kept : Kept) → kept.fates.items ≡ [] → kept.accepted.items ≡ [] → HasKept kept []
+unfolding history_of lines_after fate_lines accepted_places deliveries
+nothing-kept kept none no_place = record {
+  lines = λ given. rw none refl;
+  submits = rw none refl;
+  places = rw (none, no_place) refl;
+  numbers = λ few. rw no_place refl;
+  undelivered = refl;
+}
+
+-- A command changes nothing of what is kept.
+pub kept-configured : (kept : Kept) (calls : List Call) (command : Command) → HasKept kept calls → HasKept kept (Configure command ∷ calls)
+unfolding history_of
+kept-configured kept calls command h = record {
+  lines = λ given. lines-push 1 given [] (history_of calls) (entry_after calls (Configure command)) ∙ append-nil _ ∙ h.lines given;
+  submits = count-push (λ e. is_submit e.call && nat_eq e.caller 0) (history_of calls) (entry_after calls (Configure command)) ∙ (let same : submits_by 0 (history_of calls) + 0 ≡ submits_by 0 (history_of calls) = omega arith in same) ∙ h.submits;
+  places = h.places;
+  numbers = λ few. configured-accepts calls command ∙ h.numbers (omega arith);
+  undelivered = deliveries-append (history_of calls) (entry_after calls (Configure command)) ∙ rw (h.undelivered, configure-delivers-none calls command) refl;
+}
+
+places-more : (fates : List Fate) (accepted now : List ℕ) (f : Fate) → accepted ≡ accepted_places 0 fates → now ≡ accepted ++ cond (is_accepted f) (length fates ∷ []) []
+    → now ≡ accepted_places 0 (fates ++ f ∷ [])
+places-more fates accepted now f old is =
+    let same : 0 + length fates ≡ length fates = omega arith in
+    let push = rw same at (places-push 0 fates f) in
+    is ∙ rw old (sym push)
+
+-- A Submit more, whose fate is kept behind those before it.
+pub kept-submitted : (kept now : Kept) (calls : List Call) (target : Target) (packet : Packet) (moment : ℕ) → HasKept kept calls
+    → now.fates.items ≡ kept.fates.items ++ fate_of (reply Ordered calls (Submit target packet moment)) ∷ []
+    → now.accepted.items ≡ kept.accepted.items ++ cond (is_accepted (fate_of (reply Ordered calls (Submit target packet moment)))) (length kept.fates.items ∷ []) []
+    → HasKept now (Submit target packet moment ∷ calls)
+unfolding history_of
+kept-submitted kept now calls target packet moment h fates_are accepted_are =
+    let r = reply Ordered calls (Submit target packet moment) in
+    let e = entry_after calls (Submit target packet moment) in
+    let fate = fate_of (reply Ordered calls (Submit target packet moment)) in
+    let number : (at flow number : ℕ) → reply Ordered calls (Submit target packet moment) ≡ Queued at flow number → number ≡ 0 + length (accepted_places 0 kept.fates.items) =
+    λ at flow number is. (let n = number-is calls target packet moment at flow number is in let same = h.numbers (omega (arith, n.0)) in let places = ap (length {A = ℕ}) h.places in let own = n.1 in omega (arith, own, same, places)) in
+    let row_is : 0 + submits_by 0 (history_of calls) * 1 + 1 ≡ 1 + length kept.fates.items = omega (arith, h.submits) in
+    record {
+      lines = λ given. lines-push 1 given [] (history_of calls) e
+          ∙ rw (row_is, h.lines given, line-by-fate (1 + length kept.fates.items) (0 + length (accepted_places 0 kept.fates.items)) given r number, fates_are) (sym (fates-push 1 0 0 given kept.fates.items fate));
+      submits = count-push (λ e. is_submit e.call && nat_eq e.caller 0) (history_of calls) e ∙ rw (fates_are, h.submits) (sym (length_push kept.fates.items fate));
+      places = places-more kept.fates.items kept.accepted.items now.accepted.items fate h.places accepted_are ∙ ap (accepted_places 0) (sym fates_are);
+      numbers = λ few. submitted-accepts calls target packet moment (omega arith) ∙ rw (accepted_are, h.numbers (omega arith)) (counted (is_accepted fate) kept.accepted.items (length kept.fates.items));
+      undelivered = deliveries-append (history_of calls) e ∙ rw (h.undelivered, submit-delivers-none calls target packet moment) refl;
+    }
+  where
+    counted : (b : Bool) (xs : List ℕ) (x : ℕ) → length xs + cond b 1 0 ≡ length (xs ++ cond b (x ∷ []) [])
+    counted true xs x = sym (length_push xs x)
+    counted false xs x = let none = append-nil xs in rw none (omega arith)

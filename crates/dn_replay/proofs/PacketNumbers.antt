@@ -1,0 +1,108 @@
+-- The numbers of the packets of a run: a packet's is the count of those accepted before it, and each call accepts one or none.
+use Rattle.std.proofs.Common.{◌≡◌, ◌∙◌, ◌≤◌, ◌<◌, ℕ, ◌+◌, max, Bool, true, false, cond, ◌&&◌, List, [], ◌∷◌, refl, sym, ap, length, arith}
+use Rattle.std.specs.Prelude.{nat_le, nat_eq}
+use Rattle.std.proofs.lemmas.Bool.Decides.{nat_tests}
+use Rattle.dn_types.specs.Calls.{Verdict, no_target, loses, refuses, takes, verdict, accept, join, after_verdict, reaches, discard_reached, after_command, trace_of}
+use Rattle.dn_types.specs.Clock.{call_limit, effective_moment}
+use Rattle.dn_types.specs.Configuration.{Settings, settings, reply_to_command}
+use Rattle.dn_types.specs.Flows.{keys}
+use Rattle.dn_types.specs.Links.{free}
+use Rattle.dn_types.specs.Replies.{counted_reply, reply, reply_to_verdict}
+use Rattle.dn_types.specs.SharedLinks.{waiting, opening}
+use Rattle.dn_types.specs.Starts.{start_at, settled}
+use Rattle.dn_types.specs.Trace.{Link, Accepted, Start, Event, opened, arrived, started, lost, refused, discarded, collected, accepted_count, is_arrival}
+use Rattle.dn_types.specs.declared.call.Call.{Call}
+use Rattle.dn_types.specs.declared.call.Call.TheVariants.{Configure, Submit}
+use Rattle.dn_types.specs.declared.command.Command.{Command}
+use Rattle.dn_types.specs.declared.flow_key.FlowKey.{FlowKey}
+use Rattle.dn_types.specs.declared.packet.Packet.{Packet}
+use Rattle.dn_types.specs.declared.reply.Reply.{Reply}
+use Rattle.dn_types.specs.declared.reply.Reply.TheVariants.{Queued, Lost, Full, NoTarget, Deleted, Exhausted}
+use Rattle.dn_types.specs.declared.rule.Rule.{Rule}
+use Rattle.dn_types.specs.declared.rule.Rule.TheVariants.{Ordered}
+use Rattle.dn_types.specs.declared.target.Target.{Target}
+use Rattle.dn_types.proofs.CallCounts.{settled-count}
+use Rattle.dn_types.proofs.Giving.{count-event}
+use Rattle.dn_replay.specs.Kept.{fate_of, is_accepted}
+
+-- An event that is no arrival.
+other-event : (e : Event) (trace : List Event) → is_arrival e ≡ false → accepted_count (e ∷ trace) ≡ accepted_count trace
+other-event e trace is = let one = count-event is_arrival e trace in let none : cond {A = ℕ} (is_arrival e) 1 0 ≡ 0 = ap {B = ℕ} (λ b. cond b 1 0) is in omega (arith, one, none)
+
+one-arrival : (p : Accepted) (trace : List Event) → accepted_count (arrived p ∷ trace) ≡ accepted_count trace + 1
+one-arrival p trace = let one = count-event is_arrival (arrived p) trace in omega (arith, one)
+
+pub settled-accepts : (set : Settings) (at : ℕ) (trace : List Event) → accepted_count (settled set at trace) ≡ accepted_count trace
+settled-accepts set at trace = settled-count is_arrival (λ l. refl) (λ s. refl) (λ f. refl) (λ m. refl) set at trace
+
+joined : (set : Settings) (at : ℕ) (q : Accepted) (trace : List Event) → accepted_count (join set at q trace) ≡ accepted_count trace + 1
+joined set at q trace = by (nat_le (free q.link trace) at)
+  where
+    by : (b : Bool) → accepted_count (cond b (started (start_at set q.link q at) ∷ arrived q ∷ trace) (arrived q ∷ trace)) ≡ accepted_count trace + 1
+    by true = other-event (started (start_at set q.link q at)) (arrived q ∷ trace) refl ∙ one-arrival q trace
+    by false = one-arrival q trace
+
+opened-accepts : (b : Bool) (link : Link) (trace : List Event) → accepted_count (cond b (opened link ∷ trace) trace) ≡ accepted_count trace
+opened-accepts true link trace = other-event (opened link) trace refl
+opened-accepts false link trace = refl
+
+discards : (command : Command) (flow : ℕ) (known : List FlowKey) (trace : List Event) → accepted_count (discard_reached command flow known trace) ≡ accepted_count trace
+discards command flow [] trace = refl
+discards command flow (key ∷ known) trace = discards command (flow + 1) known (cond (reaches command key) (discarded flow ∷ trace) trace) ∙ one (reaches command key)
+  where
+    one : (b : Bool) → accepted_count (cond b (discarded flow ∷ trace) trace) ≡ accepted_count trace
+    one true = other-event (discarded flow) trace refl
+    one false = refl
+
+-- A command accepts none.
+command-accepts : (r : Reply) (command : Command) (known : List FlowKey) (trace : List Event) → accepted_count (after_command r command known trace) ≡ accepted_count trace
+command-accepts Deleted command known trace = discards command 0 known trace
+command-accepts _ command known trace = refl
+
+pub configured-accepts : (calls : List Call) (command : Command) → accepted_count (trace_of (Configure command ∷ calls)) ≡ accepted_count (trace_of calls)
+configured-accepts calls command = command-accepts (reply_to_command calls command) command (keys calls) (trace_of calls)
+
+-- A Submit accepts one where its packet is.
+verdict-accepts : (set : Settings) (at : ℕ) (packet : Packet) (v : Verdict) (trace : List Event)
+    → accepted_count (after_verdict set at packet v trace) ≡ accepted_count trace + cond (is_accepted (fate_of (reply_to_verdict at v trace))) 1 0
+verdict-accepts set at packet no_target trace = omega arith
+verdict-accepts set at packet (loses link flow) trace = let same = other-event (lost link flow) trace refl in omega (arith, same)
+verdict-accepts set at packet (refuses link flow) trace = let same = other-event (refused link flow) trace refl in omega (arith, same)
+verdict-accepts set at packet (takes link flow how) trace =
+    let before = opening link at trace in
+    let same = opened-accepts (nat_eq (waiting link trace) 0 && nat_le (free link trace) at) link trace in
+    let one = joined set at (accept link packet flow how before) before in
+    omega (arith, same, one)
+
+counts : (calls : List Call) (c : Call) → length calls < call_limit → reply Ordered calls c ≡ counted_reply Ordered calls c
+counts calls c few = let here : nat_le call_limit (length calls) ≡ false = grind (arith, nat_tests) in rw here refl
+
+pub submitted-accepts : (calls : List Call) (target : Target) (packet : Packet) (moment : ℕ) → length calls < call_limit
+    → accepted_count (trace_of (Submit target packet moment ∷ calls)) ≡ accepted_count (trace_of calls) + cond (is_accepted (fate_of (reply Ordered calls (Submit target packet moment)))) 1 0
+submitted-accepts calls target packet moment few =
+    let at = max (effective_moment calls) moment in
+    let before = settled (settings calls) at (trace_of calls) in
+    let more = verdict-accepts (settings calls) at packet (verdict calls target packet before) before in
+    rw (counts calls (Submit target packet moment) few) (more ∙ ap (λ (n : ℕ). n + cond (is_accepted (fate_of (reply_to_verdict at (verdict calls target packet before) before))) 1 0) (settled-accepts (settings calls) at (trace_of calls)))
+
+numbered : (at : ℕ) (v : Verdict) (trace : List Event) (at' flow number : ℕ) → reply_to_verdict at v trace ≡ Queued at' flow number → number ≡ accepted_count trace
+numbered at no_target trace at' flow number e = absurd cc
+numbered at (loses l f) trace at' flow number e = absurd cc
+numbered at (refuses l f) trace at' flow number e = absurd cc
+numbered at (takes l f how) trace at' flow number e = cc
+
+-- A packet's number is the count of those accepted before it, and its call counts.
+pub number-is : (calls : List Call) (target : Target) (packet : Packet) (moment at flow number : ℕ) → reply Ordered calls (Submit target packet moment) ≡ Queued at flow number
+    → (length calls < call_limit) × (number ≡ accepted_count (trace_of calls))
+number-is calls target packet moment at flow number e = by (nat_le call_limit (length calls)) refl e
+  where
+    clock : ℕ
+    clock = max (effective_moment calls) moment
+
+    by : (b : Bool) → nat_le call_limit (length calls) ≡ b → cond b Exhausted (counted_reply Ordered calls (Submit target packet moment)) ≡ Queued at flow number
+        → (length calls < call_limit) × (number ≡ accepted_count (trace_of calls))
+    by true is e = absurd cc
+    by false is e =
+        let before = settled (settings calls) (max (effective_moment calls) moment) (trace_of calls) in
+        let n = numbered (max (effective_moment calls) moment) (verdict calls target packet before) before at flow number e in
+        (grind (arith, nat_tests), n ∙ settled-accepts (settings calls) (max (effective_moment calls) moment) (trace_of calls))

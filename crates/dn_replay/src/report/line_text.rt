@@ -1,0 +1,122 @@
+//! The lines of a report, each added to a text that has room for it.
+
+ghost use Rattle.std.specs.Prelude.{◌≡◌, ◌≤◌, ◌+◌, ◌++◌, [], ◌∷◌, decimal, drop, length, vec_capacity};
+ghost use Rattle.dn_records.specs.Records.{line_of};
+ghost use Rattle.dn_replay.specs.Report.{line_fields, report_header};
+ghost use Rattle.dn_replay.specs.declared.report.report_line.ReportLine.TheVariants.{Held, NoTarget, Out};
+
+use crate::report::line_bytes::{LINE, put_byte, put_line_feed, put_number};
+
+/// Appends bytes for which there is room.
+pub(crate) fn append(text: &mut Vec<u8>, bytes: &[u8])
+    requires { length text.old.items + length bytes.now ≤ vec_capacity text.old }
+    ensures items { text.new.items ≡ text.old.items ++ bytes.now }
+    ensures capacity { vec_capacity text.old ≤ vec_capacity text.new }
+{
+    let Ok(()) = text.extend_from_slice(bytes) else {
+        unreachable!()
+    };
+}
+
+/// Appends the bytes of a line from a place on.
+fn append_from(text: &mut Vec<u8>, bytes: &[u8], start: usize)
+    requires within { start ≤ length bytes.now }
+    requires room { length text.old.items + length bytes.now ≤ vec_capacity text.old + start }
+    ensures items { text.new.items ≡ text.old.items ++ drop start bytes.now }
+    ensures capacity { vec_capacity text.old ≤ vec_capacity text.new }
+{
+    append(text, &bytes[start..]);
+}
+
+/// Adds the line of names.
+pub(crate) fn add_header(text: &mut Vec<u8>)
+    requires { length text.old.items + 160 ≤ vec_capacity text.old }
+    ensures items { text.new.items ≡ text.old.items ++ line_of report_header }
+    ensures capacity { vec_capacity text.old ≤ vec_capacity text.new }
+{
+    append(text, b"event,row,flow,packet,at,start,due\n");
+}
+
+/// Adds the line of a packet that was delivered.
+pub(crate) fn add_out(
+    text: &mut Vec<u8>,
+    row: usize,
+    flow: usize,
+    packet: u64,
+    at: u64,
+    start: u64,
+    due: u64,
+)
+    requires { length text.old.items + 160 ≤ vec_capacity text.old }
+    ensures items { text.new.items ≡ text.old.items ++ line_of (line_fields (Out row flow packet at start due)) }
+    ensures capacity { vec_capacity text.old ≤ vec_capacity text.new }
+{
+    let mut bytes = [0u8; LINE];
+    let end = put_line_feed(&mut bytes);
+    let end = put_number(&mut bytes, end, due);
+    let end = put_number(&mut bytes, end, start);
+    let end = put_number(&mut bytes, end, at);
+    let end = put_number(&mut bytes, end, packet);
+    let end = put_number(&mut bytes, end, flow as u64);
+    let end = put_number(&mut bytes, end, row as u64);
+    let end = put_byte(&mut bytes, end, b't');
+    let end = put_byte(&mut bytes, end, b'u');
+    let end = put_byte(&mut bytes, end, b'o');
+    append_from(text, &bytes, end);
+}
+
+/// Adds the line of a packet that was accepted and not delivered.
+pub(crate) fn add_held(text: &mut Vec<u8>, row: usize, flow: usize, packet: u64, at: u64)
+    requires { length text.old.items + 160 ≤ vec_capacity text.old }
+    ensures items { text.new.items ≡ text.old.items ++ line_of (line_fields (Held row flow packet at)) }
+    ensures capacity { vec_capacity text.old ≤ vec_capacity text.new }
+{
+    let mut bytes = [0u8; LINE];
+    let end = put_line_feed(&mut bytes);
+    let end = put_byte(&mut bytes, end, b',');
+    let end = put_byte(&mut bytes, end, b',');
+    let end = put_number(&mut bytes, end, at);
+    let end = put_number(&mut bytes, end, packet);
+    let end = put_number(&mut bytes, end, flow as u64);
+    let end = put_number(&mut bytes, end, row as u64);
+    append(text, b"held");
+    append_from(text, &bytes, end);
+}
+
+/// Adds the line of a packet that has a flow and was not accepted.
+pub(crate) fn add_refused(text: &mut Vec<u8>, event: &[u8], row: usize, flow: usize, at: u64)
+    requires room { length text.old.items + 160 ≤ vec_capacity text.old }
+    requires word { length event.now ≡ 4 }
+    ensures items { text.new.items ≡ text.old.items ++ (event.now
+        ++ 44 ∷ (decimal row ++ 44 ∷ (decimal flow ++ 44 ∷ 44 ∷ (decimal at ++ 44 ∷ 44 ∷ 10 ∷ [])))) }
+    ensures capacity { vec_capacity text.old ≤ vec_capacity text.new }
+{
+    let mut bytes = [0u8; LINE];
+    let end = put_line_feed(&mut bytes);
+    let end = put_byte(&mut bytes, end, b',');
+    let end = put_byte(&mut bytes, end, b',');
+    let end = put_number(&mut bytes, end, at);
+    let end = put_byte(&mut bytes, end, b',');
+    let end = put_number(&mut bytes, end, flow as u64);
+    let end = put_number(&mut bytes, end, row as u64);
+    append(text, event);
+    append_from(text, &bytes, end);
+}
+
+/// Adds the line of a packet without a target, which has neither a flow nor a number.
+pub(crate) fn add_no_target(text: &mut Vec<u8>, row: usize, at: u64)
+    requires { length text.old.items + 160 ≤ vec_capacity text.old }
+    ensures items { text.new.items ≡ text.old.items ++ line_of (line_fields (NoTarget row at)) }
+    ensures capacity { vec_capacity text.old ≤ vec_capacity text.new }
+{
+    let mut bytes = [0u8; LINE];
+    let end = put_line_feed(&mut bytes);
+    let end = put_byte(&mut bytes, end, b',');
+    let end = put_byte(&mut bytes, end, b',');
+    let end = put_number(&mut bytes, end, at);
+    let end = put_byte(&mut bytes, end, b',');
+    let end = put_byte(&mut bytes, end, b',');
+    let end = put_number(&mut bytes, end, row as u64);
+    append(text, b"none");
+    append_from(text, &bytes, end);
+}
