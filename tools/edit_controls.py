@@ -23,7 +23,7 @@ IS_LEAST = "ghost use Rattle.dn_heap.specs.Heap.{IsLeast}; "
 
 # For each edit the pairs that undo its mistake, each applied to the text that the edit puts in.
 CONTROLS = {
-    "dn_heap/pop_keeps_its_room": [("self.room -= 1;", "self.room += 0;")],
+    "dn_heap/pop_keeps_its_room": [("self.room = room;", "self.room = self.room;")],
     "dn_heap/reserves_without_the_keys_of_the_heap": [(".min(n))", ".max(n))")],
     "dn_wf2q/one_place_too_few": [(".saturating_sub(1)", ".saturating_sub(0)")],
     "dn_wf2q/picks_ineligible": [("top.tag() * 0", "top.tag() * 1")],
