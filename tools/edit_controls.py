@@ -25,6 +25,8 @@ IS_LEAST = "ghost use Rattle.dn_heap.specs.Heap.{IsLeast}; "
 CONTROLS = {
     "dn_heap/pop_keeps_its_room": [("self.room = room;", "self.room = self.room;")],
     "dn_heap/reserves_without_the_keys_of_the_heap": [(".min(n))", ".max(n))")],
+    "dn_wf2q/last_pick_not_counted": [("self.enter(slot, head);", "self.enter(slot, head); } else { self.picks += 1;")],
+    "dn_wf2q/left_in_waiting_heap": [("self.waiting.push_reserved(first);", "let _ = self.waiting.len();")],
     "dn_wf2q/one_place_too_few": [(".saturating_sub(1)", ".saturating_sub(0)")],
     "dn_wf2q/picks_ineligible": [("top.tag() * 0", "top.tag() * 1")],
     "dn_wf2q/stamped_by_virtual_time": [("min(1 << 95)", "min(0)")],

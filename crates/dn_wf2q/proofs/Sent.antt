@@ -191,12 +191,6 @@ module _ (p : SchedParts) (kept : IsSchedKept p) (k : RankView) (es : Heap RankV
             room = rw nf (room_grows p.flows.items k.slot r (λ d l. let e = get_or_read p.flows.items k.slot q listed at d in rw (← e) (omega arith)));
           }
 
-      late : p.virtual_time + scaled sent.len p.weights ≤ bound p.arrivals (p.picks + 1)
-      late =
-          let g = scaled-le sent.len p.weights within.0.2 in
-          let t = kept.kept.timely in
-          omega arith
-
       old_last : (seen p.busy_from k.slot r).last_finish_tag ≤ bound p.arrivals p.picks
       old_last = subst (λ (x : Flow). x.last_finish_tag ≤ bound p.arrivals p.picks) (sym seen_is) within.2
 
@@ -208,52 +202,60 @@ module _ (p : SchedParts) (kept : IsSchedKept p) (k : RankView) (es : Heap RankV
           All-set (IsQueueKept p.busy_from) p.flows.items k.slot r
           (whole p.busy_from (subst (IsQueueKept p.busy_from) (sym at) (kept.queues k.slot q listed))) kept.queues
 
-      -- The parts then.
-      abbrev pub sent_parts : SchedParts
-      sent_parts = record {
-        flows = with_item p.flows k.slot r;
-        eligible = es;
-        waiting = p.waiting;
-        virtual_time = p.virtual_time + scaled sent.len p.weights;
-        weights = p.weights - sent.weight;
-        busy_from = p.busy_from;
-        arrivals = p.arrivals;
-        picks = p.picks + 1;
-      }
+      -- Whatever sum of weights virtual time grows by, what is kept stays kept.
+      module _ (g w : ℕ) (grown : g ≡ scaled sent.len w) where
+        late : p.virtual_time + g ≤ bound p.arrivals (p.picks + 1)
+        late =
+            let l = scaled-le sent.len w within.0.2 in
+            let t = kept.kept.timely in
+            omega arith
 
-      module _ (moves : es.moves ≡ p.eligible.moves) (places' : es.room ≡ p.eligible.room + 1) where
-        between : IsKeptBut (λ slot. cond (k.slot == slot) (presence rest) 0) (take 1 rest) sent_parts
-        between =
-            let w = weighs in
-            let w1 = w.1 in
-            record {
-              kept = rw (by_slot-set (seen p.busy_from) p.flows.items k.slot r)
-                  (sent_kept kept.kept k es perm head rest rest_is (p.virtual_time + scaled sent.len p.weights) (p.weights - sent.weight)
-                  (seen p.busy_from k.slot r).last_finish_tag moves places' (omega arith) late (omega arith) old_last);
-              few = kept.few;
-              began = kept.began;
-              arrived = still_arrived;
-              queues = all_whole;
-            }
+        -- The parts then.
+        abbrev pub sent_parts : SchedParts
+        sent_parts = record {
+          flows = with_item p.flows k.slot r;
+          eligible = es;
+          waiting = p.waiting;
+          virtual_time = p.virtual_time + g;
+          weights = p.weights - sent.weight;
+          busy_from = p.busy_from;
+          arrivals = p.arrivals;
+          picks = p.picks + 1;
+        }
 
-        -- No packet is left at the slot.
-        pub last_kept : packets_of r ≡ [] → IsSchedKept sent_parts
-        last_kept nil =
-            let none : rest ≡ [] = rw nil refl in
-            record {
-              kept = all_in between.kept (λ slot. rw (none, cond_zero (k.slot == slot)) refl) (rw none refl);
-              few = kept.few;
-              began = kept.began;
-              arrived = still_arrived;
-              queues = all_whole;
-            }
+        module _ (moves : es.moves ≡ p.eligible.moves) (places' : es.room ≡ p.eligible.room + 1) where
+          between : IsKeptBut (λ slot. cond (k.slot == slot) (presence rest) 0) (take 1 rest) sent_parts
+          between =
+              let w = weighs in
+              let w1 = w.1 in
+              record {
+                kept = rw (by_slot-set (seen p.busy_from) p.flows.items k.slot r)
+                    (sent_kept kept.kept k es perm head rest rest_is (p.virtual_time + g) (p.weights - sent.weight)
+                    (seen p.busy_from k.slot r).last_finish_tag moves places' (omega arith) late (omega arith) old_last);
+                few = kept.few;
+                began = kept.began;
+                arrived = still_arrived;
+                queues = all_whole;
+              }
 
-        -- Some packet is, and is the new head.
-        pub more_kept : (next : TaggedPacket) → first_packet (packets_of r) ≡ Some next → IsKeptWithout k.slot next sent_parts
-        more_kept next e =
-            let f = first_facts k.slot (packets_of r) next e in
-            let here =
-            flow_at_seen p.busy_from (set p.flows.items k.slot r) k.slot r (let l = length-set p.flows.items k.slot r in omega (arith, listed))
-            ∙ ap (seen p.busy_from k.slot) (get_or-set_same p.flows.items k.slot r r listed) in
-            let b : IsKeptBut (only_absent k.slot) (tagged k.slot next ∷ []) sent_parts = rw (f.0, f.1) at between in
-            (b, rw here f.2)
+          -- No packet is left at the slot.
+          pub last_kept : packets_of r ≡ [] → IsSchedKept sent_parts
+          last_kept nil =
+              let none : rest ≡ [] = rw nil refl in
+              record {
+                kept = all_in between.kept (λ slot. rw (none, cond_zero (k.slot == slot)) refl) (rw none refl);
+                few = kept.few;
+                began = kept.began;
+                arrived = still_arrived;
+                queues = all_whole;
+              }
+
+          -- Some packet is, and is the new head.
+          pub more_kept : (next : TaggedPacket) → first_packet (packets_of r) ≡ Some next → IsKeptWithout k.slot next sent_parts
+          more_kept next e =
+              let f = first_facts k.slot (packets_of r) next e in
+              let here =
+              flow_at_seen p.busy_from (set p.flows.items k.slot r) k.slot r (let l = length-set p.flows.items k.slot r in omega (arith, listed))
+              ∙ ap (seen p.busy_from k.slot) (get_or-set_same p.flows.items k.slot r r listed) in
+              let b : IsKeptBut (only_absent k.slot) (tagged k.slot next ∷ []) sent_parts = rw (f.0, f.1) at between in
+              (b, rw here f.2)

@@ -60,11 +60,11 @@ enter-requires c =
     let t = c.take_head-next.ensures in
     record {
       kept =
-          rw c.growth.ensures.value (more_kept c.args.self.now c.requires.kept
+          more_kept c.args.self.now c.requires.kept
           (record { tag = c.in_ok-first.first.tag; slot = c.slot-slot.result }) c.pop.new.self
           (rw c.slot-slot.ensures.value c.in_ok-first.ensures.keys) c.index_mut.result.now c.index_mut.ensures.value
-          c.take_head-next.new.self (finishing c.index_mut.result.now.finish_tag c.take_head-next.result.0) t.sent t.last_finish_tag t.arrived t.kept t.room c.pop.ensures.keeps_moves
-          c.in_ok-first.ensures.room c.in-Some.head (sym t.next ∙ c.in-Some.is));
+          c.take_head-next.new.self (finishing c.index_mut.result.now.finish_tag c.take_head-next.result.0) t.sent t.last_finish_tag t.arrived t.kept t.room
+          c.growth.result _ c.growth.ensures.value c.pop.ensures.keeps_moves c.in_ok-first.ensures.room c.in-Some.head (sym t.next ∙ c.in-Some.is);
     }
 
 pub returns-in-Some-clause-picks : goal.returns-in-Some-clause-picks
@@ -129,8 +129,9 @@ returns-in_default-clause-some c =
 pub returns-in_default-clause-kept : goal.returns-in_default-clause-kept
 returns-in_default-clause-kept c =
     let t = c.take_head-next.ensures in
-    rw c.growth.ensures.value (last_kept c.args.self.now c.requires.kept
+    last_kept c.args.self.now c.requires.kept
     (record { tag = c.in_ok-first.first.tag; slot = c.slot-slot.result }) c.pop.new.self
     (rw c.slot-slot.ensures.value c.in_ok-first.ensures.keys) c.index_mut.result.now c.index_mut.ensures.value c.take_head-next.new.self
-    (finishing c.index_mut.result.now.finish_tag c.take_head-next.result.0) t.sent t.last_finish_tag t.arrived t.kept t.room c.pop.ensures.keeps_moves c.in_ok-first.ensures.room
-    (next_is_none (packets_of c.take_head-next.new.self) (sym t.next ∙ c.in_default.is)))
+    (finishing c.index_mut.result.now.finish_tag c.take_head-next.result.0) t.sent t.last_finish_tag t.arrived t.kept t.room
+    c.growth.result _ c.growth.ensures.value c.pop.ensures.keeps_moves c.in_ok-first.ensures.room
+    (next_is_none (packets_of c.take_head-next.new.self) (sym t.next ∙ c.in_default.is))
