@@ -3,3 +3,4 @@ pub mod KeyWords
 pub mod Store
 pub mod Table
 pub mod Packets
+pub mod Members

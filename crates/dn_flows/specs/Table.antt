@@ -1,12 +1,14 @@
 -- The flow table as callers see it: the keys of the flows in order of first sight, and the state of each flow. A flow's
 -- number is its place in both lists.
-use Rattle.std.specs.Prelude.{ℕ, ◌+◌, ◌≡◌, Bool, true, false, cond, List, [], ◌∷◌, ◌++◌, map, sum, length, slice_index_or}
+use Rattle.std.specs.Prelude.{ℕ, ◌+◌, ◌≡◌, Bool, true, false, cond, nat_eq, List, [], ◌∷◌, ◌++◌, map, sum, length, slice_index_or}
 use Rattle.std.specs.List.{list_any}
+use Rattle.dn_types.specs.Configuration.{target_eq}
 use Rattle.dn_types.specs.Drops.{is_lost, is_full}
 use Rattle.dn_types.specs.Flows.{key_eq}
 use Rattle.dn_types.specs.declared.flow_key.FlowKey.{FlowKey}
 use Rattle.dn_types.specs.declared.flow_status.FlowStatus.{FlowStatus}
 use Rattle.dn_types.specs.declared.limit.Limit.{Limit}
+use Rattle.dn_types.specs.declared.target.Target.TheVariants.{Queue as ToQueue}
 use Rattle.dn_flows.specs.declared.waiting.Waiting.{Waiting}
 use Rattle.dn_flows.specs.declared.verdict.Verdict.{Verdict}
 use Rattle.dn_flows.specs.declared.verdict.Verdict.TheVariants.{Take, Lost, Full}
@@ -83,3 +85,15 @@ emptied s = record { backlog = []; reserved = s.reserved; lost = s.lost; full = 
 -- What is told of the flow with a number and a key.
 abbrev pub status_of : ℕ → FlowKey → FlowState → FlowStatus
 status_of flow key s = record { flow = flow; key = key; queued = length s.backlog; bytes = sum (lengths s.backlog); lost = s.lost; full = s.full; started = s.started; discarded = s.discarded }
+
+-- Whether the flow with the key is on the pipe, and whether it is one of the queue.
+abbrev pub is_on : ℕ → FlowKey → Bool
+is_on pipe key = nat_eq key.pipe pipe
+
+abbrev pub is_of : ℕ → FlowKey → Bool
+is_of queue key = target_eq key.target (ToQueue queue)
+
+-- The places of the elements that pass a test, in order, where the first element stands at `from`.
+abbrev pub places_where : {X : Type 0} → (X → Bool) → ℕ → List X → List ℕ
+places_where test from [] = []
+places_where test from (x ∷ xs) = cond (test x) (from ∷ places_where test (from + 1) xs) (places_where test (from + 1) xs)

@@ -1,17 +1,19 @@
 ghost use Rattle.std.specs.Prelude.{◌≡◌, ◌+◌, ◌-◌, ◌<◌, ◌≤◌, ◌^◌, [], take, length, nat_lt, sum, slice_get, slice_set, true, Some, IfOk, OnOk, OnErr, IsOk};
 ghost use Rattle.dn_types.specs.Flows.{flow_number, with_key};
-ghost use Rattle.dn_flows.specs.Table.{flow_at, is_known, flows_with, IsUnused, lengths, verdict_of, with_place, pushed, popped, one_lost, one_full, emptied, status_of};
+ghost use Rattle.dn_flows.specs.Table.{flow_at, is_known, flows_with, IsUnused, lengths, verdict_of, with_place, pushed, popped, one_lost, one_full, emptied, status_of, is_of, is_on, places_where};
+ghost use Rattle.dn_flows.specs.Members.{Lists};
 
 use crate::drop_rule::DropRule;
 use crate::flow_queue::FlowQueue;
 use crate::hash_key::HashKey;
 use crate::keyed_hash::KeyedHash;
+use crate::members::Members;
 use crate::packet_store::PacketStore;
 use crate::table_key::TableKey;
 use crate::unsent::Unsent;
 use crate::verdict::Verdict;
 use crate::waiting::Waiting;
-use dn_types::{FlowKey, FlowStatus, Packet};
+use dn_types::{FlowKey, FlowStatus, Number, Packet};
 use indexmap::IndexSet;
 use std::alloc::{AllocError, Global};
 use std::marker::Model;
@@ -31,10 +33,12 @@ pub struct Flows {
     packets: PacketStore,
     /// The count of flows with a reserved place. The store has room for a packet of each.
     reserved: usize,
+    members: Members,
 }
 
 impl Model for Flows {
     ghost use Rattle.std.specs.Prelude.{◌≡◌, length, map};
+    ghost use Rattle.dn_flows.specs.Members.{Lists};
     ghost use Rattle.dn_flows.specs.Store.{AreStored, HasReserved, all_with_unsent, state_of};
     ghost use Rattle.dn_flows.specs.Table.{Table};
 
@@ -42,7 +46,18 @@ impl Model for Flows {
 
     ghost view = { λ a. record { keys = a.keys.keys; flows = all_with_unsent (map (state_of a.packets) a.queues.items) a.unsent.items } };
 
-    ghost invariant = { λ a. (length a.keys.keys ≡ length a.queues.items) × HasReserved a.packets a.queues.items a.reserved × AreStored a.packets a.queues.items × (length a.unsent.items ≡ length a.queues.items) };
+    ghost invariant = { λ a. (length a.keys.keys ≡ length a.queues.items) × HasReserved a.packets a.queues.items a.reserved × AreStored a.packets a.queues.items × (length a.unsent.items ≡ length a.queues.items) × Lists a.keys.keys a.members };
+}
+
+/// Takes out the last key.
+fn forget_last_key(keys: &mut IndexSet<TableKey, KeyedHash>, members: &mut Members)
+    requires { Lists keys.old.keys members.old }
+    ensures keys { keys.new.keys ≡ take (length keys.old.keys - 1) keys.old.keys }
+    ensures members { Lists keys.new.keys members.new }
+{
+    if let Some(key) = keys.pop() {
+        members.pop(&key.get());
+    }
 }
 
 impl Flows {
@@ -66,6 +81,7 @@ impl Flows {
             unsent: Vec::new(alloc),
             packets: PacketStore::new(alloc),
             reserved: 0,
+            members: Members::new(alloc),
         }
     }
 
@@ -87,14 +103,16 @@ impl Flows {
         ensures err { OnErr result (self.new ≡ self.old) }
         ensures succeeds { is_known key self.old.keys ≡ true → IsOk result }
     {
-        let key = TableKey::new(key);
-        if let Some(flow) = self.keys.get_index_of(&key) {
+        let table_key = TableKey::new(key);
+        if let Some(flow) = self.keys.get_index_of(&table_key) {
             return Ok(flow);
         }
         // The places beside the key come first, so that nothing can fail once the key is in.
         self.queues.reserve(1)?;
         self.unsent.reserve(1)?;
-        let Ok((flow, _)) = self.keys.insert_full(key) else {
+        self.members.push(&key, self.queues.len())?;
+        let Ok((flow, _)) = self.keys.insert_full(table_key) else {
+            self.members.pop(&key);
             return Err(AllocError);
         };
         let queue = FlowQueue::new();
@@ -114,7 +132,7 @@ impl Flows {
         ensures keys { self.new.keys ≡ take (length self.old.keys - 1) self.old.keys }
         ensures flows { self.new.flows ≡ take (length self.old.flows - 1) self.old.flows }
     {
-        let _ = self.keys.pop();
+        forget_last_key(&mut self.keys, &mut self.members);
         let _ = self.unsent.pop();
         if let Some(queue) = self.queues.pop()
             && queue.reserved
@@ -129,6 +147,20 @@ impl Flows {
         ensures { slice_get self.now.keys flow ≡ Some result }
     {
         self.keys.get_index(flow).unwrap().get()
+    }
+
+    /// The flow on the pipe that so many others on it come before, in order of their numbers.
+    pub fn on_pipe(&self, pipe: Number, index: usize) -> Option<usize>
+        ensures { result ≡ slice_get (places_where (is_on pipe) 0 self.now.keys) index }
+    {
+        self.members.on_pipe(pipe, index)
+    }
+
+    /// The flow of the queue that so many others of it come before, in order of their numbers.
+    pub fn of_queue(&self, queue: Number, index: usize) -> Option<usize>
+        ensures { result ≡ slice_get (places_where (is_of queue) 0 self.now.keys) index }
+    {
+        self.members.of_queue(queue, index)
     }
 
     /// The state of the flow, as `Show` answers it.

@@ -1,6 +1,7 @@
 //! The flow table: flows by key and by number, each with its queue and the counts of its packets.
 #![tactic(auto)]
 
+mod by_number;
 mod drop_rule;
 mod factors;
 mod flow_queue;
@@ -8,6 +9,7 @@ mod flows;
 mod hash_key;
 mod keyed_hash;
 mod keyed_hasher;
+mod members;
 mod packet_store;
 mod stored;
 mod table_key;

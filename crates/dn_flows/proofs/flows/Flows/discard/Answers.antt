@@ -58,6 +58,7 @@ invariant_of-self c =
           c.index_mut-unsent.result.now c.clear.ensures.shortens c.clear.ensures.none c.self.invariant.3
           c.index_mut-unsent.ensures.value).0,
       length-set c.self.inside.unsent.items c.args.flow _ ∙ c.self.invariant.3 ∙ sym (length-set c.self.inside.queues.items c.args.flow _),
+      c.self.invariant.4,
     )
 
 pub returns-clause-flows : goal.returns-clause-flows

@@ -1,8 +1,11 @@
 use Rattle.std.proofs.Common.{◌≡◌, ◌∙◌, ◌++◌, ◌∷◌, [], sym, ap, subst, arith}
 use Rattle.std.proofs.Common.{List, map, cond, false, length, rules}
 use Rattle.std.proofs.lemmas.List.{length-map}
+use Rattle.dn_types.specs.Flows.{with_key}
+use Rattle.dn_types.specs.declared.flow_key.FlowKey.{FlowKey}
 use Rattle.dn_flows.specs.declared.flow_queue.FlowQueue.{FlowQueue}
 use Rattle.dn_flows.specs.declared.unsent.Unsent.{Unsent}
+use Rattle.dn_flows.specs.Members.{Lists}
 use Rattle.dn_flows.specs.Store.{AreStored, all_with_unsent, new_queue, reserved_one, reservations, state_of}
 use Rattle.dn_flows.specs.Table.{is_known, new_flow}
 use Rattle.dn_flows.proofs.Counted.{both-more}
@@ -28,6 +31,14 @@ invariant_of-self-2 c =
       ),
       subst (AreStored c.self.inside.packets) (sym items) (added c.self.inside.packets c.self.inside.queues.items c.self.invariant.2),
       omega arith,
+      (
+          let known = c.self.inside.keys.keys in
+          let unknown : is_known c.args.key known ≡ false = search rules in
+          let inserted : c.insert_full.new.self.keys ≡ with_key c.args.key known = search rules in
+          let last : c.len.result ≡ length known = omega (arith, c.len.ensures, c.in_ok-reserve.ensures.len, c.self.inside.queues.ok.0, c.self.invariant.0) in
+          subst (λ (ks : List FlowKey). Lists ks c.push.new.self) (sym (inserted ∙ ap (λ b. cond b known (known ++ c.args.key ∷ [])) unknown))
+          (c.in_ok-push.ensures.ok known c.self.invariant.4 last)
+          ),
     )
 
 pub returns-clause-flows : goal.returns-clause-flows

@@ -14,19 +14,20 @@ pub invariant_of-self-else-queue : goal.invariant_of-self-else-queue
 invariant_of-self-else-queue c =
     let items = c.in-Some.ensures.items in
     let none : reserved_one c.in-Some.queue ≡ 0 = ap (λ b. cond b 1 0) c.if-queue.false in
-    let count : c.self.inside.reserved ≡ reservations (c.pop-3.new.self.items ++ c.in-Some.queue ∷ []) = c.self.invariant.1.0 ∙ ap reservations items in
+    let count : c.self.inside.reserved ≡ reservations (c.pop-2.new.self.items ++ c.in-Some.queue ∷ []) = c.self.invariant.1.0 ∙ ap reservations items in
     let room = c.self.invariant.1.1 in
-    let sums = sum-more reserved_one c.pop-3.new.self.items c.in-Some.queue in
-    let fewer-counts = ap (λ (us : List Unsent). length us) c.pop-2.ensures.rest ∙ length-take _ c.self.inside.unsent.items in
-    let fewer-queues = ap (λ (qs : List FlowQueue). length qs) c.pop-3.ensures.rest ∙ length-take _ c.self.inside.queues.items in
+    let sums = sum-more reserved_one c.pop-2.new.self.items c.in-Some.queue in
+    let fewer-counts = ap (λ (us : List Unsent). length us) c.pop.ensures.rest ∙ length-take _ c.self.inside.unsent.items in
+    let fewer-queues = ap (λ (qs : List FlowQueue). length qs) c.pop-2.ensures.rest ∙ length-take _ c.self.inside.queues.items in
     let counts-ok = c.self.inside.unsent.ok.0 in
     let queues-ok = c.self.inside.queues.ok.0 in
     let before = c.self.invariant.3 in (
       search rules,
       (omega arith, c.self.invariant.1.1),
-      without-last c.self.inside.packets c.pop-3.new.self.items c.in-Some.queue
+      without-last c.self.inside.packets c.pop-2.new.self.items c.in-Some.queue
           (subst (AreStored c.self.inside.packets) items c.self.invariant.2),
       omega arith,
+      c.forget_last_key.ensures.members,
     )
 
 -- the flow's place is let go
@@ -34,19 +35,20 @@ pub invariant_of-self-2 : goal.invariant_of-self-2
 invariant_of-self-2 c =
     let items = c.in-Some.ensures.items in
     let one : reserved_one c.in-Some.queue ≡ 1 = ap (λ b. cond b 1 0) c.if-queue.true in
-    let count : c.self.inside.reserved ≡ reservations (c.pop-3.new.self.items ++ c.in-Some.queue ∷ []) = c.self.invariant.1.0 ∙ ap reservations items in
+    let count : c.self.inside.reserved ≡ reservations (c.pop-2.new.self.items ++ c.in-Some.queue ∷ []) = c.self.invariant.1.0 ∙ ap reservations items in
     let room = c.self.invariant.1.1 in
-    let sums = sum-more reserved_one c.pop-3.new.self.items c.in-Some.queue in
-    let fewer-counts = ap (λ (us : List Unsent). length us) c.pop-2.ensures.rest ∙ length-take _ c.self.inside.unsent.items in
-    let fewer-queues = ap (λ (qs : List FlowQueue). length qs) c.pop-3.ensures.rest ∙ length-take _ c.self.inside.queues.items in
+    let sums = sum-more reserved_one c.pop-2.new.self.items c.in-Some.queue in
+    let fewer-counts = ap (λ (us : List Unsent). length us) c.pop.ensures.rest ∙ length-take _ c.self.inside.unsent.items in
+    let fewer-queues = ap (λ (qs : List FlowQueue). length qs) c.pop-2.ensures.rest ∙ length-take _ c.self.inside.queues.items in
     let counts-ok = c.self.inside.unsent.ok.0 in
     let queues-ok = c.self.inside.queues.ok.0 in
     let before = c.self.invariant.3 in (
       search rules,
       (omega arith, omega arith),
-      without-last c.self.inside.packets c.pop-3.new.self.items c.in-Some.queue
+      without-last c.self.inside.packets c.pop-2.new.self.items c.in-Some.queue
           (subst (AreStored c.self.inside.packets) items c.self.invariant.2),
       omega arith,
+      c.forget_last_key.ensures.members,
     )
 
 -- the last flow is out
@@ -56,9 +58,9 @@ returns-then-queue-clause-flows c =
     let counts-ok = c.self.inside.unsent.ok.0 in
     let queues : vec_len c.self.inside.queues ≡ length c.self.inside.queues.items = omega arith in
     let counts : vec_len c.self.inside.unsent ≡ length c.self.inside.unsent.items = omega arith in
-    rw (← c.self.view_is) (last-out c.self.inside.packets c.self.inside.queues.items c.pop-3.new.self.items c.self.inside.unsent.items
-    c.pop-2.new.self.items (c.pop-3.ensures.rest ∙ ap (λ n. take (n - 1) c.self.inside.queues.items) queues)
-    (c.pop-2.ensures.rest ∙ ap (λ n. take (n - 1) c.self.inside.unsent.items) counts) c.self.invariant.3)
+    rw (← c.self.view_is) (last-out c.self.inside.packets c.self.inside.queues.items c.pop-2.new.self.items c.self.inside.unsent.items
+    c.pop.new.self.items (c.pop-2.ensures.rest ∙ ap (λ n. take (n - 1) c.self.inside.queues.items) queues)
+    (c.pop.ensures.rest ∙ ap (λ n. take (n - 1) c.self.inside.unsent.items) counts) c.self.invariant.3)
 
 pub returns-in_default-clause-flows : goal.returns-in_default-clause-flows
 returns-in_default-clause-flows c =
@@ -67,9 +69,9 @@ returns-in_default-clause-flows c =
     let queues : vec_len c.self.inside.queues ≡ length c.self.inside.queues.items = omega arith in
     let counts : vec_len c.self.inside.unsent ≡ length c.self.inside.unsent.items = omega arith in
     let out =
-    (last-out c.self.inside.packets c.self.inside.queues.items c.pop-3.new.self.items c.self.inside.unsent.items c.pop-2.new.self.items
-    (c.pop-3.ensures.rest ∙ ap (λ n. take (n - 1) c.self.inside.queues.items) queues)
-    (c.pop-2.ensures.rest ∙ ap (λ n. take (n - 1) c.self.inside.unsent.items) counts) c.self.invariant.3) in
+    (last-out c.self.inside.packets c.self.inside.queues.items c.pop-2.new.self.items c.self.inside.unsent.items c.pop.new.self.items
+    (c.pop-2.ensures.rest ∙ ap (λ n. take (n - 1) c.self.inside.queues.items) queues)
+    (c.pop.ensures.rest ∙ ap (λ n. take (n - 1) c.self.inside.unsent.items) counts) c.self.invariant.3) in
     rw (← c.self.view_is) (elim c.in_default.branch [
       | in_default-via-in-None-1 w ↦ ap (λ (t : Table). t.flows) w.self-is ∙ out
       | in_default-via-in-Some+else-queue w ↦ ap (λ (t : Table). t.flows) w.self-is ∙ out

@@ -41,6 +41,7 @@ invariant_of-self-2 c =
             started = c.pop_front.new.self.started + 1;
           }) c.in_ok-first.ensures.takes (refl, refl, refl, refl) (counts-after c.in_ok-first.ensures.takes)).stored,
       c.self.invariant.3 ∙ sym (length-set c.self.inside.queues.items c.args.flow _),
+      c.self.invariant.4,
     )
 
 pub returns-clause-front : goal.returns-clause-front

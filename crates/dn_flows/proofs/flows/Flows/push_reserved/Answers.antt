@@ -81,6 +81,7 @@ invariant_of-self c =
           c.args.waiting c.push_back.new.self c.push_back.ensures.appends (omega arith) (omega arith)
           (rw (← c.self.view_is) at c.requires.bytes)).stored,
       c.self.invariant.3 ∙ sym (length-set c.self.inside.queues.items c.args.flow c.push_back.new.self),
+      c.self.invariant.4,
     )
 
 pub returns-clause-flows : goal.returns-clause-flows

@@ -43,6 +43,7 @@ invariant_of-self-in_err-reserve c =
           c.index_mut-queue.result.now (λ s. s) (λ u s. refl) (λ key. ap (λ (s : Packets). get s key) c.reserve.ensures.rest_kept)
           (refl, refl, refl, refl) refl).stored,
       c.self.invariant.3 ∙ sym (length-set c.self.inside.queues.items c.args.flow _),
+      c.self.invariant.4,
     )
 
 -- the flow has a place, in the room that was made
@@ -77,6 +78,7 @@ invariant_of-self-2 c =
           }) with_place (λ u s. refl) (λ key. ap (λ (s : Packets). get s
           key) c.reserve.ensures.rest_kept) (refl, refl, refl, refl) refl).stored,
       c.self.invariant.3 ∙ sym (length-set c.self.inside.queues.items c.args.flow _),
+      c.self.invariant.4,
     )
 
 pub returns-clause-reserved : goal.returns-clause-reserved
