@@ -49,7 +49,11 @@ def queue_delete(program: str, flows: int, folder: str) -> int:
     return session("queue_delete.py", program, flows, folder)
 
 
-CASES = {"flows with chosen keys": chosen_keys, "flows of one deleted queue": queue_delete}
+def idle_deletes(program: str, count: int, folder: str) -> int:
+    return session("idle_deletes.py", program, count, folder)
+
+
+CASES = {"flows with chosen keys": chosen_keys, "flows of one deleted queue": queue_delete, "deletes that reach no flow": idle_deletes}
 
 
 def main(program: str) -> int:

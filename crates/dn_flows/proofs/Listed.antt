@@ -1,5 +1,5 @@
 -- The flows on each pipe and those of each queue, where a flow is added or taken out.
-use Rattle.std.proofs.Common.{◌≡◌, ◌∙◌, ℕ, zero, suc, ◌+◌, ◌-◌, ◌<◌, ◌≤◌, Bool, true, false, cond, List, [], ◌∷◌, ◌++◌, length, map, nat_eq, set, take, refl, ap, sym, arith, inl, inr}
+use Rattle.std.proofs.Common.{◌≡◌, ◌∙◌, ℕ, zero, suc, ◌+◌, ◌-◌, ◌<◌, Bool, true, false, cond, List, [], ◌∷◌, ◌++◌, length, map, nat_eq, set, take, refl, ap, sym, arith, inl, inr}
 use Rattle.std.specs.Prelude.{vec_items}
 use Rattle.std.specs.declared.vec.Vec.{Vec}
 use Rattle.std.proofs.lemmas.Bool.{cases_eq}
@@ -8,7 +8,7 @@ use Rattle.std.proofs.lemmas.List.{append-nil, get_or-set_other, get_or-set_same
 use Rattle.dn_types.specs.Configuration.{target_eq}
 use Rattle.dn_types.specs.declared.flow_key.FlowKey.{FlowKey}
 use Rattle.dn_types.specs.declared.target.Target.{Target}
-use Rattle.dn_types.specs.declared.target.Target.TheVariants.{Pipe, Queue}
+use Rattle.dn_types.specs.declared.target.Target.TheVariants.{Queue}
 use Rattle.dn_flows.specs.declared.members.Members.{Members}
 use Rattle.dn_flows.specs.Members.{Lists, list_at}
 use Rattle.dn_flows.specs.Table.{is_of, is_on, places_where}

@@ -1,7 +1,8 @@
 -- The flows that a delete reaches are discarded one by one, and the links that this empties leave the heap together.
-use Rattle.std.proofs.Common.{◌≡◌, ◌∙◌, ◌≤◌, ◌^◌, ℕ, zero, suc, ◌+◌, true, false, cond, List, [], ◌∷◌, refl, ap, sym, subst, length, arith, IsPermutation}
-use Rattle.std.specs.Prelude.{Some, drop, filter, slice_get}
+use Rattle.std.proofs.Common.{◌≡◌, ◌∙◌, ◌≤◌, ◌^◌, ℕ, zero, suc, ◌+◌, ◌<◌, Bool, true, false, cond, List, [], ◌∷◌, refl, ap, sym, subst, length, arith, IsPermutation}
+use Rattle.std.specs.Prelude.{Option, None, Some, drop, filter, slice_get}
 use Rattle.std.proofs.lemmas.List.{length-map}
+use Rattle.dn_flows.specs.Table.{places_where}
 use Rattle.dn_heap.specs.Heap.{Heap}
 use Rattle.dn_types.specs.Calls.{reaches, discard_reached}
 use Rattle.dn_types.specs.Trace.{Link, Event, discarded}
@@ -19,11 +20,67 @@ use Rattle.dn_shaper.specs.Refinement.Starting.{Within}
 use Rattle.dn_shaper.specs.Refinement.Views.{LinkView, next_starts, views_of}
 use Rattle.dn_shaper.proofs.Emptied.{holds-kept, counted-held}
 
--- The flows below this one are done, and the rest would end at the same trace.
+-- The flows that a delete reaches, in order.
+abbrev pub flows_reached : Command → Parts → List ℕ
+flows_reached command p = places_where (reaches command) 0 p.flows.keys
+
+-- Flows are discarded one after another.
+abbrev pub discards_all : List ℕ → List Event → List Event
+discards_all [] trace = trace
+discards_all (flow ∷ flows) trace = discards_all flows (discarded flow ∷ trace)
+
+-- So many of the flows that the delete reaches are done, and the rest would end at the same trace.
 abbrev pub DiscardsUpTo : ℕ → Command → Parts → Parts → Type 0
-DiscardsUpTo flow command old new =
+DiscardsUpTo index command old new =
     (more : List Link) (trace : List Event) → AgreesWith old more trace →
-    (t : List Event) × AgreesWith new more t × (discard_reached command flow (drop flow old.flows.keys) t ≡ discard_reached command 0 old.flows.keys trace)
+    (t : List Event) × AgreesWith new more t × (discards_all (drop index (flows_reached command old)) t ≡ discard_reached command 0 old.flows.keys trace)
+
+reached-first : (b : Bool) (flow : ℕ) (flows : List ℕ) (t t' : List Event) → t' ≡ discards_all flows (cond b (discarded flow ∷ t) t) → t' ≡ discards_all (cond b (flow ∷ flows) flows) t
+reached-first true flow flows t t' e = e
+reached-first false flow flows t t' e = e
+
+discards-are : (command : Command) (from : ℕ) (keys : List FlowKey) (t : List Event) → discard_reached command from keys t ≡ discards_all (places_where (reaches command) from keys) t
+discards-are command from [] t = refl
+discards-are command from (key ∷ keys) t =
+    reached-first (reaches command key) from (places_where (reaches command) (from + 1) keys) t _ (discards-are command (from + 1) keys (cond (reaches command key) (discarded from ∷ t) t))
+
+-- ---- Places of elements that pass a test
+
+pub no-places : {X : Type 0} (test : X → Bool) → ((x : X) → test x ≡ false) → (from : ℕ) (xs : List X) → places_where test from xs ≡ []
+no-places test none from [] = refl
+no-places test none from (x ∷ xs) = ap (λ b. cond b (from ∷ places_where test (from + 1) xs) (places_where test (from + 1) xs)) (none x) ∙ no-places test none (from + 1) xs
+
+abbrev no-flows : List ℕ
+no-flows = []
+
+pub get-nil : (index : ℕ) → None ≡ slice_get no-flows index
+get-nil zero = refl
+get-nil (suc index) = refl
+
+first-below : (b : Bool) (from index i n : ℕ) (xs : List ℕ) → slice_get (cond b (from ∷ xs) xs) index ≡ Some i
+    → ((k : ℕ) → slice_get xs k ≡ Some i → i < from + 1 + n) → i < from + (n + 1)
+first-below true from zero i n xs e rest = let same : from ≡ i = cc in omega arith
+first-below true from (suc index) i n xs e rest = let lt = rest index e in omega arith
+first-below false from index i n xs e rest = let lt = rest index e in omega arith
+
+pub places-below : {X : Type 0} (test : X → Bool) (from : ℕ) (xs : List X) (index i : ℕ) → slice_get (places_where test from xs) index ≡ Some i → i < from + length xs
+places-below test from [] index i e = absurd (let z = get-nil index ∙ e in cc)
+places-below test from (x ∷ xs) index i e =
+    let lt = first-below (test x) from index i (length xs) (places_where test (from + 1) xs) e (λ k h. places-below test (from + 1) xs k i h) in
+    omega arith
+
+first-few : (b : Bool) (from n : ℕ) (xs : List ℕ) → length xs ≤ n → length (cond b (from ∷ xs) xs) ≤ n + 1
+first-few true from n xs l = omega arith
+first-few false from n xs l = omega arith
+
+pub places-few : {X : Type 0} (test : X → Bool) (from : ℕ) (xs : List X) → length (places_where test from xs) ≤ length xs
+places-few test from [] = omega arith
+places-few test from (x ∷ xs) = let l = first-few (test x) from (length xs) (places_where test (from + 1) xs) (places-few test (from + 1) xs) in omega arith
+
+pub none-further : (xs : List ℕ) (index : ℕ) → slice_get xs index ≡ None → length xs ≤ index
+none-further [] index e = omega arith
+none-further (x ∷ xs) zero e = absurd cc
+none-further (x ∷ xs) (suc index) e = let l = none-further xs index e in omega arith
 
 drop-one : {X : Type 0} (xs : List X) (i : ℕ) (x : X) → slice_get xs i ≡ Some x → drop i xs ≡ x ∷ drop (suc i) xs
 drop-one [] i x e = absurd cc
@@ -38,34 +95,20 @@ drop-all (x ∷ xs) (suc i) e = drop-all xs i (omega arith)
 
 module _ (command : Command) (old : Parts) where
   pub none-done : DiscardsUpTo 0 command old old
-  none-done more trace a = (trace, a, refl)
+  none-done more trace a = (trace, a, sym (discards-are command 0 old.flows.keys trace))
 
-  module _ (flow : ℕ) (mid : Parts) (key : FlowKey) (there : slice_get old.flows.keys flow ≡ Some key) (done : DiscardsUpTo flow command old mid) where
-    one-more : suc flow ≡ flow + 1
-    one-more = omega arith
-
-    next : (t : List Event) →
-        discard_reached command flow (drop flow old.flows.keys) t ≡ discard_reached command (flow + 1) (drop (flow + 1) old.flows.keys) (cond (reaches command key) (discarded flow ∷ t) t)
-    next t = ap (λ (ks : List FlowKey). discard_reached command flow ks t) (drop-one old.flows.keys flow key there ∙ (λ i. key ∷ drop (one-more i) old.flows.keys))
-
-    pub one-discarded : (new : Parts) → reaches command key ≡ true → DiscardsFlow flow mid new → DiscardsUpTo (flow + 1) command old new
-    one-discarded new yes' discards more trace a =
-        let d = done more trace a in (
-          discarded flow ∷ d.0,
-          discards more d.0 d.1,
-          ap (λ b. discard_reached command (flow + 1) (drop (flow + 1) old.flows.keys) (cond b (discarded flow ∷ d.0) d.0)) (sym yes')
-              ∙ sym (next d.0) ∙ d.2,
-        )
-
-    pub one-passed : reaches command key ≡ false → DiscardsUpTo (flow + 1) command old mid
-    one-passed no' more trace a =
-        let d = done more trace a in
-        (d.0, d.1, ap (λ b. discard_reached command (flow + 1) (drop (flow + 1) old.flows.keys) (cond b (discarded flow ∷ d.0) d.0)) (sym no') ∙ sym (next d.0) ∙ d.2)
-
-  pub all-done : (flow : ℕ) (new : Parts) → length old.flows.keys ≤ flow → DiscardsUpTo flow command old new → DiscardsReached command old new
-  all-done flow new end done more trace a =
+  pub one-discarded : (index flow : ℕ) (mid new : Parts) → slice_get (flows_reached command old) index ≡ Some flow → DiscardsUpTo index command old mid
+      → DiscardsFlow flow mid new → DiscardsUpTo (index + 1) command old new
+  one-discarded index flow mid new there done discards more trace a =
       let d = done more trace a in
-      subst (λ (t : List Event). AgreesWith new more t) (ap (λ (ks : List FlowKey). discard_reached command flow ks d.0) (sym (drop-all old.flows.keys flow end)) ∙ d.2) d.1
+      let one_more : suc index ≡ index + 1 = omega arith in
+      let next = drop-one (flows_reached command old) index flow there ∙ (λ i. flow ∷ drop (one_more i) (flows_reached command old)) in
+      (discarded flow ∷ d.0, discards more d.0 d.1, sym (ap (λ (flows : List ℕ). discards_all flows d.0) next) ∙ d.2)
+
+  pub all-done : (index : ℕ) (new : Parts) → length (flows_reached command old) ≤ index → DiscardsUpTo index command old new → DiscardsReached command old new
+  all-done index new end done more trace a =
+      let d = done more trace a in
+      subst (λ (t : List Event). AgreesWith new more t) (ap (λ (flows : List ℕ). discards_all flows d.0) (sym (drop-all (flows_reached command old) index end)) ∙ d.2) d.1
 
 pub keeps-none : (p : Parts) → KeepsFlows p p
 keeps-none p = record { rule = refl; keys = refl; homes = refl; names = refl }

@@ -1,4 +1,5 @@
-ghost use Rattle.std.specs.Prelude.{◌≡◌, ℕ, None, ◌+◌, ◌<◌, ◌≤◌, ◌^◌, IfOk, OnErr};
+ghost use Rattle.std.specs.Prelude.{◌≡◌, ℕ, None, ◌+◌, ◌<◌, ◌≤◌, ◌^◌, slice_get, IfOk, OnErr};
+ghost use Rattle.dn_flows.specs.Table.{places_where};
 ghost use Rattle.dn_types.specs.Calls.{reaches};
 ghost use Rattle.dn_types.specs.Configuration.{subject};
 ghost use Rattle.dn_types.specs.declared.call.Call.TheVariants.{Configure};
@@ -16,22 +17,26 @@ use crate::links::discard::{discard_flow, forget_emptied};
 use crate::links::next_start::NextStart;
 use crate::links::parts::Parts;
 use crate::state::State;
+use dn_flows::Flows;
 use dn_heap::RunHeap;
-use dn_types::{Command, FlowKey, Reply, Target};
+use dn_types::{Command, Reply};
 use std::alloc::AllocError;
 
-/// Whether a delete reaches the flows with the key: those of the queue, or those on the pipe.
-fn reaches(command: &Command, key: &FlowKey) -> bool
-    ensures { result ≡ reaches command.now key.now }
+/// The flow that a delete reaches and that so many others which it reaches come before: one of the
+/// queue, or one on the pipe.
+fn reached(flows: &Flows, command: &Command, index: usize) -> Option<usize>
+    ensures { result ≡ slice_get (places_where (reaches command.now) 0 flows.now.keys) index }
 {
     match command {
-        Command::DeletePipe(number) => key.pipe == *number,
-        Command::DeleteQueue(number) => key.target == Target::Queue(*number),
-        _ => false,
+        Command::DeletePipe(number) => flows.on_pipe(*number, index),
+        Command::DeleteQueue(number) => flows.of_queue(*number, index),
+        Command::Pipe { .. } => None,
+        Command::Queue { .. } => None,
     }
 }
 
-/// Discards the packets of all flows that the delete reaches, in order of flow numbers.
+/// Discards the packets of all flows that the delete reaches, in order of flow numbers. The others cost
+/// nothing.
 fn discard_flows(parts: &mut Parts, command: &Command)
     requires agrees { Agrees parts.old }
     requires few { Within (2 ^ 62) parts.old }
@@ -41,15 +46,17 @@ fn discard_flows(parts: &mut Parts, command: &Command)
     ensures keeps { KeepsFlows parts.old parts.new }
     ensures empties { OnlyEmpties parts.old parts.new }
 {
-    for flow in 0..parts.flows.len() {
-        if reaches(command, &parts.flows.key(flow)) {
-            discard_flow(parts, flow);
-        }
+    for index in 0..parts.flows.len() {
+        let Some(flow) = reached(&parts.flows, command, index) else {
+            return;
+        };
+        discard_flow(parts, flow);
     }
 }
 
 /// Discards the packets of all flows that the delete reaches. The links that this empties leave the
-/// heap together, so that a delete costs one pass over it and not one for each of them.
+/// heap together, so that a delete costs one pass over it and not one for each of them. A delete that
+/// reaches no flow costs none.
 fn discard_reached(parts: &mut Parts, heap: &mut RunHeap<NextStart>, command: &Command)
     requires kept { AreInStep parts.old heap.old }
     ensures discards { DiscardsReached command.now parts.old parts.new }
@@ -58,6 +65,9 @@ fn discard_reached(parts: &mut Parts, heap: &mut RunHeap<NextStart>, command: &C
     ensures moves { heap.new.moves + parts.new.waiting ≤ heap.old.moves + parts.old.waiting }
     ensures keeps { KeepsFlows parts.old parts.new }
 {
+    let Some(_) = reached(&parts.flows, command, 0) else {
+        return;
+    };
     discard_flows(parts, command);
     forget_emptied(heap, parts);
 }

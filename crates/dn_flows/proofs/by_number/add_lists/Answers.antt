@@ -1,4 +1,4 @@
-use Rattle.std.proofs.Common.{◌∙◌, ℕ, List, ap, map, arith}
+use Rattle.std.proofs.Common.{◌∙◌, ap, map, arith}
 use Rattle.std.specs.Prelude.{vec_items}
 use Rattle.dn_flows.specs.Members.{list_at}
 use Rattle.dn_flows.proofs.Listed.{at-more}

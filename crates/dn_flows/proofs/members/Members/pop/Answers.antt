@@ -1,7 +1,6 @@
-use Rattle.std.proofs.Common.{◌≡◌, ◌∙◌, ℕ, List, ap, false}
+use Rattle.std.proofs.Common.{◌∙◌, ap}
 use Rattle.dn_types.specs.declared.target.Target.TheVariants.{Pipe, Queue}
 use Rattle.dn_flows.specs.Members.{list_at}
-use Rattle.dn_flows.specs.Table.{is_of}
 use Rattle.dn_flows.proofs.Listed.{less_last, of_by, taken-out}
 use Rattle.dn_flows.proofs.members.Members.pop.Goals as goal
 

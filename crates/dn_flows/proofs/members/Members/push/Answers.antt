@@ -1,4 +1,4 @@
-use Rattle.std.proofs.Common.{◌≡◌, ◌∙◌, ◌++◌, ◌∷◌, [], ℕ, List, Result, Ok, Err, OnOk, ap, cond, false, sym}
+use Rattle.std.proofs.Common.{◌≡◌, ◌∙◌, ◌++◌, ◌∷◌, [], Result, Ok, Err, OnOk, ap, cond, false, sym}
 use Rattle.std.specs.Prelude.{is_err}
 use Rattle.dn_types.specs.declared.target.Target.TheVariants.{Pipe, Queue}
 use Rattle.dn_flows.specs.Members.{list_at}

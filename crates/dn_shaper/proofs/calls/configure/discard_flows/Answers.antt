@@ -1,19 +1,14 @@
--- Each flow that the delete reaches is discarded, and each other one is passed.
-use Rattle.std.proofs.Common.{◌≡◌, ◌∙◌, ◌+◌, ◌^◌, ℕ, List, ap, sym, subst, arith}
+-- Each flow that the delete reaches is discarded, one after another.
+use Rattle.std.proofs.Common.{◌≡◌, ◌∙◌, ◌^◌, List, ap, sym, arith}
 use Rattle.std.specs.Prelude.{Some, slice_get}
+use Rattle.dn_flows.specs.Table.{places_where}
+use Rattle.dn_types.specs.Calls.{reaches}
 use Rattle.dn_types.specs.declared.flow_key.FlowKey.{FlowKey}
-use Rattle.dn_shaper.specs.declared.links.parts.Parts.{Parts}
-use Rattle.dn_shaper.specs.Refinement.Agreement.{Agrees}
-use Rattle.dn_shaper.specs.Refinement.Arriving.{KeepsFlows}
-use Rattle.dn_shaper.specs.Refinement.Discarding.{OnlyEmpties}
-use Rattle.dn_shaper.proofs.Reached.{DiscardsUpTo}
-use Rattle.dn_shaper.specs.Refinement.Starting.{Within}
-use Rattle.dn_shaper.proofs.Reached.{none-done, one-discarded, one-passed, all-done, keeps-none, keeps-more, agrees-discarded, empties-none, empties-more}
+use Rattle.dn_shaper.proofs.Reached.{agrees-discarded, all-done, empties-more, empties-none, flows_reached, keeps-more, keeps-none, none-done, none-further, one-discarded, places-below, places-few}
 use Rattle.dn_shaper.proofs.calls.configure.discard_flows.Goals as goal
-use Rattle.dn_shaper.proofs.calls.configure.discard_flows.Goals.{then-reaches, else-reaches}
 
-pub loop-flow-init : goal.loop-flow-init
-loop-flow-init c = record {
+pub loop-index-init : goal.loop-index-init
+loop-index-init c = record {
   agrees = c.requires.agrees;
   few = c.requires.few;
   within = λ n h. h;
@@ -23,46 +18,47 @@ loop-flow-init c = record {
   reached = none-done c.args.command.now c.args.parts.now;
 }
 
-pub loop-flow-preserved : goal.loop-flow-preserved
-loop-flow-preserved c =
-    let there : slice_get c.args.parts.now.flows.keys c.loop-flow.flow ≡ Some c.key.result = ap (λ (ks : List FlowKey). slice_get ks c.loop-flow.flow) (sym c.loop-flow.invariant.keeps.keys)
-    ∙ c.key.ensures in
-    elim c.if-reaches.branch [
-      | then-reaches w ↦ record {
-        agrees = subst (λ (p : Parts). Agrees p) (sym w.parts-is)
-            (agrees-discarded c.loop-flow.flow c.loop-flow.parts w.discard_flow.new.parts c.loop-flow.invariant.agrees w.discard_flow.ensures.discards);
-        few = subst (λ (p : Parts). Within (2 ^ 62) p) (sym w.parts-is) (w.discard_flow.ensures.within (2 ^ 62) c.loop-flow.invariant.few);
-        within = λ n h. subst (λ (p : Parts). Within n p) (sym w.parts-is) (w.discard_flow.ensures.within n (c.loop-flow.invariant.within n h));
-        waiting =
-            let a = c.loop-flow.invariant.waiting in
-            let b = w.discard_flow.ensures.waiting in
-            let p = ap {B = ℕ} (λ (x : Parts). x.waiting) w.parts-is in
-            omega arith;
-        keeps = subst (λ (p : Parts). KeepsFlows c.args.parts.now p) (sym w.parts-is)
-            (keeps-more c.args.parts.now c.loop-flow.parts w.discard_flow.new.parts c.loop-flow.invariant.keeps w.discard_flow.ensures.keeps);
-        empties = subst (λ (p : Parts). OnlyEmpties c.args.parts.now p) (sym w.parts-is)
-            (empties-more c.args.parts.now c.loop-flow.parts w.discard_flow.new.parts c.loop-flow.invariant.empties w.discard_flow.ensures.empties);
-        reached = subst (λ (p : Parts). DiscardsUpTo (c.loop-flow.flow + 1) c.args.command.now c.args.parts.now p) (sym w.parts-is)
-            (one-discarded c.args.command.now c.args.parts.now c.loop-flow.flow c.loop-flow.parts c.key.result there c.loop-flow.invariant.reached w.discard_flow.new.parts
-            (sym c.reaches.ensures ∙ w.if-reaches.true) w.discard_flow.ensures.discards);
-      }
-      | else-reaches w ↦ record {
-        agrees = subst (λ (p : Parts). Agrees p) (sym w.parts-is) c.loop-flow.invariant.agrees;
-        few = subst (λ (p : Parts). Within (2 ^ 62) p) (sym w.parts-is) c.loop-flow.invariant.few;
-        within = λ n h. subst (λ (p : Parts). Within n p) (sym w.parts-is) (c.loop-flow.invariant.within n h);
-        waiting =
-            let a = c.loop-flow.invariant.waiting in
-            let p = ap {B = ℕ} (λ (x : Parts). x.waiting) w.parts-is in
-            omega arith;
-        keeps = subst (λ (p : Parts). KeepsFlows c.args.parts.now p) (sym w.parts-is) (c.loop-flow.invariant.keeps);
-        empties = subst (λ (p : Parts). OnlyEmpties c.args.parts.now p) (sym w.parts-is) c.loop-flow.invariant.empties;
-        reached = subst (λ (p : Parts). DiscardsUpTo (c.loop-flow.flow + 1) c.args.command.now c.args.parts.now p) (sym w.parts-is)
-            (one-passed c.args.command.now c.args.parts.now c.loop-flow.flow c.loop-flow.parts c.key.result there c.loop-flow.invariant.reached (sym c.reaches.ensures ∙ w.if-reaches.false));
-      }
-    ]
+pub discard_flow-requires-clause-within : goal.discard_flow-requires-clause-within
+discard_flow-requires-clause-within c =
+    let below = places-below (reaches c.args.command.now) 0 c.loop-index.parts.flows.keys c.loop-index.index c.in-Some.flow (sym c.reached.ensures ∙ c.in-Some.is) in
+    omega arith
 
+pub loop-index-preserved : goal.loop-index-preserved
+loop-index-preserved c =
+    let old = c.args.parts.now in
+    let before = c.loop-index.invariant in
+    let mid = c.loop-index.parts in
+    let new = c.discard_flow.new.parts in
+    let done = c.discard_flow.ensures in
+    let command = c.args.command.now in
+    let there : slice_get (flows_reached command old) c.loop-index.index ≡ Some c.in-Some.flow =
+    ap (λ (ks : List FlowKey). slice_get (places_where (reaches command) 0 ks) c.loop-index.index) (sym before.keeps.keys) ∙ sym c.reached.ensures ∙ c.in-Some.is in
+    record {
+      agrees = agrees-discarded c.in-Some.flow mid new before.agrees done.discards;
+      few = done.within (2 ^ 62) before.few;
+      within = λ n h. done.within n (before.within n h);
+      waiting = let a = before.waiting in let b = done.waiting in omega arith;
+      keeps = keeps-more old mid new before.keeps done.keeps;
+      empties = empties-more old mid new before.empties done.empties;
+      reached = one-discarded command old c.loop-index.index c.in-Some.flow mid new there before.reached done.discards;
+    }
+
+-- No further flow is reached.
+pub returns-in_default-clause-discards : goal.returns-in_default-clause-discards
+returns-in_default-clause-discards c =
+    let old = c.args.parts.now in
+    let command = c.args.command.now in
+    let before = c.loop-index.invariant in
+    let none =
+    ap (λ (ks : List FlowKey). slice_get (places_where (reaches command) 0 ks) c.loop-index.index) (sym before.keeps.keys) ∙ sym c.reached.ensures ∙ c.in_default.is in
+    all-done command old c.loop-index.index c.loop-index.parts (none-further (flows_reached command old) c.loop-index.index none) before.reached
+
+-- All flows are reached.
 pub returns-clause-discards : goal.returns-clause-discards
 returns-clause-discards c =
-    let end = c.loop-flow-test.false in
-    let all = c.len-flow-end.ensures.keys in
-    all-done c.args.command.now c.args.parts.now c.loop-flow.flow c.loop-flow.parts (omega arith) c.loop-flow.invariant.reached
+    let old = c.args.parts.now in
+    let command = c.args.command.now in
+    let end = c.loop-index-test.false in
+    let all = c.len-index-end.ensures.keys in
+    let few = places-few (reaches command) 0 old.flows.keys in
+    all-done command old c.loop-index.index c.loop-index.parts (omega arith) c.loop-index.invariant.reached
