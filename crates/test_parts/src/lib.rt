@@ -16,6 +16,8 @@ mod given;
 #[cfg(test)]
 mod heap;
 #[cfg(test)]
+mod history_entries;
+#[cfg(test)]
 mod keys;
 #[cfg(test)]
 mod link;
