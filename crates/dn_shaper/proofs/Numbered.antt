@@ -23,10 +23,6 @@ one-place [] (suc n) = refl
 one-place (p ∷ ps) zero = refl
 one-place (p ∷ ps) (suc n) = one-place ps n
 
--- Past the last there is none.
-pub none-past : {A : Type 0} (kept : List (Option A)) (n : ℕ) → length kept ≤ n → at_number kept n ≡ None
-none-past kept n past = get_or_past kept n None past
-
 written : {A : Type 0} (kept : List (Option A)) (i : ℕ) (o : Option A) → i < length kept → (n : ℕ) → at_number (set kept i o) n ≡ cond (nat_eq i n) o (at_number kept n)
 written kept i o lt n = ⊎_elim here there (cases_eq i n)
   where

@@ -4,13 +4,12 @@ use Rattle.std.specs.Prelude.{Option, Some, None, is_some, nat_eq}
 use Rattle.std.specs.List.{list_any}
 use Rattle.std.specs.Option.{IfSome}
 use Rattle.std.proofs.lemmas.Bool.{cases_eq}
-use Rattle.dn_types.specs.Configuration.{target_eq, subject, is_queue_of}
+use Rattle.dn_types.specs.Configuration.{is_queue_of}
 use Rattle.dn_types.specs.declared.command.Command.{Command}
 use Rattle.dn_types.specs.declared.command.Command.TheVariants.{Pipe, Queue, DeletePipe, DeleteQueue}
 use Rattle.dn_types.specs.declared.reply.Reply.TheVariants.{Configured, NoSuchPipe}
-use Rattle.dn_types.specs.declared.target.Target.TheVariants.{Pipe as ToPipe, Queue as ToQueue}
 use Rattle.dn_flows.proofs.Places.{eq-no, eq-yes}
-use Rattle.dn_shaper.specs.Refinement.Configuring.{IsAnswered, Lists, Puts}
+use Rattle.dn_shaper.specs.Refinement.Configuring.{IsAnswered, Lists}
 use Rattle.dn_shaper.specs.Refinement.QueueCounts.{count_at, named_pipe, one_for, CountsQueues}
 use Rattle.dn_shaper.specs.Refinement.Settings.{InForce, Sets, at_number, settings_of}
 use Rattle.dn_shaper.proofs.QueueCounts.{none-pass, queues-changed, counted-in, at-most}
@@ -50,23 +49,6 @@ pipe-there (Queue number pipe weight limit loss buckets mask) c answered = by (i
 pipe-there (DeletePipe number) c answered = tt
 pipe-there (DeleteQueue number) c answered = tt
 
--- ---- What is in force, one step after another
-
--- A pipe's command changes, and all queues stay.
-pub puts-pipe : (command : Command) (setting : Option Command) (number : ℕ) → ToPipe number ≡ subject command → (old : InForce) (pipes : List (Option Command)) →
-    Sets number setting old.pipes pipes → Puts command setting (settings_of old) (settings_of (record { pipes = pipes; queues = old.queues }))
-puts-pipe command setting number about old pipes sets (ToPipe n) =
-    sets n ∙ ap (λ t. cond (target_eq t (ToPipe n)) setting (at_number old.pipes n)) about
-puts-pipe command setting number about old pipes sets (ToQueue n) =
-    ap (λ t. cond (target_eq t (ToQueue n)) setting (at_number old.queues n)) about
-
-pub puts-queue : (command : Command) (setting : Option Command) (number : ℕ) → ToQueue number ≡ subject command → (old : InForce) (queues : List (Option Command)) →
-    Sets number setting old.queues queues → Puts command setting (settings_of old) (settings_of (record { pipes = old.pipes; queues = queues }))
-puts-queue command setting number about old queues sets (ToQueue n) =
-    sets n ∙ ap (λ t. cond (target_eq t (ToQueue n)) setting (at_number old.queues n)) about
-puts-queue command setting number about old queues sets (ToPipe n) =
-    ap (λ t. cond (target_eq t (ToPipe n)) setting (at_number old.pipes n)) about
-
 -- ---- The counts, one step after another
 
 pub no-queues : CountsQueues (record { pipes = []; queues = [] }) []
@@ -98,29 +80,6 @@ still-some : {A : Type 0} (number : ℕ) (setting : Option A) (old new : List (O
     (n : ℕ) → is_some (at_number new n) ≡ true → (number ≡ n → ⊥) → is_some (at_number old n) ≡ true
 still-some number setting old new sets n some ne =
     ap is_some (sym (sets n ∙ ap (λ b. cond b setting (at_number old n)) (eq-no number n ne))) ∙ some
-
--- A pipe's command changes.
-pub counts-pipe : (number : ℕ) (setting : Option Command) (old : InForce) (pipes : List (Option Command)) (counts counts' : List ℕ) →
-    CountsQueues old counts → Sets number setting old.pipes pipes → number < length counts' → length counts ≤ length counts' →
-    ((p : ℕ) → count_at counts' p ≡ count_at counts p) → CountsQueues (record { pipes = pipes; queues = old.queues }) counts'
-counts-pipe number setting old pipes counts counts' counted sets place longer same = record {
-  counts_are = λ p. same p ∙ counted.counts_are p;
-  places = λ p some. ⊎_elim
-      (λ is. omega (arith, is, place))
-      (λ ne. let had = counted.places p (still-some number setting old.pipes pipes sets p some ne) in omega (arith, had, longer))
-      (cases_eq number p);
-  numbers = counted.numbers;
-}
-
--- Room for the count of a pipe that is not in force yet.
-pub counts-more-places : (c : InForce) (counts counts' : List ℕ) → CountsQueues c counts → length counts ≤ length counts' →
-    ((p : ℕ) → count_at counts' p ≡ count_at counts p) → (pipes : List (Option Command)) → ((p : ℕ) → at_number pipes p ≡ at_number c.pipes p) →
-    CountsQueues (record { pipes = pipes; queues = c.queues }) counts'
-counts-more-places c counts counts' counted longer same pipes kept = record {
-  counts_are = λ p. same p ∙ counted.counts_are p;
-  places = λ p some. let had = counted.places p (ap is_some (sym (kept p)) ∙ some) in omega (arith, had, longer);
-  numbers = counted.numbers;
-}
 
 -- A queue's command changes: the pipe that it named has one less, and the pipe that it names has one more.
 module _ (number : ℕ) (small : number < 65536) (setting : Option Command) (old : InForce) (queues : List (Option Command)) (counts : List ℕ)
