@@ -4,6 +4,7 @@ from __future__ import annotations
 
 from ctypes import byref, c_char, c_size_t, c_uint32, c_uint64
 from operator import index
+from os import urandom
 from random import Random
 from struct import Struct
 from struct import error as StructError
@@ -20,6 +21,7 @@ NEITHER_OR_BOTH = "a packet is sent to a pipe or to a queue"
 NOTHING = memoryview(b"")
 pack_packet, unpack_fate, iterate_deliveries = PACKET.record.pack_into, FATE.record.unpack, DELIVERY.record.iter_unpack
 pack_moment = Struct("=Q").pack_into
+SECRET = Struct("=QQ")
 
 
 def unpackable(**fields: Any) -> Exception:
@@ -74,7 +76,10 @@ class Shaper:
     """
 
     def __init__(self, rule: Rule = Rule.ORDERED, seed: Optional[int] = None) -> None:
-        """By `rule` the packets of a link follow one another. From `seed` follow the words of packets that are submitted without one."""
+        """By `rule` the packets of a link follow one another. From `seed` follow the words of packets that are submitted without one.
+
+        No answer depends on the secret that is drawn for the table of flows, without which nobody can choose packets that are slow.
+        """
         self._handle, self._moment, self._number, self._random = Handle(), c_uint64(), c_uint64(), Random(seed)
         self._packet, self._fate = (c_char * PACKET.size)(), (c_char * FATE.size)()
         # The arguments of calls are made once: to make them at each call would take longer than the call.
@@ -83,7 +88,8 @@ class Shaper:
         self._advanced = self._self, self._moment, byref(self._number)
         self._collected = Listing(CALLS.dn_collect, DELIVERY, self._self, self._moment)
         self._shown = Listing(CALLS.dn_show, FLOW, self._self)
-        self._succeed(CALLS.dn_open(self._self, c_uint32(rule)))
+        high, low = SECRET.unpack(urandom(SECRET.size))
+        self._succeed(CALLS.dn_open_with_key(self._self, c_uint32(rule), c_uint64(high), c_uint64(low)))
 
     def close(self) -> None:
         """Lets go of all that it has. A second time does nothing."""

@@ -153,6 +153,10 @@ uint32_t dn_version(void);
    is let go. DN_BAD_RULE: the handle is as it was. DN_MEMORY: the handle is closed. */
 uint32_t dn_open(struct dn_handle *handle, uint32_t rule);
 
+/* The same with a secret of 128 bits, its upper and its lower half: without it nobody can choose packets whose flows are slow to
+   find. dn_open's is known, for packets that no stranger chooses. No answer depends on it; draw it anew, by getentropy. */
+uint32_t dn_open_with_key(struct dn_handle *handle, uint32_t rule, uint64_t high, uint64_t low);
+
 /* Closes a handle, and lets go what it held. DN_CLOSED: it was closed. */
 uint32_t dn_close(struct dn_handle *handle);
 

@@ -113,6 +113,7 @@ static void moments_and_rules_out_of_range(struct dn_handle *handle) {
     HOLDS(untouched(list, sizeof list) && untouched(&number, sizeof number));
     struct dn_handle before = *handle;
     HOLDS(dn_open(handle, 2) == DN_BAD_RULE && dn_open(handle, UINT32_MAX) == DN_BAD_RULE);
+    HOLDS(dn_open_with_key(handle, 2, 0, 0) == DN_BAD_RULE && dn_open_with_key(handle, UINT32_MAX, 1, 1) == DN_BAD_RULE);
     HOLDS(handle->at == before.at && handle->open);
 }
 
@@ -154,7 +155,7 @@ static void two_handles_side_by_side(void) {
     struct dn_delivery list[4];
     struct dn_fate fate;
     uint64_t count, wake;
-    HOLDS(dn_open(&slow, DN_ORDERED) == DN_OK && dn_open(&fast, DN_FREE) == DN_OK);
+    HOLDS(dn_open(&slow, DN_ORDERED) == DN_OK && dn_open_with_key(&fast, DN_FREE, UINT64_MAX, 7) == DN_OK);
     HOLDS(configured(&slow, "pipe 1 config bw 8Kbit/s", &fault) == DN_OK && configured(&fast, "pipe 1 config delay 1", &fault) == DN_OK);
     struct dn_packet packet = good(5);
     HOLDS(dn_submit(&slow, &packet, &fate) == DN_OK && fate.packet == 0 && dn_submit(&fast, &packet, &fate) == DN_OK && fate.packet == 0);

@@ -60,7 +60,7 @@ static void run(void) {
     sum = 14695981039346656037u;
     refused = 0;
     growths = 0;
-    ASKED(dn_open(&handle, DN_ORDERED));
+    ASKED(dn_open_with_key(&handle, DN_ORDERED, 1, 2));
     for (size_t i = 0; i < sizeof LINES / sizeof *LINES; i++) ASKED(dn_configure(&handle, (const uint8_t *)LINES[i], strlen(LINES[i]), &fault));
     packets_arrive(&handle);
     ASKED(dn_close(&handle));

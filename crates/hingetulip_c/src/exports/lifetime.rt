@@ -4,7 +4,7 @@ ghost use Rattle.hingetulip_c.specs.Handles.{HeldAfter};
 
 use crate::handle::Handle;
 use crate::status::{BAD_RULE, CLOSED, MEMORY, OK};
-use dn_shaper::Shaper;
+use dn_shaper::{HashKey, Shaper};
 use dn_types::Rule;
 use std::alloc::Global;
 
@@ -18,9 +18,8 @@ pub extern "C" fn dn_version() -> u32
     VERSION
 }
 
-/// Opens a handle, without a pipe, a queue or a packet. What it held is let go.
-#[unsafe(no_mangle)]
-pub extern "C" fn dn_open(alloc: Global, handle: &mut Handle, rule: u32) -> u32
+/// Opens a handle by the key of its flows' hash. What it held is let go.
+fn open(alloc: Global, handle: &mut Handle, rule: u32, key: HashKey) -> u32
     ensures opened { result ≡ 0 → HeldAfter (cond (nat_eq rule 0) Ordered Free) handle.new.held [] }
     ensures memory { result ≡ 6 → handle.new.held ≡ [] }
     ensures bad_rule { result ≡ 10 → (1 < rule) × (handle.new.held ≡ handle.old.held) }
@@ -33,13 +32,44 @@ pub extern "C" fn dn_open(alloc: Global, handle: &mut Handle, rule: u32) -> u32
         _ => return BAD_RULE,
     };
     let _old = handle.take(alloc);
-    match Box::new(alloc, Shaper::with_rule(alloc, rule)) {
+    match Box::new(alloc, Shaper::with_key(alloc, rule, key)) {
         Ok(shaper) => {
             let _none = handle.put(alloc, shaper);
             OK
         }
         Err(_) => MEMORY,
     }
+}
+
+/// Opens a handle, without a pipe, a queue or a packet. What it held is let go.
+#[unsafe(no_mangle)]
+pub extern "C" fn dn_open(alloc: Global, handle: &mut Handle, rule: u32) -> u32
+    ensures opened { result ≡ 0 → HeldAfter (cond (nat_eq rule 0) Ordered Free) handle.new.held [] }
+    ensures memory { result ≡ 6 → handle.new.held ≡ [] }
+    ensures bad_rule { result ≡ 10 → (1 < rule) × (handle.new.held ≡ handle.old.held) }
+    ensures statuses { (result ≡ 0) ⊎ (result ≡ 6) ⊎ (result ≡ 10) }
+    ensures known { result ≡ 0 → rule ≤ 1 }
+{
+    open(alloc, handle, rule, HashKey(0))
+}
+
+/// The same with a secret of 128 bits for the table of its flows, for packets that a stranger chooses. No
+/// answer depends on it.
+#[unsafe(no_mangle)]
+pub extern "C" fn dn_open_with_key(
+    alloc: Global,
+    handle: &mut Handle,
+    rule: u32,
+    high: u64,
+    low: u64,
+) -> u32
+    ensures opened { result ≡ 0 → HeldAfter (cond (nat_eq rule 0) Ordered Free) handle.new.held [] }
+    ensures memory { result ≡ 6 → handle.new.held ≡ [] }
+    ensures bad_rule { result ≡ 10 → (1 < rule) × (handle.new.held ≡ handle.old.held) }
+    ensures statuses { (result ≡ 0) ⊎ (result ≡ 6) ⊎ (result ≡ 10) }
+    ensures known { result ≡ 0 → rule ≤ 1 }
+{
+    open(alloc, handle, rule, HashKey(u128::from(high) << 64 | u128::from(low)))
 }
 
 /// Closes a handle, and lets go what it held.
