@@ -63,6 +63,8 @@ fn behind_byte(text: &[u8], byte: u8) -> Option<&[u8]>
 }
 
 /// As `number_until`, in two passes over the digits.
+#[cold]
+#[inline(never)]
 #[tactic(auto, unfolding(crate::specs::Until::number_until))]
 fn long_number_until(text: &[u8], end: u8, least: u64, greatest: u64) -> Option<(u64, &[u8])>
     ensures value { option_map (λ p. (p.0, p.1.now)) result ≡ number_until end least greatest text.now }
@@ -77,6 +79,7 @@ fn long_number_until(text: &[u8], end: u8, least: u64, greatest: u64) -> Option<
 /// The number from `least` to `greatest` whose decimal digits a text begins with, and what stands
 /// behind the byte `end` that follows them. None where the digits are no number of the range, as with
 /// a zero in front of others, or where another byte or nothing follows. The text may be of any length.
+#[inline(always)]
 #[tactic(auto, unfolding(crate::specs::Until::number_until))]
 pub fn number_until(text: &[u8], end: u8, least: u64, greatest: u64) -> Option<(u64, &[u8])>
     ensures value { option_map (λ p. (p.0, p.1.now)) result ≡ number_until end least greatest text.now }
