@@ -5,7 +5,7 @@ use Rattle.std.specs.Result.{is_ok}
 use Rattle.std.proofs.lemmas.List.{append-nil, drop-append-le, drop-drop, drop-set, take-append-drop}
 use Rattle.std.proofs.Math.ListN.{set}
 use Rattle.std.proofs.Math.Seq.{drop-append_seam}
-use Rattle.csv.specs.Writing.{fields_text, is_blank}
+use Rattle.csv.specs.Writing.{default_writer, fields_text, is_blank, row_body}
 use Rattle.csv.specs.Reading.{strip_bom}
 use Rattle.csv.specs.Records.{field_at}
 use Rattle.csv.specs.declared.parser.State.TheVariants as st
@@ -14,7 +14,7 @@ use Rattle.dn_records.specs.Records.{Fields, line_of, records_of}
 use Rattle.dn_records.proofs.ReadBack.{line-some}
 use Rattle.dn_records.proofs.FirstLine.{behind-feed, line-first}
 use Rattle.dn_files.specs.PacketFile.{is_header, row_of, rows_below, rows_from, rows_of}
-use Rattle.dn_files.specs.PacketParts.{BeginsRow, HasRead, header, rows_left, with_front}
+use Rattle.dn_files.specs.PacketParts.{BeginsRow, HasRead, PassesRows, header, rows_left, with_front}
 use Rattle.dn_files.specs.Reading.{IsFaultOf}
 use Rattle.dn_files.specs.Unread.{Unread}
 use Rattle.dn_files.specs.declared.replay_fault.ReplayFault.{ReplayFault}
@@ -156,3 +156,83 @@ behind_line number start items written some behind le is =
 pub at_header : (number : ℕ) (left : List ℕ) → number ≡ 0 → rows_left number left ≡ rows_of left
 unfolding rows_left
 at_header number left none = rw none refl
+
+-- A line is what stands before its line feed, and the line feed.
+line-ends : (fields : Fields) (rest : List ℕ) → (front : List ℕ) × (line_of fields ++ rest ≡ front ++ 10 ∷ rest)
+line-ends fields rest = (
+  row_body default_writer fields ++ blank,
+  ap (λ (t : List ℕ). t ++ rest) (sym (append_assoc (row_body default_writer fields) blank (10 ∷ []))) ∙ append_assoc (row_body default_writer fields ++ blank) (10 ∷ []) rest,
+)
+  where
+    blank : List ℕ
+    blank = cond (is_blank default_writer fields) (34 ∷ 34 ∷ []) []
+
+-- No row was read yet.
+pub none_passed : (text : List ℕ) (rows : List Row) → PassesRows text text rows rows
+none_passed text rows = record { read = []; stands = refl; goes_on = λ first some. refl }
+
+-- One row more.
+pub passes_more : (text left behind : List ℕ) (old new : List Row) (row : Row) → PassesRows text left old new → BeginsRow left row behind
+    → PassesRows text behind old (new ++ row ∷ [])
+unfolding row_of
+passes_more text left behind old new row passes begins = more begins.fields begins.stands begins.says
+  where
+    more : (fields : Fields) → left ≡ line_of fields ++ behind → row_of fields ≡ Ok row → PassesRows text behind old (new ++ row ∷ [])
+    more [] stands says = cc says
+    more (field ∷ fields) stands says =
+        let (front, is) = line-ends (field ∷ fields) behind in
+        let L = records_after st.StartRecord behind in
+        record {
+          read = passes.read ++ 10 ∷ front;
+          stands = passes.stands ∙ ap (λ (t : List ℕ). passes.read ++ 10 ∷ t) (stands ∙ is) ∙ sym (append_assoc passes.read (10 ∷ front) (10 ∷ behind));
+          goes_on = λ first some.
+              let number : first + length (new ++ row ∷ []) ≡ first + length new + 1 = omega (arith, length-append new (row ∷ [])) in
+              passes.goes_on first some
+              ∙ ap (λ (rs : List Fields). with_front new (rows_from (first + length new) rs)) (ap (records_after st.StartRecord) stands ∙ line-first field fields behind)
+              ∙ one_more new (first + length new) ((field ∷ fields) ∷ L) L row (says, refl, refl)
+              ∙ ap (λ n. with_front (new ++ row ∷ []) (rows_from n L)) (sym number);
+        }
+
+-- What is left after a row is shorter.
+pub begins_shorter : (left behind : List ℕ) (row : Row) → BeginsRow left row behind → length behind < length left
+begins_shorter left behind row begins =
+    let sum : length left ≡ length (line_of begins.fields) + length behind = ap (length {A = ℕ}) begins.stands ∙ length-append (line_of begins.fields) behind in
+    let some = line-some begins.fields in
+    omega arith
+
+-- The text behind the header, and what plain rows leave of it.
+module _ (text below left : List ℕ) (rows : List Row) (headed : text ≡ line_of header ++ below) (passes : PassesRows below left [] rows) where
+  pub whole-is : (front : List ℕ) × (text ≡ front ++ 10 ∷ left)
+  whole-is =
+      let (front, is) = line-ends header below in
+      (front ++ passes.read, headed ∙ is ∙ ap (λ (t : List ℕ). front ++ t) passes.stands ∙ sym (append_assoc front passes.read (10 ∷ left)))
+
+  pub left-fits : length left + 1 ≤ length text
+  left-fits =
+      let (front, is) = whole-is in
+      let count = ap (length {A = ℕ}) is ∙ length-append front (10 ∷ left) in
+      omega arith
+
+  pub left-is : drop (length text - length left - 1) text ≡ 10 ∷ left
+  left-is =
+      let (front, is) = whole-is in
+      let fits = left-fits in
+      let place : length text - length left - 1 ≡ length text - length (10 ∷ left) = omega arith in
+      ap (λ k. drop k text) place ∙ cut 0 text front (10 ∷ left) (omega arith) is
+
+  pub rows-are : rows_of text ≡ with_front rows (rows_from (length rows + 1) (records_of (10 ∷ left)))
+  unfolding rows_below
+  rows-are =
+      let number : 1 + length rows ≡ length rows + 1 = omega arith in
+      let L = records_after st.StartRecord below in
+      let begun : rows_below (header ∷ L) ≡ with_front [] (rows_from 1 L) = rw header-is (sym (starts (rows_from 1 L))) in
+      let gone : with_front [] (rows_from 1 L) ≡ with_front rows (rows_from (1 + length rows) (records_after st.StartRecord left)) = passes.goes_on 1 (omega arith) in
+      ap rows_of headed ∙ ap rows_below (first-record below) ∙ begun ∙ gone ∙ ap (λ n. with_front rows (rows_from n (records_after st.StartRecord left))) number
+      ∙ ap (λ (rs : List Fields). with_front rows (rows_from (length rows + 1) rs)) (sym (behind-feed left))
+
+  -- The rows of the whole are the plain ones and those that are left.
+  pub rows-done : (last all : List Row) → rows_from (length rows + 1) (records_of (10 ∷ left)) ≡ Ok last → all ≡ rows ++ last → rows_of text ≡ Ok all
+  rows-done last all read is = rows-are ∙ ap (with_front rows) read ∙ ap Ok (sym is)
+
+  pub rows-fault : (fault : ReplayFault) → IsFaultOf (rows_from (length rows + 1) (records_of (10 ∷ left))) fault → IsFaultOf (rows_of text) fault
+  rows-fault fault own = carried (rows_from (length rows + 1) (records_of (10 ∷ left))) (rows_of text) fault (λ f e. rows-are ∙ ap (with_front rows) e) own
