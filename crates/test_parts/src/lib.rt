@@ -22,6 +22,8 @@ mod keys;
 #[cfg(test)]
 mod link;
 #[cfg(test)]
+mod packet_parts;
+#[cfg(test)]
 mod record_example;
 #[cfg(test)]
 mod records;
