@@ -1,9 +1,12 @@
 pub mod AuditSteps
 pub mod CallerRows
 pub mod CallerSteps
+pub mod ConfigCuts
 pub mod Deliveries
 pub mod EachCaller
 pub mod FileAuditSteps
+pub mod InputSteps
+pub mod KeptCalls
 pub mod KeptOrder
 pub mod KeptReport
 pub mod KeptSteps
@@ -14,6 +17,7 @@ pub mod OtherSteps
 pub mod OwnFaults
 pub mod PacketNumbers
 pub mod PartSteps
+pub mod PassSteps
 pub mod ReplaySteps
 pub mod Runs
 pub mod SameReplies

@@ -4,6 +4,7 @@ pub mod Callers
 pub mod Configuring
 pub mod FileAudit
 pub mod Kept
+pub mod OnePass
 pub mod Parts
 pub mod Replays
 pub mod Report

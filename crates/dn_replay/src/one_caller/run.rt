@@ -64,7 +64,7 @@ impl Run {
     }
 
     /// Makes a call.
-    fn make(&mut self, call: Call) -> Result<(), AllocError>
+    pub(crate) fn make(&mut self, call: Call) -> Result<(), AllocError>
         ensures { OnOk result ((calls : List Call) → HasMade self.old calls → HasMade self.new (call ∷ calls)) }
     {
         let reply = self.shaper.apply(&call)?;

@@ -7,7 +7,7 @@ use dn_types::{Delivery, Entry, Reply};
 use std::alloc::{AllocError, Global};
 
 /// What a reply delivers.
-fn delivered_by(reply: &Reply) -> &[Delivery]
+pub(crate) fn delivered_by(reply: &Reply) -> &[Delivery]
     ensures { result.now ≡ delivered reply.now }
 {
     match reply {

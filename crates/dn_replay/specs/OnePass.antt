@@ -1,0 +1,96 @@
+-- A replay in one pass: what has been made and kept of an input whose parts have come so far.
+use Rattle.std.specs.Prelude.{◌≡◌, ◌==◌, ◌||◌, ◌++◌, bytes_eq, codes, ℕ, Bool, true, false, List, [], ◌∷◌, Option, Some, None, Result, Ok, All}
+use Rattle.std.specs.Io.KnownBytes.{Appends}
+use Rattle.dn_types.specs.History.{IsLawful}
+use Rattle.dn_types.specs.declared.call.Call.{Call}
+use Rattle.dn_types.specs.declared.rule.Rule.TheVariants.{Ordered}
+use Rattle.dn_shaper.specs.Shaper.{StandsAfter}
+use Rattle.dn_shaper.specs.declared.state.State.{State}
+use Rattle.dn_text.specs.Joined.{joined_parts, parts_from}
+use Rattle.dn_files.specs.PacketFile.{rows_of}
+use Rattle.dn_files.specs.PacketParts.{HasRead}
+use Rattle.dn_files.specs.Reading.{◌>>=◌, IsFaultOf}
+use Rattle.dn_files.specs.declared.replay_fault.ReplayFault.{ReplayFault}
+use Rattle.dn_files.specs.declared.row.Row.{Row}
+use Rattle.dn_files.specs.declared.source.Source.{Source}
+use Rattle.dn_replay.specs.Configuring.{configured_by}
+use Rattle.dn_replay.specs.Kept.{HasKept}
+use Rattle.dn_replay.specs.Replays.{calls_of_parts}
+use Rattle.dn_replay.specs.Report.{report}
+use Rattle.dn_replay.specs.Runs.{HasMade, history_of, replayed, submitted}
+use Rattle.dn_replay.specs.declared.one_pass.config_part.ConfigPart.{ConfigPart}
+use Rattle.dn_replay.specs.declared.one_pass.input.Input.{Input}
+use Rattle.dn_replay.specs.declared.one_pass.pass.Pass.{Pass}
+use Rattle.dn_replay.specs.declared.one_pass.stage.Stage.{Stage}
+use Rattle.dn_replay.specs.declared.report.kept.Kept.{Kept}
+use Rattle.dn_replay.specs.declared.one_pass.stage.Stage.TheVariants.{Config, Packets, Refused}
+
+-- There are calls that are asked for, and the report of their history, which is lawful, was written.
+abbrev pub IsReportedFor : (Result (List Call) ReplayFault → Type 0) → Option (List ℕ) → Option (List ℕ) → Type 0
+IsReportedFor Asked old new = (calls : List Call) × Asked (Ok calls) × IsLawful Ordered (history_of calls) × Appends old new (report 1 (history_of calls))
+
+-- No read failed.
+abbrev pub NoneFailed : Option Source → Type 0
+NoneFailed what = what ≡ None
+
+-- The calls of a replay of a packet file's text after those of a configuration.
+abbrev pub calls_with : List Call → List ℕ → Result (List Call) ReplayFault
+calls_with calls text = rows_of text >>= λ rows. Ok (replayed calls rows)
+
+-- A shaper was asked these calls, and what a report needs of its answers is kept.
+abbrev pub HasNoted : State → Kept → List Call → Type 0
+HasNoted shaper kept calls = StandsAfter Ordered shaper calls × HasKept kept calls
+
+-- A pass has made no call and read nothing.
+pub record IsFresh (pass : Pass) : Type 0 where
+  pub made : HasMade pass.run []
+  pub kept : HasKept pass.kept []
+  pub read : HasRead pass.reader [] []
+
+-- A pass has made these calls and, of the packets' text that has come so far, the Submits of the rows that it took.
+pub record HasFed (pass : Pass) (calls : List Call) (text : List ℕ) : Type 0 where
+  pub rows : List Row
+  pub read : HasRead pass.reader text rows
+  pub noted : HasNoted pass.run.shaper pass.kept (submitted calls rows)
+
+-- A line that a line feed makes the line `--`.
+abbrev pub is_mark : List ℕ → Bool
+is_mark line = bytes_eq line (codes "--") || bytes_eq line (codes "--\r")
+
+-- No line feed stands in a text.
+abbrev pub IsLine : List ℕ → Type 0
+IsLine text = All (λ byte. (byte == 10) ≡ false) text
+
+-- The two parts of a text that goes on behind this front.
+abbrev pub behind : List ℕ → List ℕ × List ℕ → List ℕ × List ℕ
+behind front parts = (front ++ parts.0, parts.1)
+
+-- The line `--` hasn't ended in the text so far: what comes is cut where it ends in the last line or later.
+pub record IsConfigSoFar (part : ConfigPart) (text : List ℕ) : Type 0 where
+  pub line : IsLine part.line.items
+  pub cuts : (more : List ℕ) → joined_parts (text ++ more) ≡ behind part.lines.items (parts_from true (part.line.items ++ more))
+
+-- Whatever comes behind this text, it asks for what the configuration and then the packets and what comes ask for.
+abbrev pub IsCutAt : (List ℕ → Result (List Call) ReplayFault) → List ℕ → List ℕ → List ℕ → Type 0
+IsCutAt asked text config packets = (more : List ℕ) → asked (text ++ more) ≡ calls_of_parts (config, packets ++ more)
+
+-- What an input of this text so far asks for, by the stage: a configuration's lines have come; or calls were made, and packets' text has
+-- come; or the configuration has this fault, whatever comes.
+abbrev pub HasTakenIn : Stage → Input → (List ℕ → Result (List Call) ReplayFault) → List ℕ → Type 0
+HasTakenIn Config input asked text = IsFresh input.pass × IsConfigSoFar input.config text × ((whole : List ℕ) → asked whole ≡ calls_of_parts (joined_parts whole))
+HasTakenIn Packets input asked text = (calls : List Call) × (packets : List ℕ) × HasFed input.pass calls packets × ((more : List ℕ) → asked (text ++ more) ≡ calls_with calls (packets ++ more))
+HasTakenIn (Refused fault) input asked text = (more : List ℕ) → IsFaultOf (asked (text ++ more)) fault
+
+-- This text has come of an input, of which the whole text asks for what `asked` gives.
+abbrev pub HasTaken : Input → (List ℕ → Result (List Call) ReplayFault) → List ℕ → Type 0
+HasTaken input asked text = HasTakenIn input.stage input asked text
+
+-- This is the whole text of an input, and a pass has made the calls of its configuration and was given its packets.
+abbrev pub HasTakenAll : Pass → (List ℕ → Result (List Call) ReplayFault) → List ℕ → Type 0
+HasTakenAll pass asked text = (calls : List Call) × (packets : List ℕ) × HasFed pass calls packets × (asked text ≡ calls_with calls packets)
+
+-- An input of which nothing has come. It is a joined one, if no configuration is given first.
+pub record IsUnbegun (input : Input) : Type 0 where
+  pub pass : IsFresh input.pass
+  pub config : IsConfigSoFar input.config []
+  pub stage : input.stage ≡ Config
