@@ -10,8 +10,8 @@ use command::command;
 use dn_live::live;
 use dn_records::{FromReader, FromWriter};
 use dn_replay::{
-    HashKey, NoGate, ReplayFault, Source, audit_file, replay, replay_callers, replay_joined,
-    write_history,
+    HashKey, NoGate, ReplayFault, Source, audit_file, replay, replay_callers, replay_joined_report,
+    replay_report, write_history,
 };
 use late_file::LateFile;
 use std::process::ExitCode;
@@ -34,8 +34,7 @@ const UNREAD: u8 = 6;
 fn replay_input<R: Input + Print + AllocGlobal>(rt: &R, key: HashKey) -> Result<(), ReplayFault> {
     let mut input = FromReader::new(rt.reader());
     let mut out = FromWriter::new(io::writer(rt));
-    let _history = replay_joined(rt.alloc(), key, &mut input, &mut out)?;
-    Ok(())
+    replay_joined_report(rt.alloc(), key, &mut input, &mut out)
 }
 
 /// From two files to standard output, by one caller or by as many as are asked for. Both files are opened
@@ -56,7 +55,12 @@ fn replay_files<R: Files + Print + AllocGlobal + Threads + Wait + Sync>(
     let mut packets = FromReader::new(packets);
     let mut out = FromWriter::new(io::writer(rt));
     let alloc = rt.alloc();
-    let entries = match found.get_one::<usize>("callers") {
+    let callers = found.get_one::<usize>("callers");
+    let history = found.get_str("history");
+    if callers.is_none() && history.is_none() {
+        return replay_report(alloc, key, &mut config, &mut packets, &mut out);
+    }
+    let entries = match callers {
         Some(n) => replay_callers(
             rt,
             alloc,
@@ -69,7 +73,7 @@ fn replay_files<R: Files + Print + AllocGlobal + Threads + Wait + Sync>(
         )?,
         None => replay(alloc, key, &mut config, &mut packets, &mut out)?,
     };
-    let Some(path) = found.get_str("history") else {
+    let Some(path) = history else {
         return Ok(());
     };
     write_history(
