@@ -26,6 +26,8 @@ mod history_files;
 #[cfg(test)]
 mod memory;
 #[cfg(test)]
+mod parts;
+#[cfg(test)]
 mod replays;
 #[cfg(test)]
 mod reports;

@@ -1,0 +1,88 @@
+use crate::broken::{FULL_QUEUE, REPORT};
+use crate::headers::PACKET_HEADER;
+use dn_records::{FromReader, FromWriter};
+use dn_replay::{HashKey, ReplayFault, Source, replay_joined_report, replay_report};
+use dn_text::split_joined;
+use std::alloc::{AllocError, Global};
+use std::test::Fail;
+use test_devices::Parts;
+
+// How many bytes a read gives at most.
+const STEPS: [usize; 6] = [1, 2, 3, 7, 64, 65_536];
+
+// What a replay of a joined input answers. What it writes is added to `written`.
+fn joined(alloc: Global, input: Parts<'_>, written: &mut Vec<u8>) -> Result<(), ReplayFault> {
+    let mut input = FromReader::new(input);
+    replay_joined_report(alloc, HashKey(7), &mut input, &mut FromWriter::new(written))
+}
+
+// The same of a configuration and packets.
+fn both(alloc: Global, step: usize, written: &mut Vec<u8>) -> Result<(), ReplayFault> {
+    let (config, packets) = split_joined(FULL_QUEUE.as_bytes());
+    let mut config = FromReader::new(Parts::of(config, step));
+    let mut packets = FromReader::new(Parts::of(packets, step));
+    let mut out = FromWriter::new(written);
+    replay_report(alloc, HashKey(7), &mut config, &mut packets, &mut out)
+}
+
+// The report of an input is the same whatever its reads give, from one input and from two.
+#[test]
+fn parts_of_any_length_give_one_report(rt: HostRuntime) {
+    let alloc = rt.alloc();
+    for step in STEPS {
+        let mut written = Vec::new(alloc);
+        let input = Parts::of(FULL_QUEUE.as_bytes(), step);
+        assert!(rt;
+            joined(alloc, input, &mut written) == Ok(()),
+            "{step} bytes"
+        );
+        assert!(rt; written.as_slice() == REPORT.as_bytes(), "{step} bytes");
+        let mut written = Vec::new(alloc);
+        assert!(rt; both(alloc, step, &mut written) == Ok(()), "{step} bytes");
+        assert!(rt; written.as_slice() == REPORT.as_bytes(), "{step} bytes");
+    }
+}
+
+// Whether a joined input is refused for a fault whatever its reads give, until so many bytes have come, and
+// nothing is written.
+fn is_refused(alloc: Global, text: &str, good: usize, fault: ReplayFault) -> bool {
+    for step in STEPS {
+        let mut written = Vec::new(alloc);
+        let input = Parts {
+            rest: text.as_bytes(),
+            step,
+            good,
+            calls: 0,
+        };
+        let answer = joined(alloc, input, &mut written);
+        if answer != Err(fault) || !written.is_empty() {
+            return false;
+        }
+    }
+    true
+}
+
+// Whether rows behind a configuration are refused for this fault, and where a read fails at the end, for that.
+fn is_refused_in_order(
+    alloc: Global,
+    config: &str,
+    rows: &str,
+    fault: ReplayFault,
+) -> Result<bool, AllocError> {
+    let text = format!(in alloc; "{config}--\r\n{PACKET_HEADER}{rows}")?;
+    let text = text.as_str();
+    let read = ReplayFault::Read(Source::Input);
+    Ok(is_refused(alloc, text, usize::MAX, fault) && is_refused(alloc, text, text.len(), read))
+}
+
+// A refused configuration is told before a bad row, and a failed read before both.
+#[test]
+fn faults_of_parts_keep_their_order(rt: HostRuntime) -> Result<(), Fail> {
+    let alloc = rt.alloc();
+    let rows = "0,pipe,1,10.0.0.1,10.0.0.2,17,1000,2000,1000,0\n0,pipe,x,,,,,,,\n";
+    let config = "pipe 1 config\nqueue 1 config pipe 9\n";
+    assert!(rt; is_refused_in_order(alloc, config, rows, ReplayFault::NoSuchPipe(2))?);
+    let fault = ReplayFault::BadRow { row: 2, field: 3 };
+    assert!(rt; is_refused_in_order(alloc, "pipe 1 config\n", rows, fault)?);
+    Ok(())
+}
