@@ -69,7 +69,8 @@ pub extern "C" fn dn_open_with_key(
     ensures statuses { (result ≡ 0) ⊎ (result ≡ 6) ⊎ (result ≡ 10) }
     ensures known { result ≡ 0 → rule ≤ 1 }
 {
-    open(alloc, handle, rule, HashKey(u128::from(high) << 64 | u128::from(low)))
+    let key = HashKey(u128::from(high) << 64 | u128::from(low));
+    open(alloc, handle, rule, key)
 }
 
 /// Closes a handle, and lets go what it held.

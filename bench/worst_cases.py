@@ -1,0 +1,82 @@
+"""Runs the program on the worst inputs that are known, and prints what each took, as a table.
+
+    python3 bench/worst_cases.py PROGRAM
+
+tools/hostile writes the inputs, each at the size that its row says. Time is user and system time, and memory the most that stood in it.
+"""
+
+from __future__ import annotations
+
+import os
+import subprocess
+import sys
+from collections.abc import Callable
+from pathlib import Path
+from tempfile import TemporaryDirectory
+from typing import NamedTuple
+
+HOSTILE = Path(__file__).resolve().parent.parent / "tools" / "hostile"
+PACKETS = 67_108_864
+HISTORY = 268_435_456
+MIB = 1024
+
+
+class Run(NamedTuple):
+    """A command of the program, and the file that it reads from standard input."""
+
+    words: list[str]
+    stdin: str = os.devnull
+
+
+class Case(NamedTuple):
+    """A worst case: what it is, the words of its generator, and the command over what that wrote into a folder."""
+
+    name: str
+    generator: list[str]
+    run: Callable[[str], Run]
+
+
+def replay(name: str, packets: str, *more: str) -> Callable[[str], Run]:
+    return lambda folder: Run(["replay", f"{folder}/{name}.config", f"{folder}/{name}.{packets}", *(word.format(folder) for word in more)])
+
+
+def session(folder: str) -> Run:
+    return Run(["live"], f"{folder}/calls")
+
+
+CASES = [
+    Case("160,000 flows whose keys collide where the hash has no secret", ["chosen_keys.py", "160000", "{}"], replay("chosen", "packets")),
+    Case("the same flows with other addresses", ["chosen_keys.py", "160000", "{}", "--spread"], replay("chosen", "packets")),
+    Case("a queue of 80,000 flows on one link, two packets each, and its delete", ["queue_delete.py", "80000", "{}/calls"], session),
+    Case("100,000 flows, and 100,000 deletes that reach none", ["idle_deletes.py", "100000", "{}/calls"], session),
+    Case("65,535 pipes with a queue each, 1,310,700 packets", ["many_links.py", "65535", "{}/calls"], session),
+    Case("the shortest rows, 64 MiB", ["fullest.py", "rows", str(PACKETS), "{}"], replay("rows", "csv")),
+    Case("the same with a history", ["fullest.py", "rows", str(PACKETS), "{}"], replay("rows", "csv", "--history", "{}/history")),
+    Case("the shortest rows of a flow each, 64 MiB", ["fullest.py", "flows", str(PACKETS), "{}"], replay("flows", "csv")),
+    Case("an audit of the shortest entries, 256 MiB", ["fullest.py", "entries", str(HISTORY), "{}"], lambda f: Run(["audit", f"{f}/entries.history"])),
+]
+
+
+def measured(program: str, run: Run) -> tuple[float, int]:
+    """Seconds of user and system time, and KiB."""
+    with open(run.stdin, "rb") as stdin, subprocess.Popen([program, *run.words], stdin=stdin, stdout=subprocess.DEVNULL) as child:
+        _, status, used = os.wait4(child.pid, 0)
+        child.returncode = os.waitstatus_to_exitcode(status)
+    if child.returncode != 0:
+        sys.exit(f"{' '.join(run.words)}: status {child.returncode}")
+    return used.ru_utime + used.ru_stime, used.ru_maxrss
+
+
+def main(program: str) -> None:
+    print("| Input | User and system time | Memory | Written by |\n|---|---|---|---|")
+    for case in CASES:
+        with TemporaryDirectory() as folder:
+            words = [word.format(folder) for word in case.generator]
+            subprocess.run([sys.executable, HOSTILE / words[0], *words[1:]], check=True)
+            seconds, memory = measured(program, case.run(folder))
+        script = " ".join(case.generator).replace("{}/calls", "FILE").replace("{}", "FOLDER")
+        print(f"| {case.name} | {seconds:.2f} s | {memory / MIB:.0f} MiB | `tools/hostile/{script}` |", flush=True)
+
+
+if __name__ == "__main__":
+    main(sys.argv[1])
