@@ -170,8 +170,8 @@ def devices(tally: Tally, program: str) -> None:
         tally.equal("no history after a report that failed", (6, False), (done.returncode, (Path(folder) / "new").exists()))
         done = run(program, ["replay", "none", "p"], folder, "", stderr=full)
         tally.equal("a fault line to a full device", (6, b""), (done.returncode, done.stdout))
-        done = subprocess.run(["sh", "-c", 'ulimit -s 128; exec "$0" replay c p', program], cwd=folder, capture_output=True)
-        tally.equal("128 Kbytes of stack", (0, REPORT.encode(), b""), (done.returncode, done.stdout, done.stderr))
+        done = subprocess.run(["sh", "-c", 'ulimit -s 160; exec "$0" replay c p', program], cwd=folder, capture_output=True)
+        tally.equal("160 Kbytes of stack", (0, REPORT.encode(), b""), (done.returncode, done.stdout, done.stderr))
         done = run(program, replay("--history", "/dev/stdout"), folder, "")
         tally.equal("a history after the report in one pipe", (REPORT + HISTORY).encode(), done.stdout)
         with open(Path(folder) / "both", "wb") as both:
