@@ -39,7 +39,8 @@ class Handle(Structure):
     _fields_ = [("at", c_void_p), ("open", c_bool)]
 
 
-FUNCTIONS = ("dn_version", "dn_open_with_key", "dn_close", "dn_configure", "dn_submit", "dn_submit_many", "dn_advance", "dn_collect", "dn_show", "dn_wake")
+FUNCTIONS = ("dn_version", "dn_open", "dn_open_with_key", "dn_close", "dn_configure", "dn_submit", "dn_submit_many", "dn_advance",
+             "dn_collect", "dn_show", "dn_wake")
 
 
 def failure(status: int) -> HingetulipError:
