@@ -4,7 +4,7 @@
 
 PROGRAM is dummynet, and TWIN the plain Rust of bench/twin, which answers the same reports, byte for byte (that is checked). A figure
 is the median, over the rounds, of user and system time by the twin's in the same round; memory is the most that stood in it. All run on
-one processor, and the twin's replay is the first in each round. Bench/replay.sh builds both and calls this.
+one processor, and the twin's replay is the first in each round. The script bench/replay.sh builds the twin and calls this.
 """
 
 from __future__ import annotations
