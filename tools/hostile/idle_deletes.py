@@ -8,11 +8,10 @@ queue on another pipe that is made and deleted, to which no packet goes.
 
 from __future__ import annotations
 
-import argparse
-from pathlib import Path
 from typing import Iterator
 
 from queue_delete import FIRST_ADDRESS, address_text
+from session import write_session
 
 LEAST, MOST = 1, 65_535
 
@@ -28,14 +27,5 @@ def calls(count: int) -> Iterator[str]:
         yield f"c,0,configure,queue delete {queue}\n"
 
 
-def main() -> None:
-    parser = argparse.ArgumentParser()
-    parser.add_argument("count", type=int)
-    parser.add_argument("file", type=Path)
-    a = parser.parse_args()
-    with open(a.file, "w", encoding="ascii") as out:
-        out.writelines(calls(a.count))
-
-
 if __name__ == "__main__":
-    main()
+    write_session(calls)

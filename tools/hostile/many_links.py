@@ -8,9 +8,9 @@ each queue, so that no two packets in a row are on one link.
 
 from __future__ import annotations
 
-import argparse
-from pathlib import Path
 from typing import Iterator
+
+from session import write_session
 
 ROUNDS = 20
 ROUND = 1_000_000  # ns from one to the next
@@ -26,14 +26,5 @@ def calls(links: int) -> Iterator[str]:
         yield f"c,0,collect,{turn * ROUND}\n"
 
 
-def main() -> None:
-    parser = argparse.ArgumentParser()
-    parser.add_argument("links", type=int)
-    parser.add_argument("file", type=Path)
-    a = parser.parse_args()
-    with open(a.file, "w", encoding="ascii") as out:
-        out.writelines(calls(a.links))
-
-
 if __name__ == "__main__":
-    main()
+    write_session(calls)

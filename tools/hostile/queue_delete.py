@@ -8,7 +8,6 @@ for each of FLOWS flows, the delete of the queue, and a packet more on the same 
 
 from __future__ import annotations
 
-import argparse
 import sys
 from pathlib import Path
 from typing import Iterator
@@ -16,6 +15,7 @@ from typing import Iterator
 sys.path.insert(0, str(Path(__file__).parent.parent / "oracle"))
 
 from history import address_text  # noqa: E402
+from session import write_session  # noqa: E402
 
 FIRST_ADDRESS = 10 << 24
 
@@ -35,14 +35,5 @@ def calls(flows: int) -> Iterator[str]:
     yield submit(2, FIRST_ADDRESS)
 
 
-def main() -> None:
-    parser = argparse.ArgumentParser()
-    parser.add_argument("flows", type=int)
-    parser.add_argument("file", type=Path)
-    a = parser.parse_args()
-    with open(a.file, "w", encoding="ascii") as out:
-        out.writelines(calls(a.flows))
-
-
 if __name__ == "__main__":
-    main()
+    write_session(calls)
