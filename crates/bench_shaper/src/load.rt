@@ -20,7 +20,7 @@ pub struct Load {
 }
 
 /// A pipe's or a queue's flows are told apart by the destination.
-const MASK: Mask = Mask {
+pub const MASK: Mask = Mask {
     src: 0,
     dst: 0xffff_ffff,
     proto: 0,

@@ -2,11 +2,13 @@
 #![tactic(auto)]
 
 mod load;
+mod lookups;
 mod parts;
 mod run;
 
 use dn_shaper::Shaper;
 use load::{Load, delete};
+use lookups::measure_lookups;
 use parts::measure_parts;
 use run::{Run, apply, collect, configure, submit};
 use std::io;
@@ -239,6 +241,9 @@ fn deleted(name: &'static str, queues: u32, flows: u32) -> Load {
 /// The parts of a Submit that are measured by themselves follow the loads.
 const PARTS: usize = LOADS.len();
 
+/// The look-ups of flows follow the parts.
+const LOOKUPS: usize = LOADS.len() + 1;
+
 /// What the program is asked for: the count of rounds, and the place of the one load to measure.
 fn arguments(rt: &HostRuntime) -> io::Result<(u64, Option<usize>)> {
     let mut args = std::env::args(rt)?;
@@ -265,7 +270,7 @@ fn measure_deletes(rt: &HostRuntime, flows: u32) -> io::Result<()> {
     )
 }
 
-/// Measures each load, the Collects of one packet, the deletes, and the parts.
+/// Measures each load, the Collects of one packet, the deletes, the parts, and the look-ups.
 fn measure_all(rt: &HostRuntime, rounds: u64) -> io::Result<()> {
     for load in &LOADS {
         measure(rt, Measured::Rounds, load, rounds)?;
@@ -274,13 +279,15 @@ fn measure_all(rt: &HostRuntime, rounds: u64) -> io::Result<()> {
     for flows in [1_000u32, 4_000, 16_384] {
         measure_deletes(rt, flows)?;
     }
-    measure_parts(rt, rounds.saturating_mul(1_000))
+    measure_parts(rt, rounds.saturating_mul(1_000))?;
+    measure_lookups(rt, rounds.saturating_mul(1_000))
 }
 
 fn main(rt: HostRuntime) -> io::Result<()> {
     let (rounds, load) = arguments(&rt)?;
     match load {
         Some(PARTS) => measure_parts(&rt, rounds.saturating_mul(1_000)),
+        Some(LOOKUPS) => measure_lookups(&rt, rounds.saturating_mul(1_000)),
         Some(load) => match LOADS.get(load) {
             Some(load) => measure(&rt, Measured::Rounds, load, rounds),
             None => Ok(()),
