@@ -8,7 +8,8 @@ use Rattle.dn_types.specs.Flows.{key_eq}
 use Rattle.dn_types.specs.declared.flow_key.FlowKey.{FlowKey}
 use Rattle.dn_types.specs.declared.flow_status.FlowStatus.{FlowStatus}
 use Rattle.dn_types.specs.declared.limit.Limit.{Limit}
-use Rattle.dn_types.specs.declared.target.Target.TheVariants.{Queue as ToQueue}
+use Rattle.dn_types.specs.declared.target.Target.{Target}
+use Rattle.dn_types.specs.declared.target.Target.TheVariants.{Pipe as ToPipe, Queue as ToQueue}
 use Rattle.dn_flows.specs.declared.waiting.Waiting.{Waiting}
 use Rattle.dn_flows.specs.declared.verdict.Verdict.{Verdict}
 use Rattle.dn_flows.specs.declared.verdict.Verdict.TheVariants.{Take, Lost, Full}
@@ -92,6 +93,11 @@ is_on pipe key = nat_eq key.pipe pipe
 
 abbrev pub is_of : ℕ → FlowKey → Bool
 is_of queue key = target_eq key.target (ToQueue queue)
+
+-- Whether the flow with the key is among those of a target: on the pipe, or of the queue.
+abbrev pub is_among : Target → ℕ → FlowKey → Bool
+is_among (ToPipe number) pipe key = is_on pipe key
+is_among (ToQueue queue) pipe key = is_of queue key
 
 -- The places of the elements that pass a test, in order, where the first element stands at `from`.
 abbrev pub places_where : {X : Type 0} → (X → Bool) → ℕ → List X → List ℕ

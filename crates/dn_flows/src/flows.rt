@@ -4,6 +4,7 @@ ghost use Rattle.dn_flows.specs.Table.{flow_at, is_known, flows_with, IsUnused, 
 ghost use Rattle.dn_flows.specs.Members.{Lists};
 
 use crate::drop_rule::DropRule;
+use crate::first_flow::first_with_key;
 use crate::flow_queue::FlowQueue;
 use crate::hash_key::HashKey;
 use crate::keyed_hash::KeyedHash;
@@ -103,6 +104,9 @@ impl Flows {
         ensures err { OnErr result (self.new ≡ self.old) }
         ensures succeeds { is_known key self.old.keys ≡ true → IsOk result }
     {
+        if let Some(first) = first_with_key(&self.keys, &self.members, &key) {
+            return Ok(first);
+        }
         let table_key = TableKey::new(key);
         if let Some(flow) = self.keys.get_index_of(&table_key) {
             return Ok(flow);

@@ -4,6 +4,7 @@
 mod by_number;
 mod drop_rule;
 mod factors;
+mod first_flow;
 mod flow_queue;
 mod flows;
 mod hash_key;

@@ -1,6 +1,6 @@
 ghost use Rattle.std.specs.Prelude.{◌≡◌, ◌++◌, ◌∷◌, [], List, length, slice_get, OnOk, OnErr};
 ghost use Rattle.dn_flows.specs.Members.{Lists};
-ghost use Rattle.dn_flows.specs.Table.{is_of, is_on, places_where};
+ghost use Rattle.dn_flows.specs.Table.{is_among, is_of, is_on, places_where};
 ghost use Rattle.dn_types.specs.declared.flow_key.FlowKey.{FlowKey as Key};
 
 use crate::by_number::ByNumber;
@@ -64,5 +64,15 @@ impl Members {
         ensures { (keys : List Key) → Lists keys self.now → result ≡ slice_get (places_where (is_of queue) 0 keys) index }
     {
         self.of_queues.get(queue, index)
+    }
+
+    /// The first flow of the key's queue or, where its target is the pipe, on that.
+    pub fn first(&self, key: &FlowKey) -> Option<usize>
+        ensures { (keys : List Key) → Lists keys self.now → result ≡ slice_get (places_where (is_among key.now.target key.now.pipe) 0 keys) 0 }
+    {
+        match key.target {
+            Target::Pipe(_) => self.on_pipe(key.pipe, 0),
+            Target::Queue(queue) => self.of_queue(queue, 0),
+        }
     }
 }

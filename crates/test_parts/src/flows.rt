@@ -16,18 +16,20 @@ fn made_and_forgotten(flows: &mut Flows) -> Result<Option<usize>, AllocError> {
     Ok(Some(flow))
 }
 
-/// The flows to which three packets fall.
-fn three_made(flows: &mut Flows) -> Result<[usize; 3], AllocError> {
+/// The flows to which four packets fall: the first flow of the target is found without the hash, and the
+/// second by it.
+fn four_found(flows: &mut Flows) -> Result<[usize; 4], AllocError> {
     let first = flows.find_or_make(key(2))?;
     let second = flows.find_or_make(key(1))?;
     let third = flows.find_or_make(key(2))?;
-    Ok([first, second, third])
+    let fourth = flows.find_or_make(key(1))?;
+    Ok([first, second, third, fourth])
 }
 
 fn check_parts<R: Abort>(rt: &R, flows: &mut Flows) -> Result<(), AllocError> {
     assert!(rt; made_and_forgotten(flows)? == Some(0));
     assert!(rt; flows.len() == 0);
-    assert!(rt; three_made(flows)? == [0, 1, 0]);
+    assert!(rt; four_found(flows)? == [0, 1, 0, 1]);
     assert!(rt; flows.len() == 2);
     assert!(rt; is_told(flows, 1, &key(1)));
     Ok(())
@@ -167,7 +169,7 @@ static TWO_QUEUES: [(usize, Step); 17] = [
 ];
 
 fn check_two_queues<R: Abort>(rt: &R, flows: &mut Flows) -> Result<(), AllocError> {
-    assert!(rt; three_made(flows)? == [0, 1, 0]);
+    assert!(rt; four_found(flows)? == [0, 1, 0, 1]);
     for (flow, step) in TWO_QUEUES.iter() {
         take_step(rt, flows, *flow, *step)?;
     }

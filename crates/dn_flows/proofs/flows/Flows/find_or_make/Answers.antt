@@ -64,6 +64,13 @@ returns-in-Some-clause-within c =
     let within = c.in-Some.ensures.within in
     rw (← c.self.view_is) (omega arith)
 
+pub returns-in-Some-get_index_of-clause-within : goal.returns-in-Some-get_index_of-clause-within
+returns-in-Some-get_index_of-clause-within c =
+    let many = as-many-flows c.self.inside.packets c.self.inside.queues.items c.self.inside.unsent.items in
+    let keys = c.self.invariant.0 in
+    let within = c.in-Some-get_index_of.ensures.within in
+    rw (← c.self.view_is) (omega arith)
+
 pub returns-clause-within : goal.returns-clause-within
 returns-clause-within c =
     let size : length c.insert_full.new.self.keys ≡ length c.push_reserved.new.self.items = search rules in

@@ -1,0 +1,42 @@
+//! The look-up of a flow by its target alone, which its key confirms.
+ghost use Rattle.std.specs.Prelude.{◌≡◌, ◌<◌, false, true, length, slice_get, IfSome};
+ghost use Rattle.std.specs.Option.{option_map_or};
+ghost use Rattle.dn_types.specs.Flows.{flow_number, key_eq};
+ghost use Rattle.dn_flows.specs.Members.{Lists};
+ghost use Rattle.dn_flows.specs.Table.{is_known};
+
+use crate::keyed_hash::KeyedHash;
+use crate::members::Members;
+use crate::table_key::TableKey;
+use dn_types::FlowKey;
+use indexmap::IndexSet;
+
+/// Whether the flow is there and has the key.
+fn has_key(keys: &IndexSet<TableKey, KeyedHash>, flow: usize, key: &TableKey) -> bool
+    ensures { result ≡ option_map_or (key_eq key.now) (slice_get keys.now.keys flow) false }
+{
+    match keys.get_index(flow) {
+        Some(stored) => key == stored,
+        None => false,
+    }
+}
+
+/// The first flow of the key's target, where it has the key. It is found without a hash, and where the
+/// mask has no bits there is no other, unless the target was configured anew.
+pub fn first_with_key(
+    keys: &IndexSet<TableKey, KeyedHash>,
+    members: &Members,
+    key: &FlowKey,
+) -> Option<usize>
+    requires { Lists keys.now.keys members.now }
+    ensures number { IfSome result (λ flow. flow ≡ flow_number keys.now.keys key.now) }
+    ensures known { IfSome result (λ flow. is_known key.now keys.now.keys ≡ true) }
+    ensures within { IfSome result (λ flow. flow < length keys.now.keys) }
+{
+    let first = members.first(key)?;
+    if has_key(keys, first, &TableKey::new(*key)) {
+        Some(first)
+    } else {
+        None
+    }
+}
