@@ -1,4 +1,4 @@
--- The first flow of a target is the one with a key, where it has that key.
+-- The first flow of a target is the one with a key, where it has that key; a key that no flow has gets the next number.
 use Rattle.std.proofs.Common.{◌≡◌, ◌∙◌, ℕ, zero, suc, ◌+◌, ◌<◌, ◌||◌, Bool, true, false, cond, List, [], ◌∷◌, length, refl, ap, sym, arith}
 use Rattle.std.specs.Prelude.{Option, Some, None, not, slice_get}
 use Rattle.std.specs.List.{list_any}
@@ -60,3 +60,16 @@ found key table_key is keys flow first has = by (slice_get keys flow) refl has
         let from-0 : flow ≡ 0 + flow = omega arith in
         let same = ap (λ (k : FlowKey). key_eq k stored) (sym is) ∙ t in
         first-found (is_among key.target key.pipe) key stored (own-target key key.target refl) same keys 0 flow (first ∙ ap (λ (n : ℕ). Some n) from-0) e
+
+-- A key that no flow has gets the number after all flows.
+pub next-number : (key : FlowKey) (keys : List FlowKey) → is_known key keys ≡ false → flow_number keys key ≡ length keys
+next-number key [] e = refl
+next-number key (k ∷ keys) e = by (key_eq key k) refl e (next-number key keys)
+  where
+    by : (b : Bool) → key_eq key k ≡ b → (b || is_known key keys) ≡ false → (is_known key keys ≡ false → flow_number keys key ≡ length keys)
+        → flow_number (k ∷ keys) key ≡ suc (length keys)
+    by true t e rest = absurd cc
+    by false t e rest =
+        let before = rest e in
+        let more : 1 + flow_number keys key ≡ suc (length keys) = omega arith in
+        (λ i. cond (not (t i)) (1 + flow_number keys key) 0) ∙ more

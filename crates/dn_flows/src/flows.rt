@@ -1,13 +1,13 @@
-ghost use Rattle.std.specs.Prelude.{◌≡◌, ◌+◌, ◌-◌, ◌<◌, ◌≤◌, ◌^◌, [], take, length, nat_lt, sum, slice_get, slice_set, true, Some, IfOk, OnOk, OnErr, IsOk};
+ghost use Rattle.std.specs.Prelude.{false, ◌≡◌, ◌+◌, ◌-◌, ◌<◌, ◌≤◌, ◌^◌, [], take, length, nat_lt, sum, slice_get, slice_set, true, Some, IfOk, OnOk, OnErr, IsOk};
 ghost use Rattle.dn_types.specs.Flows.{flow_number, with_key};
 ghost use Rattle.dn_flows.specs.Table.{flow_at, is_known, flows_with, IsUnused, lengths, verdict_of, with_place, pushed, popped, one_lost, one_full, emptied, status_of, is_of, is_on, places_where};
 ghost use Rattle.dn_flows.specs.Members.{Lists};
 
 use crate::drop_rule::DropRule;
-use crate::first_flow::first_with_key;
 use crate::flow_queue::FlowQueue;
 use crate::hash_key::HashKey;
 use crate::keyed_hash::KeyedHash;
+use crate::keys::{flow_with_key, forget_last_key};
 use crate::members::Members;
 use crate::packet_store::PacketStore;
 use crate::table_key::TableKey;
@@ -48,17 +48,6 @@ impl Model for Flows {
     ghost view = { λ a. record { keys = a.keys.keys; flows = all_with_unsent (map (state_of a.packets) a.queues.items) a.unsent.items } };
 
     ghost invariant = { λ a. (length a.keys.keys ≡ length a.queues.items) × HasReserved a.packets a.queues.items a.reserved × AreStored a.packets a.queues.items × (length a.unsent.items ≡ length a.queues.items) × Lists a.keys.keys a.members };
-}
-
-/// Takes out the last key.
-fn forget_last_key(keys: &mut IndexSet<TableKey, KeyedHash>, members: &mut Members)
-    requires { Lists keys.old.keys members.old }
-    ensures keys { keys.new.keys ≡ take (length keys.old.keys - 1) keys.old.keys }
-    ensures members { Lists keys.new.keys members.new }
-{
-    if let Some(key) = keys.pop() {
-        members.pop(&key.get());
-    }
 }
 
 impl Flows {
@@ -104,18 +93,30 @@ impl Flows {
         ensures err { OnErr result (self.new ≡ self.old) }
         ensures succeeds { is_known key self.old.keys ≡ true → IsOk result }
     {
-        if let Some(first) = first_with_key(&self.keys, &self.members, &key) {
-            return Ok(first);
-        }
-        let table_key = TableKey::new(key);
-        if let Some(flow) = self.keys.get_index_of(&table_key) {
+        if let Some(flow) = flow_with_key(&self.keys, &self.members, &key) {
             return Ok(flow);
         }
+        self.make(key)
+    }
+
+    /// Makes the flow of a key that no flow has. It isn't inlined, so that a look-up, which most calls are,
+    /// reads the key where it stands.
+    #[inline(never)]
+    fn make(&mut self, key: FlowKey) -> Result<usize, AllocError>
+        requires { is_known key self.old.keys ≡ false }
+        ensures number { IfOk result (λ flow. flow ≡ flow_number self.old.keys key) }
+        ensures within { IfOk result (λ flow. flow < length self.new.flows) }
+        ensures keys { OnOk result (self.new.keys ≡ with_key key self.old.keys) }
+        ensures flows { OnOk result (self.new.flows ≡ flows_with key self.old) }
+        ensures err { OnErr result (self.new ≡ self.old) }
+    {
+        let table_key = TableKey::new(key);
         // The places beside the key come first, so that nothing can fail once the key is in.
         self.queues.reserve(1)?;
         self.unsent.reserve(1)?;
-        self.members.push(&key, self.queues.len())?;
-        let Ok((flow, _)) = self.keys.insert_full(table_key) else {
+        let flow = self.queues.len();
+        self.members.push(&key, flow)?;
+        let Ok(_) = self.keys.insert_full(table_key) else {
             self.members.pop(&key);
             return Err(AllocError);
         };

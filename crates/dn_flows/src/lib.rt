@@ -4,12 +4,12 @@
 mod by_number;
 mod drop_rule;
 mod factors;
-mod first_flow;
 mod flow_queue;
 mod flows;
 mod hash_key;
 mod keyed_hash;
 mod keyed_hasher;
+mod keys;
 mod members;
 mod packet_store;
 mod stored;

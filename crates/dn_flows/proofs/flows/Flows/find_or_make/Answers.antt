@@ -1,60 +1,6 @@
-use Rattle.std.proofs.Common.{◌≡◌, ◌∙◌, ◌++◌, ◌∷◌, [], sym, ap, subst, arith}
-use Rattle.std.proofs.Common.{List, map, cond, false, length, rules}
-use Rattle.std.proofs.lemmas.List.{length-map}
-use Rattle.dn_types.specs.Flows.{with_key}
-use Rattle.dn_types.specs.declared.flow_key.FlowKey.{FlowKey}
-use Rattle.dn_flows.specs.declared.flow_queue.FlowQueue.{FlowQueue}
-use Rattle.dn_flows.specs.declared.unsent.Unsent.{Unsent}
-use Rattle.dn_flows.specs.Members.{Lists}
-use Rattle.dn_flows.specs.Store.{AreStored, all_with_unsent, new_queue, reserved_one, reservations, state_of}
-use Rattle.dn_flows.specs.Table.{is_known, new_flow}
-use Rattle.dn_flows.proofs.Counted.{both-more}
-use Rattle.dn_flows.proofs.Places.{length-more, sum-more}
-use Rattle.dn_flows.proofs.Tables.{as-many-flows, added, states_added}
+use Rattle.std.proofs.Common.{sym, arith}
+use Rattle.dn_flows.proofs.Tables.{as-many-flows}
 use Rattle.dn_flows.proofs.flows.Flows.find_or_make.Goals as goal
-
-pub invariant_of-self-2 : goal.invariant_of-self-2
-invariant_of-self-2 c =
-    let items =
-    c.push_reserved.ensures.items ∙ ap (λ (qs : List FlowQueue). qs ++ c.new-queue.result ∷ []) c.reserve.ensures.items
-    ∙ ap (λ (q : FlowQueue). c.self.inside.queues.items ++ q ∷ []) c.new-queue.ensures in
-    let counts = c.push_reserved-2.ensures.items ∙ ap (λ (us : List Unsent). us ++ record { lost = 0; full = 0; discarded = 0 } ∷ []) c.reserve-2.ensures.items in
-    let more-queues = ap (λ (qs : List FlowQueue). length qs) items ∙ length-more c.self.inside.queues.items new_queue in
-    let more-counts = ap (λ (us : List Unsent). length us) counts ∙ length-more c.self.inside.unsent.items (record { lost = 0; full = 0; discarded = 0 }) in
-    let before = c.self.invariant.3 in (
-      search rules,
-      (
-        c.self.invariant.1.0 ∙ (let more = sum-more reserved_one c.self.inside.queues.items new_queue in let goal : reservations
-            c.self.inside.queues.items ≡ reservations (c.self.inside.queues.items ++ new_queue ∷ []) = omega arith in
-            goal) ∙ ap reservations (sym items),
-        c.self.invariant.1.1,
-      ),
-      subst (AreStored c.self.inside.packets) (sym items) (added c.self.inside.packets c.self.inside.queues.items c.self.invariant.2),
-      omega arith,
-      (
-          let known = c.self.inside.keys.keys in
-          let unknown : is_known c.args.key known ≡ false = search rules in
-          let inserted : c.insert_full.new.self.keys ≡ with_key c.args.key known = search rules in
-          let last : c.len.result ≡ length known = omega (arith, c.len.ensures, c.in_ok-reserve.ensures.len, c.self.inside.queues.ok.0, c.self.invariant.0) in
-          subst (λ (ks : List FlowKey). Lists ks c.push.new.self) (sym (inserted ∙ ap (λ b. cond b known (known ++ c.args.key ∷ [])) unknown))
-          (c.in_ok-push.ensures.ok known c.self.invariant.4 last)
-          ),
-    )
-
-pub returns-clause-flows : goal.returns-clause-flows
-returns-clause-flows c =
-    let items =
-    c.push_reserved.ensures.items ∙ ap (λ (qs : List FlowQueue). qs ++ c.new-queue.result ∷ []) c.reserve.ensures.items
-    ∙ ap (λ (q : FlowQueue). c.self.inside.queues.items ++ q ∷ []) c.new-queue.ensures in
-    let counts = c.push_reserved-2.ensures.items ∙ ap (λ (us : List Unsent). us ++ record { lost = 0; full = 0; discarded = 0 } ∷ []) c.reserve-2.ensures.items in
-    let unknown : is_known c.args.key c.self.inside.keys.keys ≡ false = search rules in
-    let states = ap (map (state_of c.self.inside.packets)) items ∙ states_added c.self.inside.packets c.self.inside.queues.items in
-    let more =
-    both-more (map (state_of c.self.inside.packets) c.self.inside.queues.items) c.self.inside.unsent.items new_flow
-    (record { lost = 0; full = 0; discarded = 0 })
-    (c.self.invariant.3 ∙ sym (length-map c.self.inside.queues.items (state_of c.self.inside.packets))) in
-    let seen = all_with_unsent (map (state_of c.self.inside.packets) c.self.inside.queues.items) c.self.inside.unsent.items in
-    rw (← c.self.view_is) ((λ i. all_with_unsent (states i) (counts i)) ∙ more ∙ sym (ap (λ b. cond b seen (seen ++ new_flow ∷ [])) unknown))
 
 -- a flow has the number of its key
 pub returns-in-Some-clause-within : goal.returns-in-Some-clause-within
@@ -63,17 +9,3 @@ returns-in-Some-clause-within c =
     let keys = c.self.invariant.0 in
     let within = c.in-Some.ensures.within in
     rw (← c.self.view_is) (omega arith)
-
-pub returns-in-Some-get_index_of-clause-within : goal.returns-in-Some-get_index_of-clause-within
-returns-in-Some-get_index_of-clause-within c =
-    let many = as-many-flows c.self.inside.packets c.self.inside.queues.items c.self.inside.unsent.items in
-    let keys = c.self.invariant.0 in
-    let within = c.in-Some-get_index_of.ensures.within in
-    rw (← c.self.view_is) (omega arith)
-
-pub returns-clause-within : goal.returns-clause-within
-returns-clause-within c =
-    let size : length c.insert_full.new.self.keys ≡ length c.push_reserved.new.self.items = search rules in
-    let many = as-many-flows c.self.inside.packets c.push_reserved.new.self.items c.push_reserved-2.new.self.items in
-    let within = c.in-Ok.ensures.within in
-    omega arith

@@ -1,0 +1,78 @@
+use Rattle.std.proofs.Common.{◌≡◌, ◌∙◌, ◌++◌, ◌∷◌, [], sym, ap, subst, arith}
+use Rattle.std.proofs.Common.{List, map, cond, false, length, rules}
+use Rattle.std.proofs.lemmas.List.{length-map}
+use Rattle.dn_types.specs.Flows.{with_key}
+use Rattle.dn_types.specs.declared.flow_key.FlowKey.{FlowKey}
+use Rattle.dn_flows.specs.declared.flow_queue.FlowQueue.{FlowQueue}
+use Rattle.dn_flows.specs.declared.unsent.Unsent.{Unsent}
+use Rattle.dn_flows.specs.Members.{Lists}
+use Rattle.dn_flows.specs.Store.{AreStored, all_with_unsent, new_queue, reserved_one, reservations, state_of}
+use Rattle.dn_flows.specs.Table.{is_known, new_flow}
+use Rattle.dn_flows.proofs.Counted.{both-more}
+use Rattle.dn_flows.proofs.Found.{next-number}
+use Rattle.dn_flows.proofs.Places.{length-more, sum-more}
+use Rattle.dn_flows.proofs.Tables.{as-many-flows, added, states_added}
+use Rattle.dn_flows.proofs.flows.Flows.make.Goals as goal
+
+pub invariant_of-self-2 : goal.invariant_of-self-2
+invariant_of-self-2 c =
+    let unknown : is_known c.args.key c.self.inside.keys.keys ≡ false = rw (← c.self.view_is) at c.requires in
+    let items =
+    c.push_reserved.ensures.items ∙ ap (λ (qs : List FlowQueue). qs ++ c.new-queue.result ∷ []) c.reserve.ensures.items
+    ∙ ap (λ (q : FlowQueue). c.self.inside.queues.items ++ q ∷ []) c.new-queue.ensures in
+    let counts = c.push_reserved-2.ensures.items ∙ ap (λ (us : List Unsent). us ++ record { lost = 0; full = 0; discarded = 0 } ∷ []) c.reserve-2.ensures.items in
+    let more-queues = ap (λ (qs : List FlowQueue). length qs) items ∙ length-more c.self.inside.queues.items new_queue in
+    let more-counts = ap (λ (us : List Unsent). length us) counts ∙ length-more c.self.inside.unsent.items (record { lost = 0; full = 0; discarded = 0 }) in
+    let known = c.self.inside.keys.keys in
+    let inserted : c.insert_full.new.self.keys ≡ with_key c.args.key known = search rules in
+    let grown = inserted ∙ ap (λ b. cond b known (known ++ c.args.key ∷ [])) unknown in
+    let more-keys = ap (λ (ks : List FlowKey). length ks) grown ∙ length-more known c.args.key in
+    let as-many = c.self.invariant.0 in
+    let before = c.self.invariant.3 in (
+      omega arith,
+      (
+        c.self.invariant.1.0 ∙ (let more = sum-more reserved_one c.self.inside.queues.items new_queue in let goal : reservations
+            c.self.inside.queues.items ≡ reservations (c.self.inside.queues.items ++ new_queue ∷ []) = omega arith in
+            goal) ∙ ap reservations (sym items),
+        c.self.invariant.1.1,
+      ),
+      subst (AreStored c.self.inside.packets) (sym items) (added c.self.inside.packets c.self.inside.queues.items c.self.invariant.2),
+      omega arith,
+      (
+          let last : c.len-flow.result ≡ length known = omega (arith, c.len-flow.ensures, c.in_ok-reserve.ensures.len, c.self.inside.queues.ok.0, c.self.invariant.0) in
+          subst (λ (ks : List FlowKey). Lists ks c.push.new.self) (sym grown) (c.in_ok-push.ensures.ok known c.self.invariant.4 last)
+          ),
+    )
+
+pub returns-clause-flows : goal.returns-clause-flows
+returns-clause-flows c =
+    let unknown : is_known c.args.key c.self.inside.keys.keys ≡ false = rw (← c.self.view_is) at c.requires in
+    let items =
+    c.push_reserved.ensures.items ∙ ap (λ (qs : List FlowQueue). qs ++ c.new-queue.result ∷ []) c.reserve.ensures.items
+    ∙ ap (λ (q : FlowQueue). c.self.inside.queues.items ++ q ∷ []) c.new-queue.ensures in
+    let counts = c.push_reserved-2.ensures.items ∙ ap (λ (us : List Unsent). us ++ record { lost = 0; full = 0; discarded = 0 } ∷ []) c.reserve-2.ensures.items in
+    let states = ap (map (state_of c.self.inside.packets)) items ∙ states_added c.self.inside.packets c.self.inside.queues.items in
+    let more =
+    both-more (map (state_of c.self.inside.packets) c.self.inside.queues.items) c.self.inside.unsent.items new_flow
+    (record { lost = 0; full = 0; discarded = 0 })
+    (c.self.invariant.3 ∙ sym (length-map c.self.inside.queues.items (state_of c.self.inside.packets))) in
+    let seen = all_with_unsent (map (state_of c.self.inside.packets) c.self.inside.queues.items) c.self.inside.unsent.items in
+    rw (← c.self.view_is) ((λ i. all_with_unsent (states i) (counts i)) ∙ more ∙ sym (ap (λ b. cond b seen (seen ++ new_flow ∷ [])) unknown))
+
+pub returns-clause-within : goal.returns-clause-within
+returns-clause-within c =
+    let many = as-many-flows c.self.inside.packets c.push_reserved.new.self.items c.push_reserved-2.new.self.items in
+    let items =
+    c.push_reserved.ensures.items ∙ ap (λ (qs : List FlowQueue). qs ++ c.new-queue.result ∷ []) c.reserve.ensures.items in
+    let more = ap (λ (qs : List FlowQueue). length qs) items ∙ length-more c.self.inside.queues.items c.new-queue.result in
+    let last : c.len-flow.result ≡ length c.self.inside.queues.items = omega (arith, c.len-flow.ensures, c.in_ok-reserve.ensures.len, c.self.inside.queues.ok.0) in
+    omega arith
+
+pub returns-clause-number : goal.returns-clause-number
+returns-clause-number c =
+    let unknown : is_known c.args.key c.self.inside.keys.keys ≡ false = rw (← c.self.view_is) at c.requires in
+    let last : c.len-flow.result ≡ length c.self.inside.keys.keys = omega (arith, c.len-flow.ensures, c.in_ok-reserve.ensures.len, c.self.inside.queues.ok.0, c.self.invariant.0) in
+    rw (← c.self.view_is) (last ∙ sym (next-number c.args.key c.self.inside.keys.keys unknown))
+
+pub returns-clause-keys : goal.returns-clause-keys
+returns-clause-keys c = rw (← c.self.view_is) (search rules)

@@ -1,0 +1,73 @@
+//! The keys of the flows: a flow is looked up by its target alone, which its key confirms, and then by the hash of its key.
+ghost use Rattle.std.specs.Prelude.{◌≡◌, ◌-◌, ◌<◌, false, true, length, slice_get, take, is_some, IfSome};
+ghost use Rattle.std.specs.Option.{option_map_or};
+ghost use Rattle.dn_types.specs.Flows.{flow_number, key_eq};
+ghost use Rattle.dn_flows.specs.Members.{Lists};
+ghost use Rattle.dn_flows.specs.Table.{is_known};
+
+use crate::keyed_hash::KeyedHash;
+use crate::members::Members;
+use crate::table_key::TableKey;
+use dn_types::FlowKey;
+use indexmap::IndexSet;
+
+/// Whether the flow is there and has the key.
+fn has_key(keys: &IndexSet<TableKey, KeyedHash>, flow: usize, key: &TableKey) -> bool
+    ensures { result ≡ option_map_or (key_eq key.now) (slice_get keys.now.keys flow) false }
+{
+    match keys.get_index(flow) {
+        Some(stored) => key == stored,
+        None => false,
+    }
+}
+
+/// The first flow of the key's target, where it has the key. It is found without a hash, and where the
+/// mask has no bits there is no other, unless the target was configured anew.
+fn first_with_key(
+    keys: &IndexSet<TableKey, KeyedHash>,
+    members: &Members,
+    key: &TableKey,
+) -> Option<usize>
+    requires { Lists keys.now.keys members.now }
+    ensures number { IfSome result (λ flow. flow ≡ flow_number keys.now.keys key.now) }
+    ensures known { IfSome result (λ flow. is_known key.now keys.now.keys ≡ true) }
+    ensures within { IfSome result (λ flow. flow < length keys.now.keys) }
+{
+    let first = members.first(&key.get())?;
+    if has_key(keys, first, key) {
+        Some(first)
+    } else {
+        None
+    }
+}
+
+/// The flow with the key, where there is one.
+#[inline]
+pub fn flow_with_key(
+    keys: &IndexSet<TableKey, KeyedHash>,
+    members: &Members,
+    key: &FlowKey,
+) -> Option<usize>
+    requires { Lists keys.now.keys members.now }
+    ensures number { IfSome result (λ flow. flow ≡ flow_number keys.now.keys key.now) }
+    ensures known { is_some result ≡ is_known key.now keys.now.keys }
+    ensures within { IfSome result (λ flow. flow < length keys.now.keys) }
+{
+    let table_key = TableKey::new(*key);
+    if let Some(first) = first_with_key(keys, members, &table_key) {
+        return Some(first);
+    }
+    let flow = keys.get_index_of(&table_key)?;
+    Some(flow)
+}
+
+/// Takes out the last key.
+pub fn forget_last_key(keys: &mut IndexSet<TableKey, KeyedHash>, members: &mut Members)
+    requires { Lists keys.old.keys members.old }
+    ensures keys { keys.new.keys ≡ take (length keys.old.keys - 1) keys.old.keys }
+    ensures members { Lists keys.new.keys members.new }
+{
+    if let Some(key) = keys.pop() {
+        members.pop(&key.get());
+    }
+}
