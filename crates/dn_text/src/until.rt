@@ -9,16 +9,32 @@ ghost use Rattle.dn_text.specs.Until.{address_until, behind_byte, number_until};
 use crate::digits::split_digits;
 use crate::numbers::read_number;
 
-// Numbers of that many decimal digits fit into a u64.
-const SHORT: usize = 19;
+/// One digit more than the numbers up to `greatest` have, but no more digits than fit into a u64.
+#[inline(always)]
+fn one_digit_more(greatest: u64) -> usize
+    ensures { result ≤ 19 }
+{
+    match greatest {
+        0..=999 => 4,
+        1_000..=99_999 => 6,
+        100_000..=9_999_999_999 => 11,
+        _ => 19,
+    }
+}
 
-/// The value of the digits that a text begins with, and how many there are. None where there are 19 and
-/// the text goes on.
-fn short_digits(text: &[u8]) -> Option<(u64, usize)>
+/// The value of the digits that a text begins with, and how many there are. None where there are `most` or
+/// more, or where the text is shorter than that.
+#[inline(always)]
+fn short_digits(text: &[u8], most: usize) -> Option<(u64, usize)>
+    requires { most ≤ 19 }
     ensures count { IfSome result (λ p. p.1 ≡ prefix_len is_ascii_digit text.now) }
     ensures value { IfSome result (λ p. p.0 ≡ digits_value 10 (digits text.now)) }
 {
-    let front = &text[..text.len().min(SHORT)];
+    // The loop is unrolled where its length is a constant, so it isn't cut to that of the text.
+    if text.len() < most {
+        return None;
+    }
+    let front = &text[..most];
     let mut value = 0u64;
     for (i, byte) in front.iter().enumerate() {
         if !byte.is_ascii_digit() {
@@ -26,13 +42,11 @@ fn short_digits(text: &[u8]) -> Option<(u64, usize)>
         }
         value = value * 10 + u64::from(*byte - b'0');
     }
-    if text.len() > front.len() {
-        return None;
-    }
-    Some((value, front.len()))
+    None
 }
 
 /// The number of a range that some digits write whose value is known.
+#[inline(always)]
 #[tactic(auto, unfolding(crate::specs::Numbers::number_of, crate::specs::Numbers::numeral_of, crate::specs::Numbers::within))]
 fn ranged(digits: &[u8], value: u64, least: u64, greatest: u64) -> Option<u64>
     requires all_digits { all_digits 10 digits.now ≡ true }
@@ -53,6 +67,7 @@ fn ranged(digits: &[u8], value: u64, least: u64, greatest: u64) -> Option<u64>
 }
 
 /// What stands behind a byte at the front of a text.
+#[inline(always)]
 fn behind_byte(text: &[u8], byte: u8) -> Option<&[u8]>
     ensures { option_map (λ rest. rest.now) result ≡ behind_byte byte text.now }
 {
@@ -85,7 +100,7 @@ pub fn number_until(text: &[u8], end: u8, least: u64, greatest: u64) -> Option<(
     ensures value { option_map (λ p. (p.0, p.1.now)) result ≡ number_until end least greatest text.now }
     ensures in_range { IfSome result (λ p. (least ≤ p.0) × (p.0 ≤ greatest)) }
 {
-    let Some((value, count)) = short_digits(text) else {
+    let Some((value, count)) = short_digits(text, one_digit_more(greatest)) else {
         return long_number_until(text, end, least, greatest);
     };
     let (digits, behind) = text.split_at(count);
@@ -96,6 +111,7 @@ pub fn number_until(text: &[u8], end: u8, least: u64, greatest: u64) -> Option<(
 
 /// The IPv4 address that a text begins with, and what stands behind the byte `end` that follows it: four
 /// numbers 0 to 255 with points between them, the first the highest byte. None for any other text.
+#[inline(always)]
 #[tactic(auto, unfolding(crate::specs::Until::address_until))]
 pub fn address_until(text: &[u8], end: u8) -> Option<(u32, &[u8])>
     ensures { option_map (λ p. (p.0, p.1.now)) result ≡ address_until end text.now }
