@@ -1,6 +1,9 @@
 pub mod Commands
 pub mod Inputs
+pub mod PacketNext
 pub mod PacketParts
+pub mod PlainFields
 pub mod PlainLines
 pub mod PlainRows
+pub mod PlainRowsBack
 pub mod Rows

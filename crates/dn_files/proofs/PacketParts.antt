@@ -48,7 +48,7 @@ pub forgotten : (start : ℕ) (items : List ℕ) → 0 < start → drop 1 (drop 
 forgotten start items some = drop-drop 1 (start - 1) items ∙ ap (λ k. drop k items) (omega arith)
 
 -- What stands behind a line, by its length.
-cut : (start : ℕ) (items line rest : List ℕ) → start ≤ length items → drop start items ≡ line ++ rest → drop (length items - length rest) items ≡ rest
+pub cut : (start : ℕ) (items line rest : List ℕ) → start ≤ length items → drop start items ≡ line ++ rest → drop (length items - length rest) items ≡ rest
 cut start items line rest le is =
     let whole : items ≡ (take start items ++ line) ++ rest = sym (take-append-drop start items) ∙ ap (λ (t : List ℕ). take start items ++ t) is ∙ sym (append_assoc (take start items) line rest) in
     let count : length items ≡ length (take start items ++ line) + length rest = ap (length {A = ℕ}) whole ∙ length-append (take start items ++ line) rest in

@@ -4,7 +4,7 @@ use Rattle.std.specs.List.{list_any, list_all}
 use Rattle.std.proofs.lemmas.Bool.{cases_Bool}
 use Rattle.csv.specs.Writing.{default_writer, fields_text, is_blank, needs_byte}
 use Rattle.dn_records.specs.Records.{Fields, line_of}
-use Rattle.dn_files.specs.PlainFields.{AllPlain, BeginsFields, IsPlain, with_commas}
+use Rattle.dn_files.proofs.PlainFields.{AllPlain, BeginsFields, IsPlain, with_commas}
 
 -- A field whose bytes all pass a test is plain, where what passes calls for no quotes.
 unquoted : (test : ℕ → Bool) → ((byte : ℕ) → test byte ≡ true → needs_byte default_writer byte ≡ false) → (field : List ℕ) → list_all test field ≡ true
@@ -19,7 +19,7 @@ pub plain-field : (test : ℕ → Bool) → ((byte : ℕ) → test byte ≡ true
 plain-field test plain field e = rw (unquoted test plain field e) refl
 
 -- The text behind a field of a plain line: further fields, each with a comma before it, and a line feed before the rest.
-abbrev plain_end : Fields → List ℕ → List ℕ
+abbrev pub plain_end : Fields → List ℕ → List ℕ
 plain_end [] rest = 10 ∷ rest
 plain_end (field ∷ fields) rest = 44 ∷ (field ++ plain_end fields rest)
 
@@ -29,7 +29,7 @@ end-is [] rest plain = refl
 end-is (field ∷ fields) rest plain =
     rw plain.0 (ap (λ (t : List ℕ). 44 ∷ t) (append_assoc field (fields_text default_writer fields) (10 ∷ rest) ∙ ap (λ (t : List ℕ). field ++ t) (end-is fields rest plain.1)))
 
-line-is : (first second : List ℕ) (fields : Fields) (rest : List ℕ) → IsPlain first → AllPlain (second ∷ fields)
+pub line-is : (first second : List ℕ) (fields : Fields) (rest : List ℕ) → IsPlain first → AllPlain (second ∷ fields)
     → line_of (first ∷ second ∷ fields) ++ rest ≡ first ++ plain_end (second ∷ fields) rest
 unfolding is_blank
 line-is first second fields rest plain more =

@@ -1,8 +1,11 @@
 -- Rows that are written plainly: their fields, and what these say.
-use Rattle.std.proofs.Common.{◌≡◌, ◌∙◌, refl, sym, ap, subst, ℕ, ◌^◌, ◌==◌, true, false, List, [], ◌∷◌, ◌++◌, Some, arith, inl, inr}
-use Rattle.std.specs.Prelude.{nat_lt, codes}
+use Rattle.std.proofs.Common.{◌≡◌, ◌∙◌, refl, sym, ap, subst, ℕ, ◌^◌, ◌==◌, Bool, true, false, cond, List, [], ◌∷◌, ◌++◌, length, take, drop, Option, Some, None, arith, inl, inr, append_assoc}
+use Rattle.std.specs.Prelude.{bytes_eq, codes, nat_lt}
 use Rattle.std.specs.Char.{digit_value}
+use Rattle.std.specs.Option.{option_or}
 use Rattle.std.proofs.lemmas.Bool.{cases_Bool, eqb-true, ltb-true, ne_eqb}
+use Rattle.std.proofs.lemmas.List.{take-append-drop}
+use Rattle.std.proofs.lemmas.Slice.Eq.{bytes_eq-Decides}
 use Rattle.std.proofs.lemmas.Str.Parse.{digit_from_value}
 use Rattle.csv.specs.Records.{field_at}
 use Rattle.csv.specs.Writing.{default_writer, needs_byte}
@@ -12,20 +15,22 @@ use Rattle.dn_types.specs.declared.five_tuple.FiveTuple.{FiveTuple}
 use Rattle.dn_text.specs.Numbers.{digits}
 use Rattle.dn_text.specs.Until.{address_until, number_until}
 use Rattle.dn_text.proofs.Capping.{digits_are_digits}
-use Rattle.dn_text.proofs.UntilParts.{address_parts, is_address_byte, number_parts}
+use Rattle.dn_text.proofs.UntilParts.{address_parts, bound, is_address_byte, number_parts, some_is}
 use Rattle.dn_records.specs.Records.{Fields}
 use Rattle.dn_files.specs.Fields.{packet_at, target_at, tuple_at}
 use Rattle.dn_files.specs.PacketFile.{row_of}
-use Rattle.dn_files.specs.PacketParts.{BeginsRow, BeginsTarget, BeginsTuple}
-use Rattle.dn_files.specs.PlainFields.{BeginsFields, IsPlain, with_commas}
+use Rattle.dn_files.specs.PacketParts.{BeginsRow}
+use Rattle.dn_files.specs.PlainRow.{behind_word, kind_until, row_until, target_until, tuple_until}
+use Rattle.dn_files.specs.declared.row.Row.{Row}
+use Rattle.dn_files.proofs.PlainFields.{BeginsFields, BeginsTarget, BeginsTuple, IsPlain, with_commas}
 use Rattle.dn_files.proofs.PlainLines.{fields-then, plain-field, plain-line}
 
-digit-plain : (byte : ℕ) → nat_lt (digit_value byte) 10 ≡ true → needs_byte default_writer byte ≡ false
+pub digit-plain : (byte : ℕ) → nat_lt (digit_value byte) 10 ≡ true → needs_byte default_writer byte ≡ false
 digit-plain byte is =
     let range = digit_from_value byte (ltb-true (digit_value byte) 10 is) in
     rw (ne_eqb byte 44 (λ e. omega (arith, range)), ne_eqb byte 34 (λ e. omega (arith, range)), ne_eqb byte 13 (λ e. omega (arith, range)), ne_eqb byte 10 (λ e. omega (arith, range))) refl
 
-address-plain : (byte : ℕ) → is_address_byte byte ≡ true → needs_byte default_writer byte ≡ false
+pub address-plain : (byte : ℕ) → is_address_byte byte ≡ true → needs_byte default_writer byte ≡ false
 address-plain byte is = elim (cases_Bool (nat_lt (digit_value byte) 10)) [
   | inl digit ↦ digit-plain byte digit
   | inr other ↦
@@ -48,7 +53,7 @@ named text behind rest kind n stands plain is = record {
   plain = (plain, (digits-plain behind, tt));
 }
 
-pub pipe_begins : (text behind rest : List ℕ) (n : ℕ) → text ≡ codes "pipe" ++ 44 ∷ behind → number_until 44 1 65535 behind ≡ Some (n, rest) → BeginsTarget text (Pipe n) rest
+pipe_begins : (text behind rest : List ℕ) (n : ℕ) → text ≡ codes "pipe" ++ 44 ∷ behind → number_until 44 1 65535 behind ≡ Some (n, rest) → BeginsTarget text (Pipe n) rest
 unfolding target_at field_at
 pipe_begins text behind rest n stands is = record {
   kind = codes "pipe";
@@ -57,7 +62,7 @@ pipe_begins text behind rest n stands is = record {
   says = λ first others. rw (number_parts 44 1 65535 behind n rest is).1 refl;
 }
 
-pub queue_begins : (text behind rest : List ℕ) (n : ℕ) → text ≡ codes "queue" ++ 44 ∷ behind → number_until 44 1 65535 behind ≡ Some (n, rest) → BeginsTarget text (Queue n) rest
+queue_begins : (text behind rest : List ℕ) (n : ℕ) → text ≡ codes "queue" ++ 44 ∷ behind → number_until 44 1 65535 behind ≡ Some (n, rest) → BeginsTarget text (Queue n) rest
 unfolding target_at field_at
 queue_begins text behind rest n stands is = record {
   kind = codes "queue";
@@ -66,7 +71,7 @@ queue_begins text behind rest n stands is = record {
   says = λ first others. rw (number_parts 44 1 65535 behind n rest is).1 refl;
 }
 
-pub tuple_begins : (text t1 t2 t3 t4 rest : List ℕ) (src dst proto sport dport : ℕ) → address_until 44 text ≡ Some (src, t1) → address_until 44 t1 ≡ Some (dst, t2)
+tuple_begins : (text t1 t2 t3 t4 rest : List ℕ) (src dst proto sport dport : ℕ) → address_until 44 text ≡ Some (src, t1) → address_until 44 t1 ≡ Some (dst, t2)
     → number_until 44 0 255 t2 ≡ Some (proto, t3) → number_until 44 0 65535 t3 ≡ Some (sport, t4) → number_until 44 0 65535 t4 ≡ Some (dport, rest)
     → BeginsTuple text (record { src = src; dst = dst; proto = proto; sport = sport; dport = dport }) rest
 unfolding tuple_at field_at
@@ -91,7 +96,7 @@ tuple_begins text t1 t2 t3 t4 rest src dst proto sport dport e1 e2 e3 e4 e5 =
       says = λ a b c others. rw (is1, is2, is3, is4, is5) refl;
     }
 
-pub row_begins : (text t1 t2 t3 t4 rest : List ℕ) (moment len word : ℕ) (target : Target) (tuple : FiveTuple) → number_until 44 0 (2 ^ 62) text ≡ Some (moment, t1)
+row_begins : (text t1 t2 t3 t4 rest : List ℕ) (moment len word : ℕ) (target : Target) (tuple : FiveTuple) → number_until 44 0 (2 ^ 62) text ≡ Some (moment, t1)
     → BeginsTarget t1 target t2 → BeginsTuple t2 tuple t3 → number_until 44 1 65535 t3 ≡ Some (len, t4) → number_until 10 0 4294967295 t4 ≡ Some (word, rest)
     → BeginsRow text (record { moment = moment; target = target; packet = record { tuple = tuple; len = len; word = word } }) rest
 unfolding row_of packet_at field_at
@@ -112,3 +117,60 @@ row_begins text t1 t2 t3 t4 rest moment len word target tuple e1 at named e4 e5 
       stands = plain-line text (digits text) (at.kind ∷ at.number ∷ named.src ∷ named.dst ∷ named.proto ∷ named.sport ∷ named.dport ∷ digits t3 ∷ []) (digits t4) rest begins (digits-plain t4);
       says = rw (is1, at.says (digits text) others, named.says (digits text) at.kind at.number (digits t3 ∷ digits t4 ∷ []), is4, is5) refl;
     }
+
+-- A word and what stands behind it.
+word_stands : (word text rest : List ℕ) → behind_word word text ≡ Some rest → text ≡ word ++ rest
+word_stands word text rest e = tested (bytes_eq (take (length word) text) word) refl e
+  where
+    tested : (b : Bool) → bytes_eq (take (length word) text) word ≡ b → cond {A = Option (List ℕ)} b (Some (drop (length word) text)) None ≡ Some rest → text ≡ word ++ rest
+    tested true test e =
+        sym (take-append-drop (length word) text) ∙ ap (λ (t : List ℕ). t ++ drop (length word) text) ((bytes_eq-Decides (take (length word) text) word).0 test)
+        ∙ ap (λ (t : List ℕ). word ++ t) (some_is (drop (length word) text) rest e)
+    tested false test e = cc e
+
+-- What is read as a target of a kind.
+kind_begins : (name : List ℕ) (kind : ℕ → Target) (text rest : List ℕ) (target : Target) → kind_until name kind text ≡ Some (target, rest)
+    → ((behind : List ℕ) (n : ℕ) → text ≡ name ++ 44 ∷ behind → number_until 44 1 65535 behind ≡ Some (n, rest) → BeginsTarget text (kind n) rest) → BeginsTarget text target rest
+unfolding kind_until
+kind_begins name kind text rest target e begins =
+    bound (behind_word (name ++ 44 ∷ []) text) _ (target, rest) (λ behind is e1.
+    bound (number_until 44 1 65535 behind) _ (target, rest) (λ number is_number e2.
+    let both = some_is (kind number.0, number.1) (target, rest) e2 in
+    subst (λ (t : Target). BeginsTarget text t rest) (ap (λ p. p.0) both)
+    (begins behind number.0 (word_stands (name ++ 44 ∷ []) text behind is ∙ append_assoc name (44 ∷ []) behind) (is_number ∙ ap (λ p. Some (number.0, p.1)) both))) e1) e
+
+target_read : (text rest : List ℕ) (target : Target) → target_until text ≡ Some (target, rest) → BeginsTarget text target rest
+unfolding target_until
+target_read text rest target e = chosen (kind_until (codes "pipe") Pipe text) refl e
+  where
+    chosen : (o : Option (Target × List ℕ)) → kind_until (codes "pipe") Pipe text ≡ o → option_or o (kind_until (codes "queue") Queue text) ≡ Some (target, rest) → BeginsTarget text target rest
+    chosen None is e = kind_begins (codes "queue") Queue text rest target e (λ behind n. queue_begins text behind rest n)
+    chosen (Some p) is e = kind_begins (codes "pipe") Pipe text rest target (is ∙ e) (λ behind n. pipe_begins text behind rest n)
+
+tuple_read : (text rest : List ℕ) (tuple : FiveTuple) → tuple_until text ≡ Some (tuple, rest) → BeginsTuple text tuple rest
+unfolding tuple_until
+tuple_read text rest tuple e =
+    bound (address_until 44 text) _ (tuple, rest) (λ src is_src e1.
+    bound (address_until 44 src.1) _ (tuple, rest) (λ dst is_dst e2.
+    bound (number_until 44 0 255 dst.1) _ (tuple, rest) (λ proto is_proto e3.
+    bound (number_until 44 0 65535 proto.1) _ (tuple, rest) (λ sport is_sport e4.
+    bound (number_until 44 0 65535 sport.1) _ (tuple, rest) (λ dport is_dport e5.
+    let whole : FiveTuple = record { src = src.0; dst = dst.0; proto = proto.0; sport = sport.0; dport = dport.0 } in
+    let both = some_is (whole, dport.1) (tuple, rest) e5 in
+    subst (λ (t : FiveTuple). BeginsTuple text t rest) (ap (λ p. p.0) both)
+    (tuple_begins text src.1 dst.1 proto.1 sport.1 rest src.0 dst.0 proto.0 sport.0 dport.0 is_src is_dst is_proto is_sport (is_dport ∙ ap (λ p. Some (dport.0, p.1)) both))) e4) e3) e2) e1) e
+
+-- What is read as a row is the line of a record that has this row.
+pub row_read : (text rest : List ℕ) (row : Row) → row_until text ≡ Some (row, rest) → BeginsRow text row rest
+unfolding row_until
+row_read text rest row e =
+    bound (number_until 44 0 (2 ^ 62) text) _ (row, rest) (λ moment is_moment e1.
+    bound (target_until moment.1) _ (row, rest) (λ target is_target e2.
+    bound (tuple_until target.1) _ (row, rest) (λ tuple is_tuple e3.
+    bound (number_until 44 1 65535 tuple.1) _ (row, rest) (λ len is_len e4.
+    bound (number_until 10 0 4294967295 len.1) _ (row, rest) (λ word is_word e5.
+    let whole : Row = record { moment = moment.0; target = target.0; packet = record { tuple = tuple.0; len = len.0; word = word.0 } } in
+    let both = some_is (whole, word.1) (row, rest) e5 in
+    subst (λ (r : Row). BeginsRow text r rest) (ap (λ p. p.0) both)
+    (row_begins text moment.1 target.1 tuple.1 len.1 rest moment.0 len.0 word.0 target.0 tuple.0 is_moment (target_read moment.1 target.1 target.0 is_target)
+    (tuple_read target.1 tuple.1 tuple.0 is_tuple) is_len (is_word ∙ ap (λ p. Some (word.0, p.1)) both))) e4) e3) e2) e1) e

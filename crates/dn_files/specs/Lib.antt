@@ -3,7 +3,7 @@ pub mod Faults
 pub mod Fields
 pub mod PacketFile
 pub mod PacketParts
-pub mod PlainFields
+pub mod PlainRow
 pub mod Reading
 pub mod Unread
 pub mod Writing

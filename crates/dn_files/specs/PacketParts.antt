@@ -1,13 +1,9 @@
 -- A packet file that comes in parts: what has been read of it, and what is left.
 use Rattle.std.specs.Prelude.{length, ◌+◌, ◌<◌, ◌≡◌, ℕ, zero, suc, List, [], ◌∷◌, ◌++◌, Result, Ok, codes}
 use Rattle.csv.specs.declared.parser.State.TheVariants as st
-use Rattle.dn_types.specs.declared.five_tuple.FiveTuple.{FiveTuple}
-use Rattle.dn_types.specs.declared.target.Target.{Target}
 use Rattle.dn_records.specs.Reading.{records_after}
 use Rattle.dn_records.specs.Records.{Fields, line_of}
-use Rattle.dn_files.specs.Fields.{target_at, tuple_at}
 use Rattle.dn_files.specs.PacketFile.{row_of, rows_from, rows_of}
-use Rattle.dn_files.specs.PlainFields.{BeginsFields}
 use Rattle.dn_files.specs.Reading.{◌>>=◌}
 use Rattle.dn_files.specs.Unread.{Unread}
 use Rattle.dn_files.specs.declared.replay_fault.ReplayFault.{ReplayFault}
@@ -40,25 +36,13 @@ abbrev pub header : Fields
 header =
     codes "moment" ∷ codes "target" ∷ codes "number" ∷ codes "src" ∷ codes "dst" ∷ codes "proto" ∷ codes "sport" ∷ codes "dport" ∷ codes "len" ∷ codes "word" ∷ []
 
--- A text begins with the two fields of a target, which are the second and the third of a row.
-pub record BeginsTarget (text : List ℕ) (target : Target) (rest : List ℕ) : Type 0 where
-  pub kind : List ℕ
-  pub number : List ℕ
-  pub fields : BeginsFields text (kind ∷ number ∷ []) rest
-  pub says : (first : List ℕ) (others : Fields) → target_at 2 (first ∷ kind ∷ number ∷ others) ≡ Ok target
-
--- A text begins with the five fields of a tuple, which are the fourth of a row and those behind it.
-pub record BeginsTuple (text : List ℕ) (tuple : FiveTuple) (rest : List ℕ) : Type 0 where
-  pub src : List ℕ
-  pub dst : List ℕ
-  pub proto : List ℕ
-  pub sport : List ℕ
-  pub dport : List ℕ
-  pub fields : BeginsFields text (src ∷ dst ∷ proto ∷ sport ∷ dport ∷ []) rest
-  pub says : (a b c : List ℕ) (others : Fields) → tuple_at 4 (a ∷ b ∷ c ∷ src ∷ dst ∷ proto ∷ sport ∷ dport ∷ others) ≡ Ok tuple
-
 -- A text begins with the line of a record that has this row.
 pub record BeginsRow (text : List ℕ) (row : Row) (rest : List ℕ) : Type 0 where
   pub fields : Fields
   pub stands : text ≡ line_of fields ++ rest
   pub says : row_of fields ≡ Ok row
+
+-- A reader's next row stands whole and plainly at the front of what it has left, or behind the header where that is next.
+abbrev pub BeginsNext : ℕ → List ℕ → Row → List ℕ → Type 0
+BeginsNext zero text row rest = (below : List ℕ) × (text ≡ line_of header ++ below) × BeginsRow below row rest
+BeginsNext (suc n) text row rest = BeginsRow text row rest

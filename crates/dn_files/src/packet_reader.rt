@@ -1,6 +1,7 @@
-ghost use Rattle.std.specs.Prelude.{◌≡◌, ◌≤◌, ◌<◌, ℕ, List, [], ◌∷◌, ◌++◌, drop, slice_set, Ok, IfOk, IfErr, OnOk, OnErr, OnSome, MatchOption, length, vec_len};
+ghost use Rattle.std.specs.Prelude.{◌≡◌, ◌≤◌, ◌<◌, ◌+◌, ◌^◌, ℕ, List, [], ◌∷◌, ◌++◌, drop, max, slice_set, Some, Ok, IfOk, IfErr, OnOk, OnErr, OnSome, MatchOption, length, vec_len};
+ghost use Rattle.dn_records.specs.Records.{line_of};
 ghost use Rattle.dn_files.specs.PacketFile.{rows_of};
-ghost use Rattle.dn_files.specs.PacketParts.{HasRead};
+ghost use Rattle.dn_files.specs.PacketParts.{BeginsNext, BeginsRow, HasRead, header};
 ghost use Rattle.dn_files.specs.Reading.{IsFaultOf};
 ghost use Rattle.dn_files.specs.declared.row.Row.{Row};
 
@@ -59,7 +60,8 @@ impl Model for PacketReader {
 impl PacketReader {
     /// A reader to which nothing has been fed.
     pub fn new(alloc: Global) -> PacketReader
-        ensures { HasRead result [] [] }
+        ensures read { HasRead result [] [] }
+        ensures empty { result ≡ record { number = 0; text = [] } }
     {
         PacketReader {
             alloc,
@@ -84,6 +86,7 @@ impl PacketReader {
     pub fn feed(&mut self, part: &[u8]) -> Result<(), AllocError>
         ensures ok { OnOk result ((text : List ℕ) → (rows : List Row) → HasRead self.old text rows
             → HasRead self.new (text ++ part.now) rows) }
+        ensures text { OnOk result (self.new ≡ record { number = self.old.number; text = self.old.text ++ part.now }) }
         ensures err { OnErr result (self.new ≡ self.old) }
     {
         self.forget_read();
@@ -94,6 +97,9 @@ impl PacketReader {
     fn take_header(&mut self)
         ensures rows { (text : List ℕ) → (rows : List Row) → HasRead self.old text rows → HasRead self.new text rows }
         ensures no_longer { length self.new.text ≤ length self.old.text }
+        ensures first { (below : List ℕ) → self.old.number ≡ 0 → self.old.text ≡ line_of header ++ below
+            → self.new ≡ record { number = 1; text = below } }
+        ensures later { 0 < self.old.number → self.new ≡ self.old }
     {
         if self.number != 0 {
             return;
@@ -112,6 +118,8 @@ impl PacketReader {
             ((text : List ℕ) → (rows : List Row) → HasRead self.old text rows → HasRead self.new text rows)
             (λ row. (text : List ℕ) → (rows : List Row) → HasRead self.old text rows → HasRead self.new text (rows ++ row ∷ [])) }
         ensures shorter { OnSome result (length self.new.text < length self.old.text) }
+        ensures gives { (row : Row) → (rest : List ℕ) → 0 < self.old.number → self.old.number < 2 ^ 62 → BeginsRow self.old.text row rest
+            → (result ≡ Some row) × (self.new ≡ record { number = self.old.number + 1; text = rest }) }
     {
         if self.number == 0 {
             return None;
@@ -135,6 +143,8 @@ impl PacketReader {
             ((text : List ℕ) → (rows : List Row) → HasRead self.old text rows → HasRead self.new text rows)
             (λ row. (text : List ℕ) → (rows : List Row) → HasRead self.old text rows → HasRead self.new text (rows ++ row ∷ [])) }
         ensures shorter { OnSome result (length self.new.text < length self.old.text) }
+        ensures gives { (row : Row) → (rest : List ℕ) → self.old.number < 2 ^ 62 → BeginsNext self.old.number self.old.text row rest
+            → (result ≡ Some row) × (self.new ≡ record { number = max 1 self.old.number + 1; text = rest }) }
     {
         self.take_header();
         self.take_row()

@@ -1,6 +1,8 @@
-ghost use Rattle.std.specs.Prelude.{◌≡◌, ◌≢◌, ◌++◌, ℕ, List, IfSome, MatchOption};
+ghost use Rattle.std.specs.Prelude.{◌≡◌, ◌≢◌, ◌++◌, ℕ, List, MatchOption, codes, option_map};
 ghost use Rattle.dn_records.specs.Records.{line_of};
-ghost use Rattle.dn_files.specs.PacketParts.{BeginsRow, BeginsTarget, BeginsTuple, header};
+ghost use Rattle.dn_types.specs.declared.target.Target.TheVariants.{Pipe, Queue};
+ghost use Rattle.dn_files.specs.PacketParts.{header};
+ghost use Rattle.dn_files.specs.PlainRow.{kind_until, row_until, target_until, tuple_until};
 
 use crate::row::Row;
 use dn_text::{address_until, number_until};
@@ -15,8 +17,9 @@ pub(crate) fn behind_header(text: &[u8]) -> Option<&[u8]>
 }
 
 /// The pipe at the front of a text, and what stands behind the comma after its number.
+#[tactic(auto, unfolding(crate::specs::PlainRow::kind_until))]
 fn pipe_at_front(text: &[u8]) -> Option<(Target, &[u8])>
-    ensures { IfSome result (λ p. BeginsTarget text.now p.0 p.1.now) }
+    ensures { option_map (λ p. (p.0, p.1.now)) result ≡ kind_until (codes "pipe") Pipe text.now }
 {
     let rest = text.strip_prefix(b"pipe,")?;
     let (number, rest) = number_until(rest, b',', 1, 65_535)?;
@@ -24,8 +27,9 @@ fn pipe_at_front(text: &[u8]) -> Option<(Target, &[u8])>
 }
 
 /// The queue at the front of a text, and what stands behind the comma after its number.
+#[tactic(auto, unfolding(crate::specs::PlainRow::kind_until))]
 fn queue_at_front(text: &[u8]) -> Option<(Target, &[u8])>
-    ensures { IfSome result (λ p. BeginsTarget text.now p.0 p.1.now) }
+    ensures { option_map (λ p. (p.0, p.1.now)) result ≡ kind_until (codes "queue") Queue text.now }
 {
     let rest = text.strip_prefix(b"queue,")?;
     let (number, rest) = number_until(rest, b',', 1, 65_535)?;
@@ -33,8 +37,9 @@ fn queue_at_front(text: &[u8]) -> Option<(Target, &[u8])>
 }
 
 /// The target at the front of a text, and what stands behind the comma after its number.
+#[tactic(auto, unfolding(crate::specs::PlainRow::target_until))]
 fn target_at_front(text: &[u8]) -> Option<(Target, &[u8])>
-    ensures { IfSome result (λ p. BeginsTarget text.now p.0 p.1.now) }
+    ensures { option_map (λ p. (p.0, p.1.now)) result ≡ target_until text.now }
 {
     match pipe_at_front(text) {
         Some(found) => Some(found),
@@ -43,8 +48,9 @@ fn target_at_front(text: &[u8]) -> Option<(Target, &[u8])>
 }
 
 /// The addresses, protocol and ports at the front of a text, and what stands behind the comma after them.
+#[tactic(auto, unfolding(crate::specs::PlainRow::tuple_until))]
 fn tuple_at_front(text: &[u8]) -> Option<(FiveTuple, &[u8])>
-    ensures { IfSome result (λ p. BeginsTuple text.now p.0 p.1.now) }
+    ensures { option_map (λ p. (p.0, p.1.now)) result ≡ tuple_until text.now }
 {
     let (src, text) = address_until(text, b',')?;
     let (dst, text) = address_until(text, b',')?;
@@ -63,8 +69,9 @@ fn tuple_at_front(text: &[u8]) -> Option<(FiveTuple, &[u8])>
 
 /// The row whose plain line a text begins with, and what stands behind that line. None where the text
 /// begins otherwise, as with a quote, a carriage return, a faulty row or a part of a row.
+#[tactic(auto, unfolding(crate::specs::PlainRow::row_until))]
 pub(crate) fn plain_row(text: &[u8]) -> Option<(Row, &[u8])>
-    ensures { IfSome result (λ p. BeginsRow text.now p.0 p.1.now) }
+    ensures { option_map (λ p. (p.0, p.1.now)) result ≡ row_until text.now }
 {
     let (moment, text) = number_until(text, b',', 0, 1 << 62)?;
     // The prover has no rule for `?` at a pair of a value of dn_types and a slice.

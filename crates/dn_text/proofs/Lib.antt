@@ -6,4 +6,5 @@ pub mod LineCuts
 pub mod Points
 pub mod Marks
 pub mod Shorts
+pub mod UntilBack
 pub mod UntilParts

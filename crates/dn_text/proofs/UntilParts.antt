@@ -13,11 +13,11 @@ use Rattle.dn_text.specs.declared.number_fault.NumberFault.{NumberFault}
 use Rattle.dn_text.specs.Until.{address_until, behind_byte, number_until}
 use Rattle.dn_text.proofs.Capping.{digits_are_digits}
 
-some_is : {A : Type 0} (x y : A) → ◌≡◌ {A = Option A} (Some x) (Some y) → x ≡ y
+pub some_is : {A : Type 0} (x y : A) → ◌≡◌ {A = Option A} (Some x) (Some y) → x ≡ y
 some_is x y e = cc
 
 -- What was read before it was read on.
-bound : {A B C : Type 0} (o : Option A) (read : A → Option B) (b : B) → ((a : A) → o ≡ Some a → read a ≡ Some b → C) → (o >>= read) ≡ Some b → C
+pub bound : {A B C : Type 0} (o : Option A) (read : A → Option B) (b : B) → ((a : A) → o ≡ Some a → read a ≡ Some b → C) → (o >>= read) ≡ Some b → C
 bound None read b more e = cc e
 bound (Some a) read b more e = more a refl e
 
@@ -62,11 +62,11 @@ point-behind (d ∷ ds) rest e =
 abbrev pub is_address_byte : ℕ → Bool
 is_address_byte byte = nat_lt (digit_value byte) 10 || (byte == 46)
 
-digits_are : (ds : List ℕ) → all_digits 10 ds ≡ true → list_all is_address_byte ds ≡ true
+pub digits_are : (ds : List ℕ) → all_digits 10 ds ≡ true → list_all is_address_byte ds ≡ true
 digits_are [] e = refl
 digits_are (d ∷ ds) e = rw (and-left (nat_lt (digit_value d) 10) (all_digits 10 ds) e, digits_are ds (and-right (nat_lt (digit_value d) 10) (all_digits 10 ds) e)) refl
 
-pointed : (ds rest : List ℕ) → all_digits 10 ds ≡ true → list_all is_address_byte rest ≡ true → list_all is_address_byte (ds ++ 46 ∷ rest) ≡ true
+pub pointed : (ds rest : List ℕ) → all_digits 10 ds ≡ true → list_all is_address_byte rest ≡ true → list_all is_address_byte (ds ++ 46 ∷ rest) ≡ true
 pointed [] rest e f = rw f refl
 pointed (d ∷ ds) rest e f = rw (and-left (nat_lt (digit_value d) 10) (all_digits 10 ds) e, pointed ds rest (and-right (nat_lt (digit_value d) 10) (all_digits 10 ds) e) f) refl
 

@@ -1,4 +1,4 @@
-use Rattle.std.proofs.Common.{◌≡◌, ◌∙◌, ◌+◌, ◌-◌, ◌≤◌, true, sym, length, vec_len, rules, arith}
+use Rattle.std.proofs.Common.{◌≡◌, ◌-◌, true, length, vec_len, rules, arith}
 use Rattle.std.specs.Result.{is_ok}
 use Rattle.std.proofs.lemmas.List.{take_rest}
 use Rattle.dn_files.proofs.PacketParts.{left-fits, left-is, rows-done, rows-fault}

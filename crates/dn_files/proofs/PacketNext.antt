@@ -1,0 +1,72 @@
+-- The row that stands whole and plainly before a reader is the one that it gives.
+use Rattle.std.proofs.Common.{◌≡◌, ◌∙◌, refl, sym, ap, subst, ℕ, zero, suc, ◌+◌, ◌-◌, ◌<◌, ◌≤◌, ◌^◌, List, ◌++◌, length, drop, Option, Some, None, arith}
+use Rattle.std.specs.Prelude.{max}
+use Rattle.std.proofs.lemmas.List.{append_cancel_left, length-drop}
+use Rattle.dn_text.proofs.UntilParts.{some_is}
+use Rattle.dn_records.specs.Records.{line_of}
+use Rattle.dn_files.specs.PacketParts.{BeginsNext, BeginsRow, header}
+use Rattle.dn_files.specs.PlainRow.{row_until}
+use Rattle.dn_files.specs.Unread.{Unread}
+use Rattle.dn_files.specs.declared.row.Row.{Row}
+use Rattle.dn_files.proofs.PacketParts.{begins_shorter, cut}
+use Rattle.dn_files.proofs.PlainRows.{row_read}
+use Rattle.dn_files.proofs.PlainRowsBack.{row_back}
+
+-- The header is passed, and what stands behind it is left.
+pub header_given : (number start len : ℕ) (items rest below : List ℕ) (old : Unread) → record { number = number; text = drop start items } ≡ old → start ≤ length items
+    → drop start items ≡ line_of header ++ rest → len ≡ length items → old.text ≡ line_of header ++ below
+    → ◌≡◌ {A = Unread} (record { number = 1; text = drop (len - length rest) items }) (record { number = 1; text = below })
+header_given number start len items rest below old view le is count held =
+    let left = cut start items (line_of header) rest le is in
+    let same : line_of header ++ rest ≡ line_of header ++ below = sym is ∙ ap (λ (u : Unread). u.text) view ∙ held in
+    rw count (ap (λ (t : List ℕ). let u : Unread = record { number = 1; text = t } in u) (left ∙ append_cancel_left (line_of header) rest below same))
+
+-- What was read at the front of what is left is the row that stands there.
+pub row_given : (number start len : ℕ) (items left rest : List ℕ) (given row : Row) (old : Unread) → record { number = number; text = drop start items } ≡ old → start ≤ length items
+    → Some (given, left) ≡ row_until (drop start items) → len ≡ length items → BeginsRow old.text row rest
+    → (◌≡◌ {A = Option Row} (Some given) (Some row)) × (◌≡◌ {A = Unread} (record { number = number + 1; text = drop (len - length left) items }) (record { number = old.number + 1; text = rest }))
+row_given number start len items left rest given row old view le read count begins =
+    let own = row_read (drop start items) left given (sym read) in
+    let behind = cut start items (line_of own.fields) left le own.stands in
+    let both = some_is (given, left) (row, rest) (read ∙ ap row_until (ap (λ (u : Unread). u.text) view) ∙ row_back old.text rest row begins) in (
+      ap (λ p. Some (p.0)) both,
+      rw count (ap (λ (t : List ℕ). let u : Unread = record { number = number + 1; text = t } in u) (behind ∙ ap (λ p. p.1) both)
+          ∙ ap (λ (n : ℕ). let u : Unread = record { number = n + 1; text = rest } in u) (ap (λ (u : Unread). u.number) view)),
+    )
+
+-- What stands behind a row is shorter than the whole.
+pub row_left : (start : ℕ) (items left : List ℕ) (row : Row) → Some (row, left) ≡ row_until (drop start items) → length left < length items
+row_left start items left row read =
+    let shorter = begins_shorter (drop start items) left row (row_read (drop start items) left row (sym read)) in
+    let whole = length-drop start items in
+    omega arith
+
+-- Where nothing was read no row stands.
+pub row_withheld : (number start : ℕ) (items rest : List ℕ) (row : Row) (old : Unread) → record { number = number; text = drop start items } ≡ old → None ≡ row_until (drop start items)
+    → BeginsRow old.text row rest → ⊥
+row_withheld number start items rest row old view none begins =
+    let read : None ≡ Some (row, rest) = none ∙ ap row_until (ap (λ (u : Unread). u.text) view) ∙ row_back old.text rest row begins in cc read
+
+-- What a row gives, and the reader behind it.
+abbrev Gives : Option Row → Unread → Unread → Row → List ℕ → Type 0
+Gives result old new row rest = (result ≡ Some row) × (new ≡ record { number = old.number + 1; text = rest })
+
+given_behind : (old mid new : Unread) (result : Option Row) (row : Row) (rest : List ℕ) → mid ≡ old
+    → (0 < mid.number → mid.number < 2 ^ 62 → BeginsRow mid.text row rest → Gives result mid new row rest)
+    → 0 < old.number → old.number < 2 ^ 62 → BeginsRow old.text row rest → Gives result old new row rest
+given_behind old mid new result row rest is gives = subst (λ (u : Unread). 0 < u.number → u.number < 2 ^ 62 → BeginsRow u.text row rest → Gives result u new row rest) is gives
+
+-- The header is passed where it is next, and then the row is given.
+pub next_given : (number : ℕ) (text : List ℕ) (mid new : Unread) (result : Option Row)
+    → ((below : List ℕ) → number ≡ 0 → text ≡ line_of header ++ below → mid ≡ record { number = 1; text = below })
+    → (0 < number → mid ≡ record { number = number; text = text })
+    → ((row : Row) → (rest : List ℕ) → 0 < mid.number → mid.number < 2 ^ 62 → BeginsRow mid.text row rest → Gives result mid new row rest)
+    → (row : Row) → (rest : List ℕ) → number < 2 ^ 62 → BeginsNext number text row rest → (result ≡ Some row) × (new ≡ record { number = max 1 number + 1; text = rest })
+next_given zero text mid new result first later gives row rest small begins =
+    let given = given_behind (record { number = 1; text = begins.0 }) mid new result row rest (first begins.0 refl begins.1) (gives row rest) (omega arith) (omega arith) begins.2 in
+    let same : 1 ≡ max 1 zero = omega arith in
+    (given.0, given.1 ∙ ap (λ (n : ℕ). let u : Unread = record { number = n + 1; text = rest } in u) same)
+next_given (suc n) text mid new result first later gives row rest small begins =
+    let given = given_behind (record { number = suc n; text = text }) mid new result row rest (later (omega arith)) (gives row rest) (omega arith) small begins in
+    let same : suc n ≡ max 1 (suc n) = omega arith in
+    (given.0, given.1 ∙ ap (λ (k : ℕ). let u : Unread = record { number = k + 1; text = rest } in u) same)

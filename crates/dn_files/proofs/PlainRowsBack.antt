@@ -1,0 +1,183 @@
+-- The line of a record that has a row is read as that row.
+use Rattle.std.proofs.Common.{◌≡◌, ◌∙◌, refl, sym, ap, subst, ℕ, ◌^◌, ◌==◌, Bool, true, false, cond, List, [], ◌∷◌, ◌++◌, length, Some, None, Option, Result, Ok, Err, arith}
+use Rattle.std.specs.Prelude.{bytes_eq, codes, nat_lt}
+use Rattle.std.specs.Char.{digit_value}
+use Rattle.std.specs.Result.{result_ok}
+use Rattle.std.proofs.lemmas.Bool.{ne_eqb}
+use Rattle.std.proofs.lemmas.Slice.Eq.{bytes_eq-Decides}
+use Rattle.csv.specs.Records.{field_at}
+use Rattle.dn_types.specs.declared.five_tuple.FiveTuple.{FiveTuple}
+use Rattle.dn_types.specs.declared.packet.Packet.{Packet}
+use Rattle.dn_types.specs.declared.target.Target.{Target}
+use Rattle.dn_types.specs.declared.target.Target.TheVariants.{Pipe, Queue}
+use Rattle.dn_text.specs.Addresses.{address_of}
+use Rattle.dn_text.specs.Numbers.{number_within}
+use Rattle.dn_text.specs.declared.number_fault.NumberFault.{NumberFault}
+use Rattle.dn_text.proofs.UntilBack.{address_back, number_back, number_digits}
+use Rattle.dn_text.proofs.UntilParts.{is_address_byte}
+use Rattle.dn_records.specs.Records.{Fields, line_of}
+use Rattle.dn_files.specs.Fields.{or_place, packet_at, target_at, tuple_at}
+use Rattle.dn_files.specs.PacketFile.{row_of}
+use Rattle.dn_files.specs.PacketParts.{BeginsRow}
+use Rattle.dn_files.specs.PlainRow.{kind_until, row_until, target_until, tuple_until}
+use Rattle.dn_files.specs.Reading.{◌>>=◌}
+use Rattle.dn_files.specs.declared.row.Row.{Row}
+use Rattle.dn_files.proofs.PlainFields.{AllPlain, IsPlain}
+use Rattle.dn_files.proofs.PlainLines.{line-is, plain-field}
+use Rattle.dn_files.proofs.PlainRows.{address-plain, digit-plain}
+
+ok_is : {A : Type 0} (x y : A) → ◌≡◌ {A = Result A ℕ} (Ok x) (Ok y) → x ≡ y
+ok_is x y e = cc
+
+-- What was read before it was read on.
+bound : {A B C : Type 0} (o : Result A ℕ) (read : A → Result B ℕ) (b : B) → ((a : A) → o ≡ Ok a → read a ≡ Ok b → C) → (o >>= read) ≡ Ok b → C
+bound (Err place) read b more e = cc e
+bound (Ok a) read b more e = more a refl e
+
+placed : {A : Type 0} (place : ℕ) (o : Option A) (a : A) → or_place place o ≡ Ok a → o ≡ Some a
+placed place None a e = cc e
+placed place (Some b) a e = ap Some (ok_is b a e)
+
+number_is : (place : ℕ) (r : Result ℕ NumberFault) (n : ℕ) → or_place place (result_ok r) ≡ Ok n → r ≡ Ok n
+number_is place (Err fault) n e = cc e
+number_is place (Ok m) n e = ap Ok (ok_is m n e)
+
+number_plain : (least greatest : ℕ) (field : List ℕ) (n : ℕ) → number_within least greatest field ≡ Ok n → IsPlain field
+number_plain least greatest field n is = plain-field (λ byte. nat_lt (digit_value byte) 10) digit-plain field (number_digits least greatest field n is)
+
+-- The two fields of a target.
+abbrev TargetBack : List ℕ → List ℕ → Target → Type 0
+TargetBack kind number target = ((rest : List ℕ) → target_until (kind ++ 44 ∷ (number ++ 44 ∷ rest)) ≡ Some (target, rest)) × AllPlain (kind ∷ number ∷ [])
+
+pipe_back : (number : List ℕ) (n : ℕ) → number_within 1 65535 number ≡ Ok n → TargetBack (codes "pipe") number (Pipe n)
+unfolding target_until kind_until
+pipe_back number n is = (λ rest. rw (number_back 44 1 65535 number rest n refl is) refl, (refl, (number_plain 1 65535 number n is, tt)))
+
+queue_back : (number : List ℕ) (n : ℕ) → number_within 1 65535 number ≡ Ok n → TargetBack (codes "queue") number (Queue n)
+unfolding target_until kind_until
+queue_back number n is = (λ rest. rw (number_back 44 1 65535 number rest n refl is) refl, (refl, (number_plain 1 65535 number n is, tt)))
+
+kind_back : (kind number : List ℕ) (target : Target) (pipe queue : Bool) → bytes_eq kind (codes "pipe") ≡ pipe → bytes_eq kind (codes "queue") ≡ queue
+    → cond {A = Result Target ℕ} pipe (or_place 3 (result_ok (number_within 1 65535 number)) >>= λ n. Ok (Pipe n))
+    (cond queue (or_place 3 (result_ok (number_within 1 65535 number)) >>= λ n. Ok (Queue n)) (Err 2)) ≡ Ok target
+    → TargetBack kind number target
+kind_back kind number target true queue p q e =
+    bound (or_place 3 (result_ok (number_within 1 65535 number))) _ target (λ n is e1.
+    subst (λ (k : List ℕ). TargetBack k number target) (sym ((bytes_eq-Decides kind (codes "pipe")).0 p))
+    (subst (TargetBack (codes "pipe") number) (ok_is (Pipe n) target e1) (pipe_back number n (number_is 3 (number_within 1 65535 number) n is)))) e
+kind_back kind number target false true p q e =
+    bound (or_place 3 (result_ok (number_within 1 65535 number))) _ target (λ n is e1.
+    subst (λ (k : List ℕ). TargetBack k number target) (sym ((bytes_eq-Decides kind (codes "queue")).0 q))
+    (subst (TargetBack (codes "queue") number) (ok_is (Queue n) target e1) (queue_back number n (number_is 3 (number_within 1 65535 number) n is)))) e
+kind_back kind number target false false p q e = cc e
+
+target_back : (first kind number : List ℕ) (others : Fields) (target : Target) → target_at 2 (first ∷ kind ∷ number ∷ others) ≡ Ok target → TargetBack kind number target
+unfolding target_at field_at
+target_back first kind number others target e = kind_back kind number target (bytes_eq kind (codes "pipe")) (bytes_eq kind (codes "queue")) refl refl e
+
+address_plain : (field : List ℕ) (a : ℕ) → address_of field ≡ Some a → IsPlain field
+address_plain field a is = plain-field is_address_byte address-plain field (address_back field a is).1
+
+-- The five fields of a tuple.
+abbrev TupleBack : List ℕ → List ℕ → List ℕ → List ℕ → List ℕ → FiveTuple → Type 0
+TupleBack src dst proto sport dport tuple =
+    ((rest : List ℕ) → tuple_until (src ++ 44 ∷ (dst ++ 44 ∷ (proto ++ 44 ∷ (sport ++ 44 ∷ (dport ++ 44 ∷ rest))))) ≡ Some (tuple, rest))
+    × AllPlain (src ∷ dst ∷ proto ∷ sport ∷ dport ∷ [])
+
+five_back : (src dst proto sport dport : List ℕ) (a b p s d : ℕ) → address_of src ≡ Some a → address_of dst ≡ Some b → number_within 0 255 proto ≡ Ok p → number_within 0 65535 sport ≡ Ok s
+    → number_within 0 65535 dport ≡ Ok d → TupleBack src dst proto sport dport (record { src = a; dst = b; proto = p; sport = s; dport = d })
+unfolding tuple_until
+five_back src dst proto sport dport a b p s d e1 e2 e3 e4 e5 = (
+  λ rest. rw (
+    (address_back src a e1).0 44 (dst ++ 44 ∷ (proto ++ 44 ∷ (sport ++ 44 ∷ (dport ++ 44 ∷ rest)))) refl,
+    (address_back dst b e2).0 44 (proto ++ 44 ∷ (sport ++ 44 ∷ (dport ++ 44 ∷ rest))) refl,
+    number_back 44 0 255 proto (sport ++ 44 ∷ (dport ++ 44 ∷ rest)) p refl e3,
+    number_back 44 0 65535 sport (dport ++ 44 ∷ rest) s refl e4,
+    number_back 44 0 65535 dport rest d refl e5,
+  ) refl,
+  (address_plain src a e1, (address_plain dst b e2, (number_plain 0 255 proto p e3, (number_plain 0 65535 sport s e4, (number_plain 0 65535 dport d e5, tt))))),
+)
+
+tuple_back : (a b c src dst proto sport dport : List ℕ) (others : Fields) (tuple : FiveTuple) → tuple_at 4 (a ∷ b ∷ c ∷ src ∷ dst ∷ proto ∷ sport ∷ dport ∷ others) ≡ Ok tuple
+    → TupleBack src dst proto sport dport tuple
+unfolding tuple_at field_at
+tuple_back a b c src dst proto sport dport others tuple e =
+    bound (or_place 4 (address_of src)) _ tuple (λ x is1 e1.
+    bound (or_place 5 (address_of dst)) _ tuple (λ y is2 e2.
+    bound (or_place 6 (result_ok (number_within 0 255 proto))) _ tuple (λ p is3 e3.
+    bound (or_place 7 (result_ok (number_within 0 65535 sport))) _ tuple (λ s is4 e4.
+    bound (or_place 8 (result_ok (number_within 0 65535 dport))) _ tuple (λ d is5 e5.
+    subst (TupleBack src dst proto sport dport) (ok_is (record { src = x; dst = y; proto = p; sport = s; dport = d }) tuple e5)
+    (five_back src dst proto sport dport x y p s d (placed 4 (address_of src) x is1) (placed 5 (address_of dst) y is2) (number_is 6 (number_within 0 255 proto) p is3)
+    (number_is 7 (number_within 0 65535 sport) s is4) (number_is 8 (number_within 0 65535 dport) d is5))) e4) e3) e2) e1) e
+
+module _ (moment kind number src dst proto sport dport len word : List ℕ) where
+  -- The ten fields of a row.
+  abbrev ten : Fields
+  ten = moment ∷ kind ∷ number ∷ src ∷ dst ∷ proto ∷ sport ∷ dport ∷ len ∷ word ∷ []
+
+  -- Each of them is read.
+  row_line : (rest : List ℕ) (m l w : ℕ) (target : Target) (tuple : FiveTuple) → number_within 0 (2 ^ 62) moment ≡ Ok m → TargetBack kind number target
+      → TupleBack src dst proto sport dport tuple → number_within 1 65535 len ≡ Ok l → number_within 0 4294967295 word ≡ Ok w
+      → row_until (line_of ten ++ rest)
+      ≡ Some (record { moment = m; target = target; packet = record { tuple = tuple; len = l; word = w } }, rest)
+  unfolding row_until
+  row_line rest m l w target tuple is at named is_len is_word =
+      let plain : AllPlain (kind ∷ number ∷ src ∷ dst ∷ proto ∷ sport ∷ dport ∷ len ∷ word ∷ []) =
+      (at.1.0, (at.1.1.0, (named.1.0, (named.1.1.0, (named.1.1.1.0, (named.1.1.1.1.0, (named.1.1.1.1.1.0, (number_plain 1 65535 len l is_len, (number_plain 0 4294967295 word w is_word, tt))))))))) in
+      let behind : List ℕ = src ++ 44 ∷ (dst ++ 44 ∷ (proto ++ 44 ∷ (sport ++ 44 ∷ (dport ++ 44 ∷ (len ++ 44 ∷ (word ++ 10 ∷ rest)))))) in
+      rw (
+        line-is moment kind (number ∷ src ∷ dst ∷ proto ∷ sport ∷ dport ∷ len ∷ word ∷ []) rest (number_plain 0 (2 ^ 62) moment m is) plain,
+        number_back 44 0 (2 ^ 62) moment (kind ++ 44 ∷ (number ++ 44 ∷ behind)) m refl is,
+        at.0 behind,
+        named.0 (len ++ 44 ∷ (word ++ 10 ∷ rest)),
+        number_back 44 1 65535 len (word ++ 10 ∷ rest) l refl is_len,
+        number_back 10 0 4294967295 word rest w refl is_word,
+      ) refl
+
+  packet_line : (rest : List ℕ) (m : ℕ) (target : Target) (packet : Packet) → number_within 0 (2 ^ 62) moment ≡ Ok m → TargetBack kind number target
+      → packet_at 4 ten ≡ Ok packet
+      → row_until (line_of ten ++ rest)
+      ≡ Some (record { moment = m; target = target; packet = packet }, rest)
+  unfolding packet_at field_at
+  packet_line rest m target packet is at e =
+      bound (tuple_at 4 ten) _ packet (λ tuple named e1.
+      bound (or_place 9 (result_ok (number_within 1 65535 len))) _ packet (λ l is_len e2.
+      bound (or_place 10 (result_ok (number_within 0 4294967295 word))) _ packet (λ w is_word e3.
+      row_line rest m l w target tuple is at (tuple_back moment kind number src dst proto sport dport (len ∷ word ∷ []) tuple named)
+      (number_is 9 (number_within 1 65535 len) l is_len) (number_is 10 (number_within 0 4294967295 word) w is_word)
+      ∙ ap (λ (p : Packet). Some (record { moment = m; target = target; packet = p }, rest)) (ok_is (record { tuple = tuple; len = l; word = w }) packet e3)) e2) e1) e
+
+  ten_line : (rest : List ℕ) (row : Row) → row_of ten ≡ Ok row
+      → row_until (line_of ten ++ rest) ≡ Some (row, rest)
+  unfolding row_of field_at
+  ten_line rest row e =
+      bound (or_place 1 (result_ok (number_within 0 (2 ^ 62) moment))) _ row (λ m is e1.
+      bound (target_at 2 ten) _ row (λ target at e2.
+      bound (packet_at 4 ten) _ row (λ packet packed e3.
+      packet_line rest m target packet (number_is 1 (number_within 0 (2 ^ 62) moment) m is)
+      (target_back moment kind number (src ∷ dst ∷ proto ∷ sport ∷ dport ∷ len ∷ word ∷ []) target at) packed
+      ∙ ap (λ (r : Row). Some (r, rest)) (ok_is (record { moment = m; target = target; packet = packet }) row e3)) e2) e1) e
+
+-- The line of a record that has a row, and what stands behind it.
+line_back : (fields : Fields) (rest : List ℕ) (row : Row) → row_of fields ≡ Ok row → row_until (line_of fields ++ rest) ≡ Some (row, rest)
+unfolding row_of
+line_back [] rest row e = cc e
+line_back (a ∷ []) rest row e = cc e
+line_back (a ∷ b ∷ []) rest row e = cc e
+line_back (a ∷ b ∷ c ∷ []) rest row e = cc e
+line_back (a ∷ b ∷ c ∷ d ∷ []) rest row e = cc e
+line_back (a ∷ b ∷ c ∷ d ∷ f ∷ []) rest row e = cc e
+line_back (a ∷ b ∷ c ∷ d ∷ f ∷ g ∷ []) rest row e = cc e
+line_back (a ∷ b ∷ c ∷ d ∷ f ∷ g ∷ h ∷ []) rest row e = cc e
+line_back (a ∷ b ∷ c ∷ d ∷ f ∷ g ∷ h ∷ i ∷ []) rest row e = cc e
+line_back (a ∷ b ∷ c ∷ d ∷ f ∷ g ∷ h ∷ i ∷ j ∷ []) rest row e = cc e
+line_back (a ∷ b ∷ c ∷ d ∷ f ∷ g ∷ h ∷ i ∷ j ∷ k ∷ []) rest row e = ten_line a b c d f g h i j k rest row e
+line_back (a ∷ b ∷ c ∷ d ∷ f ∷ g ∷ h ∷ i ∷ j ∷ k ∷ l ∷ more) rest row e =
+    let long : (length (a ∷ b ∷ c ∷ d ∷ f ∷ g ∷ h ∷ i ∷ j ∷ k ∷ l ∷ more) == 10) ≡ false = ne_eqb _ _ (λ same. omega arith) in
+    let k = rw long at e in
+    cc k
+
+-- A text that begins with a row's line is read as that row.
+pub row_back : (text rest : List ℕ) (row : Row) → BeginsRow text row rest → row_until text ≡ Some (row, rest)
+row_back text rest row begins = ap row_until begins.stands ∙ line_back begins.fields rest row begins.says
