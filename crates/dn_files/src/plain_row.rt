@@ -17,6 +17,7 @@ pub(crate) fn behind_header(text: &[u8]) -> Option<&[u8]>
 }
 
 /// The pipe at the front of a text, and what stands behind the comma after its number.
+#[inline(always)]
 #[tactic(auto, unfolding(crate::specs::PlainRow::kind_until))]
 fn pipe_at_front(text: &[u8]) -> Option<(Target, &[u8])>
     ensures { option_map (λ p. (p.0, p.1.now)) result ≡ kind_until (codes "pipe") Pipe text.now }
@@ -27,6 +28,7 @@ fn pipe_at_front(text: &[u8]) -> Option<(Target, &[u8])>
 }
 
 /// The queue at the front of a text, and what stands behind the comma after its number.
+#[inline(always)]
 #[tactic(auto, unfolding(crate::specs::PlainRow::kind_until))]
 fn queue_at_front(text: &[u8]) -> Option<(Target, &[u8])>
     ensures { option_map (λ p. (p.0, p.1.now)) result ≡ kind_until (codes "queue") Queue text.now }
@@ -37,6 +39,7 @@ fn queue_at_front(text: &[u8]) -> Option<(Target, &[u8])>
 }
 
 /// The target at the front of a text, and what stands behind the comma after its number.
+#[inline(always)]
 #[tactic(auto, unfolding(crate::specs::PlainRow::target_until))]
 fn target_at_front(text: &[u8]) -> Option<(Target, &[u8])>
     ensures { option_map (λ p. (p.0, p.1.now)) result ≡ target_until text.now }
@@ -48,6 +51,7 @@ fn target_at_front(text: &[u8]) -> Option<(Target, &[u8])>
 }
 
 /// The addresses, protocol and ports at the front of a text, and what stands behind the comma after them.
+#[inline(always)]
 #[tactic(auto, unfolding(crate::specs::PlainRow::tuple_until))]
 fn tuple_at_front(text: &[u8]) -> Option<(FiveTuple, &[u8])>
     ensures { option_map (λ p. (p.0, p.1.now)) result ≡ tuple_until text.now }
@@ -69,6 +73,7 @@ fn tuple_at_front(text: &[u8]) -> Option<(FiveTuple, &[u8])>
 
 /// The row whose plain line a text begins with, and what stands behind that line. None where the text
 /// begins otherwise, as with a quote, a carriage return, a faulty row or a part of a row.
+#[inline(always)]
 #[tactic(auto, unfolding(crate::specs::PlainRow::row_until))]
 pub(crate) fn plain_row(text: &[u8]) -> Option<(Row, &[u8])>
     ensures { option_map (λ p. (p.0, p.1.now)) result ≡ row_until text.now }

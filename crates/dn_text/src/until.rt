@@ -1,4 +1,4 @@
-ghost use Rattle.std.specs.Prelude.{◌≡◌, ◌≤◌, ◌<◌, true, length, option_map, IfSome};
+ghost use Rattle.std.specs.Prelude.{◌≡◌, ◌≤◌, ◌<◌, ◌-◌, false, true, length, option_map, IfSome, MatchOption};
 ghost use Rattle.std.specs.List.{prefix_len};
 ghost use Rattle.std.specs.Char.{is_ascii_digit};
 ghost use Rattle.std.specs.Result.{result_ok};
@@ -22,6 +22,16 @@ fn one_digit_more(greatest: u64) -> usize
     }
 }
 
+/// The value of a digit.
+#[inline(always)]
+fn digit_of(byte: u8) -> Option<u64>
+    ensures { MatchOption result (is_ascii_digit byte ≡ false) (λ d. (is_ascii_digit byte ≡ true) × (d ≡ byte - 48)) }
+{
+    // A byte below `0` wraps to a great number. The difference has the width of the sum, so it isn't widened.
+    let value = u64::from(byte).wrapping_sub(48);
+    if value > 9 { None } else { Some(value) }
+}
+
 /// The value of the digits that a text begins with, and how many there are. None where there are `most` or
 /// more, or where the text is shorter than that.
 #[inline(always)]
@@ -37,10 +47,10 @@ fn short_digits(text: &[u8], most: usize) -> Option<(u64, usize)>
     let front = &text[..most];
     let mut value = 0u64;
     for (i, byte) in front.iter().enumerate() {
-        if !byte.is_ascii_digit() {
+        let Some(digit) = digit_of(*byte) else {
             return Some((value, i));
-        }
-        value = value * 10 + u64::from(*byte - b'0');
+        };
+        value = value * 10 + digit;
     }
     None
 }

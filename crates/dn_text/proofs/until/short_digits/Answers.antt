@@ -13,27 +13,28 @@ overflow_mul-value c =
 pub overflow_add-value : goal.overflow_add-value
 overflow_add-value c =
     let count = length-take c.args.most c.args.text.now in
-    let digit = digit_small (get_or (take c.args.most c.args.text.now) c.loop-i.i 0) (sym c.if-not-is_ascii_digit.ensures.value) in
-    let small = step_is_small c.loop-i.value c.from.result c.loop-i.i c.loop-i.invariant.2 (omega arith) (omega arith) in
+    let digit = digit_small (get_or (take c.args.most c.args.text.now) c.loop-i.i 0) c.in-Some.ensures.0 in
+    let is = c.in-Some.ensures.1 in
+    let small = step_is_small c.loop-i.value c.in-Some.digit c.loop-i.i c.loop-i.invariant.2 (omega arith) (omega arith) in
     omega arith
 
 pub loop-i-preserved : goal.loop-i-preserved
 loop-i-preserved c =
-    let is = sym c.if-not-is_ascii_digit.ensures.value in
-    let digit = digit_small (get_or (take c.args.most c.args.text.now) c.loop-i.i 0) is in (
-      below_more _ _ c.loop-i.invariant.0 is,
-      value_grows (take c.args.most c.args.text.now) c.loop-i.i c.loop-i.value c.from.result c.loop-i-test.true is c.loop-i.invariant.1 c.from.ensures,
-      below_power c.loop-i.value c.from.result c.loop-i.i c.loop-i.invariant.2 (omega arith),
+    let digit = digit_small (get_or (take c.args.most c.args.text.now) c.loop-i.i 0) c.in-Some.ensures.0 in
+    let is = c.in-Some.ensures.1 in (
+      below_more _ _ c.loop-i.invariant.0 c.in-Some.ensures.0,
+      value_grows (take c.args.most c.args.text.now) c.loop-i.i c.loop-i.value c.in-Some.digit c.loop-i-test.true c.in-Some.ensures.0 c.loop-i.invariant.1 is,
+      below_power c.loop-i.value c.in-Some.digit c.loop-i.i c.loop-i.invariant.2 (omega arith),
     )
 
-pub returns-then-not-is_ascii_digit-clause-count : goal.returns-then-not-is_ascii_digit-clause-count
-returns-then-not-is_ascii_digit-clause-count c =
+pub returns-in_default-clause-count : goal.returns-in_default-clause-count
+returns-in_default-clause-count c =
     let count = length-take c.args.most c.args.text.now in
     counted c.args.text.now c.args.most c.loop-i.i c.loop-i.auto.i-end c.loop-i.invariant.0
-    (λ l. ap is_ascii_digit (sym (get_or-take c.args.most c.args.text.now c.loop-i.i 0 (omega arith))) ∙ sym c.if-not-is_ascii_digit.ensures.value)
+    (λ l. ap is_ascii_digit (sym (get_or-take c.args.most c.args.text.now c.loop-i.i 0 (omega arith))) ∙ c.in_default.ensures)
 
-pub returns-then-not-is_ascii_digit-clause-value : goal.returns-then-not-is_ascii_digit-clause-value
-returns-then-not-is_ascii_digit-clause-value c =
+pub returns-in_default-clause-value : goal.returns-in_default-clause-value
+returns-in_default-clause-value c =
     let count = length-take c.args.most c.args.text.now in
     valued c.args.text.now c.args.most c.loop-i.i c.loop-i.auto.i-end c.loop-i.invariant.0
-    (λ l. ap is_ascii_digit (sym (get_or-take c.args.most c.args.text.now c.loop-i.i 0 (omega arith))) ∙ sym c.if-not-is_ascii_digit.ensures.value) c.loop-i.value c.loop-i.invariant.1
+    (λ l. ap is_ascii_digit (sym (get_or-take c.args.most c.args.text.now c.loop-i.i 0 (omega arith))) ∙ c.in_default.ensures) c.loop-i.value c.loop-i.invariant.1
