@@ -56,6 +56,9 @@ CONTROLS = {
     "dn_shaper/without_which_is_picked": [
         ("ghost use Rattle.dn_types.specs.Wf2q.{pick};", "ghost use Rattle.std.specs.Option.{option_map}; ghost use Rattle.dn_types.specs.Wf2q.{pick};"),
         ("ensures some {", "ensures picks { result ≡ option_map (λ h. h.flow) (pick self.old.virtual_time (heads_of self.old.flows)) } ensures some {")],
+    "dn_shaper/without_the_packet_pushed": [
+        ("fn push_reserved(", "ghost use Rattle.std.specs.Prelude.{slice_set}; ghost use Rattle.dn_flows.specs.Table.{pushed}; fn push_reserved("),
+        ("ensures keys {", "ensures flows { flows.new.flows ≡ slice_set flows.old.flows flow (pushed waiting (flow_at flows.old.flows flow)) } ensures keys {")],
     "dn_files/without_the_fault_of_a_line": [("IfOk result (λ command. Ok command ≡ answer line.now)", "result ≡ answer line.now")],
     "dn_replay/without_the_answers_of_a_caller": [
         ("Prelude.{OnErr};", "Prelude.{OnErr}; ghost use Rattle.dn_service.specs.Callers.{Answered};"),
