@@ -64,7 +64,7 @@ CONTROLS = {
         ("Prelude.{OnErr};", "Prelude.{OnErr}; ghost use Rattle.dn_service.specs.Callers.{Answered};"),
         ("ensures same_caller {", "ensures ok { IfOk result (λ reply. Answered self.old call reply self.new) } ensures same_caller {")],
     "dn_replay/without_the_replies_of_the_shaper": [
-        ("Prelude.{List};", "Prelude.{◌≡◌, ◌∷◌, List}; ghost use Rattle.dn_types.specs.Replies.{reply};"),
+        ("ghost use Rattle.dn_types.specs.Clock", "ghost use Rattle.std.specs.Prelude.{IfOk}; ghost use Rattle.dn_types.specs.Replies.{reply}; ghost use Rattle.dn_types.specs.Clock"),
         ("ensures err {", "ensures ok { IfOk result (λ r. (rule : RuleValue) (calls : List CallValue) → StandsAfter rule self.old calls"
          " → (r ≡ reply rule calls call.now) × StandsAfter rule self.new (call.now ∷ calls)) } ensures err {")],
 }
@@ -120,8 +120,10 @@ def proves(folder, name):
     told = subprocess.run(check, cwd=crate, capture_output=True, text=True)
     for file, text in before.items():
         write(os.path.join(crate, file), text)
+    if told.returncode == 0:
+        return True, []
     faults = [line for line in (told.stdout + told.stderr).splitlines() if re.search(r"error|refused|not proved|gave up", line)]
-    return told.returncode == 0, faults[:3]
+    return False, faults[:3]
 
 
 def main():
