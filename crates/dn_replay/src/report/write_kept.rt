@@ -178,6 +178,8 @@ fn write_others<O: Outlet>(
         IsUnderWay start (O.contents out.old) text.old.items before →
         IsUnderWay start (O.contents out.new) text.new.items
         (before ++ text_of (map line_fields (filter is_other (fate_lines 1 0 given kept.now.fates.items))))) }
+    ensures room { OnOk result (65536 + 160 ≤ vec_capacity text.new) }
+    ensures short { OnOk result (length text.new.items < 65536) }
     ensures sound { OnOk result (O.has_failed out.new ≡ false) }
     ensures part { OnErr result ((start : Option (List ℕ)) (before : List ℕ) (given : List DeliveryValue) →
         AreMarksOf marks.now (length marks.now) given →
@@ -194,6 +196,17 @@ fn write_others<O: Outlet>(
         write_full_part(text, out)?;
     }
     Ok(())
+}
+
+/// Begins a report with the line of names.
+fn begin(text: &mut Vec<u8>)
+    requires room { 65536 + 160 ≤ vec_capacity text.old }
+    requires empty { text.old.items ≡ [] }
+    ensures items { text.new.items ≡ line_of report_header }
+    ensures room { 65536 + 160 ≤ vec_capacity text.new }
+    ensures short { length text.new.items < 65536 }
+{
+    add_header(text);
 }
 
 /// Writes the header, the lines of the deliveries and the others.
@@ -216,7 +229,7 @@ fn write_lines<O: Outlet>(
         (text_of (report_header ∷ map line_fields (kept_lines kept.now given.now)))) }
     ensures failed { OnErr result (O.has_failed out.new ≡ true) }
 {
-    add_header(text);
+    begin(text);
     write_outs(kept, given, text, out)?;
     write_others(kept, marks, text, out)?;
     write_part(text, out)?;
