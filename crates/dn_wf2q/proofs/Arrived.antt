@@ -206,6 +206,9 @@ module _ (p : SchedParts) (kept : IsSchedKept p) (slot len weight : ℕ) (short 
       all_whole : All (IsQueueKept p.busy_from) (set p.flows.items slot r)
       all_whole = All-set (IsQueueKept p.busy_from) p.flows.items slot r whole kept.queues
 
+      still_few : length (set p.flows.items slot r) ≤ 2 ^ 32
+      still_few = let s = kept.slots in let l = length-set p.flows.items slot r in omega arith
+
       -- The parts then.
       abbrev pub arrived_parts : SchedParts
       arrived_parts = record {
@@ -230,6 +233,7 @@ module _ (p : SchedParts) (kept : IsSchedKept p) (slot len weight : ℕ) (short 
             began = let b = kept.began in omega arith;
             arrived = all_arrived;
             queues = all_whole;
+            slots = still_few;
           }
 
       pub idle_kept : (h : TaggedPacket) → p.arrivals < 2 ^ 62 → cond (length (packets_of q) == 0) (Some made) None ≡ Some h → IsKeptWithout slot h arrived_parts
@@ -248,6 +252,7 @@ module _ (p : SchedParts) (kept : IsSchedKept p) (slot len weight : ℕ) (short 
               began = let b = kept.began in omega arith;
               arrived = all_arrived;
               queues = all_whole;
+              slots = still_few;
             },
             rw (flows_is, get_or-set_same (flows_of p) slot (joined_by f y) no_packets listed', is) (head_begins (λ z. z ≡ y) f.backlog y none refl),
           )

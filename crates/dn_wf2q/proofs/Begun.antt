@@ -94,4 +94,5 @@ begun p kept idle = record {
   began = omega arith;
   arrived = kept.arrived;
   queues = idle_queues p idle kept.queues p.arrivals;
+  slots = kept.slots;
 }

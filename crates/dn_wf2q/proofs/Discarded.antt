@@ -165,6 +165,7 @@ module _ (p : SchedParts) (slot : ℕ) (listed : slot < length p.flows.items) (q
     began = before.began;
     arrived = All-set (λ x. x.arrived ≤ p.arrivals) p.flows.items slot r (rw (arrived, at) (before.arrived slot q listed)) before.arrived;
     queues = All-set (IsQueueKept p.busy_from) p.flows.items slot r (whole p.busy_from) before.queues;
+    slots = let s = before.slots in let l = length-set p.flows.items slot r in omega arith;
   }
 
   swept_left : IsSchedKept (swept p) → (w : ℕ) → w + head_weight (flow_at (flows_of p) slot).backlog ≡ p.weights → IsSchedKept (swept (left_parts p.eligible p.waiting w))

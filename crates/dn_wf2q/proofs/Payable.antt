@@ -1,19 +1,55 @@
 -- The packets of each queue have weights, and tags that fit.
-use Rattle.std.proofs.Common.{◌≡◌, ℕ, ◌^◌, ◌<◌, List, [], ◌∷◌, length, map, All, sym, ap, ◌∙◌, arith, get_or}
+use Rattle.std.proofs.Common.{◌≡◌, ℕ, ◌^◌, ◌<◌, List, [], ◌∷◌, length, map, All, IfSome, sym, ap, subst, ◌≤◌, ◌∙◌, arith, get_or}
 use Rattle.std.proofs.lemmas.List.Elements.{All-nil, All-cons, All-head, All-tail}
+use Rattle.dn_types.specs.Wf2q.{Stamped}
 use Rattle.dn_wf2q.specs.declared.tagged_packet.TaggedPacket.{TaggedPacket}
 use Rattle.dn_wf2q.specs.declared.tagged_queue.TaggedQueue.{TaggedQueue}
 use Rattle.dn_wf2q.specs.declared.sched_parts.SchedParts.{SchedParts}
 use Rattle.dn_wf2q.specs.Schedule.{flow_at}
-use Rattle.dn_wf2q.specs.Queue.{packets_of, IsPayable}
-use Rattle.dn_wf2q.specs.Kept.{IsSchedKept, IsWithin, bound, flows_of, seen, tagged}
-use Rattle.dn_wf2q.proofs.Heads.{flow_at_seen, flow_within}
+use Rattle.dn_wf2q.specs.Queue.{first_packet, packets_of, IsPayable}
+use Rattle.dn_wf2q.specs.Kept.{HeadIs, IsKeptBut, IsKeptWithout, IsSchedKept, IsWithin, bound, flows_of, seen, tagged}
+use Rattle.dn_wf2q.proofs.BySlot.{length-by_slot}
+use Rattle.dn_wf2q.proofs.Heads.{flow_at_seen, flow_within, head_listed}
 
-pub bound_fits : (p : SchedParts) → IsSchedKept p → bound p.arrivals p.picks < 2 ^ 96
+pub bound_fits : {absent : ℕ → ℕ} {out : List Stamped} (p : SchedParts) → IsKeptBut absent out p → bound p.arrivals p.picks < 2 ^ 96
 bound_fits p kept =
     let few = kept.few in
     let a = kept.kept.pushed in
     let b = kept.kept.picked in
+    omega arith
+
+-- A head that is in no heap yet has a slot and tags for which a key has room.
+pub record Fits (slot start finish : ℕ) : Type 0 where
+  pub slot_fits : slot < 2 ^ 32
+  pub start_fits : start < 2 ^ 96
+  pub finish_fits : finish < 2 ^ 96
+
+head_within : (b : ℕ) (h : Stamped) (q : List Stamped) → HeadIs (λ x. x ≡ h) q → All (IsWithin b) q → IsWithin b h
+head_within b h [] is all = absurd is
+head_within b h (p ∷ ps) is all = subst (IsWithin b) is (All-head (IsWithin b) p ps all)
+
+pub head_fits : (p : SchedParts) (slot : ℕ) (h : TaggedPacket) → IsKeptWithout slot h p → Fits slot h.start_tag h.finish_tag
+head_fits p slot h kept =
+    let b = bound p.arrivals p.picks in
+    let flow = flow_at (flows_of p) slot in
+    let one = head_within b (tagged slot h) flow.backlog kept.1 (flow_within b (flows_of p) slot kept.0.kept.bounded).1 in
+    let start = one.0 in
+    let finish = one.1 in
+    let fits = bound_fits p kept.0 in
+    let listed = head_listed (λ x. x ≡ tagged slot h) (flows_of p) slot kept.1 in
+    let long = length-by_slot (seen p.busy_from) p.flows.items in
+    let few = kept.0.slots in
+    record {
+      slot_fits = omega arith;
+      start_fits = omega arith;
+      finish_fits = omega arith;
+    }
+
+pub first_within : (b slot finish : ℕ) (ps : List TaggedPacket) → 0 < length ps → IfSome (first_packet ps) (λ head. head.finish_tag ≡ finish)
+    → All (IsWithin b) (map (tagged slot) ps) → finish ≤ b
+first_within b slot finish [] some is all = absurd (omega arith)
+first_within b slot finish (p ∷ ps) some is all =
+    let within = (All-head (IsWithin b) (tagged slot p) (map (tagged slot) ps) all).1 in
     omega arith
 
 payable_within : (b slot : ℕ) (ps : List TaggedPacket) → b < 2 ^ 96 → All (IsWithin b) (map (tagged slot) ps) → All IsPayable ps

@@ -1,5 +1,5 @@
 -- A flow moves from the waiting heap to the eligible one.
-use Rattle.std.proofs.Common.{◌≡◌, ℕ, ◌+◌, ◌<◌, ◌≤◌, ◌∷◌, length, map, IfSome, IsPermutation, sym, ap, ◌∙◌, arith, get_or}
+use Rattle.std.proofs.Common.{◌≡◌, ℕ, ◌+◌, ◌<◌, ◌≤◌, ◌^◌, ◌∷◌, length, map, IfSome, IsPermutation, sym, ap, ◌∙◌, arith, get_or}
 use Rattle.std.proofs.lemmas.List.Sorted.{length_permutation}
 use Rattle.dn_heap.specs.Heap.{Heap}
 use Rattle.dn_wf2q.specs.declared.tagged_queue.TaggedQueue.{TaggedQueue}
@@ -7,9 +7,10 @@ use Rattle.dn_wf2q.specs.declared.sched_parts.SchedParts.{SchedParts}
 use Rattle.dn_wf2q.specs.Rank.{RankView}
 use Rattle.dn_wf2q.specs.Schedule.{flow_at}
 use Rattle.dn_wf2q.specs.Queue.{first_packet, packets_of}
-use Rattle.dn_wf2q.specs.Kept.{IsSchedKept, HeadIs, flows_of, seen, tagged}
+use Rattle.dn_wf2q.specs.Kept.{IsSchedKept, HeadIs, bound, flows_of, seen, tagged}
 use Rattle.dn_wf2q.proofs.BySlot.{length-by_slot}
-use Rattle.dn_wf2q.proofs.Heads.{head_listed, flow_at_seen, some_packets, head_weaker, first_finishes}
+use Rattle.dn_wf2q.proofs.Heads.{head_listed, flow_at_seen, flow_within, some_packets, head_weaker, first_finishes}
+use Rattle.dn_wf2q.proofs.Payable.{bound_fits, first_within}
 use Rattle.dn_wf2q.proofs.Steps.{popped_waits, promoted_kept, ranks_at-le}
 
 -- The key k of this slot left the waiting heap.
@@ -36,6 +37,14 @@ module _ (p : SchedParts) (kept : IsSchedKept p) (k : RankView) (slot : ℕ) (th
     has_head : 0 < length (packets_of q)
     has_head = some_packets (λ x. k.tag ≡ x.start_tag) slot (packets_of q) (rw same_flow at waits)
 
+    pub tag_fits : (finish : ℕ) → IfSome (first_packet (packets_of q)) (λ head. head.finish_tag ≡ finish) → finish < 2 ^ 96
+    tag_fits finish first =
+        let b = bound p.arrivals p.picks in
+        let all = rw same_flow at (flow_within b (flows_of p) slot kept.kept.bounded).1 in
+        let within = first_within b slot finish (packets_of q) has_head first all in
+        let fits = bound_fits p kept in
+        omega arith
+
     -- It enters the eligible heap under the key e.
     pub moved : (finish : ℕ) (e : RankView) (es : Heap RankView) → IfSome (first_packet (packets_of q)) (λ head. head.finish_tag ≡ finish)
         → k.tag ≤ p.virtual_time → e.slot ≡ slot → e.tag ≡ finish → IsPermutation (e ∷ p.eligible.keys) es.keys
@@ -49,4 +58,5 @@ module _ (p : SchedParts) (kept : IsSchedKept p) (k : RankView) (slot : ℕ) (th
       began = kept.began;
       arrived = kept.arrived;
       queues = kept.queues;
+      slots = kept.slots;
     }

@@ -1,10 +1,10 @@
 -- How often a flow stands among keys.
-use Rattle.std.proofs.Common.{◌≡◌, ◌==◌, cond, ℕ, suc, ◌+◌, ◌<◌, ◌≤◌, slice_index_or, true, false, List, [], ◌∷◌, length, All, IsPermutation, arith, inl, inr}
+use Rattle.std.proofs.Common.{◌≡◌, ◌==◌, cond, ℕ, suc, ◌+◌, ◌/◌, ◌%◌, ◌<◌, ◌≤◌, slice_index_or, true, false, List, [], ◌∷◌, length, All, IsPermutation, arith, inl, inr}
 use Rattle.std.proofs.lemmas.List.Sums.{sum_by-cons}
 use Rattle.std.proofs.lemmas.List.Sorted.{sum_by_pushed, sum_by_popped}
 use Rattle.std.proofs.lemmas.List.Elements.{All-nil, All-cons}
 use Rattle.std.proofs.lemmas.Bool.{cases_eq, cases_order, cases_lt}
-use Rattle.std.specs.Ordering.{is_lt}
+use Rattle.std.specs.Ordering.{is_lt, nat_cmp, ordering_then}
 use Rattle.std.proofs.lemmas.Bool.Decides.{nat_tests}
 use Rattle.dn_wf2q.specs.Rank.{RankView, rank_cmp}
 use Rattle.dn_wf2q.specs.Kept.{rank_at, ranks_at}
@@ -74,3 +74,19 @@ absent_same this slot n e = grind (arith, nat_tests)
 
 pub absent_other : (this slot n : ℕ) → (this ≡ slot → ⊥) → cond (this == slot) n 0 ≡ 0
 absent_other this slot n e = grind (arith, nat_tests)
+
+-- Two keys are in order as the tags in them are, and where these are one, as the slots are.
+pub packed : (k m : ℕ) → nat_cmp k m ≡ ordering_then (nat_cmp (k / 4294967296) (m / 4294967296)) (nat_cmp (k % 4294967296) (m % 4294967296))
+packed k m = elim (cases_order (k / 4294967296) (m / 4294967296)) [
+  | inl e ↦ elim (cases_order (k % 4294967296) (m % 4294967296)) [
+    | inl f ↦ grind (arith, nat_tests)
+    | inr r ↦ elim r [
+      | inl l ↦ grind (arith, nat_tests)
+      | inr l ↦ grind (arith, nat_tests)
+    ]
+  ]
+  | inr r ↦ elim r [
+    | inl l ↦ grind (arith, nat_tests)
+    | inr l ↦ grind (arith, nat_tests)
+  ]
+]

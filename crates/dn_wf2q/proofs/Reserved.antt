@@ -1,5 +1,5 @@
 -- Room is made, for a queue that is there or by adding queues without a packet.
-use Rattle.std.proofs.Common.{◌≡◌, ℕ, zero, suc, ◌+◌, ◌-◌, ◌<◌, ◌≤◌, List, [], ◌∷◌, ◌++◌, length, map, All, refl, sym, ap, ◌∙◌, subst, arith, slice_index_or, get_or, set, sum_by, replicate, nat_lt, Result, Ok, Err, OnOk, OnErr}
+use Rattle.std.proofs.Common.{◌^◌, ◌≡◌, ℕ, zero, suc, ◌+◌, ◌-◌, ◌<◌, ◌≤◌, List, [], ◌∷◌, ◌++◌, length, map, All, refl, sym, ap, ◌∙◌, subst, arith, slice_index_or, get_or, set, sum_by, replicate, nat_lt, Result, Ok, Err, OnOk, OnErr}
 use Rattle.std.proofs.lemmas.List.{append_assoc, append-nil, length-append, length-replicate, set-get_or, get_or-map, get_or-set_same, get_or_read, length-set}
 use Rattle.std.proofs.lemmas.List.Sums.{sum_by-append, sum_by-cons}
 use Rattle.std.proofs.lemmas.List.Folds.{sum_by-replicate}
@@ -182,16 +182,17 @@ module _ (p : SchedParts) (kept : IsSchedKept p) (slot : ℕ) (listed : slot < l
       arrived = All-set (λ x. x.arrived ≤ p.arrivals) p.flows.items slot r (rw (arrived, at) (kept.arrived slot q listed)) kept.arrived;
       queues = All-set (IsQueueKept p.busy_from) p.flows.items slot r
           (whole p.busy_from (subst (IsQueueKept p.busy_from) (sym at) (kept.queues slot q listed))) kept.queues;
+      slots = let s = kept.slots in let l = length-set p.flows.items slot r in omega arith;
     }
 
 -- Queues are added.
 pub kept_extended : (p new : SchedParts) → IsSchedKept p → (n : ℕ) → IsExtended p.flows.items new.flows.items → length new.flows.items ≡ n
-    → length p.flows.items ≤ n → new.eligible.keys ≡ p.eligible.keys → new.waiting.keys ≡ p.waiting.keys
+    → length p.flows.items ≤ n → n ≤ 2 ^ 32 → new.eligible.keys ≡ p.eligible.keys → new.waiting.keys ≡ p.waiting.keys
     → new.eligible.moves ≡ p.eligible.moves → new.waiting.moves ≡ p.waiting.moves → p.eligible.room ≤ new.eligible.room
     → p.waiting.room ≤ new.waiting.room → n ≤ length new.eligible.keys + new.eligible.room → n ≤ length new.waiting.keys + new.waiting.room
     → new.virtual_time ≡ p.virtual_time → new.weights ≡ p.weights → new.busy_from ≡ p.busy_from → new.arrivals ≡ p.arrivals
     → new.picks ≡ p.picks → IsSchedKept new
-kept_extended p new kept n e l le ek wk em wm er wr ee ww nt nw nb na np =
+kept_extended p new kept n e l le few ek wk em wm er wr ee ww nt nw nb na np =
     let long = length-by_slot (seen p.busy_from) p.flows.items in
     let lk = ap length ek in
     let lw = ap length wk in
@@ -203,6 +204,7 @@ kept_extended p new kept n e l le ek wk em wm er wr ee ww nt nw nb na np =
       began = let f = kept.began in omega arith;
       arrived = rw na (extended_arrived p.arrivals p.flows.items new.flows.items e kept.arrived);
       queues = rw nb (extended_kept p.busy_from p.flows.items new.flows.items e kept.queues);
+      slots = omega arith;
     }
 
 pub room_added : (xs ys : List TaggedQueue) → IsExtended xs ys → (g : ℕ) → room_at (map places xs) g ≤ room_at (map places ys) g

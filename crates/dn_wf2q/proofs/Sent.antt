@@ -1,5 +1,5 @@
 -- The head of a flow is sent.
-use Rattle.std.proofs.Common.{◌≡◌, ℕ, ◌+◌, ◌-◌, ◌*◌, ◌==◌, ◌<◌, ◌≤◌, cond, Some, List, [], ◌∷◌, length, map, take, All, IsPermutation, refl, sym, ap, ◌∙◌, subst, arith, inl, inr, slice_index_or, get_or, set, sum_by}
+use Rattle.std.proofs.Common.{◌^◌, ◌≡◌, ℕ, ◌+◌, ◌-◌, ◌*◌, ◌==◌, ◌<◌, ◌≤◌, cond, Some, List, [], ◌∷◌, length, map, take, All, IsPermutation, refl, sym, ap, ◌∙◌, subst, arith, inl, inr, slice_index_or, get_or, set, sum_by}
 use Rattle.std.proofs.lemmas.List.{get_or-set_same, get_or-set_other, length-set, get_or_read}
 use Rattle.std.proofs.lemmas.List.Elements.{All-set, All-head, All-tail, All-weaker}
 use Rattle.std.proofs.lemmas.List.Sorted.{All-permutation, length_permutation}
@@ -202,6 +202,9 @@ module _ (p : SchedParts) (kept : IsSchedKept p) (k : RankView) (es : Heap RankV
           All-set (IsQueueKept p.busy_from) p.flows.items k.slot r
           (whole p.busy_from (subst (IsQueueKept p.busy_from) (sym at) (kept.queues k.slot q listed))) kept.queues
 
+      still_few : length (set p.flows.items k.slot r) ≤ 2 ^ 32
+      still_few = let s = kept.slots in let l = length-set p.flows.items k.slot r in omega arith
+
       -- Whatever sum of weights virtual time grows by, what is kept stays kept.
       module _ (g w : ℕ) (grown : g ≡ scaled sent.len w) where
         late : p.virtual_time + g ≤ bound p.arrivals (p.picks + 1)
@@ -236,6 +239,7 @@ module _ (p : SchedParts) (kept : IsSchedKept p) (k : RankView) (es : Heap RankV
                 began = kept.began;
                 arrived = still_arrived;
                 queues = all_whole;
+                slots = still_few;
               }
 
           -- No packet is left at the slot.
@@ -248,6 +252,7 @@ module _ (p : SchedParts) (kept : IsSchedKept p) (k : RankView) (es : Heap RankV
                 began = kept.began;
                 arrived = still_arrived;
                 queues = all_whole;
+                slots = still_few;
               }
 
           -- Some packet is, and is the new head.

@@ -80,7 +80,7 @@ module _ {flows : List Flow} {eligible waiting : Heap RankView} {virtual_time we
       }
 
 pub swept_kept : (p : SchedParts) → IsSchedKept p → IsSchedKept (swept p)
-swept_kept p k = record { kept = live_kept k.kept; few = k.few; began = k.began; arrived = k.arrived; queues = k.queues }
+swept_kept p k = record { kept = live_kept k.kept; few = k.few; began = k.began; arrived = k.arrived; queues = k.queues; slots = k.slots }
 
 -- Where all is kept, no key is stale.
 pub fresh : (stale : Bool) (p : SchedParts) → IsSchedKept p → IsStaleKept stale p
@@ -103,6 +103,7 @@ sweeps p es ws k ep wp em wm er wr =
       began = k.began;
       arrived = k.arrived;
       queues = k.queues;
+      slots = k.slots;
     }
 
 -- ---- Where the packets of a slot leave

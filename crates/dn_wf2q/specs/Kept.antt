@@ -103,6 +103,7 @@ pub record IsKeptBut (absent : ℕ → ℕ) (out : List Stamped) (p : SchedParts
   pub began : p.busy_from ≤ p.arrivals
   pub arrived : All (λ q. q.arrived ≤ p.arrivals) p.flows.items
   pub queues : All (IsQueueKept p.busy_from) p.flows.items
+  pub slots : length p.flows.items ≤ 2 ^ 32
 
 -- Every head is in a heap.
 abbrev pub none_absent : ℕ → ℕ

@@ -1,4 +1,4 @@
-ghost use Rattle.std.specs.Prelude.{◌≡◌, ◌<◌, refl};
+ghost use Rattle.std.specs.Prelude.{◌≡◌, ◌<◌, ◌^◌, refl};
 ghost use Rattle.std.specs.Ordering.{as_partial_cmp};
 ghost use Rattle.std.specs.Cmp.{partial_order_from_own_ties};
 ghost use Rattle.std.specs.Cmp.Rules.{comparing};
@@ -8,51 +8,50 @@ ghost use Rattle.dn_wf2q.specs.Rank.{rank_cmp, rank_eq};
 use std::cmp::Ordering;
 use std::marker::Model;
 
-/// How many values a word has, of which a tag takes two.
-const WORD: u128 = 1 << 64;
+/// How many slots a key has room for. A tag is below 2^96.
+pub(crate) const SLOTS: usize = 1 << 32;
 
 /// A key of a heap: a tag of a flow's head, and the flow's slot. Ranks are ordered by tag and
 /// then by slot.
 ///
-/// The tag stands as two words, since most of a scheduler's time goes into moving keys within the
-/// heaps: a `u128` would align a key to 16 bytes and make it 32 bytes long instead of 24.
+/// Both stand in one number, since most of a scheduler's time goes into comparing and moving keys
+/// within the heaps: so two are compared in one step, and a key takes 16 bytes.
 #[derive(Drop)]
 pub(crate) struct Rank {
-    high: u64,
-    low: u64,
-    slot: usize,
+    /// The slot in the lowest 32 bits, and above them the tag.
+    key: u128,
 }
 
 impl Model for Rank {
-    ghost use Rattle.std.specs.Prelude.{◌+◌, ◌*◌, ◌^◌};
+    ghost use Rattle.std.specs.Prelude.{◌/◌, ◌%◌};
     ghost use Rattle.dn_wf2q.specs.Rank.{RankView};
 
     ghost Value = { RankView };
 
-    ghost view = { λ r. record { tag = r.high * 2 ^ 64 + r.low; slot = r.slot } };
+    ghost view = { λ r. record { tag = r.key / 4294967296; slot = r.key % 4294967296 } };
 }
 
 impl Rank {
     pub(crate) fn new(tag: u128, slot: usize) -> Rank
+        requires tag { tag < 2 ^ 96 }
+        requires slot { slot < 2 ^ 32 }
         ensures value { result ≡ record { tag = tag; slot = slot } }
     {
         Rank {
-            high: (tag / WORD) as u64,
-            low: (tag % WORD) as u64,
-            slot,
+            key: tag * SLOTS as u128 + slot as u128,
         }
     }
 
     pub(crate) fn tag(&self) -> u128
         ensures value { result ≡ self.now.tag }
     {
-        self.high as u128 * WORD + self.low as u128
+        self.key / SLOTS as u128
     }
 
     pub(crate) fn slot(&self) -> usize
         ensures value { result ≡ self.now.slot }
     {
-        self.slot
+        (self.key % SLOTS as u128) as usize
     }
 }
 
@@ -62,7 +61,7 @@ impl PartialEq for Rank {
     ghost laws = { Prim.search (comparing, rules) };
 
     fn eq(&self, other: &Rank) -> bool {
-        self.tag() == other.tag() && self.slot == other.slot
+        self.tag() == other.tag() && self.slot() == other.slot()
     }
 }
 
@@ -89,9 +88,8 @@ impl Ord for Rank {
 
     ghost matches_eq = { Prim.search (comparing, rules) };
 
+    #[tactic(auto, using(crate::proofs::Ranks::packed))]
     fn cmp(&self, other: &Rank) -> Ordering {
-        self.tag()
-            .cmp(&other.tag())
-            .then(self.slot.cmp(&other.slot))
+        self.key.cmp(&other.key)
     }
 }

@@ -5,6 +5,7 @@ ghost use Rattle.dn_wf2q.specs.Queue.{places};
 ghost use Rattle.dn_wf2q.specs.Kept.{IsSchedKept, flows_of};
 ghost use Rattle.dn_wf2q.specs.Steps.{IsExtended, MakesRoom};
 
+use crate::rank::SLOTS;
 use crate::sched_parts::SchedParts;
 use crate::tagged_queue::TaggedQueue;
 use std::alloc::{AllocError, Global};
@@ -23,8 +24,11 @@ impl SchedParts {
         if slot < self.flows.len() {
             return self.flows[slot].reserve_place(alloc);
         }
-        // Where the sum saturates, it is more than any vector holds, so that its growth is refused.
-        let flows = slot.saturating_add(1);
+        // A key of the heaps has no room for a slot beyond these.
+        if slot >= SLOTS {
+            return Err(AllocError);
+        }
+        let flows = slot + 1;
         self.flows.reserve(flows - self.flows.len())?;
         // Each heap has a place for every flow. What an earlier call got before it was refused
         // counts too, so that refusals don't add up.

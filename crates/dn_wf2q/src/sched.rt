@@ -13,7 +13,7 @@ use std::marker::Model;
 /// are in units of 1/65536 byte per weight.
 ///
 /// A flow is named by its *slot*, its place among the flows of this link. The queues stand in one
-/// vector by slot, so the highest slot that was reserved decides the memory: about 112 bytes for
+/// vector by slot, so the highest slot that was reserved decides the memory: about 96 bytes for
 /// each slot up to it, and a block of 56 bytes or more for each flow that had room behind a packet
 /// (4 bytes for each packet beyond four). Number the flows of a link 0, 1, 2, .. as they are first
 /// seen. Ties between finish tags go to the lower slot.
@@ -83,7 +83,8 @@ impl Sched {
     }
 
     /// Makes room for one more arrival at a slot, which lasts until that arrival. A refusal by
-    /// the allocator loses no packet, tag or room.
+    /// the allocator loses no packet, tag or room. There are at most 2^32 slots, and one beyond them
+    /// is refused as want of memory.
     pub fn reserve_flow(&mut self, slot: usize) -> Result<(), AllocError>
         ensures succeeds { 0 < room_at self.old.room slot → IsOk result }
         ensures ok { OnOk result (self.new.flows ≡ padded self.old.flows (slot + 1)) }

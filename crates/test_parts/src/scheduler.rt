@@ -286,3 +286,15 @@ fn a_hundred_flows(rt: HostRuntime) -> Result<(), AllocError> {
     drop(sched);
     checked
 }
+
+fn check_slots(rt: &impl Abort, sched: &mut Sched) {
+    assert!(rt; sched.reserve_flow(1 << 32).is_err());
+    assert!(rt; told(sched) == (true, 0, 0, 0, 0));
+}
+
+#[test]
+fn slots_beyond_the_last(rt: HostRuntime) {
+    let mut sched = Sched::new(rt.alloc());
+    check_slots(&rt, &mut sched);
+    drop(sched);
+}

@@ -3,6 +3,7 @@ use Rattle.std.proofs.lemmas.Bool.Decides.{nat_tests}
 use Rattle.dn_wf2q.specs.Rank.{RankView}
 use Rattle.dn_wf2q.specs.Kept.{seen, tagged}
 use Rattle.dn_wf2q.proofs.BySlot.{length-by_slot}
+use Rattle.dn_wf2q.proofs.Payable.{head_fits}
 use Rattle.dn_wf2q.proofs.Steps.{weights-le}
 use Rattle.dn_wf2q.proofs.Entered.{enter_room, entered_waiting, entered_eligible}
 use Rattle.dn_wf2q.proofs.sched_parts.SchedParts.enter.Goals as goal
@@ -16,6 +17,19 @@ overflow_add-self c =
     let k = c.args.self.now.flows.ok.1 in
     let s = c.args.self.now.flows.small in
     omega arith
+
+-- The slot and the tags fit a key.
+pub new-requires-clause-tag : goal.new-requires-clause-tag
+new-requires-clause-tag c = (head_fits c.args.self.now c.args.slot c.args.head c.requires.kept).finish_fits
+
+pub new-requires-clause-slot : goal.new-requires-clause-slot
+new-requires-clause-slot c = (head_fits c.args.self.now c.args.slot c.args.head c.requires.kept).slot_fits
+
+pub new-requires-else-head-self-clause-tag : goal.new-requires-else-head-self-clause-tag
+new-requires-else-head-self-clause-tag c = (head_fits c.args.self.now c.args.slot c.args.head c.requires.kept).start_fits
+
+pub new-requires-else-head-self-clause-slot : goal.new-requires-else-head-self-clause-slot
+new-requires-else-head-self-clause-slot c = (head_fits c.args.self.now c.args.slot c.args.head c.requires.kept).slot_fits
 
 pub push_reserved-requires-clause-reserved : goal.push_reserved-requires-clause-reserved
 push_reserved-requires-clause-reserved c = (enter_room c.args.slot (tagged c.args.slot c.args.head) c.requires.kept.0.kept c.requires.kept.1 c.requires.kept.0.few).0
@@ -35,6 +49,7 @@ returns-then-head-self-clause-kept c = record {
   began = c.requires.kept.0.began;
   arrived = c.requires.kept.0.arrived;
   queues = c.requires.kept.0.queues;
+  slots = c.requires.kept.0.slots;
 }
 
 pub returns-else-head-self-clause-kept : goal.returns-else-head-self-clause-kept
@@ -48,4 +63,5 @@ returns-else-head-self-clause-kept c = record {
   began = c.requires.kept.0.began;
   arrived = c.requires.kept.0.arrived;
   queues = c.requires.kept.0.queues;
+  slots = c.requires.kept.0.slots;
 }

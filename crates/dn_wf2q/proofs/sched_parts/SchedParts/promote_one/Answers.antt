@@ -4,13 +4,19 @@ use Rattle.std.proofs.lemmas.List.Elements.{All-contains}
 use Rattle.std.specs.Ordering.{is_lt}
 use Rattle.dn_wf2q.specs.Rank.{RankView, rank_cmp}
 use Rattle.dn_wf2q.proofs.Ranks.{not_before}
-use Rattle.dn_wf2q.proofs.Promoted.{listed, has_room, moved}
+use Rattle.dn_wf2q.proofs.Promoted.{listed, has_room, moved, tag_fits}
 use Rattle.dn_wf2q.proofs.sched_parts.SchedParts.promote_one.Goals as goal
 
 pub index-requires : goal.index-requires
 index-requires c =
     let l = listed c.args.self.now c.requires.kept c.in-Some-pop.first c.slot-slot.result c.slot-slot.ensures.value c.pop.new.self c.in-Some-pop.ensures.keys in
     omega (arith, c.args.self.now.flows.ok.0)
+
+-- A finish tag fits a key.
+pub new-requires-clause-tag : goal.new-requires-clause-tag
+new-requires-clause-tag c =
+    tag_fits c.args.self.now c.requires.kept c.in-Some-pop.first c.slot-slot.result c.slot-slot.ensures.value c.pop.new.self c.in-Some-pop.ensures.keys
+    c.index.result.now c.index.ensures c.finish_tag-finish_tag.result c.finish_tag-finish_tag.ensures.value
 
 pub push_reserved-requires-clause-reserved : goal.push_reserved-requires-clause-reserved
 push_reserved-requires-clause-reserved c = has_room c.args.self.now c.requires.kept c.in-Some-pop.first c.slot-slot.result c.slot-slot.ensures.value c.pop.new.self c.in-Some-pop.ensures.keys

@@ -19,7 +19,8 @@ returns-in-Some-clause-kept c =
     let t = c.requires.kept.kept.timely in
     let m = c.max-self.ensures in
     let g = c.tag.ensures.value in
-    record { kept = later_kept c.requires.kept.kept c.max-self.result (omega arith) (omega arith); few = c.requires.kept.few; began = c.requires.kept.began; arrived = c.requires.kept.arrived; queues = c.requires.kept.queues }
+    let kept = c.requires.kept in
+    record { kept = later_kept kept.kept c.max-self.result (omega arith) (omega arith); few = kept.few; began = kept.began; arrived = kept.arrived; queues = kept.queues; slots = kept.slots }
 
 -- There is no head.
 pub returns-in_default-clause-virtual_time : goal.returns-in_default-clause-virtual_time

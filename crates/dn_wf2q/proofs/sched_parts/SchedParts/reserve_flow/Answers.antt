@@ -69,6 +69,6 @@ returns-clause-kept c =
     let ek = ap length c.in_ok-reserve-2.ensures.keeps_keys in
     let wk = ap length c.in_ok-reserve-3.ensures.keeps_keys in
     kept_extended c.args.self.now _ c.requires.kept (c.args.slot + 1) (rw c.in_ok-reserve.ensures.items at c.add_queues.ensures.extended)
-    c.add_queues.ensures.len (omega arith) c.in_ok-reserve-2.ensures.keeps_keys c.in_ok-reserve-3.ensures.keeps_keys
+    c.add_queues.ensures.len (omega arith) (omega arith) c.in_ok-reserve-2.ensures.keeps_keys c.in_ok-reserve-3.ensures.keeps_keys
     c.in_ok-reserve-2.ensures.keeps_moves c.in_ok-reserve-3.ensures.keeps_moves (omega arith) (omega arith) (omega arith) (omega arith)
     refl refl refl refl refl
