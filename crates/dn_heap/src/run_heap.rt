@@ -83,6 +83,7 @@ impl<K: Ord> RunHeap<K> {
     }
 
     /// Puts a key in. It takes no memory.
+    #[inline(always)]
     pub fn push_reserved(&mut self, key: K)
         requires reserved { 0 < self.old.room }
         requires few { self.old.moves < 2 ^ 63 }
@@ -113,6 +114,7 @@ impl<K: Ord> RunHeap<K> {
     }
 
     /// Takes a least key out and gives its room back.
+    #[inline(always)]
     pub fn pop(&mut self) -> Option<K>
         ensures some { IsSome result ↔ (0 < length self.old.keys) }
         ensures least { IfSome result (λ key. IsLeast K.cmp key self.old.keys) }

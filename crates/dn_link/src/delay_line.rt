@@ -53,6 +53,7 @@ impl DelayLine {
     }
 
     /// Puts a packet into its place, in the room that was reserved.
+    #[inline(always)]
     pub fn push_reserved(&mut self, delivery: Delivery)
         requires room { 0 < self.old.room }
         requires pushed { self.old.pushed < 2 ^ 62 }
@@ -64,6 +65,7 @@ impl DelayLine {
     }
 
     /// Takes the first packet out where it is due at the moment, and gives its room back.
+    #[inline(always)]
     pub fn pop_due(&mut self, at: u64) -> Option<Delivery>
         ensures value { result ≡ due_first at self.old.pending }
         ensures pending { self.new.pending ≡ after_due at self.old.pending }
