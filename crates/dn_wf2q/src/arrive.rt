@@ -34,6 +34,7 @@ impl SchedParts {
     }
 
     /// The head of a flow enters the heap in which it belongs.
+    #[inline(always)]
     pub(crate) fn enter(&mut self, slot: usize, head: TaggedPacket)
         requires kept { IsKeptWithout slot head self.old }
         ensures same { OnlyHeaps self.old self.new }

@@ -85,6 +85,7 @@ impl Sched {
     /// Makes room for one more arrival at a slot, which lasts until that arrival. A refusal by
     /// the allocator loses no packet, tag or room. There are at most 2^32 slots, and one beyond them
     /// is refused as want of memory.
+    #[inline(always)]
     pub fn reserve_flow(&mut self, slot: usize) -> Result<(), AllocError>
         ensures succeeds { 0 < room_at self.old.room slot → IsOk result }
         ensures ok { OnOk result (self.new.flows ≡ padded self.old.flows (slot + 1)) }
