@@ -158,7 +158,7 @@ unfolding rows_left
 at_header number left none = rw none refl
 
 -- A line is what stands before its line feed, and the line feed.
-line-ends : (fields : Fields) (rest : List ℕ) → (front : List ℕ) × (line_of fields ++ rest ≡ front ++ 10 ∷ rest)
+pub line-ends : (fields : Fields) (rest : List ℕ) → (front : List ℕ) × (line_of fields ++ rest ≡ front ++ 10 ∷ rest)
 line-ends fields rest = (
   row_body default_writer fields ++ blank,
   ap (λ (t : List ℕ). t ++ rest) (sym (append_assoc (row_body default_writer fields) blank (10 ∷ []))) ∙ append_assoc (row_body default_writer fields ++ blank) (10 ∷ []) rest,

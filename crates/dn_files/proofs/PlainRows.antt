@@ -38,11 +38,11 @@ address-plain byte is = elim (cases_Bool (nat_lt (digit_value byte) 10)) [
       subst (λ (b : ℕ). needs_byte default_writer b ≡ false) (sym (eqb-true byte 46 point)) refl
 ]
 
-digits-plain : (text : List ℕ) → IsPlain (digits text)
+pub digits-plain : (text : List ℕ) → IsPlain (digits text)
 digits-plain text = plain-field (λ byte. nat_lt (digit_value byte) 10) digit-plain (digits text) (digits_are_digits text)
 
 -- A number and a comma are a field.
-number-field : (text rest : List ℕ) (least greatest n : ℕ) → number_until 44 least greatest text ≡ Some (n, rest) → BeginsFields text (digits text ∷ []) rest
+pub number-field : (text rest : List ℕ) (least greatest n : ℕ) → number_until 44 least greatest text ≡ Some (n, rest) → BeginsFields text (digits text ∷ []) rest
 number-field text rest least greatest n is = record { stands = (number_parts 44 least greatest text n rest is).0; plain = (digits-plain text, tt) }
 
 -- A word and a comma before a number are two fields.
@@ -139,7 +139,7 @@ kind_begins name kind text rest target e begins =
     subst (λ (t : Target). BeginsTarget text t rest) (ap (λ p. p.0) both)
     (begins behind number.0 (word_stands (name ++ 44 ∷ []) text behind is ∙ append_assoc name (44 ∷ []) behind) (is_number ∙ ap (λ p. Some (number.0, p.1)) both))) e1) e
 
-target_read : (text rest : List ℕ) (target : Target) → target_until text ≡ Some (target, rest) → BeginsTarget text target rest
+pub target_read : (text rest : List ℕ) (target : Target) → target_until text ≡ Some (target, rest) → BeginsTarget text target rest
 unfolding target_until
 target_read text rest target e = chosen (kind_until (codes "pipe") Pipe text) refl e
   where
@@ -147,7 +147,7 @@ target_read text rest target e = chosen (kind_until (codes "pipe") Pipe text) re
     chosen None is e = kind_begins (codes "queue") Queue text rest target e (λ behind n. queue_begins text behind rest n)
     chosen (Some p) is e = kind_begins (codes "pipe") Pipe text rest target (is ∙ e) (λ behind n. pipe_begins text behind rest n)
 
-tuple_read : (text rest : List ℕ) (tuple : FiveTuple) → tuple_until text ≡ Some (tuple, rest) → BeginsTuple text tuple rest
+pub tuple_read : (text rest : List ℕ) (tuple : FiveTuple) → tuple_until text ≡ Some (tuple, rest) → BeginsTuple text tuple rest
 unfolding tuple_until
 tuple_read text rest tuple e =
     bound (address_until 44 text) _ (tuple, rest) (λ src is_src e1.

@@ -22,6 +22,7 @@ pub use output::{number, write_text};
 pub use packet_fields::{moment_at, packet_at, target_at, target_number_at, tuple_at};
 pub use packet_reader::PacketReader;
 pub use packets::{PACKET_LIMIT, read_packets, rows_of_text};
+pub use plain_row::{target_at_front, tuple_at_front};
 pub use replay_fault::ReplayFault;
 pub use row::Row;
 pub use source::Source;

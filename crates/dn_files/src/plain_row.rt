@@ -41,7 +41,7 @@ fn queue_at_front(text: &[u8]) -> Option<(Target, &[u8])>
 /// The target at the front of a text, and what stands behind the comma after its number.
 #[inline(always)]
 #[tactic(auto, unfolding(crate::specs::PlainRow::target_until))]
-fn target_at_front(text: &[u8]) -> Option<(Target, &[u8])>
+pub fn target_at_front(text: &[u8]) -> Option<(Target, &[u8])>
     ensures { option_map (λ p. (p.0, p.1.now)) result ≡ target_until text.now }
 {
     match pipe_at_front(text) {
@@ -53,7 +53,7 @@ fn target_at_front(text: &[u8]) -> Option<(Target, &[u8])>
 /// The addresses, protocol and ports at the front of a text, and what stands behind the comma after them.
 #[inline(always)]
 #[tactic(auto, unfolding(crate::specs::PlainRow::tuple_until))]
-fn tuple_at_front(text: &[u8]) -> Option<(FiveTuple, &[u8])>
+pub fn tuple_at_front(text: &[u8]) -> Option<(FiveTuple, &[u8])>
     ensures { option_map (λ p. (p.0, p.1.now)) result ≡ tuple_until text.now }
 {
     let (src, text) = address_until(text, b',')?;
