@@ -9,5 +9,7 @@ pub mod HistoryReading
 pub mod HistorySteps
 pub mod HistoryWitness
 pub mod ItemsBack
+pub mod PlainForms
+pub mod PlainRecords
 pub mod Remarks
 pub mod RepliesBack

@@ -5,6 +5,7 @@ pub mod HistoryFile
 pub mod HistoryItems
 pub mod HistoryRecords
 pub mod HistoryText
+pub mod PlainRecords
 pub mod Ranges
 pub mod RecordsLeft
 pub mod Remarks

@@ -97,9 +97,9 @@ fn read_status(version: HistoryVersion, fields: &ByteRecord) -> Result<FlowStatu
     })
 }
 
-/// The delivery of the next record.
+/// As `next_delivery`, by the fields of the record.
 #[tactic(auto, unfolding(crate::specs::RecordsLeft::item_from))]
-fn next_delivery(
+fn read_next_delivery(
     records: &mut NumberedRecords<'_>,
     fields: &mut ByteRecord,
 ) -> Result<Delivery, ReplayFault>
@@ -111,6 +111,21 @@ fn next_delivery(
     match records.next(fields) {
         Ok(()) => in_record(number, read_delivery(fields)),
         Err(fault) => Err(fault),
+    }
+}
+
+/// The delivery of the next record.
+fn next_delivery(
+    records: &mut NumberedRecords<'_>,
+    fields: &mut ByteRecord,
+) -> Result<Delivery, ReplayFault>
+    ensures ok { IfOk result (λ item. item_from delivery_item records.old ≡ Ok (item, records.new)) }
+    ensures fewer { IfOk result (λ _. length records.new.records < length records.old.records) }
+    ensures err { IfErr result (λ fault. IsFaultOf (item_from delivery_item records.old) fault) }
+{
+    match records.take_delivery() {
+        Some(delivery) => Ok(delivery),
+        None => read_next_delivery(records, fields),
     }
 }
 

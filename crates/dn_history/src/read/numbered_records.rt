@@ -1,15 +1,20 @@
-ghost use Rattle.std.specs.Prelude.{◌≡◌, ◌<◌, ◌≤◌, length, Ok, None, IfOk, OnOk, IfErr};
+ghost use Rattle.std.specs.Prelude.{◌≡◌, ◌<◌, ◌≤◌, ℕ, length, Ok, None, IfOk, OnOk, OnSome, IfErr, MatchOption};
 ghost use Rattle.csv.specs.Records.{fields_of};
 ghost use Rattle.dn_records.specs.Records.{records_of};
-ghost use Rattle.dn_history.specs.HistoryFile.{nothing_in};
-ghost use Rattle.dn_history.specs.RecordsLeft.{next_record};
+ghost use Rattle.dn_history.specs.HistoryFile.{entry_from, nothing_in, reply_from};
+ghost use Rattle.dn_history.specs.HistoryItems.{delivery_item};
+ghost use Rattle.dn_history.specs.PlainRecords.{answered};
+ghost use Rattle.dn_history.specs.RecordsLeft.{item_from, next_record};
 ghost use Rattle.dn_history.specs.Remarks.{without_remarks};
+ghost use Rattle.dn_history.specs.declared.history_version.HistoryVersion.{HistoryVersion as Version};
 ghost use Rattle.dn_files.specs.Reading.{IsFaultOf};
 
+use crate::read::line_records::LineRecords;
+use crate::read::plain_forms::{delivery_at_front, queued_at_front, submit_at_front};
 use crate::read::remarks::read_unremarked;
 use csv::ByteRecord;
 use dn_files::ReplayFault;
-use dn_records::RecordReader;
+use dn_types::{Call, Delivery, Reply};
 use std::alloc::Global;
 use std::marker::Model;
 
@@ -18,7 +23,7 @@ use std::marker::Model;
 #[derive(Drop)]
 pub(crate) struct NumberedRecords<'a> {
     number: u64,
-    records: RecordReader<'a>,
+    records: LineRecords<'a>,
 }
 
 impl<'a> Model for NumberedRecords<'a> {
@@ -40,7 +45,7 @@ impl<'a> NumberedRecords<'a> {
     {
         NumberedRecords {
             number: 1,
-            records: RecordReader::new(alloc, text),
+            records: LineRecords::new(alloc, text),
         }
     }
 
@@ -80,5 +85,50 @@ impl<'a> NumberedRecords<'a> {
             return Err(ReplayFault::BadRecord(self.number));
         }
         Ok(())
+    }
+
+    /// The caller and the call of the next record, where it is a Submit whose line is written plainly.
+    pub(crate) fn take_submit(&mut self) -> Option<(usize, Call)>
+        ensures call { MatchOption result (self.new ≡ self.old)
+            (λ p. (version : Version) (count : ℕ) → entry_from version count self.old ≡ answered version p.0 p.1 self.new) }
+        ensures fewer { OnSome result (length self.new.records < length self.old.records) }
+    {
+        let text = self.records.lines()?;
+        let Some((caller, call, rest)) = submit_at_front(text) else {
+            return None;
+        };
+        self.records.go_on(text, rest);
+        self.number += 1;
+        Some((caller, call))
+    }
+
+    /// The reply of the next record, where it is that to an accepted packet and its line is written plainly.
+    pub(crate) fn take_queued(&mut self) -> Option<Reply>
+        ensures reply { MatchOption result (self.new ≡ self.old)
+            (λ reply. (version : Version) → reply_from version self.old ≡ Ok (reply, self.new)) }
+        ensures fewer { OnSome result (length self.new.records < length self.old.records) }
+    {
+        let text = self.records.lines()?;
+        let Some((reply, rest)) = queued_at_front(text) else {
+            return None;
+        };
+        self.records.go_on(text, rest);
+        self.number += 1;
+        Some(reply)
+    }
+
+    /// The delivery of the next record, where its line is written plainly.
+    pub(crate) fn take_delivery(&mut self) -> Option<Delivery>
+        ensures delivery { MatchOption result (self.new ≡ self.old)
+            (λ delivery. item_from delivery_item self.old ≡ Ok (delivery, self.new)) }
+        ensures fewer { OnSome result (length self.new.records < length self.old.records) }
+    {
+        let text = self.records.lines()?;
+        let Some((delivery, rest)) = delivery_at_front(text) else {
+            return None;
+        };
+        self.records.go_on(text, rest);
+        self.number += 1;
+        Some(delivery)
     }
 }

@@ -3,9 +3,9 @@ ghost use Rattle.csv.specs.Records.{fields_of};
 ghost use Rattle.dn_records.specs.Records.{Takes};
 ghost use Rattle.dn_history.specs.Remarks.{is_remark, without_remarks};
 
+use crate::read::line_records::LineRecords;
 use csv::ByteRecord;
 use dn_files::column;
-use dn_records::RecordReader;
 use std::alloc::AllocError;
 
 /// Whether a record is a remark.
@@ -22,7 +22,7 @@ fn is_remark(fields: &ByteRecord) -> bool
 /// error no record is left.
 #[tactic(auto, using(crate::proofs::Remarks::passed_over, crate::proofs::Remarks::found_plain, crate::proofs::Remarks::none_left, crate::proofs::HistoryReading::emptied))]
 pub(crate) fn read_unremarked(
-    records: &mut RecordReader<'_>,
+    records: &mut LineRecords<'_>,
     fields: &mut ByteRecord,
 ) -> Result<bool, AllocError>
     ensures ok { IfOk result (λ found. Takes (without_remarks records.old) (without_remarks records.new) found (fields_of fields.new)) }

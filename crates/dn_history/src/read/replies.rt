@@ -169,9 +169,9 @@ fn reply_by(
     }
 }
 
-/// The next reply.
+/// As `next_reply`, by the fields of the records.
 #[tactic(auto, unfolding(crate::specs::HistoryFile::reply_from))]
-pub(crate) fn next_reply(
+fn read_reply(
     alloc: Global,
     version: HistoryVersion,
     records: &mut NumberedRecords<'_>,
@@ -185,5 +185,22 @@ pub(crate) fn next_reply(
     match records.next(fields) {
         Ok(()) => reply_by(alloc, version, number, records, fields),
         Err(fault) => Err(fault),
+    }
+}
+
+/// The next reply.
+pub(crate) fn next_reply(
+    alloc: Global,
+    version: HistoryVersion,
+    records: &mut NumberedRecords<'_>,
+    fields: &mut ByteRecord,
+) -> Result<Reply, ReplayFault>
+    ensures ok { IfOk result (λ reply. reply_from version records.old ≡ Ok (reply, records.new)) }
+    ensures fewer { IfOk result (λ _. length records.new.records < length records.old.records) }
+    ensures err { IfErr result (λ fault. IsFaultOf (reply_from version records.old) fault) }
+{
+    match records.take_queued() {
+        Some(reply) => Ok(reply),
+        None => read_reply(alloc, version, records, fields),
     }
 }

@@ -1,0 +1,188 @@
+-- The records of a Submit, of an accepted packet and of a delivery, where their lines are written plainly.
+use Rattle.std.proofs.Common.{false, ◌≡◌, ◌∙◌, refl, sym, ap, ℕ, ◌+◌, ◌^◌, ◌<◌, List, [], ◌∷◌, ◌++◌, length, Option, Some, None, Result, Ok, arith, inl, inr}
+use Rattle.std.specs.Prelude.{bytes_eq, codes}
+use Rattle.std.specs.Result.{result_ok}
+use Rattle.std.proofs.lemmas.Bool.{cases_Bool}
+use Rattle.csv.specs.Records.{field_at}
+use Rattle.csv.specs.declared.parser.State.TheVariants as st
+use Rattle.dn_types.specs.declared.call.Call.{Call}
+use Rattle.dn_types.specs.declared.call.Call.TheVariants.{Submit}
+use Rattle.dn_types.specs.declared.delivery.Delivery.{Delivery}
+use Rattle.dn_types.specs.declared.five_tuple.FiveTuple.{FiveTuple}
+use Rattle.dn_types.specs.declared.reply.Reply.{Reply}
+use Rattle.dn_types.specs.declared.reply.Reply.TheVariants.{Queued}
+use Rattle.dn_types.specs.declared.target.Target.{Target}
+use Rattle.dn_text.specs.Addresses.{address_of}
+use Rattle.dn_text.specs.Numbers.{digits, number_within}
+use Rattle.dn_text.specs.Until.{number_until}
+use Rattle.dn_text.proofs.UntilParts.{number_parts}
+use Rattle.dn_records.specs.Reading.{records_after}
+use Rattle.dn_records.specs.Records.{Fields, line_of}
+use Rattle.dn_records.proofs.FirstLine.{line-first}
+use Rattle.dn_files.specs.Fields.{or_place, packet_at, target_at, tuple_at}
+use Rattle.dn_history.specs.PlainRecords.{IsPlain}
+use Rattle.dn_files.proofs.PlainFields.{BeginsFields, BeginsTarget, BeginsTuple, with_commas}
+use Rattle.dn_files.specs.Reading.{◌>>=◌}
+use Rattle.dn_files.proofs.PlainLines.{fields-then, plain-line}
+use Rattle.dn_files.proofs.PlainRows.{digits-plain, number-field}
+use Rattle.dn_history.specs.HistoryFile.{call_of, entry_by, entry_from, reply_by, reply_from}
+use Rattle.dn_history.specs.HistoryItems.{delivery_item}
+use Rattle.dn_history.specs.HistoryRecords.{plain_call, plain_reply, queued_of, submit_of, timed_reply}
+use Rattle.dn_history.specs.PlainRecords.{BeginsCall, BeginsDelivery, BeginsReply, answered}
+use Rattle.dn_history.specs.RecordsLeft.{Rest, item_from, next_record}
+use Rattle.dn_history.specs.Remarks.{is_remark, without_remarks}
+use Rattle.dn_history.specs.declared.history_version.HistoryVersion.{HistoryVersion}
+use Rattle.dn_history.specs.declared.history_version.HistoryVersion.TheVariants.{First, Second, Third}
+
+-- What is read of a field is the same at another place, where there is no fault.
+moved : {A B : Type 0} (p q : ℕ) (o : Option A) (f g : A → Result B ℕ) (v : B) → (or_place p o >>= f) ≡ Ok v → ((x : A) → f x ≡ Ok v → g x ≡ Ok v) → (or_place q o >>= g) ≡ Ok v
+moved p q None f g v e more = cc e
+moved p q (Some x) f g v e more = more x e
+
+target-moves : (a b c kind number : List ℕ) (others : Fields) (target : Target) → target_at 2 (c ∷ kind ∷ number ∷ others) ≡ Ok target
+    → target_at 4 (a ∷ b ∷ c ∷ kind ∷ number ∷ others) ≡ Ok target
+unfolding target_at field_at
+target-moves a b c kind number others target e = elim (cases_Bool (bytes_eq kind (codes "pipe"))) [
+  | inl pipe ↦ let k = rw pipe at e in rw pipe (moved 3 5 (result_ok (number_within 1 65535 number)) _ _ target k (λ n is. is))
+  | inr other ↦ elim (cases_Bool (bytes_eq kind (codes "queue"))) [
+    | inl queue ↦ let k = rw (other, queue) at e in rw (other, queue) (moved 3 5 (result_ok (number_within 1 65535 number)) _ _ target k (λ n is. is))
+    | inr neither ↦ let k = rw (other, neither) at e in cc k
+  ]
+]
+
+tuple-moves : (a b c d f src dst proto sport dport : List ℕ) (others : Fields) (tuple : FiveTuple) → tuple_at 4 (c ∷ d ∷ f ∷ src ∷ dst ∷ proto ∷ sport ∷ dport ∷ others) ≡ Ok tuple
+    → tuple_at 6 (a ∷ b ∷ c ∷ d ∷ f ∷ src ∷ dst ∷ proto ∷ sport ∷ dport ∷ others) ≡ Ok tuple
+unfolding tuple_at field_at
+tuple-moves a b c d f src dst proto sport dport others tuple e =
+    moved 4 6 (address_of src) _ _ tuple e (λ n1 e1. moved 5 7 (address_of dst) _ _ tuple e1 (λ n2 e2. moved 6 8 (result_ok (number_within 0 255 proto)) _ _ tuple e2
+    (λ n3 e3. moved 7 9 (result_ok (number_within 0 65535 sport)) _ _ tuple e3 (λ n4 e4. moved 8 10 (result_ok (number_within 0 65535 dport)) _ _ tuple e4 (λ n5 e5. e5)))))
+
+-- A word and a comma are a field.
+word : (text rest name : List ℕ) → text ≡ name ++ 44 ∷ rest → IsPlain name → BeginsFields text (name ∷ []) rest
+word text rest name stands plain = record { stands = stands; plain = (plain, tt) }
+
+-- The last number of a line.
+ends : (text last rest : List ℕ) (least greatest n : ℕ) (fields : Fields) → BeginsFields text fields last → number_until 10 least greatest last ≡ Some (n, rest)
+    → BeginsFields text fields (digits last ++ 10 ∷ rest)
+ends text last rest least greatest n fields begins is = record { stands = begins.stands ∙ ap (with_commas fields) (number_parts 10 least greatest last n rest is).0; plain = begins.plain }
+
+pub submit_begins : (text t1 t2 t3 t4 t5 t6 t7 rest : List ℕ) (caller len word_is moment : ℕ) (target : Target) (tuple : FiveTuple) → text ≡ codes "c," ++ t1 → number_until 44 0 15 t1 ≡ Some (caller, t2)
+    → t2 ≡ codes "submit," ++ t3 → BeginsTarget t3 target t4 → BeginsTuple t4 tuple t5 → number_until 44 1 65535 t5 ≡ Some (len, t6) → number_until 44 0 4294967295 t6 ≡ Some (word_is, t7)
+    → number_until 10 0 (2 ^ 62) t7 ≡ Some (moment, rest) → BeginsCall text caller (Submit target (record { tuple = tuple; len = len; word = word_is }) moment) rest
+unfolding call_of plain_call submit_of packet_at field_at
+submit_begins text t1 t2 t3 t4 t5 t6 t7 rest caller len word_is moment target tuple e0 e1 e2 at named e3 e4 e5 =
+    let is1 = (number_parts 44 0 15 t1 caller t2 e1).1 in
+    let is3 = (number_parts 44 1 65535 t5 len t6 e3).1 in
+    let is4 = (number_parts 44 0 4294967295 t6 word_is t7 e4).1 in
+    let is5 = (number_parts 10 0 (2 ^ 62) t7 moment rest e5).1 in
+    let numbers : Fields = digits t5 ∷ digits t6 ∷ digits t7 ∷ [] in
+    let middle : Fields = digits t1 ∷ codes "submit" ∷ at.kind ∷ at.number ∷ named.src ∷ named.dst ∷ named.proto ∷ named.sport ∷ named.dport ∷ digits t5 ∷ digits t6 ∷ [] in
+    let all : BeginsFields text (codes "c" ∷ middle) t7 =
+    fields-then text (codes "c" ∷ []) _ t1 t7 (word text t1 (codes "c") e0 refl) (fields-then t1 (digits t1 ∷ []) _ t2 t7 (number-field t1 t2 0 15 caller e1)
+    (fields-then t2 (codes "submit" ∷ []) _ t3 t7 (word t2 t3 (codes "submit") e2 refl) (fields-then t3 (at.kind ∷ at.number ∷ []) _ t4 t7 at.fields
+    (fields-then t4 (named.src ∷ named.dst ∷ named.proto ∷ named.sport ∷ named.dport ∷ []) _ t5 t7 named.fields
+    (fields-then t5 (digits t5 ∷ []) _ t6 t7 (number-field t5 t6 1 65535 len e3) (number-field t6 t7 0 4294967295 word_is e4)))))) in
+    let target_is = target-moves (codes "c") (digits t1) (codes "submit") at.kind at.number (named.src ∷ named.dst ∷ named.proto ∷ named.sport ∷ named.dport ∷ numbers) target
+    (at.says (codes "submit") (named.src ∷ named.dst ∷ named.proto ∷ named.sport ∷ named.dport ∷ numbers)) in
+    let tuple_is = tuple-moves (codes "c") (digits t1) (codes "submit") at.kind at.number named.src named.dst named.proto named.sport named.dport numbers tuple
+    (named.says (codes "submit") at.kind at.number numbers) in
+    record {
+      others = digits t1 ∷ codes "submit" ∷ at.kind ∷ at.number ∷ named.src ∷ named.dst ∷ named.proto ∷ named.sport ∷ named.dport ∷ numbers;
+      stands = plain-line text (codes "c") middle (digits t7) rest (ends text t7 rest 0 (2 ^ 62) moment (codes "c" ∷ middle) all e5) (digits-plain t7);
+      says_caller = rw is1 refl;
+      says_call = λ version number. rw (target_is, tuple_is, is3, is4, is5) refl;
+    }
+
+pub queued_begins : (text t1 t2 t3 rest : List ℕ) (at flow packet : ℕ) → text ≡ codes "r,queued," ++ t1 → number_until 44 0 18446744073709551615 t1 ≡ Some (at, t2)
+    → number_until 44 0 18446744073709551615 t2 ≡ Some (flow, t3) → number_until 10 0 18446744073709551615 t3 ≡ Some (packet, rest) → BeginsReply text (Queued at flow packet) rest
+unfolding reply_by plain_reply timed_reply queued_of field_at
+queued_begins text t1 t2 t3 rest at flow packet e0 e1 e2 e3 =
+    let is1 = (number_parts 44 0 18446744073709551615 t1 at t2 e1).1 in
+    let is2 = (number_parts 44 0 18446744073709551615 t2 flow t3 e2).1 in
+    let is3 = (number_parts 10 0 18446744073709551615 t3 packet rest e3).1 in
+    let middle : Fields = codes "queued" ∷ digits t1 ∷ digits t2 ∷ [] in
+    let names : BeginsFields text (codes "r" ∷ codes "queued" ∷ []) t1 = record { stands = e0; plain = (refl, (refl, tt)) } in
+    let all : BeginsFields text (codes "r" ∷ middle) t3 =
+    fields-then text (codes "r" ∷ codes "queued" ∷ []) _ t1 t3 names (fields-then t1 (digits t1 ∷ []) _ t2 t3 (number-field t1 t2 0 18446744073709551615 at e1)
+    (number-field t2 t3 0 18446744073709551615 flow e2)) in
+    record {
+      others = codes "queued" ∷ digits t1 ∷ digits t2 ∷ digits t3 ∷ [];
+      stands = plain-line text (codes "r") middle (digits t3) rest (ends text t3 rest 0 18446744073709551615 packet (codes "r" ∷ middle) all e3) (digits-plain t3);
+      says = says is1 is2 is3;
+    }
+  where
+    says : number_within 0 18446744073709551615 (digits t1) ≡ Ok at → number_within 0 18446744073709551615 (digits t2) ≡ Ok flow → number_within 0 18446744073709551615 (digits t3) ≡ Ok packet
+        → (version : HistoryVersion) (number : ℕ) (left : Rest) → reply_by version number (codes "r" ∷ codes "queued" ∷ digits t1 ∷ digits t2 ∷ digits t3 ∷ []) left ≡ Ok (Queued at flow packet, left)
+    says is1 is2 is3 First number left = rw (is1, is2, is3) refl
+    says is1 is2 is3 Second number left = rw (is1, is2, is3) refl
+    says is1 is2 is3 Third number left = rw (is1, is2, is3) refl
+
+pub delivery_begins : (text t1 t2 t3 t4 rest : List ℕ) (packet flow start due : ℕ) → text ≡ codes "d," ++ t1 → number_until 44 0 18446744073709551615 t1 ≡ Some (packet, t2)
+    → number_until 44 0 18446744073709551615 t2 ≡ Some (flow, t3) → number_until 44 0 18446744073709551615 t3 ≡ Some (start, t4) → number_until 10 0 18446744073709551615 t4 ≡ Some (due, rest)
+    → BeginsDelivery text (record { due = due; packet = packet; flow = flow; start = start }) rest
+unfolding delivery_item field_at
+delivery_begins text t1 t2 t3 t4 rest packet flow start due e0 e1 e2 e3 e4 =
+    let is1 = (number_parts 44 0 18446744073709551615 t1 packet t2 e1).1 in
+    let is2 = (number_parts 44 0 18446744073709551615 t2 flow t3 e2).1 in
+    let is3 = (number_parts 44 0 18446744073709551615 t3 start t4 e3).1 in
+    let is4 = (number_parts 10 0 18446744073709551615 t4 due rest e4).1 in
+    let middle : Fields = digits t1 ∷ digits t2 ∷ digits t3 ∷ [] in
+    let all : BeginsFields text (codes "d" ∷ middle) t4 =
+    fields-then text (codes "d" ∷ []) _ t1 t4 (word text t1 (codes "d") e0 refl) (fields-then t1 (digits t1 ∷ []) _ t2 t4 (number-field t1 t2 0 18446744073709551615 packet e1)
+    (fields-then t2 (digits t2 ∷ []) _ t3 t4 (number-field t2 t3 0 18446744073709551615 flow e2) (number-field t3 t4 0 18446744073709551615 start e3))) in
+    record {
+      others = digits t1 ∷ digits t2 ∷ digits t3 ∷ digits t4 ∷ [];
+      stands = plain-line text (codes "d") middle (digits t4) rest (ends text t4 rest 0 18446744073709551615 due (codes "d" ∷ middle) all e4) (digits-plain t4);
+      says = rw (is1, is2, is3, is4) refl;
+    }
+
+-- The records of a text that begins with the line of a record.
+module _ (records new : List Fields) (text rest field : List ℕ) (others : Fields) (is : records ≡ records_after st.StartRecord text)
+    (stands : text ≡ line_of (field ∷ others) ++ rest) (goes : new ≡ records_after st.StartRecord rest) where
+  pub one-record : records ≡ (field ∷ others) ∷ new
+  one-record = is ∙ ap (records_after st.StartRecord) stands ∙ line-first field others rest ∙ ap (λ (t : List Fields). (field ∷ others) ∷ t) (sym goes)
+
+  pub one-counted : length records ≡ length new + 1
+  one-counted = rw one-record (omega arith)
+
+  pub one-unremarked : is_remark (field ∷ others) ≡ false → without_remarks records ≡ (field ∷ others) ∷ without_remarks new
+  one-unremarked plain = ap without_remarks one-record ∙ rw plain refl
+
+  pub one-fewer : is_remark (field ∷ others) ≡ false → length (without_remarks new) < length (without_remarks records)
+  one-fewer plain = rw (one-unremarked plain) (omega arith)
+
+-- A record with one of these names is no remark.
+pub call-unremarked : (others : Fields) → is_remark (codes "c" ∷ others) ≡ false
+unfolding field_at
+call-unremarked others = refl
+
+pub reply-unremarked : (others : Fields) → is_remark (codes "r" ∷ others) ≡ false
+unfolding field_at
+reply-unremarked others = refl
+
+pub delivery-unremarked : (others : Fields) → is_remark (codes "d" ∷ others) ≡ false
+unfolding field_at
+delivery-unremarked others = refl
+
+-- What is read of the records that are left, where the first is that of a call, of a reply, or of a delivery.
+pub call-taken : (records new : List Fields) (text rest : List ℕ) (caller : ℕ) (call : Call) → records ≡ records_after st.StartRecord text → BeginsCall text caller call rest
+    → new ≡ records_after st.StartRecord rest → (number count : ℕ) (version : HistoryVersion)
+    → entry_from version count (record { number = number; records = without_remarks records }) ≡ answered version caller call (record { number = number + 1; records = without_remarks new })
+unfolding entry_from entry_by next_record field_at
+call-taken records new text rest caller call is asked goes number count version =
+    rw (one-unremarked records new text rest (codes "c") asked.others is asked.stands goes (call-unremarked asked.others)) (rw (asked.says_caller, asked.says_call version number) refl)
+
+pub reply-taken : (records new : List Fields) (text rest : List ℕ) (reply : Reply) → records ≡ records_after st.StartRecord text → BeginsReply text reply rest
+    → new ≡ records_after st.StartRecord rest → (number : ℕ) (version : HistoryVersion)
+    → reply_from version (record { number = number; records = without_remarks records }) ≡ Ok (reply, record { number = number + 1; records = without_remarks new })
+unfolding reply_from next_record
+reply-taken records new text rest reply is answers goes number version =
+    rw (one-unremarked records new text rest (codes "r") answers.others is answers.stands goes (reply-unremarked answers.others))
+    (rw (answers.says version number (record { number = number + 1; records = without_remarks new })) refl)
+
+pub delivery-taken : (records new : List Fields) (text rest : List ℕ) (delivery : Delivery) → records ≡ records_after st.StartRecord text → BeginsDelivery text delivery rest
+    → new ≡ records_after st.StartRecord rest → (number : ℕ)
+    → item_from delivery_item (record { number = number; records = without_remarks records }) ≡ Ok (delivery, record { number = number + 1; records = without_remarks new })
+unfolding item_from next_record
+delivery-taken records new text rest delivery is listed goes number =
+    rw (one-unremarked records new text rest (codes "d") listed.others is listed.stands goes (delivery-unremarked listed.others)) (rw listed.says refl)

@@ -1,0 +1,12 @@
+use Rattle.std.proofs.Common.{◌∙◌, ◌-◌, ap, length}
+use Rattle.std.proofs.lemmas.List.{take_rest}
+use Rattle.dn_records.specs.Records.{records_of}
+use Rattle.dn_records.proofs.FirstLine.{behind-feed}
+use Rattle.dn_history.proofs.PlainRecords.{rest-is}
+use Rattle.dn_history.proofs.read.line_records.LineRecords.go_on.Goals as goal
+
+pub returns : goal.returns
+returns c =
+    let text = c.args.text.now in
+    let rest = c.args.rest.now in
+    rw (take_rest text (length text - length rest - 1)) (ap records_of (rest-is text rest c.requires) ∙ behind-feed rest)

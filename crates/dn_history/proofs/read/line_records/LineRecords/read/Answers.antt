@@ -1,0 +1,16 @@
+use Rattle.std.proofs.Common.{true}
+use Rattle.csv.specs.Records.{fields_of}
+use Rattle.dn_records.proofs.RecordSteps.{shorter}
+use Rattle.dn_history.proofs.PlainRecords.{behind-record, takes-line}
+use Rattle.dn_history.proofs.read.line_records.LineRecords.read.Goals as goal
+
+pub go_on-requires : goal.go_on-requires
+go_on-requires c = behind-record c.in-Some.text.now (fields_of c.read_plain_line.new.fields) c.in-Ok-Some.rest.now (rw c.in-Ok-Some.field-0-is at c.in-Ok-Some.ensures)
+
+pub returns-in-Ok-Some-clause-ok : goal.returns-in-Ok-Some-clause-ok
+returns-in-Ok-Some-clause-ok c =
+    takes-line c.args.self.now c.go_on.new.self c.in-Some.text.now (fields_of c.read_plain_line.new.fields) c.in-Ok-Some.rest.now c.in-Some.ensures
+    (rw c.in-Ok-Some.field-0-is at c.in-Ok-Some.ensures) c.go_on.ensures
+
+pub returns-in-Ok-Some-clause-shorter : goal.returns-in-Ok-Some-clause-shorter
+returns-in-Ok-Some-clause-shorter c = shorter c.args.self.now c.go_on.new.self true (fields_of c.read_plain_line.new.fields) (returns-in-Ok-Some-clause-ok c)

@@ -1,0 +1,26 @@
+use Rattle.std.proofs.Common.{arith, ◌∷◌}
+use Rattle.std.specs.Prelude.{codes}
+use Rattle.dn_history.proofs.PlainForms.{call-taken, call-unremarked, one-counted, one-fewer}
+use Rattle.dn_history.proofs.PlainRecords.{behind-line}
+use Rattle.dn_history.proofs.read.numbered_records.NumberedRecords.take_submit.Goals as goal
+
+pub go_on-requires : goal.go_on-requires
+go_on-requires c = behind-line c.in_ok-text.text.now c.in-Some.rest.now (codes "c" ∷ c.in-Some.ensures.others) c.in-Some.ensures.stands
+
+pub overflow_add-self : goal.overflow_add-self
+overflow_add-self c =
+    let count = one-counted c.self.inside.records c.go_on.new.self c.in_ok-text.text.now c.in-Some.rest.now (codes "c") c.in-Some.ensures.others c.in_ok-text.ensures c.in-Some.ensures.stands c.go_on.ensures in
+    omega (arith, count, c.self.invariant)
+
+pub invariant_of-self : goal.invariant_of-self
+invariant_of-self c =
+    let count = one-counted c.self.inside.records c.go_on.new.self c.in_ok-text.text.now c.in-Some.rest.now (codes "c") c.in-Some.ensures.others c.in_ok-text.ensures c.in-Some.ensures.stands c.go_on.ensures in
+    omega (arith, count, c.self.invariant)
+
+pub returns-clause-call : goal.returns-clause-call
+returns-clause-call c =
+    rw (← c.self.view_is) (λ version count. call-taken c.self.inside.records c.go_on.new.self c.in_ok-text.text.now c.in-Some.rest.now c.in-Some.caller c.in-Some.call c.in_ok-text.ensures c.in-Some.ensures c.go_on.ensures c.self.inside.number count version)
+
+pub returns-clause-fewer : goal.returns-clause-fewer
+returns-clause-fewer c =
+    rw (← c.self.view_is) (one-fewer c.self.inside.records c.go_on.new.self c.in_ok-text.text.now c.in-Some.rest.now (codes "c") c.in-Some.ensures.others c.in_ok-text.ensures c.in-Some.ensures.stands c.go_on.ensures (call-unremarked c.in-Some.ensures.others))

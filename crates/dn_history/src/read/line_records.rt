@@ -1,0 +1,133 @@
+ghost use Rattle.std.specs.Prelude.{◌≡◌, ◌<◌, true, [], length, IfOk, IfSome, OnErr};
+ghost use Rattle.csv.specs.Records.{fields_of};
+ghost use Rattle.csv.specs.declared.parser.State.TheVariants as st;
+ghost use Rattle.dn_records.specs.Reading.{records_after};
+ghost use Rattle.dn_records.specs.Records.{Takes, records_of};
+ghost use Rattle.dn_history.specs.PlainRecords.{StandsBehindLine};
+
+use crate::read::plain_line::read_plain_line;
+use csv::ByteRecord;
+use dn_records::RecordReader;
+use std::alloc::{AllocError, Global};
+use std::marker::Model;
+
+/// Where the first line of a text begins: behind a line feed at its front, or at its front. None where it
+/// is empty, or a byte order mark may stand there.
+fn line_start(text: &[u8]) -> Option<&[u8]>
+    ensures { IfSome result (λ lines. records_of text.now ≡ records_after st.StartRecord lines.now) }
+{
+    let [first, rest @ ..] = text else {
+        return None;
+    };
+    if *first == b'\n' {
+        return Some(rest);
+    }
+    if *first == 0xEF {
+        return None;
+    }
+    Some(text)
+}
+
+/// The records of a text that are left. Those whose lines are written plainly are read from their bytes,
+/// and from the first other line on csv's reader reads them.
+#[derive(Drop)]
+pub(crate) struct LineRecords<'a> {
+    alloc: Global,
+    // Whether all lines that were read are plain.
+    plain: bool,
+    // Then, what is left of the text, with the line feed before it: a byte order mark would be passed over
+    // at the front of a text, and behind a line feed it isn't.
+    text: &'a [u8],
+    // Else the records that are left.
+    rest: RecordReader<'a>,
+}
+
+impl<'a> Model for LineRecords<'a> {
+    ghost use Rattle.std.specs.Prelude.{List};
+    ghost use Rattle.dn_records.specs.Records.{Fields};
+    ghost use Rattle.dn_history.specs.PlainRecords.{records_ahead};
+
+    ghost Value = { List Fields };
+
+    ghost view = { λ s. records_ahead s.plain s.text.now s.rest };
+}
+
+impl<'a> LineRecords<'a> {
+    /// The records of a text, from the first on.
+    pub(crate) fn new(alloc: Global, text: &'a [u8]) -> LineRecords<'a>
+        ensures { result ≡ records_of text.now }
+    {
+        LineRecords {
+            alloc,
+            plain: true,
+            text,
+            rest: RecordReader::new(alloc, &[]),
+        }
+    }
+
+    /// The text that is left, where all lines before it are plain.
+    pub(crate) fn lines(&self) -> Option<&'a [u8]>
+        ensures { IfSome result (λ lines. self.now ≡ records_after st.StartRecord lines.now) }
+    {
+        if !self.plain {
+            return None;
+        }
+        line_start(self.text)
+    }
+
+    /// Leaves of a text what stands behind a line of it.
+    pub(crate) fn go_on(&mut self, text: &'a [u8], rest: &'a [u8])
+        requires { StandsBehindLine text.now rest.now }
+        ensures { self.new ≡ records_after st.StartRecord rest.now }
+    {
+        self.plain = true;
+        self.text = &text[text.len() - rest.len() - 1..];
+    }
+
+    // Leaves no record.
+    fn end(&mut self)
+        ensures { self.new ≡ [] }
+    {
+        self.plain = true;
+        self.text = &[];
+    }
+
+    // As `read`, by csv's reader, which reads from then on.
+    fn read_by_csv(&mut self, fields: &mut ByteRecord) -> Result<bool, AllocError>
+        ensures ok { IfOk result (λ found. Takes self.old self.new found (fields_of fields.new)) }
+        ensures shorter { IfOk result (λ found. found ≡ true → length self.new < length self.old) }
+        ensures err { OnErr result (self.new ≡ []) }
+    {
+        if !self.plain {
+            return self.rest.read(fields);
+        }
+        let mut rest = RecordReader::new(self.alloc, self.text);
+        let outcome = rest.read(fields);
+        self.plain = false;
+        self.rest = rest;
+        outcome
+    }
+
+    /// Reads the next record into `fields`, and answers whether there was one. After an error no record is
+    /// left.
+    pub(crate) fn read(&mut self, fields: &mut ByteRecord) -> Result<bool, AllocError>
+        ensures ok { IfOk result (λ found. Takes self.old self.new found (fields_of fields.new)) }
+        ensures shorter { IfOk result (λ found. found ≡ true → length self.new < length self.old) }
+        ensures err { OnErr result (self.new ≡ []) }
+    {
+        let Some(text) = self.lines() else {
+            return self.read_by_csv(fields);
+        };
+        match read_plain_line(text, fields) {
+            Ok(Some(rest)) => {
+                self.go_on(text, rest);
+                Ok(true)
+            }
+            Ok(None) => self.read_by_csv(fields),
+            Err(error) => {
+                self.end();
+                Err(error)
+            }
+        }
+    }
+}
