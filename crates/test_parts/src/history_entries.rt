@@ -58,6 +58,37 @@ fn a_bad_record_is_told_from_then_on(rt: HostRuntime) -> Result<(), Fail> {
     Ok(())
 }
 
+// The lines up to a quote are plain, and behind it a carriage return and an empty line stand.
+#[test]
+fn plain_lines_and_others_are_read_alike(rt: HostRuntime) -> Result<(), Fail> {
+    let text =
+        b"dummynet-history,3\nc,1,submit,queue,7,10.0.0.1,10.0.0.2,17,1,2,64,5,9\nr,queued,9,0,0\nc,2,\"advance\",9\r\n\nr,advanced,9\nend,2\n";
+    let (rule, answers, given) = read(rt.alloc(), text)?;
+    assert!(rt; rule == Rule::Ordered && given == 2);
+    assert!(rt; answers == [Ok(Some(1)), Ok(Some(2)), Ok(None), Ok(None)]);
+    Ok(())
+}
+
+#[test]
+fn a_byte_order_mark_is_passed_over_at_the_front(rt: HostRuntime) -> Result<(), Fail> {
+    let text = b"\xEF\xBB\xBFdummynet-history,3\nc,1,show\nr,exhausted\nend,1\n";
+    let (rule, answers, given) = read(rt.alloc(), text)?;
+    assert!(rt; rule == Rule::Ordered && given == 1);
+    assert!(rt; answers == [Ok(Some(1)), Ok(None), Ok(None), Ok(None)]);
+    Ok(())
+}
+
+// Behind a line feed a byte order mark belongs to its record.
+#[test]
+fn a_byte_order_mark_within_a_file_is_bad(rt: HostRuntime) -> Result<(), Fail> {
+    let text = b"dummynet-history,3\n\xEF\xBB\xBFc,1,show\nr,exhausted\nend,1\n";
+    let fault = Err(ReplayFault::BadRecord(2));
+    let (rule, answers, given) = read(rt.alloc(), text)?;
+    assert!(rt; rule == Rule::Ordered && given == 0);
+    assert!(rt; answers == [fault, fault, fault, fault]);
+    Ok(())
+}
+
 #[test]
 fn a_history_file_has_a_greatest_length(rt: HostRuntime) {
     assert!(rt; HISTORY_LIMIT == 268_435_456);
