@@ -40,6 +40,7 @@ CONTROLS = {
     "dn_link/without_the_value_of_a_bandwidth": [("ensures in_range", "ensures value { result ≡ self } ensures in_range")],
     "dn_flows/limit_before_loss": [("&& !self.is_full(&rule.limit)", "&& self.len == self.len")],
     "dn_flows/answers_the_flow_before": [("saturating_sub(1)", "saturating_sub(0)")],
+    "dn_service/a_packet_recorded_twice": [("pages.history.push_reserved(", "drop(")],
     "dn_service/always_busy": [("number < 16", "number >= 16")],
     "dn_service/front_forgets": [("pages.history.clear();", "let _ = pages.history.len();")],
     "dn_service/hands_out_from_one": [("callers.remove(0);", "let _ = callers.len();")],
