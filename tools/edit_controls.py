@@ -51,6 +51,7 @@ CONTROLS = {
         ("ghost use Rattle.dn_types.specs.Clock", "ghost use Rattle.dn_types.specs.Replies.{reply}; ghost use Rattle.dn_types.specs.Clock"),
         ("ensures err {", "ensures ok { IfOk result (λ r. (rule : RuleValue) (calls : List CallValue) → StandsAfter rule self.old calls"
          " → (r ≡ reply rule calls call.now) × StandsAfter rule self.new (call.now ∷ calls)) } ensures err {")],
+    "dn_shaper/collects_by_submission": [("given.sort_unstable_by_key(|delivery| delivery.packet);", "given.reverse(); given.reverse();")],
     "dn_shaper/without_what_is_due": [
         ("Line.{after_due}", "Line.{after_due, due_first}"),
         ("ensures pending {", "ensures value { result ≡ due_first at self.old.pending } ensures pending {")],
