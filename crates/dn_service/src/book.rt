@@ -57,19 +57,19 @@ impl Book {
 
     /// Applies a caller's call to the shaper, and notes it with its reply. All room is taken before the shaper is touched,
     /// so that a refusal of memory leaves no trace.
-    pub(crate) fn apply(&mut self, caller: usize, call: Call) -> Result<Reply, AllocError>
-        ensures ok { IfOk result (λ reply. self.new ≡ self.old ++ entry_of caller call reply ∷ []) }
+    pub(crate) fn apply(&mut self, caller: usize, call: &Call) -> Result<Reply, AllocError>
+        ensures ok { IfOk result (λ reply. self.new ≡ self.old ++ entry_of caller call.now reply ∷ []) }
         ensures lawful { IsLawful Ordered self.new }
         ensures err { OnErr result (self.new ≡ self.old) }
     {
         let pages = &mut *self.pages;
         pages.history.reserve(1)?;
-        pages.room.reserve(&call, pages.shaper.reply_room())?;
-        let reply = pages.shaper.apply(&call)?;
+        pages.room.reserve(call, pages.shaper.reply_room())?;
+        let reply = pages.shaper.apply(call)?;
         let copy = pages.room.copy_of(*pages.history.allocator(), &reply);
         pages.history.push_reserved(Entry {
             caller,
-            call,
+            call: *call,
             reply: copy,
         });
         Ok(reply)

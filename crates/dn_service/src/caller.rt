@@ -84,6 +84,15 @@ impl Caller {
         ensures err { OnErr result (self.new ≡ self.old) }
         ensures busy { IfErr result (λ fault. NamesAnother self.old fault) }
     {
+        self.try_once(&call)
+    }
+
+    fn try_once(&mut self, call: &Call) -> Result<Reply, TryFault>
+        ensures ok { IfOk result (λ reply. Answered self.old call.now reply self.new) }
+        ensures same_caller { IsSameCaller self.old self.new }
+        ensures err { OnErr result (self.new ≡ self.old) }
+        ensures busy { IfErr result (λ fault. NamesAnother self.old fault) }
+    {
         let number = self.number;
         let table: &BookTable = &self.table;
         let mut book = match enter(table, &mut self.seat, number) {
@@ -118,7 +127,7 @@ impl Caller {
         ensures err { OnErr result (self.new ≡ self.old) }
     {
         for _ in rt.forever() {
-            match self.try_call(*call) {
+            match self.try_once(call) {
                 Ok(reply) => return Ok(reply),
                 Err(TryFault::OutOfMemory) => return Err(AllocError),
                 Err(TryFault::Busy(_)) => thread::yield_now(),

@@ -25,7 +25,7 @@ copy_of-copy-requires-clause-room c =
     let d : ℕ = vec_capacity c.reserve-2.new.self.deliveries in
     let s : ℕ = vec_capacity c.reserve-2.new.self.statuses in
     subst (FitsRoom d s) (sym (c.in_ok-reply.ensures.ok Ordered calls kept.1).0)
-    (room_for Ordered calls c.args.call c.reply_room.result d s (c.reply_room.ensures.room Ordered calls kept.1 c.args.call) c.in_ok-reserve-2.ensures.room)
+    (room_for Ordered calls c.args.call.now c.reply_room.result d s (c.reply_room.ensures.room Ordered calls kept.1 c.args.call.now) c.in_ok-reserve-2.ensures.room)
 
 -- with the new entry the history is lawful, and the shaper stands after its calls
 pub invariant_of-self-2 : goal.invariant_of-self-2
@@ -33,7 +33,7 @@ invariant_of-self-2 c =
     let pages : Pages = c.deref_mut-pages.result.now in
     let kept : Keeps pages = subst Keeps (sym c.deref_mut-pages.ensures.value) c.self.invariant in
     let was : List Entry = pages.history.items in
-    let e : Entry = entry_of c.args.caller c.args.call c.in_ok-reply.reply in
+    let e : Entry = entry_of c.args.caller c.args.call.now c.in_ok-reply.reply in
     let now : c.push_reserved.new.self.items ≡ was ++ e ∷ [] = noted _ _ _ _ _ _ _ c.push_reserved.ensures.items c.reserve.ensures.items c.copy_of-copy.ensures in
     let told = c.in_ok-reply.ensures.ok Ordered (calls_of was) kept.1 in (
       subst (IsLawful Ordered) (sym now) (lawful-more Ordered was e kept.0 told.0),
@@ -45,7 +45,7 @@ returns-clause-lawful c =
     let pages : Pages = c.deref_mut-pages.result.now in
     let kept : Keeps pages = subst Keeps (sym c.deref_mut-pages.ensures.value) c.self.invariant in
     let was : List Entry = pages.history.items in
-    let e : Entry = entry_of c.args.caller c.args.call c.in_ok-reply.reply in
+    let e : Entry = entry_of c.args.caller c.args.call.now c.in_ok-reply.reply in
     let now : c.push_reserved.new.self.items ≡ was ++ e ∷ [] = noted _ _ _ _ _ _ _ c.push_reserved.ensures.items c.reserve.ensures.items c.copy_of-copy.ensures in
     subst (IsLawful Ordered) (sym now) (lawful-more Ordered was e kept.0 (c.in_ok-reply.ensures.ok Ordered (calls_of was) kept.1).0)
 
