@@ -42,9 +42,19 @@ fn settle_one(
     true
 }
 
-/// Starts all packets that start up to the moment, in order of time. It costs the starts that are
-/// due, and not the links that there are.
-pub fn settle(parts: &mut Parts, heap: &mut RunHeap<NextStart>, configured: &Configured, at: u64)
+/// Whether the first of the links with a backlog is free by the moment.
+#[inline(always)]
+fn is_due(heap: &RunHeap<NextStart>, at: u64) -> bool
+    ensures late { result ≡ false → All (λ k. at < k.moment) heap.now.keys }
+{
+    match heap.peek() {
+        Some(top) => top.moment <= at,
+        None => false,
+    }
+}
+
+/// Starts all packets that start up to the moment, in order of time, where one does.
+fn settle_due(parts: &mut Parts, heap: &mut RunHeap<NextStart>, configured: &Configured, at: u64)
     requires kept { AreInStep parts.old heap.old }
     requires early { at ≤ 2 ^ 62 }
     requires moves { heap.old.moves + parts.old.waiting ≤ 2 ^ 63 }
@@ -53,4 +63,20 @@ pub fn settle(parts: &mut Parts, heap: &mut RunHeap<NextStart>, configured: &Con
     ensures settled { SettlesAll (settings_of configured.now) at parts.old parts.new }
 {
     while settle_one(parts, heap, configured, at) {}
+}
+
+/// Starts all packets that start up to the moment, in order of time. It costs the starts that are
+/// due, and not the links that there are. It is inlined, so that where none is due no call is made.
+#[inline(always)]
+pub fn settle(parts: &mut Parts, heap: &mut RunHeap<NextStart>, configured: &Configured, at: u64)
+    requires kept { AreInStep parts.old heap.old }
+    requires early { at ≤ 2 ^ 62 }
+    requires moves { heap.old.moves + parts.old.waiting ≤ 2 ^ 63 }
+    ensures kept { AreInStep parts.new heap.new }
+    ensures only { OnlyStarts parts.old heap.old parts.new heap.new }
+    ensures settled { SettlesAll (settings_of configured.now) at parts.old parts.new }
+{
+    if is_due(heap, at) {
+        settle_due(parts, heap, configured, at);
+    }
 }

@@ -87,6 +87,7 @@ fn start_one(
 }
 
 /// The next packet of the link at the place is sent at the moment.
+#[inline(always)]
 pub fn start_next(parts: &mut Parts, place: usize, moment: u64, rates: &Rates)
     requires agrees { Agrees parts.old }
     requires within { Within (2 ^ 62) parts.old }

@@ -1,26 +1,13 @@
--- The loop makes the starts of the settling, one by one, until none is due.
-use Rattle.std.proofs.Common.{subst, sym}
-use Rattle.dn_shaper.specs.declared.links.parts.Parts.{Parts}
+-- Where no start is due, all are made already.
 use Rattle.dn_shaper.specs.Refinement.Settings.{settings_of}
-use Rattle.dn_shaper.proofs.Settles.{Reaches}
-use Rattle.dn_shaper.proofs.Settles.{only-none, only-more, reaches-start, reaches-one, reaches-none}
+use Rattle.dn_shaper.proofs.Settles.{none-starts, only-none, reaches-none, reaches-start}
 use Rattle.dn_shaper.proofs.links.settle.settle.Goals as goal
 
-pub loop-init : goal.loop-init
-loop-init c = record { kept = c.requires.kept; only = only-none c.args.parts.now c.args.heap.now; reached = reaches-start (settings_of c.args.configured.now) c.args.at c.args.parts.now }
+pub returns-else-is_due-clause-only : goal.returns-else-is_due-clause-only
+returns-else-is_due-clause-only c = only-none c.args.parts.now c.args.heap.now
 
-pub loop-preserved : goal.loop-preserved
-loop-preserved c = record {
-  kept = c.settle_one.ensures.kept;
-  only = only-more c.args.parts.now c.loop.parts c.settle_one.new.parts c.args.heap.now c.loop.heap c.settle_one.new.heap c.loop.invariant.only c.settle_one.ensures.only;
-  reached = reaches-one (settings_of c.args.configured.now) c.args.at c.args.parts.now c.loop.parts c.settle_one.new.parts c.loop.invariant.reached (c.settle_one.ensures.one c.loop-test.true);
-}
-
-pub returns-clause-only : goal.returns-clause-only
-returns-clause-only c = only-more c.args.parts.now c.loop.parts c.settle_one.new.parts c.args.heap.now c.loop.heap c.settle_one.new.heap c.loop.invariant.only c.settle_one.ensures.only
-
-pub returns-clause-settled : goal.returns-clause-settled
-returns-clause-settled c =
-    reaches-none (settings_of c.args.configured.now) c.args.at c.args.parts.now c.settle_one.new.parts
-    (subst (λ (p : Parts). Reaches (settings_of c.args.configured.now) c.args.at c.args.parts.now p) (sym (c.settle_one.ensures.same c.loop-test.false)) c.loop.invariant.reached)
-    (c.settle_one.ensures.none c.loop-test.false)
+pub returns-else-is_due-clause-settled : goal.returns-else-is_due-clause-settled
+returns-else-is_due-clause-settled c =
+    let settings = settings_of c.args.configured.now in
+    reaches-none settings c.args.at c.args.parts.now c.args.parts.now (reaches-start settings c.args.at c.args.parts.now)
+    (none-starts settings c.requires.kept (c.is_due.ensures.late c.if-is_due.false))

@@ -1,7 +1,7 @@
 use Rattle.dn_shaper.specs.Refinement.Settings.{settings_of}
 use Rattle.dn_shaper.specs.Refinement.Settling.{AreInStep, OnlyStarts}
 use Rattle.dn_shaper.proofs.Settles.{Reaches}
-use Rattle.dn_shaper.proofs.links.settle.settle.Given as goal
+use Rattle.dn_shaper.proofs.links.settle.settle_due.Given as goal
 
 abbrev pub invariant-loop : goal.invariant-loop
 invariant-loop l = record {
