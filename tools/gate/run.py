@@ -83,8 +83,9 @@ def parts(cases: str, seed: int) -> list[Part]:
     python, program = sys.executable, str(MADE)
     refused = "memory_refuses_leaves_no_trace"
     # A list that is refused room for more asks again for just enough, so one refusal is hidden where two in a row aren't.
-    growths = [("test_replay", "memory::"), ("test_live", "memory::"), ("test_shaper", "refused_growths::"), ("test_parts", "scheduler::"),
-               ("test_parts", "heap::"), *[("test_parts", f"{part}::a_refused_growth_changes_nothing") for part in ("link", "flows")],
+    growths = [*[(f"test_{crate}", "memory::") for crate in ("histories", "replay", "callers", "live")],
+               ("test_shaper", "refused_growths::"), ("test_parts", "scheduler::"), ("test_parts", "heap::"),
+               *[("test_parts", f"{part}::a_refused_growth_changes_nothing") for part in ("link", "flows")],
                *[("test_service", f"one_caller::a_{call}_that_{refused}", row) for call in ("call", "try") for row in ("1", "2")]]
     capture = TOP / "tools" / "capture" / "test"
     return [

@@ -2,7 +2,9 @@
 #![tactic(auto)]
 
 mod parts;
+mod room;
 mod sink;
 
 pub use parts::Parts;
+pub use room::with_room;
 pub use sink::{Sink, WhenFull};

@@ -1,28 +1,10 @@
-//! Worked examples of files: replays by one caller and by several, broken input, histories, audits and refused growths.
+//! Worked examples of replays by one caller: reports, faults, broken input, parts of any length and refused growths.
 #![tactic(auto)]
 
 #[cfg(test)]
-mod audit;
-#[cfg(test)]
 mod broken;
 #[cfg(test)]
-mod callers;
-#[cfg(test)]
-mod closed;
-#[cfg(test)]
-mod example;
-#[cfg(test)]
-mod file_audits;
-#[cfg(test)]
-mod gates;
-#[cfg(test)]
 mod headers;
-#[cfg(test)]
-mod histories;
-#[cfg(test)]
-mod history;
-#[cfg(test)]
-mod history_files;
 #[cfg(test)]
 mod memory;
 #[cfg(test)]

@@ -1,8 +1,7 @@
 use crate::headers::{PACKET_HEADER, REPORT_HEADER};
-use crate::histories::NO_BITS;
 use dn_records::{FromReader, FromWriter};
 use dn_replay::{HashKey, ReplayFault, read_config, read_packets, replay, replay_joined};
-use dn_types::{Command, Limit, Loss, Number, Weight};
+use dn_types::{Command, Limit, Loss, Mask, Number, Weight};
 use std::alloc::{AllocError, Global};
 use std::io::Read;
 use std::test::Fail;
@@ -183,7 +182,13 @@ fn queue_of_pipe_three() -> Option<Command> {
         limit: Limit::slots(50)?,
         loss: Loss::new(0)?,
         buckets: None,
-        mask: NO_BITS,
+        mask: Mask {
+            src: 0,
+            dst: 0,
+            proto: 0,
+            sport: 0,
+            dport: 0,
+        },
     })
 }
 

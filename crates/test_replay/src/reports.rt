@@ -1,11 +1,10 @@
 ghost use Rattle.std.specs.Prelude.{◌≡◌};
 
+use crate::headers::REPORT_HEADER;
 use dn_records::FromWriter;
 use dn_replay::write_report;
 use dn_types::{Call, Entry, FiveTuple, Len, Moment, Number, Packet, Reply, Target};
 use std::test::Fail;
-
-const REPORT_HEADER: &str = "event,row,flow,packet,at,start,due\n";
 
 fn submit() -> Option<Call> {
     let tuple = FiveTuple {

@@ -1,6 +1,4 @@
 use crate::gates::{Count, Meeting, OneFirst};
-use crate::headers::{PACKET_HEADER, REPORT_HEADER};
-use crate::replays::replay_files;
 use dn_records::{FromReader, FromWriter};
 use dn_replay::{Gate, HashKey, NoGate, ReplayFault, replay, replay_callers};
 use dn_types::{Call, Entry};
@@ -9,6 +7,8 @@ use std::sync::Wait;
 use std::sync::atomic::{AtomicU64, Ordering};
 use std::test::Fail;
 use std::thread::Threads;
+
+pub const REPORT_HEADER: &str = "event,row,flow,packet,at,start,due\n";
 
 pub const PIPE: &str = "pipe 1 config\n";
 
@@ -50,6 +50,19 @@ pub fn replay_by<G: Gate + Sync, R: Threads + Wait + Sync>(
         &mut out,
         gate,
     )
+}
+
+// The same by one caller, without threads.
+fn replay_alone(
+    written: &mut Vec<u8>,
+    config: &str,
+    packets: &str,
+) -> Result<Vec<Entry>, ReplayFault> {
+    let alloc: Global = *written.allocator();
+    let mut config = FromReader::new(config.as_bytes());
+    let mut packets = FromReader::new(packets.as_bytes());
+    let mut out = FromWriter::new(written);
+    replay(alloc, HashKey(7), &mut config, &mut packets, &mut out)
 }
 
 // Whether a report has a line for each of so many rows that came out.
@@ -132,12 +145,11 @@ fn has_same_fault<R: Threads + Wait + Sync>(
     packets: &str,
 ) -> bool {
     let mut written = Vec::new(alloc);
-    match replay_by(rt, &mut written, 2, config, packets, &NoGate) {
-        Ok(_) => false,
-        Err(fault) => {
-            written.is_empty() && replay_files(alloc, config, packets).answer == Err(fault)
-        }
-    }
+    let mut alone = Vec::new(alloc);
+    let fault = replay_by(rt, &mut written, 2, config, packets, &NoGate).err();
+    fault.is_some()
+        && fault == replay_alone(&mut alone, config, packets).err()
+        && written.is_empty()
 }
 
 // The faults of the inputs are those of a replay by one caller.
@@ -160,12 +172,8 @@ fn has_same_history<R: Threads + Wait + Sync>(
     written: &mut Vec<u8>,
     alone: &mut Vec<u8>,
 ) -> Result<bool, ReplayFault> {
-    let alloc: Global = *alone.allocator();
     let entries = replay_by(rt, written, 1, PIPE, SEVEN_ROWS, &NoGate)?;
-    let mut config = FromReader::new(PIPE.as_bytes());
-    let mut packets = FromReader::new(SEVEN_ROWS.as_bytes());
-    let mut out = FromWriter::new(alone);
-    let history = replay(alloc, HashKey(7), &mut config, &mut packets, &mut out)?;
+    let history = replay_alone(alone, PIPE, SEVEN_ROWS)?;
     Ok(entries.as_slice() == history.as_slice())
 }
 
