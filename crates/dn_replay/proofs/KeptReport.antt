@@ -1,23 +1,19 @@
 -- The report of a run is that of what is kept of it.
-use Rattle.std.proofs.Common.{◌≡◌, ◌∙◌, sym, ap, refl, ℕ, ◌+◌, ◌<◌, ◌≤◌, ◌^◌, max, arith, length, List, [], ◌∷◌, ◌++◌, map, Bool, true, false, cond}
-use Rattle.std.specs.Prelude.{filter, nat_le, nat_lt}
-use Rattle.std.specs.List.{All, count_by}
+use Rattle.std.proofs.Common.{◌≡◌, ◌∙◌, sym, ap, refl, ℕ, ◌<◌, ◌≤◌, ◌^◌, max, arith, length, List, [], ◌∷◌, ◌++◌, map, Bool, true, false, cond}
+use Rattle.std.specs.Prelude.{filter, nat_le}
 use Rattle.std.proofs.lemmas.Bool.Decides.{nat_tests}
 use Rattle.std.proofs.lemmas.List.{append-nil}
 use Rattle.std.proofs.lemmas.List.Elements.{All-filter, All-nil}
-use Rattle.std.proofs.lemmas.List.Sums.{sum_by-cons}
 use Rattle.dn_types.specs.Calls.{trace_of}
 use Rattle.dn_types.specs.Clock.{call_limit, effective_moment}
 use Rattle.dn_types.specs.Configuration.{settings}
 use Rattle.dn_types.specs.Deliveries.{given as given_at, undelivered}
-use Rattle.dn_types.specs.Given.{given_count, is_packet}
 use Rattle.dn_types.specs.Replies.{counted_reply, reply}
 use Rattle.dn_types.specs.Starts.{settled}
-use Rattle.dn_types.specs.Trace.{Event, accepted_count, collected}
+use Rattle.dn_types.specs.Trace.{accepted_count}
 use Rattle.dn_types.specs.declared.call.Call.{Call}
 use Rattle.dn_types.specs.declared.call.Call.TheVariants.{Collect}
 use Rattle.dn_types.specs.declared.delivery.Delivery.{Delivery}
-use Rattle.dn_types.specs.declared.entry.Entry.{Entry}
 use Rattle.dn_types.specs.declared.reply.Reply.TheVariants.{Exhausted}
 use Rattle.dn_types.specs.declared.rule.Rule.TheVariants.{Ordered}
 use Rattle.dn_types.proofs.Dues.{gives-once}
@@ -25,10 +21,9 @@ use Rattle.dn_types.proofs.InTurn.{gives-in-order}
 use Rattle.dn_types.proofs.Ordered.{trace-proper}
 use Rattle.dn_types.proofs.PacketCounts.{undelivered-below}
 use Rattle.dn_records.specs.Records.{text_of}
-use Rattle.dn_replay.specs.Kept.{AreKnown, CanReport, HasKept, accepted_places, delivery_line, fate_lines, kept_lines}
+use Rattle.dn_replay.specs.Kept.{AreKnown, CanReport, delivery_line, fate_lines, kept_lines}
 use Rattle.dn_replay.specs.Report.{delivered, deliveries, is_other, is_out, line_fields, lines_after, outs_in_order, report, report_header, row_number, sorted_by, submit_lines}
 use Rattle.dn_replay.specs.Runs.{entry_after, history_of}
-use Rattle.dn_replay.specs.declared.report.fate.Fate.{Fate}
 use Rattle.dn_replay.specs.declared.report.kept.Kept.{Kept}
 use Rattle.dn_replay.specs.declared.report.report_line.ReportLine.{ReportLine}
 use Rattle.dn_replay.proofs.Deliveries.{deliveries-append}
@@ -41,7 +36,7 @@ nothing-given n given none = rw none (record { numbers = All-nil (λ d. d.packet
 
 -- What a Collect after the calls gives: packets that the calls accepted, each once, in order.
 module _ (calls : List Call) (moment : ℕ) where
-  counted-given : (n : ℕ) → accepted_count (trace_of calls) ≡ n → AreGiven n (given_at Ordered (max (effective_moment calls) moment) (settled (settings calls) (max (effective_moment calls) moment) (trace_of calls)))
+  pub counted-given : (n : ℕ) → accepted_count (trace_of calls) ≡ n → AreGiven n (given_at Ordered (max (effective_moment calls) moment) (settled (settings calls) (max (effective_moment calls) moment) (trace_of calls)))
   counted-given n count =
       let at = max (effective_moment calls) moment in
       let trace = settled (settings calls) (max (effective_moment calls) moment) (trace_of calls) in

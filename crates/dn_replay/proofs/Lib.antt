@@ -4,6 +4,7 @@ pub mod CallerSteps
 pub mod ConfigCuts
 pub mod Deliveries
 pub mod EachCaller
+pub mod FewCalls
 pub mod FileAuditSteps
 pub mod InputSteps
 pub mod KeptCalls
@@ -18,6 +19,8 @@ pub mod OwnFaults
 pub mod PacketNumbers
 pub mod PartSteps
 pub mod PassSteps
+pub mod PassingCalls
+pub mod PassingTraffic
 pub mod ReplaySteps
 pub mod Runs
 pub mod SameReplies

@@ -1,5 +1,5 @@
 -- The numbers of the packets of a run: a packet's is the count of those accepted before it, and each call accepts one or none.
-use Rattle.std.proofs.Common.{◌≡◌, ◌∙◌, ◌≤◌, ◌<◌, ℕ, ◌+◌, max, Bool, true, false, cond, ◌&&◌, List, [], ◌∷◌, refl, sym, ap, length, arith}
+use Rattle.std.proofs.Common.{◌≡◌, ◌∙◌, ◌<◌, ℕ, ◌+◌, max, Bool, true, false, cond, ◌&&◌, List, [], ◌∷◌, refl, ap, length, arith}
 use Rattle.std.specs.Prelude.{nat_le, nat_eq}
 use Rattle.std.proofs.lemmas.Bool.Decides.{nat_tests}
 use Rattle.dn_types.specs.Calls.{Verdict, no_target, loses, refuses, takes, verdict, accept, join, after_verdict, reaches, discard_reached, after_command, trace_of}
@@ -10,15 +10,14 @@ use Rattle.dn_types.specs.Links.{free}
 use Rattle.dn_types.specs.Replies.{counted_reply, reply, reply_to_verdict}
 use Rattle.dn_types.specs.SharedLinks.{waiting, opening}
 use Rattle.dn_types.specs.Starts.{start_at, settled}
-use Rattle.dn_types.specs.Trace.{Link, Accepted, Start, Event, opened, arrived, started, lost, refused, discarded, collected, accepted_count, is_arrival}
+use Rattle.dn_types.specs.Trace.{Link, Accepted, Event, opened, arrived, started, lost, refused, discarded, accepted_count, is_arrival}
 use Rattle.dn_types.specs.declared.call.Call.{Call}
 use Rattle.dn_types.specs.declared.call.Call.TheVariants.{Configure, Submit}
 use Rattle.dn_types.specs.declared.command.Command.{Command}
 use Rattle.dn_types.specs.declared.flow_key.FlowKey.{FlowKey}
 use Rattle.dn_types.specs.declared.packet.Packet.{Packet}
 use Rattle.dn_types.specs.declared.reply.Reply.{Reply}
-use Rattle.dn_types.specs.declared.reply.Reply.TheVariants.{Queued, Lost, Full, NoTarget, Deleted, Exhausted}
-use Rattle.dn_types.specs.declared.rule.Rule.{Rule}
+use Rattle.dn_types.specs.declared.reply.Reply.TheVariants.{Queued, Deleted, Exhausted}
 use Rattle.dn_types.specs.declared.rule.Rule.TheVariants.{Ordered}
 use Rattle.dn_types.specs.declared.target.Target.{Target}
 use Rattle.dn_types.proofs.CallCounts.{settled-count}
@@ -63,7 +62,7 @@ pub configured-accepts : (calls : List Call) (command : Command) → accepted_co
 configured-accepts calls command = command-accepts (reply_to_command calls command) command (keys calls) (trace_of calls)
 
 -- A Submit accepts one where its packet is.
-verdict-accepts : (set : Settings) (at : ℕ) (packet : Packet) (v : Verdict) (trace : List Event)
+pub verdict-accepts : (set : Settings) (at : ℕ) (packet : Packet) (v : Verdict) (trace : List Event)
     → accepted_count (after_verdict set at packet v trace) ≡ accepted_count trace + cond (is_accepted (fate_of (reply_to_verdict at v trace))) 1 0
 verdict-accepts set at packet no_target trace = omega arith
 verdict-accepts set at packet (loses link flow) trace = let same = other-event (lost link flow) trace refl in omega (arith, same)
@@ -74,7 +73,7 @@ verdict-accepts set at packet (takes link flow how) trace =
     let one = joined set at (accept link packet flow how before) before in
     omega (arith, same, one)
 
-counts : (calls : List Call) (c : Call) → length calls < call_limit → reply Ordered calls c ≡ counted_reply Ordered calls c
+pub counts : (calls : List Call) (c : Call) → length calls < call_limit → reply Ordered calls c ≡ counted_reply Ordered calls c
 counts calls c few = let here : nat_le call_limit (length calls) ≡ false = grind (arith, nat_tests) in rw here refl
 
 pub submitted-accepts : (calls : List Call) (target : Target) (packet : Packet) (moment : ℕ) → length calls < call_limit

@@ -6,6 +6,7 @@ pub mod FileAudit
 pub mod Kept
 pub mod OnePass
 pub mod Parts
+pub mod Passing
 pub mod Replays
 pub mod Report
 pub mod Runs

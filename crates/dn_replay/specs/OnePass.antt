@@ -1,8 +1,10 @@
 -- A replay in one pass: what has been made and kept of an input whose parts have come so far.
-use Rattle.std.specs.Prelude.{◌≡◌, ◌==◌, ◌||◌, ◌++◌, bytes_eq, codes, ℕ, Bool, true, false, List, [], ◌∷◌, Option, Some, None, Result, Ok, All}
+use Rattle.std.specs.Prelude.{◌≡◌, ◌==◌, ◌||◌, ◌++◌, ◌<◌, ◌≤◌, ◌*◌, ◌^◌, bytes_eq, codes, length, ℕ, Bool, true, false, List, [], Option, None, Result, Ok, IfOk, All}
 use Rattle.std.specs.Io.KnownBytes.{Appends}
+use Rattle.dn_types.specs.Clock.{call_limit}
 use Rattle.dn_types.specs.History.{IsLawful}
 use Rattle.dn_types.specs.declared.call.Call.{Call}
+use Rattle.dn_types.specs.declared.delivery.Delivery.{Delivery}
 use Rattle.dn_types.specs.declared.rule.Rule.TheVariants.{Ordered}
 use Rattle.dn_shaper.specs.Shaper.{StandsAfter}
 use Rattle.dn_shaper.specs.declared.state.State.{State}
@@ -13,8 +15,8 @@ use Rattle.dn_files.specs.Reading.{◌>>=◌, IsFaultOf}
 use Rattle.dn_files.specs.declared.replay_fault.ReplayFault.{ReplayFault}
 use Rattle.dn_files.specs.declared.row.Row.{Row}
 use Rattle.dn_files.specs.declared.source.Source.{Source}
-use Rattle.dn_replay.specs.Configuring.{configured_by}
 use Rattle.dn_replay.specs.Kept.{HasKept}
+use Rattle.dn_replay.specs.Passing.{HasPassed}
 use Rattle.dn_replay.specs.Replays.{calls_of_parts}
 use Rattle.dn_replay.specs.Report.{report}
 use Rattle.dn_replay.specs.Runs.{HasMade, history_of, replayed, submitted}
@@ -37,21 +39,31 @@ NoneFailed what = what ≡ None
 abbrev pub calls_with : List Call → List ℕ → Result (List Call) ReplayFault
 calls_with calls text = rows_of text >>= λ rows. Ok (replayed calls rows)
 
--- A shaper was asked these calls, and what a report needs of its answers is kept.
-abbrev pub HasNoted : State → Kept → List Call → Type 0
-HasNoted shaper kept calls = StandsAfter Ordered shaper calls × HasKept kept calls
+-- Where calls are asked for, they are so few that all count, also with as many Collects in passing.
+abbrev pub AreFew : Result (List Call) ReplayFault → Type 0
+AreFew asked = IfOk asked (λ calls. length calls < 2 ^ 61)
+
+-- A shaper was asked these calls and Collects in passing, which are no more than the calls. As long as all count, what a report needs
+-- of its answers to the calls is kept, and so is what the Collects gave.
+pub record HasNoted (shaper : State) (kept : Kept) (given : List Delivery) (calls : List Call) : Type 0 where
+  pub made : List Call
+  pub stands : StandsAfter Ordered shaper made
+  pub few : length made ≤ 2 * length calls
+  pub passed : length made ≤ call_limit → HasPassed made calls given
+  pub kept_is : length made ≤ call_limit → HasKept kept calls
 
 -- A pass has made no call and read nothing.
 pub record IsFresh (pass : Pass) : Type 0 where
   pub made : HasMade pass.run []
   pub kept : HasKept pass.kept []
+  pub given : pass.given.items ≡ []
   pub read : HasRead pass.reader [] []
 
 -- A pass has made these calls and, of the packets' text that has come so far, the Submits of the rows that it took.
 pub record HasFed (pass : Pass) (calls : List Call) (text : List ℕ) : Type 0 where
   pub rows : List Row
   pub read : HasRead pass.reader text rows
-  pub noted : HasNoted pass.run.shaper pass.kept (submitted calls rows)
+  pub noted : HasNoted pass.run.shaper pass.kept pass.given.items (submitted calls rows)
 
 -- A line that a line feed makes the line `--`.
 abbrev pub is_mark : List ℕ → Bool

@@ -4,7 +4,7 @@ ghost use Rattle.dn_files.specs.PacketFile.{packet_limit};
 ghost use Rattle.dn_files.specs.Reading.{IsFaultOf, IsRefusal, IsTextOf, within_limit};
 ghost use Rattle.dn_files.specs.declared.replay_fault.ReplayFault.{ReplayFault as FaultValue};
 ghost use Rattle.dn_replay.specs.Configuring.{configured_by};
-ghost use Rattle.dn_replay.specs.OnePass.{HasTaken, HasTakenAll, IsCutAt, IsFresh, IsReportedFor, IsUnbegun, NoneFailed, calls_with};
+ghost use Rattle.dn_replay.specs.OnePass.{AreFew, HasTaken, HasTakenAll, IsCutAt, IsFresh, IsReportedFor, IsUnbegun, NoneFailed, calls_with};
 ghost use Rattle.dn_replay.specs.Replays.{IsUnreplayed};
 
 use crate::one_caller::apply_lines::configure;
@@ -40,6 +40,7 @@ impl Input {
             pass: Pass {
                 run: Run::new(alloc, key),
                 kept: Kept::new(alloc),
+                given: Vec::new(alloc),
                 reader: PacketReader::new(alloc),
             },
             config: ConfigPart::new(alloc),
@@ -169,12 +170,12 @@ impl Input {
 
     /// Takes the end of the input, and writes the report of what it asks for.
     pub(crate) fn report<O: Outlet>(&mut self, out: &mut O) -> Result<(), ReplayFault>
-        requires taken { (asked : List ℕ → Result (List CallValue) FaultValue) × (text : List ℕ) × HasTaken self.old asked text }
+        requires taken { (asked : List ℕ → Result (List CallValue) FaultValue) × (text : List ℕ) × HasTaken self.old asked text × AreFew (asked text) }
         requires sound { O.has_failed out.old ≡ false }
-        ensures ok { OnOk result ((asked : List ℕ → Result (List CallValue) FaultValue) (text : List ℕ) → HasTaken self.old asked text
+        ensures ok { OnOk result ((asked : List ℕ → Result (List CallValue) FaultValue) (text : List ℕ) → HasTaken self.old asked text → AreFew (asked text)
             → IsReportedFor (λ r. asked text ≡ r) (O.contents out.old) (O.contents out.new)) }
         ensures sound { OnOk result (O.has_failed out.new ≡ false) }
-        ensures err { IfErr result (λ fault. (asked : List ℕ → Result (List CallValue) FaultValue) (text : List ℕ) → HasTaken self.old asked text
+        ensures err { IfErr result (λ fault. (asked : List ℕ → Result (List CallValue) FaultValue) (text : List ℕ) → HasTaken self.old asked text → AreFew (asked text)
             → IsUnreplayed NoneFailed (λ r. asked text ≡ r) (O.contents out.old) (O.contents out.new) (O.has_failed out.new) fault) }
     {
         self.end()?;

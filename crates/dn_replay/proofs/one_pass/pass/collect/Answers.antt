@@ -1,10 +1,10 @@
-use Rattle.std.proofs.Common.{◌≡◌, ◌^◌}
-use Rattle.std.proofs.lemmas.Option.{MatchOption-at_some}
-use Rattle.std.proofs.lemmas.Result.{IfOk-weaker}
+use Rattle.std.proofs.Common.{◌∙◌, ◌++◌, List, ap}
+use Rattle.dn_types.specs.declared.delivery.Delivery.{Delivery}
 use Rattle.dn_types.specs.declared.rule.Rule.TheVariants.{Ordered}
+use Rattle.dn_replay.specs.Report.{delivered}
 use Rattle.dn_replay.proofs.one_pass.pass.collect.Goals as goal
 
 pub returns : goal.returns
-returns c =
-    let last : c.unwrap.result ≡ 2 ^ 62 = MatchOption-at_some _ _ _ c.unwrap.ensures c.new.ensures.value in
-    IfOk-weaker c.apply.result _ _ (λ r answered calls stands. rw last at ((answered Ordered calls stands).0)) c.apply.ensures.ok
+returns c = λ calls stands.
+    let step = c.in_ok-reply.ensures.ok Ordered calls stands in
+    (step.1, c.in_ok-extend_from_slice.ensures.items ∙ ap (λ (ds : List Delivery). c.args.given.now.items ++ ds) (c.delivered_by.ensures ∙ ap delivered step.0))

@@ -1,9 +1,24 @@
+use Rattle.std.proofs.Common.{◌≡◌, ◌∷◌}
+use Rattle.std.proofs.lemmas.Option.{MatchOption-at_some}
 use Rattle.std.proofs.lemmas.Result.{on_ok_weaker}
 use Rattle.dn_types.specs.declared.rule.Rule.TheVariants.{Ordered}
+use Rattle.dn_replay.specs.Runs.{submit}
+use Rattle.dn_replay.proofs.PassSteps.{noted-passing, noted-submit}
 use Rattle.dn_replay.proofs.one_pass.pass.submit_row.Goals as goal
 
+pub returns-then-len-eq0 : goal.returns-then-len-eq0
+returns-then-len-eq0 c =
+    let none : c.unwrap.result ≡ 0 = MatchOption-at_some _ _ _ c.unwrap.ensures c.new.ensures.value in
+    on_ok_weaker c.collect.result (λ collected calls noted.
+    let step = rw c.submit.ensures at (c.in_ok-reply.ensures.ok Ordered noted.made noted.stands) in
+    let last = rw none at (collected (submit c.args.row.now ∷ noted.made) step.1) in
+    noted-passing c.args.shaper.now c.args.kept.now c.args.given.now.items calls c.args.row.now noted c.in_ok-reply.reply step.0 c.note.new.self
+    (λ kept is. c.in_ok-note.ensures calls c.args.row.now.target c.args.row.now.packet c.args.row.now.moment kept is)
+    c.collect.new.shaper c.collect.new.given.items last.0 last.1) c.collect.ensures
+
 pub returns : goal.returns
-returns c =
-    on_ok_weaker c.note.result (λ note calls noted.
-    let step = rw c.submit.ensures at (c.in_ok-reply.ensures.ok Ordered calls noted.0) in
-    (step.1, note calls c.args.row.now.target c.args.row.now.packet c.args.row.now.moment noted.1 step.0)) c.note.ensures
+returns c = λ calls noted.
+    let step = rw c.submit.ensures at (c.in_ok-reply.ensures.ok Ordered noted.made noted.stands) in
+    noted-submit c.args.shaper.now c.args.kept.now c.args.given.now.items calls c.args.row.now noted c.in_ok-reply.reply step.0 c.note.new.self
+    (λ kept is. c.in_ok-note.ensures calls c.args.row.now.target c.args.row.now.packet c.args.row.now.moment kept is)
+    c.apply.new.self step.1

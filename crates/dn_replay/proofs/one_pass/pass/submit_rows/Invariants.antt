@@ -5,4 +5,4 @@ use Rattle.dn_replay.specs.Runs.{submitted}
 use Rattle.dn_replay.proofs.one_pass.pass.submit_rows.Given as goal
 
 abbrev pub invariant-loop-row : goal.invariant-loop-row
-invariant-loop-row l = (calls : List Call) → HasNoted l.fn.shaper l.fn.kept calls → HasNoted l.shaper l.kept (submitted calls (take l.row-index l.rows))
+invariant-loop-row l = (calls : List Call) → HasNoted l.fn.shaper l.fn.kept l.fn.given.items calls → HasNoted l.shaper l.kept l.given.items (submitted calls (take l.row-index l.rows))

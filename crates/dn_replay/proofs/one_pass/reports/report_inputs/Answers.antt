@@ -5,6 +5,7 @@ use Rattle.dn_files.specs.declared.source.Source.TheVariants.{Config, Packets}
 use Rattle.dn_files.proofs.Inputs.{passed_on}
 use Rattle.dn_replay.specs.OnePass.{calls_with}
 use Rattle.dn_replay.specs.Replays.{AskFor, config_calls, EitherFailed}
+use Rattle.dn_replay.proofs.FewCalls.{few-of-inputs}
 use Rattle.dn_replay.proofs.InputSteps.{inputs_ask, told_through, untold_through}
 use Rattle.dn_replay.proofs.ReplaySteps.{config_fault, packet_fault, unread_input, unreplayed}
 use Rattle.dn_replay.proofs.one_pass.reports.report_inputs.Goals as goal
@@ -40,7 +41,7 @@ pub report-requires : goal.report-requires
 report-requires g c =
     let (calls, reads, taken) = c.in_ok-configure_from.ensures.ok in
     let (text, is, within, all) = c.in_ok-read.ensures.text in
-    record { taken = (calls_with calls, text, all (calls_with calls) taken); sound = c.requires.out }
+    record { taken = (calls_with calls, text, all (calls_with calls) taken, few-of-inputs (g.C.Inlet.remaining c.args.config.now) calls text Packets reads within); sound = c.requires.out }
 
 pub returns-clause-ok : goal.returns-clause-ok
 returns-clause-ok g c =
@@ -51,7 +52,7 @@ returns-clause-ok g c =
     let (text, is, within, all) = c.in_ok-read.ensures.text in
     on_ok_weaker c.report.result (λ told. told_through failures (λ asked. calls_with calls text ≡ asked) (AskFor config packets)
     (g.O.Outlet.contents c.args.out.now) (g.O.Outlet.contents c.report.new.out) (c.in_ok-configure_from.ensures.sound, c.in_ok-read.ensures.sound)
-    (λ asked e. inputs_ask config packets calls text reads is within asked e) (told (calls_with calls) text (all (calls_with calls) taken))) c.report.ensures.ok
+    (λ asked e. inputs_ask config packets calls text reads is within asked e) (told (calls_with calls) text (all (calls_with calls) taken) (few-of-inputs config calls text Packets reads within))) c.report.ensures.ok
 
 pub returns-clause-inputs : goal.returns-clause-inputs
 returns-clause-inputs g c = on_ok_weaker c.report.result (λ sound. (c.in_ok-configure_from.ensures.sound, c.in_ok-read.ensures.sound)) c.report.ensures.sound
@@ -66,4 +67,4 @@ returns-clause-err g c =
     IfErr-weaker c.report.result _ _ (λ fault untold. untold_through failures (λ asked. calls_with calls text ≡ asked) (AskFor config packets)
     (g.O.Outlet.contents c.args.out.now) (g.O.Outlet.contents c.report.new.out) (c.in_ok-configure_from.ensures.sound, c.in_ok-read.ensures.sound)
     (λ asked e. inputs_ask config packets calls text reads is within asked e) (g.O.Outlet.has_failed c.report.new.out) fault
-    (untold (calls_with calls) text (all (calls_with calls) taken))) c.report.ensures.err
+    (untold (calls_with calls) text (all (calls_with calls) taken) (few-of-inputs config calls text Packets reads within))) c.report.ensures.err

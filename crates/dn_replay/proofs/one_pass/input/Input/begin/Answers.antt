@@ -1,10 +1,8 @@
-use Rattle.std.proofs.Common.{List, [], subst}
+use Rattle.std.proofs.Common.{[]}
 use Rattle.std.proofs.lemmas.Result.{on_ok_weaker}
-use Rattle.dn_types.specs.declared.call.Call.{Call}
-use Rattle.dn_replay.specs.OnePass.{HasNoted}
 use Rattle.dn_replay.proofs.InputSteps.{begun, not_begun}
 use Rattle.dn_replay.proofs.KeptCalls.{kept-configuration}
-use Rattle.dn_replay.proofs.Runs.{no-row}
+use Rattle.dn_replay.proofs.PassSteps.{noted-first}
 use Rattle.dn_replay.proofs.one_pass.input.Input.begin.Goals as goal
 
 pub returns-in-Ok : goal.returns-in-Ok
@@ -16,8 +14,8 @@ returns-in-Ok c =
       fed calls [] (record {
         rows = [];
         read = c.requires.read;
-        noted = subst (λ (all : List Call). HasNoted c.configure.new.run.shaper c.args.self.now.pass.kept all) (no-row calls)
-            (made.0, kept-configuration c.args.self.now.pass.kept c.args.self.now.config.lines.items calls accepted c.requires.kept);
+        noted = noted-first c.configure.new.run.shaper c.args.self.now.pass.kept c.args.self.now.pass.given.items calls made.0
+            (kept-configuration c.args.self.now.pass.kept c.args.self.now.config.lines.items calls accepted c.requires.kept) c.requires.given;
       }),
       begun asked text c.args.self.now.config.lines.items c.args.packets.now calls accepted cut,
     )) c.feed.ensures

@@ -1,10 +1,8 @@
-use Rattle.std.proofs.Common.{List, [], subst}
+use Rattle.std.proofs.Common.{[]}
 use Rattle.std.proofs.lemmas.Result.{on_ok_weaker}
-use Rattle.dn_types.specs.declared.call.Call.{Call}
-use Rattle.dn_replay.specs.OnePass.{HasNoted}
 use Rattle.dn_replay.proofs.InputSteps.{at_end, end_begun, stays_refused}
 use Rattle.dn_replay.proofs.KeptCalls.{kept-configuration}
-use Rattle.dn_replay.proofs.Runs.{no-row}
+use Rattle.dn_replay.proofs.PassSteps.{noted-first}
 use Rattle.dn_replay.proofs.one_pass.input.Input.end.Goals as goal
 
 pub returns-in-Ok-clause-ok : goal.returns-in-Ok-clause-ok
@@ -17,8 +15,8 @@ returns-in-Ok-clause-ok c =
       record {
         rows = [];
         read = fresh.read;
-        noted = subst (λ (all : List Call). HasNoted c.configure.new.run.shaper c.args.self.now.pass.kept all) (no-row calls)
-            (made.0, kept-configuration c.args.self.now.pass.kept c.end.new.self.lines.items calls accepted fresh.kept);
+        noted = noted-first c.configure.new.run.shaper c.args.self.now.pass.kept c.args.self.now.pass.given.items calls made.0
+            (kept-configuration c.args.self.now.pass.kept c.end.new.self.lines.items calls accepted fresh.kept) fresh.given;
       },
       end_begun asked text c.end.new.self.lines.items calls accepted same (c.in-Ok.ensures text so_far),
     )) c.configure.ensures.ok

@@ -6,14 +6,14 @@ use Rattle.dn_replay.proofs.one_pass.input.Input.report.Goals as goal
 
 pub returns-clause-ok : goal.returns-clause-ok
 returns-clause-ok g c =
-    on_ok_weaker c.report.result (λ told asked text taken.
+    on_ok_weaker c.report.result (λ told asked text taken few.
     let (calls, packets, fed, is) = c.in_ok-end.ensures.ok asked text taken in
     told_through NoneFailed (λ r. calls_with calls packets ≡ r) (λ r. asked text ≡ r) (g.O.Outlet.contents c.args.out.now) (g.O.Outlet.contents c.report.new.out) refl
-    (λ r e. is ∙ e) (told calls packets fed)) c.report.ensures.ok
+    (λ r e. is ∙ e) (told calls packets fed (rw is at few))) c.report.ensures.ok
 
 pub returns-clause-err : goal.returns-clause-err
 returns-clause-err g c =
-    IfErr-weaker c.report.result _ _ (λ fault untold asked text taken.
+    IfErr-weaker c.report.result _ _ (λ fault untold asked text taken few.
     let (calls, packets, fed, is) = c.in_ok-end.ensures.ok asked text taken in
     untold_through NoneFailed (λ r. calls_with calls packets ≡ r) (λ r. asked text ≡ r) (g.O.Outlet.contents c.args.out.now) (g.O.Outlet.contents c.report.new.out) refl
-    (λ r e. is ∙ e) (g.O.Outlet.has_failed c.report.new.out) fault (untold calls packets fed)) c.report.ensures.err
+    (λ r e. is ∙ e) (g.O.Outlet.has_failed c.report.new.out) fault (untold calls packets fed (rw is at few))) c.report.ensures.err

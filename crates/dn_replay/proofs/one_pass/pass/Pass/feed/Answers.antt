@@ -12,7 +12,7 @@ loop-preserved c = λ calls text fed.
     record {
       rows = so_far.rows ++ c.in-Some.row ∷ [];
       read = c.in-Some.ensures.rows (text ++ c.args.part.now) so_far.rows so_far.read;
-      noted = one_row c.submit_row.new.shaper c.submit_row.new.kept calls so_far.rows c.in-Some.row (c.in_ok-submit_row-in-Some.ensures (submitted calls so_far.rows) so_far.noted);
+      noted = one_row c.submit_row.new.shaper c.submit_row.new.kept c.submit_row.new.given.items calls so_far.rows c.in-Some.row (c.in_ok-submit_row-in-Some.ensures (submitted calls so_far.rows) so_far.noted);
     }
 
 pub returns-in-None : goal.returns-in-None

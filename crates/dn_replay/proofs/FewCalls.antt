@@ -1,0 +1,159 @@
+-- How many calls inputs ask for: no more than they have bytes, and a few.
+use Rattle.std.proofs.Common.{◌≡◌, sym, ap, refl, ℕ, suc, ◌+◌, ◌<◌, ◌≤◌, ◌^◌, ◌==◌, arith, length, List, [], ◌∷◌, Bool, true, false, cond, Option, Some, None, Result, Ok, Err}
+use Rattle.std.specs.Prelude.{◌&&◌, is_some, nat_le, unwrap_or, if◌then◌else◌}
+use Rattle.std.specs.List.{slice_split}
+use Rattle.std.proofs.lemmas.Bool.Decides.{nat_tests}
+use Rattle.std.proofs.lemmas.List.Splits.{length-slice_split}
+use Rattle.std.proofs.lemmas.List.Sums.{count_by-le-length}
+use Rattle.dn_types.specs.Replies.{reply}
+use Rattle.dn_types.specs.declared.call.Call.{Call}
+use Rattle.dn_types.specs.declared.call.Call.TheVariants.{Configure}
+use Rattle.dn_types.specs.declared.command.Command.{Command}
+use Rattle.dn_types.specs.declared.rule.Rule.TheVariants.{Ordered}
+use Rattle.dn_text.specs.Joined.{after_mark, joined_parts, parts_from}
+use Rattle.dn_text.specs.Lines.{is_line_feed, lines_of, without_empty_end}
+use Rattle.dn_text.specs.Words.{is_nonempty}
+use Rattle.dn_records.specs.Records.{Fields, records_of}
+use Rattle.dn_files.specs.ConfigFile.{command_at, config_limit}
+use Rattle.dn_files.specs.PacketFile.{is_header, packet_limit, row_at, row_of, rows_below, rows_from, rows_of}
+use Rattle.dn_files.specs.Reading.{◌>>=◌, ReadsAs, within_limit}
+use Rattle.dn_files.specs.declared.replay_fault.ReplayFault.{ReplayFault}
+use Rattle.dn_files.specs.declared.replay_fault.ReplayFault.TheVariants.{BadRow, TooLong}
+use Rattle.dn_files.specs.declared.row.Row.{Row}
+use Rattle.dn_files.specs.declared.source.Source.{Source}
+use Rattle.dn_files.specs.declared.source.Source.TheVariants.{Config}
+use Rattle.dn_history.proofs.HistoryReading.{numbered}
+use Rattle.dn_replay.specs.Configuring.{applied, configured_by, configured_from, refusal, unless}
+use Rattle.dn_replay.specs.OnePass.{AreFew, calls_with}
+use Rattle.dn_replay.specs.Replays.{calls_of_parts, config_calls}
+use Rattle.dn_replay.specs.Runs.{replayed, submit, submitted}
+
+-- ---- Rows
+
+rows-le : (number : ℕ) (records : List Fields) (rows : List Row) → rows_from number records ≡ Ok rows → length rows ≤ length records
+unfolding rows_from
+rows-le number [] rows e = let same : [] ≡ rows = cc in let none = ap (length {A = Row}) same in omega (arith, none)
+rows-le number (fields ∷ rest) rows e = by (row_at number (row_of fields)) (rows_from (number + 1) rest) (λ rs f. rows-le (number + 1) rest rs f) e
+  where
+    by : (r : Result Row ReplayFault) (o : Result (List Row) ReplayFault) → ((rs : List Row) → o ≡ Ok rs → length rs ≤ length rest)
+        → (r >>= λ row. o >>= λ rows. Ok (row ∷ rows)) ≡ Ok rows → length rows ≤ suc (length rest)
+    by (Err fault) o h e = absurd cc
+    by (Ok row) (Err fault) h e = absurd cc
+    by (Ok row) (Ok rs) h e = let same : row ∷ rs ≡ rows = cc in let le = h rs refl in let size = ap (length {A = Row}) same in omega (arith, le, size)
+
+rows_below-le : (records : List Fields) (rows : List Row) → rows_below records ≡ Ok rows → length rows ≤ length records
+unfolding rows_below
+rows_below-le [] rows e = let same : [] ≡ rows = cc in let none = ap (length {A = Row}) same in omega (arith, none)
+rows_below-le (first ∷ rest) rows e = by (is_header first) e
+  where
+    by : (b : Bool) → cond b (rows_from 1 rest) (Err (BadRow 0 0)) ≡ Ok rows → length rows ≤ suc (length rest)
+    by true e = let le = rows-le 1 rest rows e in omega (arith, le)
+    by false e = absurd cc
+
+rows_of-le : (text : List ℕ) (rows : List Row) → rows_of text ≡ Ok rows → length rows ≤ length text + 1
+rows_of-le text rows e = let le = rows_below-le (records_of text) rows e in let few = numbered text in omega (arith, le, few)
+
+submitted-size : (calls : List Call) (rows : List Row) → length (submitted calls rows) ≡ length calls + length rows
+unfolding submitted
+submitted-size calls [] = omega arith
+submitted-size calls (row ∷ rows) = let rest = submitted-size (submit row ∷ calls) rows in omega (arith, rest)
+
+-- ---- The commands of a configuration
+
+configured-le : (calls : List Call) (number : ℕ) (lines : List (List ℕ)) (after : List Call) → configured_from calls number lines ≡ Ok after → length after ≤ length calls + length lines
+unfolding configured_from
+configured-le calls number [] after e = let same : calls ≡ after = cc in let size = ap (length {A = Call}) same in omega (arith, size)
+configured-le calls number (line ∷ lines) after e = said (command_at number line) (λ next f. configured-le next (number + 1) lines after f) e
+  where
+    Rest : Type 0
+    Rest = (next : List Call) → configured_from next (number + 1) lines ≡ Ok after → length after ≤ length next + length lines
+
+    made : (command : Command) (why : Option ReplayFault) → Rest → (unless why (Configure command ∷ calls) >>= λ next. configured_from next (number + 1) lines) ≡ Ok after → length after ≤ length calls + suc (length lines)
+    made command None rest e = let le = rest (Configure command ∷ calls) e in omega (arith, le)
+    made command (Some fault) rest e = absurd cc
+
+    said : (o : Result (Option Command) ReplayFault) → Rest → (o >>= λ command. applied number calls command >>= λ next. configured_from next (number + 1) lines) ≡ Ok after → length after ≤ length calls + suc (length lines)
+    said (Err fault) rest e = absurd cc
+    said (Ok None) rest e = let le = rest calls e in omega (arith, le)
+    said (Ok (Some command)) rest e = made command (refusal number (reply Ordered calls (Configure command))) rest e
+
+kept-lines : (lines : List (List ℕ)) → length (without_empty_end lines) ≤ length lines
+kept-lines [] = omega arith
+kept-lines (last ∷ []) = by (is_nonempty last)
+  where
+    by : (b : Bool) → length (cond b (last ∷ []) []) ≤ 1
+    by true = omega arith
+    by false = omega arith
+kept-lines (line ∷ next ∷ more) = let rest = kept-lines (next ∷ more) in omega (arith, rest)
+
+lines-le : (text : List ℕ) → length (lines_of text) ≤ length text + 1
+unfolding lines_of
+lines-le text = let kept = kept-lines (slice_split is_line_feed text) in let parts = length-slice_split is_line_feed text in let feeds = count_by-le-length is_line_feed text in omega (arith, kept, parts, feeds)
+
+configured_by-le : (text : List ℕ) (calls : List Call) → configured_by text ≡ Ok calls → length calls ≤ length text + 1
+configured_by-le text calls e = let le = configured-le [] 1 (lines_of text) calls e in let lines = lines-le text in omega (arith, le, lines)
+
+-- ---- A text within its limit
+
+within : (limit : ℕ) (source : Source) (text read : List ℕ) → within_limit limit source text ≡ Ok read → (read ≡ text) × (length text ≤ limit)
+within limit source text read e = by (nat_le (length text) limit) refl e
+  where
+    by : (b : Bool) → nat_le (length text) limit ≡ b → cond b (Ok text) (Err (TooLong source)) ≡ Ok read → (read ≡ text) × (length text ≤ limit)
+    by true is e = let same : text ≡ read = cc in (sym same, grind (arith, nat_tests))
+    by false is e = absurd cc
+
+config-le : (text : List ℕ) (calls : List Call) → config_calls text ≡ Ok calls → length calls ≤ config_limit + 1
+config-le text calls e = by (within_limit config_limit Config text) refl e
+  where
+    by : (o : Result (List ℕ) ReplayFault) → within_limit config_limit Config text ≡ o → (o >>= configured_by) ≡ Ok calls → length calls ≤ config_limit + 1
+    by (Err fault) is e = absurd cc
+    by (Ok read) is e =
+        let short = within config_limit Config text read is in
+        let same = ap (length {A = ℕ}) short.0 in
+        let le = configured_by-le read calls e in
+        omega (arith, le, same, short.1)
+
+few-after : (calls : List Call) (n : ℕ) (o : Result (List Row) ReplayFault) → length calls ≤ n → n ≤ 2 ^ 32 → ((rows : List Row) → o ≡ Ok rows → length rows ≤ 2 ^ 32) → AreFew (o >>= λ rows. Ok (replayed calls rows))
+few-after calls n (Err fault) le small h = tt
+few-after calls n (Ok rows) le small h = let size = submitted-size calls rows in let few = h rows refl in omega (arith, size, few, le, small)
+
+-- The calls of a configuration and of a packet file are few.
+pub few-of-inputs : (config : Option (List ℕ)) (calls : List Call) (text : List ℕ) (source : Source) → ReadsAs config_calls config calls → within_limit packet_limit source text ≡ Ok text
+    → AreFew (calls_with calls text)
+few-of-inputs config calls text source reads fits =
+    let le = config-le reads.0 calls reads.2 in
+    let short = (within packet_limit source text text fits).1 in
+    few-after calls (config_limit + 1) (rows_of text) le (omega arith) (λ rows is. let few = rows_of-le text rows is in omega (arith, few, short))
+
+-- ---- The two parts of one input
+
+mark-le : (text : List ℕ) → length (unwrap_or (after_mark text) []) ≤ length text
+mark-le [] = omega arith
+mark-le (a ∷ []) = omega arith
+mark-le (a ∷ b ∷ []) = grind arith
+mark-le (a ∷ b ∷ c ∷ []) = grind arith
+mark-le (a ∷ b ∷ c ∷ d ∷ rest) = grind arith
+
+abbrev NoLonger : ℕ → List ℕ × List ℕ → Type 0
+NoLonger most parts = length parts.0 + length parts.1 ≤ most
+
+parts-le : (start : Bool) (text : List ℕ) → NoLonger (length text) (parts_from start text)
+unfolding parts_from
+parts-le start [] = omega arith
+parts-le start (c ∷ rest) = by (start && is_some (after_mark (c ∷ rest))) (parts-le (c == 10) rest)
+  where
+    by : (b : Bool) → NoLonger (length rest) (parts_from (c == 10) rest)
+        → NoLonger (suc (length rest)) (if b then ([], unwrap_or (after_mark (c ∷ rest)) []) else (c ∷ (parts_from (c == 10) rest).0, (parts_from (c == 10) rest).1))
+    by true le = let behind = mark-le (c ∷ rest) in omega (arith, behind)
+    by false le = omega (arith, le)
+
+few-parts : (o : Result (List Call) ReplayFault) (packets : List ℕ) → ((calls : List Call) → o ≡ Ok calls → length calls ≤ 2 ^ 32) → length packets < 2 ^ 32 → AreFew (o >>= λ calls. calls_with calls packets)
+few-parts (Err fault) packets h short = tt
+few-parts (Ok calls) packets h short = few-after calls (2 ^ 32) (rows_of packets) (h calls refl) (omega arith) (λ rows is. let few = rows_of-le packets rows is in omega (arith, few, short))
+
+-- And so are those of one joined input.
+pub few-of-joined : (text : List ℕ) (source : Source) → within_limit packet_limit source text ≡ Ok text → AreFew (calls_of_parts (joined_parts text))
+few-of-joined text source fits =
+    let short = (within packet_limit source text text fits).1 in
+    let parts = parts-le true text in
+    few-parts (configured_by (joined_parts text).0) (joined_parts text).1 (λ calls is. let le = configured_by-le (joined_parts text).0 calls is in omega (arith, le, parts, short)) (omega (arith, parts, short))
