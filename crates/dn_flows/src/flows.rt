@@ -84,7 +84,8 @@ impl Flows {
     }
 
     /// The number of the flow with the key, which is made where no flow has it. A key that is known
-    /// takes no memory.
+    /// takes no memory. It is inlined, so that a look-up packs the key without having it written first.
+    #[inline(always)]
     pub fn find_or_make(&mut self, key: FlowKey) -> Result<usize, AllocError>
         ensures number { IfOk result (λ flow. flow ≡ flow_number self.old.keys key) }
         ensures within { IfOk result (λ flow. flow < length self.new.flows) }

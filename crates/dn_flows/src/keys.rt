@@ -26,15 +26,17 @@ fn has_key(keys: &IndexSet<TableKey, KeyedHash>, flow: usize, key: &TableKey) ->
 fn first_with_key(
     keys: &IndexSet<TableKey, KeyedHash>,
     members: &Members,
-    key: &TableKey,
+    key: &FlowKey,
+    table_key: &TableKey,
 ) -> Option<usize>
-    requires { Lists keys.now.keys members.now }
+    requires lists { Lists keys.now.keys members.now }
+    requires same { table_key.now ≡ key.now }
     ensures number { IfSome result (λ flow. flow ≡ flow_number keys.now.keys key.now) }
     ensures known { IfSome result (λ flow. is_known key.now keys.now.keys ≡ true) }
     ensures within { IfSome result (λ flow. flow < length keys.now.keys) }
 {
-    let first = members.first(&key.get())?;
-    if has_key(keys, first, key) {
+    let first = members.first(key)?;
+    if has_key(keys, first, table_key) {
         Some(first)
     } else {
         None
@@ -54,7 +56,7 @@ pub fn flow_with_key(
     ensures within { IfSome result (λ flow. flow < length keys.now.keys) }
 {
     let table_key = TableKey::new(*key);
-    if let Some(first) = first_with_key(keys, members, &table_key) {
+    if let Some(first) = first_with_key(keys, members, key, &table_key) {
         return Some(first);
     }
     let flow = keys.get_index_of(&table_key)?;
