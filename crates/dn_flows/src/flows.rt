@@ -3,6 +3,8 @@ ghost use Rattle.dn_types.specs.Flows.{flow_number, with_key};
 ghost use Rattle.dn_flows.specs.Table.{flow_at, is_known, flows_with, IsUnused, lengths, verdict_of, with_place, pushed, popped, one_lost, one_full, emptied, status_of, is_of, is_on, places_where};
 ghost use Rattle.dn_flows.specs.Members.{Lists};
 
+mod pass;
+
 use crate::drop_rule::DropRule;
 use crate::flow_queue::FlowQueue;
 use crate::hash_key::HashKey;

@@ -18,7 +18,7 @@ use Rattle.dn_shaper.specs.declared.links.home.Home.{Home}
 use Rattle.dn_shaper.specs.declared.links.link_parts.LinkParts.{LinkParts}
 use Rattle.dn_shaper.specs.declared.links.parts.Parts.{Parts}
 use Rattle.dn_shaper.specs.Refinement.Agreement.{AgreesWith, Agrees, GivesRates, link_names}
-use Rattle.dn_shaper.specs.Refinement.Arriving.{ArrivesAt, Accepts, KeepsFlows}
+use Rattle.dn_shaper.specs.Refinement.Arriving.{ArrivesAt, Accepts, KeepsFlows, is_idle}
 use Rattle.dn_shaper.specs.Refinement.NextStarts.{Holds, one_backlogged, backlogged}
 use Rattle.dn_shaper.specs.Refinement.Settling.{AreInStep}
 use Rattle.dn_shaper.specs.Refinement.Starting.{Within, CanStart, StartsAt}
@@ -31,6 +31,19 @@ use Rattle.dn_shaper.proofs.Starting.{starts-agree, starts-within, starts-nexts}
 use Rattle.dn_shaper.proofs.Accepting.{within-more, holds_pushed, backlogged-one, next-listed, next-some, next-none, may-agree}
 use Rattle.dn_shaper.proofs.HomeRead.{in-table}
 use Rattle.dn_shaper.proofs.Settles.{pipe-carried}
+
+left : (x y : Bool) → (x && y) ≡ true → (x ≡ true) × (y ≡ true)
+left true y e = (refl, e)
+left false y e = absurd cc
+
+-- No packet waits for an idle link, and it is free.
+pub idle-is : (at : ℕ) (v : LinkView) → is_idle at v ≡ true → (v.waits ≡ 0) × (v.value.free ≤ at)
+idle-is at v is =
+    let e = left (nat_eq v.waits 0) (nat_le v.value.free at) is in
+    (eqb-true v.waits 0 e.0, low v.value.free e.1)
+  where
+    low : (m : ℕ) → nat_le m at ≡ true → m ≤ at
+    low m e = grind (arith, nat_tests)
 
 pub same-view : {at : ℕ} {h : Home} {flow len weight : ℕ} {idle : Bool} {old mid : Parts} (s : ArrivesAt at h flow len weight idle old mid) {v : LinkView} →
     slice_get (views_of old) h.place ≡ Some v → s.view ≡ v
@@ -95,21 +108,11 @@ module _ {settings : Settings} {at : ℕ} {h : Home} {flow len weight : ℕ} {id
   next-then : slice_get (next_starts (views_of old)) h.place ≡ Some (next_start_of s.view)
   next-then = get-map next_start_of (views_of old) h.place s.view s.there
 
-  left : (x y : Bool) → (x && y) ≡ true → (x ≡ true) × (y ≡ true)
-  left true y e = (refl, e)
-  left false y e = absurd cc
-
   -- ---- The packet starts at once
 
   module _ (yes' : idle ≡ true) where
     was_idle : (s.view.waits ≡ 0) × (s.view.value.free ≤ at)
-    was_idle =
-        let e = left (nat_eq s.view.waits 0) (nat_le s.view.value.free at) (sym s.idle_is ∙ yes') in
-        let le = e.1 in
-        (eqb-true s.view.waits 0 e.0, low s.view.value.free le)
-      where
-        low : (m : ℕ) → nat_le m at ≡ true → m ≤ at
-        low m e = grind (arith, nat_tests)
+    was_idle = idle-is at s.view (sym s.idle_is ∙ yes')
 
     pub can-start-mid : CanStart mid h.place at
     can-start-mid = record {

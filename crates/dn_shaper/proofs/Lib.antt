@@ -33,6 +33,7 @@ pub mod Noting
 pub mod Numbered
 pub mod Opened
 pub mod Ordered
+pub mod Passing
 pub mod Preparing
 pub mod Putting
 pub mod QueueCounts

@@ -8,6 +8,7 @@ pub mod Discarding
 pub mod Homing
 pub mod Making
 pub mod NextStarts
+pub mod Passing
 pub mod QueueCounts
 pub mod Settings
 pub mod Settling

@@ -7,6 +7,7 @@ pub mod judge;
 pub mod link_parts;
 pub mod next_start;
 pub mod parts;
+pub mod pass;
 pub mod settle;
 pub mod shared_link;
 pub mod start;

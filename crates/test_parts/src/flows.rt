@@ -1,5 +1,7 @@
 //! Tests. A test's function makes the table and no more, since what owns a table is dear to prove.
-use crate::given::{at_most, counts, discard, is_told, key, note_both, packet, pop, push, verdict};
+use crate::given::{
+    at_most, counts, discard, is_told, key, note_both, packet, pass, pop, push, verdict,
+};
 use dn_flows::{DropRule, Flows, HashKey, Verdict, Waiting};
 use dn_types::{Len, Limit, Loss};
 use std::alloc::AllocError;
@@ -181,6 +183,28 @@ fn check_two_queues<R: Abort>(rt: &R, flows: &mut Flows) -> Result<(), AllocErro
 fn two_queues_in_one_store(rt: HostRuntime) -> Result<(), AllocError> {
     let mut flows = Flows::new(rt.alloc());
     let outcome = check_two_queues(&rt, &mut flows);
+    drop(flows);
+    outcome
+}
+
+fn check_passing<R: Abort>(rt: &R, flows: &mut Flows) -> Result<(), AllocError> {
+    let flow = flows.find_or_make(key(2))?;
+    assert!(rt; pass(flows, flow)?);
+    assert!(rt; counts(flows, flow) == Some([0, 0, 0, 0, 1, 0]));
+    let len = Len::new(100).unwrap();
+    push(flows, flow, Waiting { packet: 1, len })?;
+    assert!(rt; !pass(flows, flow)?);
+    assert!(rt; pop(flows, flow) == Some(Waiting { packet: 1, len }));
+    assert!(rt; pass(flows, flow)?);
+    assert!(rt; counts(flows, flow) == Some([0, 0, 0, 0, 3, 0]));
+    Ok(())
+}
+
+// Packets that pass are counted as starts, and none of them waits.
+#[test]
+fn passing_packets(rt: HostRuntime) -> Result<(), AllocError> {
+    let mut flows = Flows::new(rt.alloc());
+    let outcome = check_passing(&rt, &mut flows);
     drop(flows);
     outcome
 }

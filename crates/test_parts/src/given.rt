@@ -85,6 +85,19 @@ pub(crate) fn pop(flows: &mut Flows, flow: usize) -> Option<Waiting> {
     flows.pop_front(flow)
 }
 
+/// A packet passes the flow's queue, where none waits there. The answer is whether it did.
+pub(crate) fn pass(flows: &mut Flows, flow: usize) -> Result<bool, AllocError> {
+    if flow >= flows.len() {
+        return Ok(false);
+    }
+    flows.reserve_place(flow)?;
+    if flows.has_backlog(flow) || flows.status(flow).started > 100 {
+        return Ok(false);
+    }
+    flows.pass(flow);
+    Ok(true)
+}
+
 /// Whether the flow is told by its number and this key.
 pub(crate) fn is_told(flows: &Flows, flow: usize, key: &FlowKey) -> bool {
     if flow >= flows.len() {

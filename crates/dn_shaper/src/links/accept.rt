@@ -6,10 +6,10 @@ ghost use Rattle.dn_shaper.specs.Refinement.Settling.{AreInStep};
 ghost use Rattle.dn_shaper.specs.Refinement.Starting.{Within};
 ghost use Rattle.dn_shaper.specs.Refinement.Submitting.{GoesTo, MayAccept};
 
-use crate::links::arrive::{arrive, join_queue};
+use crate::links::arrive::{arrive, is_idle, join_queue};
 use crate::links::next_start::NextStart;
 use crate::links::parts::Parts;
-use crate::links::start::start_next;
+use crate::links::pass::pass;
 use crate::settings::configured::Configured;
 use crate::settings::treatment::Treatment;
 use dn_heap::RunHeap;
@@ -51,15 +51,18 @@ pub fn accept(
     let free = link.times.free();
     let waited = link.has_backlog(&parts.flows);
     let pipe = link.pipe;
-    let idle = arrive(parts, home, flow, len, how.weight, at);
+    let idle = is_idle(link, &parts.flows, at);
     if idle {
         let rates = configured.rates(pipe);
-        start_next(parts, home.place, at, &rates);
-    } else if !waited {
-        heap.push_reserved(NextStart {
-            moment: free,
-            place: home.place,
-        });
+        pass(parts, home, flow, len, how.weight, at, &rates);
+    } else {
+        arrive(parts, home, flow, len, how.weight, at);
+        if !waited {
+            heap.push_reserved(NextStart {
+                moment: free,
+                place: home.place,
+            });
+        }
     }
     number
 }

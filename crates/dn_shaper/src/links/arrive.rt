@@ -12,7 +12,8 @@ use dn_flows::{Flows, Waiting};
 use dn_types::{Len, Weight};
 
 /// Whether no packet waits for the link and it is free by the moment.
-fn is_idle(link: &LinkParts, flows: &Flows, at: u64) -> bool
+#[inline(always)]
+pub fn is_idle(link: &LinkParts, flows: &Flows, at: u64) -> bool
     ensures { result ≡ is_idle at (view_of (queue_lengths flows.now.flows) link.now) }
 {
     !link.has_backlog(flows) && link.times.free() <= at

@@ -28,7 +28,8 @@ fn next_flow(link: &mut LinkParts) -> usize
 }
 
 /// The transmission of the packet begins, and it is under way.
-fn send(
+#[inline(always)]
+pub fn send(
     rule: Rule,
     rates: &Rates,
     link: &mut Link,
@@ -61,6 +62,7 @@ fn send(
 }
 
 /// The link's next packet leaves its queue and is sent at the moment.
+#[inline(always)]
 fn start_one(
     rule: Rule,
     rates: &Rates,

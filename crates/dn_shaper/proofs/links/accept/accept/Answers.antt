@@ -1,10 +1,13 @@
 -- The flow's home takes the packet, and it starts at once or waits.
 use Rattle.std.proofs.Common.{◌∙◌, ◌<◌, ℕ, refl, ap, sym, subst, arith, IsPermutation, ◌∷◌}
 use Rattle.std.proofs.lemmas.Grind.{common_steps}
+use Rattle.dn_flows.proofs.Places.{get-read}
+use Rattle.dn_shaper.specs.Refinement.Settings.{settings_of}
 use Rattle.dn_shaper.specs.Refinement.Views.{LinkView, queue_lengths, view_of}
-use Rattle.dn_shaper.proofs.Accepted.{same-link, same-rates, mid-agrees, mid-all, mid-within, mid-keeps, can-start-mid, idle-kept, idle-within, idle-keeps, idle-accepts, waits-accepts, room-first, first-kept, other-kept}
+use Rattle.dn_shaper.proofs.Accepted.{same-link, same-rates, mid-within, mid-keeps, idle-kept, idle-within, idle-keeps, idle-accepts, waits-accepts, room-first, first-kept, other-kept}
 use Rattle.dn_shaper.proofs.Accepting.{can-join, few-accepted, few-waiting, home-at, may-agree, none-waits, seen-there, some-waits}
 use Rattle.dn_shaper.proofs.Alone.{goes-own}
+use Rattle.dn_shaper.proofs.Passing.{arrives-busy}
 use Rattle.dn_shaper.proofs.Behind.{joins-behind, others-wait}
 use Rattle.dn_shaper.proofs.HomeRead.{home-alone, home-below, home-there, in-table, place-below}
 use Rattle.dn_shaper.proofs.links.accept.accept.Goals as goal
@@ -25,72 +28,73 @@ index-link-requires c =
 
 -- ---- The packet can arrive there
 
-pub arrive-idle-requires-clause-can : goal.arrive-idle-requires-clause-can
-arrive-idle-requires-clause-can c =
+pub arrive-requires-clause-can : goal.arrive-requires-clause-can
+arrive-requires-clause-can c =
     let may = c.requires.may in
     let seen = view_of (queue_lengths c.args.parts.now.flows.flows) c.index-link.result.now in
     (seen, seen-there may c.index-home.ensures c.index-link.ensures, can-join may c.index-home.ensures c.index-link.ensures)
 
-pub arrive-idle-requires-clause-alone : goal.arrive-idle-requires-clause-alone
-arrive-idle-requires-clause-alone c =
+pub arrive-requires-clause-alone : goal.arrive-requires-clause-alone
+arrive-requires-clause-alone c =
     let may = c.requires.may in
     home-alone c.args.parts.now (may-agree may) may.within c.index-home.ensures
 
-pub arrive-idle-requires-clause-within : goal.arrive-idle-requires-clause-within
-arrive-idle-requires-clause-within c =
+pub arrive-requires-clause-within : goal.arrive-requires-clause-within
+arrive-requires-clause-within c =
     let may = c.requires.may in
     in-table c.args.parts.now (may-agree may) may.within
 
-pub arrive-idle-requires-clause-accepted : goal.arrive-idle-requires-clause-accepted
-arrive-idle-requires-clause-accepted c = few-accepted c.requires.may
+pub arrive-requires-clause-accepted : goal.arrive-requires-clause-accepted
+arrive-requires-clause-accepted c = few-accepted c.requires.may
 
-pub arrive-idle-requires-clause-waiting : goal.arrive-idle-requires-clause-waiting
-arrive-idle-requires-clause-waiting c = few-waiting c.requires.may
+pub arrive-requires-clause-waiting : goal.arrive-requires-clause-waiting
+arrive-requires-clause-waiting c = few-waiting c.requires.may
 
 -- ---- The link was idle, and the packet starts
 
-pub start_next-requires-clause-agrees : goal.start_next-requires-clause-agrees
-start_next-requires-clause-agrees c =
-    let may = c.requires.may in
-    mid-agrees may (home-at may c.index-home.ensures) c.arrive-idle.ensures
+pub pass-requires-clause-may : goal.pass-requires-clause-may
+pass-requires-clause-may c = (settings_of c.args.configured.now, c.args.heap.now, c.requires.may)
 
-pub start_next-requires-clause-within : goal.start_next-requires-clause-within
-start_next-requires-clause-within c =
+pub pass-requires-clause-idle : goal.pass-requires-clause-idle
+pass-requires-clause-idle c =
     let may = c.requires.may in
-    mid-all may (home-at may c.index-home.ensures) c.arrive-idle.ensures
-
-pub start_next-requires-clause-can : goal.start_next-requires-clause-can
-start_next-requires-clause-can c =
-    let may = c.requires.may in
-    can-start-mid may (home-at may c.index-home.ensures) c.arrive-idle.ensures c.if-idle.true
+    record {
+      link = c.index-link.result.now;
+      there = get-read c.args.parts.now.links.items c.index-home.result.now.place c.index-link.result.now (place-below c.args.parts.now (may-agree may) may.within c.index-home.ensures) c.index-link.ensures;
+      idle = sym c.is_idle-idle.ensures ∙ c.if-idle.true;
+    }
 
 pub returns-then-idle-clause-accepts : goal.returns-then-idle-clause-accepts
 returns-then-idle-clause-accepts c =
     let may = c.requires.may in
     let home = home-at may c.index-home.ensures in
-    let rates = same-rates may home c.arrive-idle.ensures c.index-link.result.now (seen-there may c.index-home.ensures c.index-link.ensures) c.rates-rates.ensures in
-    idle-accepts may home c.arrive-idle.ensures c.if-idle.true c.start_next.ensures.starts rates
+    let passes = c.pass.ensures in
+    let rates = same-rates may home passes.arrives c.index-link.result.now (seen-there may c.index-home.ensures c.index-link.ensures) c.rates-rates.ensures in
+    idle-accepts may home passes.arrives refl passes.starts rates
 
 pub returns-then-idle-clause-kept : goal.returns-then-idle-clause-kept
 returns-then-idle-clause-kept c =
     let may = c.requires.may in
     let home = home-at may c.index-home.ensures in
-    let rates = same-rates may home c.arrive-idle.ensures c.index-link.result.now (seen-there may c.index-home.ensures c.index-link.ensures) c.rates-rates.ensures in
-    idle-kept may home c.arrive-idle.ensures c.if-idle.true c.start_next.ensures.starts rates
+    let passes = c.pass.ensures in
+    let rates = same-rates may home passes.arrives c.index-link.result.now (seen-there may c.index-home.ensures c.index-link.ensures) c.rates-rates.ensures in
+    idle-kept may home passes.arrives refl passes.starts rates
 
 pub returns-then-idle-clause-within : goal.returns-then-idle-clause-within
 returns-then-idle-clause-within c =
     let may = c.requires.may in
     let home = home-at may c.index-home.ensures in
-    let rates = same-rates may home c.arrive-idle.ensures c.index-link.result.now (seen-there may c.index-home.ensures c.index-link.ensures) c.rates-rates.ensures in
-    idle-within may home c.arrive-idle.ensures c.if-idle.true c.start_next.ensures.starts rates
+    let passes = c.pass.ensures in
+    let rates = same-rates may home passes.arrives c.index-link.result.now (seen-there may c.index-home.ensures c.index-link.ensures) c.rates-rates.ensures in
+    idle-within may home passes.arrives refl passes.starts rates
 
 pub returns-then-idle-clause-keeps : goal.returns-then-idle-clause-keeps
 returns-then-idle-clause-keeps c =
     let may = c.requires.may in
     let home = home-at may c.index-home.ensures in
-    let rates = same-rates may home c.arrive-idle.ensures c.index-link.result.now (seen-there may c.index-home.ensures c.index-link.ensures) c.rates-rates.ensures in
-    idle-keeps may home c.arrive-idle.ensures c.if-idle.true c.start_next.ensures.starts rates
+    let passes = c.pass.ensures in
+    let rates = same-rates may home passes.arrives c.index-link.result.now (seen-there may c.index-home.ensures c.index-link.ensures) c.rates-rates.ensures in
+    idle-keeps may home passes.arrives refl passes.starts rates
 
 -- ---- The link still sends, and no other packet waits for it
 
@@ -98,62 +102,62 @@ pub push_reserved-requires-clause-reserved : goal.push_reserved-requires-clause-
 push_reserved-requires-clause-reserved c =
     let may = c.requires.may in
     let home = home-at may c.index-home.ensures in
-    let same = same-link may home c.arrive-idle.ensures c.index-link.result.now (seen-there may c.index-home.ensures c.index-link.ensures) in
+    let same = same-link may home c.arrive.ensures c.index-link.result.now (seen-there may c.index-home.ensures c.index-link.ensures) in
     let seen = view_of (queue_lengths c.args.parts.now.flows.flows) c.index-link.result.now in
     let none = ap {B = ℕ} (λ (x : LinkView). x.waits) same ∙ none-waits seen.waits c.has_backlog-waited.result c.has_backlog-waited.ensures c.if-not-waited.true in
-    room-first may home c.arrive-idle.ensures none
+    room-first may home c.arrive.ensures none
 
 pub returns-then-not-waited-clause-accepts : goal.returns-then-not-waited-clause-accepts
 returns-then-not-waited-clause-accepts c =
     let may = c.requires.may in
-    waits-accepts may (home-at may c.index-home.ensures) c.arrive-idle.ensures c.if-idle.false
+    waits-accepts may (home-at may c.index-home.ensures) c.arrive.ensures (arrives-busy (seen-there may c.index-home.ensures c.index-link.ensures) (sym c.is_idle-idle.ensures ∙ c.if-idle.false) c.arrive.ensures)
 
 pub returns-then-not-waited-clause-kept : goal.returns-then-not-waited-clause-kept
 returns-then-not-waited-clause-kept c =
     let may = c.requires.may in
     let home = home-at may c.index-home.ensures in
-    let same = same-link may home c.arrive-idle.ensures c.index-link.result.now (seen-there may c.index-home.ensures c.index-link.ensures) in
+    let same = same-link may home c.arrive.ensures c.index-link.result.now (seen-there may c.index-home.ensures c.index-link.ensures) in
     let seen = view_of (queue_lengths c.args.parts.now.flows.flows) c.index-link.result.now in
     let none = ap {B = ℕ} (λ (x : LinkView). x.waits) same ∙ none-waits seen.waits c.has_backlog-waited.result c.has_backlog-waited.ensures c.if-not-waited.true in
     let free = c.free-free.ensures ∙ ap (λ (x : LinkView). x.value.free) (sym same) in
     let keys = subst (λ (m : ℕ). IsPermutation (record { moment = m; place = c.index-home.result.now.place } ∷ c.args.heap.now.keys) c.push_reserved.new.self.keys) free c.push_reserved.ensures.keys in
-    first-kept may home c.arrive-idle.ensures none c.push_reserved.new.self keys c.push_reserved.ensures.room
+    first-kept may home c.arrive.ensures none c.push_reserved.new.self keys c.push_reserved.ensures.room
 
 pub returns-then-not-waited-clause-within : goal.returns-then-not-waited-clause-within
 returns-then-not-waited-clause-within c =
     let may = c.requires.may in
-    mid-within may (home-at may c.index-home.ensures) c.arrive-idle.ensures
+    mid-within may (home-at may c.index-home.ensures) c.arrive.ensures
 
 pub returns-then-not-waited-clause-keeps : goal.returns-then-not-waited-clause-keeps
 returns-then-not-waited-clause-keeps c =
     let may = c.requires.may in
-    mid-keeps may (home-at may c.index-home.ensures) c.arrive-idle.ensures
+    mid-keeps may (home-at may c.index-home.ensures) c.arrive.ensures
 
 -- ---- Others wait for the link
 
 pub returns-else-not-waited-clause-accepts : goal.returns-else-not-waited-clause-accepts
 returns-else-not-waited-clause-accepts c =
     let may = c.requires.may in
-    waits-accepts may (home-at may c.index-home.ensures) c.arrive-idle.ensures c.if-idle.false
+    waits-accepts may (home-at may c.index-home.ensures) c.arrive.ensures (arrives-busy (seen-there may c.index-home.ensures c.index-link.ensures) (sym c.is_idle-idle.ensures ∙ c.if-idle.false) c.arrive.ensures)
 
 pub returns-else-not-waited-clause-kept : goal.returns-else-not-waited-clause-kept
 returns-else-not-waited-clause-kept c =
     let may = c.requires.may in
     let home = home-at may c.index-home.ensures in
-    let same = same-link may home c.arrive-idle.ensures c.index-link.result.now (seen-there may c.index-home.ensures c.index-link.ensures) in
+    let same = same-link may home c.arrive.ensures c.index-link.result.now (seen-there may c.index-home.ensures c.index-link.ensures) in
     let seen = view_of (queue_lengths c.args.parts.now.flows.flows) c.index-link.result.now in
     let some = some-waits seen.waits c.has_backlog-waited.result c.has_backlog-waited.ensures c.if-not-waited.false in
-    other-kept may home c.arrive-idle.ensures (subst (λ (x : LinkView). 0 < x.waits) (sym same) some)
+    other-kept may home c.arrive.ensures (subst (λ (x : LinkView). 0 < x.waits) (sym same) some)
 
 pub returns-else-not-waited-clause-within : goal.returns-else-not-waited-clause-within
 returns-else-not-waited-clause-within c =
     let may = c.requires.may in
-    mid-within may (home-at may c.index-home.ensures) c.arrive-idle.ensures
+    mid-within may (home-at may c.index-home.ensures) c.arrive.ensures
 
 pub returns-else-not-waited-clause-keeps : goal.returns-else-not-waited-clause-keeps
 returns-else-not-waited-clause-keeps c =
     let may = c.requires.may in
-    mid-keeps may (home-at may c.index-home.ensures) c.arrive-idle.ensures
+    mid-keeps may (home-at may c.index-home.ensures) c.arrive.ensures
 
 -- ---- The packet joins others on its flow's own link
 
