@@ -30,6 +30,9 @@ HISTORY = ("dummynet-history,3\nc,0,configure,pipe 1 config bw 8000000bit/s\nr,c
 CHANGED = HISTORY.replace("r,queued,0,0,0", "r,queued,0,0,1")
 FILES = {"c": CONFIG, "p": PACKETS, "h": HISTORY}
 OLDER = "an older history\n"
+SUBMIT = "c,0,submit,pipe,1,10.0.0.1,10.0.0.2,17,1000,2000,1000,0,0\n"
+SESSION = f"{CONFIG}{SUBMIT}c,0,collect,4611686018427387904\n"
+BAD_LINE = "#,bad,4,1,word 1: unknown word\n"
 
 
 @dataclass(frozen=True)
@@ -66,8 +69,12 @@ FORMS = [
     Case("an older history is replaced", replay("--history", "old"), 0, REPORT, files={**FILES, "old": OLDER * 100}, made={"old": HISTORY}),
     Case("a history over the packets by another name", replay("--history", "./p"), 0, REPORT, made={"p": HISTORY}),
     Case("sixteen callers", replay("--callers", "16"), 0, REPORT),
+    Case("two callers", replay("--callers", "2"), 0, REPORT),
     Case("lawful history", ["audit", "h"], 0, "lawful 3\n"),
     Case("changed history", ["audit", "h"], 1, "differs 1\n", files={"h": CHANGED}),
+    Case("a live session", ["live"], 0, HISTORY, stdin=SESSION),
+    Case("a live session without lines", ["live"], 0, "dummynet-history,3\nend,0\n"),
+    Case("a bad line of a live session", ["live"], 4, HISTORY.replace("end,3\n", f"{BAD_LINE}end,3\n"), stdin=f"{SESSION}hello\n"),
     Case("CR LF in a joined input", [], 0, REPORT, stdin=f"{CONFIG}--\n{PACKETS}".replace("\n", "\r\n")),
     Case("CR LF in two files", replay(), 0, REPORT, files={"c": CONFIG.replace("\n", "\r\n"), "p": PACKETS.replace("\n", "\r\n")}),
     Case("CR LF in a history", ["audit", "h"], 0, "lawful 3\n", files={"h": HISTORY.replace("\n", "\r\n")}),
@@ -86,6 +93,8 @@ FAULTS = [
     fault("another header", replay(), 4, "packet row 0, field 0: bad", files={"c": CONFIG, "p": "moment,target\n"}),
     fault("a short row", replay(), 4, "packet row 2, field 0: bad", files={"c": CONFIG, "p": f"{PACKETS}\n\n0,pipe,1\n"}),
     fault("a bad field", replay(), 4, "packet row 1, field 9: bad", files={"c": CONFIG, "p": PACKETS.replace(",1000,0\n", ",0,0\n")}),
+    fault("a bad row of a joined input", [], 4, "packet row 1, field 0: bad", stdin=f"{CONFIG}--\n{HEADER}0\n"),
+    fault("a joined input without end", [], 6, "input too long", stdin="#" * 67_108_865),
     fault("a cut history", ["audit", "h"], 4, "history record 9: bad", files={"h": HISTORY.replace("end,3\n", "")}),
     fault("no configuration", ["replay", "none", "p"], 6, "cannot read config"),
     fault("no packets, told before a bad configuration", ["replay", "c", "none"], 6, "cannot read packets", files={"c": "bad\n"}),
@@ -95,6 +104,12 @@ FAULTS = [
     fault("no history", ["audit", "none"], 6, "cannot read history"),
     fault("a read that fails", ["replay", "/proc/self/mem", "p"], 6, "cannot read config"),
     fault("a configuration without end", ["replay", "/dev/zero", "p"], 6, "config too long"),
+    *[fault(f"{told} with {' '.join(options)}", ["replay", *names, *options], status, line, files={**FILES, "bad": "bad\n", "rows": HEADER + "0\n"})
+      for options in (["--callers", "2"], ["--history", "new"], ["--callers", "2", "--history", "new"])
+      for told, names, status, line in (("a bad configuration", ["bad", "p"], 3, "config line 1, word 1: unknown word"),
+                                        ("a bad row", ["c", "rows"], 4, "packet row 1, field 0: bad"),
+                                        ("no packets", ["c", "none"], 6, "cannot read packets"))],
+    Case("a history of two callers in no folder", replay("--callers", "2", "--history", "no/new"), 6, REPORT, "cannot write history\n"),
     Case("a history in no folder", replay("--history", "no/new"), 6, REPORT, "cannot write history\n"),
     Case("a folder in the place of a history", replay("--history", "."), 6, REPORT, "cannot write history\n"),
     Case("a full device in the place of a history", replay("--history", "/dev/full"), 6, REPORT, "cannot write history\n"),
@@ -105,9 +120,12 @@ SAME = "error: --history FILE would overwrite CONFIG or PACKETS\n"
 USAGES = [
     *[Case(f"usage: {' '.join(words)}", words, 2, "", None)
       for words in (["nothing"], ["--nothing"], ["replay"], ["replay", "c"], replay("more"), replay("--callers", "0"), replay("--callers", "17"),
-                    replay("--callers", "two"), replay("--callers"), replay("--history"), ["audit"], ["audit", "h", "h"], ["-x"])],
+                    replay("--callers", "two"), replay("--callers"), replay("--history"), replay("--callers", "17", "--history", "new"),
+                    replay("--callers", "2", "--callers", "2"), ["audit"], ["audit", "h", "h"], ["audit", "h", "--history", "new"],
+                    ["live", "h"], ["live", "--callers", "2"], ["--callers", "2"], ["-x"])],
     *[Case(f"a history over {name}, the {word}", ["replay", *names, "--history", name], 2, "", None)
-      for names, name, word in ((["c", "p"], "c", "configuration"), (["c", "p"], "p", "packets"), (["none", "p"], "none", "missing file"))],
+      for names, name, word in ((["c", "p"], "c", "configuration"), (["c", "p"], "p", "packets"), (["none", "p"], "none", "missing file"),
+                              (["c", "p", "--callers", "2"], "p", "packets of two callers"))],
 ]
 
 
@@ -168,6 +186,11 @@ def devices(tally: Tally, program: str) -> None:
             tally.equal(f"{name} to a broken pipe", (6, b"cannot write report\n"), (done.returncode, done.stderr))
         done = run(program, replay("--history", "new"), folder, "", stdout=full)
         tally.equal("no history after a report that failed", (6, False), (done.returncode, (Path(folder) / "new").exists()))
+        done = run(program, ["live"], folder, SESSION, stdout=full)
+        tally.equal("a live session to a full device", (6, b"cannot write history\n"), (done.returncode, done.stderr))
+        for word in ("--help", "--version"):
+            done = run(program, [word], folder, "", stdout=full)
+            tally.equal(f"{word} to a full device", (0, b""), (done.returncode, done.stderr))
         done = run(program, ["replay", "none", "p"], folder, "", stderr=full)
         tally.equal("a fault line to a full device", (6, b""), (done.returncode, done.stdout))
         done = subprocess.run(["sh", "-c", 'ulimit -s 160; exec "$0" replay c p', program], cwd=folder, capture_output=True)
@@ -177,8 +200,9 @@ def devices(tally: Tally, program: str) -> None:
         with open(Path(folder) / "both", "wb") as both:
             run(program, replay("--history", "both"), folder, "", stdout=both)
         tally.equal("a history over the report", HISTORY, (Path(folder) / "both").read_text())
-        done = subprocess.run(["sh", "-c", 'exec "$0" <&-', program], cwd=folder, capture_output=True)
-        tally.equal("standard input closed", (6, b"", b"cannot read input\n"), (done.returncode, done.stdout, done.stderr))
+        for name, form, begun in (("", "", b""), (" of a live session", "live", b"dummynet-history,3\n")):
+            done = subprocess.run(["sh", "-c", f'exec "$0" {form} <&-', program], cwd=folder, capture_output=True)
+            tally.equal(f"standard input{name} closed", (6, begun, b"cannot read input\n"), (done.returncode, done.stdout, done.stderr))
 
 
 def rights(tally: Tally, program: str) -> None:
