@@ -4,6 +4,7 @@ ghost use Rattle.dn_records.specs.Writing.{record_of};
 
 use crate::append::append_record;
 use crate::field::Field;
+use crate::line::Line;
 use std::alloc::{AllocError, Global};
 use std::marker::Model;
 
@@ -62,6 +63,17 @@ impl RecordWriter {
             self.text.truncate(before);
         }
         outcome
+    }
+
+    /// Adds a line that is made, or nothing where memory for it was refused.
+    pub fn write_line(&mut self, line: &Line) -> Result<(), AllocError>
+        ensures ok { OnOk result (self.new.text ≡ self.old.text ++ line.now) }
+        ensures succeeds { length line.now ≤ self.old.room → IsOk result }
+        ensures room { OnOk result (self.old.room ≤ self.new.room + length line.now) }
+        ensures err { OnErr result (self.new.text ≡ self.old.text) }
+        ensures keeps_room { OnErr result (self.old.room ≤ self.new.room) }
+    {
+        self.text.extend_from_slice(line.as_bytes())
     }
 
     /// The text of all records.

@@ -1,5 +1,5 @@
 use csv::ByteRecord;
-use dn_records::{Field, RecordReader, RecordWriter};
+use dn_records::{Field, Line, RecordReader, RecordWriter};
 use std::alloc::{AllocError, Global};
 use std::process::Abort;
 use std::test::Fail;
@@ -105,5 +105,23 @@ fn a_text_fills_its_room(rt: HostRuntime) -> Result<(), Fail> {
     let text = writer.into_text();
     assert!(rt; text.as_slice() == b"1,\n2,\n3,\n".as_slice());
     assert!(rt; text.capacity() == 9);
+    Ok(())
+}
+
+// A line is made from its end, and stands behind the record before it.
+#[test]
+fn a_line_is_made_from_its_end(rt: HostRuntime) -> Result<(), Fail> {
+    let mut line = Line::new();
+    line.put_number(18_446_744_073_709_551_615);
+    line.put_number(0);
+    line.put_address(0xff000a01);
+    line.put_bytes(b"lost,pipe");
+    let mut writer = RecordWriter::new(rt.alloc());
+    writer.write(&[Field::Text("event")])?;
+    writer.write_line(&line)?;
+    let text = writer.into_text();
+    assert!(rt;
+        text.as_slice() == b"event\nlost,pipe,255.0.10.1,0,18446744073709551615\n".as_slice()
+    );
     Ok(())
 }
