@@ -9,6 +9,7 @@ pub mod HistoryReading
 pub mod HistorySteps
 pub mod HistoryWitness
 pub mod ItemsBack
+pub mod LineBytes
 pub mod PlainForms
 pub mod PlainRecords
 pub mod Remarks

@@ -1,12 +1,13 @@
-ghost use Rattle.std.specs.Prelude.{◌≡◌, [], ◌∷◌, ◌++◌, codes, decimal, OnOk};
+ghost use Rattle.std.specs.Prelude.{◌≡◌, ◌≤◌, ◌+◌, [], ◌∷◌, ◌++◌, codes, decimal, length, OnOk};
 ghost use Rattle.dn_types.specs.declared.call.Call.TheVariants.{Configure, Submit};
 ghost use Rattle.dn_records.specs.Records.{line_of};
-ghost use Rattle.dn_history.specs.EntryRecords.{call_record};
+ghost use Rattle.dn_history.specs.EntryRecords.{call_record, target_name, target_number};
 
-use crate::write::target::{target_name, target_number};
+use crate::write::ranges::submit_in_range;
+use crate::write::target::target_number;
 use dn_config::print_command;
 use dn_files::number;
-use dn_records::{Field, RecordWriter};
+use dn_records::{Field, Line, RecordWriter};
 use dn_types::{Call, Command, Moment, Packet, Target};
 use std::alloc::{AllocError, Global};
 
@@ -28,6 +29,20 @@ fn write_configure(
     ])
 }
 
+/// Puts what a Submit's record says of its target, behind the caller.
+fn put_target(line: &mut Line, target: &Target)
+    requires { length line.old + 34 ≤ 256 }
+    ensures written { line.new ≡ 44 ∷ (codes "submit" ++ 44 ∷ (target_name target.now
+        ++ 44 ∷ (decimal (target_number target.now) ++ line.old))) }
+    ensures len { length line.new ≤ length line.old + 34 }
+{
+    line.put_number(target_number(target));
+    match target {
+        Target::Pipe(_) => line.put_bytes(b",submit,pipe"),
+        Target::Queue(_) => line.put_bytes(b",submit,queue"),
+    }
+}
+
 /// Adds the record of a Submit.
 fn write_submit(
     writer: &mut RecordWriter,
@@ -39,21 +54,20 @@ fn write_submit(
     ensures { OnOk result (writer.new.text
         ≡ writer.old.text ++ line_of (call_record caller (Submit target.now packet.now moment))) }
 {
-    writer.write(&[
-        Field::Text("c"),
-        number(caller as u64),
-        Field::Text("submit"),
-        Field::Text(target_name(target)),
-        number(target_number(target)),
-        Field::Address(packet.tuple.src),
-        Field::Address(packet.tuple.dst),
-        number(u64::from(packet.tuple.proto)),
-        number(u64::from(packet.tuple.sport)),
-        number(u64::from(packet.tuple.dport)),
-        number(u64::from(packet.len.get())),
-        number(u64::from(packet.word)),
-        number(moment.get()),
-    ])
+    submit_in_range(*target, *packet, moment);
+    let mut line = Line::new();
+    line.put_number(moment.get());
+    line.put_number(u64::from(packet.word));
+    line.put_number(u64::from(packet.len.get()));
+    line.put_number(u64::from(packet.tuple.dport));
+    line.put_number(u64::from(packet.tuple.sport));
+    line.put_number(u64::from(packet.tuple.proto));
+    line.put_address(packet.tuple.dst);
+    line.put_address(packet.tuple.src);
+    put_target(&mut line, target);
+    line.put_number(caller as u64);
+    line.put_bytes(b"c");
+    writer.write_line(&line)
 }
 
 /// Adds the record of a call that has a moment alone.

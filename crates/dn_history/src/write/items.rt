@@ -2,9 +2,10 @@ ghost use Rattle.std.specs.Prelude.{◌≡◌, ◌++◌, map, OnOk};
 ghost use Rattle.dn_records.specs.Records.{line_of, text_of};
 ghost use Rattle.dn_history.specs.EntryRecords.{delivery_record, item_records, status_record};
 
+use crate::write::ranges::delivery_in_range;
 use crate::write::target::{target_name, target_number};
 use dn_files::number;
-use dn_records::{Field, RecordWriter};
+use dn_records::{Field, Line, RecordWriter};
 use dn_types::{Delivery, FlowKey, FlowStatus, Reply};
 use std::alloc::AllocError;
 
@@ -12,13 +13,14 @@ use std::alloc::AllocError;
 fn write_delivery(writer: &mut RecordWriter, delivery: &Delivery) -> Result<(), AllocError>
     ensures { OnOk result (writer.new.text ≡ writer.old.text ++ line_of (delivery_record delivery.now)) }
 {
-    writer.write(&[
-        Field::Text("d"),
-        number(delivery.packet),
-        number(delivery.flow as u64),
-        number(delivery.start),
-        number(delivery.due),
-    ])
+    delivery_in_range(*delivery);
+    let mut line = Line::new();
+    line.put_number(delivery.due);
+    line.put_number(delivery.start);
+    line.put_number(delivery.flow as u64);
+    line.put_number(delivery.packet);
+    line.put_bytes(b"d");
+    writer.write_line(&line)
 }
 
 /// Adds the records of delivered packets.

@@ -3,15 +3,20 @@
 
 ghost use Rattle.std.specs.Prelude.{length};
 ghost use Rattle.std.specs.List.{All};
+ghost use Rattle.dn_types.specs.declared.call.Call.TheVariants.{Submit};
 ghost use Rattle.dn_history.specs.Ranges.{AreEntries, IsCall, IsDelivery, IsEntry, IsLong, IsReply, IsStatus};
 
-use dn_types::{Call, Delivery, Entry, FlowStatus, Reply};
+use dn_types::{Call, Delivery, Entry, FlowStatus, Moment, Packet, Reply, Target};
 
 fn call_in_range(call: Call)
     ensures { IsCall call }
 {}
 
-fn delivery_in_range(delivery: Delivery)
+pub(crate) fn submit_in_range(target: Target, packet: Packet, moment: Moment)
+    ensures { IsCall (Submit target packet moment) }
+{}
+
+pub(crate) fn delivery_in_range(delivery: Delivery)
     ensures { IsDelivery delivery }
 {}
 

@@ -3,7 +3,7 @@ ghost use Rattle.dn_records.specs.Records.{line_of};
 ghost use Rattle.dn_history.specs.EntryRecords.{reply_record};
 
 use dn_files::number;
-use dn_records::{Field, RecordWriter};
+use dn_records::{Field, Line, RecordWriter};
 use dn_types::Reply;
 use std::alloc::AllocError;
 
@@ -49,13 +49,12 @@ fn write_queued(
     ensures { OnOk result (writer.new.text ≡ writer.old.text
         ++ line_of (codes "r" ∷ codes "queued" ∷ decimal at ∷ decimal flow ∷ decimal packet ∷ [])) }
 {
-    writer.write(&[
-        Field::Text("r"),
-        Field::Text("queued"),
-        number(at),
-        number(flow as u64),
-        number(packet),
-    ])
+    let mut line = Line::new();
+    line.put_number(packet);
+    line.put_number(flow as u64);
+    line.put_number(at);
+    line.put_bytes(b"r,queued");
+    writer.write_line(&line)
 }
 
 /// Adds the record of a reply. What it lists follows in records of their own.
