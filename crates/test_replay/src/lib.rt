@@ -10,6 +10,8 @@ mod memory;
 #[cfg(test)]
 mod parts;
 #[cfg(test)]
+mod passing;
+#[cfg(test)]
 mod replays;
 #[cfg(test)]
 mod reports;

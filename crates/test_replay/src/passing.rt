@@ -1,0 +1,41 @@
+use crate::headers::PACKET_HEADER;
+use dn_records::{FromReader, FromWriter};
+use dn_replay::{HashKey, replay_joined, replay_joined_report};
+use std::alloc::{AllocError, Global};
+use std::test::Fail;
+
+// So many rows that packets are collected in passing, more than once.
+const ROWS: u32 = 3_000;
+
+// Seven rows a millisecond, to a pipe that carries three of them in it and to one on which each packet is due at
+// its own moment. So where packets are collected in passing, others that are due then come later.
+fn many_rows(alloc: Global) -> Result<String, AllocError> {
+    let config = "pipe 1 config bw 24Mbit/s delay 2ms queue 100\npipe 2 config\n";
+    let mut text = format!(in alloc; "{config}--\n{PACKET_HEADER}")?;
+    for row in 0..ROWS {
+        let milliseconds = (row / 7).saturating_add(1);
+        let pipe = if row % 2 == 0 { 1 } else { 2 };
+        let line = format!(in alloc;
+            "{milliseconds}000000,pipe,{pipe},10.0.0.1,10.0.0.2,17,1000,2000,1000,0\n"
+        )?;
+        text.push_str(line.as_str())?;
+    }
+    Ok(text)
+}
+
+// A report that is written in one pass is that of the history.
+#[test]
+fn the_report_of_many_rows_is_that_of_their_history(rt: HostRuntime) -> Result<(), Fail> {
+    let alloc = rt.alloc();
+    let text = many_rows(alloc)?;
+    let mut report = Vec::new(alloc);
+    let mut input = FromReader::new(text.as_bytes());
+    let mut out = FromWriter::new(&mut report);
+    assert!(rt; replay_joined_report(alloc, HashKey(7), &mut input, &mut out) == Ok(()));
+    let mut written = Vec::new(alloc);
+    let mut input = FromReader::new(text.as_bytes());
+    let mut out = FromWriter::new(&mut written);
+    assert!(rt; replay_joined(alloc, HashKey(7), &mut input, &mut out).is_ok());
+    assert!(rt; report.as_slice() == written.as_slice());
+    Ok(())
+}
