@@ -3,13 +3,14 @@ ghost use Rattle.dn_types.specs.Flows.{flow_number, with_key};
 ghost use Rattle.dn_flows.specs.Table.{flow_at, is_known, flows_with, IsUnused, lengths, verdict_of, with_place, pushed, popped, one_lost, one_full, emptied, status_of, is_of, is_on, places_where};
 ghost use Rattle.dn_flows.specs.Members.{Lists};
 
+mod find;
 mod pass;
 
 use crate::drop_rule::DropRule;
 use crate::flow_queue::FlowQueue;
 use crate::hash_key::HashKey;
 use crate::keyed_hash::KeyedHash;
-use crate::keys::{flow_with_key, forget_last_key};
+use crate::keys::{first_with_key, forget_last_key};
 use crate::members::Members;
 use crate::packet_store::PacketStore;
 use crate::table_key::TableKey;
@@ -86,7 +87,8 @@ impl Flows {
     }
 
     /// The number of the flow with the key, which is made where no flow has it. A key that is known
-    /// takes no memory. It is inlined, so that a look-up packs the key without having it written first.
+    /// takes no memory. It is inlined, so that where the first flow of the target has the key, this is
+    /// never written.
     #[inline(always)]
     pub fn find_or_make(&mut self, key: FlowKey) -> Result<usize, AllocError>
         ensures number { IfOk result (λ flow. flow ≡ flow_number self.old.keys key) }
@@ -96,41 +98,11 @@ impl Flows {
         ensures err { OnErr result (self.new ≡ self.old) }
         ensures succeeds { is_known key self.old.keys ≡ true → IsOk result }
     {
-        if let Some(flow) = flow_with_key(&self.keys, &self.members, &key) {
+        let table_key = TableKey::new(key);
+        if let Some(flow) = first_with_key(&self.keys, &self.members, &key, &table_key) {
             return Ok(flow);
         }
-        self.make(key)
-    }
-
-    /// Makes the flow of a key that no flow has. It isn't inlined, so that a look-up, which most calls are,
-    /// reads the key where it stands.
-    #[inline(never)]
-    fn make(&mut self, key: FlowKey) -> Result<usize, AllocError>
-        requires { is_known key self.old.keys ≡ false }
-        ensures number { IfOk result (λ flow. flow ≡ flow_number self.old.keys key) }
-        ensures within { IfOk result (λ flow. flow < length self.new.flows) }
-        ensures keys { OnOk result (self.new.keys ≡ with_key key self.old.keys) }
-        ensures flows { OnOk result (self.new.flows ≡ flows_with key self.old) }
-        ensures err { OnErr result (self.new ≡ self.old) }
-    {
-        let table_key = TableKey::new(key);
-        // The places beside the key come first, so that nothing can fail once the key is in.
-        self.queues.reserve(1)?;
-        self.unsent.reserve(1)?;
-        let flow = self.queues.len();
-        self.members.push(&key, flow)?;
-        let Ok(_) = self.keys.insert_full(table_key) else {
-            self.members.pop(&key);
-            return Err(AllocError);
-        };
-        let queue = FlowQueue::new();
-        self.queues.push_reserved(queue);
-        self.unsent.push_reserved(Unsent {
-            lost: 0,
-            full: 0,
-            discarded: 0,
-        });
-        Ok(flow)
+        self.find_by_hash_or_make(table_key)
     }
 
     /// Takes out the flow that was made last, for a caller that made it and then found no memory.

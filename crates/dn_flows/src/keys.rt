@@ -12,6 +12,7 @@ use dn_types::FlowKey;
 use indexmap::IndexSet;
 
 /// Whether the flow is there and has the key.
+#[inline(always)]
 fn has_key(keys: &IndexSet<TableKey, KeyedHash>, flow: usize, key: &TableKey) -> bool
     ensures { result ≡ option_map_or (key_eq key.now) (slice_get keys.now.keys flow) false }
 {
@@ -23,7 +24,8 @@ fn has_key(keys: &IndexSet<TableKey, KeyedHash>, flow: usize, key: &TableKey) ->
 
 /// The first flow of the key's target, where it has the key. It is found without a hash, and where the
 /// mask has no bits there is no other, unless the target was configured anew.
-fn first_with_key(
+#[inline(always)]
+pub fn first_with_key(
     keys: &IndexSet<TableKey, KeyedHash>,
     members: &Members,
     key: &FlowKey,
@@ -43,23 +45,13 @@ fn first_with_key(
     }
 }
 
-/// The flow with the key, where there is one.
-#[inline]
-pub fn flow_with_key(
-    keys: &IndexSet<TableKey, KeyedHash>,
-    members: &Members,
-    key: &FlowKey,
-) -> Option<usize>
-    requires { Lists keys.now.keys members.now }
+/// The flow with the key, where there is one, by the hash of the key.
+pub fn flow_by_hash(keys: &IndexSet<TableKey, KeyedHash>, key: &TableKey) -> Option<usize>
     ensures number { IfSome result (λ flow. flow ≡ flow_number keys.now.keys key.now) }
     ensures known { is_some result ≡ is_known key.now keys.now.keys }
     ensures within { IfSome result (λ flow. flow < length keys.now.keys) }
 {
-    let table_key = TableKey::new(*key);
-    if let Some(first) = first_with_key(keys, members, key, &table_key) {
-        return Some(first);
-    }
-    let flow = keys.get_index_of(&table_key)?;
+    let flow = keys.get_index_of(key)?;
     Some(flow)
 }
 

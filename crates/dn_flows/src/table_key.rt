@@ -37,6 +37,7 @@ impl Model for TableKey {
 }
 
 impl TableKey {
+    #[inline(always)]
     pub fn new(key: FlowKey) -> TableKey
         ensures { result ≡ key }
     {
