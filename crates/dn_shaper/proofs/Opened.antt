@@ -19,7 +19,7 @@ use Rattle.dn_wf2q.specs.Schedule.{Flow, flow_at as slot_at, forgotten, without_
 use Rattle.dn_shaper.specs.Refinement.Slots.{Ascends, top}
 use Rattle.dn_shaper.proofs.Homes.{home-after, slots_home-after}
 use Rattle.dn_shaper.proofs.Next.{distinct_views}
-use Rattle.dn_shaper.proofs.Scheduled.{forgotten-at}
+use Rattle.dn_wf2q.proofs.Begun.{forgotten_at}
 
 module _ (rule : Rule) (accepted : ℕ) (keys : List FlowKey) (homes : List Home) (views : List LinkView) (flows : List FlowState) (pending : List Delivery)
     (more : List Link) (trace : List Event) (a : IsAt rule accepted keys homes views flows pending more trace) where
@@ -32,11 +32,11 @@ module _ (rule : Rule) (accepted : ℕ) (keys : List FlowKey) (homes : List Home
         let b = begun pipe is in
         record {
           virtual_time_is = b.1 ∙ sym (ap (λ t. cond t 0 (virtual_time v.link trace)) (link_eq-refl v.link));
-          slots_are = λ slot g e. let s = c.slots_are slot g e in let now_at = ap (λ (fs : List Flow). slot_at fs slot) b.0 ∙ forgotten-at v.schedule.flows slot in record {
+          slots_are = λ slot g e. let s = c.slots_are slot g e in let now_at = ap (λ (fs : List Flow). slot_at fs slot) b.0 ∙ forgotten_at v.schedule.flows slot in record {
             backlog_is = ap (λ (f : Flow). f.backlog) now_at ∙ s.backlog_is;
             last_finish_is = ap (λ (f : Flow). f.last_finish_tag) now_at ∙ sym (ap (λ t. cond t 0 (last_finish_tag v.link g trace)) (link_eq-refl v.link));
           };
-          beyond = λ slot le. ap (λ (fs : List Flow). slot_at fs slot) b.0 ∙ forgotten-at v.schedule.flows slot ∙ ap without_tag (c.beyond slot le);
+          beyond = λ slot le. ap (λ (fs : List Flow). slot_at fs slot) b.0 ∙ forgotten_at v.schedule.flows slot ∙ ap without_tag (c.beyond slot le);
         }
 
     made : IsLinkAt rule (length keys) (opened v.link ∷ trace) v'

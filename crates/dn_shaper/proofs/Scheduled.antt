@@ -2,7 +2,8 @@
 use Rattle.std.proofs.Common.{◌≡◌, ◌∙◌, ◌≤◌, ℕ, zero, suc, ◌+◌, List, [], ◌∷◌, refl, ap, sym, length, arith}
 use Rattle.std.proofs.lemmas.List.{get_or_past}
 use Rattle.dn_types.specs.Wf2q.{Stamped}
-use Rattle.dn_wf2q.specs.Schedule.{Flow, Schedule, flow_at as slot_at, forgotten, no_packets, waiting_of, without_tag}
+use Rattle.dn_wf2q.specs.Schedule.{Flow, Schedule, flow_at as slot_at, forgotten, no_packets, waiting_of}
+use Rattle.dn_wf2q.proofs.Begun.{forgotten_at}
 use Rattle.dn_shaper.specs.Refinement.Making.{OnlyRoom}
 use Rattle.dn_shaper.proofs.Waiting.{total-same, total-wide}
 
@@ -23,10 +24,5 @@ waits_same old new h =
 pub waits_roomy : (old new : Schedule) → OnlyRoom old new → waiting_of new.flows ≡ waiting_of old.flows
 waits_roomy old new only = waits_same old.flows new.flows (λ slot. ap {B = ℕ} (λ (f : Flow). length f.backlog) (only.flows slot))
 
-pub forgotten-at : (fs : List Flow) (slot : ℕ) → slot_at (forgotten fs) slot ≡ without_tag (slot_at fs slot)
-forgotten-at [] slot = refl
-forgotten-at (f ∷ fs) zero = refl
-forgotten-at (f ∷ fs) (suc slot) = forgotten-at fs slot
-
 pub waits_forgotten : (fs : List Flow) → waiting_of (forgotten fs) ≡ waiting_of fs
-waits_forgotten fs = waits_same fs (forgotten fs) (λ slot. ap {B = ℕ} (λ (f : Flow). length f.backlog) (forgotten-at fs slot))
+waits_forgotten fs = waits_same fs (forgotten fs) (λ slot. ap {B = ℕ} (λ (f : Flow). length f.backlog) (forgotten_at fs slot))

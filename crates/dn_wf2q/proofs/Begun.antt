@@ -19,7 +19,7 @@ use Rattle.dn_wf2q.proofs.Heads.{flow_at_seen}
 use Rattle.dn_wf2q.proofs.Counts.{idle_no_heads, waiting_is}
 
 -- A sum over backlogs does not depend on finish tags.
-sum_forgotten : (h : List Stamped → ℕ) (flows : List Flow) → sum_by (λ fl. h fl.backlog) (forgotten flows) ≡ sum_by (λ fl. h fl.backlog) flows
+pub sum_forgotten : (h : List Stamped → ℕ) (flows : List Flow) → sum_by (λ fl. h fl.backlog) (forgotten flows) ≡ sum_by (λ fl. h fl.backlog) flows
 sum_forgotten h [] = refl
 sum_forgotten h (fl ∷ fls) =
     let a = sum_by-cons (λ x. h x.backlog) (without_tag fl) (forgotten fls) in
@@ -27,10 +27,13 @@ sum_forgotten h (fl ∷ fls) =
     let c = sum_forgotten h fls in
     omega (arith, a, b, c)
 
+pub forgotten_at : (flows : List Flow) (slot : ℕ) → flow_at (forgotten flows) slot ≡ without_tag (flow_at flows slot)
+forgotten_at [] slot = refl
+forgotten_at (fl ∷ fls) zero = refl
+forgotten_at (fl ∷ fls) (suc slot) = forgotten_at fls slot
+
 backlog_forgotten : (flows : List Flow) (slot : ℕ) → (flow_at (forgotten flows) slot).backlog ≡ (flow_at flows slot).backlog
-backlog_forgotten [] slot = refl
-backlog_forgotten (fl ∷ fls) zero = refl
-backlog_forgotten (fl ∷ fls) (suc slot) = backlog_forgotten fls slot
+backlog_forgotten flows slot = ap (λ (fl : Flow). fl.backlog) (forgotten_at flows slot)
 
 within_forgotten : (b : ℕ) (flows : List Flow) → All (AreTagsWithin b) flows → All (AreTagsWithin b) (forgotten flows)
 within_forgotten b [] h = All-nil (AreTagsWithin b)

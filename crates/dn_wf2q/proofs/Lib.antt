@@ -12,6 +12,7 @@ pub mod Sent
 pub mod Own
 pub mod Arrived
 pub mod Begun
+pub mod Passed
 pub mod Reserved
 pub mod Swept
 pub mod Discarded

@@ -1,6 +1,6 @@
 -- A scheduler as callers see it: for each slot the packets that wait, with their tags, and the last finish tag.
-use Rattle.std.specs.Prelude.{◌≡◌, ℕ, ◌+◌, ◌-◌, ◌≤◌, ◌==◌, List, [], ◌∷◌, ◌++◌, length, map, take, drop, slice_index_or, slice_set, replicate}
-use Rattle.dn_types.specs.Wf2q.{Stamped, scaled, start_tag_on_arrival, heads, total, grown}
+use Rattle.std.specs.Prelude.{◌≡◌, ℕ, ◌+◌, ◌-◌, ◌≤◌, ◌==◌, List, [], ◌∷◌, ◌++◌, length, map, take, drop, slice_index_or, slice_set, replicate, Some}
+use Rattle.dn_types.specs.Wf2q.{Stamped, scaled, start_tag_on_arrival, heads, total, grown, pick}
 
 -- A flow: the packets that wait, oldest first, and the finish tag of the flow's last packet in this busy period (0 where
 -- there is none, or where the flow was discarded since).
@@ -85,6 +85,19 @@ pub record Picks (h : Stamped) (old new : Schedule) : Type 0 where
   pub virtual_time : new.virtual_time ≡ grown old.virtual_time (heads_of old.flows) h.len
   pub picks : new.picks ≡ old.picks + 1
   pub one_fewer : waiting_of new.flows + 1 ≡ waiting_of old.flows
+
+-- The schedule between the arrival of a packet at an idle one, with which a busy period begins, and its pick.
+abbrev pub arrived : ℕ → ℕ → ℕ → Schedule → Schedule → Schedule
+arrived slot len weight old new = record { flows = after_arrival (forgotten old.flows) slot 0 len weight; virtual_time = 0; room = new.room; arrivals = old.arrivals + 1; picks = old.picks; moves = new.moves }
+
+-- A packet came to an idle schedule and was picked at once.
+pub record Passes (slot len weight : ℕ) (old new : Schedule) : Type 0 where
+  pub packet : Stamped
+  pub here : packet.flow ≡ slot
+  pub one_more : waiting_of (arrived slot len weight old new).flows ≡ waiting_of old.flows + 1
+  pub picked : pick 0 (heads_of (arrived slot len weight old new).flows) ≡ Some packet
+  pub picks : Picks packet (arrived slot len weight old new) new
+  pub arrivals : new.arrivals ≡ old.arrivals + 1
 
 -- No flow has less room than before.
 abbrev pub KeepsRoom : Schedule → Schedule → Type 0

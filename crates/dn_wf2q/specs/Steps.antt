@@ -1,10 +1,10 @@
 -- What each step of a call changes.
-use Rattle.std.specs.Prelude.{◌≡◌, ℕ, ◌+◌, ◌≤◌, List, [], ◌∷◌, ◌++◌, length, map, take, None}
+use Rattle.std.specs.Prelude.{◌≡◌, ℕ, ◌+◌, ◌<◌, ◌≤◌, List, [], ◌∷◌, ◌++◌, length, map, slice_set, take, None}
 use Rattle.std.specs.List.{All}
 use Rattle.dn_types.specs.Wf2q.{Stamped, scaled, weight_sum}
 use Rattle.dn_wf2q.specs.declared.tagged_queue.TaggedQueue.{TaggedQueue}
 use Rattle.dn_wf2q.specs.declared.sched_parts.SchedParts.{SchedParts}
-use Rattle.dn_wf2q.specs.Schedule.{flow_at, room_at, heads_of, waiting_of, after_arrival, after_pick, after_discard, forgotten}
+use Rattle.dn_wf2q.specs.Schedule.{flow_at, no_packets, room_at, heads_of, waiting_of, after_arrival, after_pick, after_discard, forgotten}
 use Rattle.dn_wf2q.specs.Queue.{behind_of, places}
 use Rattle.dn_wf2q.specs.Kept.{flows_of}
 
@@ -38,6 +38,16 @@ pub record ArrivesAtSlot (slot len weight : ℕ) (old new : SchedParts) : Type 0
   pub picks : new.picks ≡ old.picks
   pub one_more : waiting_of (flows_of new) ≡ waiting_of (flows_of old) + 1
   pub room : (other : ℕ) → (other ≡ slot → ⊥) → room_at (map places old.flows.items) other ≤ room_at (map places new.flows.items) other
+
+-- A packet comes where none waits: a busy period begins, the packet arrives and is sent.
+pub record PassesSlot (slot len weight : ℕ) (old new : SchedParts) : Type 0 where
+  pub listed : slot < length (flows_of old)
+  pub empty : flow_at (forgotten (flows_of old)) slot ≡ no_packets
+  pub flows : flows_of new ≡ slice_set (forgotten (flows_of old)) slot (record { backlog = []; last_finish_tag = scaled len weight })
+  pub virtual_time : new.virtual_time ≡ scaled len weight
+  pub arrivals : new.arrivals ≡ old.arrivals + 1
+  pub picks : new.picks ≡ old.picks + 1
+  pub room : QueuesKeepRoom old new
 
 -- The packets of a slot leave.
 pub record DiscardsSlot (slot : ℕ) (old new : SchedParts) : Type 0 where

@@ -4,6 +4,7 @@
 mod arrive;
 mod behind;
 mod discard;
+mod pass;
 mod pick;
 mod queued_packet;
 mod rank;

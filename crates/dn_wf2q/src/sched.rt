@@ -1,7 +1,7 @@
 ghost use Rattle.std.specs.Prelude.{◌≡◌, ℕ, ◌+◌, ◌*◌, ◌<◌, ◌≤◌, ◌^◌, ◌↔◌, [], length, None, IfSome, IfNone, IsTrue, IsOk, OnOk, OnErr};
 ghost use Rattle.std.specs.Option.{option_map};
 ghost use Rattle.dn_types.specs.Wf2q.{pick};
-ghost use Rattle.dn_wf2q.specs.Schedule.{Picks, KeepsCounts, KeepsRoom, IsIdle, after_arrival, after_discard, flow_at, forgotten, heads_of, padded, room_at, waiting_of};
+ghost use Rattle.dn_wf2q.specs.Schedule.{Passes, Picks, KeepsCounts, KeepsRoom, IsIdle, after_arrival, after_discard, flow_at, forgotten, heads_of, padded, room_at, waiting_of};
 
 use crate::sched_parts::SchedParts;
 use dn_heap::MinHeap;
@@ -112,6 +112,19 @@ impl Sched {
     {
         self.parts.refresh(&mut self.stale);
         self.parts.arrive(slot, len.get(), weight.get())
+    }
+
+    /// A packet that comes where none waits begins a busy period and is sent at once, as by
+    /// `begin_busy`, `arrive` and `pick`. It takes no memory.
+    pub fn pass(&mut self, slot: usize, len: Len, weight: Weight)
+        requires idle { IsIdle self.old.flows }
+        requires reserved { 0 < room_at self.old.room slot }
+        requires few { self.old.arrivals < 2 ^ 62 }
+        ensures passes { Passes slot len weight self.old self.new }
+        ensures keeps_room { KeepsRoom self.old self.new }
+    {
+        self.parts.refresh(&mut self.stale);
+        self.parts.pass(slot, len.get(), weight.get())
     }
 
     /// The slot whose first packet is sent next. That packet leaves, and virtual time moves on.

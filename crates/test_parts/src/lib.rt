@@ -24,6 +24,8 @@ mod link;
 #[cfg(test)]
 mod packet_parts;
 #[cfg(test)]
+mod passing;
+#[cfg(test)]
 mod record_example;
 #[cfg(test)]
 mod records;

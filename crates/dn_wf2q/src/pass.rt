@@ -1,0 +1,35 @@
+ghost use Rattle.std.specs.Prelude.{◌≡◌, ◌<◌, ◌≤◌, ◌^◌, map};
+ghost use Rattle.dn_wf2q.specs.Schedule.{IsIdle, room_at};
+ghost use Rattle.dn_wf2q.specs.Queue.{places};
+ghost use Rattle.dn_wf2q.specs.Kept.{IsSchedKept, flows_of};
+ghost use Rattle.dn_wf2q.specs.Steps.{PassesSlot};
+
+use crate::rank::Rank;
+use crate::scaled::cost;
+use crate::sched_parts::SchedParts;
+
+impl SchedParts {
+    /// A packet that comes where none waits is sent at once. Its start tag is 0, and alone it lets
+    /// virtual time grow by its own cost. Its flow enters a heap and leaves it, as each packet's does.
+    pub(crate) fn pass(&mut self, slot: usize, len: u16, weight: u8)
+        requires kept { IsSchedKept self.old }
+        requires idle { IsIdle (flows_of self.old) }
+        requires room { 0 < room_at (map places self.old.flows.items) slot }
+        requires few { self.old.arrivals < 2 ^ 62 }
+        requires some { 0 < weight }
+        requires in_range { weight ≤ 100 }
+        ensures passes { PassesSlot slot len weight self.old self.new }
+        ensures kept { IsSchedKept self.new }
+    {
+        let finish_tag = cost(len, weight) as u128;
+        self.busy_from = self.arrivals;
+        self.arrivals += 1;
+        self.picks += 1;
+        self.virtual_time = finish_tag;
+        let q = &mut self.flows[slot];
+        q.last_finish_tag = finish_tag;
+        q.arrived = self.arrivals;
+        self.eligible.push_reserved(Rank::new(finish_tag, slot));
+        let _ = self.eligible.pop();
+    }
+}
