@@ -21,7 +21,7 @@ use Rattle.dn_shaper.specs.Refinement.Agreement.{AgreesWith, Agrees, GivesRates,
 use Rattle.dn_shaper.specs.Refinement.Arriving.{ArrivesAt, Accepts, KeepsFlows, is_idle}
 use Rattle.dn_shaper.specs.Refinement.NextStarts.{Holds, one_backlogged, backlogged}
 use Rattle.dn_shaper.specs.Refinement.Settling.{AreInStep}
-use Rattle.dn_shaper.specs.Refinement.Starting.{Within, CanStart, StartsAt}
+use Rattle.dn_shaper.specs.Refinement.Starting.{Within, StartsAt}
 use Rattle.dn_shaper.specs.Refinement.Submitting.{MayAccept}
 use Rattle.dn_shaper.specs.Refinement.Views.{LinkView, queue_lengths, view_of, views_of, home, next_starts, next_start_of}
 use Rattle.dn_shaper.proofs.Arriving.{set-self, set-set, link-home, arrives-agree, next-alone, starts-at-once, arrives-nexts, arrives-names, arrives-within}
@@ -113,14 +113,6 @@ module _ {settings : Settings} {at : ℕ} {h : Home} {flow len weight : ℕ} {id
   module _ (yes' : idle ≡ true) where
     was_idle : (s.view.waits ≡ 0) × (s.view.value.free ≤ at)
     was_idle = idle-is at s.view (sym s.idle_is ∙ yes')
-
-    pub can-start-mid : CanStart mid h.place at
-    can-start-mid = record {
-      view = s.view';
-      there = mid-there;
-      some = let w = s.joins.waits in omega arith;
-      soon = let e = ap {B = ℕ} (λ x. x.free) s.joins.value in let f = was_idle.1 in omega arith;
-    }
 
     module _ {bandwidth delay : ℕ} {new : Parts} (t : StartsAt h.place at bandwidth delay mid new) (rates : GivesRates settings (pipe_of l) bandwidth delay) where
       same_view : t.view ≡ s.view'

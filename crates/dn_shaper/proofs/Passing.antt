@@ -1,6 +1,6 @@
 -- A packet starts at once on its flow's own link, which is idle. The parts between its arrival and its start are told here alone:
 -- the flow's queue never holds it.
-use Rattle.std.proofs.Common.{◌≡◌, ◌∙◌, ◌<◌, ◌+◌, ◌^◌, ℕ, zero, suc, Bool, cond, List, [], ◌∷◌, ◌++◌, map, set, get_or, refl, ap, sym, subst, true, false, length, length-set, arith}
+use Rattle.std.proofs.Common.{◌≡◌, ◌∙◌, ◌<◌, ◌+◌, ◌^◌, ℕ, cond, List, [], ◌∷◌, ◌++◌, map, set, get_or, refl, ap, sym, subst, true, length, length-set, arith}
 use Rattle.std.specs.Prelude.{◌≤◌, ◌*◌, Some, slice_get, slice_set}
 use Rattle.dn_heap.specs.Heap.{Heap}
 use Rattle.dn_types.specs.Configuration.{Settings}
@@ -13,6 +13,7 @@ use Rattle.dn_flows.proofs.Places.{eq-yes, get-below, get-map, get-read}
 use Rattle.dn_flows.proofs.Views.{flow_after_set}
 use Rattle.dn_link.specs.LinkState.{LinkState}
 use Rattle.dn_shaper.specs.declared.links.home.Home.{Home}
+use Rattle.dn_shaper.specs.declared.links.link_parts.Carries.{Carries}
 use Rattle.dn_shaper.specs.declared.links.link_parts.Carries.TheVariants.{Own}
 use Rattle.dn_shaper.specs.declared.links.link_parts.LinkParts.{LinkParts}
 use Rattle.dn_shaper.specs.declared.links.next_start.NextStart.{NextStart}
@@ -22,8 +23,8 @@ use Rattle.dn_shaper.specs.Refinement.Arriving.{ArrivesAt, is_idle}
 use Rattle.dn_shaper.specs.Refinement.Passing.{IsIdleAt}
 use Rattle.dn_shaper.specs.Refinement.Starting.{CanStart, Starts, Within}
 use Rattle.dn_shaper.specs.Refinement.Submitting.{MayAccept}
-use Rattle.dn_shaper.specs.Refinement.Views.{IsAlone, LinkView, carried_link, queue_lengths, view_of, views_of}
-use Rattle.dn_shaper.proofs.Accepted.{idle-is, mid-agrees, mid-all, same-view}
+use Rattle.dn_shaper.specs.Refinement.Views.{carried_link, queue_lengths, view_of, views_of}
+use Rattle.dn_shaper.proofs.Accepted.{idle-is, mid-agrees, mid-all}
 use Rattle.dn_shaper.proofs.Accepting.{home-at, may-agree}
 use Rattle.dn_shaper.proofs.Alone.{push-longer, set-seen}
 use Rattle.dn_shaper.proofs.Arriving.{set-self, set-set}
@@ -37,27 +38,9 @@ stands xs i {x = x} {y = y} there read =
     let both : Some y ≡ Some x = sym (get-read xs i y (get-below xs i x there) read) ∙ there in
     cc
 
--- ---- An idle link is seen as idle where the packet arrives
-
-module _ {at place : ℕ} {old : Parts} (is : IsIdleAt at place old) where
-  pub seen-idle : slice_get (views_of old) place ≡ Some (view_of (queue_lengths old.flows.flows) is.link)
-  seen-idle = get-map (view_of (queue_lengths old.flows.flows)) old.links.items place is.link is.there
-
-  pub read-idle : is.link ≡ get_or old.links.items place is.link
-  read-idle = sym (read-at old.links.items place is.there)
-    where
-      read-at : (xs : List LinkParts) (i : ℕ) {x : LinkParts} → slice_get xs i ≡ Some x → get_or xs i x ≡ x
-      read-at [] i e = absurd cc
-      read-at (y ∷ xs) zero {x = x} e = let same : y ≡ x = cc in same
-      read-at (y ∷ xs) (suc i) e = read-at xs i e
-
-pub arrives-idle : {at : ℕ} {h : Home} {flow len weight : ℕ} {idle : Bool} {old mid : Parts} (is : IsIdleAt at h.place old) → ArrivesAt at h flow len weight idle old mid → idle ≡ true
-arrives-idle {at = at} is s = s.idle_is ∙ ap (is_idle at) (same-view s (seen-idle is)) ∙ is.idle
-
--- A link that isn't idle is seen as such.
-pub arrives-busy : {at : ℕ} {h : Home} {flow len weight : ℕ} {idle : Bool} {old mid : Parts} {v : LinkView} → slice_get (views_of old) h.place ≡ Some v → is_idle at v ≡ false →
-    ArrivesAt at h flow len weight idle old mid → idle ≡ false
-arrives-busy {at = at} there busy s = s.idle_is ∙ ap (is_idle at) (same-view s there) ∙ busy
+-- What the link that is read at the place carries.
+pub shared-carries : {at place : ℕ} {old : Parts} (is : IsIdleAt at place old) {l : LinkParts} → l ≡ get_or old.links.items place l → {k : Carries} → l.carries ≡ k → is.link.carries ≡ k
+shared-carries {place = place} {old = old} is read-link carries = ap (λ (x : LinkParts). x.carries) (sym (stands old.links.items place is.there read-link)) ∙ carries
 
 -- ---- The flow's own link
 

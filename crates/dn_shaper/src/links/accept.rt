@@ -56,7 +56,7 @@ pub fn accept(
         let rates = configured.rates(pipe);
         pass(parts, home, flow, len, how.weight, at, &rates);
     } else {
-        arrive(parts, home, flow, len, how.weight, at);
+        arrive(parts, home, flow, len, how.weight);
         if !waited {
             heap.push_reserved(NextStart {
                 moment: free,

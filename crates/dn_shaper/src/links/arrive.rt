@@ -1,4 +1,4 @@
-ghost use Rattle.std.specs.Prelude.{◌≡◌, ℕ, ◌+◌, ◌<◌, ◌≤◌, ◌^◌, true, sum, length, slice_get, Some};
+ghost use Rattle.std.specs.Prelude.{◌≡◌, ℕ, ◌+◌, ◌<◌, ◌≤◌, ◌^◌, true, false, sum, length, slice_get, Some};
 ghost use Rattle.dn_flows.specs.Table.{flow_at, lengths};
 ghost use Rattle.dn_shaper.specs.Refinement.Agreement.{Agrees};
 ghost use Rattle.dn_shaper.specs.Refinement.Arriving.{ArrivesAt, CanJoin, HasOneMore, Joins, JoinsQueue, is_idle};
@@ -19,30 +19,15 @@ pub fn is_idle(link: &LinkParts, flows: &Flows, at: u64) -> bool
     !link.has_backlog(flows) && link.times.free() <= at
 }
 
-/// A packet joins those that wait for the link: on a link of its own by its flow's queue alone, and
-/// on a shared one here too, where a busy period begins with it if the link is idle, which is
-/// answered.
-#[tactic(auto, using(crate::proofs::Scheduled::waits_forgotten))]
-fn join_link(
-    link: &mut LinkParts,
-    flows: &Flows,
-    slot: usize,
-    len: Len,
-    weight: Weight,
-    at: u64,
-) -> bool
-    requires can { CanJoin slot (view_of (queue_lengths flows.now.flows) link.old) (view_of (queue_lengths flows.now.flows) link.old).link }
-    ensures idle { result ≡ is_idle at (view_of (queue_lengths flows.now.flows) link.old) }
-    ensures joins { (after : ℕ → ℕ) → HasOneMore (queue_lengths flows.now.flows) after (view_of after link.old).link → Joins slot len weight result (view_of (queue_lengths flows.now.flows) link.old) (view_of after link.new) }
+/// A packet joins those that wait for the link, which isn't idle: on a link of its own by its flow's
+/// queue alone, and on a shared one here too.
+fn join_link(link: &mut LinkParts, slot: usize, len: Len, weight: Weight)
+    requires can { (queues : ℕ → ℕ) × CanJoin slot (view_of queues link.old) (view_of queues link.old).link }
+    ensures joins { (before after : ℕ → ℕ) → HasOneMore before after (view_of after link.old).link → Joins slot len weight false (view_of before link.old) (view_of after link.new) }
 {
-    let idle = is_idle(link, flows, at);
     if let Carries::Shared(shared) = &mut link.carries {
-        if idle {
-            shared.sched.begin_busy();
-        }
         shared.sched.arrive(slot, len, weight);
     }
-    idle
 }
 
 /// A packet is accepted, and waits in its flow's queue.
@@ -60,9 +45,8 @@ pub fn join_queue(parts: &mut Parts, flow: usize, len: Len)
     parts.waiting += 1;
 }
 
-/// A packet is accepted at the moment, and waits at its home. The answer is whether its link was
-/// idle.
-pub fn arrive(parts: &mut Parts, home: Home, flow: usize, len: Len, weight: Weight, at: u64) -> bool
+/// A packet is accepted at a moment at which the link of its home isn't idle, and waits there.
+pub fn arrive(parts: &mut Parts, home: Home, flow: usize, len: Len, weight: Weight)
     requires can { (v : LinkView) × (slice_get (views_of parts.old) home.place ≡ Some v) × CanJoin home.slot v v.link }
     requires alone { IsAlone flow home.place (views_of parts.old) }
     requires within { flow < length parts.old.flows.flows }
@@ -70,10 +54,9 @@ pub fn arrive(parts: &mut Parts, home: Home, flow: usize, len: Len, weight: Weig
     requires bytes { sum (lengths (flow_at parts.old.flows.flows flow).backlog) + len < 2 ^ 32 }
     requires accepted { parts.old.accepted < 2 ^ 62 }
     requires waiting { parts.old.waiting < 2 ^ 62 }
-    ensures { ArrivesAt at home flow len weight result parts.old parts.new }
+    ensures { (at : ℕ) (v : LinkView) → slice_get (views_of parts.old) home.place ≡ Some v → is_idle at v ≡ false → ArrivesAt at home flow len weight false parts.old parts.new }
 {
     let link = &mut parts.links[home.place];
-    let idle = join_link(link, &parts.flows, home.slot, len, weight, at);
+    join_link(link, home.slot, len, weight);
     join_queue(parts, flow, len);
-    idle
 }

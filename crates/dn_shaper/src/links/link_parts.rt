@@ -1,6 +1,8 @@
-ghost use Rattle.std.specs.Prelude.{◌≡◌, ℕ, nat_lt, true};
+ghost use Rattle.std.specs.Prelude.{◌≡◌, ℕ, Box, nat_lt, true, false};
+ghost use Rattle.std.specs.Global.{Global};
 ghost use Rattle.dn_shaper.specs.Refinement.Views.{queue_lengths, view_of};
-ghost use Rattle.dn_shaper.specs.declared.links.link_parts.Carries.TheVariants.{Own};
+ghost use Rattle.dn_shaper.specs.declared.links.link_parts.Carries.TheVariants.{Own, Shared};
+ghost use Rattle.dn_shaper.specs.declared.links.shared_link.SharedLink.{SharedLink as SharedLinkValue};
 
 use crate::links::shared_link::SharedLink;
 use dn_flows::Flows;
@@ -30,6 +32,7 @@ impl LinkParts {
     /// Whether the link carries one flow alone.
     pub fn is_own(&self) -> bool
         ensures own { result ≡ true → (flow : ℕ) × (self.now.carries ≡ Own flow) }
+        ensures shared { result ≡ false → (block : Box SharedLinkValue Global) × (self.now.carries ≡ Shared block) }
     {
         match &self.carries {
             Carries::Own(_) => true,

@@ -7,7 +7,6 @@ use Rattle.dn_shaper.specs.Refinement.Views.{LinkView, queue_lengths, view_of}
 use Rattle.dn_shaper.proofs.Accepted.{same-link, same-rates, mid-within, mid-keeps, idle-kept, idle-within, idle-keeps, idle-accepts, waits-accepts, room-first, first-kept, other-kept}
 use Rattle.dn_shaper.proofs.Accepting.{can-join, few-accepted, few-waiting, home-at, may-agree, none-waits, seen-there, some-waits}
 use Rattle.dn_shaper.proofs.Alone.{goes-own}
-use Rattle.dn_shaper.proofs.Passing.{arrives-busy}
 use Rattle.dn_shaper.proofs.Behind.{joins-behind, others-wait}
 use Rattle.dn_shaper.proofs.HomeRead.{home-alone, home-below, home-there, in-table, place-below}
 use Rattle.dn_shaper.proofs.links.accept.accept.Goals as goal
@@ -60,7 +59,9 @@ pass-requires-clause-idle c =
     let may = c.requires.may in
     record {
       link = c.index-link.result.now;
-      there = get-read c.args.parts.now.links.items c.index-home.result.now.place c.index-link.result.now (place-below c.args.parts.now (may-agree may) may.within c.index-home.ensures) c.index-link.ensures;
+      there =
+          get-read c.args.parts.now.links.items c.index-home.result.now.place c.index-link.result.now
+          (place-below c.args.parts.now (may-agree may) may.within c.index-home.ensures) c.index-link.ensures;
       idle = sym c.is_idle-idle.ensures ∙ c.if-idle.true;
     }
 
@@ -101,63 +102,87 @@ returns-then-idle-clause-keeps c =
 pub push_reserved-requires-clause-reserved : goal.push_reserved-requires-clause-reserved
 push_reserved-requires-clause-reserved c =
     let may = c.requires.may in
+    let came = c.arrive.ensures c.args.at _ (seen-there may c.index-home.ensures c.index-link.ensures) (sym c.is_idle-idle.ensures ∙ c.if-idle.false) in
     let home = home-at may c.index-home.ensures in
-    let same = same-link may home c.arrive.ensures c.index-link.result.now (seen-there may c.index-home.ensures c.index-link.ensures) in
+    let same = same-link may home came c.index-link.result.now (seen-there may c.index-home.ensures c.index-link.ensures) in
     let seen = view_of (queue_lengths c.args.parts.now.flows.flows) c.index-link.result.now in
     let none = ap {B = ℕ} (λ (x : LinkView). x.waits) same ∙ none-waits seen.waits c.has_backlog-waited.result c.has_backlog-waited.ensures c.if-not-waited.true in
-    room-first may home c.arrive.ensures none
+    room-first may home came none
 
 pub returns-then-not-waited-clause-accepts : goal.returns-then-not-waited-clause-accepts
 returns-then-not-waited-clause-accepts c =
     let may = c.requires.may in
-    waits-accepts may (home-at may c.index-home.ensures) c.arrive.ensures (arrives-busy (seen-there may c.index-home.ensures c.index-link.ensures) (sym c.is_idle-idle.ensures ∙ c.if-idle.false) c.arrive.ensures)
+    let came = c.arrive.ensures c.args.at _ (seen-there may c.index-home.ensures c.index-link.ensures) (sym c.is_idle-idle.ensures ∙ c.if-idle.false) in
+    waits-accepts may (home-at may c.index-home.ensures) came refl
 
 pub returns-then-not-waited-clause-kept : goal.returns-then-not-waited-clause-kept
 returns-then-not-waited-clause-kept c =
     let may = c.requires.may in
+    let came = c.arrive.ensures c.args.at _ (seen-there may c.index-home.ensures c.index-link.ensures) (sym c.is_idle-idle.ensures ∙ c.if-idle.false) in
     let home = home-at may c.index-home.ensures in
-    let same = same-link may home c.arrive.ensures c.index-link.result.now (seen-there may c.index-home.ensures c.index-link.ensures) in
+    let same = same-link may home came c.index-link.result.now (seen-there may c.index-home.ensures c.index-link.ensures) in
     let seen = view_of (queue_lengths c.args.parts.now.flows.flows) c.index-link.result.now in
     let none = ap {B = ℕ} (λ (x : LinkView). x.waits) same ∙ none-waits seen.waits c.has_backlog-waited.result c.has_backlog-waited.ensures c.if-not-waited.true in
     let free = c.free-free.ensures ∙ ap (λ (x : LinkView). x.value.free) (sym same) in
     let keys = subst (λ (m : ℕ). IsPermutation (record { moment = m; place = c.index-home.result.now.place } ∷ c.args.heap.now.keys) c.push_reserved.new.self.keys) free c.push_reserved.ensures.keys in
-    first-kept may home c.arrive.ensures none c.push_reserved.new.self keys c.push_reserved.ensures.room
+    first-kept may home came none c.push_reserved.new.self keys c.push_reserved.ensures.room
+
+pub returns-then-not-waited-clause-moves : goal.returns-then-not-waited-clause-moves
+returns-then-not-waited-clause-moves c =
+    let may = c.requires.may in
+    let came = c.arrive.ensures c.args.at _ (seen-there may c.index-home.ensures c.index-link.ensures) (sym c.is_idle-idle.ensures ∙ c.if-idle.false) in
+    let more = came.waiting in
+    let pushes = c.push_reserved.ensures.moves in
+    omega arith
 
 pub returns-then-not-waited-clause-within : goal.returns-then-not-waited-clause-within
 returns-then-not-waited-clause-within c =
     let may = c.requires.may in
-    mid-within may (home-at may c.index-home.ensures) c.arrive.ensures
+    let came = c.arrive.ensures c.args.at _ (seen-there may c.index-home.ensures c.index-link.ensures) (sym c.is_idle-idle.ensures ∙ c.if-idle.false) in
+    mid-within may (home-at may c.index-home.ensures) came
 
 pub returns-then-not-waited-clause-keeps : goal.returns-then-not-waited-clause-keeps
 returns-then-not-waited-clause-keeps c =
     let may = c.requires.may in
-    mid-keeps may (home-at may c.index-home.ensures) c.arrive.ensures
+    let came = c.arrive.ensures c.args.at _ (seen-there may c.index-home.ensures c.index-link.ensures) (sym c.is_idle-idle.ensures ∙ c.if-idle.false) in
+    mid-keeps may (home-at may c.index-home.ensures) came
 
 -- ---- Others wait for the link
 
 pub returns-else-not-waited-clause-accepts : goal.returns-else-not-waited-clause-accepts
 returns-else-not-waited-clause-accepts c =
     let may = c.requires.may in
-    waits-accepts may (home-at may c.index-home.ensures) c.arrive.ensures (arrives-busy (seen-there may c.index-home.ensures c.index-link.ensures) (sym c.is_idle-idle.ensures ∙ c.if-idle.false) c.arrive.ensures)
+    let came = c.arrive.ensures c.args.at _ (seen-there may c.index-home.ensures c.index-link.ensures) (sym c.is_idle-idle.ensures ∙ c.if-idle.false) in
+    waits-accepts may (home-at may c.index-home.ensures) came refl
 
 pub returns-else-not-waited-clause-kept : goal.returns-else-not-waited-clause-kept
 returns-else-not-waited-clause-kept c =
     let may = c.requires.may in
+    let came = c.arrive.ensures c.args.at _ (seen-there may c.index-home.ensures c.index-link.ensures) (sym c.is_idle-idle.ensures ∙ c.if-idle.false) in
     let home = home-at may c.index-home.ensures in
-    let same = same-link may home c.arrive.ensures c.index-link.result.now (seen-there may c.index-home.ensures c.index-link.ensures) in
+    let same = same-link may home came c.index-link.result.now (seen-there may c.index-home.ensures c.index-link.ensures) in
     let seen = view_of (queue_lengths c.args.parts.now.flows.flows) c.index-link.result.now in
     let some = some-waits seen.waits c.has_backlog-waited.result c.has_backlog-waited.ensures c.if-not-waited.false in
-    other-kept may home c.arrive.ensures (subst (λ (x : LinkView). 0 < x.waits) (sym same) some)
+    other-kept may home came (subst (λ (x : LinkView). 0 < x.waits) (sym same) some)
+
+pub returns-else-not-waited-clause-moves : goal.returns-else-not-waited-clause-moves
+returns-else-not-waited-clause-moves c =
+    let may = c.requires.may in
+    let came = c.arrive.ensures c.args.at _ (seen-there may c.index-home.ensures c.index-link.ensures) (sym c.is_idle-idle.ensures ∙ c.if-idle.false) in
+    let more = came.waiting in
+    omega arith
 
 pub returns-else-not-waited-clause-within : goal.returns-else-not-waited-clause-within
 returns-else-not-waited-clause-within c =
     let may = c.requires.may in
-    mid-within may (home-at may c.index-home.ensures) c.arrive.ensures
+    let came = c.arrive.ensures c.args.at _ (seen-there may c.index-home.ensures c.index-link.ensures) (sym c.is_idle-idle.ensures ∙ c.if-idle.false) in
+    mid-within may (home-at may c.index-home.ensures) came
 
 pub returns-else-not-waited-clause-keeps : goal.returns-else-not-waited-clause-keeps
 returns-else-not-waited-clause-keeps c =
     let may = c.requires.may in
-    mid-keeps may (home-at may c.index-home.ensures) c.arrive.ensures
+    let came = c.arrive.ensures c.args.at _ (seen-there may c.index-home.ensures c.index-link.ensures) (sym c.is_idle-idle.ensures ∙ c.if-idle.false) in
+    mid-keeps may (home-at may c.index-home.ensures) came
 
 -- ---- The packet joins others on its flow's own link
 

@@ -1,47 +1,107 @@
--- The packet joins its flow's queue, and the link starts what is next.
-use Rattle.std.proofs.Common.{Bool, subst}
-use Rattle.dn_shaper.specs.Refinement.Arriving.{ArrivesAt}
+-- The packet arrives in the flow's queue and at its slot, and leaves both at once.
+use Rattle.std.proofs.Common.{◌∙◌, ◌+◌, ◌*◌, ℕ, List, map, set, refl, ap, sym, arith}
+use Rattle.std.proofs.lemmas.Grind.{common_steps}
+use Rattle.dn_types.specs.Links.{due_by, transmission_time}
+use Rattle.dn_shaper.specs.declared.links.link_parts.Carries.{Carries}
+use Rattle.dn_shaper.specs.declared.links.link_parts.Carries.TheVariants.{Shared}
+use Rattle.dn_shaper.specs.declared.links.link_parts.LinkParts.{LinkParts}
 use Rattle.dn_shaper.specs.Refinement.Views.{queue_lengths, view_of}
-use Rattle.dn_shaper.proofs.Accepted.{can-start-mid, mid-agrees, mid-all}
-use Rattle.dn_shaper.proofs.Accepting.{can-join, few-accepted, few-waiting, home-at, may-agree}
-use Rattle.dn_shaper.proofs.HomeRead.{home-alone, in-table}
-use Rattle.dn_shaper.proofs.Passing.{arrives-idle, read-idle, seen-idle}
+use Rattle.dn_shaper.proofs.Accepting.{few-accepted, may-agree}
+use Rattle.dn_shaper.proofs.HomeRead.{in-table, place-below}
+use Rattle.dn_shaper.proofs.PassingShared.{agrees, arrives, can, can-block, few-started, free-by, gone, keeps, link, link-mid, mid, mid-there, none, reads, starts, views, within}
+use Rattle.dn_shaper.proofs.Starting.{pushed-at, room-at}
 use Rattle.dn_shaper.proofs.links.pass.pass_shared.Goals as goal
 
-pub arrive-requires-clause-can : goal.arrive-requires-clause-can
-arrive-requires-clause-can c =
+pub overflow_add-parts : goal.overflow_add-parts
+overflow_add-parts c = let few = few-accepted c.requires.may.2 in omega arith
+
+pub pass-requires-clause-within : goal.pass-requires-clause-within
+pass-requires-clause-within c = let may = c.requires.may.2 in in-table c.args.parts.now (may-agree may) may.within
+
+pub pass-requires-clause-reserved : goal.pass-requires-clause-reserved
+pass-requires-clause-reserved c = c.requires.may.2.ready.place
+
+pub pass-requires-clause-empty : goal.pass-requires-clause-empty
+pass-requires-clause-empty c = let on = c.requires.shared in none c.requires.may.2 c.requires.home on.0 on.1 on.2
+
+pub pass-requires-clause-count : goal.pass-requires-clause-count
+pass-requires-clause-count c = let on = c.requires.shared in few-started c.requires.may.2 c.requires.home on.0 on.1 on.2
+
+pub index_mut-link-requires : goal.index_mut-link-requires
+index_mut-link-requires c =
     let may = c.requires.may.2 in
-    let seen = view_of (queue_lengths c.args.parts.now.flows.flows) c.requires.idle.link in
-    (seen, seen-idle c.requires.idle, can-join may c.requires.home (read-idle c.requires.idle))
+    let below = place-below c.args.parts.now (may-agree may) may.within c.requires.home in
+    grind (arith, common_steps)
 
-pub arrive-requires-clause-alone : goal.arrive-requires-clause-alone
-arrive-requires-clause-alone c = let may = c.requires.may.2 in home-alone c.args.parts.now (may-agree may) may.within c.requires.home
+pub pass_slot-requires : goal.pass_slot-requires
+pass_slot-requires c = record {
+  can = λ block is.
+      let on = c.requires.shared in
+      can-block c.requires.may.2 c.requires.home on.0 on.1 on.2 c.index_mut-link.ensures.value block is;
+}
 
-pub arrive-requires-clause-within : goal.arrive-requires-clause-within
-arrive-requires-clause-within c = let may = c.requires.may.2 in in-table c.args.parts.now (may-agree may) may.within
+pub send-requires-clause-free : goal.send-requires-clause-free
+send-requires-clause-free c =
+    let on = c.requires.shared in
+    let same = ap {B = ℕ} (λ (x : LinkParts). x.times.free) (reads c.requires.may.2 c.requires.home on.0 on.1 on.2 c.index_mut-link.ensures.value) in
+    let kept = ap {B = ℕ} (λ t. t.free) c.pass_slot.ensures.times in
+    let free = free-by c.requires.may.2 c.requires.home on.0 on.1 on.2 in
+    omega arith
 
-pub arrive-requires-clause-reserved : goal.arrive-requires-clause-reserved
-arrive-requires-clause-reserved c = c.requires.may.2.ready.place
+pub send-requires-clause-room : goal.send-requires-clause-room
+send-requires-clause-room c =
+    let may = c.requires.may.2 in
+    let on = c.requires.shared in
+    let p = c.pass_slot.ensures.passes on.1 (ap (λ (x : LinkParts). x.carries) (reads may c.requires.home on.0 on.1 on.2 c.index_mut-link.ensures.value)) in
+    room-at (within may c.requires.home on.0 on.1 on.2 c.args.len c.args.weight p.block.value.sched p.passes)
+    (agrees may c.requires.home on.0 on.1 on.2 c.args.len c.args.weight p.block.value.sched p.passes)
+    (can may c.requires.home on.0 on.1 on.2 c.args.len c.args.weight p.block.value.sched p.passes)
 
-pub arrive-requires-clause-accepted : goal.arrive-requires-clause-accepted
-arrive-requires-clause-accepted c = few-accepted c.requires.may.2
-
-pub arrive-requires-clause-waiting : goal.arrive-requires-clause-waiting
-arrive-requires-clause-waiting c = few-waiting c.requires.may.2
-
-pub start_next-requires-clause-agrees : goal.start_next-requires-clause-agrees
-start_next-requires-clause-agrees c = let may = c.requires.may.2 in mid-agrees may (home-at may c.requires.home) c.arrive.ensures
-
-pub start_next-requires-clause-within : goal.start_next-requires-clause-within
-start_next-requires-clause-within c = let may = c.requires.may.2 in mid-all may (home-at may c.requires.home) c.arrive.ensures
-
-pub start_next-requires-clause-can : goal.start_next-requires-clause-can
-start_next-requires-clause-can c = let may = c.requires.may.2 in can-start-mid may (home-at may c.requires.home) c.arrive.ensures (arrives-idle c.requires.idle c.arrive.ensures)
+pub send-requires-clause-pushed : goal.send-requires-clause-pushed
+send-requires-clause-pushed c =
+    let may = c.requires.may.2 in
+    let on = c.requires.shared in
+    let p = c.pass_slot.ensures.passes on.1 (ap (λ (x : LinkParts). x.carries) (reads may c.requires.home on.0 on.1 on.2 c.index_mut-link.ensures.value)) in
+    pushed-at (within may c.requires.home on.0 on.1 on.2 c.args.len c.args.weight p.block.value.sched p.passes)
+    (agrees may c.requires.home on.0 on.1 on.2 c.args.len c.args.weight p.block.value.sched p.passes)
+    (can may c.requires.home on.0 on.1 on.2 c.args.len c.args.weight p.block.value.sched p.passes)
 
 pub returns : goal.returns
-returns c = record {
-  mid = c.arrive.new.parts;
-  arrives =
-      subst (λ (b : Bool). ArrivesAt c.args.at c.args.home c.args.flow c.args.len c.args.weight b c.args.parts.now c.arrive.new.parts) (arrives-idle c.requires.idle c.arrive.ensures) c.arrive.ensures;
-  starts = c.start_next.ensures.starts;
-}
+returns c =
+    let may = c.requires.may.2 in
+    let on = c.requires.shared in
+    let old = c.args.parts.now in
+    let len = c.args.len in
+    let weight = c.args.weight in
+    let u = c.send.new.link in
+    let flows = c.pass.new.self.flows in
+    let same = reads may c.requires.home on.0 on.1 on.2 c.index_mut-link.ensures.value in
+    let p = c.pass_slot.ensures.passes on.1 (ap (λ (x : LinkParts). x.carries) same) in
+    let t = p.block.value.sched in
+    let between = mid may c.requires.home on.0 on.1 on.2 len weight t p.passes in
+    let is-now = c.pass.ensures.flows (record { packet = old.accepted; len = len }) in
+    let pipe_is = c.pass_slot.ensures.pipe ∙ ap (λ (x : LinkParts). x.pipe) same in
+    record {
+      mid = between;
+      arrives = arrives may c.requires.home on.0 on.1 on.2 len weight t p.passes;
+      starts = record {
+        view = view_of (queue_lengths between.flows.flows) (link-mid may c.requires.home on.0 on.1 on.2 len weight t p.passes);
+        view' = view_of (queue_lengths flows) (gone may c.requires.home on.0 on.1 on.2 len weight t p.passes flows is-now u p.block refl p.flows);
+        there = mid-there may c.requires.home on.0 on.1 on.2 len weight t p.passes;
+        views_are = (λ i. map (view_of (queue_lengths flows)) (set old.links.items c.args.home.place (record { pipe = pipe_is i; times = u; carries = p.is i })))
+            ∙ views may c.requires.home on.0 on.1 on.2 len weight t p.passes flows is-now u p.block refl p.flows;
+        starts = starts may c.requires.home on.0 on.1 on.2 len weight t p.passes flows is-now u p.block refl p.flows c.send.ensures.free
+            (c.send.ensures.last_due
+            ∙ ap (λ x. due_by old.rule (c.args.at + transmission_time c.args.rates.now.bandwidth len + c.args.rates.now.delay * 1000000) x.last_due)
+            (c.pass_slot.ensures.times ∙ ap (λ (x : LinkParts). x.times) same))
+            c.send.ensures.pending;
+        keeps = keeps may c.requires.home on.0 on.1 on.2 len weight t p.passes flows is-now u p.block refl p.flows;
+        rule = refl;
+        accepted = refl;
+        keys = c.pass.ensures.keys;
+        homes = refl;
+        waiting = refl;
+        room = c.send.ensures.room;
+        pushed = c.send.ensures.pushed;
+      };
+    }
