@@ -1,5 +1,9 @@
+ghost use Rattle.std.specs.Prelude.{◌≡◌, IfOk, false};
+ghost use Rattle.clap.specs.Words.{rule_of};
+ghost use Rattle.dn_command.specs.Program.{IsForm, audit_form, bare_form, callers_rule, file_rule, history_rule, live_form, program, replay_form};
+
 use clap::builder::ValueParser;
-use clap::{Arg, Command, Error};
+use clap::{Arg, Command};
 use std::alloc::{AllocError, Global};
 
 // What `--version` tells: the version, and the kit with which it is proved and built.
@@ -17,7 +21,10 @@ The report on standard output tells for each packet when it left, or why it didn
 dummynet(1) and docs/FORMATS.md describe the files, the faults and the statuses.";
 
 // A file that has to be named.
-fn required<'a>(alloc: Global, name: &'a str, shown: &'a str, help: &'a str) -> Arg<'a> {
+fn required<'a>(alloc: Global, name: &'a str, shown: &'a str, help: &'a str) -> Arg<'a>
+    ensures rule { rule_of result ≡ file_rule name.entry.now }
+    ensures local { result.global ≡ false }
+{
     Arg::new(alloc, name)
         .value_name(shown)
         .required(true)
@@ -25,7 +32,10 @@ fn required<'a>(alloc: Global, name: &'a str, shown: &'a str, help: &'a str) -> 
 }
 
 // How many callers replay.
-fn callers<'a>(alloc: Global) -> Arg<'a> {
+fn callers<'a>(alloc: Global) -> Arg<'a>
+    ensures rule { rule_of result ≡ callers_rule }
+    ensures local { result.global ≡ false }
+{
     Arg::new(alloc, "callers")
         .long("callers")
         .value_name("N")
@@ -34,7 +44,10 @@ fn callers<'a>(alloc: Global) -> Arg<'a> {
 }
 
 // Where the history goes.
-fn history<'a>(alloc: Global) -> Arg<'a> {
+fn history<'a>(alloc: Global) -> Arg<'a>
+    ensures rule { rule_of result ≡ history_rule }
+    ensures local { result.global ≡ false }
+{
     Arg::new(alloc, "history")
         .long("history")
         .value_name("FILE")
@@ -44,7 +57,9 @@ fn history<'a>(alloc: Global) -> Arg<'a> {
 }
 
 // The command that replays two files.
-fn replay<'a>(alloc: Global) -> Result<Command<'a>, AllocError> {
+fn replay<'a>(alloc: Global) -> Result<Command<'a>, AllocError>
+    ensures { IfOk result (IsForm replay_form) }
+{
     Command::new(alloc, "replay")
         .about("Replays a packet file through a configuration and writes the report")
         .arg(required(
@@ -64,31 +79,43 @@ fn replay<'a>(alloc: Global) -> Result<Command<'a>, AllocError> {
 }
 
 // The command that audits a history.
-fn audit<'a>(alloc: Global) -> Result<Command<'a>, AllocError> {
+fn audit<'a>(alloc: Global) -> Result<Command<'a>, AllocError>
+    ensures { IfOk result (IsForm audit_form) }
+{
     Command::new(alloc, "audit")
         .about("Tells whether a history is lawful, or the first entry that differs")
         .arg(required(alloc, "history", "HISTORY", "A file that --history wrote"))
 }
 
 // The command that serves a live session.
-fn live<'a>(alloc: Global) -> Command<'a> {
+fn live<'a>(alloc: Global) -> Command<'a>
+    ensures { IsForm live_form result }
+{
     Command::new(alloc, "live").about(
         "Emulates for programs that run: calls on standard input are answered at once on standard output, as a history",
     )
 }
 
-/// The command line of the program.
-pub fn command<'a>(alloc: Global) -> Result<Command<'a>, Error> {
-    let replay = replay(alloc)?;
-    let audit = audit(alloc)?;
-    let all = Command::new(alloc, "dummynet")
+// The program without its commands.
+fn alone<'a>(alloc: Global) -> Command<'a>
+    ensures { IsForm bare_form result }
+{
+    Command::new(alloc, "dummynet")
         .version(VERSION)
         .about(
             "Replays packets through emulated links. Without arguments it reads standard input: a configuration, a line --, and packets",
         )
         .after_help(EXAMPLE)
+}
+
+// The command line of the program.
+pub(crate) fn form<'a>(alloc: Global) -> Result<Command<'a>, AllocError>
+    ensures { IfOk result (IsForm program) }
+{
+    let replay = replay(alloc)?;
+    let audit = audit(alloc)?;
+    alone(alloc)
         .subcommand(replay)?
         .subcommand(audit)?
-        .subcommand(live(alloc))?;
-    Ok(all)
+        .subcommand(live(alloc))
 }

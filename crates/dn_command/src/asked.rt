@@ -1,0 +1,69 @@
+ghost use Rattle.std.specs.Prelude.{◌≡◌, ◌↔◌, IfErr, IfOk, IsTrue, map, string_bytes};
+ghost use Rattle.clap.specs.Words.{found_of, rows_of, subcommand_rows_of};
+ghost use Rattle.dn_command.specs.Requests.{Asks, AsksFor, IsRefusedFor, IsReplayOf, Overwrites, value_of};
+
+use crate::form::form;
+use crate::refusal::Refusal;
+use crate::request::{Replay, Request};
+use clap::ArgMatches;
+use clap::error::ErrorKind;
+use std::alloc::Global;
+
+// The value of an argument that has to be given.
+fn value<'a>(found: &ArgMatches<'a>, name: &str) -> &'a str
+    ensures { result.now ≡ value_of name.now (rows_of (found_of found.now)) }
+{
+    found.get_str(name).unwrap_or("")
+}
+
+// The replay that these arguments ask for.
+fn replay<'a>(found: &ArgMatches<'a>) -> Replay<'a>
+    ensures { IsReplayOf (rows_of (found_of found.now)) result }
+{
+    Replay {
+        config: value(found, "config"),
+        packets: value(found, "packets"),
+        callers: found.get_one::<usize>("callers"),
+        history: found.get_str("history"),
+    }
+}
+
+// What was understood.
+fn asked<'a>(matches: &ArgMatches<'a>) -> Request<'a>
+    ensures { AsksFor (subcommand_rows_of matches.now) result }
+{
+    match matches.subcommand() {
+        None => Request::Joined,
+        Some(("audit", found)) => Request::Audit(value(found, "history")),
+        Some(("live", _)) => Request::Live,
+        Some((_, found)) => Request::Replay(replay(found)),
+    }
+}
+
+// Whether the history would go where the configuration or the packets are read from, by the same word.
+fn overwrites(request: &Request<'_>) -> bool
+    ensures { IsTrue result ↔ Overwrites request.now }
+{
+    let Request::Replay(replay) = request else {
+        return false;
+    };
+    let Some(history) = replay.history else {
+        return false;
+    };
+    history == replay.config || history == replay.packets
+}
+
+/// What the words of a command line ask for, of which the first is the program's name, or why they ask for nothing.
+pub fn request_of<'a>(alloc: Global, words: &'a [String]) -> Result<Request<'a>, Refusal>
+    ensures ok { IfOk result (Asks (map (λ s. string_bytes s) words.now)) }
+    ensures err { IfErr result (IsRefusedFor (map (λ s. string_bytes s) words.now)) }
+{
+    let mut form = form(alloc)?;
+    let matches = form.try_get_matches_from_mut(words)?;
+    let request = asked(&matches);
+    if overwrites(&request) {
+        let told = "--history FILE would overwrite CONFIG or PACKETS";
+        return Err(Refusal::from(form.error(ErrorKind::ArgumentConflict, told)?));
+    }
+    Ok(request)
+}
