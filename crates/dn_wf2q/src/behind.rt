@@ -25,6 +25,7 @@ impl Behind {
     }
 
     /// Makes room for one more packet.
+    #[inline(never)]
     pub(crate) fn reserve_place(&mut self, alloc: Global) -> Result<(), AllocError>
         ensures succeeds { 0 < spare_of self.old → IsOk result }
         ensures ok { OnOk result (0 < spare_of self.new) }

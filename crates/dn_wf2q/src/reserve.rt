@@ -12,6 +12,7 @@ use std::alloc::{AllocError, Global};
 
 impl SchedParts {
     /// Room for one more arrival at a slot, and a queue for it where there is none.
+    #[inline(always)]
     pub(crate) fn reserve_flow(&mut self, alloc: Global, slot: usize) -> Result<(), AllocError>
         requires kept { IsSchedKept self.old }
         ensures succeeds { 0 < room_at (map places self.old.flows.items) slot → IsOk result }
@@ -24,6 +25,22 @@ impl SchedParts {
         if slot < self.flows.len() {
             return self.flows[slot].reserve_place(alloc);
         }
+        self.add_flow(slot)
+    }
+
+    /// A queue with room for an arrival at a slot that has none. It isn't inlined, since a slot is asked
+    /// for room many times after that.
+    #[inline(never)]
+    fn add_flow(&mut self, slot: usize) -> Result<(), AllocError>
+        requires kept { IsSchedKept self.old }
+        requires above { length self.old.flows.items ≤ slot }
+        ensures succeeds { 0 < room_at (map places self.old.flows.items) slot → IsOk result }
+        ensures ok { OnOk result (flows_of self.new ≡ padded (flows_of self.old) (slot + 1)) }
+        ensures place { OnOk result (0 < room_at (map places self.new.flows.items) slot) }
+        ensures err { OnErr result (flows_of self.new ≡ flows_of self.old) }
+        ensures reserves { MakesRoom self.old self.new }
+        ensures kept { IsSchedKept self.new }
+    {
         // A key of the heaps has no room for a slot beyond these.
         if slot >= SLOTS {
             return Err(AllocError);

@@ -38,6 +38,7 @@ impl TaggedQueue {
     }
 
     /// Makes room for one more packet.
+    #[inline(always)]
     pub(crate) fn reserve_place(&mut self, alloc: Global) -> Result<(), AllocError>
         ensures succeeds { 0 < places self.old → IsOk result }
         ensures ok { OnOk result (0 < places self.new) }
