@@ -63,12 +63,13 @@ CALLERS = {
         "note_full": ["judge::note_full"],
         "discard": ["discard::empty_flow"],
     },
+    "dn_flows flows/pass": {"pass": ["pass::pass_own"]},
     "dn_wf2q sched": {
         "new": ["shared_link::new"],
-        "begin_busy": ["arrive::join_link"],
         "reserve_flow": ["shared_link::reserve_slot", "shared_link::take_slot"],
         "is_idle": ["link_parts::has_backlog"],
         "arrive": ["arrive::join_link"],
+        "pass": ["pass::pass_slot"],
         "pick": ["start::next_flow"],
         "discard": ["discard::leave_link"],
     },
@@ -83,9 +84,8 @@ ANSWER = re.compile(r"proofs/(?:\w+/)*?(\w+)/(?:[A-Z]\w*/)?(\w+)/Answers\.antt:\
 class Clause:
     """A clause of a function that dn_shaper calls, by the place of its line."""
 
-    def __init__(self, path, function, name, place, callers):
-        self.path, self.function, self.name, self.place, self.callers = path, function, name, place, callers
-        self.crate = path.parts[-3]
+    def __init__(self, crate, path, function, name, place, callers):
+        self.crate, self.path, self.function, self.name, self.place, self.callers = crate, path, function, name, place, callers
 
     def __str__(self):
         return f"{self.crate} {self.path.stem}::{self.function} {self.name}"
@@ -105,7 +105,7 @@ def clauses(copy):
                 function = ""
             match = CLAUSE.match(line)
             if match and function in functions:
-                yield number, Clause(path, function, match[2] or "ensures", place, functions[function])
+                yield number, Clause(crate, path, function, match[2] or "ensures", place, functions[function])
                 number += 1
 
 
