@@ -53,7 +53,7 @@ impl Model for Shaper {
 }
 
 impl Shaper {
-    /// A shaper before its first call, on whose links no packet overtakes another. It takes no memory.
+    /// A shaper before its first call, on whose links due moments never fall. It takes no memory.
     pub fn new(alloc: Global) -> Shaper
         ensures { StandsAfter Ordered result [] }
     {
