@@ -14,6 +14,7 @@ import statistics
 import subprocess
 import sys
 from dataclasses import dataclass, field
+from hashlib import sha256
 from pathlib import Path
 from tempfile import TemporaryDirectory
 
@@ -46,8 +47,15 @@ class Form:
         return f"| {load} | {self.name} | {statistics.median(self.seconds):.3f} s | {ratio:.2f} | {self.memory / MIB:.0f} MiB |"
 
 
-def report(words: list[str]) -> bytes:
-    return subprocess.run(words, stdout=subprocess.PIPE, check=True).stdout
+def report(words: list[str]) -> str:
+    """The checksum of what a command writes. It isn't kept, since a child's memory is counted from that of its parent on."""
+    found = sha256()
+    with subprocess.Popen(words, stdout=subprocess.PIPE) as child:
+        for part in iter(lambda: child.stdout.read(1 << 16) if child.stdout else b"", b""):
+            found.update(part)
+    if child.returncode != 0:
+        sys.exit(f"{' '.join(words)}: status {child.returncode}")
+    return found.hexdigest()
 
 
 def forms(program: str, twin: str, config: Path, packets: Path, folder: Path) -> list[Form]:
