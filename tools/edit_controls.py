@@ -29,7 +29,7 @@ CONTROLS = {
     "dn_wf2q/left_in_waiting_heap": [("self.waiting.push_reserved(first);", "let _ = self.waiting.len();")],
     "dn_wf2q/picks_ineligible": [("top.tag() * 0", "top.tag() * 1")],
     "dn_wf2q/stamped_by_virtual_time": [("min(1 << 95)", "min(0)")],
-    "dn_wf2q/ties_by_arrival": [(".then(self.entered.cmp(&other.entered))", ".then(self.slot.cmp(&other.slot))")],
+    "dn_wf2q/ties_by_arrival": [(".then(self.entered.cmp(&other.entered))", ".then(self.slot().cmp(&other.slot()))")],
     "dn_wf2q/weight_at_the_pick": [("weight.max(next.weight.min(0))", "next.weight.max(weight.min(0))")],
     "dn_wf2q/without_the_least_key": [
         ("use dn_heap::MinHeap;", IS_LEAST + "ghost use Rattle.dn_wf2q.specs.Rank.{rank_cmp}; use dn_heap::MinHeap;"),
@@ -46,7 +46,7 @@ CONTROLS = {
     "dn_service/hands_out_from_one": [("callers.remove(0);", "let _ = callers.len();")],
     "dn_service/invented_reply": [("number == 0", "number >= 16")],
     "dn_service/memory_after_change": [("pages.history.reserve(1)?;", "let _ = pages.history.len();")],
-    "dn_service/records_twice": [("let _ = self.try_call(*call);", "let _ = self.number();")],
+    "dn_service/records_twice": [("let _ = self.try_once(call);", "let _ = self.number();")],
     "dn_service/without_the_reply": [
         ("ghost use Rattle.dn_types.specs.Clock", "ghost use Rattle.dn_types.specs.Replies.{reply}; ghost use Rattle.dn_types.specs.Clock"),
         ("ensures err {", "ensures ok { IfOk result (λ r. (rule : RuleValue) (calls : List CallValue) → StandsAfter rule self.old calls"
