@@ -1,10 +1,10 @@
--- What a heap and its run hold together, where a key joins or leaves one of the two.
+-- What a heap and its run hold together, where a key joins or leaves one of the two, and what a heap holds after both.
 use Rattle.std.proofs.Common.{◌≡◌, Bool, Option, Some, None, List, [], ◌∷◌, ◌++◌, sym, subst, IfSome, IsPermutation}
 use Rattle.std.specs.Prelude.{filter}
 use Rattle.std.specs.Option.{option_to_list}
 use Rattle.std.proofs.lemmas.List.{append_assoc}
 use Rattle.std.proofs.lemmas.List.Elements.{filter-append}
-use Rattle.std.proofs.lemmas.List.Sorted.{IsPermutation-refl, IsPermutation-sym, IsPermutation-trans, IsPermutation-append, IsPermutation-middle, IsPermutation-push_more}
+use Rattle.std.proofs.lemmas.List.Sorted.{IsPermutation-refl, IsPermutation-sym, IsPermutation-trans, IsPermutation-append, IsPermutation-cons, IsPermutation-middle, IsPermutation-push_more}
 
 module _ {K : Type 0} where
   pub joins_heap : (key : K) (hs hs' rs : List K) → IsPermutation (key ∷ hs) hs' → IsPermutation (key ∷ (hs ++ rs)) (hs' ++ rs)
@@ -26,6 +26,13 @@ module _ {K : Type 0} where
   pub popped : (hs rs rs' : List K) (first : Option K) → rs ≡ option_to_list first ++ rs' → IfSome first (λ key. IsPermutation (hs ++ rs) (key ∷ (hs ++ rs')))
   popped hs rs rs' None e = tt
   popped hs rs rs' (Some key) e = leaves_run key hs rs rs' (subst (λ l. IsPermutation l (key ∷ rs')) (sym e) (IsPermutation-refl (key ∷ rs')))
+
+  -- one key leaves, and another comes
+  pub exchanged : (key top : K) (hs left hs' : List K) → IsPermutation hs (top ∷ left) → IsPermutation (key ∷ left) hs' → IsPermutation (key ∷ hs) (top ∷ hs')
+  exchanged key top hs left hs' out put =
+      let other = IsPermutation-middle (key ∷ []) top left in
+      IsPermutation-trans (key ∷ hs) (key ∷ top ∷ left) (top ∷ hs') (IsPermutation-cons key hs (top ∷ left) out)
+      (IsPermutation-trans (key ∷ top ∷ left) (top ∷ key ∷ left) (top ∷ hs') other (IsPermutation-cons top (key ∷ left) hs' put))
 
   pub kept : (test : K → Bool) (hs rs hs' rs' : List K) → IsPermutation (filter test hs) hs' → rs' ≡ filter test rs → IsPermutation (filter test (hs ++ rs)) (hs' ++ rs')
   kept test hs rs hs' rs' p e =

@@ -10,6 +10,8 @@ use std::cmp::Reverse;
 use std::collections::BinaryHeap;
 use std::marker::Model;
 
+mod push_pop;
+
 /// A heap with the least key on top. Memory is taken by `reserve` alone: it makes room, each push
 /// uses one place of the room, and a key that leaves gives its place back.
 ///
