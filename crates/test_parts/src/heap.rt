@@ -62,6 +62,45 @@ fn takes_one_of_equal_keys(rt: HostRuntime) -> Result<(), AllocError> {
     outcome
 }
 
+/// A push and a pop in one step.
+fn push_popped(heap: &mut MinHeap<u32>, key: u32) -> Option<u32> {
+    if heap.moves() < 100 {
+        Some(heap.push_pop(key))
+    } else {
+        None
+    }
+}
+
+fn check_in_one_step<R: Abort>(rt: &R, heap: &mut MinHeap<u32>) -> Result<(), AllocError> {
+    // Into an empty heap, which has no room either.
+    assert!(rt; push_popped(heap, 4) == Some(4));
+    check_told(rt, heap, (None, 0, 0, 1));
+    reserved_again(rt, heap, 3)?;
+    push_all(heap, [7, 3].as_slice());
+    // A key that is less than all, one that isn't, and one of two equal ones.
+    assert!(rt; push_popped(heap, 2) == Some(2));
+    check_told(rt, heap, (Some(3), 2, 1, 4));
+    assert!(rt; push_popped(heap, 5) == Some(3));
+    check_told(rt, heap, (Some(5), 2, 1, 5));
+    assert!(rt; push_popped(heap, 5) == Some(5));
+    check_told(rt, heap, (Some(5), 2, 1, 6));
+    // A key that is greater than all, into a heap whose room is used up.
+    push_all(heap, [6].as_slice());
+    assert!(rt; push_popped(heap, 9) == Some(5));
+    check_told(rt, heap, (Some(6), 3, 0, 8));
+    check_last(rt, heap, [6, 7, 9].as_slice());
+    check_told(rt, heap, (None, 0, 3, 8));
+    Ok(())
+}
+
+#[test]
+fn pushes_and_pops_in_one_step(rt: HostRuntime) -> Result<(), AllocError> {
+    let mut heap = MinHeap::new(rt.alloc());
+    let outcome = check_in_one_step(&rt, &mut heap);
+    drop(heap);
+    outcome
+}
+
 fn check_passing<R: Abort>(rt: &R, heap: &mut MinHeap<u32>) -> Result<(), AllocError> {
     reserved_again(rt, heap, 5)?;
     push_all(heap, [8, 3, 4, 8, 5].as_slice());
