@@ -1,6 +1,5 @@
 -- A packet comes where none waits, and is sent at once.
-use Rattle.std.proofs.Common.{◌≡◌, ◌∙◌, ◌↔◌, ℕ, zero, suc, ◌+◌, ◌*◌, ◌^◌, ◌<◌, ◌≤◌, max, cond, Option, Some, None, IfSome, List, [], ◌∷◌, ◌++◌, length, map, take, All, IsPermutation, refl, sym, ap, subst, arith, inl, inr, true, get_or, set, sum_by, nat_lt}
-use Rattle.std.specs.Prelude.{IsSome}
+use Rattle.std.proofs.Common.{◌≡◌, ◌∙◌, ℕ, zero, suc, ◌+◌, ◌^◌, ◌<◌, ◌≤◌, max, cond, Option, Some, None, List, [], ◌∷◌, ◌++◌, length, map, take, IsPermutation, refl, sym, ap, subst, arith, inl, inr, true, get_or, set, sum_by, nat_lt}
 use Rattle.std.proofs.lemmas.Bool.{cases_eq, cases_lt}
 use Rattle.std.proofs.lemmas.Bool.Decides.{nat_tests}
 use Rattle.std.proofs.lemmas.List.{append-nil, get_or-set_same, get_or-set_other, get_or_past, length-map, length-set}
@@ -10,12 +9,11 @@ use Rattle.std.proofs.lemmas.List.Sums.{sum_by-cons, sum_by-set, get_or-le-sum_b
 use Rattle.std.specs.Vec.{with_item}
 use Rattle.dn_types.specs.Wf2q.{Stamped, grown, pick, scaled}
 use Rattle.dn_heap.specs.Heap.{Heap}
-use Rattle.dn_wf2q.specs.declared.tagged_packet.TaggedPacket.{TaggedPacket}
 use Rattle.dn_wf2q.specs.declared.queued_packet.QueuedPacket.{QueuedPacket}
 use Rattle.dn_wf2q.specs.declared.tagged_queue.TaggedQueue.{TaggedQueue}
 use Rattle.dn_wf2q.specs.declared.sched_parts.SchedParts.{SchedParts}
 use Rattle.dn_wf2q.specs.Rank.{RankView}
-use Rattle.dn_wf2q.specs.Schedule.{Flow, IsIdle, Passes, Schedule, after_arrival, after_pick, flow_at, forgotten, heads_of, joined_by, no_packets, room_at, stamped, waiting_of, without_head, without_tag}
+use Rattle.dn_wf2q.specs.Schedule.{Flow, IsIdle, Passes, after_arrival, after_pick, flow_at, forgotten, heads_of, joined_by, no_packets, room_at, stamped, waiting_of, without_head, without_tag}
 use Rattle.dn_wf2q.specs.Queue.{behind_of, packets_of, places, stamped_from, IsChained, IsQueueKept}
 use Rattle.dn_wf2q.specs.Kept.{Kept, IsSchedKept, AreTagsWithin, IsWithin, by_slot, flows_of, seen, tagged, presence, behind, head_weight, bound, none_absent, ranks_at, schedule_of}
 use Rattle.dn_wf2q.specs.Steps.{PassesSlot}
@@ -23,7 +21,6 @@ use Rattle.dn_wf2q.proofs.BySlot.{length-by_slot, by_slot-set}
 use Rattle.dn_wf2q.proofs.Heads.{flow_at_seen, flow_within_more, room_grows, room_listed}
 use Rattle.dn_wf2q.proofs.Counts.{first_packets, heads_are, heads_of_idle, idle_no_heads, no_heads_idle, waiting_is, waiting-set}
 use Rattle.dn_wf2q.proofs.Begun.{begun, flows_forgotten, forgotten_at, sum_forgotten}
-use Rattle.dn_wf2q.proofs.Ranks.{zero_from_none}
 use Rattle.dn_wf2q.proofs.Sent.{scaled-le}
 
 -- ---- Lists of flows
@@ -155,17 +152,8 @@ passes slot len weight old new idle p =
 
 -- ---- A key goes through an empty heap
 
-pub through : (e e' e'' : Heap RankView) (key : RankView) (o : Option RankView) → length e.keys ≡ 0 → IsPermutation (key ∷ e.keys) e'.keys → e'.room + 1 ≡ e.room → e'.moves ≡ e.moves + 1
-    → (IsSome o ↔ (0 < length e'.keys)) → IfSome o (λ k. IsPermutation e'.keys (k ∷ e''.keys)) → IfSome o (λ k. e''.room ≡ e'.room + 1) → e''.moves ≡ e'.moves
-    → (length e''.keys ≡ 0) × (e''.room ≡ e.room) × (e''.moves ≡ e.moves + 1)
-through e e' e'' key None none put room moves some perm back kept =
-    let l = length_permutation (key ∷ e.keys) e'.keys put in
-    let z = zero_from_none (length e'.keys) some.1 in
-    absurd (omega arith)
-through e e' e'' key (Some k) none put room moves some perm back kept =
-    let l = length_permutation (key ∷ e.keys) e'.keys put in
-    let m = length_permutation e'.keys (k ∷ e''.keys) perm in
-    (omega arith, omega arith, omega arith)
+pub through : (e e' : Heap RankView) (key first : RankView) → length e.keys ≡ 0 → IsPermutation (key ∷ e.keys) (first ∷ e'.keys) → length e'.keys ≡ 0
+through e e' key first none perm = let l = length_permutation (key ∷ e.keys) (first ∷ e'.keys) perm in omega arith
 
 no_ranks : (g : ℕ) (ks : List RankView) → length ks ≡ 0 → ranks_at g ks ≡ 0
 no_ranks g [] e = refl
@@ -212,9 +200,6 @@ module _ (p : SchedParts) (kept : IsSchedKept p) (idle : IsIdle (flows_of p)) (s
 
   pub no_key : length p.eligible.keys ≡ 0
   no_key = let c = was.counted in let n = no_heads in omega arith
-
-  pub has_place : 0 < p.eligible.room
-  has_place = let r = was.eligible_room in let n = no_key in let l = listed_now in omega arith
 
   pub few_moves : p.arrivals < 2 ^ 62 → p.eligible.moves < 2 ^ 63
   few_moves few = let c = was.pushed in omega arith

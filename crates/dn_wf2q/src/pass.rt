@@ -10,7 +10,7 @@ use crate::sched_parts::SchedParts;
 
 impl SchedParts {
     /// A packet that comes where none waits is sent at once. Its start tag is 0, and alone it lets
-    /// virtual time grow by its own cost. Its flow enters a heap and leaves it, as each packet's does.
+    /// virtual time grow by its own cost. Its key passes an empty heap, and counts as a push.
     pub(crate) fn pass(&mut self, slot: usize, len: u16, weight: u8)
         requires kept { IsSchedKept self.old }
         requires idle { IsIdle (flows_of self.old) }
@@ -29,7 +29,6 @@ impl SchedParts {
         let q = &mut self.flows[slot];
         q.last_finish_tag = finish_tag;
         q.arrived = self.arrivals;
-        self.eligible.push_reserved(Rank::new(finish_tag, slot));
-        let _ = self.eligible.pop();
+        let _ = self.eligible.push_pop(Rank::new(finish_tag, slot));
     }
 }
