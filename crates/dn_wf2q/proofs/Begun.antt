@@ -88,7 +88,8 @@ idle_queues p idle h a = λ i d l.
     let all = waiting_is (flows_of p) in
     let same = ap (λ (fl : Flow). length fl.backlog) (flow_at_seen p.busy_from p.flows.items i d l) in
     let count = length-map (packets_of q) (tagged i) in
-    none_waits p.busy_from a q.arrived q.arrived q.last_finish_tag q.finish_tag (behind_of q.behind) q.head (omega (arith, one, all, idle, same, count)) (h i d l)
+    let kept = h i d l in
+    (none_waits p.busy_from a q.arrived q.arrived q.last_finish_tag q.finish_tag (behind_of q.behind) q.head (omega (arith, one, all, idle, same, count)) kept.0, kept.1)
 
 pub begun : (p : SchedParts) → IsSchedKept p → IsIdle (flows_of p) → IsSchedKept (record p { virtual_time = 0; busy_from = p.arrivals })
 begun p kept idle = record {

@@ -206,7 +206,7 @@ module _ (p : SchedParts) (kept : IsSchedKept p) (idle : IsIdle (flows_of p)) (s
 
   module _ (q : TaggedQueue) (at : q ≡ get_or p.flows.items slot q) (tag : ℕ) (tag_is : tag ≡ scaled len weight) where
     abbrev r : TaggedQueue
-    r = record { finish_tag = q.finish_tag; last_finish_tag = tag; arrived = p.arrivals + 1; head = q.head; behind = q.behind }
+    r = record { finish_tag = q.finish_tag; last_finish_tag = tag; arrived = p.arrivals + 1; head = q.head; alone = q.alone; behind = q.behind }
 
     seen_was : seen p.arrivals slot q ≡ no_packets
     seen_was =
@@ -316,5 +316,5 @@ module _ (p : SchedParts) (kept : IsSchedKept p) (idle : IsIdle (flows_of p)) (s
           whole =
               let none = ap (λ (fl : Flow). length fl.backlog) seen_was in
               let count = length-map (packets_of q) (tagged slot) in
-              unchained p.arrivals p.arrivals q.arrived (p.arrivals + 1) q.last_finish_tag tag q.finish_tag (behind_of q.behind) q.head (omega (arith, none, count))
-              (subst (IsQueueKept p.arrivals) (sym at) (began.queues slot q listed_queue))
+              let was = subst (IsQueueKept p.arrivals) (sym at) (began.queues slot q listed_queue) in
+              (unchained p.arrivals p.arrivals q.arrived (p.arrivals + 1) q.last_finish_tag tag q.finish_tag (behind_of q.behind) q.head (omega (arith, none, count)) was.0, was.1)

@@ -34,6 +34,11 @@ joined_chained b arrived last f later behind (Some h) p e m k =
     let t : nat_lt b arrived ≡ true = grind (arith, nat_tests) in
     (m, rw (t, last_behind-push f behind p, k.1) refl)
 
+-- A packet stands behind once one has joined.
+pub not_alone : (behind : List QueuedPacket) (p : QueuedPacket) → false ≡ (length (behind ++ p ∷ []) == 0)
+not_alone [] p = refl
+not_alone (x ∷ behind) p = grind (arith, nat_tests)
+
 -- What a head that is there says.
 module _ (head : Option QueuedPacket) (h : QueuedPacket) (is : head ≡ Some h) (f : ℕ) (behind : List QueuedPacket) where
   pub headed : stamped_from head f behind ≡ finishing f h ∷ stamped_behind f behind

@@ -35,7 +35,7 @@ extended_arrived : (a : ℕ) (xs ys : List TaggedQueue) → IsExtended xs ys →
 extended_arrived a xs ys e h = rw e.is (All-append (λ q. q.arrived ≤ a) xs e.more h (All-weaker IsBlank (λ q. q.arrived ≤ a) (λ q b. let z = b.3 in omega arith) e.more e.blank))
 
 blank_kept : (b : ℕ) (q : TaggedQueue) → IsBlank q → IsQueueKept b q
-blank_kept b q blank = rw blank.0 blank.1
+blank_kept b q blank = (rw blank.0 blank.1, rw (blank.1, blank.4) refl)
 
 extended_kept : (b : ℕ) (xs ys : List TaggedQueue) → IsExtended xs ys → All (IsQueueKept b) xs → All (IsQueueKept b) ys
 extended_kept b xs ys e h = rw e.is (All-append (IsQueueKept b) xs e.more h (All-weaker IsBlank (IsQueueKept b) (λ q blank. blank_kept b q blank) e.more e.blank))

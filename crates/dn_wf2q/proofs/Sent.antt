@@ -14,7 +14,7 @@ use Rattle.dn_wf2q.specs.declared.tagged_queue.TaggedQueue.{TaggedQueue}
 use Rattle.dn_wf2q.specs.declared.sched_parts.SchedParts.{SchedParts}
 use Rattle.dn_wf2q.specs.Rank.{RankView}
 use Rattle.dn_wf2q.specs.Schedule.{Flow, flow_at, no_packets, heads_of, after_pick, without_head}
-use Rattle.dn_wf2q.specs.Queue.{first_packet, places, packets_of, IsQueueKept}
+use Rattle.dn_wf2q.specs.Queue.{first_packet, is_alone, places, packets_of, IsQueueKept}
 use Rattle.dn_wf2q.specs.Kept.{Kept, IsSchedKept, IsKeptBut, IsKeptWithout, HeadIs, IsEligible, IsWaiting, IsWithin, AreTagsWithin, flows_of, seen, tagged, presence, behind, head_weight, ranks_at, bound, none_absent, only_absent}
 use Rattle.dn_wf2q.specs.Steps.{SendsHead}
 use Rattle.dn_wf2q.proofs.BySlot.{length-by_slot, by_slot-set}
@@ -144,6 +144,12 @@ module _ (p : SchedParts) (kept : IsSchedKept p) (k : RankView) (es : Heap RankV
     pub has_head : 0 < length (packets_of q)
     has_head = some_packets (λ x. (k.tag ≡ x.finish_tag) × (x.start_tag ≤ p.virtual_time)) k.slot (packets_of q) (rw same_flow at ready)
 
+    was_whole : IsQueueKept p.busy_from q
+    was_whole = subst (IsQueueKept p.busy_from) (sym at) (kept.queues k.slot q listed)
+
+    pub alone_is : q.alone ≡ is_alone q
+    alone_is = was_whole.1
+
     module _ (r : TaggedQueue) (sent : TaggedPacket) (is : packets_of q ≡ sent ∷ packets_of r)
         (last : r.last_finish_tag ≡ q.last_finish_tag) (arrived : r.arrived ≡ q.arrived)
         (whole : (b : ℕ) → IsQueueKept b q → IsQueueKept b r) (room : places r ≡ places q + 1) where
@@ -200,7 +206,7 @@ module _ (p : SchedParts) (kept : IsSchedKept p) (k : RankView) (es : Heap RankV
       all_whole : All (IsQueueKept p.busy_from) (set p.flows.items k.slot r)
       all_whole =
           All-set (IsQueueKept p.busy_from) p.flows.items k.slot r
-          (whole p.busy_from (subst (IsQueueKept p.busy_from) (sym at) (kept.queues k.slot q listed))) kept.queues
+          (whole p.busy_from was_whole) kept.queues
 
       still_few : length (set p.flows.items k.slot r) ≤ 2 ^ 32
       still_few = let s = kept.slots in let l = length-set p.flows.items k.slot r in omega arith

@@ -1,6 +1,6 @@
 -- What the queue of one flow stands for: the packets that wait, each with its tags. Kept are the head's finish tag, and
 -- of each packet its length and weight.
-use Rattle.std.specs.Prelude.{◌≡◌, ℕ, ◌+◌, ◌-◌, ◌^◌, ◌<◌, ◌==◌, nat_lt, cond, List, [], ◌∷◌, length, Option, Some, None, Box}
+use Rattle.std.specs.Prelude.{◌≡◌, ℕ, ◌+◌, ◌-◌, ◌^◌, ◌<◌, ◌==◌, nat_lt, cond, Bool, List, [], ◌∷◌, length, Option, Some, None, Box}
 use Rattle.std.specs.Global.{Global}
 use Rattle.std.specs.VecDeque.{deque_items, deque_len, deque_capacity}
 use Rattle.dn_types.specs.Wf2q.{scaled, start_tag_on_arrival}
@@ -62,8 +62,13 @@ abbrev pub IsChained : ℕ → ℕ → ℕ → ℕ → List QueuedPacket → Opt
 IsChained busy_from arrived last finish behind None = behind ≡ []
 IsChained busy_from arrived last finish behind (Some head) = (busy_from < arrived) × (last ≡ last_behind finish behind)
 
+-- Whether no packet stands behind the head.
+abbrev pub is_alone : TaggedQueue → Bool
+is_alone q = length (behind_of q.behind) == 0
+
+-- What holds of a queue, where the busy period began after so many arrivals.
 abbrev pub IsQueueKept : ℕ → TaggedQueue → Type 0
-IsQueueKept busy_from q = IsChained busy_from q.arrived q.last_finish_tag q.finish_tag (behind_of q.behind) q.head
+IsQueueKept busy_from q = IsChained busy_from q.arrived q.last_finish_tag q.finish_tag (behind_of q.behind) q.head × (q.alone ≡ is_alone q)
 
 -- The last finish tag of a queue, where the busy period began after so many arrivals: an older tag counts for 0.
 abbrev pub last_finish_tag_in : ℕ → TaggedQueue → ℕ

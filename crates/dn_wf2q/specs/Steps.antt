@@ -1,5 +1,5 @@
 -- What each step of a call changes.
-use Rattle.std.specs.Prelude.{◌≡◌, ℕ, ◌+◌, ◌<◌, ◌≤◌, List, [], ◌∷◌, ◌++◌, length, map, slice_set, take, None}
+use Rattle.std.specs.Prelude.{◌≡◌, ℕ, ◌+◌, ◌<◌, ◌≤◌, true, List, [], ◌∷◌, ◌++◌, length, map, slice_set, take, None}
 use Rattle.std.specs.List.{All}
 use Rattle.dn_types.specs.Wf2q.{Stamped, scaled, weight_sum}
 use Rattle.dn_wf2q.specs.declared.tagged_queue.TaggedQueue.{TaggedQueue}
@@ -71,7 +71,7 @@ pub record Begins (old new : SchedParts) : Type 0 where
 
 -- A queue that has had no packet.
 abbrev pub IsBlank : TaggedQueue → Type 0
-IsBlank q = (q.head ≡ None) × (behind_of q.behind ≡ []) × (q.last_finish_tag ≡ 0) × (q.arrived ≡ 0)
+IsBlank q = (q.head ≡ None) × (behind_of q.behind ≡ []) × (q.last_finish_tag ≡ 0) × (q.arrived ≡ 0) × (q.alone ≡ true)
 
 -- The second list is the first and then such queues.
 pub record IsExtended (xs ys : List TaggedQueue) : Type 0 where

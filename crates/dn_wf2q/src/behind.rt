@@ -1,4 +1,4 @@
-ghost use Rattle.std.specs.Prelude.{◌≡◌, ◌+◌, ◌<◌, ◌≤◌, [], ◌∷◌, ◌++◌, length, IfNone, IsOk, OnOk};
+ghost use Rattle.std.specs.Prelude.{◌≡◌, ◌==◌, ◌+◌, ◌<◌, ◌≤◌, [], ◌∷◌, ◌++◌, length, IfNone, IsOk, OnOk};
 ghost use Rattle.std.specs.Option.{option_to_list};
 ghost use Rattle.dn_wf2q.specs.Queue.{behind_of, spare_of};
 
@@ -62,6 +62,16 @@ impl Behind {
         match &mut self.packets {
             Some(packets) => packets.pop_front(),
             None => None,
+        }
+    }
+
+    /// Whether there is none.
+    pub(crate) fn is_empty(&self) -> bool
+        ensures { result ≡ (length (behind_of self.now) == 0) }
+    {
+        match &self.packets {
+            Some(packets) => packets.is_empty(),
+            None => true,
         }
     }
 

@@ -1,6 +1,6 @@
-ghost use Rattle.std.specs.Prelude.{ℕ, ◌≡◌, ◌+◌, ◌<◌, ◌≤◌, ◌^◌, ◌==◌, [], ◌∷◌, ◌++◌, length, cond, Some, None, IsOk, IfSome, OnOk, All};
+ghost use Rattle.std.specs.Prelude.{ℕ, ◌≡◌, ◌+◌, ◌<◌, ◌≤◌, ◌^◌, ◌==◌, [], ◌∷◌, ◌++◌, length, cond, option_to_list, Some, None, IsOk, IfSome, IfNone, OnOk, All};
 ghost use Rattle.dn_wf2q.specs.Steps.{IsBlank};
-ghost use Rattle.dn_wf2q.specs.Queue.{IsPayable, IsQueueKept, arriving, behind_of, finishing, first_packet, last_behind, last_finish_tag_in, packets_of, places, spare_of, stamped_behind};
+ghost use Rattle.dn_wf2q.specs.Queue.{IsPayable, IsQueueKept, arriving, behind_of, finishing, first_packet, is_alone, last_behind, last_finish_tag_in, packets_of, places, spare_of, stamped_behind};
 
 use crate::behind::Behind;
 use crate::queued_packet::QueuedPacket;
@@ -20,6 +20,9 @@ pub(crate) struct TaggedQueue {
     /// last finish tag counts for 0, so that the beginning of one need not go through all flows.
     pub(crate) arrived: u64,
     pub(crate) head: Option<QueuedPacket>,
+    /// Whether no packet stands behind the head. It lies beside the head, so that where none does the
+    /// block of those isn't read.
+    pub(crate) alone: bool,
     pub(crate) behind: Behind,
 }
 
@@ -33,6 +36,7 @@ impl TaggedQueue {
             last_finish_tag: 0,
             arrived: 0,
             head: None,
+            alone: true,
             behind: Behind::new(),
         }
     }
@@ -82,6 +86,7 @@ impl TaggedQueue {
         if self.head.is_some() {
             self.last_finish_tag = last + cost(len, weight) as u128;
             self.behind.push(packet);
+            self.alone = false;
             return None;
         }
         let start_tag = last.max(virtual_time);
@@ -112,6 +117,7 @@ impl TaggedQueue {
     pub(crate) fn take_head(&mut self) -> (QueuedPacket, Option<TaggedPacket>)
         requires some { 0 < length (packets_of self.old) }
         requires payable { All IsPayable (packets_of self.old) }
+        requires alone { self.old.alone ≡ is_alone self.old }
         ensures sent { packets_of self.old ≡ finishing self.old.finish_tag result.0 ∷ packets_of self.new }
         ensures next { result.1 ≡ first_packet (packets_of self.new) }
         ensures last_finish_tag { self.new.last_finish_tag ≡ self.old.last_finish_tag }
@@ -123,10 +129,28 @@ impl TaggedQueue {
         (sent, self.next_head())
     }
 
+    /// Takes the first packet behind the head out, if there is one.
+    fn pop_behind(&mut self) -> Option<QueuedPacket>
+        requires alone { self.old.alone ≡ is_alone self.old }
+        ensures packets { behind_of self.old.behind ≡ option_to_list result ++ behind_of self.new.behind }
+        ensures none { IfNone result (behind_of self.new.behind ≡ []) }
+        ensures alone { self.new.alone ≡ is_alone self.new }
+        ensures room { spare_of self.new.behind ≡ spare_of self.old.behind + length (option_to_list result) }
+        ensures others { self.new ≡ record self.old { alone = self.new.alone; behind = self.new.behind } }
+    {
+        if self.alone {
+            return None;
+        }
+        let next = self.behind.pop();
+        self.alone = self.behind.is_empty();
+        next
+    }
+
     /// The packet behind the head becomes the head.
     fn next_head(&mut self) -> Option<TaggedPacket>
         requires finish_tag { self.old.finish_tag < 2 ^ 96 }
         requires payable { All IsPayable (stamped_behind self.old.finish_tag (behind_of self.old.behind)) }
+        requires alone { self.old.alone ≡ is_alone self.old }
         ensures next { result ≡ first_packet (packets_of self.new) }
         ensures packets { packets_of self.new ≡ stamped_behind self.old.finish_tag (behind_of self.old.behind) }
         ensures last_finish_tag { self.new.last_finish_tag ≡ self.old.last_finish_tag }
@@ -134,7 +158,7 @@ impl TaggedQueue {
         ensures room { places self.new ≡ spare_of self.old.behind + 1 }
         ensures kept { (busy_from : ℕ) → busy_from < self.old.arrived → self.old.last_finish_tag ≡ last_behind self.old.finish_tag (behind_of self.old.behind) → IsQueueKept busy_from self.new }
     {
-        self.head = self.behind.pop();
+        self.head = self.pop_behind();
         let next = self.head?;
         let start_tag = self.finish_tag;
         self.finish_tag = start_tag + cost(next.len, next.weight) as u128;
@@ -177,6 +201,7 @@ impl TaggedQueue {
         ensures kept { (busy_from : ℕ) → IsQueueKept busy_from self.new }
     {
         self.head = None;
+        self.alone = true;
         self.behind.clear();
         self.last_finish_tag = 0;
     }

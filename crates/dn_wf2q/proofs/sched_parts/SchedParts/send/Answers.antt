@@ -5,7 +5,7 @@ use Rattle.dn_wf2q.proofs.Ranks.{zero_from_none}
 use Rattle.dn_wf2q.proofs.Heads.{next_is_none}
 use Rattle.dn_wf2q.proofs.Own.{own_slots}
 use Rattle.dn_wf2q.proofs.Steps.{picked_is, picked_none}
-use Rattle.dn_wf2q.proofs.Sent.{listed, has_head, head_is, weighs, sends, last_kept, more_kept}
+use Rattle.dn_wf2q.proofs.Sent.{listed, has_head, alone_is, head_is, weighs, sends, last_kept, more_kept}
 use Rattle.dn_wf2q.proofs.sched_parts.SchedParts.send.Goals as goal
 
 -- The eligible heap is empty, so that no head is eligible.
@@ -33,6 +33,9 @@ take_head-next-requires c = record {
       (rw c.slot-slot.ensures.value c.in_ok-first.ensures.keys)) c.index_mut.result.now c.index_mut.ensures.value;
   some =
       has_head c.args.self.now c.requires.kept (record { tag = c.in_ok-first.first.tag; slot = c.slot-slot.result }) c.pop.new.self
+      (rw c.slot-slot.ensures.value c.in_ok-first.ensures.keys) c.index_mut.result.now c.index_mut.ensures.value;
+  alone =
+      alone_is c.args.self.now c.requires.kept (record { tag = c.in_ok-first.first.tag; slot = c.slot-slot.result }) c.pop.new.self
       (rw c.slot-slot.ensures.value c.in_ok-first.ensures.keys) c.index_mut.result.now c.index_mut.ensures.value;
 }
 

@@ -1,6 +1,6 @@
 use Rattle.std.proofs.Common.{◌∙◌, sym}
 use Rattle.dn_wf2q.specs.Queue.{behind_of}
-use Rattle.dn_wf2q.proofs.Queues.{joined, joined_chained}
+use Rattle.dn_wf2q.proofs.Queues.{joined, joined_chained, not_alone}
 use Rattle.dn_wf2q.proofs.tagged_queue.TaggedQueue.append.Goals as goal
 
 -- Packets wait already.
@@ -8,10 +8,13 @@ pub returns-then-is_some-clause-packets : goal.returns-then-is_some-clause-packe
 returns-then-is_some-clause-packets c =
     let q = c.args.self.now in
     rw c.push.ensures.packets (joined c.args.busy_from q.arrived q.last_finish_tag q.finish_tag c.args.virtual_time (behind_of q.behind) q.head _
-    (sym c.is_some.ensures ∙ c.if-is_some.true) c.requires.kept)
+    (sym c.is_some.ensures ∙ c.if-is_some.true) c.requires.kept.0)
 
 pub returns-then-is_some-clause-kept : goal.returns-then-is_some-clause-kept
 returns-then-is_some-clause-kept c =
     let q = c.args.self.now in
-    rw (c.push.ensures.packets, c.last_in-last.ensures.value, c.cost.ensures.value) (joined_chained c.args.busy_from q.arrived q.last_finish_tag
-    q.finish_tag c.args.arrivals (behind_of q.behind) q.head _ (sym c.is_some.ensures ∙ c.if-is_some.true) c.requires.later c.requires.kept)
+    rw (c.push.ensures.packets, c.last_in-last.ensures.value, c.cost.ensures.value) (
+      joined_chained c.args.busy_from q.arrived q.last_finish_tag
+          q.finish_tag c.args.arrivals (behind_of q.behind) q.head _ (sym c.is_some.ensures ∙ c.if-is_some.true) c.requires.later c.requires.kept.0,
+      not_alone (behind_of q.behind) _,
+    )
