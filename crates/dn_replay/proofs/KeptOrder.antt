@@ -2,7 +2,6 @@
 use Rattle.std.proofs.Common.{◌≡◌, ◌∙◌, sym, ap, refl, ℕ, zero, suc, ◌+◌, ◌<◌, ◌≤◌, ◌⊎◌, inl, inr, arith, length, get_or, List, [], ◌∷◌, ◌++◌, map, Bool, true, false, cond}
 use Rattle.std.specs.Prelude.{filter, nat_eq, nat_lt, option_to_list, Option, Some, None}
 use Rattle.std.specs.List.{All, count_by}
-use Rattle.std.proofs.lemmas.Bool.{cases_Bool}
 use Rattle.std.proofs.lemmas.Bool.Decides.{nat_tests}
 use Rattle.std.proofs.lemmas.List.{append-nil}
 use Rattle.std.proofs.lemmas.List.Elements.{All-head, All-tail, filter-append}
@@ -10,13 +9,13 @@ use Rattle.std.proofs.lemmas.List.Sums.{sum_by-cons}
 use Rattle.dn_types.specs.Given.{is_packet}
 use Rattle.dn_types.specs.TimeLaws.{AreInOrder}
 use Rattle.dn_types.specs.declared.delivery.Delivery.{Delivery}
-use Rattle.dn_replay.specs.Kept.{accepted_places, delivery_line, fate_line, fate_lines, flow_of, is_accepted, moment_of}
+use Rattle.dn_replay.specs.Kept.{accepted_places, delivery_line, fate_line, fate_lines, is_accepted}
 use Rattle.dn_replay.specs.Report.{delivery_of_packet, due_of, is_other, is_out, outs_in_order, packet_of, queued_line, row_number, sorted_by}
 use Rattle.dn_replay.specs.declared.report.fate.Fate.{Fate}
 use Rattle.dn_replay.specs.declared.report.fate.Fate.TheVariants.{Accepted, Lost, Full, NoTarget, Unanswered}
 use Rattle.dn_replay.specs.declared.report.report_line.ReportLine.{ReportLine}
 use Rattle.dn_replay.specs.declared.report.report_line.ReportLine.TheVariants as line
-use Rattle.dn_replay.proofs.Orders.{Agree, AtLeast, Rises, at, in_order-level, in_order-rises, unique}
+use Rattle.dn_replay.proofs.Orders.{AtLeast, Rises, at, in_order-level, in_order-rises, unique}
 
 turned : (a b : ℕ) → nat_eq a b ≡ nat_eq b a
 turned a b = grind (arith, nat_tests)

@@ -1,16 +1,15 @@
 -- What is kept of a run, one call at a time.
-use Rattle.std.proofs.Common.{◌≡◌, ◌∙◌, sym, ap, refl, ℕ, suc, ◌+◌, ◌*◌, ◌<◌, ◌≤◌, arith, length, List, [], ◌∷◌, ◌++◌, Bool, true, false, cond, inl, inr, append_assoc, length-append}
-use Rattle.std.specs.Prelude.{◌&&◌, nat_eq, nat_le, option_to_list, Option, Some, None, is_some}
+use Rattle.std.proofs.Common.{◌≡◌, ◌∙◌, sym, ap, refl, ℕ, suc, ◌+◌, ◌*◌, arith, length, List, [], ◌∷◌, ◌++◌, Bool, true, false, cond, inl, inr, append_assoc}
+use Rattle.std.specs.Prelude.{◌&&◌, nat_eq, nat_le, option_to_list, is_some}
 use Rattle.std.specs.List.{count_by}
 use Rattle.std.proofs.lemmas.Bool.{cases_Bool}
 use Rattle.std.proofs.lemmas.List.{append-nil, length_push}
 use Rattle.std.proofs.lemmas.List.Sums.{sum_by-cons}
-use Rattle.dn_types.specs.Calls.{Verdict, no_target, loses, refuses, takes, verdict, trace_of}
-use Rattle.dn_types.specs.Clock.{call_limit, effective_moment}
+use Rattle.dn_types.specs.Calls.{Verdict, no_target, loses, refuses, takes, verdict}
+use Rattle.dn_types.specs.Clock.{call_limit}
 use Rattle.dn_types.specs.Configuration.{Settings, command_reply, has_queues, queue_numbers, settings, reply_to_command}
 use Rattle.dn_types.specs.Replies.{counted_reply, reply, reply_to_verdict}
-use Rattle.dn_types.specs.Starts.{settled}
-use Rattle.dn_types.specs.Trace.{Event, accepted_count}
+use Rattle.dn_types.specs.Trace.{Event}
 use Rattle.dn_types.specs.declared.call.Call.{Call}
 use Rattle.dn_types.specs.declared.call.Call.TheVariants.{Configure, Submit}
 use Rattle.dn_types.specs.declared.command.Command.{Command}

@@ -1,5 +1,5 @@
 -- The lines of the packets that are not given, one row at a time.
-use Rattle.std.proofs.Common.{◌≡◌, ◌∙◌, sym, ap, refl, ℕ, zero, suc, ◌+◌, ◌<◌, ◌≤◌, arith, length, drop, get_or, List, [], ◌∷◌, ◌++◌, map, Bool, true, false, cond, append_assoc}
+use Rattle.std.proofs.Common.{◌≡◌, ◌∙◌, sym, ap, refl, ℕ, ◌+◌, ◌<◌, ◌≤◌, arith, length, drop, get_or, List, [], ◌∷◌, ◌++◌, map, Bool, true, false, cond, append_assoc}
 use Rattle.std.specs.Prelude.{◌||◌, filter, nat_eq, option_to_list, Option, Some, None, is_some}
 use Rattle.std.specs.Option.{option_or}
 use Rattle.std.proofs.lemmas.List.{append-nil, drop_all, drop_more, map-append, take_more, get_or-replicate, get_or-set_same, get_or-set_other, length-replicate}

@@ -1,10 +1,9 @@
 -- A text that is written in parts, one part and one line at a time.
-use Rattle.std.proofs.Common.{◌≡◌, ◌∙◌, sym, ap, refl, ℕ, zero, suc, ◌+◌, ◌<◌, ◌≤◌, arith, length, take, drop, get_or, List, [], ◌∷◌, ◌++◌, map, Bool, true, false, cond, append_assoc, length-append}
-use Rattle.std.specs.Prelude.{filter, nat_eq, option_to_list, Option, Some, None}
+use Rattle.std.proofs.Common.{◌≡◌, ◌∙◌, sym, ap, refl, ℕ, zero, suc, ◌+◌, ◌<◌, arith, length, take, drop, get_or, List, [], ◌∷◌, ◌++◌, map, append_assoc, length-append}
+use Rattle.std.specs.Prelude.{Option}
 use Rattle.std.specs.Io.KnownBytes.{Appends}
 use Rattle.std.proofs.KnownBytes.{Appends-nil, Appends-trans}
-use Rattle.std.proofs.lemmas.List.{append-nil, drop_more, map-append, take-append-drop, take_more}
-use Rattle.std.proofs.lemmas.List.Elements.{filter-append}
+use Rattle.std.proofs.lemmas.List.{append-nil, map-append, take-append-drop, take_more}
 use Rattle.dn_records.proofs.TextSteps.{text-append}
 use Rattle.dn_records.specs.Devices.{AppendsPart}
 use Rattle.dn_records.specs.Records.{Fields, line_of, text_of}

@@ -1,4 +1,4 @@
-use Rattle.std.proofs.Common.{◌≡◌, ◌≤◌, length, decimal, arith}
+use Rattle.std.proofs.Common.{◌≤◌, length, decimal, arith}
 use Rattle.std.proofs.lemmas.Fmt.{length-decimal-le}
 use Rattle.dn_replay.proofs.report.line_bytes.put_number.Goals as goal
 

@@ -1,4 +1,4 @@
-use Rattle.std.proofs.Common.{◌∙◌, sym, ap, refl, ℕ, List, ◌∷◌, [], ◌++◌, arith, append_assoc, drop}
+use Rattle.std.proofs.Common.{◌∙◌, ap, refl, ℕ, List, ◌++◌, append_assoc, drop}
 use Rattle.dn_replay.proofs.report.line_text.add_refused.Goals as goal
 
 pub returns-clause-items : goal.returns-clause-items

@@ -1,4 +1,3 @@
-use Rattle.std.proofs.Common.{◌∙◌}
 use Rattle.dn_replay.proofs.report.write_kept.add_delivery.Goals as goal
 
 pub returns-clause-items : goal.returns-clause-items

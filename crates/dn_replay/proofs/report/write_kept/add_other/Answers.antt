@@ -1,4 +1,4 @@
-use Rattle.std.proofs.Common.{◌≡◌, ◌∙◌, sym, ap, ℕ, List, ◌++◌, arith}
+use Rattle.std.proofs.Common.{◌∙◌, sym, ap, ℕ, List, ◌++◌, arith}
 use Rattle.dn_replay.specs.Kept.{is_accepted}
 use Rattle.dn_replay.proofs.LineBytes.{full-line, lost-line}
 use Rattle.dn_replay.proofs.OtherSteps.{full-one, given-one, held-one, lost-one, no_target-one, unanswered-one}

@@ -1,9 +1,8 @@
-use Rattle.std.proofs.Common.{◌≡◌, ◌∙◌, sym, ap, refl, ◌++◌, ℕ, List, [], length, map, append-nil}
+use Rattle.std.proofs.Common.{◌∙◌, sym, ap, ◌++◌, ℕ, [], length, map, append-nil}
 use Rattle.std.specs.Prelude.{filter}
 use Rattle.dn_records.proofs.Lines.{on_err}
 use Rattle.dn_records.specs.Records.{line_of, text_of}
-use Rattle.dn_types.specs.declared.delivery.Delivery.{Delivery}
-use Rattle.dn_replay.specs.Kept.{AreMarksOf, delivery_line, fate_lines}
+use Rattle.dn_replay.specs.Kept.{delivery_line, fate_lines}
 use Rattle.dn_replay.specs.Report.{is_other, line_fields, report_header}
 use Rattle.dn_replay.proofs.OtherSteps.{own-count}
 use Rattle.dn_replay.proofs.PartSteps.{begun, ended, line-added, same-part, whole-text}

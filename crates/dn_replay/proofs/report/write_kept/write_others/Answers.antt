@@ -1,4 +1,4 @@
-use Rattle.std.proofs.Common.{◌≡◌, ◌∙◌, sym, ap, refl, ◌<◌, ◌≤◌, ◌+◌, ◌++◌, ℕ, List, Option, cond, get_or, length, arith}
+use Rattle.std.proofs.Common.{refl, ◌+◌, ◌++◌, cond, get_or, length, arith}
 use Rattle.dn_records.proofs.Lines.{on_err}
 use Rattle.dn_replay.specs.Kept.{is_accepted}
 use Rattle.dn_replay.specs.declared.report.fate.Fate.TheVariants.{Accepted}

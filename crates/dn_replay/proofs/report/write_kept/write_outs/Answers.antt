@@ -1,4 +1,4 @@
-use Rattle.std.proofs.Common.{◌≡◌, ◌∙◌, sym, ap, ◌<◌, ◌≤◌, ◌+◌, ◌++◌, ℕ, List, Option, get_or, length, map, take, drop, arith, take_all}
+use Rattle.std.proofs.Common.{ap, ◌+◌, ◌++◌, List, get_or, map, take, drop, arith, take_all}
 use Rattle.dn_records.proofs.Lines.{on_err}
 use Rattle.dn_records.proofs.TextSteps.{text-none}
 use Rattle.dn_records.specs.Records.{line_of, text_of}

@@ -1,4 +1,4 @@
-use Rattle.std.proofs.Common.{◌≡◌, ◌∙◌, sym, ap, ℕ, List, length, arith}
+use Rattle.std.proofs.Common.{◌≡◌, ◌∙◌, ap, length, arith}
 use Rattle.dn_replay.specs.Kept.{fate_of}
 use Rattle.dn_replay.proofs.KeptSteps.{kept-submitted}
 use Rattle.dn_replay.proofs.report.kept.Kept.note.Goals as goal
