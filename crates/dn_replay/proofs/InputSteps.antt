@@ -1,9 +1,10 @@
 -- What an input asks for, and what became of it, by the parts of it.
-use Rattle.std.proofs.Common.{◌≡◌, ◌∙◌, ℕ, ◌+◌, ◌<◌, Bool, List, [], ◌++◌, length, Option, Some, None, Result, Ok, Err, refl, sym, ap, subst, arith, append_assoc, append-nil, length-append}
+use Rattle.std.proofs.Common.{◌≡◌, ◌∙◌, ℕ, ◌+◌, ◌<◌, Bool, true, false, List, [], ◌++◌, length, Option, Some, None, Result, Ok, Err, refl, sym, ap, subst, arith, append_assoc, append-nil, length-append}
 use Rattle.std.specs.Prelude.{IfSome}
 use Rattle.std.specs.Io.KnownBytes.{Consumes, IsAtEnd}
 use Rattle.std.proofs.KnownBytes.{Consumes-all}
 use Rattle.dn_types.specs.declared.call.Call.{Call}
+use Rattle.dn_types.specs.declared.entry.Entry.{Entry}
 use Rattle.dn_text.specs.Joined.{joined_parts}
 use Rattle.dn_files.specs.PacketFile.{packet_limit}
 use Rattle.dn_files.specs.Reading.{IsFaultOf, IsTextOf, ReadsAs, within_limit}
@@ -14,12 +15,12 @@ use Rattle.dn_files.specs.declared.source.Source.TheVariants.{Input, Packets}
 use Rattle.dn_files.proofs.Inputs.{carried}
 use Rattle.dn_replay.specs.declared.one_pass.input.Input.{Input as TheInput}
 use Rattle.dn_replay.specs.Configuring.{configured_by}
-use Rattle.dn_replay.specs.OnePass.{calls_with, HasTaken, IsCutAt, IsReportedFor, IsUnbegun, NoneFailed}
+use Rattle.dn_replay.specs.OnePass.{calls_with, HasTaken, IsAnswered, IsCutAt, IsUnbegun, NoneFailed}
 use Rattle.dn_replay.specs.Replays.{AskFor, AsksFor, calls_of_inputs, calls_of_joined, calls_of_parts, config_calls, IsUnreplayed}
 
 -- Nothing has come.
-pub from_start : (input : TheInput) → IsUnbegun input → HasTaken input (λ text. calls_of_parts (joined_parts text)) []
-from_start input unbegun = rw unbegun.stage (unbegun.pass, unbegun.config, λ whole. refl)
+pub from_start : (input : TheInput) → IsUnbegun input → HasTaken input.pass.records input (λ text. calls_of_parts (joined_parts text)) []
+from_start input unbegun = rw unbegun.stage (refl, unbegun.pass, unbegun.config, λ whole. refl)
 
 parts_ask : (config packets : List ℕ) (calls : List Call) → configured_by config ≡ Ok calls → calls_of_parts (config, packets) ≡ calls_with calls packets
 parts_ask config packets calls accepted = rw accepted refl
@@ -96,19 +97,20 @@ some_is_none a e = cc
 -- What became of what is asked for by one became of what is asked for by another.
 module _ (ReadFailed : Option Source → Type 0) (Asked Inputs : Result (List Call) ReplayFault → Type 0) (old new : Option (List ℕ)) (sound : ReadFailed None)
     (through : (asked : Result (List Call) ReplayFault) → Asked asked → Inputs asked) where
-  pub told_through : IsReportedFor Asked old new → IsReportedFor Inputs old new
-  told_through told = (told.0, through (Ok told.0) told.1, told.2, told.3)
+  pub answered_through : (records : Bool) (entries : List Entry) → IsAnswered records Asked entries old new → IsAnswered records Inputs entries old new
+  answered_through true entries told = (told.0, through (Ok told.0) told.1, told.2)
+  answered_through false entries told = (told.0, through (Ok told.0) told.1, told.2, told.3)
 
-  pub untold_through : (failed : Bool) (fault : ReplayFault) → IsUnreplayed NoneFailed Asked old new failed fault → IsUnreplayed ReadFailed Inputs old new failed fault
-  untold_through failed (Read what) h = absurd (some_is_none what h.0)
-  untold_through failed (Write what) h = (sound, (h.1.0, through (Ok h.1.0) h.1.1, h.1.2))
-  untold_through failed OutOfMemory h = (sound, h.1)
-  untold_through failed (Config l f) h = (sound, through (Err (Config l f)) h.1, h.2)
-  untold_through failed (ConfigText l) h = (sound, through (Err (ConfigText l)) h.1, h.2)
-  untold_through failed (NoSuchPipe l) h = (sound, through (Err (NoSuchPipe l)) h.1, h.2)
-  untold_through failed (BadRow r f) h = (sound, through (Err (BadRow r f)) h.1, h.2)
-  untold_through failed (BadRecord n) h = (sound, through (Err (BadRecord n)) h.1, h.2)
-  untold_through failed (TooLong s) h = (sound, through (Err (TooLong s)) h.1, h.2)
-  untold_through failed BadCount h = (sound, through (Err BadCount) h.1, h.2)
-  untold_through failed (PipeHasQueues l) h = (sound, through (Err (PipeHasQueues l)) h.1, h.2)
-  untold_through failed (NoSuchQueue l) h = (sound, through (Err (NoSuchQueue l)) h.1, h.2)
+  pub unanswered_through : (failed : Bool) (fault : ReplayFault) → IsUnreplayed NoneFailed Asked old new failed fault → IsUnreplayed ReadFailed Inputs old new failed fault
+  unanswered_through failed (Read what) h = absurd (some_is_none what h.0)
+  unanswered_through failed (Write what) h = (sound, (h.1.0, through (Ok h.1.0) h.1.1, h.1.2))
+  unanswered_through failed OutOfMemory h = (sound, h.1)
+  unanswered_through failed (Config l f) h = (sound, through (Err (Config l f)) h.1, h.2)
+  unanswered_through failed (ConfigText l) h = (sound, through (Err (ConfigText l)) h.1, h.2)
+  unanswered_through failed (NoSuchPipe l) h = (sound, through (Err (NoSuchPipe l)) h.1, h.2)
+  unanswered_through failed (BadRow r f) h = (sound, through (Err (BadRow r f)) h.1, h.2)
+  unanswered_through failed (BadRecord n) h = (sound, through (Err (BadRecord n)) h.1, h.2)
+  unanswered_through failed (TooLong s) h = (sound, through (Err (TooLong s)) h.1, h.2)
+  unanswered_through failed BadCount h = (sound, through (Err BadCount) h.1, h.2)
+  unanswered_through failed (PipeHasQueues l) h = (sound, through (Err (PipeHasQueues l)) h.1, h.2)
+  unanswered_through failed (NoSuchQueue l) h = (sound, through (Err (NoSuchQueue l)) h.1, h.2)

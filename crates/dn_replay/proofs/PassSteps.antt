@@ -1,11 +1,12 @@
 -- One part more of a packets' text, and its end.
-use Rattle.std.proofs.Common.{◌≡◌, ◌∙◌, ◌^◌, ◌<◌, ℕ, suc, arith, length, Bool, false, List, [], ◌∷◌, ◌++◌, Option, Result, Ok, Err, refl, sym, ap, subst}
+use Rattle.std.proofs.Common.{◌≡◌, ◌∙◌, ◌^◌, ◌<◌, ℕ, suc, arith, length, Bool, true, false, List, [], ◌∷◌, ◌++◌, Option, Result, Ok, Err, refl, sym, ap, subst}
 use Rattle.std.specs.Io.KnownBytes.{Appends}
 use Rattle.dn_types.specs.Clock.{call_limit}
 use Rattle.dn_types.specs.Replies.{reply}
 use Rattle.dn_types.specs.declared.call.Call.{Call}
 use Rattle.dn_types.specs.declared.call.Call.TheVariants.{Collect}
 use Rattle.dn_types.specs.declared.delivery.Delivery.{Delivery}
+use Rattle.dn_types.specs.declared.entry.Entry.{Entry}
 use Rattle.dn_types.specs.declared.reply.Reply.{Reply}
 use Rattle.dn_types.specs.declared.rule.Rule.TheVariants.{Ordered}
 use Rattle.dn_shaper.specs.Shaper.{StandsAfter}
@@ -18,10 +19,12 @@ use Rattle.dn_files.specs.declared.row.Row.{Row}
 use Rattle.dn_files.specs.declared.source.Source.TheVariants.{Report}
 use Rattle.dn_files.proofs.Inputs.{carried}
 use Rattle.dn_replay.specs.Kept.{CanReport, HasKept}
-use Rattle.dn_replay.specs.OnePass.{AreFew, calls_with, HasNoted, IsReportedFor, NoneFailed}
+use Rattle.dn_replay.specs.OnePass.{AreFew, calls_with, HasAnswered, HasEnded, HasNoted, IsAnswered, NoneFailed}
 use Rattle.dn_replay.specs.Replays.{IsUnreplayed}
 use Rattle.dn_replay.specs.Report.{delivered, report}
-use Rattle.dn_replay.specs.Runs.{history_of, replayed, submit, submitted}
+use Rattle.dn_replay.specs.Runs.{entry_after, HasMade, history_of, replayed, submit, submitted}
+use Rattle.dn_replay.specs.declared.one_caller.run.Run.{Run}
+use Rattle.dn_replay.specs.declared.one_pass.pass.Pass.{Pass}
 use Rattle.dn_replay.specs.declared.report.kept.Kept.{Kept}
 use Rattle.dn_replay.proofs.PassingCalls.{passed-collect, passed-none, passed-submit, same-collect, same-last, same-submit}
 use Rattle.dn_replay.proofs.ReplaySteps.{lawful, unread_text, unreplayed, unreported}
@@ -33,18 +36,25 @@ unfolding submitted
 submitted-both calls [] rows = refl
 submitted-both calls (row ∷ front) rows = submitted-both (submit row ∷ calls) front rows
 
-pub one_row : (shaper : State) (kept : Kept) (given : List Delivery) (calls : List Call) (rows : List Row) (row : Row)
-    → HasNoted shaper kept given (submit row ∷ submitted calls rows) → HasNoted shaper kept given (submitted calls (rows ++ row ∷ []))
-one_row shaper kept given calls rows row h = subst (λ (all : List Call). HasNoted shaper kept given all) (sym (submitted-append calls rows row)) h
+module _ (records : Bool) (run : Run) (kept : Kept) (given : List Delivery) (calls : List Call) where
+  pub one_row : (rows : List Row) (row : Row) → HasAnswered records run kept given (submit row ∷ submitted calls rows) → HasAnswered records run kept given (submitted calls (rows ++ row ∷ []))
+  one_row rows row h = subst (λ (all : List Call). HasAnswered records run kept given all) (sym (submitted-append calls rows row)) h
 
-pub last_rows : (shaper : State) (kept : Kept) (given : List Delivery) (calls : List Call) (front rows : List Row)
-    → HasNoted shaper kept given (submitted (submitted calls front) rows) → HasNoted shaper kept given (submitted calls (front ++ rows))
-last_rows shaper kept given calls front rows h = subst (λ (all : List Call). HasNoted shaper kept given all) (submitted-both calls front rows) h
+  pub last_rows : (front rows : List Row) → HasAnswered records run kept given (submitted (submitted calls front) rows) → HasAnswered records run kept given (submitted calls (front ++ rows))
+  last_rows front rows h = subst (λ (all : List Call). HasAnswered records run kept given all) (submitted-both calls front rows) h
 
 -- Before the first row no Collect was made.
-pub noted-first : (shaper : State) (kept : Kept) (given : List Delivery) (calls : List Call) → StandsAfter Ordered shaper calls → HasKept kept calls → given ≡ [] → HasNoted shaper kept given (submitted calls [])
+pub answered-first : (records : Bool) (run : Run) (kept : Kept) (given : List Delivery) (calls : List Call) → HasMade run calls → HasKept kept calls → given ≡ []
+    → HasAnswered records run kept given (submitted calls [])
 unfolding submitted
-noted-first shaper kept given calls stands has none = record { made = calls; stands = stands; few = omega arith; passed = λ few. rw none (passed-none calls); kept_is = λ few. has }
+answered-first true run kept given calls made has none = (made, has)
+answered-first false run kept given calls made has none = record {
+  made = calls;
+  stands = made.0;
+  few = omega arith;
+  passed = λ few. rw none (passed-none calls);
+  kept_is = λ few. has;
+}
 
 -- A Submit more, and what is kept of its answer.
 module _ (shaper : State) (kept : Kept) (given : List Delivery) (calls : List Call) (row : Row) (old : HasNoted shaper kept given calls) (r : Reply) (said : r ≡ reply Ordered old.made (submit row))
@@ -74,20 +84,34 @@ module _ (shaper : State) (kept : Kept) (given : List Delivery) (calls : List Ca
         (said ∙ same-submit old.made calls given (old.passed (omega (arith, few))) row.target row.packet row.moment (omega (arith, few)));
   }
 
--- What is kept, and what all Collects gave, are what a report needs, where the calls that are asked for are few.
-pub can_report : (shaper : State) (kept : Kept) (given all : List Delivery) (calls : List Call) (text : List ℕ) (rows : List Row) (noted : HasNoted shaper kept given (submitted calls rows))
-    → rows_of text ≡ Ok rows → AreFew (calls_with calls text) → (moment : ℕ) → moment ≡ 2 ^ 62 → all ≡ given ++ delivered (reply Ordered noted.made (Collect moment)) → CanReport kept all (submitted calls rows)
-can_report shaper kept given all calls text rows noted is are_few moment last gives =
-    let size : suc (length (submitted calls rows)) < 2 ^ 61 = rw is at are_few in
+-- What is kept, and what all Collects gave, are what a report needs, where the calls are few.
+pub can_report : (shaper : State) (kept : Kept) (given all : List Delivery) (calls : List Call) (noted : HasNoted shaper kept given calls)
+    → length calls < 2 ^ 61 → (moment : ℕ) → moment ≡ 2 ^ 62 → all ≡ given ++ delivered (reply Ordered noted.made (Collect moment)) → CanReport kept all calls
+can_report shaper kept given all calls noted size moment last gives =
     let so_far = noted.few in
     let few : length noted.made < call_limit = omega (arith, so_far, size) in
     record {
       kept_is = noted.kept_is (omega (arith, few));
-      given_is = gives ∙ ap (λ (m : ℕ). given ++ delivered (reply Ordered noted.made (Collect m))) last ∙ sym (same-last noted.made (submitted calls rows) given (noted.passed (omega (arith, few))) (2 ^ 62) few);
+      given_is = gives ∙ ap (λ (m : ℕ). given ++ delivered (reply Ordered noted.made (Collect m))) last ∙ sym (same-last noted.made calls given (noted.passed (omega (arith, few))) (2 ^ 62) few);
     }
 
+-- The last entry of a history that ends in the Collect at the last moment tells what it gave.
+pub can_report_recorded : (kept : Kept) (given : List Delivery) (calls : List Call) (entries : List Entry) → HasKept kept calls → entries ≡ history_of (Collect (2 ^ 62) ∷ calls)
+    → ((before : List Entry) (last : Entry) → entries ≡ before ++ last ∷ [] → given ≡ delivered last.reply) → CanReport kept given calls
+unfolding history_of
+can_report_recorded kept given calls entries has is gives = record { kept_is = has; given_is = gives (history_of calls) (entry_after calls (Collect (2 ^ 62))) is }
+
+-- Where the calls are recorded, the history is theirs.
+pub recorded : (records : Bool) (pass : Pass) (calls : List Call) → HasEnded records pass calls → records ≡ true → pass.run.history.items ≡ history_of (Collect (2 ^ 62) ∷ calls)
+recorded true pass calls ended e = ended.made.0.1
+recorded false pass calls ended e = absurd cc
+
+-- The rows of a packets' text are few, where the calls are that are asked for.
+pub few_rows : (calls : List Call) (text : List ℕ) (rows : List Row) → rows_of text ≡ Ok rows → AreFew (calls_with calls text) → length (submitted calls rows) < 2 ^ 61
+few_rows calls text rows is are_few = let size : suc (length (submitted calls rows)) < 2 ^ 61 = rw is at are_few in omega (arith, size)
+
 -- The calls of a packets' text.
-pub with_rows : (calls : List Call) (text : List ℕ) (rows : List Row) → rows_of text ≡ Ok rows → calls_with calls text ≡ Ok (replayed calls rows)
+with_rows : (calls : List Call) (text : List ℕ) (rows : List Row) → rows_of text ≡ Ok rows → calls_with calls text ≡ Ok (replayed calls rows)
 with_rows calls text rows is = rw is refl
 
 with_fault : (calls : List Call) (text : List ℕ) (fault : ReplayFault) → rows_of text ≡ Err fault → calls_with calls text ≡ Err fault
@@ -99,15 +123,14 @@ pub refused_text : (read : Result (List Call) ReplayFault) (known : Option (List
 refused_text read known failed fault sound own =
     unreplayed NoneFailed (λ asked. read ≡ asked) known failed fault sound (unread_text NoneFailed (λ asked. read ≡ asked) read fault refl (λ f e. e) own)
 
-pub refused_rows : (calls : List Call) (text : List ℕ) (known : Option (List ℕ)) (failed : Bool) (fault : ReplayFault) → failed ≡ false → IsFaultOf (rows_of text) fault
-    → IsUnreplayed NoneFailed (λ asked. calls_with calls text ≡ asked) known known failed fault
-refused_rows calls text known failed fault sound own =
-    refused_text (calls_with calls text) known failed fault sound (carried (rows_of text) (calls_with calls text) fault (λ f e. with_fault calls text f e) own)
+pub refused_rows : (calls : List Call) (text : List ℕ) (fault : ReplayFault) → IsFaultOf (rows_of text) fault → IsFaultOf (calls_with calls text) fault
+refused_rows calls text fault own = carried (rows_of text) (calls_with calls text) fault (λ f e. with_fault calls text f e) own
 
 -- The report was written, and it was not.
-pub told : (calls : List Call) (text : List ℕ) (rows : List Row) (old new : Option (List ℕ)) → rows_of text ≡ Ok rows → Appends old new (report 1 (history_of (replayed calls rows)))
-    → IsReportedFor (λ asked. calls_with calls text ≡ asked) old new
-told calls text rows old new is written = (replayed calls rows, with_rows calls text rows is, lawful (replayed calls rows), written)
+pub told : (records : Bool) (calls : List Call) (text : List ℕ) (rows : List Row) (entries : List Entry) (old new : Option (List ℕ)) → rows_of text ≡ Ok rows
+    → (records ≡ true → entries ≡ history_of (replayed calls rows)) → Appends old new (report 1 (history_of (replayed calls rows))) → IsAnswered records (λ asked. calls_with calls text ≡ asked) entries old new
+told true calls text rows entries old new is history written = (replayed calls rows, with_rows calls text rows is, (history refl, written))
+told false calls text rows entries old new is history written = (replayed calls rows, with_rows calls text rows is, lawful (replayed calls rows), written)
 
 pub untold : (calls : List Call) (text : List ℕ) (rows : List Row) (old new : Option (List ℕ)) (failed : Bool) (fault : ReplayFault) → rows_of text ≡ Ok rows
     → IsUnwritten Report (report 1 (history_of (replayed calls rows))) old new failed fault → IsUnreplayed NoneFailed (λ asked. calls_with calls text ≡ asked) old new failed fault

@@ -7,15 +7,12 @@ use Rattle.dn_types.specs.Replies.{reply}
 use Rattle.dn_types.specs.declared.call.Call.{Call}
 use Rattle.dn_types.specs.declared.entry.Entry.{Entry}
 use Rattle.dn_types.specs.declared.rule.Rule.TheVariants.{Ordered}
-use Rattle.dn_text.specs.Joined.{joined_parts}
-use Rattle.dn_replay.specs.Configuring.{configured_by}
-use Rattle.dn_files.specs.PacketFile.{packet_file, packet_limit, rows_of}
+use Rattle.dn_files.specs.PacketFile.{packet_file, packet_limit}
 use Rattle.dn_files.specs.Reading.{within_limit, IsFaultOf, IsRefusal, IsRefusedFor, IsTextOf, ReadsAs}
 use Rattle.dn_replay.specs.Replays.{AskFor, calls_of_inputs, calls_of_joined, config_calls, IsReplayed, IsUnread, IsUnreplayed, IsUnreported}
-use Rattle.dn_replay.specs.Runs.{entry_after, history_of, replayed}
+use Rattle.dn_replay.specs.Runs.{entry_after, history_of}
 use Rattle.dn_files.specs.declared.replay_fault.ReplayFault.{ReplayFault}
 use Rattle.dn_files.specs.declared.replay_fault.ReplayFault.TheVariants.{BadRow, Read, Write, TooLong, OutOfMemory, Config, ConfigText, NoSuchPipe, BadRecord, BadCount, PipeHasQueues, NoSuchQueue}
-use Rattle.dn_files.specs.declared.row.Row.{Row}
 use Rattle.dn_files.specs.declared.source.Source.{Source}
 use Rattle.dn_files.specs.declared.source.Source.TheVariants.{Input}
 use Rattle.dn_types.proofs.Histories.{calls_of-more, lawful-more}
@@ -123,12 +120,7 @@ unreplayed ReadFailed Asked known failed BadCount whole h = (h.0, h.1, (whole, k
 unreplayed ReadFailed Asked known failed (PipeHasQueues l) whole h = (h.0, h.1, (whole, keeps known))
 unreplayed ReadFailed Asked known failed (NoSuchQueue l) whole h = (h.0, h.1, (whole, keeps known))
 
--- What two inputs ask for.
-pub asks : (config packets : Option (List ℕ)) (calls : List Call) (rows : List Row) → ReadsAs config_calls config calls → ReadsAs packet_file packets rows
-    → AskFor config packets (Ok (replayed calls rows))
-unfolding calls_of_inputs
-asks config packets calls rows c p = (c.0, p.0, c.1, p.1, rw (c.2, p.2) refl)
-
+-- The first fault of two inputs.
 pub config_fault : (config packets : Option (List ℕ)) (fault : ReplayFault) → IsRefusedFor config_calls config fault → AskFor config packets (Err fault)
 unfolding calls_of_inputs
 config_fault config packets fault c = let (text, is) = some_text packets in (c.0, text, c.1, is, rw c.2 refl)
@@ -138,23 +130,7 @@ pub packet_fault : (config packets : Option (List ℕ)) (calls : List Call) (fau
 unfolding calls_of_inputs
 packet_fault config packets calls fault c p = (c.0, p.0, c.1, p.1, rw (c.2, p.2) refl)
 
--- What one joined input asks for.
-pub joined_asks : (text : List ℕ) (calls : List Call) (rows : List Row) → within_limit packet_limit Input text ≡ Ok text → configured_by (joined_parts text).0 ≡ Ok calls
-    → rows_of (joined_parts text).1 ≡ Ok rows
-    → calls_of_joined text ≡ Ok (replayed calls rows)
-unfolding calls_of_joined
-joined_asks text calls rows whole c p = rw (whole, c, p) refl
-
-pub joined_config_fault : (text : List ℕ) (fault : ReplayFault) → within_limit packet_limit Input text ≡ Ok text → configured_by (joined_parts text).0 ≡ Err fault → calls_of_joined text ≡ Err fault
-unfolding calls_of_joined
-joined_config_fault text fault whole c = rw (whole, c) refl
-
-pub joined_packet_fault : (text : List ℕ) (calls : List Call) (fault : ReplayFault) → within_limit packet_limit Input text ≡ Ok text → configured_by (joined_parts text).0 ≡ Ok calls
-    → rows_of (joined_parts text).1 ≡ Err fault
-    → calls_of_joined text ≡ Err fault
-unfolding calls_of_joined
-joined_packet_fault text calls fault whole c p = rw (whole, c, p) refl
-
+-- The same of one joined input that is too long.
 pub joined_input_fault : (text : List ℕ) (fault : ReplayFault) → within_limit packet_limit Input text ≡ Err fault → calls_of_joined text ≡ Err fault
 unfolding calls_of_joined
 joined_input_fault text fault whole = rw whole refl

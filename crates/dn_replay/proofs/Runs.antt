@@ -1,5 +1,5 @@
 -- The history of a run, one call at a time.
-use Rattle.std.proofs.Common.{◌≡◌, ◌∙◌, ℕ, ◌+◌, ◌<◌, List, [], ◌∷◌, ◌++◌, Option, Some, None, Result, Ok, Err, refl, sym, ap, take, length, get_or}
+use Rattle.std.proofs.Common.{◌≡◌, ◌∙◌, ℕ, ◌+◌, ◌<◌, List, [], ◌∷◌, ◌++◌, Option, Some, None, Result, Ok, Err, refl, sym, ap, take, length, get_or, arith, length-append}
 use Rattle.std.proofs.lemmas.List.{take_more}
 use Rattle.dn_types.specs.Replies.{reply}
 use Rattle.dn_types.specs.declared.call.Call.{Call}
@@ -11,7 +11,7 @@ use Rattle.dn_types.specs.declared.command.Command.{Command}
 use Rattle.dn_files.specs.ConfigFile.{command_at}
 use Rattle.dn_replay.specs.Configuring.{applied, configured_from, refusal}
 use Rattle.dn_files.specs.Reading.{IsFaultOf}
-use Rattle.dn_replay.specs.Runs.{history_of, submit, submitted}
+use Rattle.dn_replay.specs.Runs.{entry_after, history_of, submit, submitted}
 use Rattle.dn_files.specs.declared.replay_fault.ReplayFault.{ReplayFault}
 use Rattle.dn_files.proofs.Inputs.{carried}
 use Rattle.dn_files.specs.declared.row.Row.{Row}
@@ -21,6 +21,11 @@ pub grown : (calls : List Call) (call : Call) (items : List Entry) (r : Reply) �
     → items ++ record { caller = 0; call = call; reply = r } ∷ [] ≡ history_of (call ∷ calls)
 unfolding history_of
 grown calls call items r is said = rw (is, said) refl
+
+-- The history of a call and those before it isn't empty.
+pub nonempty : (calls : List Call) (call : Call) (entries : List Entry) → entries ≡ history_of (call ∷ calls) → 0 < length entries
+unfolding history_of
+nonempty calls call entries is = let size = length-append (history_of calls) (entry_after calls call ∷ []) in rw is (omega (arith, size))
 
 pub nothing : [] ≡ history_of []
 unfolding history_of

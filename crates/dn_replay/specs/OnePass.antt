@@ -1,10 +1,12 @@
 -- A replay in one pass: what has been made and kept of an input whose parts have come so far.
-use Rattle.std.specs.Prelude.{◌≡◌, ◌==◌, ◌||◌, ◌++◌, ◌<◌, ◌≤◌, ◌*◌, ◌^◌, bytes_eq, codes, length, ℕ, Bool, true, false, List, [], Option, None, Result, Ok, IfOk, All}
+use Rattle.std.specs.Prelude.{◌≡◌, ◌==◌, ◌||◌, ◌++◌, ◌∷◌, ◌<◌, ◌≤◌, ◌*◌, ◌^◌, bytes_eq, codes, length, ℕ, Bool, true, false, List, [], Option, None, Result, Ok, IfOk, All}
 use Rattle.std.specs.Io.KnownBytes.{Appends}
 use Rattle.dn_types.specs.Clock.{call_limit}
 use Rattle.dn_types.specs.History.{IsLawful}
 use Rattle.dn_types.specs.declared.call.Call.{Call}
+use Rattle.dn_types.specs.declared.call.Call.TheVariants.{Collect}
 use Rattle.dn_types.specs.declared.delivery.Delivery.{Delivery}
+use Rattle.dn_types.specs.declared.entry.Entry.{Entry}
 use Rattle.dn_types.specs.declared.rule.Rule.TheVariants.{Ordered}
 use Rattle.dn_shaper.specs.Shaper.{StandsAfter}
 use Rattle.dn_shaper.specs.declared.state.State.{State}
@@ -15,11 +17,12 @@ use Rattle.dn_files.specs.Reading.{◌>>=◌, IsFaultOf}
 use Rattle.dn_files.specs.declared.replay_fault.ReplayFault.{ReplayFault}
 use Rattle.dn_files.specs.declared.row.Row.{Row}
 use Rattle.dn_files.specs.declared.source.Source.{Source}
-use Rattle.dn_replay.specs.Kept.{HasKept}
+use Rattle.dn_replay.specs.Kept.{CanReport, HasKept}
 use Rattle.dn_replay.specs.Passing.{HasPassed}
-use Rattle.dn_replay.specs.Replays.{calls_of_parts}
+use Rattle.dn_replay.specs.Replays.{calls_of_parts, IsReplayed}
 use Rattle.dn_replay.specs.Report.{report}
 use Rattle.dn_replay.specs.Runs.{HasMade, history_of, replayed, submitted}
+use Rattle.dn_replay.specs.declared.one_caller.run.Run.{Run}
 use Rattle.dn_replay.specs.declared.one_pass.config_part.ConfigPart.{ConfigPart}
 use Rattle.dn_replay.specs.declared.one_pass.input.Input.{Input}
 use Rattle.dn_replay.specs.declared.one_pass.pass.Pass.{Pass}
@@ -30,6 +33,11 @@ use Rattle.dn_replay.specs.declared.one_pass.stage.Stage.TheVariants.{Config, Pa
 -- There are calls that are asked for, and the report of their history, which is lawful, was written.
 abbrev pub IsReportedFor : (Result (List Call) ReplayFault → Type 0) → Option (List ℕ) → Option (List ℕ) → Type 0
 IsReportedFor Asked old new = (calls : List Call) × Asked (Ok calls) × IsLawful Ordered (history_of calls) × Appends old new (report 1 (history_of calls))
+
+-- What is asked for was answered: by its report, and by its history too where that is recorded.
+abbrev pub IsAnswered : Bool → (Result (List Call) ReplayFault → Type 0) → List Entry → Option (List ℕ) → Option (List ℕ) → Type 0
+IsAnswered true Asked entries old new = IsReplayed Asked entries old new
+IsAnswered false Asked entries old new = IsReportedFor Asked old new
 
 -- No read failed.
 abbrev pub NoneFailed : Option Source → Type 0
@@ -52,6 +60,12 @@ pub record HasNoted (shaper : State) (kept : Kept) (given : List Delivery) (call
   pub passed : length made ≤ call_limit → HasPassed made calls given
   pub kept_is : length made ≤ call_limit → HasKept kept calls
 
+-- A run has made these calls, and what a report needs of their answers is kept. Where they are recorded, its history is theirs;
+-- elsewhere packets were collected in passing.
+abbrev pub HasAnswered : Bool → Run → Kept → List Delivery → List Call → Type 0
+HasAnswered true run kept given calls = HasMade run calls × HasKept kept calls
+HasAnswered false run kept given calls = HasNoted run.shaper kept given calls
+
 -- A pass has made no call and read nothing.
 pub record IsFresh (pass : Pass) : Type 0 where
   pub made : HasMade pass.run []
@@ -59,11 +73,28 @@ pub record IsFresh (pass : Pass) : Type 0 where
   pub given : pass.given.items ≡ []
   pub read : HasRead pass.reader [] []
 
--- A pass has made these calls and, of the packets' text that has come so far, the Submits of the rows that it took.
-pub record HasFed (pass : Pass) (calls : List Call) (text : List ℕ) : Type 0 where
+-- A pass that records its calls, or doesn't, has made these and, of the packets' text that has come so far, the Submits of the rows that
+-- it took.
+pub record HasFed (records : Bool) (pass : Pass) (calls : List Call) (text : List ℕ) : Type 0 where
+  pub records_is : pass.records ≡ records
   pub rows : List Row
   pub read : HasRead pass.reader text rows
-  pub noted : HasNoted pass.run.shaper pass.kept pass.given.items (submitted calls rows)
+  pub answered : HasAnswered records pass.run pass.kept pass.given.items (submitted calls rows)
+
+-- A pass has made these calls and then the Collect at the last moment, so that their report can be written. Where they are recorded, its
+-- history is that of all.
+abbrev pub HasMadeLast : Bool → Pass → List Call → Type 0
+HasMadeLast true pass calls = HasMade pass.run (Collect (2 ^ 62) ∷ calls) × HasKept pass.kept calls
+HasMadeLast false pass calls = CanReport pass.kept pass.given.items calls
+
+-- The same of a pass that records its calls, or doesn't.
+pub record HasEnded (records : Bool) (pass : Pass) (calls : List Call) : Type 0 where
+  pub records_is : pass.records ≡ records
+  pub made : HasMadeLast records pass calls
+
+-- It has done so behind these calls and the Submits of all rows of a packets' text.
+abbrev pub HasEndedWith : Bool → Pass → List Call → List ℕ → Type 0
+HasEndedWith records pass calls text = (rows : List Row) × (rows_of text ≡ Ok rows) × HasEnded records pass (submitted calls rows)
 
 -- A line that a line feed makes the line `--`.
 abbrev pub is_mark : List ℕ → Bool
@@ -88,18 +119,20 @@ IsCutAt asked text config packets = (more : List ℕ) → asked (text ++ more) �
 
 -- What an input of this text so far asks for, by the stage: a configuration's lines have come; or calls were made, and packets' text has
 -- come; or the configuration has this fault, whatever comes.
-abbrev pub HasTakenIn : Stage → Input → (List ℕ → Result (List Call) ReplayFault) → List ℕ → Type 0
-HasTakenIn Config input asked text = IsFresh input.pass × IsConfigSoFar input.config text × ((whole : List ℕ) → asked whole ≡ calls_of_parts (joined_parts whole))
-HasTakenIn Packets input asked text = (calls : List Call) × (packets : List ℕ) × HasFed input.pass calls packets × ((more : List ℕ) → asked (text ++ more) ≡ calls_with calls (packets ++ more))
-HasTakenIn (Refused fault) input asked text = (more : List ℕ) → IsFaultOf (asked (text ++ more)) fault
+abbrev pub HasTakenIn : Stage → Bool → Input → (List ℕ → Result (List Call) ReplayFault) → List ℕ → Type 0
+HasTakenIn Config records input asked text =
+    (input.pass.records ≡ records) × IsFresh input.pass × IsConfigSoFar input.config text × ((whole : List ℕ) → asked whole ≡ calls_of_parts (joined_parts whole))
+HasTakenIn Packets records input asked text =
+    (calls : List Call) × (packets : List ℕ) × HasFed records input.pass calls packets × ((more : List ℕ) → asked (text ++ more) ≡ calls_with calls (packets ++ more))
+HasTakenIn (Refused fault) records input asked text = (more : List ℕ) → IsFaultOf (asked (text ++ more)) fault
 
--- This text has come of an input, of which the whole text asks for what `asked` gives.
-abbrev pub HasTaken : Input → (List ℕ → Result (List Call) ReplayFault) → List ℕ → Type 0
-HasTaken input asked text = HasTakenIn input.stage input asked text
+-- This text has come of an input, of which the whole text asks for what `asked` gives, and whose calls are recorded, or aren't.
+abbrev pub HasTaken : Bool → Input → (List ℕ → Result (List Call) ReplayFault) → List ℕ → Type 0
+HasTaken records input asked text = HasTakenIn input.stage records input asked text
 
 -- This is the whole text of an input, and a pass has made the calls of its configuration and was given its packets.
-abbrev pub HasTakenAll : Pass → (List ℕ → Result (List Call) ReplayFault) → List ℕ → Type 0
-HasTakenAll pass asked text = (calls : List Call) × (packets : List ℕ) × HasFed pass calls packets × (asked text ≡ calls_with calls packets)
+abbrev pub HasTakenAll : Bool → Pass → (List ℕ → Result (List Call) ReplayFault) → List ℕ → Type 0
+HasTakenAll records pass asked text = (calls : List Call) × (packets : List ℕ) × HasFed records pass calls packets × (asked text ≡ calls_with calls packets)
 
 -- An input of which nothing has come. It is a joined one, if no configuration is given first.
 pub record IsUnbegun (input : Input) : Type 0 where

@@ -17,7 +17,6 @@ pub use dn_records::{FromReader, FromWriter, Inlet, Outlet};
 pub use dn_shaper::HashKey;
 pub use file_audit::audit_file;
 pub use history_audit::audit;
-pub use one_caller::replay::{replay, replay_joined};
-pub use one_pass::{replay_joined_report, replay_report};
+pub use one_pass::{replay, replay_joined, replay_joined_report, replay_report};
 pub use report::write_report;
 pub use verdict::Verdict;

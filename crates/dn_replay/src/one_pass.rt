@@ -1,10 +1,10 @@
-//! A replay by one caller whose packets are submitted as their text comes: a report is written, and no history
-//! is kept.
+//! A replay by one caller whose packets are submitted as their text comes: a report is written, and a history is
+//! kept where it is asked for.
 
 mod config_part;
 mod input;
 mod pass;
-mod reports;
+mod replays;
 mod stage;
 
-pub use reports::{replay_joined_report, replay_report};
+pub use replays::{replay, replay_joined, replay_joined_report, replay_report};

@@ -11,7 +11,7 @@ mod report_lines;
 mod write;
 mod write_kept;
 
-pub(crate) use delivered::delivered_by;
+pub(crate) use delivered::{delivered_by, last_delivered};
 pub(crate) use kept::Kept;
 pub use write::write_report;
 pub(crate) use write_kept::write_kept;

@@ -1,22 +1,23 @@
-ghost use Rattle.std.specs.Prelude.{◌≡◌, List, [], false, None, Ok, OnOk, IfOk, IfErr};
+ghost use Rattle.std.specs.Prelude.{◌≡◌, List, [], false, None, OnOk, IfOk, IfErr};
 ghost use Rattle.dn_types.specs.declared.call.Call.{Call};
 ghost use Rattle.dn_files.specs.PacketFile.{packet_file};
 ghost use Rattle.dn_files.specs.Reading.{IsRefusal, ReadsAs};
 ghost use Rattle.dn_files.specs.declared.source.Source.TheVariants.{Config};
-ghost use Rattle.dn_replay.specs.Replays.{AskFor, AsksFor, config_calls, EitherFailed, InputFailed, IsUnread};
-ghost use Rattle.dn_replay.specs.Runs.{HasMade, replayed};
+ghost use Rattle.dn_replay.specs.Replays.{AskFor, config_calls, EitherFailed, IsUnread};
+ghost use Rattle.dn_replay.specs.Runs.{HasMade};
 
 use crate::one_caller::apply_lines::configure;
 use crate::one_caller::run::Run;
-use dn_files::{
-    CONFIG_LIMIT, PACKET_LIMIT, ReplayFault, Row, Source, read_input, read_packets, rows_of_text,
-};
+use dn_files::{CONFIG_LIMIT, ReplayFault, Row, Source, read_input, read_packets};
 use dn_records::Inlet;
-use dn_text::split_joined;
 use std::alloc::Global;
 
 /// Makes the commands of a configuration by a run before its first call.
-fn configure_from<I: Inlet>(alloc: Global, run: &mut Run, config: &mut I) -> Result<(), ReplayFault>
+pub(crate) fn configure_from<I: Inlet>(
+    alloc: Global,
+    run: &mut Run,
+    config: &mut I,
+) -> Result<(), ReplayFault>
     requires made { HasMade run.old [] }
     requires sound { I.has_failed config.old ≡ false }
     ensures ok { OnOk result ((calls : List Call) × ReadsAs config_calls (I.remaining config.old) calls × HasMade run.new calls) }
@@ -49,24 +50,4 @@ pub(crate) fn read_inputs<C: Inlet, P: Inlet>(
 {
     configure_from(alloc, run, config)?;
     read_packets(alloc, packets)
-}
-
-/// The same of the two parts of one joined input.
-pub(crate) fn read_joined<I: Inlet>(
-    alloc: Global,
-    run: &mut Run,
-    input: &mut I,
-) -> Result<Vec<Row>, ReplayFault>
-    requires made { HasMade run.old [] }
-    requires sound { I.has_failed input.old ≡ false }
-    ensures ok { IfOk result (λ rows. (calls : List Call) × AsksFor (I.remaining input.old) (Ok (replayed calls rows.items))
-        × HasMade run.new calls) }
-    ensures inputs { IfOk result (λ _. InputFailed (I.has_failed input.new) None) }
-    ensures err { IfErr result (λ fault.
-        IsUnread (InputFailed (I.has_failed input.new)) (AsksFor (I.remaining input.old)) fault) }
-{
-    let text = read_input(alloc, input, PACKET_LIMIT, Source::Input)?;
-    let (config, packets) = split_joined(text.as_slice());
-    configure(run, config)?;
-    rows_of_text(alloc, packets)
 }

@@ -1,14 +1,16 @@
-ghost use Rattle.std.specs.Prelude.{◌≡◌, List, [], ◌∷◌, Some, None, OnOk, OnErr, MatchOption};
-ghost use Rattle.dn_types.specs.declared.call.Call.{Call};
+ghost use Rattle.std.specs.Prelude.{◌≡◌, List, [], ◌∷◌, Some, Ok, OnOk, IfErr};
+ghost use Rattle.dn_types.specs.Replies.{reply as reply_to};
+ghost use Rattle.dn_types.specs.declared.call.Call.{Call as CallValue};
 ghost use Rattle.dn_types.specs.declared.call.Call.TheVariants.{Configure};
+ghost use Rattle.dn_types.specs.declared.rule.Rule.TheVariants.{Ordered};
+ghost use Rattle.dn_shaper.specs.Shaper.{StandsAfter};
 ghost use Rattle.dn_replay.specs.Configuring.{applied, refusal};
 ghost use Rattle.dn_files.specs.Reading.{IsFaultOf};
-ghost use Rattle.dn_replay.specs.Runs.{HasMade, replayed, submit, submitted};
-ghost use Rattle.std.specs.Prelude.{IfErr, Ok};
+ghost use Rattle.dn_replay.specs.Runs.{HasMade, history_of, submit};
 
 use dn_files::{ReplayFault, Row};
 use dn_shaper::{HashKey, Shaper};
-use dn_types::{Call, Command, Entry, Moment, Reply, Rule};
+use dn_types::{Call, Command, Entry, Reply, Rule};
 use std::alloc::{AllocError, Global};
 use std::mem;
 
@@ -63,11 +65,11 @@ impl Run {
         }
     }
 
-    /// Makes a call.
-    pub(crate) fn make(&mut self, call: Call) -> Result<(), AllocError>
-        ensures { OnOk result ((calls : List Call) → HasMade self.old calls → HasMade self.new (call ∷ calls)) }
+    /// Adds the entry of a call that the shaper has answered.
+    pub(crate) fn add_entry(&mut self, call: Call, reply: Reply) -> Result<(), AllocError>
+        ensures { OnOk result ((calls : List CallValue) → StandsAfter Ordered self.old.shaper (call ∷ calls) →
+            self.old.history.items ≡ history_of calls → reply ≡ reply_to Ordered calls call → HasMade self.new (call ∷ calls)) }
     {
-        let reply = self.shaper.apply(&call)?;
         let entry = Entry {
             caller: 0,
             call,
@@ -77,11 +79,19 @@ impl Run {
         Ok(())
     }
 
+    /// Makes a call.
+    pub(crate) fn make(&mut self, call: Call) -> Result<(), AllocError>
+        ensures { OnOk result ((calls : List CallValue) → HasMade self.old calls → HasMade self.new (call ∷ calls)) }
+    {
+        let reply = self.shaper.apply(&call)?;
+        self.add_entry(call, reply)
+    }
+
     /// Makes the command of a line, or answers why it is refused.
     fn configure(&mut self, line: usize, command: Command) -> Result<(), ReplayFault>
-        ensures ok { OnOk result ((calls : List Call) → HasMade self.old calls →
+        ensures ok { OnOk result ((calls : List CallValue) → HasMade self.old calls →
             (applied line calls (Some command) ≡ Ok (Configure command ∷ calls)) × HasMade self.new (Configure command ∷ calls)) }
-        ensures err { IfErr result (λ fault. (calls : List Call) → HasMade self.old calls →
+        ensures err { IfErr result (λ fault. (calls : List CallValue) → HasMade self.old calls →
             IsFaultOf (applied line calls (Some command)) fault) }
     {
         let call = Call::Configure(command);
@@ -92,14 +102,9 @@ impl Run {
             Some(fault) => return Err(fault),
             None => {}
         }
-        let entry = Entry {
-            caller: 0,
-            call,
-            reply,
-        };
-        if self.history.push(entry).is_err() {
+        let Ok(()) = self.add_entry(call, reply) else {
             return Err(ReplayFault::OutOfMemory);
-        }
+        };
         Ok(())
     }
 
@@ -109,33 +114,15 @@ impl Run {
         line: usize,
         command: Option<Command>,
     ) -> Result<(), ReplayFault>
-        ensures ok { OnOk result ((calls : List Call) → HasMade self.old calls →
-            (after : List Call) × (applied line calls command ≡ Ok after) × HasMade self.new after) }
-        ensures err { IfErr result (λ fault. (calls : List Call) → HasMade self.old calls →
+        ensures ok { OnOk result ((calls : List CallValue) → HasMade self.old calls →
+            (after : List CallValue) × (applied line calls command ≡ Ok after) × HasMade self.new after) }
+        ensures err { IfErr result (λ fault. (calls : List CallValue) → HasMade self.old calls →
             IsFaultOf (applied line calls command) fault) }
     {
         match command {
             Some(command) => self.configure(line, command),
             None => Ok(()),
         }
-    }
-
-    /// Submits each row.
-    fn submit(&mut self, rows: &[Row]) -> Result<(), AllocError>
-        ensures { OnOk result ((calls : List Call) → HasMade self.old calls → HasMade self.new (submitted calls rows.now)) }
-    {
-        for row in rows {
-            self.make(submit(row))?;
-        }
-        Ok(())
-    }
-
-    /// Submits each row, and takes all that is delivered.
-    pub(crate) fn finish(&mut self, rows: &[Row]) -> Result<(), AllocError>
-        ensures { OnOk result ((calls : List Call) → HasMade self.old calls → HasMade self.new (replayed calls rows.now)) }
-    {
-        self.submit(rows)?;
-        self.make(Call::Collect(Moment::new(1 << 62).unwrap()))
     }
 
     /// The history so far, which leaves the run none.

@@ -1,19 +1,18 @@
-ghost use Rattle.std.specs.Prelude.{◌≡◌, ◌<◌, ◌≤◌, ◌++◌, length, ℕ, List, [], Ok, Err, Result, OnOk, IfErr, false};
+ghost use Rattle.std.specs.Prelude.{◌≡◌, ◌<◌, ◌≤◌, ◌++◌, length, ℕ, Bool, List, [], Ok, Err, Result, OnOk, IfErr, false};
 ghost use Rattle.dn_types.specs.declared.call.Call.{Call as CallValue};
 ghost use Rattle.dn_files.specs.PacketFile.{packet_limit};
-ghost use Rattle.dn_files.specs.Reading.{IsFaultOf, IsRefusal, IsTextOf, within_limit};
+ghost use Rattle.dn_files.specs.Reading.{IsFaultOf, IsRefusal, IsTextOf, ReadsAs, within_limit};
 ghost use Rattle.dn_files.specs.declared.replay_fault.ReplayFault.{ReplayFault as FaultValue};
-ghost use Rattle.dn_replay.specs.Configuring.{configured_by};
-ghost use Rattle.dn_replay.specs.OnePass.{AreFew, HasTaken, HasTakenAll, IsCutAt, IsFresh, IsReportedFor, IsUnbegun, NoneFailed, calls_with};
-ghost use Rattle.dn_replay.specs.Replays.{IsUnreplayed};
+ghost use Rattle.dn_files.specs.declared.source.Source.TheVariants.{Config};
+ghost use Rattle.dn_replay.specs.OnePass.{AreFew, HasTaken, HasTakenAll, IsAnswered, IsCutAt, IsFresh, IsUnbegun, NoneFailed, calls_with};
+ghost use Rattle.dn_replay.specs.Replays.{config_calls, IsUnreplayed};
 
 use crate::one_caller::apply_lines::configure;
-use crate::one_caller::run::Run;
+use crate::one_caller::inputs::configure_from;
 use crate::one_pass::config_part::ConfigPart;
 use crate::one_pass::pass::Pass;
 use crate::one_pass::stage::Stage;
-use crate::report::Kept;
-use dn_files::{PACKET_LIMIT, PacketReader, ReplayFault, Source};
+use dn_files::{PACKET_LIMIT, ReplayFault, Source};
 use dn_records::{Inlet, Outlet};
 use dn_shaper::HashKey;
 use std::alloc::{AllocError, Global};
@@ -32,30 +31,31 @@ pub(crate) struct Input {
 }
 
 impl Input {
-    /// A replay before its first call, whose input is a joined one.
-    pub(crate) fn new(alloc: Global, key: HashKey) -> Input
-        ensures { IsUnbegun result }
+    /// A replay before its first call, whose input is a joined one. Where it records, each call is kept with its
+    /// reply.
+    pub(crate) fn new(alloc: Global, key: HashKey, records: bool) -> Input
+        ensures unbegun { IsUnbegun result }
+        ensures records { result.pass.records ≡ records }
     {
         Input {
-            pass: Pass {
-                run: Run::new(alloc, key),
-                kept: Kept::new(alloc),
-                given: Vec::new(alloc),
-                reader: PacketReader::new(alloc),
-            },
+            pass: Pass::new(alloc, key, records),
             config: ConfigPart::new(alloc),
             stage: Stage::Config,
             alloc,
         }
     }
 
-    /// Makes the commands of a configuration's text, behind which the input has packets alone.
-    pub(crate) fn configure(&mut self, text: &[u8]) -> Result<(), ReplayFault>
-        requires { IsUnbegun self.old }
-        ensures ok { OnOk result ((calls : List CallValue) × (configured_by text.now ≡ Ok calls) × HasTaken self.new (calls_with calls) []) }
-        ensures err { IfErr result (λ fault. IsFaultOf (configured_by text.now) fault) }
+    /// Makes the commands of a configuration, behind which the input has packets alone.
+    pub(crate) fn configure<I: Inlet>(&mut self, config: &mut I) -> Result<(), ReplayFault>
+        requires new { IsUnbegun self.old }
+        requires sound { I.has_failed config.old ≡ false }
+        ensures ok { OnOk result ((calls : List CallValue) × ReadsAs config_calls (I.remaining config.old) calls
+            × HasTaken self.old.pass.records self.new (calls_with calls) []) }
+        ensures sound { OnOk result (I.has_failed config.new ≡ false) }
+        ensures err { IfErr result (λ fault.
+            IsRefusal Config config_calls (I.remaining config.old) (I.has_failed config.new) fault) }
     {
-        configure(&mut self.pass.run, text)?;
+        configure_from(self.alloc, &mut self.pass.run, config)?;
         self.stage = Stage::Packets;
         Ok(())
     }
@@ -64,7 +64,7 @@ impl Input {
     fn begin(&mut self, packets: &[u8]) -> Result<(), AllocError>
         requires { IsFresh self.old.pass }
         ensures { OnOk result ((asked : List ℕ → Result (List CallValue) FaultValue) (text : List ℕ)
-            → IsCutAt asked text self.old.config.lines.items packets.now → HasTaken self.new asked text) }
+            → IsCutAt asked text self.old.config.lines.items packets.now → HasTaken self.old.pass.records self.new asked text) }
     {
         match configure(&mut self.pass.run, self.config.lines.as_slice()) {
             Ok(()) => {
@@ -80,9 +80,9 @@ impl Input {
 
     /// Takes a part of the input.
     pub(crate) fn take(&mut self, part: &[u8]) -> Result<(), AllocError>
-        requires { (asked : List ℕ → Result (List CallValue) FaultValue) × (text : List ℕ) × HasTaken self.old asked text }
-        ensures { OnOk result ((asked : List ℕ → Result (List CallValue) FaultValue) (text : List ℕ)
-            → HasTaken self.old asked text → HasTaken self.new asked (text ++ part.now)) }
+        requires { (records : Bool) × (asked : List ℕ → Result (List CallValue) FaultValue) × (text : List ℕ) × HasTaken records self.old asked text }
+        ensures { OnOk result ((records : Bool) (asked : List ℕ → Result (List CallValue) FaultValue) (text : List ℕ)
+            → HasTaken records self.old asked text → HasTaken records self.new asked (text ++ part.now)) }
     {
         match self.stage {
             Stage::Config => match self.config.take(part)? {
@@ -96,11 +96,11 @@ impl Input {
 
     /// Takes the end of the input: the commands of its configuration are made by then, or the fault is why not.
     fn end(&mut self) -> Result<(), ReplayFault>
-        requires { (asked : List ℕ → Result (List CallValue) FaultValue) × (text : List ℕ) × HasTaken self.old asked text }
-        ensures ok { OnOk result ((asked : List ℕ → Result (List CallValue) FaultValue) (text : List ℕ)
-            → HasTaken self.old asked text → HasTakenAll self.new.pass asked text) }
-        ensures err { IfErr result (λ fault. (asked : List ℕ → Result (List CallValue) FaultValue) (text : List ℕ)
-            → HasTaken self.old asked text → IsFaultOf (asked text) fault) }
+        requires { (records : Bool) × (asked : List ℕ → Result (List CallValue) FaultValue) × (text : List ℕ) × HasTaken records self.old asked text }
+        ensures ok { OnOk result ((records : Bool) (asked : List ℕ → Result (List CallValue) FaultValue) (text : List ℕ)
+            → HasTaken records self.old asked text → HasTakenAll records self.new.pass asked text) }
+        ensures err { IfErr result (λ fault. (records : Bool) (asked : List ℕ → Result (List CallValue) FaultValue) (text : List ℕ)
+            → HasTaken records self.old asked text → IsFaultOf (asked text) fault) }
     {
         match self.stage {
             Stage::Config => {
@@ -122,11 +122,11 @@ impl Input {
         source: Source,
         chunk: &mut [u8],
     ) -> Result<(), ReplayFault>
-        requires taken { (asked : List ℕ → Result (List CallValue) FaultValue) × HasTaken self.old asked [] }
+        requires taken { (records : Bool) × (asked : List ℕ → Result (List CallValue) FaultValue) × HasTaken records self.old asked [] }
         requires sound { I.has_failed inlet.old ≡ false }
         requires room { (0 < length chunk.old) × (length chunk.old ≤ 65536) }
         ensures text { OnOk result ((text : List ℕ) × IsTextOf (I.remaining inlet.old) text × (within_limit packet_limit source text ≡ Ok text)
-            × ((asked : List ℕ → Result (List CallValue) FaultValue) → HasTaken self.old asked [] → HasTaken self.new asked text)) }
+            × ((records : Bool) (asked : List ℕ → Result (List CallValue) FaultValue) → HasTaken records self.old asked [] → HasTaken records self.new asked text)) }
         ensures sound { OnOk result (I.has_failed inlet.new ≡ false) }
         ensures err { IfErr result (λ fault. IsRefusal source (within_limit packet_limit source)
             (I.remaining inlet.old) (I.has_failed inlet.new) fault) }
@@ -154,10 +154,10 @@ impl Input {
         inlet: &mut I,
         source: Source,
     ) -> Result<(), ReplayFault>
-        requires taken { (asked : List ℕ → Result (List CallValue) FaultValue) × HasTaken self.old asked [] }
+        requires taken { (records : Bool) × (asked : List ℕ → Result (List CallValue) FaultValue) × HasTaken records self.old asked [] }
         requires sound { I.has_failed inlet.old ≡ false }
         ensures text { OnOk result ((text : List ℕ) × IsTextOf (I.remaining inlet.old) text × (within_limit packet_limit source text ≡ Ok text)
-            × ((asked : List ℕ → Result (List CallValue) FaultValue) → HasTaken self.old asked [] → HasTaken self.new asked text)) }
+            × ((records : Bool) (asked : List ℕ → Result (List CallValue) FaultValue) → HasTaken records self.old asked [] → HasTaken records self.new asked text)) }
         ensures sound { OnOk result (I.has_failed inlet.new ≡ false) }
         ensures err { IfErr result (λ fault. IsRefusal source (within_limit packet_limit source)
             (I.remaining inlet.old) (I.has_failed inlet.new) fault) }
@@ -168,14 +168,18 @@ impl Input {
         self.read_by(inlet, source, chunk.as_mut_slice())
     }
 
-    /// Takes the end of the input, and writes the report of what it asks for.
+    /// Takes the end of the input, and writes the report of what it asks for. Where the calls are recorded, they
+    /// are all in the history then.
     pub(crate) fn report<O: Outlet>(&mut self, out: &mut O) -> Result<(), ReplayFault>
-        requires taken { (asked : List ℕ → Result (List CallValue) FaultValue) × (text : List ℕ) × HasTaken self.old asked text × AreFew (asked text) }
+        requires taken { (records : Bool) × (asked : List ℕ → Result (List CallValue) FaultValue) × (text : List ℕ)
+            × HasTaken records self.old asked text × AreFew (asked text) }
         requires sound { O.has_failed out.old ≡ false }
-        ensures ok { OnOk result ((asked : List ℕ → Result (List CallValue) FaultValue) (text : List ℕ) → HasTaken self.old asked text → AreFew (asked text)
-            → IsReportedFor (λ r. asked text ≡ r) (O.contents out.old) (O.contents out.new)) }
+        ensures ok { OnOk result ((records : Bool) (asked : List ℕ → Result (List CallValue) FaultValue) (text : List ℕ)
+            → HasTaken records self.old asked text → AreFew (asked text)
+            → IsAnswered records (λ r. asked text ≡ r) self.new.pass.run.history.items (O.contents out.old) (O.contents out.new)) }
         ensures sound { OnOk result (O.has_failed out.new ≡ false) }
-        ensures err { IfErr result (λ fault. (asked : List ℕ → Result (List CallValue) FaultValue) (text : List ℕ) → HasTaken self.old asked text → AreFew (asked text)
+        ensures err { IfErr result (λ fault. (records : Bool) (asked : List ℕ → Result (List CallValue) FaultValue) (text : List ℕ)
+            → HasTaken records self.old asked text → AreFew (asked text)
             → IsUnreplayed NoneFailed (λ r. asked text ≡ r) (O.contents out.old) (O.contents out.new) (O.has_failed out.new) fault) }
     {
         self.end()?;

@@ -1,5 +1,6 @@
-ghost use Rattle.std.specs.Prelude.{◌≡◌, ℕ, ◌<◌, [], ◌∷◌, length, slice_index_or, IfOk, None};
+ghost use Rattle.std.specs.Prelude.{◌≡◌, ℕ, ◌<◌, List, [], ◌∷◌, ◌++◌, length, slice_index_or, IfOk, None};
 ghost use Rattle.std.specs.Option.{option_or};
+ghost use Rattle.dn_types.specs.declared.entry.Entry.{Entry as EntryValue};
 ghost use Rattle.dn_replay.specs.Report.{delivered, deliveries, delivery_of_packet};
 ghost use Rattle.dn_replay.specs.Tables.{IsTableOf};
 
@@ -14,6 +15,14 @@ pub(crate) fn delivered_by(reply: &Reply) -> &[Delivery]
         Reply::Delivered { list, .. } => list.as_slice(),
         _ => &[],
     }
+}
+
+/// What the last reply of a history delivers.
+pub(crate) fn last_delivered(entries: &[Entry]) -> &[Delivery]
+    requires { 0 < length entries.now }
+    ensures { (before : List EntryValue) (last : EntryValue) → entries.now ≡ before ++ last ∷ [] → result.now ≡ delivered last.reply }
+{
+    delivered_by(&entries[entries.len() - 1].reply)
 }
 
 /// Notes a delivery, unless one of its packet is there or its packet has no place.

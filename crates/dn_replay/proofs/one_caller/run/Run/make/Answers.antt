@@ -1,9 +1,9 @@
-use Rattle.std.proofs.Common.{◌∙◌}
+use Rattle.std.proofs.lemmas.Result.{on_ok_weaker}
 use Rattle.dn_types.specs.declared.rule.Rule.TheVariants.{Ordered}
-use Rattle.dn_replay.proofs.Runs.{grown}
 use Rattle.dn_replay.proofs.one_caller.run.Run.make.Goals as goal
 
 pub returns : goal.returns
-returns c = λ calls made.
+returns c =
+    on_ok_weaker c.add_entry.result (λ added calls made.
     let step = c.in_ok-reply.ensures.ok Ordered calls made.0 in
-    (step.1, c.in_ok-push.ensures.items ∙ grown calls c.args.call c.args.self.now.history.items c.in_ok-reply.reply made.1 step.0)
+    added calls step.1 made.1 step.0) c.add_entry.ensures

@@ -1,8 +1,8 @@
-use Rattle.std.proofs.Common.{[]}
+use Rattle.std.proofs.Common.{[], refl}
 use Rattle.std.proofs.lemmas.Result.{on_ok_weaker}
 use Rattle.dn_replay.proofs.InputSteps.{begun, not_begun}
 use Rattle.dn_replay.proofs.KeptCalls.{kept-configuration}
-use Rattle.dn_replay.proofs.PassSteps.{noted-first}
+use Rattle.dn_replay.proofs.PassSteps.{answered-first}
 use Rattle.dn_replay.proofs.one_pass.input.Input.begin.Goals as goal
 
 pub returns-in-Ok : goal.returns-in-Ok
@@ -11,10 +11,11 @@ returns-in-Ok c =
     on_ok_weaker c.feed.result (λ fed asked text cut. (
       calls,
       c.args.packets.now,
-      fed calls [] (record {
+      fed c.args.self.now.pass.records calls [] (record {
+        records_is = refl;
         rows = [];
         read = c.requires.read;
-        noted = noted-first c.configure.new.run.shaper c.args.self.now.pass.kept c.args.self.now.pass.given.items calls made.0
+        answered = answered-first c.args.self.now.pass.records c.configure.new.run c.args.self.now.pass.kept c.args.self.now.pass.given.items calls made
             (kept-configuration c.args.self.now.pass.kept c.args.self.now.config.lines.items calls accepted c.requires.kept) c.requires.given;
       }),
       begun asked text c.args.self.now.config.lines.items c.args.packets.now calls accepted cut,

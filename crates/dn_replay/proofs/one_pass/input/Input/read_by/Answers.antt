@@ -7,12 +7,12 @@ use Rattle.dn_replay.proofs.InputSteps.{longer, whole}
 use Rattle.dn_replay.proofs.one_pass.input.Input.read_by.Goals as goal
 
 pub loop-length-init : goal.loop-length-init
-loop-length-init g c = record { sound = c.requires.sound; taken = ([], refl, Consumes-nil (g.I.Inlet.remaining c.args.inlet.now), λ asked first. first) }
+loop-length-init g c = record { sound = c.requires.sound; taken = ([], refl, Consumes-nil (g.I.Inlet.remaining c.args.inlet.now), λ records asked first. first) }
 
 pub take-requires : goal.take-requires
 take-requires g c =
-    let (asked, first) = c.requires.taken in
-    let (text, size, taken, all) = c.loop-length.invariant.taken in (asked, text, all asked first)
+    let (records, asked, first) = c.requires.taken in
+    let (text, size, taken, all) = c.loop-length.invariant.taken in (records, asked, text, all records asked first)
 
 pub returns-then-count-eq0-clause-text : goal.returns-then-count-eq0-clause-text
 returns-then-count-eq0-clause-text g c =
@@ -35,7 +35,7 @@ loop-length-preserved g c =
         text ++ part,
         omega (arith, size, length-append text part, length-take c.in-Some.count c.read.new.buf, c.in-Some.ensures.bytes.0),
         Consumes-trans known (g.I.Inlet.remaining c.loop-length.inlet) (g.I.Inlet.remaining c.read.new.self) text part taken c.in-Some.ensures.bytes.1,
-        λ asked first. c.in-Ok.ensures asked text (all asked first),
+        λ records asked first. c.in-Ok.ensures records asked text (all records asked first),
       );
     }
 
