@@ -1,7 +1,9 @@
 use crate::broken::{FULL_QUEUE, REPORT};
 use crate::headers::PACKET_HEADER;
 use dn_records::{FromReader, FromWriter};
-use dn_replay::{HashKey, ReplayFault, Source, replay_joined_report, replay_report};
+use dn_replay::{
+    HashKey, ReplayFault, Source, replay, replay_joined, replay_joined_report, replay_report,
+};
 use dn_text::split_joined;
 use std::alloc::{AllocError, Global};
 use std::test::Fail;
@@ -10,42 +12,70 @@ use test_devices::Parts;
 // How many bytes a read gives at most.
 const STEPS: [usize; 6] = [1, 2, 3, 7, 64, 65_536];
 
-// What a replay of a joined input answers. What it writes is added to `written`.
-fn joined(alloc: Global, input: Parts<'_>, written: &mut Vec<u8>) -> Result<(), ReplayFault> {
+// What a replay of a joined input answers: how many entries its history has, where it keeps one. What it writes is
+// added to `written`.
+fn joined(
+    alloc: Global,
+    records: bool,
+    input: Parts<'_>,
+    written: &mut Vec<u8>,
+) -> Result<Option<usize>, ReplayFault> {
     let mut input = FromReader::new(input);
-    replay_joined_report(alloc, HashKey(7), &mut input, &mut FromWriter::new(written))
+    let mut out = FromWriter::new(written);
+    if records {
+        let history = replay_joined(alloc, HashKey(7), &mut input, &mut out);
+        return history.map(|entries| Some(entries.len()));
+    }
+    replay_joined_report(alloc, HashKey(7), &mut input, &mut out).map(|()| None)
 }
 
 // The same of a configuration and packets.
-fn both(alloc: Global, step: usize, written: &mut Vec<u8>) -> Result<(), ReplayFault> {
+fn both(
+    alloc: Global,
+    records: bool,
+    step: usize,
+    written: &mut Vec<u8>,
+) -> Result<Option<usize>, ReplayFault> {
     let (config, packets) = split_joined(FULL_QUEUE.as_bytes());
     let mut config = FromReader::new(Parts::of(config, step));
     let mut packets = FromReader::new(Parts::of(packets, step));
     let mut out = FromWriter::new(written);
-    replay_report(alloc, HashKey(7), &mut config, &mut packets, &mut out)
+    if records {
+        let history = replay(alloc, HashKey(7), &mut config, &mut packets, &mut out);
+        return history.map(|entries| Some(entries.len()));
+    }
+    replay_report(alloc, HashKey(7), &mut config, &mut packets, &mut out).map(|()| None)
 }
 
-// The report of an input is the same whatever its reads give, from one input and from two.
+// Whether the report of an input is written, and its history has so many entries where it is kept, from one input
+// and from two whose reads give so many bytes.
+fn gives_the_report(alloc: Global, step: usize, entries: Option<usize>) -> bool {
+    let mut written = Vec::new(alloc);
+    let input = Parts::of(FULL_QUEUE.as_bytes(), step);
+    let answer = joined(alloc, entries.is_some(), input, &mut written);
+    if answer != Ok(entries) || written.as_slice() != REPORT.as_bytes() {
+        return false;
+    }
+    let mut written = Vec::new(alloc);
+    let answer = both(alloc, entries.is_some(), step, &mut written);
+    answer == Ok(entries) && written.as_slice() == REPORT.as_bytes()
+}
+
+// The report and the history of an input are the same whatever its reads give.
 #[test]
 fn parts_of_any_length_give_one_report(rt: HostRuntime) {
-    let alloc = rt.alloc();
     for step in STEPS {
-        let mut written = Vec::new(alloc);
-        let input = Parts::of(FULL_QUEUE.as_bytes(), step);
+        assert!(rt; gives_the_report(rt.alloc(), step, None), "{step} bytes");
         assert!(rt;
-            joined(alloc, input, &mut written) == Ok(()),
-            "{step} bytes"
+            gives_the_report(rt.alloc(), step, Some(6)),
+            "{step} bytes, with a history"
         );
-        assert!(rt; written.as_slice() == REPORT.as_bytes(), "{step} bytes");
-        let mut written = Vec::new(alloc);
-        assert!(rt; both(alloc, step, &mut written) == Ok(()), "{step} bytes");
-        assert!(rt; written.as_slice() == REPORT.as_bytes(), "{step} bytes");
     }
 }
 
 // Whether a joined input is refused for a fault whatever its reads give, until so many bytes have come, and
 // nothing is written.
-fn is_refused(alloc: Global, text: &str, good: usize, fault: ReplayFault) -> bool {
+fn is_refused(alloc: Global, records: bool, text: &str, good: usize, fault: ReplayFault) -> bool {
     for step in STEPS {
         let mut written = Vec::new(alloc);
         let input = Parts {
@@ -54,7 +84,7 @@ fn is_refused(alloc: Global, text: &str, good: usize, fault: ReplayFault) -> boo
             good,
             calls: 0,
         };
-        let answer = joined(alloc, input, &mut written);
+        let answer = joined(alloc, records, input, &mut written);
         if answer != Err(fault) || !written.is_empty() {
             return false;
         }
@@ -72,7 +102,14 @@ fn is_refused_in_order(
     let text = format!(in alloc; "{config}--\r\n{PACKET_HEADER}{rows}")?;
     let text = text.as_str();
     let read = ReplayFault::Read(Source::Input);
-    Ok(is_refused(alloc, text, usize::MAX, fault) && is_refused(alloc, text, text.len(), read))
+    for records in [false, true] {
+        if !is_refused(alloc, records, text, usize::MAX, fault)
+            || !is_refused(alloc, records, text, text.len(), read)
+        {
+            return Ok(false);
+        }
+    }
+    Ok(true)
 }
 
 // A refused configuration is told before a bad row, and a failed read before both.

@@ -1,6 +1,6 @@
 use crate::headers::PACKET_HEADER;
 use dn_records::{FromReader, FromWriter};
-use dn_replay::{HashKey, replay_joined, replay_joined_report};
+use dn_replay::{HashKey, ReplayFault, replay_joined, replay_joined_report, write_report};
 use std::alloc::{AllocError, Global};
 use std::test::Fail;
 
@@ -23,7 +23,19 @@ fn many_rows(alloc: Global) -> Result<String, AllocError> {
     Ok(text)
 }
 
-// A report that is written in one pass is that of the history.
+// The report of a joined input that is written beside its history, and that which `write_report` makes of the history.
+fn with_history(alloc: Global, text: &str) -> Result<(Vec<u8>, Vec<u8>), ReplayFault> {
+    let mut written = Vec::new(alloc);
+    let mut input = FromReader::new(text.as_bytes());
+    let mut out = FromWriter::new(&mut written);
+    let history = replay_joined(alloc, HashKey(7), &mut input, &mut out)?;
+    let mut of_history = Vec::new(alloc);
+    let mut out = FromWriter::new(&mut of_history);
+    write_report(alloc, 1, history.as_slice(), &mut out)?;
+    Ok((written, of_history))
+}
+
+// A report that is written in one pass, with a history or without, is that which is made of the history.
 #[test]
 fn the_report_of_many_rows_is_that_of_their_history(rt: HostRuntime) -> Result<(), Fail> {
     let alloc = rt.alloc();
@@ -32,10 +44,8 @@ fn the_report_of_many_rows_is_that_of_their_history(rt: HostRuntime) -> Result<(
     let mut input = FromReader::new(text.as_bytes());
     let mut out = FromWriter::new(&mut report);
     assert!(rt; replay_joined_report(alloc, HashKey(7), &mut input, &mut out) == Ok(()));
-    let mut written = Vec::new(alloc);
-    let mut input = FromReader::new(text.as_bytes());
-    let mut out = FromWriter::new(&mut written);
-    assert!(rt; replay_joined(alloc, HashKey(7), &mut input, &mut out).is_ok());
-    assert!(rt; report.as_slice() == written.as_slice());
+    let (written, of_history) = with_history(alloc, text.as_str())?;
+    assert!(rt; report.as_slice() == of_history.as_slice());
+    assert!(rt; written.as_slice() == of_history.as_slice());
     Ok(())
 }
