@@ -1,5 +1,6 @@
 pub mod CallsBack
 pub mod EntriesBack
+pub mod EntriesBehind
 pub mod EntryTurns
 pub mod FieldsBack
 pub mod HistoryBack
@@ -10,7 +11,9 @@ pub mod HistorySteps
 pub mod HistoryWitness
 pub mod ItemsBack
 pub mod LineBytes
+pub mod PartsRead
 pub mod PlainForms
 pub mod PlainRecords
 pub mod Remarks
 pub mod RepliesBack
+pub mod WholeRecords

@@ -1,7 +1,7 @@
 -- Records whose lines are written plainly: how a line is read from its bytes, and what is left behind it.
 use Rattle.std.proofs.Common.{◌≡◌, ◌≢◌, ◌∙◌, refl, sym, ap, subst, ℕ, zero, suc, ◌+◌, ◌-◌, ◌<◌, ◌≤◌, ◌==◌, Bool, true, false, cond, List, [], ◌∷◌, ◌++◌, length, take, drop, get_or, arith, append_assoc, length-append}
 use Rattle.std.specs.List.{list_any}
-use Rattle.std.proofs.lemmas.Bool.{ne_eqb}
+use Rattle.std.proofs.lemmas.Bool.{false≢true, ne_eqb}
 use Rattle.std.proofs.lemmas.Bool.Decides.{nat_tests}
 use Rattle.std.proofs.lemmas.List.{append-nil, drop_more, take-append-drop, take_rest}
 use Rattle.csv.specs.Machine.{next_record}
@@ -109,6 +109,11 @@ rest-is text rest behind =
 pub none-in : records_of [] ≡ []
 unfolding records_from strip_bom next_record
 none-in = refl
+
+pub none-behind : (old : List Fields) (text : List ℕ) (fields : Fields) → old ≡ records_after st.StartRecord text → (length text == 0) ≡ true → Takes old old false fields
+unfolding records_from next_record
+none-behind old [] fields is none = rw is (refl, refl)
+none-behind old (byte ∷ rest) fields is none = let some : (length (byte ∷ rest) == 0) ≡ false = grind (arith, nat_tests) in absurd (false≢true (sym some ∙ none))
 
 -- A text that begins with a line feed.
 pub behind-front : (text : List ℕ) → 1 ≤ length text → get_or text 0 0 ≡ 10 → records_of text ≡ records_after st.StartRecord (take (length text - 1) (drop 1 text))

@@ -3,6 +3,7 @@ pub mod EntryRecords
 pub mod HistoryFaults
 pub mod HistoryFile
 pub mod HistoryItems
+pub mod HistoryParts
 pub mod HistoryRecords
 pub mod HistoryText
 pub mod PlainRecords

@@ -1,5 +1,5 @@
 -- Records whose lines are written plainly, without quotes and carriage returns, at the front of a text.
-use Rattle.std.specs.Prelude.{◌≡◌, ℕ, ◌==◌, Bool, true, false, cond, List, [], ◌∷◌, ◌++◌, Option, Some, Ok, codes}
+use Rattle.std.specs.Prelude.{◌≡◌, ℕ, ◌==◌, Bool, true, false, cond, List, [], ◌∷◌, ◌++◌, Option, None, Some, Ok, codes}
 use Rattle.csv.specs.Writing.{default_writer, field_text}
 use Rattle.dn_types.specs.declared.call.Call.{Call}
 use Rattle.dn_types.specs.declared.delivery.Delivery.{Delivery}
@@ -14,9 +14,10 @@ use Rattle.dn_history.specs.RecordsLeft.{Read, Rest}
 use Rattle.dn_history.specs.declared.history_version.HistoryVersion.{HistoryVersion}
 
 -- The records that are left: those of a text while its lines are plain, and then those that csv's reader has left.
-abbrev pub records_ahead : Bool → List ℕ → List Fields → List Fields
+abbrev pub records_ahead : Bool → List ℕ → Option (List Fields) → List Fields
 records_ahead true text rest = records_of text
-records_ahead false text rest = rest
+records_ahead false text (Some rest) = rest
+records_ahead false text None = []
 
 -- Whether a text begins with a line feed.
 abbrev pub begins_with_feed : List ℕ → Bool

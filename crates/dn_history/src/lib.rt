@@ -5,5 +5,7 @@ mod history_version;
 mod read;
 mod write;
 
-pub use read::{EntryReader, HISTORY_LIMIT, is_call, read_caller, read_history, read_plain_call};
+pub use read::{
+    EntryReader, HISTORY_LIMIT, HistoryParts, is_call, read_caller, read_history, read_plain_call,
+};
 pub use write::{write_end, write_entry, write_history};

@@ -1,7 +1,11 @@
-ghost use Rattle.std.specs.Prelude.{◌≡◌, Err, IfOk, IfErr};
+ghost use Rattle.std.specs.Prelude.{◌≡◌, ◌<◌, ◌^◌, Err, IfOk, IfErr};
+ghost use Rattle.dn_records.specs.Records.{records_of};
 ghost use Rattle.dn_files.specs.Reading.{IsFaultOf};
-ghost use Rattle.dn_history.specs.EntriesLeft.{IsAfter, history_left};
+ghost use Rattle.dn_history.specs.EntriesLeft.{IsAfter, entries_left, history_left};
 ghost use Rattle.dn_history.specs.HistoryFile.{before, history_in};
+ghost use Rattle.dn_history.specs.HistoryRecords.{rule_of};
+ghost use Rattle.dn_history.specs.Remarks.{without_remarks};
+ghost use Rattle.dn_history.specs.declared.read.progress.Progress.TheVariants.{Reading};
 
 use crate::history_version::HistoryVersion;
 use crate::read::entries::next_entry;
@@ -69,6 +73,31 @@ impl<'a> EntryReader<'a> {
             records,
             fields,
         })
+    }
+
+    /// A reader of the entries that are left behind this many, in a text behind a line feed whose first
+    /// record has this number.
+    pub(crate) fn from(
+        alloc: Global,
+        version: HistoryVersion,
+        given: usize,
+        number: u64,
+        text: &'a [u8],
+    ) -> EntryReader<'a>
+        requires { (given < 2 ^ 62) × (number < 2 ^ 62) }
+        ensures left { result.entries ≡ entries_left Reading version given
+            (record { number = number; records = without_remarks (records_of text.now) }) }
+        ensures rule { result.rule ≡ rule_of version }
+        ensures given { result.given ≡ given }
+    {
+        EntryReader {
+            alloc,
+            version,
+            given,
+            progress: Progress::Reading,
+            records: NumberedRecords::from(alloc, text, number),
+            fields: ByteRecord::new(alloc),
+        }
     }
 
     /// The rule of the history: Free in files of versions 1 and 2, and Ordered in those of version 3.

@@ -38,8 +38,9 @@ pub(crate) struct LineRecords<'a> {
     // Then, what is left of the text, with the line feed before it: a byte order mark would be passed over
     // at the front of a text, and behind a line feed it isn't.
     text: &'a [u8],
-    // Else the records that are left.
-    rest: RecordReader<'a>,
+    // Else the records that are left. csv's reader is made for the first line that isn't plain, since it builds
+    // its automaton anew.
+    rest: Option<RecordReader<'a>>,
 }
 
 impl<'a> Model for LineRecords<'a> {
@@ -61,7 +62,7 @@ impl<'a> LineRecords<'a> {
             alloc,
             plain: true,
             text,
-            rest: RecordReader::new(alloc, &[]),
+            rest: None,
         }
     }
 
@@ -98,14 +99,17 @@ impl<'a> LineRecords<'a> {
         ensures shorter { IfOk result (λ found. found ≡ true → length self.new < length self.old) }
         ensures err { OnErr result (self.new ≡ []) }
     {
-        if !self.plain {
-            return self.rest.read(fields);
+        if self.plain {
+            let mut rest = RecordReader::new(self.alloc, self.text);
+            let outcome = rest.read(fields);
+            self.plain = false;
+            self.rest = Some(rest);
+            return outcome;
         }
-        let mut rest = RecordReader::new(self.alloc, self.text);
-        let outcome = rest.read(fields);
-        self.plain = false;
-        self.rest = rest;
-        outcome
+        match &mut self.rest {
+            Some(rest) => rest.read(fields),
+            None => Ok(false),
+        }
     }
 
     /// Reads the next record into `fields`, and answers whether there was one. After an error no record is
@@ -118,6 +122,9 @@ impl<'a> LineRecords<'a> {
         let Some(text) = self.lines() else {
             return self.read_by_csv(fields);
         };
+        if text.is_empty() {
+            return Ok(false);
+        }
         match read_plain_line(text, fields) {
             Ok(Some(rest)) => {
                 self.go_on(text, rest);

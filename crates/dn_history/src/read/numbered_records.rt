@@ -1,5 +1,7 @@
-ghost use Rattle.std.specs.Prelude.{◌≡◌, ◌<◌, ◌≤◌, ℕ, length, Ok, None, IfOk, OnOk, OnSome, IfErr, MatchOption};
+ghost use Rattle.std.specs.Prelude.{◌≡◌, ◌<◌, ◌≤◌, ◌^◌, ℕ, length, Ok, None, IfOk, IfSome, OnOk, OnSome, IfErr, MatchOption};
 ghost use Rattle.csv.specs.Records.{fields_of};
+ghost use Rattle.csv.specs.declared.parser.State.TheVariants as st;
+ghost use Rattle.dn_records.specs.Reading.{records_after};
 ghost use Rattle.dn_records.specs.Records.{records_of};
 ghost use Rattle.dn_history.specs.HistoryFile.{entry_from, nothing_in, reply_from};
 ghost use Rattle.dn_history.specs.HistoryItems.{delivery_item};
@@ -39,6 +41,24 @@ impl<'a> Model for NumberedRecords<'a> {
 }
 
 impl<'a> NumberedRecords<'a> {
+    /// The records of a text, the first of which has this number.
+    pub(crate) fn from(alloc: Global, text: &'a [u8], number: u64) -> NumberedRecords<'a>
+        requires { number < 2 ^ 62 }
+        ensures { result ≡ record { number = number; records = without_remarks (records_of text.now) } }
+    {
+        NumberedRecords {
+            number,
+            records: LineRecords::new(alloc, text),
+        }
+    }
+
+    /// The text that is left, where all lines before it are plain.
+    pub(crate) fn lines(&self) -> Option<&'a [u8]>
+        ensures { IfSome result (λ lines. self.now.records ≡ without_remarks (records_after st.StartRecord lines.now)) }
+    {
+        self.records.lines()
+    }
+
     /// The records of a text, from the first on.
     pub(crate) fn new(alloc: Global, text: &'a [u8]) -> NumberedRecords<'a>
         ensures { result ≡ record { number = 1; records = without_remarks (records_of text.now) } }

@@ -1,7 +1,7 @@
-use Rattle.std.proofs.Common.{true}
+use Rattle.std.proofs.Common.{◌∙◌, sym, true}
 use Rattle.csv.specs.Records.{fields_of}
 use Rattle.dn_records.proofs.RecordSteps.{shorter}
-use Rattle.dn_history.proofs.PlainRecords.{behind-record, takes-line}
+use Rattle.dn_history.proofs.PlainRecords.{behind-record, none-behind, takes-line}
 use Rattle.dn_history.proofs.read.line_records.LineRecords.read.Goals as goal
 
 pub go_on-requires : goal.go_on-requires
@@ -14,3 +14,6 @@ returns-in-Ok-Some-clause-ok c =
 
 pub returns-in-Ok-Some-clause-shorter : goal.returns-in-Ok-Some-clause-shorter
 returns-in-Ok-Some-clause-shorter c = shorter c.args.self.now c.go_on.new.self true (fields_of c.read_plain_line.new.fields) (returns-in-Ok-Some-clause-ok c)
+
+pub returns-then-is_empty-clause-ok : goal.returns-then-is_empty-clause-ok
+returns-then-is_empty-clause-ok c = none-behind c.args.self.now c.in-Some.text.now (fields_of c.args.fields.now) c.in-Some.ensures (sym c.is_empty.ensures ∙ c.if-is_empty.true)

@@ -1,0 +1,161 @@
+-- A history whose text comes in parts: the whole records at the front of what has come, and the entries that are read off them.
+use Rattle.std.proofs.Common.{◌≡◌, ◌∙◌, true, false, refl, sym, ap, ℕ, ◌+◌, ◌-◌, ◌<◌, ◌==◌, take, drop, List, [], ◌∷◌, ◌++◌, length, length-append, arith, append_assoc, Result, Ok, Err, Some}
+use Rattle.std.specs.Prelude.{codes}
+use Rattle.std.proofs.lemmas.Bool.{false≢true}
+use Rattle.std.proofs.lemmas.Bool.Decides.{nat_tests}
+use Rattle.std.proofs.lemmas.List.{append-nil}
+use Rattle.std.proofs.Math.Seq.{drop-append_seam, take-append_seam}
+use Rattle.std.proofs.lemmas.List.Elements.{filter-append}
+use Rattle.csv.specs.Records.{field_at}
+use Rattle.csv.specs.declared.parser.State.TheVariants as st
+use Rattle.dn_types.specs.declared.entry.Entry.{Entry}
+use Rattle.dn_types.specs.declared.rule.Rule.{Rule}
+use Rattle.dn_records.specs.Reading.{records_after}
+use Rattle.dn_records.specs.Records.{Fields, line_of, records_of}
+use Rattle.dn_records.proofs.FirstLine.{behind-feed, line-first}
+use Rattle.dn_files.specs.Reading.{◌>>=◌}
+use Rattle.dn_files.specs.declared.replay_fault.ReplayFault.{ReplayFault}
+use Rattle.dn_history.specs.EntriesLeft.{entries_left}
+use Rattle.dn_history.specs.HistoryFile.{before, entry_from, history_from, history_in}
+use Rattle.dn_history.specs.HistoryParts.{AreRead, BeginsHistory, BeginsRecords, HasRead, IsWhole, Unread, after_entries, entries_with, with_rule}
+use Rattle.dn_history.specs.HistoryRecords.{rule_of}
+use Rattle.dn_history.specs.RecordsLeft.{Rest, next_record}
+use Rattle.dn_history.specs.Remarks.{is_remark, without_remarks}
+use Rattle.dn_history.specs.declared.history_version.HistoryVersion.{HistoryVersion}
+use Rattle.dn_history.specs.declared.read.progress.Progress.TheVariants.{Reading}
+use Rattle.dn_history.proofs.EntriesBehind.{behind, entry_reads}
+use Rattle.dn_history.proofs.EntryTurns.{entries_step}
+use Rattle.dn_history.proofs.PlainRecords.{at-front}
+use Rattle.dn_history.proofs.WholeRecords.{records-then}
+
+-- The records of a text that is whole, and then those of what follows, both without remarks.
+rest-then : (front rest : List ℕ) → IsWhole front
+    → without_remarks (records_after st.StartRecord (front ++ rest)) ≡ without_remarks (records_after st.StartRecord front) ++ without_remarks (records_after st.StartRecord rest)
+rest-then front rest whole = ap without_remarks (records-then front rest whole) ∙ filter-append _ (records_after st.StartRecord front) (records_after st.StartRecord rest)
+
+-- Nothing read.
+starts : (left : Result (List Entry) ReplayFault) → left ≡ after_entries [] left
+starts (Ok entries) = refl
+starts (Err fault) = refl
+
+pub none-read : (version : HistoryVersion) (given : ℕ) (rest left : Rest) → left ≡ rest → AreRead version given rest [] given left
+none-read version given rest left is = rw is (record { counted = omega arith; goes_on = λ more. starts _ })
+
+joined : (front : List Entry) (entry : Entry) (read : Result (List Entry) ReplayFault) → after_entries front (before (Some entry) read) ≡ after_entries (front ++ entry ∷ []) read
+joined front entry (Ok entries) = ap (λ (es : List Entry). Ok es) (simp append_assoc)
+joined front entry (Err fault) = refl
+
+-- One entry more.
+pub one-read : (version : HistoryVersion) (given count : ℕ) (rest old new : Rest) (entries : List Entry) (entry : Entry) → AreRead version given rest entries count old
+    → entry_from version count old ≡ Ok (Some entry, new) → length new.records < length old.records → AreRead version given rest (entries ++ entry ∷ []) (count + 1) new
+one-read version given count rest old new entries entry read is fewer = record {
+  counted = omega (arith, read.counted, length-append entries (entry ∷ []));
+  goes_on = λ more.
+      let step = entries_step version count (behind old more) (behind new more) (Some entry) (entry_reads more version count old new entry is)
+      (omega (arith, fewer, length-append new.records more, length-append old.records more)) in
+      read.goes_on more ∙ ap (after_entries entries) step ∙ joined entries entry _;
+}
+
+grouped : (rule : Rule) (front middle : List Entry) (read : Result (List Entry) ReplayFault)
+    → (after_entries middle read >>= λ last. with_rule rule (front ++ last)) ≡ (read >>= λ last. with_rule rule ((front ++ middle) ++ last))
+grouped rule front middle (Ok last) = ap (with_rule rule) (sym (append_assoc front middle last))
+grouped rule front middle (Err fault) = refl
+
+-- The entries of whole lines were read, and what is left are whole lines too.
+pub parts-read : (version : HistoryVersion) (given number count next : ℕ) (lines behind_lines left text : List ℕ) (front entries : List Entry)
+    → IsWhole lines → IsWhole left
+    → AreRead version given (record { number = number; records = without_remarks (records_after st.StartRecord lines) }) entries count
+    (record { number = next; records = without_remarks (records_after st.StartRecord left) })
+    → HasRead (record { version = version; given = given; number = number; text = lines ++ behind_lines }) text front
+    → HasRead (record { version = version; given = count; number = next; text = left ++ behind_lines }) text (front ++ entries)
+parts-read version given number count next lines behind_lines left text front entries whole left_whole read so_far = record {
+  count = omega (arith, read.counted, so_far.count, length-append front entries);
+  goes_on = λ more.
+      let after = without_remarks (records_after st.StartRecord (behind_lines ++ more)) in
+      let old : entries_with (record { version = version; given = given; number = number; text = lines ++ behind_lines }) more
+      ≡ entries_left Reading version given (record { number = number; records = without_remarks (records_after st.StartRecord lines) ++ after }) =
+      ap (λ (rs : List Fields). entries_left Reading version given (record { number = number; records = rs }))
+      (ap (λ (t : List ℕ). without_remarks (records_after st.StartRecord t)) (append_assoc lines behind_lines more) ∙ rest-then lines (behind_lines ++ more) whole) in
+      let new : entries_with (record { version = version; given = count; number = next; text = left ++ behind_lines }) more
+      ≡ entries_left Reading version count (record { number = next; records = without_remarks (records_after st.StartRecord left) ++ after }) =
+      ap (λ (rs : List Fields). entries_left Reading version count (record { number = next; records = rs }))
+      (ap (λ (t : List ℕ). without_remarks (records_after st.StartRecord t)) (append_assoc left behind_lines more) ∙ rest-then left (behind_lines ++ more) left_whole) in
+      so_far.goes_on more
+      ∙ ap (λ (r : Result (List Entry) ReplayFault). r >>= λ last. with_rule (rule_of version) (front ++ last)) (old ∙ read.goes_on after ∙ ap (after_entries entries) (sym new))
+      ∙ grouped (rule_of version) front entries _;
+}
+
+-- A part of the text more.
+pub part-fed : (left : Unread) (text part : List ℕ) (entries : List Entry) → HasRead left text entries
+    → HasRead (record { version = left.version; given = left.given; number = left.number; text = left.text ++ part }) (text ++ part) entries
+part-fed left text part entries read = record {
+  count = read.count;
+  goes_on = λ more.
+      ap history_in (append_assoc text part more) ∙ read.goes_on (part ++ more)
+      ∙ ap (λ (t : List ℕ). entries_left Reading left.version left.given (record { number = left.number; records = without_remarks (records_after st.StartRecord t) })
+      >>= λ last. with_rule (rule_of left.version) (entries ++ last)) (sym (append_assoc left.text part more));
+}
+
+-- The record of the header is the first, and no remark.
+header-first : (digit rest : List ℕ) → records_of (line_of (codes "dummynet-history" ∷ digit ∷ []) ++ rest) ≡ (codes "dummynet-history" ∷ digit ∷ []) ∷ records_after st.StartRecord rest
+header-first digit rest =
+    at-front (line_of (codes "dummynet-history" ∷ digit ∷ []) ++ rest) (omega arith) (λ e. omega (arith, e))
+    ∙ line-first (codes "dummynet-history") (digit ∷ []) rest
+
+header-unremarked : (digit : List ℕ) → is_remark (codes "dummynet-history" ∷ digit ∷ []) ≡ false
+unfolding field_at
+header-unremarked digit = refl
+
+started : (rule : Rule) (left : Result (List Entry) ReplayFault) → (left >>= λ entries. with_rule rule entries) ≡ (left >>= λ last. with_rule rule ([] ++ last))
+started rule (Ok entries) = refl
+started rule (Err fault) = refl
+
+-- Behind the header no entry was given.
+pub begun : (text rest : List ℕ) (version : HistoryVersion) → BeginsHistory text version rest → HasRead (record { version = version; given = 0; number = 2; text = rest }) text []
+unfolding history_from next_record
+begun text rest version begins = record {
+  count = refl;
+  goes_on = λ more.
+      let stands : text ++ more ≡ line_of (codes "dummynet-history" ∷ begins.digit ∷ []) ++ (rest ++ more) =
+      ap (λ (t : List ℕ). t ++ more) begins.stands ∙ append_assoc (line_of (codes "dummynet-history" ∷ begins.digit ∷ [])) rest more in
+      let first : records_of (text ++ more) ≡ (codes "dummynet-history" ∷ begins.digit ∷ []) ∷ records_after st.StartRecord (rest ++ more) =
+      ap records_of stands ∙ header-first begins.digit (rest ++ more) in
+      let plain : without_remarks (records_of (text ++ more)) ≡ (codes "dummynet-history" ∷ begins.digit ∷ []) ∷ without_remarks (records_after st.StartRecord (rest ++ more)) =
+      ap without_remarks first ∙ rw (header-unremarked begins.digit) refl in
+      rw (plain, begins.tells) (started (rule_of version) _);
+}
+
+-- The entries that are left, where the text has ended.
+pub all-read : (left : Unread) (text : List ℕ) (entries : List Entry) → HasRead left text entries
+    → history_in text ≡ (entries_left Reading left.version left.given (record { number = left.number; records = without_remarks (records_after st.StartRecord left.text) })
+    >>= λ last. with_rule (rule_of left.version) (entries ++ last))
+all-read left text entries read =
+    ap history_in (sym (append-nil text)) ∙ read.goes_on []
+    ∙ ap (λ (t : List ℕ). entries_left Reading left.version left.given (record { number = left.number; records = without_remarks (records_after st.StartRecord t) })
+    >>= λ last. with_rule (rule_of left.version) (entries ++ last)) (append-nil left.text)
+
+-- Where nothing stands behind whole records, they are the text.
+pub only-whole : (text rest : List ℕ) → BeginsRecords text rest → (length rest == 0) ≡ true → IsWhole text
+only-whole text [] begins none = rw (begins.stands, append-nil begins.front) begins.whole
+only-whole text (byte ∷ rest) begins none = let some : (length (byte ∷ rest) == 0) ≡ false = grind (arith, nat_tests) in absurd (false≢true (sym some ∙ none))
+
+-- The entries of the whole records that stand behind the line feed at the front of a text were read.
+pub taken : (version : HistoryVersion) (given number count next : ℕ) (items rest lines back left new text : List ℕ) (front entries : List Entry)
+    → items ≡ 10 ∷ drop 1 items → BeginsRecords (drop 1 items) rest → lines ≡ take (length items - length rest) items → back ≡ drop (length items - length rest) items
+    → IsWhole left
+    → AreRead version given (record { number = number; records = without_remarks (records_of lines) }) entries count
+    (record { number = next; records = without_remarks (records_after st.StartRecord left) })
+    → new ≡ 10 ∷ (left ++ back)
+    → HasRead (record { version = version; given = given; number = number; text = drop 1 items }) text front
+    → HasRead (record { version = version; given = count; number = next; text = drop 1 new }) text (front ++ entries)
+taken version given number count next items rest lines back left new text front entries feed begins lines_is back_is whole read new_is so_far =
+    let rows = begins.front in
+    let stands : items ≡ (10 ∷ rows) ++ rest = feed ∙ ap (λ (t : List ℕ). 10 ∷ t) begins.stands in
+    let count_is = ap (length {A = ℕ}) stands ∙ length-append (10 ∷ rows) rest in
+    let place : length items - length rest ≡ length (10 ∷ rows) = omega (arith, count_is) in
+    let lines_are : lines ≡ 10 ∷ rows =
+    lines_is ∙ ap (λ k. take k items) place ∙ ap (take (length (10 ∷ rows))) stands ∙ take-append_seam (10 ∷ rows) rest in
+    let rest_is : back ≡ rest = back_is ∙ ap (λ k. drop k items) place ∙ ap (drop (length (10 ∷ rows))) stands ∙ drop-append_seam (10 ∷ rows) rest in
+    let records_are : records_of lines ≡ records_after st.StartRecord rows = ap records_of lines_are ∙ behind-feed rows in
+    let here : HasRead (record { version = version; given = given; number = number; text = rows ++ rest }) text front = rw begins.stands at so_far in
+    rw (new_is, rest_is) (parts-read version given number count next rows rest left text front entries begins.whole whole (rw records_are at read) here)

@@ -1,0 +1,15 @@
+use memchr::memrchr;
+
+/// Whether the last whole line of a text is one of a reply's list, behind which more of them are likely to
+/// come. It is only asked whether reading is worth it: nothing that is answered rests on it.
+pub(crate) fn ends_in_item(text: &[u8]) -> bool {
+    let Some(end) = memrchr(b'\n', text) else {
+        return false;
+    };
+    let start = match memrchr(b'\n', &text[..end]) {
+        Some(feed) => feed + 1,
+        None => 0,
+    };
+    let line = &text[start..end];
+    line.starts_with(b"d,") || line.starts_with(b"f,")
+}
