@@ -1,5 +1,5 @@
 -- An audit, one entry at a time.
-use Rattle.std.proofs.Common.{◌≡◌, ◌≢◌, ◌∙◌, true, ℕ, ◌+◌, ◌<◌, ◌≤◌, Result, Ok, Err, List, [], ◌∷◌, ◌++◌, take, drop, length, length-append, get_or, refl, sym, ap, subst, arith}
+use Rattle.std.proofs.Common.{◌≡◌, ◌≢◌, ◌∙◌, true, ℕ, ◌+◌, ◌<◌, ◌≤◌, Result, Ok, Err, List, [], ◌∷◌, ◌++◌, take, drop, length, length-append, get_or, refl, sym, ap, subst, arith, append_assoc}
 use Rattle.std.specs.Prelude.{OnErr, OnOk}
 use Rattle.std.specs.Result.{is_ok}
 use Rattle.std.proofs.Math.ListN.{get_or-append}
@@ -76,22 +76,27 @@ after-difference rule front more audit i is audited = record {
   stands = λ lawful. let no = sym is ∙ lawful in cc no;
 }
 
--- The entry at a place of a history.
-module _ (rule : Rule) (history : List Entry) (i : ℕ) (e : Entry) (below : i < length history) (there : e ≡ get_or history i e) where
-  one-more : take i history ++ e ∷ [] ≡ take (i + 1) history
-  one-more = sym (take_more history i e below ∙ ap (λ (x : Entry). take i history ++ x ∷ []) (sym there))
+-- The entry at a place among the next entries.
+module _ (rule : Rule) (front next : List Entry) (i : ℕ) (e : Entry) (below : i < length next) (there : e ≡ get_or next i e) where
+  one-more : (front ++ take i next) ++ e ∷ [] ≡ front ++ take (i + 1) next
+  one-more = append_assoc front (take i next) (e ∷ []) ∙ ap (λ (es : List Entry). front ++ es) (sym (take_more next i e below ∙ ap (λ (x : Entry). take i next ++ x ∷ []) (sym there)))
 
-  pub next-audited : (audit : RunningAudit) → (i ≡ length (take i history) → HasAudited rule audit (take i history ++ e ∷ [])) → HasAudited rule audit (take (i + 1) history)
-  next-audited audit audited = subst (λ (front : List Entry). HasAudited rule audit front) one-more (audited (sym (length-take-le i history (omega (arith, below)))))
+  pub counted-on : (first : ℕ) → first ≡ length front → first + i ≡ length (front ++ take i next)
+  counted-on first is = let few = length-take-le i next (omega (arith, below)) in omega (arith, is, few, length-append front (take i next))
 
-  pub wants-later : CanWantMemory rule (take i history ++ e ∷ []) → CanWantMemory rule history
+  pub next-audited : (audit : RunningAudit) → HasAudited rule audit ((front ++ take i next) ++ e ∷ []) → HasAudited rule audit (front ++ take (i + 1) next)
+  next-audited audit audited = subst (λ (es : List Entry). HasAudited rule audit es) one-more audited
+
+  pub wants-later : CanWantMemory rule ((front ++ take i next) ++ e ∷ []) → CanWantMemory rule (front ++ next)
   wants-later wants =
-      let front = subst (λ (front : List Entry). CanWantMemory rule front) one-more wants in
-      subst (λ (whole : List Entry). CanWantMemory rule whole) (take-append-drop (i + 1) history) (still-wants rule (take (i + 1) history) (drop (i + 1) history) front)
+      let here = subst (λ (es : List Entry). CanWantMemory rule es) one-more wants in
+      let whole : (front ++ take (i + 1) next) ++ drop (i + 1) next ≡ front ++ next =
+      append_assoc front (take (i + 1) next) (drop (i + 1) next) ∙ ap (λ (es : List Entry). front ++ es) (take-append-drop (i + 1) next) in
+      subst (λ (es : List Entry). CanWantMemory rule es) whole (still-wants rule (front ++ take (i + 1) next) (drop (i + 1) next) here)
 
 -- No entry is left.
-pub all-audited : (rule : Rule) (history : List Entry) (i : ℕ) (audit : RunningAudit) → length history ≤ i → HasAudited rule audit (take i history) → HasAudited rule audit history
-all-audited rule history i audit none audited = subst (λ (front : List Entry). HasAudited rule audit front) (take_all i history none) audited
+pub all-audited : (rule : Rule) (front next : List Entry) (i : ℕ) (audit : RunningAudit) → length next ≤ i → HasAudited rule audit (front ++ take i next) → HasAudited rule audit (front ++ next)
+all-audited rule front next i audit none audited = subst (λ (es : List Entry). HasAudited rule audit (front ++ es)) (take_all i next none) audited
 
 pub on_err : {T E P : Type 0} (r : Result T E) → P → OnErr r P
 on_err (Ok x) p = tt
@@ -100,3 +105,7 @@ on_err (Err e) p = p
 pub when_ok : {T E P : Type 0} (r : Result T E) → is_ok r ≡ true → OnOk r P → P
 when_ok (Ok x) good p = p
 when_ok (Err e) good p = cc good
+
+pub on_ok : {T E P Q : Type 0} (r : Result T E) → (P → Q) → OnOk r P → OnOk r Q
+on_ok (Ok x) f p = f p
+on_ok (Err e) f p = tt

@@ -1,15 +1,17 @@
 -- Why a history file isn't audited, step by step.
-use Rattle.std.proofs.Common.{◌≡◌, ◌∙◌, refl, ap, ℕ, Bool, false, length, List, [], ◌∷◌, ◌++◌, ◌+◌, length-append, arith, Option, Result, Ok}
+use Rattle.std.proofs.Common.{◌≡◌, ◌∙◌, refl, sym, ap, subst, ℕ, Bool, false, length, List, [], ◌∷◌, ◌++◌, ◌+◌, append-nil, append_assoc, length-append, arith, Option, Result, Ok}
 use Rattle.dn_types.specs.declared.entry.Entry.{Entry}
 use Rattle.dn_types.specs.declared.rule.Rule.{Rule}
 use Rattle.dn_replay.specs.Audit.{HasAudited}
 use Rattle.dn_replay.specs.FileAudit.{AreAudited, HasVerdict, IsAuditFault, IsTold, IsUnaudited, verdict_line}
 use Rattle.dn_history.specs.HistoryFaults.{IsHistoryFault}
-use Rattle.dn_history.specs.EntriesLeft.{EntriesLeft, history_left}
+use Rattle.dn_history.specs.EntriesLeft.{EntriesLeft}
 use Rattle.dn_history.specs.HistoryFile.{history_file, history_in, history_limit}
+use Rattle.dn_history.specs.HistoryParts.{history_behind}
 use Rattle.dn_history.proofs.HistoryReading.{after_front, end_read}
-use Rattle.dn_files.specs.Reading.{IsRefusal, IsTextOf, within_limit}
+use Rattle.dn_files.specs.Reading.{IsFaultOf, IsRefusal, IsTextOf, within_limit}
 use Rattle.dn_files.specs.Writing.{IsUnwritten}
+use Rattle.dn_files.proofs.Inputs.{carried}
 use Rattle.dn_files.specs.declared.replay_fault.ReplayFault.{ReplayFault}
 use Rattle.dn_files.specs.declared.replay_fault.ReplayFault.TheVariants.{BadRow, Read, Write, TooLong, OutOfMemory, Config, ConfigText, NoSuchPipe, BadRecord, BadCount, PipeHasQueues, NoSuchQueue}
 use Rattle.dn_files.specs.declared.source.Source.TheVariants.{History, Report}
@@ -55,20 +57,35 @@ pub told : (known : Option (List ℕ)) (text : List ℕ) (verdict : Verdict) (co
 told known text verdict count line bytes is within (history, reads, found, counted) line_is same =
     (history, (text, is, rw within reads), found, same ∙ line_is ∙ ap (λ (n : ℕ). verdict_line n verdict) counted)
 
+-- No entry behind those before, one more, and how many they are.
+pub none-behind : (rule : Rule) (audit : RunningAudit) (before : List Entry) → HasAudited rule audit before → HasAudited rule audit (before ++ [])
+none-behind rule audit before audited = subst (λ (es : List Entry). HasAudited rule audit es) (sym (append-nil before)) audited
+
+pub one-behind : (rule : Rule) (before front : List Entry) (e : Entry) (audit : RunningAudit) → HasAudited rule audit ((before ++ front) ++ e ∷ [])
+    → HasAudited rule audit (before ++ (front ++ e ∷ []))
+one-behind rule before front e audit audited = subst (λ (es : List Entry). HasAudited rule audit es) (append_assoc before front (e ∷ [])) audited
+
+pub counted-behind : (before front : List Entry) (start given : ℕ) → given ≡ start + length front → start ≡ length before → given ≡ length (before ++ front)
+counted-behind before front start given counted is = omega (arith, counted, is, length-append before front)
+
+pub counted-more : (front : List Entry) (e : Entry) (start old new : ℕ) → new ≡ old + 1 → old ≡ start + length front → new ≡ start + length (front ++ e ∷ [])
+counted-more front e start old new more counted = omega (arith, more, counted, length-append front (e ∷ []))
+
 -- No entry is left.
-pub all-audited : (rule : Rule) (front : List Entry) (old whole : Result (List Entry) ReplayFault) (audit : RunningAudit) (given : ℕ)
-    → given ≡ length front → old ≡ Ok [] → after_front front old ≡ whole → HasAudited rule audit front → AreAudited rule whole audit given
-all-audited rule front old whole audit given counted none so_far audited = (front, end_read front old whole none so_far, counted, audited)
+pub all-audited : (rule : Rule) (before front : List Entry) (old whole : Result (List Entry) ReplayFault) (audit : RunningAudit) (given : ℕ)
+    → given ≡ length (before ++ front) → old ≡ Ok [] → after_front front old ≡ whole → HasAudited rule audit (before ++ front) → AreAudited rule before whole audit given
+all-audited rule before front old whole audit given counted none so_far audited = (front, end_read front old whole none so_far, counted, audited)
 
--- One entry more.
-pub counted-more : (front : List Entry) (e : Entry) (old new : ℕ) → new ≡ old + 1 → old ≡ length front → new ≡ length (front ++ e ∷ [])
-counted-more front e old new more counted = omega (arith, more, counted, length-append front (e ∷ []))
+-- The verdict on the entries that were given and those that were left is that on the history.
+pub of_history : (text : List ℕ) (front : List Entry) (left : EntriesLeft) (rule : Rule) (audit : RunningAudit) (verdict : Verdict) (count given : ℕ)
+    → history_in text ≡ history_behind front left → rule ≡ left.rule → AreAudited rule front left.entries audit given → verdict ≡ audit.verdict → count ≡ given → HasVerdict text verdict count
+of_history text front left rule audit verdict count given is same (entries, all, counted, audited) found told_count =
+    ((left.rule, front ++ entries), is ∙ rw all refl, rw (← same, found) audited.found, told_count ∙ counted)
 
--- The verdict on the entries that were left is that on the history.
-pub of_history : (text : List ℕ) (left : EntriesLeft) (rule : Rule) (audit : RunningAudit) (verdict : Verdict) (count given : ℕ)
-    → history_in text ≡ history_left left → rule ≡ left.rule → AreAudited rule left.entries audit given → verdict ≡ audit.verdict → count ≡ given → HasVerdict text verdict count
-of_history text left rule audit verdict count given is same (entries, all, counted, audited) found told_count =
-    ((left.rule, entries), is ∙ rw all refl, rw (← same, found) audited.found, told_count ∙ counted)
+-- A fault of the entries that are left is one of the history.
+pub of_left : (text : List ℕ) (front : List Entry) (left : EntriesLeft) (fault : ReplayFault) → history_in text ≡ history_behind front left → IsFaultOf left.entries fault
+    → IsFaultOf (history_in text) fault
+of_left text front left fault is bad = carried left.entries (history_in text) fault (λ f e. is ∙ rw e refl) bad
 
 -- Why a history file isn't read, as a fault of its audit.
 pub of_reading : (fault : ReplayFault) → IsHistoryFault fault → IsAuditFault fault

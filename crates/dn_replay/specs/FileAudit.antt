@@ -1,17 +1,21 @@
 -- The audit of a history file: the verdict on the history in it by its own rule, and the line that tells the verdict.
-use Rattle.std.specs.Prelude.{◌≡◌, ℕ, Bool, false, List, ◌++◌, length, codes, decimal, Option, Result, Ok}
+use Rattle.std.specs.Prelude.{◌≡◌, ℕ, Bool, false, List, ◌++◌, length, codes, decimal, Option, None, Some, Result, Ok}
 use Rattle.std.specs.Io.KnownBytes.{Appends}
 use Rattle.dn_types.specs.declared.entry.Entry.{Entry}
 use Rattle.dn_types.specs.declared.rule.Rule.{Rule}
 use Rattle.dn_replay.specs.Audit.{HasAudited, IsVerdict}
 use Rattle.dn_history.specs.HistoryFaults.{IsHistoryFault}
 use Rattle.dn_history.specs.HistoryFile.{history_file, history_in}
+use Rattle.dn_history.specs.HistoryParts.{HasRead}
+use Rattle.dn_history.specs.HistoryRecords.{rule_of}
 use Rattle.dn_files.specs.Reading.{IsRefusal, ReadsAs}
 use Rattle.dn_replay.specs.Replays.{NothingWritten}
 use Rattle.dn_files.specs.Writing.{IsUnwritten}
 use Rattle.dn_files.specs.declared.replay_fault.ReplayFault.{ReplayFault}
 use Rattle.dn_files.specs.declared.replay_fault.ReplayFault.TheVariants.{Write}
 use Rattle.dn_files.specs.declared.source.Source.TheVariants.{History, Report}
+use Rattle.dn_replay.specs.declared.file_audit.input_audit.InputAudit.{InputAudit}
+use Rattle.dn_replay.specs.declared.file_audit.parts_audit.PartsAudit.{PartsAudit}
 use Rattle.dn_replay.specs.declared.running_audit.RunningAudit.{RunningAudit}
 use Rattle.dn_replay.specs.declared.verdict.Verdict.{Verdict}
 use Rattle.dn_replay.specs.declared.verdict.Verdict.TheVariants.{Lawful, Differs}
@@ -21,9 +25,23 @@ abbrev pub verdict_line : ℕ → Verdict → List ℕ
 verdict_line entries Lawful = codes "lawful " ++ decimal entries ++ codes "\n"
 verdict_line entries (Differs i) = codes "differs " ++ decimal i ++ codes "\n"
 
--- The entries that a reader had left were all audited, and this is their count.
-abbrev pub AreAudited : Rule → Result (List Entry) ReplayFault → RunningAudit → ℕ → Type 0
-AreAudited rule left audit count = (entries : List Entry) × (left ≡ Ok entries) × (count ≡ length entries) × HasAudited rule audit entries
+-- Behind entries that were audited, those that a reader had left were all audited too, and this is the count of all.
+abbrev pub AreAudited : Rule → List Entry → Result (List Entry) ReplayFault → RunningAudit → ℕ → Type 0
+AreAudited rule front left audit count = (entries : List Entry) × (left ≡ Ok entries) × (count ≡ length (front ++ entries)) × HasAudited rule audit (front ++ entries)
+
+-- Of a text that has come so far, the entries that were given were audited by its rule.
+pub record IsAuditing (begun : PartsAudit) (text : List ℕ) : Type 0 where
+  pub entries : List Entry
+  pub read : HasRead begun.parts text entries
+  pub audited : HasAudited (rule_of begun.parts.version) begun.audit entries
+
+-- This text has come of a file: it is kept until the line of its version has come, and audited from then on.
+abbrev pub IsTakenBy : Option PartsAudit → List ℕ → List ℕ → Type 0
+IsTakenBy None kept text = kept ≡ text
+IsTakenBy (Some begun) kept text = IsAuditing begun text
+
+abbrev pub HasTaken : InputAudit → List ℕ → Type 0
+HasTaken audit text = IsTakenBy audit.begun audit.front.items text
 
 -- A text is a history of this many entries with this verdict by its own rule.
 abbrev pub HasVerdict : List ℕ → Verdict → ℕ → Type 0

@@ -1,15 +1,18 @@
-ghost use Rattle.std.specs.Prelude.{◌≡◌, [], false, List, length, string_bytes, IfOk, IfErr, Ok, OnOk};
-ghost use Rattle.dn_types.specs.declared.entry.Entry.{Entry as EntryValue};
-ghost use Rattle.dn_types.specs.declared.rule.Rule.{Rule as RuleValue};
-ghost use Rattle.dn_files.specs.Reading.{IsFaultOf};
-ghost use Rattle.dn_history.specs.HistoryFile.{history_in};
-ghost use Rattle.dn_replay.specs.Audit.{HasAudited};
-ghost use Rattle.dn_replay.specs.FileAudit.{AreAudited, HasVerdict, IsAuditFault, IsAudited, IsUnaudited, verdict_line};
+//! The audit of a history file, whose text is read in parts.
 
-use crate::running_audit::RunningAudit;
+ghost use Rattle.std.specs.Prelude.{◌≡◌, false, ℕ, List, string_bytes, IfOk, IfErr, Ok};
+ghost use Rattle.dn_files.specs.Reading.{IsRefusal, IsTextOf, within_limit};
+ghost use Rattle.dn_files.specs.declared.source.Source.TheVariants.{History};
+ghost use Rattle.dn_history.specs.HistoryFile.{history_file, history_limit};
+ghost use Rattle.dn_replay.specs.FileAudit.{HasVerdict, IsAuditFault, IsAudited, IsUnaudited, verdict_line};
+
+mod entries;
+mod input_audit;
+mod parts_audit;
+
+use crate::file_audit::input_audit::InputAudit;
 use crate::verdict::Verdict;
-use dn_files::{ReplayFault, Source, read_input, write_text};
-use dn_history::{EntryReader, HISTORY_LIMIT};
+use dn_files::{ReplayFault, Source, write_text};
 use dn_records::{Inlet, Outlet};
 use dn_shaper::HashKey;
 use std::alloc::{AllocError, Global};
@@ -24,50 +27,28 @@ fn verdict_line(alloc: Global, entries: usize, verdict: Verdict) -> Result<Strin
     }
 }
 
-/// Audits all entries that a reader has left, each as it is read.
-fn audit_entries(reader: &mut EntryReader<'_>, audit: &mut RunningAudit) -> Result<(), ReplayFault>
-    requires { reader.old.given ≡ 0 }
-    ensures ok { OnOk result ((rule : RuleValue) → HasAudited rule audit.old []
-        → AreAudited rule reader.old.entries audit.new reader.new.given) }
-    ensures rule { reader.new.rule ≡ reader.old.rule }
-    ensures err { IfErr result (λ fault. IsFaultOf reader.old.entries fault) }
+/// Reads a history file and audits it: the verdict, and the count of its entries.
+fn audit_input<I: Inlet>(
+    alloc: Global,
+    key: HashKey,
+    history: &mut I,
+) -> Result<(Verdict, usize), ReplayFault>
+    requires { I.has_failed history.old ≡ false }
+    ensures ok { IfOk result (λ found. (text : List ℕ) × IsTextOf (I.remaining history.old) text
+        × (within_limit history_limit History text ≡ Ok text) × HasVerdict text found.0 found.1) }
+    ensures sound { IfOk result (λ _. I.has_failed history.new ≡ false) }
+    ensures err { IfErr result (λ fault. IsRefusal History history_file
+        (I.remaining history.old) (I.has_failed history.new) fault) }
 {
-    loop {
-        let index = reader.given();
-        match reader.next() {
-            Ok(Some(entry)) => {
-                let outcome = audit.compare(index, &entry);
-                drop(entry);
-                if outcome.is_err() {
-                    return Err(ReplayFault::OutOfMemory);
-                }
-            }
-            Ok(None) => return Ok(()),
-            Err(fault) => return Err(fault),
-        }
-    }
-}
-
-/// The verdict on the history of a text, and the count of its entries. The first difference is kept
-/// while reading goes on, for a fault of the text comes before a verdict.
-fn audit_text(alloc: Global, key: HashKey, text: &[u8]) -> Result<(Verdict, usize), ReplayFault>
-    ensures ok { IfOk result (λ found. HasVerdict text.now found.0 found.1) }
-    ensures err { IfErr result (λ fault. IsFaultOf (history_in text.now) fault) }
-{
-    let mut reader = match EntryReader::new(alloc, text) {
-        Ok(reader) => reader,
-        Err(fault) => return Err(fault),
+    let mut audit = InputAudit::new(alloc, key);
+    let read = audit.read(history);
+    let found = match read {
+        Ok(()) => audit.end(),
+        Err(fault) => Err(fault),
     };
-    let rule = reader.rule();
-    let mut audit = RunningAudit::new(alloc, key, rule);
-    let outcome = audit_entries(&mut reader, &mut audit);
-    let verdict = audit.verdict();
     // The proof of a drop by a call has one step, where that of a drop at the end has one for each field.
     drop(audit);
-    match outcome {
-        Ok(()) => Ok((verdict, reader.given())),
-        Err(fault) => Err(fault),
-    }
+    found
 }
 
 /// Reads a history file, audits it by the rule of its version, and writes one line: `lawful` and the
@@ -93,8 +74,7 @@ pub fn audit_file<I: Inlet, O: Outlet>(
         (O.contents out.old) (O.contents out.new) (O.has_failed out.new) fault) }
     ensures faults { IfErr result (λ fault. IsAuditFault fault) }
 {
-    let text = read_input(alloc, history, HISTORY_LIMIT, Source::History)?;
-    let (verdict, entries) = match audit_text(alloc, key, text.as_slice()) {
+    let (verdict, entries) = match audit_input(alloc, key, history) {
         Ok(found) => found,
         Err(fault) => return Err(fault),
     };

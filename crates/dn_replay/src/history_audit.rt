@@ -1,23 +1,11 @@
-ghost use Rattle.std.specs.Prelude.{[], IfOk, OnErr, OnOk};
-ghost use Rattle.dn_types.specs.declared.rule.Rule.{Rule as RuleValue};
-ghost use Rattle.dn_replay.specs.Audit.{CanWantMemory, HasAudited, IsVerdict};
+ghost use Rattle.std.specs.Prelude.{IfOk, OnErr};
+ghost use Rattle.dn_replay.specs.Audit.{CanWantMemory, IsVerdict};
 
 use crate::running_audit::RunningAudit;
 use crate::verdict::Verdict;
 use dn_shaper::HashKey;
 use dn_types::{Entry, Rule};
 use std::alloc::{AllocError, Global};
-
-/// Audits all entries of a history, oldest first.
-fn compare_replies(audit: &mut RunningAudit, entries: &[Entry]) -> Result<(), AllocError>
-    ensures ok { OnOk result ((rule : RuleValue) → HasAudited rule audit.old [] → HasAudited rule audit.new entries.now) }
-    ensures err { OnErr result ((rule : RuleValue) → HasAudited rule audit.old [] → CanWantMemory rule entries.now) }
-{
-    for (index, entry) in entries.iter().enumerate() {
-        audit.compare(index, entry)?;
-    }
-    Ok(())
-}
 
 /// Asks a new shaper the calls of a history, oldest first, and compares each reply with the entry's.
 /// The first that differs is the answer. It doesn't matter which caller made a call. Err says that memory was
@@ -32,7 +20,7 @@ pub fn audit(
     ensures err { OnErr result (CanWantMemory rule entries.now) }
 {
     let mut audit = RunningAudit::new(alloc, key, rule);
-    let outcome = compare_replies(&mut audit, entries);
+    let outcome = audit.compare_all(0, entries);
     let verdict = audit.verdict();
     // The proof of a drop by a call has one step, where that of a drop at the end has one for each field.
     drop(audit);

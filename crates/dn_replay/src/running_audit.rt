@@ -1,4 +1,4 @@
-ghost use Rattle.std.specs.Prelude.{◌≡◌, List, [], ◌∷◌, ◌++◌, length, OnOk, OnErr};
+ghost use Rattle.std.specs.Prelude.{◌≡◌, ◌<◌, ◌+◌, ◌^◌, List, [], ◌∷◌, ◌++◌, length, OnOk, OnErr};
 ghost use Rattle.dn_types.specs.declared.entry.Entry.{Entry as EntryValue};
 ghost use Rattle.dn_types.specs.declared.rule.Rule.{Rule as RuleValue};
 ghost use Rattle.dn_replay.specs.Audit.{CanWantMemory, HasAudited};
@@ -49,6 +49,22 @@ impl RunningAudit {
         let reply = self.shaper.apply(&entry.call)?;
         if reply != entry.reply {
             self.verdict = Verdict::Differs(index);
+        }
+        Ok(())
+    }
+
+    /// Asks the calls of the next entries, oldest first, the first of which has this index.
+    pub(crate) fn compare_all(&mut self, first: usize, entries: &[Entry]) -> Result<(), AllocError>
+        requires { first + length entries.now < 2 ^ 64 }
+        ensures ok { OnOk result ((rule : RuleValue) (front : List EntryValue)
+            → HasAudited rule self.old front → first ≡ length front
+            → HasAudited rule self.new (front ++ entries.now)) }
+        ensures err { OnErr result ((rule : RuleValue) (front : List EntryValue)
+            → HasAudited rule self.old front → first ≡ length front
+            → CanWantMemory rule (front ++ entries.now)) }
+    {
+        for (place, entry) in entries.iter().enumerate() {
+            self.compare(first + place, entry)?;
         }
         Ok(())
     }
