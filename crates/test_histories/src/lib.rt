@@ -16,4 +16,6 @@ mod history;
 #[cfg(test)]
 mod history_files;
 #[cfg(test)]
+mod history_parts;
+#[cfg(test)]
 mod memory;
