@@ -1,26 +1,45 @@
 -- What an input asks for, and what became of it, by the parts of it.
-use Rattle.std.proofs.Common.{◌≡◌, ◌∙◌, ℕ, ◌+◌, ◌<◌, Bool, true, false, List, [], ◌++◌, length, Option, Some, None, Result, Ok, Err, refl, sym, ap, subst, arith, append_assoc, append-nil, length-append}
-use Rattle.std.specs.Prelude.{IfSome}
-use Rattle.std.specs.Io.KnownBytes.{Consumes, IsAtEnd}
-use Rattle.std.proofs.KnownBytes.{Consumes-all}
+use Rattle.std.proofs.Common.{◌≡◌, ◌∙◌, ℕ, ◌≤◌, Bool, true, false, List, [], ◌++◌, length, Option, Some, None, Result, Ok, Err, refl, sym, ap, subst, append_assoc, append-nil}
+use Rattle.std.specs.Io.KnownBytes.{Consumes}
 use Rattle.dn_types.specs.declared.call.Call.{Call}
 use Rattle.dn_types.specs.declared.entry.Entry.{Entry}
 use Rattle.dn_text.specs.Joined.{joined_parts}
-use Rattle.dn_files.specs.PacketFile.{packet_limit}
-use Rattle.dn_files.specs.Reading.{IsFaultOf, IsTextOf, ReadsAs, within_limit}
+use Rattle.dn_files.specs.PacketFile.{packet_limit, rows_of}
+use Rattle.dn_files.specs.Reading.{◌>>=◌, IsFaultOf, IsRefusal, IsTextOf, within_limit}
 use Rattle.dn_files.specs.declared.replay_fault.ReplayFault.{ReplayFault}
 use Rattle.dn_files.specs.declared.replay_fault.ReplayFault.TheVariants.{BadRow, Read, Write, TooLong, OutOfMemory, Config, ConfigText, NoSuchPipe, BadRecord, BadCount, PipeHasQueues, NoSuchQueue}
 use Rattle.dn_files.specs.declared.source.Source.{Source}
-use Rattle.dn_files.specs.declared.source.Source.TheVariants.{Input, Packets}
-use Rattle.dn_files.proofs.Inputs.{carried}
+use Rattle.dn_files.specs.declared.source.Source.TheVariants.{Packets}
+use Rattle.dn_files.proofs.Inputs.{carried, short}
 use Rattle.dn_replay.specs.declared.one_pass.input.Input.{Input as TheInput}
 use Rattle.dn_replay.specs.Configuring.{configured_by}
-use Rattle.dn_replay.specs.OnePass.{calls_with, HasTaken, IsAnswered, IsCutAt, IsUnbegun, NoneFailed}
-use Rattle.dn_replay.specs.Replays.{AskFor, AsksFor, calls_of_inputs, calls_of_joined, calls_of_parts, config_calls, IsUnreplayed}
+use Rattle.dn_replay.specs.OnePass.{calls_with, HasTaken, IsAnswered, IsCutAt, IsUnbegun}
+use Rattle.dn_replay.specs.InParts.{calls_asked, source_of}
+use Rattle.dn_replay.specs.Replays.{AskFor, calls_of_inputs, calls_of_joined, calls_of_parts, config_calls, EitherFailed, IsAccepted, IsUnreplayed, TextFailed}
+use Rattle.dn_replay.specs.Runs.{replayed}
 
 -- Nothing has come.
 pub from_start : (input : TheInput) → IsUnbegun input → HasTaken input.pass.records input (λ text. calls_of_parts (joined_parts text)) []
 from_start input unbegun = rw unbegun.stage (refl, unbegun.pass, unbegun.config, λ whole. refl)
+
+-- What an input within its limit asks for.
+abbrev pub Asks : Option (List ℕ) → (List ℕ → Result (List Call) ReplayFault) → Type 0
+Asks config asked = (whole : List ℕ) → calls_asked config whole ≡ (within_limit packet_limit (source_of config) whole >>= asked)
+
+pub joined_asks : Asks None (λ text. calls_of_parts (joined_parts text))
+unfolding calls_of_joined
+joined_asks whole = refl
+
+rows_ask : (calls : List Call) (within : Result (List ℕ) ReplayFault) → ((within >>= rows_of) >>= λ rows. Ok (replayed calls rows)) ≡ (within >>= calls_with calls)
+rows_ask calls (Ok text) = refl
+rows_ask calls (Err fault) = refl
+
+pub packets_ask : (config : List ℕ) (calls : List Call) → config_calls config ≡ Ok calls → Asks (Some config) (calls_with calls)
+unfolding calls_of_inputs
+packets_ask config calls accepted whole = rw accepted (rows_ask calls (within_limit packet_limit Packets whole))
+
+pub asked_within : (config : Option (List ℕ)) (asked : List ℕ → Result (List Call) ReplayFault) (text : List ℕ) → Asks config asked → length text ≤ packet_limit → calls_asked config text ≡ asked text
+asked_within config asked text asks le = asks text ∙ rw (short (source_of config) packet_limit text le) refl
 
 parts_ask : (config packets : List ℕ) (calls : List Call) → configured_by config ≡ Ok calls → calls_of_parts (config, packets) ≡ calls_with calls packets
 parts_ask config packets calls accepted = rw accepted refl
@@ -46,10 +65,6 @@ pub end_begun : (asked : List ℕ → Result (List Call) ReplayFault) (text conf
     → ((whole : List ℕ) → asked whole ≡ calls_of_parts (joined_parts whole)) → joined_parts text ≡ (config, []) → asked text ≡ calls_with calls []
 end_begun asked text config calls accepted same cut = same text ∙ ap calls_of_parts cut ∙ parts_ask config [] calls accepted
 
-pub end_not_begun : (asked : List ℕ → Result (List Call) ReplayFault) (text config : List ℕ) (fault : ReplayFault) → IsFaultOf (configured_by config) fault
-    → ((whole : List ℕ) → asked whole ≡ calls_of_parts (joined_parts whole)) → joined_parts text ≡ (config, []) → IsFaultOf (asked text) fault
-end_not_begun asked text config fault refused same cut = carried (configured_by config) (asked text) fault (λ f e. same text ∙ ap calls_of_parts cut ∙ parts_fault config [] f e) refused
-
 pub stays_refused : (asked : List ℕ → Result (List Call) ReplayFault) (text : List ℕ) (fault : ReplayFault) → ((more : List ℕ) → IsFaultOf (asked (text ++ more)) fault) → IsFaultOf (asked text) fault
 stays_refused asked text fault own = subst (λ (t : List ℕ). IsFaultOf (asked t) fault) (append-nil text) (own [])
 
@@ -71,46 +86,69 @@ pub at_end : (asked : List ℕ → Result (List Call) ReplayFault) (text packets
     → asked text ≡ calls_with calls packets
 at_end asked text packets calls asks = ap asked (sym (append-nil text)) ∙ asks [] ∙ ap (calls_with calls) (append-nil packets)
 
--- A longer text was read.
-pub longer : (known left : Option (List ℕ)) (text : List ℕ) (limit : ℕ) → Consumes known left text → limit < length text → IfSome known (λ bytes. limit < length bytes)
-longer None left text limit taken long = tt
-longer (Some bytes) None text limit taken long = absurd taken
-longer (Some bytes) (Some rest) text limit taken long = let size : length bytes ≡ length text + length rest = ap length taken ∙ length-append text rest in omega (arith, size, long)
+-- A whole text of an input begins with what was read of it.
+pub begins_whole : (known left : Option (List ℕ)) (text : List ℕ) → Consumes known left text → (more : List ℕ) × IsTextOf known (text ++ more)
+begins_whole None left text taken = ([], tt)
+begins_whole (Some bytes) None text taken = absurd taken
+begins_whole (Some bytes) (Some rest) text taken = (rest, sym taken)
 
-pub whole : (known left : Option (List ℕ)) (text : List ℕ) → Consumes known left text → IsAtEnd left → IsTextOf known text
-whole known left text taken ended = Consumes-all known left text [] text taken ended refl
+-- The fault of a text is why an input that holds it is refused.
+module _ {A : Type 0} (source : Source) (read : List ℕ → Result A ReplayFault) (known : Option (List ℕ)) (failed : Bool) (text : List ℕ) (sound : failed ≡ false) (is : IsTextOf known text) where
+  pub refused_for : (fault : ReplayFault) → IsFaultOf (read text) fault → IsRefusal source read known failed fault
+  refused_for OutOfMemory bad = sound
+  refused_for (Read what) bad = absurd bad
+  refused_for (Write what) bad = absurd bad
+  refused_for (Config line f) bad = (sound, (text, is, bad))
+  refused_for (ConfigText line) bad = (sound, (text, is, bad))
+  refused_for (NoSuchPipe line) bad = (sound, (text, is, bad))
+  refused_for (BadRow row field) bad = (sound, (text, is, bad))
+  refused_for (BadRecord number) bad = (sound, (text, is, bad))
+  refused_for (TooLong what) bad = (sound, (text, is, bad))
+  refused_for BadCount bad = (sound, (text, is, bad))
+  refused_for (PipeHasQueues line) bad = (sound, (text, is, bad))
+  refused_for (NoSuchQueue line) bad = (sound, (text, is, bad))
 
--- What the whole text of an input asks for is asked for by the inputs.
-pub inputs_ask : (config packets : Option (List ℕ)) (calls : List Call) (text : List ℕ) → ReadsAs config_calls config calls → IsTextOf packets text → within_limit packet_limit Packets text ≡ Ok text
-    → (asked : Result (List Call) ReplayFault) → calls_with calls text ≡ asked → AskFor config packets asked
-unfolding calls_of_inputs
-inputs_ask config packets calls text reads is within asked e = (reads.0, text, reads.1, is, rw (reads.2, within) e)
+-- The same of a text that goes on behind what was read of it.
+pub refused_behind : {A : Type 0} (source : Source) (read : List ℕ → Result A ReplayFault) (known left : Option (List ℕ)) (failed : Bool) (text part : List ℕ) (fault : ReplayFault)
+    → failed ≡ false → Consumes known left (text ++ part) → ((more : List ℕ) → IsFaultOf (read (text ++ (part ++ more))) fault) → IsRefusal source read known failed fault
+refused_behind source read known left failed text part fault sound taken bad =
+    let (more, is) = begins_whole known left (text ++ part) taken in
+    refused_for source read known failed ((text ++ part) ++ more) sound is fault (subst (λ (t : List ℕ). IsFaultOf (read t) fault) (sym (append_assoc text part more)) (bad more))
 
-pub joined_asks : (input : Option (List ℕ)) (text : List ℕ) → IsTextOf input text → within_limit packet_limit Input text ≡ Ok text
-    → (asked : Result (List Call) ReplayFault) → calls_of_parts (joined_parts text) ≡ asked → AsksFor input asked
-unfolding calls_of_joined
-joined_asks input text is within asked e = (text, is, rw within e)
-
-some_is_none : {A : Type 0} (a : A) → Some a ≡ None → ⊥
-some_is_none a e = cc
+-- Where no history is kept, what is answered says nothing of one.
+pub answered_without : (records : Bool) (Asked : Result (List Call) ReplayFault → Type 0) (entries others : List Entry) (old new : Option (List ℕ)) → records ≡ false
+    → IsAnswered records Asked entries old new → IsAnswered records Asked others old new
+answered_without true Asked entries others old new is told = absurd cc
+answered_without false Asked entries others old new is told = told
 
 -- What became of what is asked for by one became of what is asked for by another.
-module _ (ReadFailed : Option Source → Type 0) (Asked Inputs : Result (List Call) ReplayFault → Type 0) (old new : Option (List ℕ)) (sound : ReadFailed None)
-    (through : (asked : Result (List Call) ReplayFault) → Asked asked → Inputs asked) where
+module _ (Asked Inputs : Result (List Call) ReplayFault → Type 0) (old new : Option (List ℕ)) (through : (asked : Result (List Call) ReplayFault) → Asked asked → Inputs asked) where
   pub answered_through : (records : Bool) (entries : List Entry) → IsAnswered records Asked entries old new → IsAnswered records Inputs entries old new
   answered_through true entries told = (told.0, through (Ok told.0) told.1, told.2)
   answered_through false entries told = (told.0, through (Ok told.0) told.1, told.2, told.3)
 
-  pub unanswered_through : (failed : Bool) (fault : ReplayFault) → IsUnreplayed NoneFailed Asked old new failed fault → IsUnreplayed ReadFailed Inputs old new failed fault
-  unanswered_through failed (Read what) h = absurd (some_is_none what h.0)
-  unanswered_through failed (Write what) h = (sound, (h.1.0, through (Ok h.1.0) h.1.1, h.1.2))
-  unanswered_through failed OutOfMemory h = (sound, h.1)
-  unanswered_through failed (Config l f) h = (sound, through (Err (Config l f)) h.1, h.2)
-  unanswered_through failed (ConfigText l) h = (sound, through (Err (ConfigText l)) h.1, h.2)
-  unanswered_through failed (NoSuchPipe l) h = (sound, through (Err (NoSuchPipe l)) h.1, h.2)
-  unanswered_through failed (BadRow r f) h = (sound, through (Err (BadRow r f)) h.1, h.2)
-  unanswered_through failed (BadRecord n) h = (sound, through (Err (BadRecord n)) h.1, h.2)
-  unanswered_through failed (TooLong s) h = (sound, through (Err (TooLong s)) h.1, h.2)
-  unanswered_through failed BadCount h = (sound, through (Err BadCount) h.1, h.2)
-  unanswered_through failed (PipeHasQueues l) h = (sound, through (Err (PipeHasQueues l)) h.1, h.2)
-  unanswered_through failed (NoSuchQueue l) h = (sound, through (Err (NoSuchQueue l)) h.1, h.2)
+  module _ (Failed InputFailed : Option Source → Type 0) (failures : (what : Option Source) → Failed what → InputFailed what) where
+    pub unanswered_through : (failed : Bool) (fault : ReplayFault) → IsUnreplayed Failed Asked old new failed fault → IsUnreplayed InputFailed Inputs old new failed fault
+    unanswered_through failed (Read what) h = (failures (Some what) h.0, h.1)
+    unanswered_through failed (Write what) h = (failures None h.0, (h.1.0, through (Ok h.1.0) h.1.1, h.1.2))
+    unanswered_through failed OutOfMemory h = (failures None h.0, h.1)
+    unanswered_through failed (Config l f) h = (failures None h.0, through (Err (Config l f)) h.1, h.2)
+    unanswered_through failed (ConfigText l) h = (failures None h.0, through (Err (ConfigText l)) h.1, h.2)
+    unanswered_through failed (NoSuchPipe l) h = (failures None h.0, through (Err (NoSuchPipe l)) h.1, h.2)
+    unanswered_through failed (BadRow r f) h = (failures None h.0, through (Err (BadRow r f)) h.1, h.2)
+    unanswered_through failed (BadRecord n) h = (failures None h.0, through (Err (BadRecord n)) h.1, h.2)
+    unanswered_through failed (TooLong s) h = (failures None h.0, through (Err (TooLong s)) h.1, h.2)
+    unanswered_through failed BadCount h = (failures None h.0, through (Err BadCount) h.1, h.2)
+    unanswered_through failed (PipeHasQueues l) h = (failures None h.0, through (Err (PipeHasQueues l)) h.1, h.2)
+    unanswered_through failed (NoSuchQueue l) h = (failures None h.0, through (Err (NoSuchQueue l)) h.1, h.2)
+
+-- What is asked for behind the text of a configuration is asked for by both inputs.
+pub asked_by_both : (config packets : Option (List ℕ)) (text rows : List ℕ) → IsTextOf config text → IsTextOf packets rows
+    → (asked : Result (List Call) ReplayFault) → calls_asked (Some text) rows ≡ asked → AskFor config packets asked
+asked_by_both config packets text rows is_config is_packets asked e = (text, rows, is_config, is_packets, e)
+
+-- A read of the packets failed behind a configuration that was accepted, or none did.
+pub either_failed : (config : Option (List ℕ)) (config_failed failed : Bool) → config_failed ≡ false → IsAccepted config → (what : Option Source) → TextFailed Packets failed what
+    → EitherFailed config config_failed failed what
+either_failed config config_failed failed sound accepted None h = (sound, h)
+either_failed config config_failed failed sound accepted (Some what) h = rw h.0 (sound, h.1, accepted)

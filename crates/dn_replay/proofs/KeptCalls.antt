@@ -6,13 +6,11 @@ use Rattle.dn_types.specs.declared.call.Call.TheVariants.{Configure}
 use Rattle.dn_types.specs.declared.command.Command.{Command}
 use Rattle.dn_types.specs.declared.rule.Rule.TheVariants.{Ordered}
 use Rattle.dn_text.specs.Lines.{lines_of}
-use Rattle.dn_files.specs.ConfigFile.{command_at, config_limit}
-use Rattle.dn_files.specs.Reading.{◌>>=◌, ReadsAs, within_limit}
+use Rattle.dn_files.specs.ConfigFile.{command_at}
+use Rattle.dn_files.specs.Reading.{◌>>=◌}
 use Rattle.dn_files.specs.declared.replay_fault.ReplayFault.{ReplayFault}
-use Rattle.dn_files.specs.declared.source.Source.TheVariants.{Config}
 use Rattle.dn_replay.specs.Configuring.{applied, configured_by, configured_from, refusal, unless}
 use Rattle.dn_replay.specs.Kept.{HasKept}
-use Rattle.dn_replay.specs.Replays.{config_calls}
 use Rattle.dn_replay.specs.declared.report.kept.Kept.{Kept}
 use Rattle.dn_replay.proofs.KeptSteps.{kept-configured}
 
@@ -38,11 +36,3 @@ kept_from kept calls number (line ∷ lines) after e h =
 
 pub kept-configuration : (kept : Kept) (text : List ℕ) (calls : List Call) → configured_by text ≡ Ok calls → HasKept kept [] → HasKept kept calls
 kept-configuration kept text calls e h = kept_from kept [] 1 (lines_of text) calls e h
-
--- The same of what an input may have held.
-pub kept-reading : (kept : Kept) (known : Option (List ℕ)) (calls : List Call) → ReadsAs config_calls known calls → HasKept kept [] → HasKept kept calls
-kept-reading kept known calls reads h = by (within_limit config_limit Config reads.0) reads.2
-  where
-    by : (o : Result (List ℕ) ReplayFault) → (o >>= configured_by) ≡ Ok calls → HasKept kept calls
-    by (Err fault) e = absurd cc
-    by (Ok text) e = kept-configuration kept text calls e h

@@ -18,6 +18,7 @@ pub mod OtherSteps
 pub mod OwnFaults
 pub mod PacketNumbers
 pub mod PartSteps
+pub mod PartsCome
 pub mod PassSteps
 pub mod PassingCalls
 pub mod PassingTraffic

@@ -7,14 +7,13 @@ use Rattle.dn_types.specs.Replies.{reply}
 use Rattle.dn_types.specs.declared.call.Call.{Call}
 use Rattle.dn_types.specs.declared.entry.Entry.{Entry}
 use Rattle.dn_types.specs.declared.rule.Rule.TheVariants.{Ordered}
-use Rattle.dn_files.specs.PacketFile.{packet_file, packet_limit}
-use Rattle.dn_files.specs.Reading.{within_limit, IsFaultOf, IsRefusal, IsRefusedFor, IsTextOf, ReadsAs}
-use Rattle.dn_replay.specs.Replays.{AskFor, calls_of_inputs, calls_of_joined, config_calls, IsReplayed, IsUnread, IsUnreplayed, IsUnreported}
+use Rattle.dn_files.specs.PacketFile.{packet_file}
+use Rattle.dn_files.specs.Reading.{IsFaultOf, IsRefusal, IsRefusedFor, IsTextOf, ReadsAs}
+use Rattle.dn_replay.specs.Replays.{AskFor, calls_of_inputs, config_calls, IsReplayed, IsUnread, IsUnreplayed, IsUnreported}
 use Rattle.dn_replay.specs.Runs.{entry_after, history_of}
 use Rattle.dn_files.specs.declared.replay_fault.ReplayFault.{ReplayFault}
 use Rattle.dn_files.specs.declared.replay_fault.ReplayFault.TheVariants.{BadRow, Read, Write, TooLong, OutOfMemory, Config, ConfigText, NoSuchPipe, BadRecord, BadCount, PipeHasQueues, NoSuchQueue}
 use Rattle.dn_files.specs.declared.source.Source.{Source}
-use Rattle.dn_files.specs.declared.source.Source.TheVariants.{Input}
 use Rattle.dn_types.proofs.Histories.{calls_of-more, lawful-more}
 
 pub keeps : (known : Option (List ℕ)) → Keeps known known
@@ -129,8 +128,3 @@ pub packet_fault : (config packets : Option (List ℕ)) (calls : List Call) (fau
     → AskFor config packets (Err fault)
 unfolding calls_of_inputs
 packet_fault config packets calls fault c p = (c.0, p.0, c.1, p.1, rw (c.2, p.2) refl)
-
--- The same of one joined input that is too long.
-pub joined_input_fault : (text : List ℕ) (fault : ReplayFault) → within_limit packet_limit Input text ≡ Err fault → calls_of_joined text ≡ Err fault
-unfolding calls_of_joined
-joined_input_fault text fault whole = rw whole refl

@@ -1,11 +1,11 @@
 -- The audit of a history file: the verdict on the history in it by its own rule, and the line that tells the verdict.
-use Rattle.std.specs.Prelude.{◌≡◌, ℕ, Bool, false, List, ◌++◌, length, codes, decimal, Option, None, Some, Result, Ok}
+use Rattle.std.specs.Prelude.{◌≡◌, ◌≤◌, ℕ, Bool, false, List, ◌++◌, length, codes, decimal, Option, None, Some, Result, Ok}
 use Rattle.std.specs.Io.KnownBytes.{Appends}
 use Rattle.dn_types.specs.declared.entry.Entry.{Entry}
 use Rattle.dn_types.specs.declared.rule.Rule.{Rule}
 use Rattle.dn_replay.specs.Audit.{HasAudited, IsVerdict}
 use Rattle.dn_history.specs.HistoryFaults.{IsHistoryFault}
-use Rattle.dn_history.specs.HistoryFile.{history_file, history_in}
+use Rattle.dn_history.specs.HistoryFile.{history_file, history_in, history_limit}
 use Rattle.dn_history.specs.HistoryParts.{HasRead}
 use Rattle.dn_history.specs.HistoryRecords.{rule_of}
 use Rattle.dn_files.specs.Reading.{IsRefusal, ReadsAs}
@@ -14,7 +14,7 @@ use Rattle.dn_files.specs.Writing.{IsUnwritten}
 use Rattle.dn_files.specs.declared.replay_fault.ReplayFault.{ReplayFault}
 use Rattle.dn_files.specs.declared.replay_fault.ReplayFault.TheVariants.{Write}
 use Rattle.dn_files.specs.declared.source.Source.TheVariants.{History, Report}
-use Rattle.dn_replay.specs.declared.file_audit.input_audit.InputAudit.{InputAudit}
+use Rattle.dn_replay.specs.declared.file_audit.file_audit.FileAudit.{FileAudit}
 use Rattle.dn_replay.specs.declared.file_audit.parts_audit.PartsAudit.{PartsAudit}
 use Rattle.dn_replay.specs.declared.running_audit.RunningAudit.{RunningAudit}
 use Rattle.dn_replay.specs.declared.verdict.Verdict.{Verdict}
@@ -40,8 +40,14 @@ abbrev pub IsTakenBy : Option PartsAudit → List ℕ → List ℕ → Type 0
 IsTakenBy None kept text = kept ≡ text
 IsTakenBy (Some begun) kept text = IsAuditing begun text
 
-abbrev pub HasTaken : InputAudit → List ℕ → Type 0
+abbrev pub HasTaken : FileAudit → List ℕ → Type 0
 HasTaken audit text = IsTakenBy audit.begun audit.front.items text
+
+-- The same of a text within its limit.
+pub record HasCome (audit : FileAudit) (text : List ℕ) : Type 0 where
+  pub size : audit.length ≡ length text
+  pub short : length text ≤ history_limit
+  pub taken : HasTaken audit text
 
 -- A text is a history of this many entries with this verdict by its own rule.
 abbrev pub HasVerdict : List ℕ → Verdict → ℕ → Type 0

@@ -3,6 +3,7 @@ pub mod CallerReplays
 pub mod Callers
 pub mod Configuring
 pub mod FileAudit
+pub mod InParts
 pub mod Kept
 pub mod OnePass
 pub mod Parts

@@ -50,10 +50,13 @@ EitherFailed config config_failed packets_failed (Some Config) = (config_failed 
 EitherFailed config config_failed packets_failed (Some Packets) = (config_failed ≡ false) × (packets_failed ≡ true) × IsAccepted config
 EitherFailed config config_failed packets_failed (Some _) = ⊥
 
--- The same of the one input.
+-- The same of one input, by its name.
+abbrev pub TextFailed : Source → Bool → Option Source → Type 0
+TextFailed source failed None = failed ≡ false
+TextFailed source failed (Some what) = (what ≡ source) × (failed ≡ true)
+
 abbrev pub InputFailed : Bool → Option Source → Type 0
-InputFailed failed None = failed ≡ false
-InputFailed failed (Some what) = (what ≡ Input) × (failed ≡ true)
+InputFailed = TextFailed Input
 
 -- Why the inputs weren't read. Each fault but a failed read comes only where no read failed.
 abbrev pub IsUnread : (Option Source → Type 0) → (Result (List Call) ReplayFault → Type 0) → ReplayFault → Type 0

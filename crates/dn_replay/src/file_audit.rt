@@ -7,14 +7,14 @@ ghost use Rattle.dn_history.specs.HistoryFile.{history_file, history_limit};
 ghost use Rattle.dn_replay.specs.FileAudit.{HasVerdict, IsAuditFault, IsAudited, IsUnaudited, verdict_line};
 
 mod entries;
-mod input_audit;
+mod file_audit;
 mod parts_audit;
 
-use crate::file_audit::input_audit::InputAudit;
 use crate::verdict::Verdict;
 use dn_files::{ReplayFault, Source, write_text};
 use dn_records::{Inlet, Outlet};
 use dn_shaper::HashKey;
+pub use file_audit::FileAudit;
 use std::alloc::{AllocError, Global};
 
 /// The line that tells a verdict on a history of this many entries.
@@ -40,10 +40,10 @@ fn audit_input<I: Inlet>(
     ensures err { IfErr result (λ fault. IsRefusal History history_file
         (I.remaining history.old) (I.has_failed history.new) fault) }
 {
-    let mut audit = InputAudit::new(alloc, key);
+    let mut audit = FileAudit::new(alloc, key);
     let read = audit.read(history);
     let found = match read {
-        Ok(()) => audit.end(),
+        Ok(()) => audit.finish(),
         Err(fault) => Err(fault),
     };
     // The proof of a drop by a call has one step, where that of a drop at the end has one for each field.

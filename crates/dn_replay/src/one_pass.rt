@@ -2,9 +2,11 @@
 //! kept where it is asked for.
 
 mod config_part;
+mod file_replay;
 mod input;
 mod pass;
 mod replays;
 mod stage;
 
+pub use file_replay::FileReplay;
 pub use replays::{replay, replay_joined, replay_joined_report, replay_report};

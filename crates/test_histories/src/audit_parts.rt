@@ -1,5 +1,5 @@
 use crate::history::ONE_CALLER;
-use dn_replay::{FromReader, FromWriter, HashKey, ReplayFault, Verdict, audit_file};
+use dn_replay::{FileAudit, FromReader, FromWriter, HashKey, ReplayFault, Verdict, audit_file};
 use std::alloc::Global;
 use std::test::Fail;
 use test_devices::Parts;
@@ -7,7 +7,17 @@ use test_devices::Parts;
 // How many bytes a read gives at most.
 const STEPS: [usize; 6] = [1, 2, 3, 7, 64, 65_536];
 
-// Whether the audit of a file that comes in such steps answers this, and writes this line or nothing.
+// What the audit of a file finds that is fed in such parts.
+fn fed(alloc: Global, file: &str, step: usize) -> Result<Verdict, ReplayFault> {
+    let mut audit = FileAudit::new(alloc, HashKey(7));
+    for part in file.as_bytes().chunks(step.max(1)) {
+        audit.feed(part)?;
+    }
+    let (verdict, _) = audit.finish()?;
+    Ok(verdict)
+}
+
+// Whether the audit of a file that comes in such steps answers this, read or fed, and writes this line or nothing.
 fn audits(
     alloc: Global,
     file: &str,
@@ -19,7 +29,7 @@ fn audits(
     let mut input = FromReader::new(Parts::of(file.as_bytes(), step));
     let mut out = FromWriter::new(&mut written);
     let found = audit_file(alloc, HashKey(7), &mut input, &mut out);
-    found == answer && written.as_slice() == line.as_bytes()
+    found == answer && written.as_slice() == line.as_bytes() && fed(alloc, file, step) == answer
 }
 
 // Whether it does so in steps of each length.

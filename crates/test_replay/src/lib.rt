@@ -4,6 +4,8 @@
 #[cfg(test)]
 mod broken;
 #[cfg(test)]
+mod fed;
+#[cfg(test)]
 mod headers;
 #[cfg(test)]
 mod memory;

@@ -1,0 +1,92 @@
+use crate::broken::{FULL_QUEUE, REPORT};
+use crate::headers::PACKET_HEADER;
+use dn_records::FromWriter;
+use dn_replay::{FileReplay, HashKey, ReplayFault, Source};
+use dn_text::split_joined;
+use std::alloc::{AllocError, Global};
+use std::test::Fail;
+
+// How long the parts of a text are.
+const STEPS: [usize; 6] = [1, 2, 3, 7, 64, 65_536];
+
+// Feeds a replay a text in parts of a length, and answers how many entries its history has. What it writes is added
+// to `written`.
+fn fed(
+    mut replay: FileReplay,
+    text: &[u8],
+    step: usize,
+    written: &mut Vec<u8>,
+) -> Result<usize, ReplayFault> {
+    for part in text.chunks(step.max(1)) {
+        replay.feed(part)?;
+    }
+    let entries = replay.finish(&mut FromWriter::new(written))?;
+    Ok(entries.len())
+}
+
+// What is answered and written of the worked example of a full queue, as a joined input and as two.
+fn gives_the_report(alloc: Global, step: usize) -> bool {
+    let mut written = Vec::new(alloc);
+    let joined = FileReplay::joined(alloc, HashKey(7), true);
+    let answer = fed(joined, FULL_QUEUE.as_bytes(), step, &mut written);
+    if answer != Ok(6) || written.as_slice() != REPORT.as_bytes() {
+        return false;
+    }
+    written.clear();
+    let (config, packets) = split_joined(FULL_QUEUE.as_bytes());
+    let Ok(behind) = FileReplay::behind(alloc, HashKey(7), true, config) else {
+        return false;
+    };
+    fed(behind, packets, step, &mut written) == Ok(6) && written.as_slice() == REPORT.as_bytes()
+}
+
+#[test]
+fn a_text_that_is_fed_in_parts_gives_its_report(rt: HostRuntime) {
+    for step in STEPS {
+        assert!(rt; gives_the_report(rt.alloc(), step), "{step} bytes");
+    }
+}
+
+// A bad row is told when the text has ended, behind rows that came later.
+#[test]
+fn a_bad_row_is_told_at_the_end(rt: HostRuntime) -> Result<(), AllocError> {
+    let rows = "0,pipe,1,10.0.0.1,10.0\n0,pipe,1,10.0.0.1,10.0.0.2,17,1000,2000,1000,0\n";
+    let text = format!(in rt.alloc(); "pipe 1 config\n--\n{PACKET_HEADER}{rows}")?;
+    for step in STEPS {
+        let mut written = Vec::new(rt.alloc());
+        let joined = FileReplay::joined(rt.alloc(), HashKey(7), false);
+        let answer = fed(joined, text.as_bytes(), step, &mut written);
+        assert_eq!(rt;
+            answer,
+            Err(ReplayFault::BadRow { row: 1, field: 0 }),
+            "{step} bytes"
+        );
+        assert!(rt; written.is_empty(), "{step} bytes");
+    }
+    Ok(())
+}
+
+#[test]
+fn a_refused_configuration_makes_no_replay(rt: HostRuntime) -> Result<(), Fail> {
+    let config = b"queue 1 config pipe 3\n";
+    match FileReplay::behind(rt.alloc(), HashKey(7), false, config) {
+        Ok(_) => assert!(rt; false, "the queue's pipe isn't configured"),
+        Err(fault) => assert_eq!(rt; fault, ReplayFault::NoSuchPipe(1)),
+    }
+    Ok(())
+}
+
+// Of a text that is one byte too long no part is taken, and the replay goes on without it.
+#[test]
+fn a_text_that_is_too_long_is_refused(rt: HostRuntime) -> Result<(), AllocError> {
+    let long = vec![in rt.alloc(); b'\n'; 67_108_865]?;
+    let mut written = Vec::new(rt.alloc());
+    let mut replay = FileReplay::joined(rt.alloc(), HashKey(7), false);
+    assert_eq!(rt;
+        replay.feed(long.as_slice()),
+        Err(ReplayFault::TooLong(Source::Input))
+    );
+    assert_eq!(rt; fed(replay, FULL_QUEUE.as_bytes(), 64, &mut written), Ok(0));
+    assert_eq!(rt; written.as_slice(), REPORT.as_bytes());
+    Ok(())
+}
