@@ -16,4 +16,5 @@ pub mod PlainForms
 pub mod PlainRecords
 pub mod Remarks
 pub mod RepliesBack
+pub mod VersionLines
 pub mod WholeRecords

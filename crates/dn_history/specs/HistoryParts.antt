@@ -53,6 +53,10 @@ pub record BeginsHistory (text : List ℕ) (version : HistoryVersion) (rest : Li
   pub tells : version_of (codes "dummynet-history" ∷ digit ∷ []) ≡ Ok version
   pub stands : text ≡ line_of (codes "dummynet-history" ∷ digit ∷ []) ++ rest
 
+-- A text begins with no line that tells a version.
+abbrev pub BeginsNoHistory : List ℕ → Type 0
+BeginsNoHistory text = (version : HistoryVersion) (rest : List ℕ) → ¬ BeginsHistory text version rest
+
 -- The state of csv's reader behind a text.
 unfoldable pub state_after : State → List ℕ → State
 state_after state [] = state

@@ -1,12 +1,12 @@
-ghost use Rattle.std.specs.Prelude.{IfSome};
-ghost use Rattle.dn_history.specs.HistoryParts.{BeginsHistory};
+ghost use Rattle.std.specs.Prelude.{MatchOption};
+ghost use Rattle.dn_history.specs.HistoryParts.{BeginsHistory, BeginsNoHistory};
 
 use crate::history_version::HistoryVersion;
 
 /// The version that a text tells in the line at its front, and what stands behind that line. None where it
 /// begins otherwise, or the line has quotes.
 pub(crate) fn header_at_front(text: &[u8]) -> Option<(HistoryVersion, &[u8])>
-    ensures { IfSome result (λ p. BeginsHistory text.now p.0 p.1.now) }
+    ensures { MatchOption result (BeginsNoHistory text.now) (λ p. BeginsHistory text.now p.0 p.1.now) }
 {
     if let Some(rest) = text.strip_prefix(b"dummynet-history,3\n") {
         return Some((HistoryVersion::Third, rest));

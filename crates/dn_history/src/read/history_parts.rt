@@ -1,7 +1,7 @@
-ghost use Rattle.std.specs.Prelude.{◌≡◌, ◌<◌, ◌^◌, ◌+◌, ◌++◌, [], ◌∷◌, ℕ, List, length, IfOk, IfSome, OnErr, OnOk};
+ghost use Rattle.std.specs.Prelude.{◌≡◌, ◌<◌, ◌^◌, ◌+◌, ◌++◌, [], ◌∷◌, ℕ, List, length, IfOk, MatchOption, OnErr, OnOk};
 ghost use Rattle.dn_types.specs.declared.entry.Entry.{Entry as EntryValue};
 ghost use Rattle.dn_history.specs.HistoryFile.{history_in};
-ghost use Rattle.dn_history.specs.HistoryParts.{HasRead, history_behind};
+ghost use Rattle.dn_history.specs.HistoryParts.{BeginsNoHistory, HasRead, history_behind};
 ghost use Rattle.dn_history.specs.HistoryRecords.{rule_of};
 
 use crate::history_version::HistoryVersion;
@@ -57,7 +57,7 @@ impl HistoryParts {
     /// The parts of a history that begins with this text. None where it doesn't begin with the whole line
     /// of a version, written plainly.
     pub fn new(alloc: Global, text: &[u8]) -> Result<Option<HistoryParts>, AllocError>
-        ensures { IfOk result (λ found. IfSome found (λ parts. HasRead parts text.now [])) }
+        ensures { IfOk result (λ found. MatchOption found (BeginsNoHistory text.now) (λ parts. HasRead parts text.now [])) }
     {
         let Some((version, rest)) = header_at_front(text) else {
             return Ok(None);

@@ -1,4 +1,4 @@
-use Rattle.std.proofs.Common.{refl, Some, [], ◌∷◌}
+use Rattle.std.proofs.Common.{refl, None, Some, [], ◌∷◌}
 use Rattle.std.specs.Prelude.{codes}
 use Rattle.std.proofs.lemmas.Bool.Decides.{Decides-eqb}
 use Rattle.std.proofs.lemmas.Slice.Eq.{strip_prefix_is}
@@ -6,6 +6,7 @@ use Rattle.csv.specs.Records.{field_at}
 use Rattle.csv.specs.Writing.{fields_text, is_blank}
 use Rattle.dn_records.specs.Records.{line_of}
 use Rattle.dn_history.specs.HistoryRecords.{version_of}
+use Rattle.dn_history.proofs.VersionLines.{none-begins, version_line}
 use Rattle.dn_history.proofs.read.header.header_at_front.Goals as goal
 
 pub returns-in-Some : goal.returns-in-Some
@@ -31,3 +32,10 @@ returns-in-Some-strip_prefix-2 c = record {
   tells = refl;
   stands = strip_prefix_is Decides-eqb c.args.text.now (line_of (codes "dummynet-history" ∷ codes "1" ∷ [])) (Some c.in-Some-strip_prefix-2.rest) c.in-Some-strip_prefix-2.ensures.cases;
 }
+
+pub returns : goal.returns
+unfolding fields_text is_blank
+returns c = none-begins c.args.text.now
+    (strip_prefix_is Decides-eqb c.args.text.now (version_line (codes "3")) None c.in_default.ensures.cases)
+    (strip_prefix_is Decides-eqb c.args.text.now (version_line (codes "2")) None c.in_default-strip_prefix.ensures.cases)
+    (strip_prefix_is Decides-eqb c.args.text.now (version_line (codes "1")) None c.in_default-strip_prefix-2.ensures.cases)
