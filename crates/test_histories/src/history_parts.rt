@@ -33,9 +33,37 @@ fn entries_are_given_once_they_have_come(rt: HostRuntime) -> Result<(), Fail> {
 }
 
 #[test]
+fn the_plain_line_of_a_version_begins_parts(rt: HostRuntime) -> Result<(), Fail> {
+    let alloc = rt.alloc();
+    for (text, rule) in [
+        ("dummynet-history,1\n", Rule::Free),
+        ("dummynet-history,2\nend,0\n", Rule::Free),
+        ("dummynet-history,3\n", Rule::Ordered),
+    ] {
+        let parts = HistoryParts::new(alloc, text.as_bytes())?.ok_or("the line of a version")?;
+        assert!(rt; parts.rule() == rule);
+        assert!(rt; parts.given() == 0);
+    }
+    Ok(())
+}
+
+#[test]
 fn another_first_line_begins_no_parts(rt: HostRuntime) -> Result<(), Fail> {
     let alloc = rt.alloc();
-    assert!(rt; HistoryParts::new(alloc, b"dummynet-history,4\n")?.is_none());
-    assert!(rt; HistoryParts::new(alloc, b"dummynet-history,3")?.is_none());
+    for text in [
+        "",
+        "dummynet-history,3",
+        "dummynet-history,3\r\n",
+        "\"dummynet-history\",3\n",
+        "dummynet-history,\"3\"\n",
+        "dummynet-history,4\n",
+        "dummynet-history,03\n",
+        "dummynet-history, 3\n",
+        "dummynet-history,3 \n",
+        "dummynet-history,3,\n",
+        "\ndummynet-history,3\n",
+    ] {
+        assert!(rt; HistoryParts::new(alloc, text.as_bytes())?.is_none());
+    }
     Ok(())
 }
