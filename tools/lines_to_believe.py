@@ -19,8 +19,8 @@ HEADLINES = [
     ("`Shaper::apply`", "dn_shaper", "apply"),
     ("`replay`", "dn_replay", "replay"),
     ("`replay_callers`", "dn_replay", "replay_callers"),
-    ("`audit`", "dn_replay", "audit"),
-    ("`audit_file`", "dn_replay", "audit_file"),
+    ("`audit`", "dn_audit", "audit"),
+    ("`audit_file`", "dn_audit", "audit_file"),
     ("`parse_line`", "dn_config", "parse_line"),
 ]
 

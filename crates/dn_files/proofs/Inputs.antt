@@ -1,5 +1,6 @@
 -- Inputs and their faults.
-use Rattle.std.proofs.Common.{◌≡◌, ℕ, Bool, true, false, List, Option, Some, None, Result, Ok, Err, refl, arith, length, replicate, ◌<◌, ◌≤◌, ◌+◌, nat_le}
+use Rattle.std.proofs.Common.{◌≡◌, ℕ, Bool, true, false, List, [], ◌++◌, Option, Some, None, Result, Ok, Err, refl, sym, subst, append_assoc, arith, length, replicate, ◌<◌, ◌≤◌, ◌+◌, nat_le}
+use Rattle.std.specs.Io.KnownBytes.{Consumes}
 use Rattle.std.specs.Prelude.{IfSome}
 use Rattle.std.proofs.lemmas.Bool.Decides.{nat_tests}
 use Rattle.std.proofs.lemmas.List.{length-replicate}
@@ -67,3 +68,32 @@ carried read whole (TooLong source) h is = h (TooLong source) is
 carried read whole BadCount h is = h BadCount is
 carried read whole (PipeHasQueues line) h is = h (PipeHasQueues line) is
 carried read whole (NoSuchQueue line) h is = h (NoSuchQueue line) is
+
+-- A whole text of an input begins with what was read of it.
+pub begins_whole : (known left : Option (List ℕ)) (text : List ℕ) → Consumes known left text → (more : List ℕ) × IsTextOf known (text ++ more)
+begins_whole None left text taken = ([], tt)
+begins_whole (Some bytes) None text taken = absurd taken
+begins_whole (Some bytes) (Some rest) text taken = (rest, sym taken)
+
+-- The fault of a text is why an input that holds it is refused.
+module _ {A : Type 0} (source : Source) (read : List ℕ → Result A ReplayFault) (known : Option (List ℕ)) (failed : Bool) (text : List ℕ) (sound : failed ≡ false) (is : IsTextOf known text) where
+  pub refused_for : (fault : ReplayFault) → IsFaultOf (read text) fault → IsRefusal source read known failed fault
+  refused_for OutOfMemory bad = sound
+  refused_for (Read what) bad = absurd bad
+  refused_for (Write what) bad = absurd bad
+  refused_for (Config line f) bad = (sound, (text, is, bad))
+  refused_for (ConfigText line) bad = (sound, (text, is, bad))
+  refused_for (NoSuchPipe line) bad = (sound, (text, is, bad))
+  refused_for (BadRow row field) bad = (sound, (text, is, bad))
+  refused_for (BadRecord number) bad = (sound, (text, is, bad))
+  refused_for (TooLong what) bad = (sound, (text, is, bad))
+  refused_for BadCount bad = (sound, (text, is, bad))
+  refused_for (PipeHasQueues line) bad = (sound, (text, is, bad))
+  refused_for (NoSuchQueue line) bad = (sound, (text, is, bad))
+
+-- The same of a text that goes on behind what was read of it.
+pub refused_behind : {A : Type 0} (source : Source) (read : List ℕ → Result A ReplayFault) (known left : Option (List ℕ)) (failed : Bool) (text part : List ℕ) (fault : ReplayFault)
+    → failed ≡ false → Consumes known left (text ++ part) → ((more : List ℕ) → IsFaultOf (read (text ++ (part ++ more))) fault) → IsRefusal source read known failed fault
+refused_behind source read known left failed text part fault sound taken bad =
+    let (more, is) = begins_whole known left (text ++ part) taken in
+    refused_for source read known failed ((text ++ part) ++ more) sound is fault (subst (λ (t : List ℕ). IsFaultOf (read t) fault) (sym (append_assoc text part more)) (bad more))

@@ -1,5 +1,6 @@
 -- A replay by several callers, and why there is none, step by step.
 use Rattle.std.proofs.Common.{◌≡◌, ◌∙◌, ap, subst, ℕ, Bool, false, List, Option, None}
+use Rattle.std.proofs.KnownBytes.{Keeps-refl}
 use Rattle.dn_types.specs.History.{calls_of}
 use Rattle.dn_types.specs.declared.call.Call.{Call}
 use Rattle.dn_types.specs.declared.entry.Entry.{Entry}
@@ -16,7 +17,7 @@ use Rattle.dn_files.specs.declared.row.Row.{Row}
 use Rattle.dn_files.specs.declared.source.Source.{Source}
 use Rattle.dn_files.specs.declared.source.Source.TheVariants.{Report}
 use Rattle.dn_replay.proofs.OwnFaults.{no_count_asked}
-use Rattle.dn_replay.proofs.ReplaySteps.{keeps, made, unreplayed}
+use Rattle.dn_replay.proofs.ReplaySteps.{made, unreplayed}
 
 -- The callers' history is one of what two inputs were read as, where the commands are those of the configuration's run.
 pub callers_replay : (n : ℕ) (config packets : Option (List ℕ)) (calls : List Call) (rows : List Row) (commands entries : List Entry) → ReadsAs config_calls config calls
@@ -34,8 +35,8 @@ module _ (n : ℕ) (Unread : Type 0) (ReadFailed : Option Source → Type 0) (co
   -- There are no callers.
   pub unopened : (known : Option (List ℕ)) (failed : Bool) (fault : ReplayFault) → Unread → ReadFailed None → failed ≡ false → IsUnopened n fault
       → IsUnreplayedByCallers n Unread ReadFailed config packets known known failed fault
-  unopened known failed BadCount unread sound whole h = (h, unread, sound, (whole, keeps known))
-  unopened known failed OutOfMemory unread sound whole h = (h, (sound, (whole, keeps known)))
+  unopened known failed BadCount unread sound whole h = (h, unread, sound, (whole, Keeps-refl known))
+  unopened known failed OutOfMemory unread sound whole h = (h, (sound, (whole, Keeps-refl known)))
   unopened known failed (Write what) unread sound whole h = absurd h
   unopened known failed (Read what) unread sound whole h = absurd h
   unopened known failed (Config l f) unread sound whole h = absurd h

@@ -1,11 +1,10 @@
 -- What an input asks for, and what became of it, by the parts of it.
 use Rattle.std.proofs.Common.{◌≡◌, ◌∙◌, ℕ, ◌≤◌, Bool, true, false, List, [], ◌++◌, length, Option, Some, None, Result, Ok, Err, refl, sym, ap, subst, append_assoc, append-nil}
-use Rattle.std.specs.Io.KnownBytes.{Consumes}
 use Rattle.dn_types.specs.declared.call.Call.{Call}
 use Rattle.dn_types.specs.declared.entry.Entry.{Entry}
 use Rattle.dn_text.specs.Joined.{joined_parts}
 use Rattle.dn_files.specs.PacketFile.{packet_limit, rows_of}
-use Rattle.dn_files.specs.Reading.{◌>>=◌, IsFaultOf, IsRefusal, IsTextOf, within_limit}
+use Rattle.dn_files.specs.Reading.{◌>>=◌, IsFaultOf, IsTextOf, within_limit}
 use Rattle.dn_files.specs.declared.replay_fault.ReplayFault.{ReplayFault}
 use Rattle.dn_files.specs.declared.replay_fault.ReplayFault.TheVariants.{BadRow, Read, Write, TooLong, OutOfMemory, Config, ConfigText, NoSuchPipe, BadRecord, BadCount, PipeHasQueues, NoSuchQueue}
 use Rattle.dn_files.specs.declared.source.Source.{Source}
@@ -85,35 +84,6 @@ packets_come asked text packets part calls asks more = regroup asked text part m
 pub at_end : (asked : List ℕ → Result (List Call) ReplayFault) (text packets : List ℕ) (calls : List Call) → ((more : List ℕ) → asked (text ++ more) ≡ calls_with calls (packets ++ more))
     → asked text ≡ calls_with calls packets
 at_end asked text packets calls asks = ap asked (sym (append-nil text)) ∙ asks [] ∙ ap (calls_with calls) (append-nil packets)
-
--- A whole text of an input begins with what was read of it.
-pub begins_whole : (known left : Option (List ℕ)) (text : List ℕ) → Consumes known left text → (more : List ℕ) × IsTextOf known (text ++ more)
-begins_whole None left text taken = ([], tt)
-begins_whole (Some bytes) None text taken = absurd taken
-begins_whole (Some bytes) (Some rest) text taken = (rest, sym taken)
-
--- The fault of a text is why an input that holds it is refused.
-module _ {A : Type 0} (source : Source) (read : List ℕ → Result A ReplayFault) (known : Option (List ℕ)) (failed : Bool) (text : List ℕ) (sound : failed ≡ false) (is : IsTextOf known text) where
-  pub refused_for : (fault : ReplayFault) → IsFaultOf (read text) fault → IsRefusal source read known failed fault
-  refused_for OutOfMemory bad = sound
-  refused_for (Read what) bad = absurd bad
-  refused_for (Write what) bad = absurd bad
-  refused_for (Config line f) bad = (sound, (text, is, bad))
-  refused_for (ConfigText line) bad = (sound, (text, is, bad))
-  refused_for (NoSuchPipe line) bad = (sound, (text, is, bad))
-  refused_for (BadRow row field) bad = (sound, (text, is, bad))
-  refused_for (BadRecord number) bad = (sound, (text, is, bad))
-  refused_for (TooLong what) bad = (sound, (text, is, bad))
-  refused_for BadCount bad = (sound, (text, is, bad))
-  refused_for (PipeHasQueues line) bad = (sound, (text, is, bad))
-  refused_for (NoSuchQueue line) bad = (sound, (text, is, bad))
-
--- The same of a text that goes on behind what was read of it.
-pub refused_behind : {A : Type 0} (source : Source) (read : List ℕ → Result A ReplayFault) (known left : Option (List ℕ)) (failed : Bool) (text part : List ℕ) (fault : ReplayFault)
-    → failed ≡ false → Consumes known left (text ++ part) → ((more : List ℕ) → IsFaultOf (read (text ++ (part ++ more))) fault) → IsRefusal source read known failed fault
-refused_behind source read known left failed text part fault sound taken bad =
-    let (more, is) = begins_whole known left (text ++ part) taken in
-    refused_for source read known failed ((text ++ part) ++ more) sound is fault (subst (λ (t : List ℕ). IsFaultOf (read t) fault) (sym (append_assoc text part more)) (bad more))
 
 -- Where no history is kept, what is answered says nothing of one.
 pub answered_without : (records : Bool) (Asked : Result (List Call) ReplayFault → Type 0) (entries others : List Entry) (old new : Option (List ℕ)) → records ≡ false

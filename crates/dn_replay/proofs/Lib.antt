@@ -1,11 +1,9 @@
-pub mod AuditSteps
 pub mod CallerRows
 pub mod CallerSteps
 pub mod ConfigCuts
 pub mod Deliveries
 pub mod EachCaller
 pub mod FewCalls
-pub mod FileAuditSteps
 pub mod InputSteps
 pub mod KeptCalls
 pub mod KeptOrder
@@ -24,4 +22,3 @@ pub mod PassingCalls
 pub mod PassingTraffic
 pub mod ReplaySteps
 pub mod Runs
-pub mod SameReplies

@@ -1,6 +1,6 @@
 -- Why a replay isn't made, step by step.
 use Rattle.std.proofs.Common.{◌≡◌, ◌∙◌, ℕ, ◌<◌, Bool, true, false, List, [], ◌∷◌, Option, Some, None, Result, Ok, Err, refl, sym, ap, All, arith}
-use Rattle.std.specs.Io.KnownBytes.{Keeps}
+use Rattle.std.proofs.KnownBytes.{Keeps-refl}
 use Rattle.std.proofs.lemmas.List.Elements.{All-nil, All-push}
 use Rattle.dn_types.specs.History.{IsLawful, calls_of}
 use Rattle.dn_types.specs.Replies.{reply}
@@ -15,10 +15,6 @@ use Rattle.dn_files.specs.declared.replay_fault.ReplayFault.{ReplayFault}
 use Rattle.dn_files.specs.declared.replay_fault.ReplayFault.TheVariants.{BadRow, Read, Write, TooLong, OutOfMemory, Config, ConfigText, NoSuchPipe, BadRecord, BadCount, PipeHasQueues, NoSuchQueue}
 use Rattle.dn_files.specs.declared.source.Source.{Source}
 use Rattle.dn_types.proofs.Histories.{calls_of-more, lawful-more}
-
-pub keeps : (known : Option (List ℕ)) → Keeps known known
-keeps None = tt
-keeps (Some bytes) = refl
 
 -- Each entry of a run is by caller 0.
 pub by_one : (calls : List Call) → All (λ e. e.caller < 1) (history_of calls)
@@ -107,17 +103,17 @@ unread_input ReadFailed Asked source read input input_failed (NoSuchQueue l) ask
 pub unreplayed : (ReadFailed : Option Source → Type 0) (Asked : Result (List Call) ReplayFault → Type 0) (known : Option (List ℕ)) (failed : Bool) (fault : ReplayFault)
     → failed ≡ false → IsUnread ReadFailed Asked fault → IsUnreplayed ReadFailed Asked known known failed fault
 unreplayed ReadFailed Asked known failed (Write what) whole h = absurd h
-unreplayed ReadFailed Asked known failed OutOfMemory whole h = (h, (whole, keeps known))
-unreplayed ReadFailed Asked known failed (Read what) whole h = (h, (whole, keeps known))
-unreplayed ReadFailed Asked known failed (Config l f) whole h = (h.0, h.1, (whole, keeps known))
-unreplayed ReadFailed Asked known failed (ConfigText l) whole h = (h.0, h.1, (whole, keeps known))
-unreplayed ReadFailed Asked known failed (NoSuchPipe l) whole h = (h.0, h.1, (whole, keeps known))
-unreplayed ReadFailed Asked known failed (BadRow r f) whole h = (h.0, h.1, (whole, keeps known))
-unreplayed ReadFailed Asked known failed (BadRecord n) whole h = (h.0, h.1, (whole, keeps known))
-unreplayed ReadFailed Asked known failed (TooLong s) whole h = (h.0, h.1, (whole, keeps known))
-unreplayed ReadFailed Asked known failed BadCount whole h = (h.0, h.1, (whole, keeps known))
-unreplayed ReadFailed Asked known failed (PipeHasQueues l) whole h = (h.0, h.1, (whole, keeps known))
-unreplayed ReadFailed Asked known failed (NoSuchQueue l) whole h = (h.0, h.1, (whole, keeps known))
+unreplayed ReadFailed Asked known failed OutOfMemory whole h = (h, (whole, Keeps-refl known))
+unreplayed ReadFailed Asked known failed (Read what) whole h = (h, (whole, Keeps-refl known))
+unreplayed ReadFailed Asked known failed (Config l f) whole h = (h.0, h.1, (whole, Keeps-refl known))
+unreplayed ReadFailed Asked known failed (ConfigText l) whole h = (h.0, h.1, (whole, Keeps-refl known))
+unreplayed ReadFailed Asked known failed (NoSuchPipe l) whole h = (h.0, h.1, (whole, Keeps-refl known))
+unreplayed ReadFailed Asked known failed (BadRow r f) whole h = (h.0, h.1, (whole, Keeps-refl known))
+unreplayed ReadFailed Asked known failed (BadRecord n) whole h = (h.0, h.1, (whole, Keeps-refl known))
+unreplayed ReadFailed Asked known failed (TooLong s) whole h = (h.0, h.1, (whole, Keeps-refl known))
+unreplayed ReadFailed Asked known failed BadCount whole h = (h.0, h.1, (whole, Keeps-refl known))
+unreplayed ReadFailed Asked known failed (PipeHasQueues l) whole h = (h.0, h.1, (whole, Keeps-refl known))
+unreplayed ReadFailed Asked known failed (NoSuchQueue l) whole h = (h.0, h.1, (whole, Keeps-refl known))
 
 -- The first fault of two inputs.
 pub config_fault : (config packets : Option (List ℕ)) (fault : ReplayFault) → IsRefusedFor config_calls config fault → AskFor config packets (Err fault)

@@ -8,9 +8,9 @@ use Rattle.dn_types.specs.declared.rule.Rule.TheVariants.{Ordered}
 use Rattle.dn_replay.specs.Callers.{calls_given}
 use Rattle.dn_files.specs.PacketFile.{packet_file}
 use Rattle.dn_files.specs.Reading.{ReadsAs}
-use Rattle.dn_replay.specs.Replays.{AskFor, config_calls, IsUnreplayed, NothingWritten}
+use Rattle.dn_replay.specs.Replays.{AskFor, config_calls, IsUnreplayed}
 use Rattle.dn_replay.specs.Report.{report}
-use Rattle.dn_files.specs.Writing.{IsUnwritten}
+use Rattle.dn_files.specs.Writing.{IsUnwritten, NothingWritten}
 use Rattle.dn_files.specs.declared.replay_fault.ReplayFault.{ReplayFault}
 use Rattle.dn_files.specs.declared.replay_fault.ReplayFault.TheVariants.{BadCount, OutOfMemory, Write}
 use Rattle.dn_files.specs.declared.row.Row.{Row}

@@ -1,8 +1,6 @@
-pub mod Audit
 pub mod CallerReplays
 pub mod Callers
 pub mod Configuring
-pub mod FileAudit
 pub mod InParts
 pub mod Kept
 pub mod OnePass

@@ -1,6 +1,6 @@
 -- A replay: the calls that its inputs ask for, and what is written of them.
 use Rattle.std.specs.Prelude.{◌≡◌, ℕ, Bool, true, false, List, Option, None, Some, Result, Ok, Err}
-use Rattle.std.specs.Io.KnownBytes.{Appends, Keeps}
+use Rattle.std.specs.Io.KnownBytes.{Appends}
 use Rattle.dn_types.specs.declared.call.Call.{Call}
 use Rattle.dn_types.specs.declared.entry.Entry.{Entry}
 use Rattle.dn_text.specs.Joined.{joined_parts}
@@ -10,7 +10,7 @@ use Rattle.dn_files.specs.PacketFile.{packet_file, packet_limit, rows_of}
 use Rattle.dn_files.specs.Reading.{◌>>=◌, within_limit, IsTextOf, ReadsAs}
 use Rattle.dn_replay.specs.Report.{report}
 use Rattle.dn_replay.specs.Runs.{history_of, replayed}
-use Rattle.dn_files.specs.Writing.{IsUnwritten}
+use Rattle.dn_files.specs.Writing.{IsUnwritten, NothingWritten}
 use Rattle.dn_files.specs.declared.replay_fault.ReplayFault.{ReplayFault}
 use Rattle.dn_files.specs.declared.replay_fault.ReplayFault.TheVariants.{Read, Write, OutOfMemory}
 use Rattle.dn_files.specs.declared.source.Source.{Source}
@@ -76,10 +76,6 @@ IsUnreported calls = IsUnwritten Report (report 1 (history_of calls))
 -- What is asked for was answered by its history and its report.
 abbrev pub IsReplayed : (Result (List Call) ReplayFault → Type 0) → List Entry → Option (List ℕ) → Option (List ℕ) → Type 0
 IsReplayed Asked entries old new = (calls : List Call) × Asked (Ok calls) × IsReported calls entries old new
-
--- Nothing was written, and no write failed.
-abbrev pub NothingWritten : Option (List ℕ) → Option (List ℕ) → Bool → Type 0
-NothingWritten old new failed = (failed ≡ false) × Keeps old new
 
 -- Why nothing was answered. Before a failed write a part of the report was written, and before any other fault nothing.
 -- Each fault but a failed read comes only where no read failed.

@@ -1,9 +1,9 @@
 use Rattle.std.proofs.Common.{refl}
+use Rattle.std.proofs.KnownBytes.{Keeps-refl}
 use Rattle.std.proofs.lemmas.Result.{err_from_is_err_and}
 use Rattle.dn_replay.specs.CallerReplays.{AreUnread}
 use Rattle.dn_replay.specs.Replays.{EitherFailed}
 use Rattle.dn_replay.proofs.CallerSteps.{callers_replay, callers_unread, callers_unreported, unopened}
-use Rattle.dn_replay.proofs.ReplaySteps.{keeps}
 use Rattle.dn_replay.proofs.callers.replay.replay_callers.Goals as goal
 
 pub returns-in_err-opened-clause-err : goal.returns-in_err-opened-clause-err
@@ -26,7 +26,7 @@ returns-in_err-commands-clause-err g c =
 
 pub returns-in_default-clause-err : goal.returns-in_default-clause-err
 returns-in_default-clause-err g c =
-    (c.in_ok-opened.ensures.count.0, (c.in_ok-commands.ensures.inputs, (c.requires.out, keeps (g.O.Outlet.contents c.args.out.now))))
+    (c.in_ok-opened.ensures.count.0, (c.in_ok-commands.ensures.inputs, (c.requires.out, Keeps-refl (g.O.Outlet.contents c.args.out.now))))
 
 pub write_report-requires : goal.write_report-requires
 write_report-requires g c = record { callers = rw c.as_slice-3.ensures.value c.in-Ok.ensures.callers; sound = c.requires.out }

@@ -2,11 +2,11 @@ use Rattle.std.proofs.Common.{◌≡◌, Some}
 use Rattle.std.proofs.lemmas.Result.{err_from_is_err_and, IfErr-weaker, IfOk-weaker}
 use Rattle.dn_files.specs.ConfigFile.{config_limit}
 use Rattle.dn_files.specs.declared.source.Source.TheVariants.{Config, Packets}
-use Rattle.dn_files.proofs.Inputs.{passed_on}
+use Rattle.dn_files.proofs.Inputs.{passed_on, refused_for}
 use Rattle.dn_replay.specs.Configuring.{configured_by}
 use Rattle.dn_replay.specs.InParts.{calls_asked, IsAskedBehind}
 use Rattle.dn_replay.specs.Replays.{AskFor, config_calls, EitherFailed, TextFailed}
-use Rattle.dn_replay.proofs.InputSteps.{answered_through, asked_by_both, either_failed, refused_for, unanswered_through}
+use Rattle.dn_replay.proofs.InputSteps.{answered_through, asked_by_both, either_failed, unanswered_through}
 use Rattle.dn_replay.proofs.ReplaySteps.{config_fault, unread_input, unreplayed}
 use Rattle.dn_replay.proofs.one_pass.replays.replay_inputs.Goals as goal
 

@@ -1,7 +1,7 @@
 use Rattle.std.proofs.Common.{◌∙◌, ◌++◌, ap, arith, length-append, length-take, refl, rules, take}
 use Rattle.std.proofs.KnownBytes.{Consumes-trans}
 use Rattle.dn_replay.specs.InParts.{calls_asked, Coming, source_of}
-use Rattle.dn_replay.proofs.InputSteps.{refused_behind}
+use Rattle.dn_files.proofs.Inputs.{refused_behind}
 use Rattle.dn_replay.proofs.one_pass.file_replay.FileReplay.read_by.Goals as goal
 
 pub returns-in_default-clause-err : goal.returns-in_default-clause-err

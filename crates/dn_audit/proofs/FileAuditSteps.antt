@@ -1,0 +1,118 @@
+-- Why a history file isn't audited, step by step.
+use Rattle.std.proofs.Common.{◌≡◌, ◌∙◌, refl, sym, ap, subst, ℕ, Bool, false, length, List, [], ◌∷◌, ◌++◌, ◌+◌, append-nil, append_assoc, length-append, arith, Option, Result, Ok}
+use Rattle.std.proofs.KnownBytes.{Keeps-refl}
+use Rattle.dn_types.specs.declared.entry.Entry.{Entry}
+use Rattle.dn_types.specs.declared.rule.Rule.{Rule}
+use Rattle.dn_audit.specs.Audit.{HasAudited}
+use Rattle.dn_audit.specs.FileAudit.{AreAudited, HasVerdict, IsAuditFault, IsTold, IsUnaudited, verdict_line}
+use Rattle.dn_history.specs.HistoryFaults.{IsHistoryFault}
+use Rattle.dn_history.specs.EntriesLeft.{EntriesLeft}
+use Rattle.dn_history.specs.HistoryFile.{history_file, history_in, history_limit}
+use Rattle.dn_history.specs.HistoryParts.{history_behind}
+use Rattle.dn_history.proofs.HistoryReading.{after_front, end_read}
+use Rattle.dn_files.specs.Reading.{IsFaultOf, IsRefusal, IsTextOf, within_limit}
+use Rattle.dn_files.specs.Writing.{IsUnwritten}
+use Rattle.dn_files.proofs.Inputs.{carried}
+use Rattle.dn_files.specs.declared.replay_fault.ReplayFault.{ReplayFault}
+use Rattle.dn_files.specs.declared.replay_fault.ReplayFault.TheVariants.{BadRow, Read, Write, TooLong, OutOfMemory, Config, ConfigText, NoSuchPipe, BadRecord, BadCount, PipeHasQueues, NoSuchQueue}
+use Rattle.dn_files.specs.declared.source.Source.TheVariants.{History, Report}
+use Rattle.dn_audit.specs.declared.running_audit.RunningAudit.{RunningAudit}
+use Rattle.dn_audit.specs.declared.verdict.Verdict.{Verdict}
+
+-- A file isn't read.
+pub unread : (known old : Option (List ℕ)) (read_failed failed : Bool) (fault : ReplayFault)
+    → failed ≡ false → IsRefusal History history_file known read_failed fault → IsUnaudited known read_failed old old failed fault
+unread known old read_failed failed (Write what) sound h = absurd h
+unread known old read_failed failed OutOfMemory sound h = (h, (sound, Keeps-refl old))
+unread known old read_failed failed (Read what) sound h = (h, (sound, Keeps-refl old))
+unread known old read_failed failed (Config l f) sound h = (h, (sound, Keeps-refl old))
+unread known old read_failed failed (ConfigText l) sound h = (h, (sound, Keeps-refl old))
+unread known old read_failed failed (NoSuchPipe l) sound h = (h, (sound, Keeps-refl old))
+unread known old read_failed failed (BadRow r f) sound h = (h, (sound, Keeps-refl old))
+unread known old read_failed failed (BadRecord n) sound h = (h, (sound, Keeps-refl old))
+unread known old read_failed failed (TooLong s) sound h = (h, (sound, Keeps-refl old))
+unread known old read_failed failed BadCount sound h = (h, (sound, Keeps-refl old))
+unread known old read_failed failed (PipeHasQueues l) sound h = (h, (sound, Keeps-refl old))
+unread known old read_failed failed (NoSuchQueue l) sound h = (h, (sound, Keeps-refl old))
+
+-- The line of a verdict isn't written.
+pub untold : (known old new : Option (List ℕ)) (read_failed failed : Bool) (verdict : Verdict) (line : List ℕ) (fault : ReplayFault)
+    → read_failed ≡ false → IsTold known verdict line → IsUnwritten Report line old new failed fault → IsUnaudited known read_failed old new failed fault
+untold known old new read_failed failed verdict line (Write what) sound told h = (sound, (verdict, line, told, h))
+untold known old new read_failed failed verdict line OutOfMemory sound told h = (sound, h)
+untold known old new read_failed failed verdict line (Read what) sound told h = absurd h
+untold known old new read_failed failed verdict line (Config l f) sound told h = absurd h
+untold known old new read_failed failed verdict line (ConfigText l) sound told h = absurd h
+untold known old new read_failed failed verdict line (NoSuchPipe l) sound told h = absurd h
+untold known old new read_failed failed verdict line (BadRow r f) sound told h = absurd h
+untold known old new read_failed failed verdict line (BadRecord n) sound told h = absurd h
+untold known old new read_failed failed verdict line (TooLong s) sound told h = absurd h
+untold known old new read_failed failed verdict line BadCount sound told h = absurd h
+untold known old new read_failed failed verdict line (PipeHasQueues l) sound told h = absurd h
+untold known old new read_failed failed verdict line (NoSuchQueue l) sound told h = absurd h
+
+-- The text that was read is a history with this verdict, and the bytes that are written are the line of that.
+pub told : (known : Option (List ℕ)) (text : List ℕ) (verdict : Verdict) (count : ℕ) (line bytes : List ℕ)
+    → IsTextOf known text → within_limit history_limit History text ≡ Ok text → HasVerdict text verdict count → line ≡ verdict_line count verdict → bytes ≡ line → IsTold known verdict bytes
+told known text verdict count line bytes is within (history, reads, found, counted) line_is same =
+    (history, (text, is, rw within reads), found, same ∙ line_is ∙ ap (λ (n : ℕ). verdict_line n verdict) counted)
+
+-- No entry behind those before, one more, and how many they are.
+pub none-behind : (rule : Rule) (audit : RunningAudit) (before : List Entry) → HasAudited rule audit before → HasAudited rule audit (before ++ [])
+none-behind rule audit before audited = subst (λ (es : List Entry). HasAudited rule audit es) (sym (append-nil before)) audited
+
+pub one-behind : (rule : Rule) (before front : List Entry) (e : Entry) (audit : RunningAudit) → HasAudited rule audit ((before ++ front) ++ e ∷ [])
+    → HasAudited rule audit (before ++ (front ++ e ∷ []))
+one-behind rule before front e audit audited = subst (λ (es : List Entry). HasAudited rule audit es) (append_assoc before front (e ∷ [])) audited
+
+pub counted-behind : (before front : List Entry) (start given : ℕ) → given ≡ start + length front → start ≡ length before → given ≡ length (before ++ front)
+counted-behind before front start given counted is = omega (arith, counted, is, length-append before front)
+
+pub counted-more : (front : List Entry) (e : Entry) (start old new : ℕ) → new ≡ old + 1 → old ≡ start + length front → new ≡ start + length (front ++ e ∷ [])
+counted-more front e start old new more counted = omega (arith, more, counted, length-append front (e ∷ []))
+
+-- No entry is left.
+pub all-audited : (rule : Rule) (before front : List Entry) (old whole : Result (List Entry) ReplayFault) (audit : RunningAudit) (given : ℕ)
+    → given ≡ length (before ++ front) → old ≡ Ok [] → after_front front old ≡ whole → HasAudited rule audit (before ++ front) → AreAudited rule before whole audit given
+all-audited rule before front old whole audit given counted none so_far audited = (front, end_read front old whole none so_far, counted, audited)
+
+-- The verdict on the entries that were given and those that were left is that on the history.
+pub of_history : (text : List ℕ) (front : List Entry) (left : EntriesLeft) (rule : Rule) (audit : RunningAudit) (verdict : Verdict) (count given : ℕ)
+    → history_in text ≡ history_behind front left → rule ≡ left.rule → AreAudited rule front left.entries audit given → verdict ≡ audit.verdict → count ≡ given → HasVerdict text verdict count
+of_history text front left rule audit verdict count given is same (entries, all, counted, audited) found told_count =
+    ((left.rule, front ++ entries), is ∙ rw all refl, rw (← same, found) audited.found, told_count ∙ counted)
+
+-- A fault of the entries that are left is one of the history.
+pub of_left : (text : List ℕ) (front : List Entry) (left : EntriesLeft) (fault : ReplayFault) → history_in text ≡ history_behind front left → IsFaultOf left.entries fault
+    → IsFaultOf (history_in text) fault
+of_left text front left fault is bad = carried left.entries (history_in text) fault (λ f e. is ∙ rw e refl) bad
+
+-- Why a history file isn't read, as a fault of its audit.
+pub of_reading : (fault : ReplayFault) → IsHistoryFault fault → IsAuditFault fault
+of_reading (Read what) h = h
+of_reading (TooLong what) h = h
+of_reading (BadRecord number) h = tt
+of_reading OutOfMemory h = tt
+of_reading (Write what) h = absurd h
+of_reading (Config line f) h = absurd h
+of_reading (ConfigText line) h = absurd h
+of_reading (NoSuchPipe line) h = absurd h
+of_reading (BadRow row field) h = absurd h
+of_reading BadCount h = absurd h
+of_reading (PipeHasQueues line) h = absurd h
+of_reading (NoSuchQueue line) h = absurd h
+
+-- Why the line of a verdict isn't written.
+pub of_writing : (text : List ℕ) (old new : Option (List ℕ)) (failed : Bool) (fault : ReplayFault) → IsUnwritten Report text old new failed fault → IsAuditFault fault
+of_writing text old new failed (Write what) h = h.0
+of_writing text old new failed OutOfMemory h = tt
+of_writing text old new failed (Read what) h = absurd h
+of_writing text old new failed (Config line f) h = absurd h
+of_writing text old new failed (ConfigText line) h = absurd h
+of_writing text old new failed (NoSuchPipe line) h = absurd h
+of_writing text old new failed (BadRow row field) h = absurd h
+of_writing text old new failed (BadRecord number) h = absurd h
+of_writing text old new failed (TooLong what) h = absurd h
+of_writing text old new failed BadCount h = absurd h
+of_writing text old new failed (PipeHasQueues line) h = absurd h
+of_writing text old new failed (NoSuchQueue line) h = absurd h

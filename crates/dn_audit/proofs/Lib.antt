@@ -1,0 +1,3 @@
+pub mod AuditSteps
+pub mod FileAuditSteps
+pub mod SameReplies

@@ -1,0 +1,31 @@
+ghost use Rattle.std.specs.Prelude.{IfOk, OnErr};
+ghost use Rattle.dn_audit.specs.Audit.{CanWantMemory, IsVerdict};
+
+use crate::running_audit::RunningAudit;
+use crate::verdict::Verdict;
+use dn_shaper::HashKey;
+use dn_types::{Entry, Rule};
+use std::alloc::{AllocError, Global};
+
+/// Asks a new shaper the calls of a history, oldest first, and compares each reply with the entry's.
+/// The first that differs is the answer. It doesn't matter which caller made a call. Err says that memory was
+/// refused for a call.
+pub fn audit(
+    alloc: Global,
+    key: HashKey,
+    rule: Rule,
+    entries: &[Entry],
+) -> Result<Verdict, AllocError>
+    ensures ok { IfOk result (λ verdict. IsVerdict rule entries.now verdict) }
+    ensures err { OnErr result (CanWantMemory rule entries.now) }
+{
+    let mut audit = RunningAudit::new(alloc, key, rule);
+    let outcome = audit.compare_all(0, entries);
+    let verdict = audit.verdict();
+    // The proof of a drop by a call has one step, where that of a drop at the end has one for each field.
+    drop(audit);
+    match outcome {
+        Ok(()) => Ok(verdict),
+        Err(error) => Err(error),
+    }
+}
