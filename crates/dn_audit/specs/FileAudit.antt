@@ -1,5 +1,6 @@
 -- The audit of a history file: the verdict on the history in it by its own rule, and the line that tells the verdict.
-use Rattle.std.specs.Prelude.{◌≡◌, ◌≤◌, ℕ, Bool, false, List, ◌++◌, length, codes, decimal, Option, None, Some, Result, Ok}
+use Rattle.std.specs.Prelude.{◌≡◌, ◌≤◌, ℕ, Bool, false, List, ◌++◌, length, codes, decimal, Option, None, Some, Result, Ok, Box, box_value}
+use Rattle.std.specs.declared.alloc.Global.{Global}
 use Rattle.std.specs.Io.KnownBytes.{Appends}
 use Rattle.dn_types.specs.declared.entry.Entry.{Entry}
 use Rattle.dn_types.specs.declared.rule.Rule.{Rule}
@@ -35,9 +36,9 @@ pub record IsAuditing (begun : PartsAudit) (text : List ℕ) : Type 0 where
   pub audited : HasAudited (rule_of begun.parts.version) begun.audit entries
 
 -- This text has come of a file: it is kept until the line of its version has come, and audited from then on.
-abbrev pub IsTakenBy : Option PartsAudit → List ℕ → List ℕ → Type 0
+abbrev pub IsTakenBy : Option (Box PartsAudit Global) → List ℕ → List ℕ → Type 0
 IsTakenBy None kept text = kept ≡ text
-IsTakenBy (Some begun) kept text = IsAuditing begun text
+IsTakenBy (Some begun) kept text = IsAuditing (box_value begun) text
 
 abbrev pub HasTaken : FileAudit → List ℕ → Type 0
 HasTaken audit text = IsTakenBy audit.begun audit.front.items text

@@ -41,14 +41,14 @@ fn audit_input<I: Inlet>(
         (I.remaining history.old) (I.has_failed history.new) fault) }
 {
     let mut audit = FileAudit::new(alloc, key);
-    let read = audit.read(history);
-    let found = match read {
+    match audit.read(history) {
         Ok(()) => audit.finish(),
-        Err(fault) => Err(fault),
-    };
-    // The proof of a drop by a call has one step, where that of a drop at the end has one for each field.
-    drop(audit);
-    found
+        Err(fault) => {
+            // The proof of a drop by a call has one step, where that of a drop at the end has one for each field.
+            drop(audit);
+            Err(fault)
+        }
+    }
 }
 
 /// Reads a history file, audits it by the rule of its version, and writes one line: `lawful` and the

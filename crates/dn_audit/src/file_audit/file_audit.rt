@@ -26,7 +26,8 @@ pub struct FileAudit {
     key: HashKey,
     pub(crate) length: usize,
     pub(crate) front: Vec<u8>,
-    pub(crate) begun: Option<PartsAudit>,
+    // In a block of its own, so that the proof that an audit is dropped doesn't go through all that is in it.
+    pub(crate) begun: Option<Box<PartsAudit>>,
 }
 
 impl FileAudit {
@@ -53,7 +54,7 @@ impl FileAudit {
         let Some(parts) = HistoryParts::new(self.alloc, self.front.as_slice())? else {
             return Ok(());
         };
-        let begun = PartsAudit::new(self.alloc, self.key, parts);
+        let begun = Box::new(self.alloc, PartsAudit::new(self.alloc, self.key, parts))?;
         drop(mem::replace(&mut self.begun, Some(begun)));
         Ok(())
     }
@@ -129,13 +130,17 @@ impl FileAudit {
     /// The verdict on the history, whose text has ended, and the count of its entries, or the fault of the text:
     /// BadRecord with the number of the first bad record, from 1, or OutOfMemory. The first difference is kept
     /// while reading goes on, for a fault of the text comes before a verdict.
-    pub fn finish(&mut self) -> Result<(Verdict, usize), ReplayFault>
-        ensures ok { IfOk result (λ found. (text : List ℕ) → HasCome self.old text → HasVerdict text found.0 found.1) }
-        ensures err { IfErr result (λ fault. (text : List ℕ) → HasCome self.old text → IsFaultOf (history_in text) fault) }
+    pub fn finish(self) -> Result<(Verdict, usize), ReplayFault>
+        ensures ok { IfOk result (λ found. (text : List ℕ) → HasCome self text → HasVerdict text found.0 found.1) }
+        ensures err { IfErr result (λ fault. (text : List ℕ) → HasCome self text → IsFaultOf (history_in text) fault) }
     {
-        match &mut self.begun {
+        let mut audit = self;
+        let found = match &mut audit.begun {
             Some(begun) => begun.end(),
-            None => audit_text(self.alloc, self.key, self.front.as_slice()),
-        }
+            None => audit_text(audit.alloc, audit.key, audit.front.as_slice()),
+        };
+        // The proof of a drop by a call has one step, where that of a drop at the end has one for each field.
+        drop(audit);
+        found
     }
 }
