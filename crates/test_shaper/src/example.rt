@@ -60,8 +60,8 @@ fn replies_by(alloc: Global, rule: Rule, calls: &[Call]) -> Result<Vec<Reply>, A
     }
 }
 
-/// The reply to a call. Where it is refused, it is made again.
-pub fn answer(rt: &impl Print, shaper: &mut Shaper, call: &Call) -> Result<Reply, Fail> {
+// The reply to a call. Where it is refused, it is made again.
+fn answer(rt: &impl Print, shaper: &mut Shaper, call: &Call) -> Result<Reply, Fail> {
     if let Ok(reply) = shaper.apply(call) {
         return Ok(reply);
     }
@@ -79,6 +79,18 @@ pub fn is_wanted(
 ) -> Result<(), Fail> {
     assert_eq!(rt; *reply, step.wanted.reply(alloc)?, "call {place}");
     Ok(())
+}
+
+/// A shaper answers a step as that wants. The reply is dropped here, and not at each `?` of a loop.
+pub fn answers_step(
+    rt: &(impl Abort + Print),
+    alloc: Global,
+    shaper: &mut Shaper,
+    place: usize,
+    step: &Step<'_>,
+) -> Result<(), Fail> {
+    let reply = answer(rt, shaper, &step.asked.call()?)?;
+    is_wanted(rt, alloc, place, &reply, step)
 }
 
 // Each reply is the one that its step wants, and there are as many.

@@ -1,6 +1,6 @@
 //! The room of the next reply by itself: the greater of what is held and the count of flows.
 
-use crate::example::{answer, is_wanted};
+use crate::example::answers_step;
 use crate::step::{Step, collect, config, to_pipe};
 use crate::wanted::{delivery, queued};
 use dn_shaper::Shaper;
@@ -17,8 +17,7 @@ fn check_rooms(
     steps: &[(Step<'_>, usize)],
 ) -> Result<(), Fail> {
     for (place, (step, room)) in steps.iter().enumerate() {
-        let reply = answer(rt, shaper, &step.asked.call()?)?;
-        is_wanted(rt, alloc, place, &reply, step)?;
+        answers_step(rt, alloc, shaper, place, step)?;
         assert!(rt; shaper.reply_room() == *room);
     }
     Ok(())

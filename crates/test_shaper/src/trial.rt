@@ -33,7 +33,7 @@ impl Trial {
     // A Show is answered as the last one was.
     fn is_as_shown(&mut self, rt: &impl Abort) -> Result<(), Fail> {
         let reply = self.shaper.apply(&Call::Show)?;
-        assert_eq!(rt; reply, self.shown);
+        assert!(rt; reply == self.shown);
         Ok(())
     }
 

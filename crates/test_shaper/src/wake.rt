@@ -1,6 +1,6 @@
 //! When to ask next by itself: the earliest of the due moments and of the moments at which links with a backlog are free.
 
-use crate::example::{answer, is_wanted};
+use crate::example::answers_step;
 use crate::step::{Step, collect, config, to_pipe};
 use crate::wanted::{delivery, queued};
 use dn_shaper::Shaper;
@@ -18,8 +18,7 @@ fn check_wakes(
     steps: &[(Step<'_>, Option<u64>)],
 ) -> Result<(), Fail> {
     for (place, (step, next)) in steps.iter().enumerate() {
-        let reply = answer(rt, shaper, &step.asked.call()?)?;
-        is_wanted(rt, alloc, place, &reply, step)?;
+        answers_step(rt, alloc, shaper, place, step)?;
         assert!(rt; shaper.wake() == *next);
     }
     Ok(())
