@@ -29,6 +29,8 @@ RANDOM_CASES = 400
 RUNS_BY_CALLERS = 100
 LIVE_SESSIONS = 200
 SCENARIOS_IN_C = 200
+# More than a prover of any of our crates takes at most, in bytes: 3.7 GiB were seen.
+PROVER_MEMORY = 9 * 2**29
 
 
 class Tally(NamedTuple):
@@ -56,10 +58,28 @@ def sources() -> str:
     return subprocess.run([TOP / "tools" / "program_sources"], capture_output=True, text=True, check=True).stdout.strip()
 
 
+def free_memory() -> int:
+    """The bytes that are free, under the limit of the process's group too."""
+    found = re.search(r"MemAvailable:\s+(\d+) kB", Path("/proc/meminfo").read_text())
+    limit = Path("/sys/fs/cgroup/memory.max")
+    limits = [int(text) for text in [limit.read_text().strip() if limit.exists() else ""] if text.isdigit()]
+    return min([1024 * int(found[1]) if found else 0, *limits])
+
+
+def environment() -> dict[str, str]:
+    """For `rt ci`, which reckons a prover's memory at twice what ours take, so that a processor often has none to run: where there is
+    memory for one on each, RT_JOBS has as many run."""
+    words, lanes = dict(os.environ), len(os.sched_getaffinity(0))
+    if free_memory() >= lanes * PROVER_MEMORY:
+        words.setdefault("RT_JOBS", str(lanes))
+    return words
+
+
 def proved() -> Tally:
     """`rt ci`, whose lines are passed on; what it built becomes the program of ./dummynet."""
     before, text = sources(), ""
-    with subprocess.Popen(["rt", "ci"], cwd=TOP, stdin=subprocess.DEVNULL, stdout=subprocess.PIPE, text=True, errors="replace") as ci:
+    how = {"cwd": TOP, "env": environment(), "stdin": subprocess.DEVNULL, "stdout": subprocess.PIPE, "text": True, "errors": "replace"}
+    with subprocess.Popen(["rt", "ci"], **how) as ci:
         for line in ci.stdout or ():
             text += line
             print(f"rt ci: {line}" if TALLY.match(line) else line, end="", flush=True)
