@@ -43,7 +43,8 @@ fn look_up(table: &mut Flows, pipe: Number, flows: u32, times: u64) -> u64 {
 }
 
 fn measure_table(rt: &HostRuntime, pipe: Number, flows: u32, times: u64) -> io::Result<()> {
-    let mut table = Flows::new(rt.alloc());
+    // In a box, so that the proof of each exit drops a pointer and not each field.
+    let mut table = Box::new(rt.alloc(), Flows::new(rt.alloc()))?;
     fill(&mut table, pipe, flows);
     let start = Instant::now(rt)?;
     let found = look_up(&mut table, pipe, flows, times);
