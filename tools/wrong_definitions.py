@@ -20,7 +20,7 @@ import tempfile
 
 TOP = os.path.dirname(os.path.dirname(os.path.abspath(__file__)))
 SET_ASIDE = ['Cases', 'ExamplesDeletes', 'ExamplesLinks', 'ExamplesWf2q', 'ShortListsFlows', 'ShortListsWf2q',
-             'Witnesses', 'FairWitness', 'LawWitnesses', 'DeleteWitnesses']
+             'Witnesses', 'FairWitness', 'LawWitnesses', 'DeleteWitnesses', 'PartWitnesses']
 
 # What is wrong, the file, the right text, the wrong text (or as many of each as there are places to change), and the
 # function and the clause of the law that is false of it.
@@ -155,7 +155,7 @@ ROWS = [
      'laws_of_flows', 'masks'),
     ('a new flow comes first', 'Flows', '(known ++ key ∷ [])', '(key ∷ known)', 'laws_of_flows', 'stay'),
     ('all packets to a pipe share one link', 'Calls', 'link_of (ToPipe number) flow pipe = own pipe flow',
-     'link_of (ToPipe number) flow pipe = shared pipe', None, None),
+     'link_of (ToPipe number) flow pipe = shared pipe', 'laws_of_parts', 'replies'),
     ('the fields of a packet play no part', 'Flows',
      '&& mask_eq a.mask b.mask && tuple_eq a.tuple b.tuple', '&& mask_eq a.mask b.mask', 'laws_of_flows', 'masks'),
 ]

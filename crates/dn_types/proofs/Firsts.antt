@@ -35,7 +35,7 @@ module _ (P : Stamped → Type 0) where
   all-first : (x : Stamped) (xs : List Stamped) → All P (x ∷ xs) → P x
   all-first x xs h = h 0 x (omega arith)
 
-  all-rest : (x : Stamped) (xs : List Stamped) → All P (x ∷ xs) → All P xs
+  pub all-rest : (x : Stamped) (xs : List Stamped) → All P (x ∷ xs) → All P xs
   all-rest x xs h = λ k d lt. h (suc k) d (omega arith)
 
   earlier-one-of : (x : Stamped) (o : Option Stamped) (h : Stamped) → P x → ((y : Stamped) → o ≡ Some y → P y) → earlier x o ≡ Some h → P h

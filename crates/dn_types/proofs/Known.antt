@@ -58,11 +58,11 @@ stands-more known flow key more false h = record {
     shape [] = refl
     shape (x ∷ xs) = ap (λ (r : List FlowKey). x ∷ r) (shape xs)
 
-abbrev place : FlowKey → List FlowKey → ℕ
+abbrev pub place : FlowKey → List FlowKey → ℕ
 place key [] = 0
 place key (k ∷ known) = cond (key_eq key k) 0 (1 + place key known)
 
-place-is : (key : FlowKey) (known : List FlowKey) → place key known ≡ flow_number known key
+pub place-is : (key : FlowKey) (known : List FlowKey) → place key known ≡ flow_number known key
 place-is key known = is_position_or_len (place key) (key_eq key) refl (λ k ks. refl) known
 
 flow-of : (key : FlowKey) (known : List FlowKey) → StandsAt (with_key key known) (place key known) key

@@ -1,6 +1,7 @@
 pub mod ByWeight
 pub mod CallCounts
 mod Cases
+pub mod Advances
 pub mod Begun
 pub mod Bounded
 pub mod BoundedCounts
@@ -36,8 +37,18 @@ pub mod Once
 pub mod OneLink
 pub mod Ordered
 pub mod PacketCounts
+pub mod PartCalls
+pub mod PartGiven
+pub mod PartReplies
+pub mod PartReplays
+pub mod Parts
+pub mod PartSettings
+pub mod PartsWhole
+mod PartWitnesses
+pub mod PartStarts
 pub mod PickLaws
 pub mod Picks
+pub mod Places
 pub mod Proper
 pub mod Ranges
 pub mod Rates

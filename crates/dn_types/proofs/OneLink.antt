@@ -16,7 +16,7 @@ use Rattle.dn_types.proofs.Settling.{backlog-above}
 
 -- ---- Heads of flows without packets
 
-heads-above : (m n : ℕ) (q : ℕ → List Accepted) → n ≤ m → ((f : ℕ) → n ≤ f → q f ≡ []) → heads m q ≡ heads n q
+pub heads-above : (m n : ℕ) (q : ℕ → List Accepted) → n ≤ m → ((f : ℕ) → n ≤ f → q f ≡ []) → heads m q ≡ heads n q
 heads-above zero n q le none = let e : zero ≡ n = omega arith in ap (λ k. heads k q) e
 heads-above (suc m) n q le none =
     ⊎_elim (λ below. ap (λ (r : List Accepted). heads m q ++ take 1 r) (none m below.1) ∙ append-none (heads m q)

@@ -77,7 +77,7 @@ join-proper set at p trace number h empty = by (nat_le (free p.link trace) at) r
     by true e = let soon : free p.link trace ≤ at = grind (arith, nat_tests) in (one-first p.link p.stamped.flow p (is_of p.link p.stamped.flow p) (backlog p.link p.stamped.flow trace) (of-own p) (empty soon), soon, (number, h))
     by false e = (number, h)
 
-opened-proper : (b : Bool) (link : Link) (trace : List Event) → IsProper trace → IsProper (cond b (opened link ∷ trace) trace)
+pub opened-proper : (b : Bool) (link : Link) (trace : List Event) → IsProper trace → IsProper (cond b (opened link ∷ trace) trace)
 opened-proper true link trace h = h
 opened-proper false link trace h = h
 
@@ -110,7 +110,7 @@ command-proper : (r : Reply) (command : Command) (known : List FlowKey) (trace :
 command-proper Deleted command known trace h = discard-proper command 0 known trace h
 command-proper _ command known trace h = h
 
-settled-proper : (set : Settings) (at : ℕ) (trace : List Event) → IsProper trace → IsProper (settled set at trace)
+pub settled-proper : (set : Settings) (at : ℕ) (trace : List Event) → IsProper trace → IsProper (settled set at trace)
 settled-proper set at trace h = settle-proper (waiting_all (links trace) trace) set at trace h
 
 -- The trace of calls is proper.

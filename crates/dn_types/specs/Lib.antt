@@ -15,6 +15,8 @@ pub mod History
 pub mod Laws
 pub mod Links
 pub mod OtherPipes
+pub mod PartLaws
+pub mod Parts
 pub mod RateLaws
 pub mod Replies
 pub mod ResetLaws

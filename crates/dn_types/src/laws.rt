@@ -43,6 +43,16 @@ ghost use Rattle.dn_types.specs.Laws.{
 ghost use Rattle.dn_types.specs.FairShare.{SharesFairly};
 ghost use Rattle.dn_types.specs.FlowLaws.{FlowsAreByMask, FlowsHaveTheirKeys, FlowsStay};
 ghost use Rattle.dn_types.specs.OtherPipes.{OtherPipesChangeNothing};
+ghost use Rattle.dn_types.specs.PartLaws.{
+  AdvancesAreNoMore,
+  AgreeingCallsAgree,
+  CommandsActByForce,
+  OtherLinksChangeNoReply,
+  OtherLinksChangeNothing,
+  PartsAreWhole,
+  PartsRestOnTheirPipe,
+  ReplaysFallApart,
+};
 ghost use Rattle.dn_types.specs.RateLaws.{KeepsTheConfiguredRate};
 ghost use Rattle.dn_types.specs.ResetLaws.{
   DroppedChangesNothing,
@@ -206,4 +216,19 @@ pub fn laws_of_isolation()
     ensures queues { QueuesHavePipes }
     ensures packets { PacketsKeepApart }
     ensures other_pipes { OtherPipesChangeNothing }
+{}
+
+/// What other links carry changes nothing on a link, and so what other pipes carry nothing on a pipe:
+/// with their packets taken away, each packet is queued, lost or refused as before and starts and is
+/// due at the same moments. So a replay can be cut by links: each part gets its part of the replies.
+/// A pipe's part rests on what is in force for the pipe and for its packets' targets alone.
+pub fn laws_of_parts()
+    ensures trace { OtherLinksChangeNothing }
+    ensures replies { OtherLinksChangeNoReply }
+    ensures agree { AgreeingCallsAgree }
+    ensures advances { AdvancesAreNoMore }
+    ensures replays { ReplaysFallApart }
+    ensures whole { PartsAreWhole }
+    ensures settings { PartsRestOnTheirPipe }
+    ensures force { CommandsActByForce }
 {}
