@@ -20,7 +20,8 @@ import tempfile
 
 TOP = os.path.dirname(os.path.dirname(os.path.abspath(__file__)))
 SET_ASIDE = ['Cases', 'ExamplesDeletes', 'ExamplesLinks', 'ExamplesWf2q', 'ShortListsFlows', 'ShortListsWf2q',
-             'Witnesses', 'FairWitness', 'LawWitnesses', 'DeleteWitnesses', 'PartWitnesses']
+             'Witnesses', 'FairWitness', 'LawWitnesses', 'DeleteWitnesses', 'PartWitnesses',
+             'ReplyWitnesses']
 
 # What is wrong, the file, the right text, the wrong text (or as many of each as there are places to change), and the
 # function and the clause of the law that is false of it.
@@ -158,6 +159,80 @@ ROWS = [
      'link_of (ToPipe number) flow pipe = shared pipe', 'laws_of_parts', 'replies'),
     ('the fields of a packet play no part', 'Flows',
      '&& mask_eq a.mask b.mask && tuple_eq a.tuple b.tuple', '&& mask_eq a.mask b.mask', 'laws_of_flows', 'masks'),
+    ('an Advance is told the moment 0', 'Replies', 'Advanced (max (effective_moment calls) moment)', 'Advanced 0',
+     'laws_of_replies', 'clock'),
+    ('a lost packet is told the moment 0', 'Replies', '(loses link flow) trace = Lost at flow',
+     '(loses link flow) trace = Lost 0 flow', 'laws_of_replies', 'clock'),
+    ('a refused packet is told the moment 0', 'Replies', '(refuses link flow) trace = Full at flow',
+     '(refuses link flow) trace = Full 0 flow', 'laws_of_replies', 'clock'),
+    ('a Collect is told the moment 0', 'Replies', 'Delivered at (given', 'Delivered 0 (given',
+     'laws_of_replies', 'clock'),
+    ('a Collect is told of no packet', 'Replies',
+     'Delivered at (given rule at (settled (settings calls) at (trace_of calls)))', 'Delivered at []',
+     'laws_of_replies', 'due'),
+    ('a Show is told of no flow', 'Replies', 'Status (statuses_from 0 (keys calls) (trace_of calls))', 'Status []',
+     'laws_of_replies', 'shows'),
+    ('a Show tells no losses', 'Replies', 'lost = count_by (is_loss_of flow) trace;', 'lost = 0;',
+     'laws_of_replies', 'shows'),
+    ('a Show tells packets for bytes', 'Replies', 'bytes = sum lengths;', 'bytes = length lengths;',
+     'laws_of_replies', 'shows'),
+    ('a packet without a target makes a flow', 'Flows', 'keys_with target tuple None known = known',
+     'keys_with target tuple None known = with_key (record { target = target; pipe = 0; '
+     'mask = record { src = 0; dst = 0; proto = 0; sport = 0; dport = 0 }; tuple = tuple }) known',
+     'laws_of_replies', 'flows'),
+    ('packets are numbered from 1', 'Replies', 'Queued at flow (accepted_count trace)',
+     'Queued at flow (accepted_count trace + 1)', 'laws_of_replies', 'numbers'),
+    ('a queue without its pipe is told that the queue is missing', 'Configuration', 'Configured NoSuchPipe',
+     'Configured NoSuchQueue', 'laws_of_replies', 'commands'),
+    ('a delete of no queue is told that the pipe is missing', 'Configuration', 'Deleted NoSuchQueue',
+     'Deleted NoSuchPipe', 'laws_of_replies', 'commands'),
+    ('a pipe is never configured', 'Configuration',
+     'command_reply settings queues (Pipe number bw delay limit loss buckets mask) = Configured',
+     'command_reply settings queues (Pipe number bw delay limit loss buckets mask) = NoSuchPipe',
+     'laws_of_replies', 'commands'),
+    ('the limit of calls is 2^61', 'Clock', 'call_limit = 2 ^ 62', 'call_limit = 2 ^ 61', 'laws_of_replies', 'limit'),
+    ('packets to a pipe have no bytes', 'Calls',
+     ('-- The packet as it is accepted', 'len = packet.len; weight'),
+     ('abbrev pub taken_len : Link → ℕ → ℕ\ntaken_len (own p f) n = 0\ntaken_len (shared p) n = n\n\n'
+      '-- The packet as it is accepted', 'len = taken_len link packet.len; weight'), 'laws_of_acceptance', 'arrivals'),
+    ('each flow of a queue has a link of its own', 'Calls', 'link_of (ToQueue number) flow pipe = shared pipe',
+     'link_of (ToQueue number) flow pipe = own pipe flow', 'laws_of_acceptance', 'rate'),
+    ('a pipe that is configured anew is emptied', 'Calls',
+     ('TheVariants.{DeletePipe, DeleteQueue}', 'TheVariants.{Deleted}', 'reaches _ key = false',
+      'after_command _ command known trace = trace'),
+     ('TheVariants.{Pipe, DeletePipe, DeleteQueue}', 'TheVariants.{Configured, Deleted}',
+      'reaches (Pipe number bw delay limit loss buckets mask) key = nat_eq key.pipe number\nreaches _ key = false',
+      'after_command Configured command known trace = discard_reached command 0 known trace\n'
+      'after_command _ command known trace = trace'), 'laws_of_discards', 'deletes'),
+    ('a refused delete empties queues', 'Calls', 'after_command _ command known trace = trace',
+     'after_command _ command known trace = discard_reached command 0 known trace', 'laws_of_discards', 'spared'),
+    ('a queue keeps one packet', 'Calls', '    let before = opening link at trace in\n    join',
+     '    let before = discarded flow ∷ opening link at trace in\n    join', 'laws_of_discards', 'deletes'),
+    ('a busy period of any link forgets the tags of idle flows', 'SharedLinks',
+     ('cond (link_eq l link) 0 (last_finish_tag link flow trace)', '◌&&◌, List, []'),
+     ('cond (link_eq l link) 0 (cond (nat_eq (length (backlog link flow trace)) 0) 0 '
+      '(last_finish_tag link flow trace))',
+      '◌&&◌, length, List, []'), 'laws_of_resets', 'kept'),
+    ('each packet begins a busy period', 'SharedLinks',
+     'cond (nat_eq (waiting link trace) 0 && nat_le (free link trace) at) (opened link ∷ trace) trace',
+     'opened link ∷ trace', 'laws_of_resets', 'begins'),
+    ('each arrival makes its link free a nanosecond later', 'Links',
+     ('Start, Event, started}', 'free link (_ ∷ trace) = free link trace'),
+     ('Start, Event, arrived, started}',
+      'free link (arrived p ∷ trace) = cond (link_eq p.link link) (free link trace + 1) (free link trace)\n'
+      'free link (_ ∷ trace) = free link trace'), 'laws_of_links', 'kept'),
+    ('each arrival puts off what is due later on its link', 'Links',
+     ('Start, Event, started}', 'last_due rule link (_ ∷ trace) = last_due rule link trace'),
+     ('Start, Event, arrived, started}',
+      'last_due rule link (arrived p ∷ trace) = '
+      'cond (link_eq p.link link) (last_due rule link trace + 1) (last_due rule link trace)\n'
+      'last_due rule link (_ ∷ trace) = last_due rule link trace'), 'laws_of_links', 'kept'),
+    ('each arrival moves virtual time', 'SharedLinks',
+     ('Prelude.{ℕ, cond', 'virtual_time link (_ ∷ trace) = virtual_time link trace'),
+     ('Prelude.{ℕ, ◌+◌, cond',
+      'virtual_time link (arrived p ∷ trace) = '
+      'cond (link_eq p.link link) (virtual_time link trace + 1) (virtual_time link trace)\n'
+      'virtual_time link (_ ∷ trace) = virtual_time link trace'), 'laws_of_links', 'virtual_time'),
 ]
 
 

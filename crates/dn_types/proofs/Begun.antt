@@ -146,7 +146,7 @@ module _ (P : Event → List Event → Type 0) (old : List Event) where
   abbrev pub Adds : List Event → Type 0
   Adds new = (f : List Event) × (new ≡ f ++ old) × AllEvents f
 
-  adds-settle : (I : List Event → Type 0) (set : Settings) (at : ℕ) → ((s : Start) (f : List Event) → I f → I (started s ∷ f)) → ((link : Link) (s : Start) (f : List Event) → I f →
+  pub adds-settle : (I : List Event → Type 0) (set : Settings) (at : ℕ) → ((s : Start) (f : List Event) → I f → I (started s ∷ f)) → ((link : Link) (s : Start) (f : List Event) → I f →
       next_start set at link (f ++ old) ≡ Some s → P (started s) f) → (most : ℕ) (f : List Event) → I f → AllEvents f → Adds (settle most set at (f ++ old))
   adds-settle I set at keep each zero f i all = (f, refl, all)
   adds-settle I set at keep each (suc most) f i all = step (first_start set at (links (f ++ old)) (f ++ old)) refl (λ g. adds-settle I set at keep each most g)

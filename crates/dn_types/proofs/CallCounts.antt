@@ -50,7 +50,7 @@ module _ (p : Event → Bool) (no_opening : (l : Link) → p (opened l) ≡ fals
       by true = let one = count-one (arrived q) trace in let none = count-none (started (start_at set q.link q at)) (arrived q ∷ trace) (no_start (start_at set q.link q at)) in omega (arith, one, none)
       by false = count-one (arrived q) trace
 
-  opened-count : (b : Bool) (link : Link) (trace : List Event) → count_by p (cond b (opened link ∷ trace) trace) ≡ count_by p trace
+  pub opened-count : (b : Bool) (link : Link) (trace : List Event) → count_by p (cond b (opened link ∷ trace) trace) ≡ count_by p trace
   opened-count true link trace = count-none (opened link) trace (no_opening link)
   opened-count false link trace = refl
 
@@ -72,7 +72,7 @@ module _ (p : Event → Bool) (no_opening : (l : Link) → p (opened l) ≡ fals
       one true = count-none (discarded flow) trace (no_discard flow)
       one false = refl
 
-  command-count : (r : Reply) (command : Command) (known : List FlowKey) (trace : List Event) → count_by p (after_command r command known trace) ≡ count_by p trace
+  pub command-count : (r : Reply) (command : Command) (known : List FlowKey) (trace : List Event) → count_by p (after_command r command known trace) ≡ count_by p trace
   command-count Deleted command known trace = discard-count command 0 known trace
   command-count _ command known trace = refl
 

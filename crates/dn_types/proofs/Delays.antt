@@ -30,7 +30,7 @@ module _ (rule : Rule) where
     due = h.due;
   }
 
-  all-still : (e : Event) (trace : List Event) (ds : List Delivery) → All (IsDeliveryOf rule trace) ds → All (IsDeliveryOf rule (e ∷ trace)) ds
+  pub all-still : (e : Event) (trace : List Event) (ds : List Delivery) → All (IsDeliveryOf rule trace) ds → All (IsDeliveryOf rule (e ∷ trace)) ds
   all-still e trace ds h = λ k d lt. still e trace (get_or ds k d) (h k d lt)
 
   new-start : (s : Start) (trace : List Event) → IsDeliveryOf rule (started s ∷ trace) (delivery_of rule s (last_due rule s.packet.link trace))

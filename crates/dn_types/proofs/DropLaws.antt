@@ -79,7 +79,7 @@ module _ (known : List FlowKey) (target : Target) (packet : Packet) (at : ℕ) (
   by-command (DeletePipe number) rate most carrier h = absurd h
   by-command (DeleteQueue number) rate most carrier h = absurd h
 
-not-exhausted : (rule : Rule) (calls : List Call) (c : Call) → length calls < call_limit → reply rule calls c ≡ counted_reply rule calls c
+pub not-exhausted : (rule : Rule) (calls : List Call) (c : Call) → length calls < call_limit → reply rule calls c ≡ counted_reply rule calls c
 not-exhausted rule calls c h = let e : nat_le call_limit (length calls) ≡ false = grind (arith, nat_tests) in ap (λ b. cond b Exhausted (counted_reply rule calls c)) e
 
 pub drops-are-explained : (rule : Rule) (calls : List Call) (target : Target) (packet : Packet) (moment : ℕ) (command : Command) (rate : ℕ) (most : Limit) (carrier : ℕ) →

@@ -73,7 +73,7 @@ pub record IsWhole (set : Settings) (queues : List ℕ) : Type 0 where
 abbrev after : Settings → List ℕ → Command → Settings
 after set queues command target = cond (target_eq (subject command) target) (setting_after (command_reply set queues command) command (set target)) (set target)
 
-any-of : (test : ℕ → Bool) (q : ℕ) (queues : List ℕ) → test q ≡ true → list_any (λ x. nat_eq q x) queues ≡ true → list_any test queues ≡ true
+pub any-of : (test : ℕ → Bool) (q : ℕ) (queues : List ℕ) → test q ≡ true → list_any (λ x. nat_eq q x) queues ≡ true → list_any test queues ≡ true
 any-of test q [] is there = absurd cc
 any-of test q (x ∷ queues) is there = by (nat_eq q x) refl (test x) refl there (λ rest. any-of test q queues is rest)
   where

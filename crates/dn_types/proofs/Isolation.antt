@@ -153,7 +153,7 @@ module _ (rule : Rule) (link : Link) where
   untouched-opened false l trace other = (λ flow. refl, refl, refl, refl)
   untouched-opened true l trace other = (λ flow. refl, refl, refl, ap {B = ℕ} (λ b. cond b 0 (virtual_time link trace)) other)
 
-  abbrev IsElsewhere : Verdict → Type 0
+  abbrev pub IsElsewhere : Verdict → Type 0
   IsElsewhere (takes l flow how) = link_eq l link ≡ false
   IsElsewhere _ = ⊤
 
@@ -168,7 +168,7 @@ module _ (rule : Rule) (link : Link) where
       let o = untouched-opened b l trace other in
       (λ f. j.0 f ∙ o.0 f, j.1 ∙ o.1, j.2 ∙ o.2, j.3 ∙ o.3)
 
-  elsewhere-by : (known : List FlowKey) (target : Target) (packet : Packet) (o : Option Treatment) (trace : List Event) (carrier : ℕ) → ((how : Treatment) → o ≡ Some how →
+  pub elsewhere-by : (known : List FlowKey) (target : Target) (packet : Packet) (o : Option Treatment) (trace : List Event) (carrier : ℕ) → ((how : Treatment) → o ≡ Some how →
       how.pipe ≡ carrier) → pipe_of link ≢ carrier → IsElsewhere (verdict_by known target packet o trace)
   elsewhere-by known target packet None trace carrier pipe other = tt
   elsewhere-by known target packet (Some how) trace carrier pipe other =
@@ -182,11 +182,11 @@ module _ (rule : Rule) (link : Link) where
       by l flow apart false true = tt
       by l flow apart false false = apart
 
-abbrev pipe-or : ℕ → Option Treatment → ℕ
+abbrev pub pipe-or : ℕ → Option Treatment → ℕ
 pipe-or d None = d
 pipe-or d (Some how) = how.pipe
 
-carried-by : (command : Command) (rate : ℕ) (most : Limit) (carrier : ℕ) → IsJudgedBy command rate most carrier → (how : Treatment) → treatment (Some command) ≡ Some how → how.pipe ≡ carrier
+pub carried-by : (command : Command) (rate : ℕ) (most : Limit) (carrier : ℕ) → IsJudgedBy command rate most carrier → (how : Treatment) → treatment (Some command) ≡ Some how → how.pipe ≡ carrier
 carried-by (Pipe number bw delay limit loss buckets mask) rate most carrier h how e = sym (ap (pipe-or 0) e) ∙ sym h.2
 carried-by (Queue number pipe weight limit loss buckets mask) rate most carrier h how e = sym (ap (pipe-or 0) e) ∙ sym h.2
 carried-by (DeletePipe number) rate most carrier h how e = absurd h

@@ -10,6 +10,7 @@ pub mod Bridge
 pub mod ConfiguredRate
 pub mod Conserving
 pub mod Delays
+pub mod Delivered
 mod DeleteWitnesses
 pub mod DropLaws
 pub mod Dues
@@ -65,3 +66,16 @@ pub mod Sums
 pub mod Timely
 pub mod TransmissionTime
 mod Witnesses
+pub mod ToldCommands
+pub mod Comes
+pub mod ToldCounts
+pub mod ToldDeliveries
+pub mod Acceptance
+pub mod AtHome
+pub mod Fates
+pub mod QueuesRate
+pub mod Spares
+pub mod Seen
+pub mod Tags
+pub mod Kept
+mod ReplyWitnesses

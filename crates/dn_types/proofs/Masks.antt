@@ -28,7 +28,7 @@ get-at : (before behind : List FlowKey) (key : FlowKey) → slice_get (before ++
 get-at [] behind key = refl
 get-at (x ∷ before) behind key = get-at before behind key
 
-stands-get : (known : List FlowKey) (flow : ℕ) (key : FlowKey) → StandsAt known flow key → slice_get known flow ≡ Some key
+pub stands-get : (known : List FlowKey) (flow : ℕ) (key : FlowKey) → StandsAt known flow key → slice_get known flow ≡ Some key
 stands-get known flow key at = ap (λ (ks : List FlowKey). slice_get ks flow) at.parts ∙ ap (slice_get (at.before ++ key ∷ at.behind)) (sym at.place) ∙ get-at at.before at.behind key
 
 -- The reply to a packet names the flow of its key.

@@ -125,7 +125,7 @@ started-below s later earlier h =
     omega arith
 
 -- What a reply tells of an accepted packet.
-queued : (rule : Rule) (calls : List Call) (target : Target) (packet : Packet) (moment at flow number : ℕ) → reply rule calls (Submit target packet moment) ≡ Queued at flow number →
+pub queued : (rule : Rule) (calls : List Call) (target : Target) (packet : Packet) (moment at flow number : ℕ) → reply rule calls (Submit target packet moment) ≡ Queued at flow number →
     (at ≡ effective_moment (Submit target packet moment ∷ calls)) × (number ≡ accepted_count (trace_of calls))
 queued rule calls target packet moment at flow number e = by (nat_le call_limit (length calls)) e
   where

@@ -16,6 +16,14 @@ ghost use Rattle.dn_types.specs.ConfiguredLaws.{
   StartsAtOnce,
   StartsTheNext,
 };
+ghost use Rattle.dn_types.specs.KeptLaws.{
+  BusyPeriodsBegin,
+  ClockSparesTags,
+  LinksAreKept,
+  PacketsSpareTags,
+  TagsAreKept,
+  VirtualTimeIsKept,
+};
 ghost use Rattle.dn_types.specs.Laws.{
   BytesAreBounded,
   CountsAreBounded,
@@ -53,7 +61,29 @@ ghost use Rattle.dn_types.specs.PartLaws.{
   PartsRestOnTheirPipe,
   ReplaysFallApart,
 };
+ghost use Rattle.dn_types.specs.PacketLaws.{
+  ArrivalsAreTold,
+  CommandsSpare,
+  DiscardsAreDeletes,
+  PacketsAddUp,
+  QueuedPacketsArrive,
+  QueuesShareTheRate,
+};
 ghost use Rattle.dn_types.specs.RateLaws.{KeepsTheConfiguredRate};
+ghost use Rattle.dn_types.specs.ReplyLaws.{
+  ClockIsTheGreatest,
+  CollectsAreTold,
+  CommandsAreTold,
+  FlowsWereTold,
+  LimitIsCounted,
+  PacketsAreNumbered,
+  QueuedPacketsAreDelivered,
+  QueuedPacketsStay,
+  RepliesTellTheClock,
+  ShowsAreTold,
+  ToldOnce,
+  ToldWhenDue,
+};
 ghost use Rattle.dn_types.specs.ResetLaws.{
   DroppedChangesNothing,
   PipeDeleteResets,
@@ -150,7 +180,9 @@ pub fn laws_of_drops()
     ensures unconfigured { NoneUnconfigured }
 {}
 
-/// A packet starts as soon as its link is free, with the bandwidth and the delay in force.
+/// A packet starts as soon as its link is free, with the bandwidth and the delay in force. Nothing but a
+/// start moves the moment at which a link is free, its last due moment or, in a busy period, its
+/// virtual time.
 pub fn laws_of_links()
     ensures at_once { StartsAtOnce }
     ensures never_idle { IsNeverIdle }
@@ -160,6 +192,8 @@ pub fn laws_of_links()
     ensures rate { KeepsTheRate }
     ensures configured_rate { KeepsTheConfiguredRate }
     ensures delay { DelaysAreExplained }
+    ensures kept { LinksAreKept }
+    ensures virtual_time { VirtualTimeIsKept }
 {}
 
 /// What has happened stays: each call adds to it and changes nothing of it. A packet starts while a
@@ -176,13 +210,16 @@ pub fn laws_of_time()
     ensures in_order { GivesInOrder }
 {}
 
-/// A busy period begins with tags of 0, a delete forgets the tags of its flows, and a packet that
-/// is lost, refused or without a target changes no queue.
+/// A busy period begins with tags of 0, where the link is free and no packet waits for it; a delete
+/// forgets the tags of its flows; and a packet that is lost, refused or without a target changes no
+/// queue. Else a flow keeps the finish tag of its last packet.
 pub fn laws_of_resets()
     ensures afresh { TagsBeginAfresh }
     ensures queue_delete { QueueDeleteResets }
     ensures pipe_delete { PipeDeleteResets }
     ensures dropped { DroppedChangesNothing }
+    ensures begins { BusyPeriodsBegin }
+    ensures kept { TagsAreKept }
 {}
 
 /// A mask says which packets to a target are of one flow: those that agree in every bit of it.
@@ -216,6 +253,8 @@ pub fn laws_of_isolation()
     ensures queues { QueuesHavePipes }
     ensures packets { PacketsKeepApart }
     ensures other_pipes { OtherPipesChangeNothing }
+    ensures packet_tags { PacketsSpareTags }
+    ensures clock_tags { ClockSparesTags }
 {}
 
 /// What other links carry changes nothing on a link, and so what other pipes carry nothing on a pipe:
@@ -231,4 +270,42 @@ pub fn laws_of_parts()
     ensures whole { PartsAreWhole }
     ensures settings { PartsRestOnTheirPipe }
     ensures force { CommandsActByForce }
+{}
+
+/// A call is told what happens, and nothing else. The first 2^62 are answered. A packet, an Advance and a
+/// Collect are told the clock, and a command what is in force. A packet that is told to be queued waits,
+/// is discarded or starts, and is then delivered once: by the first Collect whose effective moment
+/// reaches its due moment. A Show tells how many packets of each flow were told to be lost, refused
+/// and queued, and of the queued ones how many started, wait and were discarded.
+pub fn laws_of_replies()
+    ensures limit { LimitIsCounted }
+    ensures clock { RepliesTellTheClock }
+    ensures greatest { ClockIsTheGreatest }
+    ensures commands { CommandsAreTold }
+    ensures numbers { PacketsAreNumbered }
+    ensures collects { CollectsAreTold }
+    ensures once { ToldOnce }
+    ensures due { ToldWhenDue }
+    ensures stay { QueuedPacketsStay }
+    ensures delivered { QueuedPacketsAreDelivered }
+    ensures shows { ShowsAreTold }
+    ensures flows { FlowsWereTold }
+{}
+
+/// What arrives is what was told to be queued: with its own length, on its flow's own link where it was
+/// sent to a pipe, and on the one link of the pipe where it was sent to a queue. So all queues of a
+/// pipe together keep the configured rate.
+pub fn laws_of_acceptance()
+    ensures arrivals { ArrivalsAreTold }
+    ensures queued { QueuedPacketsArrive }
+    ensures rate { QueuesShareTheRate }
+{}
+
+/// A queue is emptied by a delete alone, which reaches the flow's key and is told Deleted, and any other
+/// command makes nothing happen. So of the accepted packets of a flow each has started, waits or was
+/// discarded.
+pub fn laws_of_discards()
+    ensures deletes { DiscardsAreDeletes }
+    ensures spared { CommandsSpare }
+    ensures add_up { PacketsAddUp }
 {}

@@ -4,6 +4,8 @@ use Rattle.dn_types.proofs.Conserving.{conserves-work}
 use Rattle.dn_types.proofs.Delays.{delays-are-explained}
 use Rattle.dn_types.proofs.Rates.{starts-apart, keeps-the-rate}
 use Rattle.dn_types.proofs.StartLaws.{starts-at-once, starts-the-next, starts-as-configured}
+use Rattle.dn_types.proofs.Kept.{links-are-kept}
+use Rattle.dn_types.proofs.Kept.{virtual-time-is-kept}
 use Rattle.dn_types.proofs.laws.laws_of_links.Goals as goal
 
 pub returns-clause-at_once : goal.returns-clause-at_once
@@ -29,3 +31,9 @@ returns-clause-delay c = delays-are-explained
 
 pub returns-clause-configured_rate : goal.returns-clause-configured_rate
 returns-clause-configured_rate c = keeps-the-configured-rate
+
+pub returns-clause-kept : goal.returns-clause-kept
+returns-clause-kept c = links-are-kept
+
+pub returns-clause-virtual_time : goal.returns-clause-virtual_time
+returns-clause-virtual_time c = virtual-time-is-kept

@@ -1,5 +1,7 @@
 -- Each law is a lemma over the definitions.
 use Rattle.dn_types.proofs.Resets.{tags-begin-afresh, queue-delete-resets, pipe-delete-resets, dropped-changes-nothing}
+use Rattle.dn_types.proofs.Tags.{busy-periods-begin}
+use Rattle.dn_types.proofs.Tags.{tags-are-kept}
 use Rattle.dn_types.proofs.laws.laws_of_resets.Goals as goal
 
 pub returns-clause-afresh : goal.returns-clause-afresh
@@ -13,3 +15,9 @@ returns-clause-pipe_delete c = pipe-delete-resets
 
 pub returns-clause-dropped : goal.returns-clause-dropped
 returns-clause-dropped c = dropped-changes-nothing
+
+pub returns-clause-begins : goal.returns-clause-begins
+returns-clause-begins c = busy-periods-begin
+
+pub returns-clause-kept : goal.returns-clause-kept
+returns-clause-kept c = tags-are-kept
