@@ -1,10 +1,15 @@
 -- Each turn of the loop over packets tells the fate of one packet more.
-use Rattle.std.proofs.Common.{◌≡◌, ◌≢◌, ◌∙◌, ◌<◌, ◌+◌, ⊎_elim, ℕ, true, false, List, [], ◌∷◌, ◌++◌, get_or, map, reverse, take, drop, set, length, ap, sym, subst, arith}
+use Rattle.std.proofs.Common.{◌≡◌, ◌≢◌, ◌∙◌, ◌<◌, ◌+◌, ⊎_elim, ℕ, Bool, cond, nat_le, refl, true, false, true≢false, List, [], ◌∷◌, ◌++◌, get_or, map, reverse, take, drop, set, length, ap, sym, subst, arith}
 use Rattle.std.proofs.lemmas.Bool.{cases_eq}
 use Rattle.std.proofs.lemmas.Bool.Decides.{nat_tests}
 use Rattle.std.proofs.lemmas.List.{reverse-append, take_more, map-append, get_or_default, get_or-set_same, get_or-set_other, get_or-drop, drop-drop, drop-set-lt}
-use Rattle.dn_types.specs.Replies.{reply}
+use Rattle.dn_types.specs.Calls.{Verdict, no_target, loses, refuses, takes}
+use Rattle.dn_types.specs.Clock.{call_limit}
+use Rattle.dn_types.specs.Replies.{counted_reply, reply, reply_to_verdict}
+use Rattle.dn_types.specs.Trace.{Event}
 use Rattle.dn_types.specs.declared.call.Call.{Call}
+use Rattle.dn_types.specs.declared.reply.Reply.{Reply}
+use Rattle.dn_types.specs.declared.reply.Reply.TheVariants.{Exhausted}
 use Rattle.dn_types.specs.declared.rule.Rule.{Rule}
 use Rattle.hingetulip_c.specs.Many.{AreTold, reply_at, sent}
 use Rattle.hingetulip_c.specs.Statuses.{answered}
@@ -54,3 +59,23 @@ unanswered status some more = grind (arith, nat_tests)
 
 pub is_answered : (status : ℕ) → status ≡ 0 → answered status ≡ true
 is_answered status zero = ap answered zero
+
+pub is_answered_last : (status : ℕ) → status ≡ 1 → answered status ≡ true
+is_answered_last status one = ap answered one
+
+pub answered_once : {A : Type 0} (status : ℕ) → answered status ≡ true → answered status ≡ false → A
+answered_once status was isnt = absurd (true≢false (sym was ∙ isnt))
+
+-- A packet to which no fate is told was answered Exhausted.
+verdict_told : (at : ℕ) (v : Verdict) (trace : List Event) → fate_status (reply_to_verdict at v trace) ≡ 0
+verdict_told at no_target trace = refl
+verdict_told at (loses link flow) trace = refl
+verdict_told at (refuses link flow) trace = refl
+verdict_told at (takes link flow how) trace = refl
+
+untold_by : (limit : Bool) (r : Reply) → fate_status r ≡ 0 → fate_status (cond limit Exhausted r) ≡ 1 → cond limit Exhausted r ≡ Exhausted
+untold_by true r zero one = refl
+untold_by false r zero one = let none : ⊥ = omega (arith, zero, one) in absurd none
+
+pub untold : (rule : Rule) (calls : List Call) (p : CPacket) → fate_status (reply rule calls (submit_of p)) ≡ 1 → reply rule calls (submit_of p) ≡ Exhausted
+untold rule calls p one = untold_by (nat_le call_limit (length calls)) (counted_reply rule calls (submit_of p)) (verdict_told _ _ _) one

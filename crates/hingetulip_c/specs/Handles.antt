@@ -1,10 +1,11 @@
 -- A handle: the one shaper that it holds where it is open, and the calls after which that stands.
-use Rattle.std.specs.Prelude.{◌≡◌, Bool, true, false, List, [], ◌∷◌}
+use Rattle.std.specs.Prelude.{◌≡◌, ◌<◌, Bool, true, false, List, [], ◌∷◌, length}
+use Rattle.dn_types.specs.Clock.{call_limit, counted}
 use Rattle.dn_types.specs.Replies.{reply}
 use Rattle.dn_types.specs.declared.call.Call.{Call}
 use Rattle.dn_types.specs.declared.reply.Reply.{Reply}
 use Rattle.dn_types.specs.declared.rule.Rule.{Rule}
-use Rattle.dn_shaper.specs.Shaper.{StandsAfter}
+use Rattle.dn_shaper.specs.Shaper.{CanNeedMemory, StandsAfter}
 use Rattle.dn_shaper.specs.declared.state.State.{State}
 use Rattle.std.specs.contracts.impls.GlobalAllocator.TheImpl.{ghosts}
 use mir.Syntax.{Ty}
@@ -36,3 +37,7 @@ StillHeld old new = (rule : Rule) (calls : List Call) → HeldAfter rule old cal
 -- Whatever calls it stood after, the reply is the definition's, and it stands after one call more.
 abbrev pub AnswersHeld : Call → List State → List State → Reply → Type 0
 AnswersHeld call old new r = (rule : Rule) (calls : List Call) → HeldAfter rule old calls → (r ≡ reply rule calls call) × HeldAfter rule new (call ∷ calls)
+
+-- The call can be refused memory: fewer calls came than are answered, and it may take some.
+abbrev pub CanLackMemory : List Call → Call → Type 0
+CanLackMemory calls call = (length calls < call_limit) × CanNeedMemory (counted calls) call

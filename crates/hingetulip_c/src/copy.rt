@@ -1,4 +1,4 @@
-ghost use Rattle.std.specs.Prelude.{◌≡◌, ◌≤◌, true, length, take, map};
+ghost use Rattle.std.specs.Prelude.{◌≡◌, ◌≢◌, ◌≤◌, true, length, take, map};
 ghost use Rattle.dn_shaper.specs.Shaper.{items_in};
 ghost use Rattle.hingetulip_c.specs.Lists.{c_delivery, c_flow, deliveries_of, flows_of};
 ghost use Rattle.hingetulip_c.specs.Statuses.{answered, collect_status, collect_count, show_status, show_count};
@@ -69,6 +69,7 @@ fn copy_flows(given: &[FlowStatus], list: &mut [CFlow])
 pub(crate) fn put_deliveries(reply: &Reply, list: &mut [CDelivery], count: &mut u64) -> u32
     ensures answered { answered result ≡ true }
     ensures status { result ≡ collect_status reply.now }
+    ensures no_list { result ≢ 0 → list.new ≡ list.old }
     ensures count { count.new ≡ collect_count count.old reply.now }
     ensures list { items_in reply.now ≤ length list.old → take (length (deliveries_of reply.now)) list.new ≡ deliveries_of reply.now }
 {
@@ -89,6 +90,7 @@ pub(crate) fn put_deliveries(reply: &Reply, list: &mut [CDelivery], count: &mut 
 pub(crate) fn put_flows(reply: &Reply, list: &mut [CFlow], count: &mut u64) -> u32
     ensures answered { answered result ≡ true }
     ensures status { result ≡ show_status reply.now }
+    ensures no_list { result ≢ 0 → list.new ≡ list.old }
     ensures count { count.new ≡ show_count count.old reply.now }
     ensures list { items_in reply.now ≤ length list.old → take (length (flows_of reply.now)) list.new ≡ flows_of reply.now }
 {

@@ -1,14 +1,14 @@
-ghost use Rattle.std.specs.Prelude.{◌≡◌, ◌≤◌, List, [], ◌∷◌, Err, IfOk, OnErr, IfErr, IfSome, IfNone, ◌⊎◌};
+ghost use Rattle.std.specs.Prelude.{◌≡◌, ◌≢◌, ◌≤◌, ℕ, List, [], ◌∷◌, Err, IfOk, OnErr, IfErr, IfSome, IfNone, ◌⊎◌};
 ghost use Rattle.std.specs.Option.{MatchOption};
 ghost use Rattle.std_alloc.specs.Box.Ownership.{box_owns};
-ghost use Rattle.dn_types.specs.Clock.{counted};
 ghost use Rattle.dn_types.specs.declared.call.Call.{Call as CallValue};
+ghost use Rattle.dn_types.specs.declared.call.Call.TheVariants.{Advance};
 ghost use Rattle.dn_types.specs.declared.rule.Rule.{Rule as RuleValue};
-ghost use Rattle.dn_shaper.specs.Shaper.{CanNeedMemory, items_in};
+ghost use Rattle.dn_shaper.specs.Shaper.{items_in};
 ghost use Rattle.dn_types.specs.Replies.{reply};
 ghost use Rattle.dn_shaper.specs.contracts.shaper.Shaper.{the_row};
 ghost use Rattle.dn_shaper.specs.declared.state.State.{State};
-ghost use Rattle.hingetulip_c.specs.Handles.{freed, owned_by, HeldAfter, StillHeld, AnswersHeld};
+ghost use Rattle.hingetulip_c.specs.Handles.{freed, owned_by, HeldAfter, StillHeld, AnswersHeld, CanLackMemory};
 ghost use Rattle.hingetulip_c.specs.Lists.{room_after};
 ghost use base.Stored.{coded_list};
 
@@ -96,7 +96,9 @@ impl Handle {
         ensures ok { IfOk result (λ r. AnswersHeld call.now self.old.held self.new.held r) }
         ensures err { OnErr result (StillHeld self.old.held self.new.held) }
         ensures closed { self.old.held ≡ [] → (result ≡ Err 5) × (self.new.held ≡ []) }
-        ensures why { IfErr result (λ status. ((status ≡ 5) × (self.old.held ≡ [])) ⊎ ((status ≡ 6) × ((rule : RuleValue) (calls : List CallValue) → HeldAfter rule self.old.held calls → CanNeedMemory (counted calls) call.now))) }
+        ensures why { IfErr result (λ status. ((status ≡ 5) × (self.old.held ≡ [])) ⊎ ((status ≡ 6) × ((rule : RuleValue) (calls : List CallValue) → HeldAfter rule self.old.held calls → CanLackMemory calls call.now))) }
+        ensures stays_open { self.new.held ≡ [] → self.old.held ≡ [] }
+        ensures advance { (moment : ℕ) → call.now ≡ Advance moment → IfErr result (λ status. status ≡ 5) }
     {
         let Some(mut shaper) = self.take(alloc) else {
             return Err(CLOSED);
@@ -115,6 +117,7 @@ impl Handle {
         ensures room { IfSome result (λ room. (rule : RuleValue) (calls : List CallValue) → HeldAfter rule self.old.held calls → room ≡ room_after rule calls) }
         ensures fits { IfSome result (λ room. (rule : RuleValue) (calls : List CallValue) → HeldAfter rule self.old.held calls → (c : CallValue) → items_in (reply rule calls c) ≤ room) }
         ensures closed { IfNone result (self.old.held ≡ []) }
+        ensures there { IfSome result (λ room. self.old.held ≢ []) }
     {
         let shaper = self.take(alloc)?;
         let room = shaper.reply_room();

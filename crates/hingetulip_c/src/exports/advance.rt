@@ -18,7 +18,7 @@ pub extern "C" fn dn_advance(alloc: Global, handle: &mut Handle, moment: u64, at
     ensures closed { handle.old.held ≡ [] → (answered result ≡ false) × (handle.new.held ≡ []) }
     ensures refused { answered result ≡ false → StillHeld handle.old.held handle.new.held }
     ensures no_clock { answered result ≡ false → at.new ≡ at.old }
-    ensures why { answered result ≡ false → ((result ≡ 9) × (2 ^ 62 < moment)) ⊎ ((result ≡ 5) × (handle.old.held ≡ [])) ⊎ (result ≡ 6) }
+    ensures why { answered result ≡ false → ((result ≡ 9) × (2 ^ 62 < moment)) ⊎ ((result ≡ 5) × (moment ≤ 2 ^ 62) × (handle.old.held ≡ [])) }
     ensures in_range { answered result ≡ true → moment ≤ 2 ^ 62 }
     ensures status { answered result ≡ true → (rule : RuleValue) (calls : List CallValue) → HeldAfter rule handle.old.held calls → result ≡ clock_status (reply rule calls (Advance moment)) }
     ensures clock { answered result ≡ true → (rule : RuleValue) (calls : List CallValue) → HeldAfter rule handle.old.held calls → at.new ≡ clock_of at.old (reply rule calls (Advance moment)) }

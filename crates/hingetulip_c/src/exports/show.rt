@@ -1,9 +1,9 @@
-ghost use Rattle.std.specs.Prelude.{◌≡◌, ◌<◌, ◌⊎◌, List, [], ◌∷◌, true, false, length, take};
+ghost use Rattle.std.specs.Prelude.{◌≡◌, ◌≢◌, ◌<◌, ◌⊎◌, List, [], ◌∷◌, true, false, length, take};
 ghost use Rattle.dn_types.specs.Replies.{reply};
 ghost use Rattle.dn_types.specs.declared.call.Call.{Call as CallValue};
 ghost use Rattle.dn_types.specs.declared.call.Call.TheVariants.{Show as ShowCall};
 ghost use Rattle.dn_types.specs.declared.rule.Rule.{Rule as RuleValue};
-ghost use Rattle.hingetulip_c.specs.Handles.{HeldAfter, StillHeld};
+ghost use Rattle.hingetulip_c.specs.Handles.{HeldAfter, StillHeld, CanLackMemory};
 ghost use Rattle.hingetulip_c.specs.Lists.{flows_of, room_after};
 ghost use Rattle.hingetulip_c.specs.Statuses.{answered, show_status, show_count};
 
@@ -24,8 +24,9 @@ pub extern "C" fn dn_show(
 ) -> u32
     ensures closed { handle.old.held ≡ [] → (answered result ≡ false) × (handle.new.held ≡ []) }
     ensures refused { answered result ≡ false → StillHeld handle.old.held handle.new.held }
-    ensures no_list { answered result ≡ false → list.new ≡ list.old }
-    ensures why { answered result ≡ false → ((result ≡ 5) × (handle.old.held ≡ [])) ⊎ (result ≡ 6) ⊎ (result ≡ 7) }
+    ensures no_list { result ≢ 0 → list.new ≡ list.old }
+    ensures no_count { answered result ≡ false → result ≢ 7 → count.new ≡ count.old }
+    ensures why { answered result ≡ false → ((result ≡ 5) × (handle.old.held ≡ [])) ⊎ ((result ≡ 6) × (handle.old.held ≢ []) × ((rule : RuleValue) (calls : List CallValue) → HeldAfter rule handle.old.held calls → CanLackMemory calls ShowCall)) ⊎ ((result ≡ 7) × (handle.old.held ≢ [])) }
     ensures room { result ≡ 7 → (rule : RuleValue) (calls : List CallValue) → HeldAfter rule handle.old.held calls → (count.new ≡ room_after rule calls) × (length list.old < room_after rule calls) }
     ensures status { answered result ≡ true → (rule : RuleValue) (calls : List CallValue) → HeldAfter rule handle.old.held calls → result ≡ show_status (reply rule calls ShowCall) }
     ensures count { answered result ≡ true → (rule : RuleValue) (calls : List CallValue) → HeldAfter rule handle.old.held calls → count.new ≡ show_count count.old (reply rule calls ShowCall) }

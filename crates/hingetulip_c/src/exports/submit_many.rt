@@ -1,9 +1,10 @@
 ghost use Rattle.std.specs.Prelude.{◌≡◌, ◌≢◌, ◌<◌, ◌⊎◌, ◌↔◌, List, [], ◌∷◌, length, get_or, take, drop};
 ghost use Rattle.dn_types.specs.declared.call.Call.{Call as CallValue};
+ghost use Rattle.dn_types.specs.declared.reply.Reply.TheVariants.{Exhausted};
 ghost use Rattle.dn_types.specs.declared.rule.Rule.{Rule as RuleValue};
-ghost use Rattle.hingetulip_c.specs.Handles.{HeldAfter};
-ghost use Rattle.hingetulip_c.specs.Many.{AreTold, sent};
-ghost use Rattle.hingetulip_c.specs.Submits.{Faulty, submit_of};
+ghost use Rattle.hingetulip_c.specs.Handles.{HeldAfter, CanLackMemory};
+ghost use Rattle.hingetulip_c.specs.Many.{AreTold, reply_at, sent};
+ghost use Rattle.hingetulip_c.specs.Submits.{Faulty, InRange, submit_of};
 ghost use Rattle.hingetulip_c.specs.declared.records.c_packet.CPacket.{CPacket as PacketValue};
 
 use crate::exports::submit::dn_submit;
@@ -22,14 +23,16 @@ pub extern "C" fn dn_submit_many(
     done: &mut u64,
 ) -> u32
     ensures room { (result ≡ 7) ↔ (length fates.old < length packets.now) }
+    ensures closed { handle.old.held ≡ [] → (result ≢ 1) × (done.new ≡ 0) × (handle.new.held ≡ []) }
+    ensures stays_open { handle.new.held ≡ [] → handle.old.held ≡ [] }
     ensures none { result ≡ 7 → done.new ≡ 0 }
     ensures all { result ≡ 0 → done.new ≡ length packets.now }
     ensures stops { result ≢ 0 → result ≢ 7 → done.new < length packets.now }
-    ensures why { result ≢ 0 → result ≢ 1 → result ≢ 7 → (p : PacketValue) → Faulty (get_or packets.now done.new p) result ⊎ ((result ≡ 5) × (handle.new.held ≡ [])) ⊎ (result ≡ 6) }
+    ensures why { result ≢ 0 → result ≢ 1 → result ≢ 7 → (p : PacketValue) → Faulty (get_or packets.now done.new p) result ⊎ (InRange (get_or packets.now done.new p) × (((result ≡ 5) × (handle.old.held ≡ [])) ⊎ ((result ≡ 6) × (handle.old.held ≢ []) × ((rule : RuleValue) (calls : List CallValue) → HeldAfter rule handle.old.held calls → CanLackMemory (sent (take done.new packets.now) calls) (submit_of (get_or packets.now done.new p)))))) }
     ensures fates { (rule : RuleValue) (calls : List CallValue) → HeldAfter rule handle.old.held calls → AreTold done.new rule calls packets.now fates.old fates.new }
     ensures others { drop done.new fates.new ≡ drop done.new fates.old }
     ensures stands { result ≢ 1 → (rule : RuleValue) (calls : List CallValue) → HeldAfter rule handle.old.held calls → HeldAfter rule handle.new.held (sent (take done.new packets.now) calls) }
-    ensures exhausted { result ≡ 1 → (p : PacketValue) (rule : RuleValue) (calls : List CallValue) → HeldAfter rule handle.old.held calls → HeldAfter rule handle.new.held (submit_of (get_or packets.now done.new p) ∷ sent (take done.new packets.now) calls) }
+    ensures exhausted { result ≡ 1 → (p : PacketValue) (rule : RuleValue) (calls : List CallValue) → HeldAfter rule handle.old.held calls → (reply_at rule calls packets.now done.new p ≡ Exhausted) × HeldAfter rule handle.new.held (submit_of (get_or packets.now done.new p) ∷ sent (take done.new packets.now) calls) }
 {
     if fates.len() < packets.len() {
         *done = 0;

@@ -1,13 +1,15 @@
 -- A turn tells the fate of one packet more, and the last one all of them.
-use Rattle.std.proofs.Common.{◌∙◌, ◌<◌, ⊎_elim, inl, inr, List, take, length, sym, subst, arith}
+use Rattle.std.proofs.Common.{◌≡◌, ◌∙◌, ◌<◌, ⊎_elim, inl, inr, List, ◌∷◌, get_or, take, length, sym, subst, arith}
 use Rattle.std.proofs.lemmas.List.{length-set, get_or_default}
+use Rattle.dn_types.specs.Replies.{reply}
 use Rattle.dn_types.specs.declared.call.Call.{Call}
-use Rattle.hingetulip_c.specs.Handles.{HeldAfter}
+use Rattle.dn_types.specs.declared.reply.Reply.TheVariants.{Exhausted}
+use Rattle.hingetulip_c.specs.Handles.{HeldAfter, CanLackMemory}
 use Rattle.hingetulip_c.specs.Many.{sent}
-use Rattle.hingetulip_c.specs.Submits.{Faulty}
+use Rattle.hingetulip_c.specs.Submits.{Faulty, InRange, submit_of}
 use Rattle.hingetulip_c.specs.declared.records.c_fate.CFate.{CFate}
 use Rattle.hingetulip_c.specs.declared.records.c_packet.CPacket.{CPacket}
-use Rattle.hingetulip_c.proofs.Many.{sent-more, told-more, others-more, unanswered, is_answered}
+use Rattle.hingetulip_c.proofs.Many.{sent-more, told-more, others-more, unanswered, is_answered, is_answered_last, answered_once, untold}
 use Rattle.hingetulip_c.proofs.exports.submit_many.dn_submit_many.Goals as goal
 
 -- What stands for a packet or a fate beyond the end of a list.
@@ -19,11 +21,31 @@ no_fate = record { at = 0; flow = 0; packet = 0; outcome = 0; reserved = 0 }
 
 pub returns-then-status-ne-OK-clause-why : goal.returns-then-status-ne-OK-clause-why
 returns-then-status-ne-OK-clause-why c some more room p =
-    let status = c.dn_submit-status.result in
+    let status = c.dn_submit-status.result in let inv = c.loop-i.invariant in let packets = c.args.packets.now in let i = c.loop-i.i in
+    let packet = get_or_default packets i no_packet p c.loop-i-test.true in
     ⊎_elim
-    (λ faulty. inl (subst (λ (q : CPacket). Faulty q status) (get_or_default c.args.packets.now c.loop-i.i no_packet p c.loop-i-test.true) faulty))
-    (λ in_range. ⊎_elim (λ closed. inr (inl (closed.0, (c.dn_submit-status.ensures.closed closed.1).1))) (λ memory. inr (inr memory.0)) in_range.1)
+    (λ faulty. inl (subst (λ (q : CPacket). Faulty q status) packet faulty))
+    (λ in_range. inr (
+      subst (λ (q : CPacket). InRange q) packet in_range.0,
+      ⊎_elim
+          (λ closed. inl (closed.0, inv.opened closed.1))
+          (λ memory. inr (
+            memory.0,
+            (λ shut. memory.1 (inv.closed shut).0),
+            λ rule calls held.
+                subst (λ (q : CPacket). CanLackMemory (sent (take i packets) calls) (submit_of q)) packet (memory.2 rule (sent (take i packets) calls) (inv.stands rule calls held)),
+          ))
+          in_range.1,
+    ))
     (c.dn_submit-status.ensures.why (unanswered status some more))
+
+pub returns-then-status-ne-OK-clause-exhausted : goal.returns-then-status-ne-OK-clause-exhausted
+returns-then-status-ne-OK-clause-exhausted c one p rule calls held =
+    let inv = c.loop-i.invariant in let packets = c.args.packets.now in let i = c.loop-i.i in let before = sent (take i packets) calls in
+    let stood = inv.stands rule calls held in let ok = is_answered_last c.dn_submit-status.result one in
+    subst (λ (q : CPacket). (reply rule before (submit_of q) ≡ Exhausted) × HeldAfter rule c.dn_submit-status.new.handle.held (submit_of q ∷ before))
+    (get_or_default packets i no_packet p c.loop-i-test.true)
+    (untold rule before (get_or packets i no_packet) (sym (c.dn_submit-status.ensures.status ok rule before stood) ∙ one), c.dn_submit-status.ensures.stands ok rule before stood)
 
 pub loop-i-preserved : goal.loop-i-preserved
 loop-i-preserved c =
@@ -37,6 +59,8 @@ loop-i-preserved c =
       told = λ rule calls held. let now = inv.stands rule calls held in let before = sent (take i packets) calls in
           told-more rule calls packets c.args.fates.now c.loop-i.fates i c.dn_submit-status.new.fate within room inv.others c.dn_submit-status.result no_packet no_fate zero
           (c.dn_submit-status.ensures.status ok rule before now) (c.dn_submit-status.ensures.fate ok rule before now) (inv.told rule calls held);
+      closed = λ shut. answered_once c.dn_submit-status.result ok (c.dn_submit-status.ensures.closed (inv.closed shut).0).0;
+      opened = λ shut. inv.opened (c.dn_submit-status.ensures.stays_open shut);
       others = others-more c.args.fates.now c.loop-i.fates i c.dn_submit-status.new.fate inv.others;
       long = length-set c.loop-i.fates i c.dn_submit-status.new.fate ∙ inv.long;
     }
