@@ -6,11 +6,12 @@ use Rattle.std.proofs.lemmas.List.Elements.{All-head, All-tail}
 use Rattle.csv.specs.Records.{field_at}
 use Rattle.dn_types.specs.declared.entry.Entry.{Entry}
 use Rattle.dn_types.specs.declared.rule.Rule.TheVariants.{Ordered}
-use Rattle.dn_records.specs.Records.{Fields}
+use Rattle.dn_records.specs.Records.{Fields, records_of}
 use Rattle.dn_history.specs.HistoryFile.{entries_from, entry_by, entry_from, end_by, history_from, history_in, reply_from}
 use Rattle.dn_history.specs.RecordsLeft.{next_record}
 use Rattle.dn_history.specs.HistoryRecords.{version_of}
-use Rattle.dn_history.specs.HistoryText.{end_record, entry_records, history_text}
+use Rattle.dn_history.specs.HistoryText.{end_record, entry_records, history_records, history_text}
+use Rattle.dn_history.specs.Remarks.{without_remarks}
 use Rattle.dn_history.specs.Ranges.{AreEntries, IsEntry, IsLong}
 use Rattle.dn_history.specs.declared.history_version.HistoryVersion.TheVariants.{Third}
 use Rattle.dn_history.proofs.CallsBack.{call_back, caller_back}
@@ -55,13 +56,17 @@ records_enough (e ∷ rest) =
     let both = length-append (entry_records e) (flat_map entry_records rest) in
     omega (arith, more, both)
 
--- The law that a written history reads back.
-pub reads_back : (entries : List Entry) → AreEntries entries → All (λ e. e.caller < 16) entries → history_in (history_text entries) ≡ Ok (Ordered, entries)
+-- A text whose records are those of a history, but for remarks, is read as that history.
+pub read_as : (text : List ℕ) (entries : List Entry) → without_remarks (records_of text) ≡ history_records entries → AreEntries entries → All (λ e. e.caller < 16) entries → history_in text ≡ Ok (Ordered, entries)
 unfolding history_from version_of next_record field_at
-reads_back entries held callers =
+read_as text entries is held callers =
     let body = flat_map entry_records entries in
     let last = end_record (length entries) in
     let both = length-append body (last ∷ []) in
     let few = records_enough entries in
     let enough : length entries < length (body ++ last ∷ []) + 1 = omega (arith, both, few) in
-    rw (history-back entries, entries_back entries callers held.each (length (body ++ last ∷ []) + 1) 0 2 (length entries) enough (omega arith) held.count) refl
+    rw (is, entries_back entries callers held.each (length (body ++ last ∷ []) + 1) 0 2 (length entries) enough (omega arith) held.count) refl
+
+-- The law that a written history reads back.
+pub reads_back : (entries : List Entry) → AreEntries entries → All (λ e. e.caller < 16) entries → history_in (history_text entries) ≡ Ok (Ordered, entries)
+reads_back entries held callers = read_as (history_text entries) entries (history-back entries) held callers

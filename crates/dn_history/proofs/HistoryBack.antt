@@ -16,7 +16,7 @@ use Rattle.dn_history.specs.EntryRecords.{call_record, delivery_record, item_rec
 use Rattle.dn_history.specs.HistoryText.{end_record, entry_records, history_header, history_records, history_text}
 use Rattle.dn_history.specs.Remarks.{is_remark, without_remarks}
 
-filled-append : (front back : List Fields) → AllFilled front → AllFilled back → AllFilled (front ++ back)
+pub filled-append : (front back : List Fields) → AllFilled front → AllFilled back → AllFilled (front ++ back)
 filled-append [] back f b = b
 filled-append ([] ∷ front) back f b = absurd f
 filled-append ((field ∷ fields) ∷ front) back f b = filled-append front back f b
@@ -34,9 +34,12 @@ items-filled (r.Delivered at list) = deliveries-filled list
 items-filled (r.Status list) = statuses-filled list
 items-filled _ = tt
 
+pub entry-filled : (e : Entry) → AllFilled (entry_records e)
+entry-filled e = items-filled e.reply
+
 entries-filled : (entries : List Entry) → AllFilled (flat_map entry_records entries)
 entries-filled [] = tt
-entries-filled (e ∷ rest) = filled-append (entry_records e) (flat_map entry_records rest) (items-filled e.reply) (entries-filled rest)
+entries-filled (e ∷ rest) = filled-append (entry_records e) (flat_map entry_records rest) (entry-filled e) (entries-filled rest)
 
 -- A history file begins with a letter.
 no-mark : (entries : List Entry) → HasNoMark (history_text entries)

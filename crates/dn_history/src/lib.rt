@@ -8,4 +8,4 @@ mod write;
 pub use read::{
     EntryReader, HISTORY_LIMIT, HistoryParts, is_call, read_caller, read_history, read_plain_call,
 };
-pub use write::{write_end, write_entry, write_history};
+pub use write::{entry_in_range, write_end, write_entry, write_history};

@@ -8,3 +8,4 @@ mod replies;
 mod target;
 
 pub use history::{write_end, write_entry, write_history};
+pub use ranges::entry_in_range;

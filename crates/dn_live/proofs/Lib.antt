@@ -1,3 +1,4 @@
+pub mod Callers
 pub mod Commands
 pub mod FieldSteps
 pub mod LineSteps

@@ -1,5 +1,5 @@
 -- A session, line by line.
-use Rattle.std.proofs.Common.{◌≡◌, ◌∙◌, refl, sym, ap, subst, ℕ, ◌<◌, ◌≤◌, ◌+◌, inl, Bool, true, false, List, [], ◌∷◌, ◌++◌, Option, Some, None, length, length-append, take, append_assoc, append-nil, arith}
+use Rattle.std.proofs.Common.{◌≡◌, ◌∙◌, refl, sym, ap, subst, ℕ, ◌<◌, ◌≤◌, ◌+◌, ◌^◌, inl, Bool, true, false, List, [], ◌∷◌, ◌++◌, Option, Some, None, length, length-append, take, append-nil, arith}
 use Rattle.std.proofs.Math.Seq.{take-append-add}
 use Rattle.std.proofs.lemmas.List.{take-append-le}
 use Rattle.std.proofs.lemmas.List.Elements.{All-cons, All-nil}
@@ -23,10 +23,11 @@ use Rattle.dn_files.specs.declared.replay_fault.ReplayFault.TheVariants.{BadRow,
 use Rattle.dn_files.specs.declared.source.Source.TheVariants.{History}
 use Rattle.dn_live.specs.Asked.{asked}
 use Rattle.dn_live.specs.LinesTaken.{HasFront, IsLine, IsNotTaken, TakesLine}
-use Rattle.dn_live.specs.Session.{answer, answers, bad_lines, bad_of, bad_tail, begun, calls_after, calls_of, closing, count_of, IsBrokenOff, IsServed, lines_text, served_of, tail_answer}
+use Rattle.dn_live.specs.Session.{answer, answers, bad_lines, bad_of, bad_tail, begun, calls_after, calls_of, closing, count_of, IsBrokenOff, lines_text, served_of, tail_answer}
 use Rattle.dn_live.specs.declared.asked.Asked.{Asked}
 use Rattle.dn_live.specs.declared.asked.Asked.TheVariants.{Nothing, Next, Calls, Bad}
 use Rattle.dn_live.specs.declared.served.Served.{Served}
+use Rattle.dn_live.specs.Transcripts.{AreTyped, IsServedTyped, IsTyped}
 use Rattle.dn_live.proofs.LineSteps.{front, front-behind}
 
 pub counts : (calls : List Call) (what : Asked) → length (calls_after calls what) ≡ length calls + count_of what
@@ -173,6 +174,14 @@ pub stands-more : (shaper : State) (lines : List (List ℕ)) (line : List ℕ) �
 unfolding calls_of
 stands-more shaper lines line h = h
 
+pub typed-first : AreTyped []
+unfolding AreTyped
+typed-first = tt
+
+pub typed-more : (lines : List (List ℕ)) (line : List ℕ) → IsTyped (calls_of lines) (asked line) → AreTyped lines → AreTyped (line ∷ lines)
+unfolding AreTyped
+typed-more lines line one all = (one, all)
+
 pub count-first : 0 ≡ length (calls_of [])
 unfolding calls_of
 count-first = refl
@@ -199,16 +208,19 @@ module _ (known mid new old wrote : Option (List ℕ)) (lines : List (List ℕ))
   served-is : record { calls = so_far.calls; bad = so_far.bad + bad_tail slice } ≡ served_of lines line
   served-is = rw (same, count, bads) refl
 
-  pub served : (now : Option (List ℕ)) (told : Served) → found ≡ false
-      → (told ≡ record { calls = so_far.calls; bad = so_far.bad + bad_tail slice }) × Appends wrote now (text_of (tail_answer number slice ++ end_record so_far.calls ∷ [])) → IsServed known old now told
-  served now told f w =
+  pub served-typed : (now : Option (List ℕ)) (told : Served) → AreTyped lines → length lines < 2 ^ 64 → found ≡ false
+      → (told ≡ record { calls = so_far.calls; bad = so_far.bad + bad_tail slice }) × Appends wrote now (text_of (tail_answer number slice ++ end_record so_far.calls ∷ [])) → IsServedTyped known old now told
+  served-typed now told typed few f w =
       let took = rw f at takes in (
         lines,
         line,
-        ended known new (lines_text lines ++ line) (Consumes-trans known mid new (lines_text lines) line taken took.0) took.1,
-        All-cons IsLine line lines one all,
-        Appends-trans old wrote now (begun lines) (closing lines line) app (subst (Appends wrote now) closing-is w.1),
-        w.0 ∙ served-is,
+        (typed, few),
+        (
+          ended known new (lines_text lines ++ line) (Consumes-trans known mid new (lines_text lines) line taken took.0) took.1,
+          All-cons IsLine line lines one all,
+          Appends-trans old wrote now (begun lines) (closing lines line) app (subst (Appends wrote now) closing-is w.1),
+          w.0 ∙ served-is,
+        ),
       )
 
   pub unended : (now : Option (List ℕ)) (read_failed failed : Bool) (fault : ReplayFault) → found ≡ false → read_failed ≡ false
@@ -230,10 +242,10 @@ module _ (known mid new old wrote : Option (List ℕ)) (lines : List (List ℕ))
 
   pub line-more : (now : Option (List ℕ)) (shaper : State) (made next : Served) → found ≡ true → (made.calls ≡ count_of (asked slice)) × (made.bad ≡ bad_of (asked slice))
       → next ≡ record { calls = so_far.calls + made.calls; bad = so_far.bad + made.bad }
-      → StandsAfter Ordered shaper (calls_after (calls_of lines) (asked slice)) × Appends wrote now (text_of (answer number (calls_of lines) (asked slice)))
+      → StandsAfter Ordered shaper (calls_after (calls_of lines) (asked slice)) × Appends wrote now (text_of (answer number (calls_of lines) (asked slice))) × IsTyped (calls_of lines) (asked slice) → AreTyped lines
       → (more : List (List ℕ)) × Consumes known new (lines_text more) × All IsLine more × Appends old now (begun more) × StandsAfter Ordered shaper (calls_of more)
-      × (next.calls ≡ length (calls_of more)) × (next.bad ≡ bad_lines more) × (number + 1 ≡ length more + 1)
-  line-more now shaper made next f m is h = (
+      × (next.calls ≡ length (calls_of more)) × (next.bad ≡ bad_lines more) × (number + 1 ≡ length more + 1) × AreTyped more
+  line-more now shaper made next f m is h typed = (
     line ∷ lines,
     took-line f,
     All-cons IsLine line lines one all,
@@ -242,4 +254,5 @@ module _ (known mid new old wrote : Option (List ℕ)) (lines : List (List ℕ))
     ap (λ (s : Served). s.calls) is ∙ count-more lines line so_far.calls made.calls count (rw same at m.0),
     ap (λ (s : Served). s.bad) is ∙ bad-more lines line so_far.bad made.bad bads (rw same at m.1),
     omega (arith, at),
+    typed-more lines line (rw same at h.2) typed,
   )

@@ -7,7 +7,6 @@ use Rattle.dn_types.specs.Calls.{trace_of}
 use Rattle.dn_types.specs.Clock.{counted}
 use Rattle.dn_types.specs.Replies.{reply}
 use Rattle.dn_types.specs.declared.call.Call.{Call}
-use Rattle.dn_types.specs.declared.entry.Entry.{Entry}
 use Rattle.dn_types.specs.declared.rule.Rule.TheVariants.{Ordered}
 use Rattle.dn_shaper.specs.Waking.{wake_of}
 use Rattle.dn_records.specs.Devices.{AppendsPart}
@@ -106,9 +105,13 @@ abbrev pub served_of : List (List ℕ) → List ℕ → Served
 served_of lines tail = record { calls = length (calls_of lines); bad = bad_lines lines + bad_tail tail }
 
 -- The input was these lines and this tail, and all was written of them.
-abbrev pub IsServed : Option (List ℕ) → Option (List ℕ) → Option (List ℕ) → Served → Type 0
-IsServed known old new served = (lines : List (List ℕ)) × (tail : List ℕ) × IsTextOf known (lines_text lines ++ tail)
+abbrev pub IsServedBy : Option (List ℕ) → Option (List ℕ) → Option (List ℕ) → Served → List (List ℕ) → List ℕ → Type 0
+IsServedBy known old new served lines tail = IsTextOf known (lines_text lines ++ tail)
     × All IsLine (tail ∷ lines) × Appends old new (begun lines ++ closing lines tail) × (served ≡ served_of lines tail)
+
+-- The input was some lines and a tail, and all was written of them.
+abbrev pub IsServed : Option (List ℕ) → Option (List ℕ) → Option (List ℕ) → Served → Type 0
+IsServed known old new served = (lines : List (List ℕ)) × (tail : List ℕ) × IsServedBy known old new served lines tail
 
 -- These lines were answered, and nothing else was written.
 abbrev pub IsServedUpTo : Option (List ℕ) → Option (List ℕ) → Option (List ℕ) → List (List ℕ) → Type 0

@@ -4,14 +4,16 @@ ghost use Rattle.dn_types.specs.declared.call.Call.{Call as CallValue};
 ghost use Rattle.dn_types.specs.declared.rule.Rule.TheVariants.{Ordered};
 ghost use Rattle.dn_records.specs.Records.{line_of, text_of};
 ghost use Rattle.dn_history.specs.HistoryText.{end_record, entry_records};
+ghost use Rattle.dn_history.specs.Ranges.{IsEntry};
 ghost use Rattle.dn_shaper.specs.Shaper.{StandsAfter};
 ghost use Rattle.dn_live.specs.Session.{answer, bad_record, calls_after, next_record, tail_answer};
+ghost use Rattle.dn_live.specs.Transcripts.{IsTyped};
 
 use crate::asked::Asked;
 use crate::bad_line::BadLine;
 use crate::cause::Cause;
 use dn_files::number;
-use dn_history::{write_end, write_entry};
+use dn_history::{entry_in_range, write_end, write_entry};
 use dn_records::{Field, RecordWriter};
 use dn_shaper::Shaper;
 use dn_types::{Call, Entry};
@@ -78,20 +80,19 @@ fn call_text(
 ) -> Result<Vec<u8>, AllocError>
     ensures { IfOk result (λ text. (calls : List CallValue) → StandsAfter Ordered shaper.old calls →
         StandsAfter Ordered shaper.new (call ∷ calls)
-        × (text.items ≡ text_of (entry_records (record { caller = caller; call = call; reply = reply Ordered calls call })))) }
+        × (text.items ≡ text_of (entry_records (record { caller = caller; call = call; reply = reply Ordered calls call })))
+        × IsEntry (record { caller = caller; call = call; reply = reply Ordered calls call })) }
 {
     let reply = shaper.apply(&call)?;
     let mut writer = RecordWriter::new(alloc);
     writer.reserve(ENTRY_LEN)?;
-    write_entry(
-        alloc,
-        &mut writer,
-        &Entry {
-            caller,
-            call,
-            reply,
-        },
-    )?;
+    let entry = Entry {
+        caller,
+        call,
+        reply,
+    };
+    entry_in_range(&entry);
+    write_entry(alloc, &mut writer, &entry)?;
     Ok(writer.into_text())
 }
 
@@ -104,7 +105,7 @@ pub(crate) fn answer_text(
     asked: Asked,
 ) -> Result<Vec<u8>, AllocError>
     ensures { IfOk result (λ text. (calls : List CallValue) → StandsAfter Ordered shaper.old calls →
-        StandsAfter Ordered shaper.new (calls_after calls asked) × (text.items ≡ text_of (answer line calls asked))) }
+        StandsAfter Ordered shaper.new (calls_after calls asked) × (text.items ≡ text_of (answer line calls asked)) × IsTyped calls asked) }
 {
     match asked {
         Asked::Nothing => Ok(Vec::new(alloc)),

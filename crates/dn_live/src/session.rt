@@ -11,7 +11,7 @@ ghost use Rattle.dn_files.specs.declared.source.Source.TheVariants.{History};
 ghost use Rattle.dn_shaper.specs.Shaper.{StandsAfter};
 ghost use Rattle.dn_live.specs.Asked.{asked};
 ghost use Rattle.dn_live.specs.Session.{answer, bad_of, bad_tail, begun, calls_after, count_of, IsBrokenOff, IsServed, tail_answer};
-ghost use Rattle.dn_live.specs.Transcripts.{IsTranscript};
+ghost use Rattle.dn_live.specs.Transcripts.{IsServedTyped, IsTranscript, IsTyped};
 
 use crate::answers::{answer_text, closing_text};
 use crate::line_source::LineSource;
@@ -51,7 +51,7 @@ fn serve_line<O: Outlet>(
     requires { O.has_failed out.old ≡ false }
     ensures ok { IfOk result (λ _. (calls : List CallValue) → StandsAfter Ordered shaper.old calls →
         StandsAfter Ordered shaper.new (calls_after calls (asked line.now))
-        × Appends (O.contents out.old) (O.contents out.new) (text_of (answer number calls (asked line.now)))) }
+        × Appends (O.contents out.old) (O.contents out.new) (text_of (answer number calls (asked line.now))) × IsTyped calls (asked line.now)) }
     ensures count { IfOk result (λ made. (made.calls ≡ count_of (asked line.now)) × (made.bad ≡ bad_of (asked line.now))) }
     ensures sound { IfOk result (λ _. O.has_failed out.new ≡ false) }
     ensures err { IfErr result (λ fault. (calls : List CallValue) → StandsAfter Ordered shaper.old calls →
@@ -122,7 +122,7 @@ fn serve<I: Inlet, O: Outlet>(
     requires shaper { StandsAfter Ordered shaper.old [] }
     requires input { I.has_failed input.old ≡ false }
     requires out { O.has_failed out.old ≡ false }
-    ensures ok { IfOk result (λ served. IsServed (I.remaining input.old) (O.contents out.old) (O.contents out.new) served) }
+    ensures ok { IfOk result (λ served. IsServedTyped (I.remaining input.old) (O.contents out.old) (O.contents out.new) served) }
     ensures inputs { IfOk result (λ _. I.has_failed input.new ≡ false) }
     ensures sound { IfOk result (λ _. O.has_failed out.new ≡ false) }
     ensures err { IfErr result (λ fault. IsBrokenOff (I.remaining input.old) (I.has_failed input.new)
@@ -172,7 +172,7 @@ pub fn live<I: Inlet, O: Outlet>(
     requires out { O.has_failed out.old ≡ false }
     ensures ok { IfOk result (λ served. IsServed (I.remaining input.old) (O.contents out.old) (O.contents out.new) served) }
 
-    // What was written is the history file of a lawful history, but for its remarks.
+    // What was written is the history file of a lawful history, but for its remarks, and is read as that.
     ensures lawful { IfOk result (λ _. IsTranscript (O.contents out.old) (O.contents out.new)) }
 
     // No read and no write failed.

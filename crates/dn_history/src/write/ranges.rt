@@ -66,7 +66,8 @@ fn reply_in_range(reply: &Reply)
     }
 }
 
-fn entry_in_range(entry: &Entry)
+/// Each number of an entry is in the range of its type.
+pub fn entry_in_range(entry: &Entry)
     ensures { IsEntry entry.now }
 {
     call_in_range(entry.call);

@@ -5,10 +5,11 @@ use Rattle.dn_types.specs.declared.rule.Rule.TheVariants.{Ordered}
 use Rattle.dn_shaper.specs.Shaper.{StandsAfter}
 use Rattle.dn_live.specs.LinesTaken.{IsLine}
 use Rattle.dn_live.specs.Session.{bad_lines, begun, calls_of, lines_text}
+use Rattle.dn_live.specs.Transcripts.{AreTyped}
 use Rattle.dn_live.proofs.session.serve.Given as goal
 
 -- The lines that were taken so far, newest first: they were answered, the shaper stands after their calls, and their
--- count and those of the calls and of the bad lines are known.
+-- count and those of the calls and of the bad lines are known. Their entries hold numbers of their types.
 abbrev pub invariant-loop-number : goal.invariant-loop-number
 invariant-loop-number g l = record {
   answered : (lines : List (List ℕ))
@@ -18,7 +19,8 @@ invariant-loop-number g l = record {
       × StandsAfter Ordered l.shaper (calls_of lines)
       × (l.so_far.calls ≡ length (calls_of lines))
       × (l.so_far.bad ≡ bad_lines lines)
-      × (l.number ≡ length lines + 1);
+      × (l.number ≡ length lines + 1)
+      × AreTyped lines;
   few : l.so_far.calls + 1 ≤ l.number;
   few_bad : l.so_far.bad + 1 ≤ l.number;
   input : g.I.Inlet.has_failed l.input ≡ false;
