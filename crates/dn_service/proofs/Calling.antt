@@ -9,7 +9,8 @@ use Rattle.dn_types.specs.declared.rule.Rule.TheVariants.{Ordered}
 use Rattle.dn_service.specs.Callers.{CallerView, Answered}
 use Rattle.dn_service.specs.Histories.{entry_of, AreBelow}
 use Rattle.dn_service.specs.Rule.{Follows}
-use Rattle.dn_service.specs.Seats.{SeatState, SeatView, Slot, Has, Each, sitting, with_taken, up_to_date, front_in, own_in}
+use Rattle.dn_service.specs.Pasts.{Past, BookView}
+use Rattle.dn_service.specs.Seats.{SeatState, SeatView, Slot, Has, Each, sitting, with_taken, with_history, up_to_date, front_in, own_in}
 use Rattle.dn_service.proofs.HistoryLaws.{own-more, below_more}
 use Rattle.dn_service.proofs.Taking.{slot_in}
 
@@ -25,6 +26,12 @@ module _ (k : ℕ) (m : SeatState) (is : IsSitting k m) where
   pub is_idle : m.0.taken ≡ None
   is_idle = ap (λ (x : SeatState). x.0.taken) is
 
+  pub seen_nothing : m.0.seen ≡ []
+  seen_nothing = ap (λ (x : SeatState). x.0.seen) is
+
+  pub shed_nothing : m.0.shed ≡ None
+  shed_nothing = ap (λ (x : SeatState). x.0.shed) is
+
   pub has_nothing : m.1 ≡ []
   has_nothing = ap (λ (x : SeatState). x.1) is
 
@@ -38,14 +45,14 @@ module _ (k : ℕ) (m : SeatState) (is : IsSitting k m) where
   has_seen history h = (subst (Each (Follows history)) accounts_is h).0
 
 -- two readings of what is in hand agree
-pub same_book : (cs : List (ℕ × Slot)) (a b : List Entry) → cs ≡ (0, Some a) ∷ [] → cs ≡ (0, Some b) ∷ [] → a ≡ b
-same_book cs a b p q = ap (slot_in []) (sym p ∙ q)
+pub same_book : (cs : List (ℕ × Slot)) (a b : BookView) → cs ≡ (0, Some a) ∷ [] → cs ≡ (0, Some b) ∷ [] → a ≡ b
+same_book cs a b p q = ap (slot_in a) (sym p ∙ q)
 
 -- the seat after the book was given back with a history
-pub now_sitting : (k : ℕ) (m m' : SeatState) (x : SeatView) (history later : List Entry) → IsSitting k m → x ≡ with_taken m.0 (Some history)
-    → m' ≡ (record { count = x.count; accounts = map (up_to_date later) x.accounts; taken = None }, []) → m' ≡ (sitting m.0.count k later (own_entries k later), [])
-now_sitting k m m' x history later is at told = told ∙ (λ i. (record { count = (at i).count; accounts = map (up_to_date later) (at i).accounts; taken = None }, []))
-    ∙ (λ i. (record { count = m.0.count; accounts = map (up_to_date later) (accounts_is k m is i); taken = None }, []))
+pub now_sitting : (k : ℕ) (m m' : SeatState) (x : SeatView) (past : Past) (later : List Entry) → IsSitting k m → x ≡ with_taken m.0 (Some past)
+    → m' ≡ (with_history x later, []) → m' ≡ (sitting m.0.count k later (own_entries k later), [])
+now_sitting k m m' x past later is at told = told ∙ (λ i. (with_history (at i) later, []))
+    ∙ (λ i. (record { count = m.0.count; accounts = map (up_to_date later) (accounts_is k m is i); taken = None; seen = seen_nothing k m is i; shed = shed_nothing k m is i }, []))
 
 pub answers : (service : TableId) (k : ℕ) (m m' : SeatState) (service' : TableId) (history : List Entry) (c : Call) (a : Reply) → IsSitting k m → k < m.0.count
     → IsLawful Ordered (history ++ entry_of k c a ∷ []) → AreBelow m.0.count history → Each (Follows history) m.0.accounts

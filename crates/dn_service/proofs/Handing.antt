@@ -9,23 +9,23 @@ use Rattle.atomic_table.specs.Table.{Splits, Joins}
 use Rattle.dn_types.specs.declared.entry.Entry.{Entry}
 use Rattle.dn_service.specs.Callers.{ServiceView, CallerView, new_caller, new_callers, has_number, accounts_of, IsAccountedFor, IsOf}
 use Rattle.dn_service.specs.Rule.{Follows, SeatRule}
-use Rattle.dn_service.specs.Seats.{Account, SeatState, SeatView, Has, Each, new_account, new_accounts, without_first, only_first, joined, spent, seat_with, sitting}
+use Rattle.dn_service.specs.Seats.{Account, SeatState, SeatView, Has, Each, new_account, new_accounts, without_first, only_first, joined, spent, seat_with, keeping, sitting}
 use Rattle.dn_service.proofs.Accounts.{has_none_new}
 use Rattle.dn_service.proofs.Splitting.{splits, joins}
 
 pub new_accounts_step : (k n : ℕ) → k < n → new_accounts k (n - k) ≡ new_account k ∷ new_accounts (k + 1) (n - (k + 1))
 new_accounts_step k n l = let e : n - k ≡ suc (n - (k + 1)) = omega arith in ap (new_accounts k) e
 
-pub hands_out : (n id count k : ℕ) (m : SeatState) → k < count → m ≡ (seat_with count (new_accounts k (count - k)), []) → Splits (SeatRule n) id m.0 (without_first m.0) (only_first m.0)
-hands_out n id count k m l is = let e : m.0 ≡ seat_with count (new_account k ∷ new_accounts (k + 1) (count - (k + 1))) = ap (λ x. x.0) is ∙ ap (seat_with count) (new_accounts_step k count l) in
+pub hands_out : (n id count k : ℕ) (m : SeatState) → k < count → m ≡ (keeping count [] (new_accounts k (count - k)), []) → Splits (SeatRule n) id m.0 (without_first m.0) (only_first m.0)
+hands_out n id count k m l is = let e : m.0 ≡ keeping count [] (new_account k ∷ new_accounts (k + 1) (count - (k + 1))) = ap (λ x. x.0) is ∙ ap (keeping count []) (new_accounts_step k count l) in
     subst (λ v. Splits (SeatRule n) id v (without_first v) (only_first v)) (sym e)
-    (splits n id count (new_account k) (new_accounts (k + 1) (count - (k + 1))) (has_none_new (k + 1) (count - (k + 1)) k (omega arith)))
+    (splits n id count [] (new_account k) (new_accounts (k + 1) (count - (k + 1))) (has_none_new (k + 1) (count - (k + 1)) k (omega arith)))
 
-pub left_over : (count k : ℕ) (m : SeatState) → k < count → m ≡ (seat_with count (new_accounts k (count - k)), []) → without_first m.0 ≡ seat_with count (new_accounts (k + 1) (count - (k + 1)))
-left_over count k m l is = ap without_first (ap (λ x. x.0) is ∙ ap (seat_with count) (new_accounts_step k count l))
+pub left_over : (count k : ℕ) (m : SeatState) → k < count → m ≡ (keeping count [] (new_accounts k (count - k)), []) → without_first m.0 ≡ keeping count [] (new_accounts (k + 1) (count - (k + 1)))
+left_over count k m l is = ap without_first (ap (λ x. x.0) is ∙ ap (keeping count []) (new_accounts_step k count l))
 
-pub handed : (count k : ℕ) (m : SeatState) → k < count → m ≡ (seat_with count (new_accounts k (count - k)), []) → only_first m.0 ≡ sitting count k [] []
-handed count k m l is = ap only_first (ap (λ x. x.0) is ∙ ap (seat_with count) (new_accounts_step k count l))
+pub handed : (count k : ℕ) (m : SeatState) → k < count → m ≡ (keeping count [] (new_accounts k (count - k)), []) → only_first m.0 ≡ sitting count k [] []
+handed count k m l is = ap only_first (ap (λ x. x.0) is ∙ ap (keeping count []) (new_accounts_step k count l))
 
 new_callers_more : (service : ServiceView) (j n : ℕ) → new_callers service j n ++ new_caller service (j + n) ∷ [] ≡ new_callers service j (n + 1)
 new_callers_more service j zero = let e : j + 0 ≡ j = omega arith in ap (λ k. new_caller service k ∷ []) e
@@ -36,15 +36,15 @@ pub one_more_caller : (service : ServiceView) (n : ℕ) → new_callers service 
 one_more_caller service n = let e : n ≡ 0 + n = omega arith in ap (λ k. new_callers service 0 n ++ new_caller service k ∷ []) e ∙ new_callers_more service 0 n
 
 -- the other's seat is that of one caller
-pub takes_in : (n id other a b k : ℕ) (ys : List Account) (front own : List Entry) (v w : SeatView) → v ≡ seat_with a ys
+pub takes_in : (n id other a b k : ℕ) (out : List Entry) (ys : List Account) (front own : List Entry) (v w : SeatView) → v ≡ keeping a out ys
     → w ≡ sitting b k front own → Joins (SeatRule n) id v other w (joined v w) spent
-takes_in n id other a b k ys front own v w e f =
+takes_in n id other a b k out ys front own v w e f =
     subst (λ (p : SeatView × SeatView). Joins (SeatRule n) id p.0 other p.1 (joined p.0 p.1) spent) (λ i. (sym e i, sym f i))
-    (joins n id a other b ys (record { number = k; front = front; own = own } ∷ []) (omega arith))
+    (joins n id a other b out ys (record { number = k; front = front; own = own } ∷ []) (omega arith))
 
-pub taken_in : (a : ℕ) (cs : List CallerView) (c : CallerView) (v w : SeatView) → v ≡ seat_with a (accounts_of cs)
-    → w ≡ sitting c.service.callers c.number c.front c.own → joined v w ≡ seat_with c.service.callers (accounts_of (cs ++ c ∷ []))
-taken_in a cs c v w e f = (λ i. joined (e i) (f i)) ∙ ap (seat_with c.service.callers) (sym (map-append (λ (x : CallerView). record { number = x.number; front = x.front; own = x.own }) cs (c ∷ [])))
+pub taken_in : (a : ℕ) (out : List Entry) (cs : List CallerView) (c : CallerView) (v w : SeatView) → v ≡ keeping a out (accounts_of cs)
+    → w ≡ sitting c.service.callers c.number c.front c.own → joined v w ≡ keeping c.service.callers out (accounts_of (cs ++ c ∷ []))
+taken_in a out cs c v w e f = (λ i. joined (e i) (f i)) ∙ ap (keeping c.service.callers out) (sym (map-append (λ (x : CallerView). record { number = x.number; front = x.front; own = x.own }) cs (c ∷ [])))
 
 -- what holds of each holds of the one between
 pub between : {X : Type 0} (P : X → Type 0) (xs : List X) (y : X) (ys all : List X) → xs ++ (y ∷ ys) ≡ all → All P all → P y

@@ -1,5 +1,5 @@
 -- Laws of histories: what one entry more does.
-use Rattle.std.proofs.Common.{◌≡◌, ◌≢◌, ℕ, ◌<◌, List, [], ◌∷◌, ◌++◌, refl, sym, ap, ◌∙◌, append_assoc, append-nil, eqb, eq-eqb, ne_eqb, cond, Bool}
+use Rattle.std.proofs.Common.{◌≡◌, ◌≢◌, ℕ, ◌<◌, ◌≤◌, ◌⊎◌, inl, inr, arith, drop, length, List, [], ◌∷◌, ◌++◌, refl, sym, ap, ◌∙◌, append_assoc, append-nil, eqb, eq-eqb, ne_eqb, cond, Bool}
 use Rattle.std.proofs.lemmas.List.Elements.{All-append, All-nil, All-cons, filter-append}
 use Rattle.dn_types.specs.History.{own_entries}
 use Rattle.dn_types.specs.declared.call.Call.{Call}
@@ -36,3 +36,16 @@ starts_none history = (history, refl)
 -- The history as it is once an entry with a copy of the reply was pushed.
 pub noted : (was kept now : List Entry) (k : ℕ) (c : Call) (r copy : Reply) → now ≡ kept ++ entry_of k c copy ∷ [] → kept ≡ was → copy ≡ r → now ≡ was ++ entry_of k c r ∷ []
 noted was kept now k c r copy pushed same is = pushed ∙ (λ i. same i ++ entry_of k c (is i) ∷ [])
+
+abbrev head_or : Entry → List Entry → Entry
+head_or d [] = d
+head_or d (x ∷ xs) = x
+
+-- Of two that begin one history, the longer begins with the shorter.
+pub begins_longer : (xs ys p q : List Entry) → xs ++ p ≡ ys ++ q → length xs ≤ length ys → StartsWith ys xs
+begins_longer [] ys p q e l = starts_none ys
+begins_longer (x ∷ xs) [] p q e l = absurd (omega arith)
+begins_longer (x ∷ xs) (y ∷ ys) p q e l =
+    let h = begins_longer xs ys p q (ap (drop 1) e) (omega arith) in
+    let same : x ≡ y = ap (head_or x) e in
+    (h.0, λ i. sym same i ∷ h.1 i)

@@ -2,7 +2,10 @@ pub mod Accounts
 pub mod Calling
 pub mod Handing
 pub mod HistoryLaws
+pub mod Lastings
+pub mod Outcomes
 pub mod Replying
 pub mod Splitting
 pub mod Taking
+pub mod Tokens
 pub mod Views

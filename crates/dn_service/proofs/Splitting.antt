@@ -5,17 +5,17 @@ use mathlib.Core.Option.{some, some-ne-none, some-injective}
 use native.Mathlib.Decide.{ℕ_discrete}
 use lib.ListN.{get_elem?}
 use prog.Atomic.{either}
-use Rattle.atomic_table.specs.Table.{State, Splits, Joins, opening}
+use Rattle.atomic_table.specs.Table.{Splits, Joins, opening}
 use Rattle.atomic_table.proofs.Lists.{at_set, set_else, at_longer, at_last}
 use Rattle.dn_types.specs.declared.entry.Entry.{Entry}
+use Rattle.dn_service.specs.Histories.{StartsWith}
+use Rattle.dn_service.specs.Pasts.{Past, BookView, Keeps, no_past}
 use Rattle.dn_service.specs.Rule.{Sits, SeatFits, SeatRule}
-use Rattle.dn_service.specs.Seats.{Account, SeatView, Slot, Each, Has, new_accounts, first_seat, seat_with, spent}
+use Rattle.dn_service.specs.Seats.{Account, SeatView, Each, Has, new_accounts, first_seat, seat_with, keeping, spent}
 use Rattle.dn_service.proofs.Accounts.{each_join, has_left, has_right, has_new}
 use Rattle.dn_service.proofs.HistoryLaws.{below_none, starts_none}
+use Rattle.dn_service.proofs.Taking.{TableState, same_shed}
 use Rattle.dn_service.proofs.Views.{set_there, seats_set, held_set, at_inside, added_last}
-
-abbrev TableState : Type 0
-TableState = State Slot SeatView
 
 module _ (n : ℕ) where
   each_new : (j m : ℕ) → j + m ≤ n → Each (Sits n [] (λ _. 0) 0) (new_accounts j m)
@@ -33,25 +33,27 @@ module _ (n : ℕ) where
   )
 
   -- a seat that has not taken the book, and whose callers another seat may stand for
-  refit : (w : ℕ) (history : List Entry) (seat_of seat_of' : ℕ → ℕ) (seat : ℕ) (u : SeatView)
+  refit : (w : ℕ) (past : Past) (seat_of seat_of' : ℕ → ℕ) (seat : ℕ) (u : SeatView)
       → ((k : ℕ) → w ≡ k + 1 → seat_of' k ≡ seat_of k) → ((k : ℕ) → seat_of k ≡ seat → seat_of' k ≡ seat)
-      → SeatFits n w history seat_of seat u → SeatFits n w history seat_of' seat u
-  refit w history seat_of seat_of' seat u at_word keep f = record {
+      → SeatFits n w past seat_of seat u → SeatFits n w past seat_of' seat u
+  refit w past seat_of seat_of' seat u at_word keep f = record {
     count = f.count;
-    accounts = rehold history seat_of seat_of' seat seat u.accounts (λ k _ e. keep k e) f.accounts;
+    accounts = rehold past.history seat_of seat_of' seat seat u.accounts (λ k _ e. keep k e) f.accounts;
     free = f.free;
     taken = λ k e h. f.taken k e (sym (at_word k e) ∙ h);
     idle = λ k e h. f.idle k e (λ q. h (at_word k e ∙ q));
+    seen = f.seen;
+    shed = f.shed;
   }
 
   -- the seat that a held caller has is there
-  seat_below : (s : TableState) (r : SeatRule n s) (k : ℕ) → k < n → r.seat_of k < length s.views
+  pub seat_below : (s : TableState) (r : SeatRule n s) (k : ℕ) → k < n → r.seat_of k < length s.views
   seat_below s r k l = let h = r.held k l in at_inside s.views (r.seat_of k) h.0 h.1
 
   -- the seat's first caller goes to a new seat
-  pub splits : (id m : ℕ) (x : Account) (xs : List Account) → ¬ Has x.number xs → Splits (SeatRule n) id (seat_with m (x ∷ xs)) (seat_with m xs) (seat_with m (x ∷ []))
-  splits id m x xs once s r at =
-      let f = r.seats id (seat_with m (x ∷ xs)) at in let u = seat_with m xs in let w = seat_with m (x ∷ []) in
+  pub splits : (id m : ℕ) (out : List Entry) (x : Account) (xs : List Account) → ¬ Has x.number xs → Splits (SeatRule n) id (keeping m out (x ∷ xs)) (keeping m out xs) (seat_with m (x ∷ []))
+  splits id m out x xs once s r at =
+      let f = r.seats id (keeping m out (x ∷ xs)) at in let u = keeping m out xs in let w = seat_with m (x ∷ []) in
       let vs : List SeatView = set s.views id u in
       let new : ℕ = length vs in
       let size : new ≡ length s.views = length-set s.views id u in
@@ -61,23 +63,27 @@ module _ (n : ℕ) where
       let count : m ≡ n = f.count (omega arith) in
       let seated : r.seat_of x.number ≡ id = f.accounts.0.seated in
       let at_word : (k : ℕ) → get_or s.words 0 0 ≡ k + 1 → seat_of k ≡ r.seat_of k = λ k e. same_seat_of k (λ q. let t = f.taken k e (ap r.seat_of q ∙ seated) in absurd (cc)) in
-      let fits : (j : ℕ) (a : SeatView) → get_elem? vs j ≡ some a → SeatFits n (get_or s.words 0 0) r.history seat_of j a = seats_set (SeatFits n (get_or s.words 0 0) r.history seat_of) s.views id u
+      let fits : (j : ℕ) (a : SeatView) → get_elem? vs j ≡ some a → SeatFits n (get_or s.words 0 0) r.past seat_of j a = seats_set (SeatFits n (get_or s.words 0 0) r.past seat_of) s.views id u
       record {
         count = λ _. count;
-        accounts = rehold r.history r.seat_of seat_of id id xs (λ k has e. same_seat_of k (λ q. once (subst (λ (z : ℕ). Has z xs) q has)) ∙ e) f.accounts.1;
+        accounts = rehold r.past.history r.seat_of seat_of id id xs (λ k has e. same_seat_of k (λ q. once (subst (λ (z : ℕ). Has z xs) q has)) ∙ e) f.accounts.1;
         free = λ _. refl;
         taken = λ k e h. f.taken k e (sym (at_word k e) ∙ h);
         idle = λ _ _ _. refl;
+        seen = f.seen;
+        shed = f.shed;
       }
-      (λ j a other there. refit (get_or s.words 0 0) r.history r.seat_of seat_of j a at_word (λ k e. same_seat_of k (λ q. other (sym e ∙ (ap r.seat_of q ∙ seated))) ∙ e) (r.seats j a there)) in
-      let fresh : SeatFits n (get_or s.words 0 0) r.history seat_of new w = record {
+      (λ j a other there. refit (get_or s.words 0 0) r.past r.seat_of seat_of j a at_word (λ k e. same_seat_of k (λ q. other (sym e ∙ (ap r.seat_of q ∙ seated))) ∙ e) (r.seats j a there)) in
+      let fresh : SeatFits n (get_or s.words 0 0) r.past seat_of new w = record {
         count = λ _. count;
         accounts = (record { below = f.accounts.0.below; seated = new_seat_of x.number refl; follows = f.accounts.0.follows }, tt);
         free = λ _. refl;
         taken = λ k e h. let b = r.word in let l = seat_below s r k (omega arith) in let q : r.seat_of k ≡ new = sym (at_word k e) ∙ h in absurd (omega arith);
         idle = λ _ _ _. refl;
+        seen = starts_none r.past.history;
+        shed = λ s' e. absurd (cc);
       } in record {
-        history = r.history;
+        past = r.past;
         seat_of = seat_of;
         one_word = r.one_word;
         one_slot = r.one_slot;
@@ -85,17 +91,17 @@ module _ (n : ℕ) where
         lawful = r.lawful;
         below = r.below;
         home = r.home;
-        seats = added_last vs w (SeatFits n (get_or s.words 0 0) r.history seat_of) fits fresh;
+        seats = added_last vs w (SeatFits n (get_or s.words 0 0) r.past seat_of) fits fresh;
         held = λ k l. dite (ℕ_discrete k x.number)
             (λ e. (w, subst (λ (z : ℕ). get_elem? (vs ++ w ∷ []) z ≡ some w) (sym (new_seat_of k e)) (at_last vs w new refl), inl (sym e)))
-            (λ ne. let t = held_set s.views id (seat_with m (x ∷ xs)) u at (r.seat_of k) k (λ has. ⊎_elim (λ (e : x.number ≡ k). absurd (ne (sym e))) (λ (h : Has k xs). h) has) (r.held k l) in
+            (λ ne. let t = held_set s.views id (keeping m out (x ∷ xs)) u at (r.seat_of k) k (λ has. ⊎_elim (λ (e : x.number ≡ k). absurd (ne (sym e))) (λ (h : Has k xs). h) has) (r.held k l) in
             (t.0, at_longer vs (w ∷ []) (seat_of k) t.0 (ap (get_elem? vs) (same_seat_of k ne) ∙ t.1), t.2));
       }
 
   -- the other's callers go to the seat
-  pub joins : (id a other b : ℕ) (ys zs : List Account) → 0 < length zs → Joins (SeatRule n) id (seat_with a ys) other (seat_with b zs) (seat_with b (ys ++ zs)) spent
-  joins id a other b ys zs some_there s r at apart there =
-      let v = seat_with a ys in let w = seat_with b zs in let u = seat_with b (ys ++ zs) in
+  pub joins : (id a other b : ℕ) (out : List Entry) (ys zs : List Account) → 0 < length zs → Joins (SeatRule n) id (keeping a out ys) other (seat_with b zs) (keeping b out (ys ++ zs)) spent
+  joins id a other b out ys zs some_there s r at apart there =
+      let v = keeping a out ys in let w = seat_with b zs in let u = keeping b out (ys ++ zs) in
       let x : ℕ = get_or s.words 0 0 in
       let there' : get_elem? s.views other ≡ some w = sym (set_else s.views id other u apart) ∙ there in
       let f = r.seats id v at in let g = r.seats other w there' in
@@ -105,24 +111,28 @@ module _ (n : ℕ) where
       let new_seat_of = λ (k : ℕ) (e : r.seat_of k ≡ other). ap (λ c. either c id (r.seat_of k)) (eq-eqb (r.seat_of k) other e) in
       let at_word : (k : ℕ) → x ≡ k + 1 → seat_of k ≡ r.seat_of k = λ k e. same_seat_of k (λ q. let t = g.taken k e q in absurd (cc)) in
       let count : b ≡ n = g.count some_there in
-      let mine : SeatFits n x r.history seat_of id u = record {
+      let mine : SeatFits n x r.past seat_of id u = record {
         count = λ _. count;
         accounts =
-            each_join (Sits n r.history seat_of id) ys zs
-            (rehold r.history r.seat_of seat_of id id ys (λ k _ e. same_seat_of k (λ q. apart (sym q ∙ e)) ∙ e) f.accounts)
-            (rehold r.history r.seat_of seat_of other id zs (λ k _ e. new_seat_of k e) g.accounts);
+            each_join (Sits n r.past.history seat_of id) ys zs
+            (rehold r.past.history r.seat_of seat_of id id ys (λ k _ e. same_seat_of k (λ q. apart (sym q ∙ e)) ∙ e) f.accounts)
+            (rehold r.past.history r.seat_of seat_of other id zs (λ k _ e. new_seat_of k e) g.accounts);
         free = λ _. refl;
         taken = λ k e h. f.taken k e (sym (at_word k e) ∙ h);
         idle = λ _ _ _. refl;
+        seen = f.seen;
+        shed = f.shed;
       } in
-      let gone : SeatFits n x r.history seat_of other spent = record {
+      let gone : SeatFits n x r.past seat_of other spent = record {
         count = λ l. absurd (omega arith);
         accounts = tt;
         free = λ _. refl;
         taken = λ k e h. g.taken k e (sym (at_word k e) ∙ h);
         idle = λ _ _ _. refl;
+        seen = starts_none r.past.history;
+        shed = λ s' e. absurd (cc);
       } in record {
-        history = r.history;
+        past = r.past;
         seat_of = seat_of;
         one_word = r.one_word;
         one_slot = r.one_slot;
@@ -131,9 +141,9 @@ module _ (n : ℕ) where
         below = r.below;
         home = r.home;
         seats =
-            seats_set (SeatFits n x r.history seat_of) vs other spent gone (λ j c ne e. seats_two (SeatFits n x r.history seat_of) j c ne e
+            seats_set (SeatFits n x r.past seat_of) vs other spent gone (λ j c ne e. seats_two (SeatFits n x r.past seat_of) j c ne e
             mine
-            (λ i d not_id not_other e'. refit x r.history r.seat_of seat_of i d at_word (λ k q. same_seat_of k (λ z. not_other (sym q ∙ z)) ∙ q) (r.seats i d e')));
+            (λ i d not_id not_other e'. refit x r.past r.seat_of seat_of i d at_word (λ k q. same_seat_of k (λ z. not_other (sym q ∙ z)) ∙ q) (r.seats i d e')));
         held = λ k l. dite (ℕ_discrete (r.seat_of k) other)
             (λ e. (
               u,
@@ -145,28 +155,36 @@ module _ (n : ℕ) where
       }
     where
       seats_two : (K : ℕ → SeatView → Type 0) (j : ℕ) (c : SeatView) → j ≢ other
-          → get_elem? (set s.views id (seat_with b (ys ++ zs))) j ≡ some c → K id (seat_with b (ys ++ zs))
+          → get_elem? (set s.views id (keeping b out (ys ++ zs))) j ≡ some c → K id (keeping b out (ys ++ zs))
           → ((i : ℕ) (d : SeatView) → i ≢ id → i ≢ other → get_elem? s.views i ≡ some d → K i d) → K j c
-      seats_two K j c ne e mine theirs = ⊎_elim (λ (t : (j ≡ id) × (seat_with b (ys ++ zs) ≡ c)). subst (λ (y : ℕ × SeatView). K y.0 y.1) (λ i. (sym t.0 i, t.1 i)) mine)
-          (λ (t : (j ≢ id) × (get_elem? s.views j ≡ some c)). theirs j c t.0 ne t.1) (at_set s.views id j (seat_with b (ys ++ zs)) c e)
+      seats_two K j c ne e mine theirs = ⊎_elim (λ (t : (j ≡ id) × (keeping b out (ys ++ zs) ≡ c)). subst (λ (y : ℕ × SeatView). K y.0 y.1) (λ i. (sym t.0 i, t.1 i)) mine)
+          (λ (t : (j ≢ id) × (get_elem? s.views j ≡ some c)). theirs j c t.0 ne t.1) (at_set s.views id j (keeping b out (ys ++ zs)) c e)
 
-  pub opens : SeatRule n (opening (0 ∷ []) (Some [] ∷ []) (first_seat n))
-  opens = record {
-    history = [];
+  pub opens : (book : BookView) → Keeps no_past book → SeatRule n (opening (0 ∷ []) (Some book ∷ []) (first_seat n))
+  opens book kept = record {
+    past = no_past;
     seat_of = λ _. 0;
     one_word = refl;
     one_slot = refl;
     word = omega arith;
     lawful = tt;
     below = below_none n;
-    home = λ _. refl;
+    home = λ _. (book, refl, kept);
     seats = λ j v e. only_first j v e;
     held = λ k l. (first_seat n, refl, has_new 0 n k (omega arith) (omega arith));
   }
     where
-      first_fits : SeatFits n 0 [] (λ _. 0) 0 (first_seat n)
-      first_fits = record { count = λ _. refl; accounts = each_new 0 n (omega arith); free = λ _. refl; taken = λ k e _. absurd (omega arith); idle = λ _ _ _. refl }
+      first_fits : SeatFits n 0 no_past (λ _. 0) 0 (first_seat n)
+      first_fits = record {
+        count = λ _. refl;
+        accounts = each_new 0 n (omega arith);
+        free = λ _. refl;
+        taken = λ k e _. absurd (omega arith);
+        idle = λ _ _ _. refl;
+        seen = starts_none [];
+        shed = λ s e. (refl, sym (same_shed (Some []) [] s refl e));
+      }
 
-      only_first : (j : ℕ) (v : SeatView) → get_elem? (first_seat n ∷ []) j ≡ some v → SeatFits n 0 [] (λ _. 0) j v
-      only_first zero v e = subst (SeatFits n 0 [] (λ _. 0) 0) (some-injective (first_seat n) v e) first_fits
+      only_first : (j : ℕ) (v : SeatView) → get_elem? (first_seat n ∷ []) j ≡ some v → SeatFits n 0 no_past (λ _. 0) j v
+      only_first zero v e = subst (SeatFits n 0 no_past (λ _. 0) 0) (some-injective (first_seat n) v e) first_fits
       only_first (suc j) v e = absurd (some-ne-none v (sym e))

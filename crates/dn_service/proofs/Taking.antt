@@ -1,4 +1,4 @@
--- The three steps on the lock word keep the rule of the table: the try, and the two ways to give the word back.
+-- The steps on the lock word keep the rule of the table: the try, and the ways to give the word back.
 use Rattle.std.proofs.Common.{◌≡◌, ◌≢◌, ℕ, ◌+◌, ◌-◌, ◌<◌, ◌≤◌, eqb, List, [], ◌∷◌, ◌++◌, map, length, get_or, set, sym, refl, ap, ◌∙◌, subst, arith, Option, Some, None, length-set, get_or-set_same, eq-eqb, ne_eqb}
 use mathlib.Core.Logic.{dite}
 use mathlib.Core.Option.{none, some}
@@ -12,35 +12,48 @@ use Rattle.atomic_table.proofs.Lists.{set_again}
 use Rattle.dn_types.specs.History.{IsLawful}
 use Rattle.dn_types.specs.declared.entry.Entry.{Entry}
 use Rattle.dn_types.specs.declared.rule.Rule.TheVariants.{Ordered}
-use Rattle.dn_service.specs.Histories.{AreBelow}
-use Rattle.dn_service.specs.Rule.{Follows, Sits, SeatFits, SeatRule}
-use Rattle.dn_service.specs.Seats.{Account, SeatState, SeatView, Slot, Each, Has, with_taken, up_to_date}
-use Rattle.dn_service.specs.Steps.{tried, returned, published}
+use Rattle.dn_service.specs.Histories.{StartsWith, AreBelow}
+use Rattle.dn_service.specs.Pasts.{Past, BookView, Keeps, no_past, with_entry, all_shed}
+use Rattle.dn_service.specs.Rule.{Follows, Sits, SeatFits, IsHome, SeatRule}
+use Rattle.dn_service.specs.Seats.{Account, SeatState, SeatView, Slot, Each, Has, with_taken, with_history, with_shed, up_to_date}
+use Rattle.dn_service.specs.Steps.{tried, returned, published, emptied}
 use Rattle.dn_service.proofs.Accounts.{each_map, each_at, has_some, has_updated}
 use Rattle.dn_service.proofs.HistoryLaws.{own-other, below_more, starts_more, starts_all}
 use Rattle.dn_service.proofs.Views.{one_home, seats_set, held_set}
 
-abbrev TableState : Type 0
+abbrev pub TableState : Type 0
 TableState = State Slot SeatView
 
 abbrev some_is : {A : Type 0} → Option A → A → A
 some_is (Some x) d = x
 some_is None d = d
 
--- The history in the first slot in hand, or this one where there is none.
-abbrev pub slot_in : List Entry → List (ℕ × Slot) → List Entry
+-- The book in the first slot in hand, or this one where there is none.
+abbrev pub slot_in : BookView → List (ℕ × Slot) → BookView
 slot_in d [] = d
 slot_in d (x ∷ xs) = some_is x.1 d
 
+-- The past that was taken.
+pub same_past : (t : Option Past) (a b : Past) → t ≡ Some a → t ≡ Some b → a ≡ b
+same_past t a b p q = ap (λ o. some_is o a) (sym p ∙ q)
+
+-- What was taken out.
+pub same_shed : (t : Option (List Entry)) (a b : List Entry) → t ≡ Some a → t ≡ Some b → a ≡ b
+same_shed t a b p q = ap (λ o. some_is o a) (sym p ∙ q)
+
+updated_some : (history : List Entry) (xs : List Account) → 0 < length (map (up_to_date history) xs) → 0 < length xs
+updated_some history [] l = l
+updated_some history (x ∷ xs) l = omega arith
+
 module _ (n : ℕ) where
-  -- a step of the seat id, after which the word is `word` and the history `history`
-  moved : (s : TableState) (r : SeatRule n s) (id : ℕ) (v w : SeatView) (word : ℕ) (homes' : List (maybe.Option Slot)) (history : List Entry)
-      → get_elem? s.views id ≡ some v → word ≤ n → length homes' ≡ 1 → IsLawful Ordered history → AreBelow n history → (word ≡ 0 → get_elem? homes' 0 ≡ some (some (Some history)))
-      → SeatFits n word history r.seat_of id w → ((j : ℕ) (u : SeatView) → j ≢ id → get_elem? s.views j ≡ some u → SeatFits n word history r.seat_of j u)
+  -- a step of the seat id, after which the word is `word` and the past `past`
+  pub moved : (s : TableState) (r : SeatRule n s) (id : ℕ) (v w : SeatView) (word : ℕ) (homes' : List (maybe.Option Slot)) (past : Past)
+      → get_elem? s.views id ≡ some v → word ≤ n → length homes' ≡ 1 → IsLawful Ordered past.history → AreBelow n past.history → (word ≡ 0 → IsHome past homes')
+      → SeatFits n word past r.seat_of id w → ((j : ℕ) (u : SeatView) → j ≢ id → get_elem? s.views j ≡ some u → SeatFits n word past r.seat_of j u)
       → ((k : ℕ) → Has k v.accounts → Has k w.accounts) → SeatRule n record { words = set s.words 0 word; homes = homes'; views = set s.views id w }
-  moved s r id v w word homes' history at small one lawful below home mine theirs keep =
+  moved s r id v w word homes' past at small one lawful below home mine theirs keep =
       let wide = r.one_word in let now : get_or (set s.words 0 word) 0 0 ≡ word = get_or-set_same s.words 0 word 0 (omega arith) in record {
-        history = history;
+        past = past;
         seat_of = r.seat_of;
         one_word = length-set s.words 0 word ∙ r.one_word;
         one_slot = one;
@@ -49,8 +62,8 @@ module _ (n : ℕ) where
         below = below;
         home = λ e. home (sym now ∙ e);
         seats =
-            subst (λ (z : ℕ). (j : ℕ) (u : SeatView) → get_elem? (set s.views id w) j ≡ some u → SeatFits n z history r.seat_of j u)
-            (sym now) (seats_set (SeatFits n word history r.seat_of) s.views id w mine theirs);
+            subst (λ (z : ℕ). (j : ℕ) (u : SeatView) → get_elem? (set s.views id w) j ≡ some u → SeatFits n z past r.seat_of j u)
+            (sym now) (seats_set (SeatFits n word past r.seat_of) s.views id w mine theirs);
         held = λ k l. held_set s.views id v w at (r.seat_of k) k (keep k) (r.held k l);
       }
 
@@ -61,12 +74,12 @@ module _ (n : ℕ) where
       (λ i. (sym (set-get_or s.words 0 0) i, sym (set_again s.views id v at) i)) r
 
   -- the seat that took the book is the one of which the word tells
-  has_book : (s : TableState) (r : SeatRule n s) (id : ℕ) (v : SeatView) (history : List Entry) → get_elem? s.views id ≡ some v → v.taken ≡ Some history
-      → (k : ℕ) × (get_or s.words 0 0 ≡ k + 1) × (r.seat_of k ≡ id) × (r.history ≡ history)
-  has_book s r id v history at took = let x : ℕ = get_or s.words 0 0 in let f = r.seats id v at in dite (ℕ_discrete x 0)
+  has_book : (s : TableState) (r : SeatRule n s) (id : ℕ) (v : SeatView) (past : Past) → get_elem? s.views id ≡ some v → v.taken ≡ Some past
+      → (k : ℕ) × (get_or s.words 0 0 ≡ k + 1) × (r.seat_of k ≡ id) × (r.past ≡ past)
+  has_book s r id v past at took = let x : ℕ = get_or s.words 0 0 in let f = r.seats id v at in dite (ℕ_discrete x 0)
       (λ z. let e = f.free z in absurd (cc))
       (λ ne. let k : ℕ = x - 1 in let is : x ≡ k + 1 = omega arith in dite (ℕ_discrete (r.seat_of k) id)
-      (λ here. (k, is, here, ap (λ o. some_is o history) (sym (f.taken k is here) ∙ took)))
+      (λ here. (k, is, here, same_past v.taken r.past past (f.taken k is here) took))
       (λ there. let e = f.idle k is there in absurd (cc)))
 
   -- what holds of the other seats is kept
@@ -74,6 +87,10 @@ module _ (n : ℕ) where
       → ((x : Account) → seat_of x.number ≡ seat → Follows history x → Follows later x) → Each (Sits n history seat_of seat) xs
       → Each (Sits n later seat_of seat) xs
   sits_on history later seat_of seat xs f h = each_map xs (λ x t. record { below = t.below; seated = t.seated; follows = f x t.seated t.follows }) h
+
+  updated_sit : (was history : List Entry) (seat_of : ℕ → ℕ) (id : ℕ) (xs : List Account) → Each (Sits n was seat_of id) xs → Each (Sits n history seat_of id) (map (up_to_date history) xs)
+  updated_sit was history seat_of id [] h = tt
+  updated_sit was history seat_of id (x ∷ xs) h = (record { below = h.0.below; seated = h.0.seated; follows = record { front = starts_all history; own = refl } }, updated_sit was history seat_of id xs h.1)
 
   pub tries : (slots id : ℕ) (me : SeatState) (k : ℕ) → me.0.taken ≡ None → Has k me.0.accounts
       → Allows (SeatRule n) slots id me 0 (λ x. either (eqb x 0) (k + 1) x) (tried (step slots 0 0 (k + 1) none) me)
@@ -84,12 +101,12 @@ module _ (n : ℕ) where
       let small : k < n = (let b = mine.1.below in let e = mine.2 in omega arith) in
       let count : me.0.count ≡ n = f.count (has_some me.0.accounts k has) in
       dite (ℕ_discrete x 0)
-      (λ hit. (
-        with_taken me.0 (Some r.history),
-        takes 0 (Some r.history),
-        r.home hit,
-        subst (λ b. SeatRule n (stepped s 0 (either b (k + 1) x) id me.1 (with_taken me.0 (Some r.history)) (takes 0 (Some r.history)))) (sym (eq-eqb x 0 hit))
-            (moved s r id me.0 (with_taken me.0 (Some r.history)) (k + 1) (set s.homes 0 none) r.history at (omega arith)
+      (λ hit. let there = r.home hit in (
+        with_taken me.0 (Some r.past),
+        takes 0 (Some there.0),
+        there.1,
+        subst (λ b. SeatRule n (stepped s 0 (either b (k + 1) x) id me.1 (with_taken me.0 (Some r.past)) (takes 0 (Some there.0)))) (sym (eq-eqb x 0 hit))
+            (moved s r id me.0 (with_taken me.0 (Some r.past)) (k + 1) (set s.homes 0 none) r.past at (omega arith)
             (length-set s.homes 0 none ∙ r.one_slot) r.lawful r.below (λ z. absurd (omega arith))
             record {
               count = f.count;
@@ -97,6 +114,8 @@ module _ (n : ℕ) where
               free = λ z. absurd (omega arith);
               taken = λ j e h. refl;
               idle = λ j e h. absurd (h (ap r.seat_of (let q : j ≡ k = omega arith in q) ∙ seated));
+              seen = f.seen;
+              shed = f.shed;
             }
             (λ j u other there. let g = r.seats j u there in record {
               count = g.count;
@@ -104,9 +123,14 @@ module _ (n : ℕ) where
               free = λ z. absurd (omega arith);
               taken = λ i e h. absurd (other (sym h ∙ (ap r.seat_of (let q : i ≡ k = omega arith in q) ∙ seated)));
               idle = λ i e h. g.free hit;
+              seen = g.seen;
+              shed = g.shed;
             })
             (λ j h. h)),
-        ((λ _. (r.history, refl, r.lawful, subst (λ (z : ℕ). AreBelow z r.history) (sym count) r.below, each_map me.0.accounts (λ y t. t.follows) f.accounts)), λ miss. absurd (miss hit)),
+        (
+          (λ _. (r.past, there.0, refl, there.2, subst (λ (z : ℕ). AreBelow z r.past.history) (sym count) r.below, each_map me.0.accounts (λ y t. t.follows) f.accounts, λ s' e. (f.shed s' e).1)),
+          λ miss. absurd (miss hit),
+        ),
       ))
       (λ miss. (
         me.0,
@@ -123,23 +147,24 @@ module _ (n : ℕ) where
         ),
       ))
 
-  pub gives_back : (slots id : ℕ) (me : SeatState) (history : List Entry) → me.0.taken ≡ Some history → me.1 ≡ (0, Some history) ∷ []
+  pub gives_back : (slots id : ℕ) (me : SeatState) (was : Past) (book : BookView) → me.0.taken ≡ Some was → me.1 ≡ (0, Some book) ∷ [] → Keeps was book
       → Allows (SeatRule n) slots id me 0 (λ _. 0) (λ _. returned (step slots 0 0 0 none) me 0)
-  gives_back slots id me history took carried s r deep at _ =
-      let f = r.seats id me.0 at in let b = has_book s r id me.0 history at took in let w = with_taken me.0 None in
-      let one = r.one_slot in (
+  gives_back slots id me was book took carried kept s r deep at _ =
+      let f = r.seats id me.0 at in let b = has_book s r id me.0 was at took in let w = with_taken me.0 None in (
         w,
         gives,
         tt,
         subst (λ (cs : List (ℕ × Slot)). SeatRule n (stepped s 0 0 id cs w gives)) (sym carried)
-            (moved s r id me.0 w 0 (set s.homes 0 (some (Some history))) r.history at (omega arith) (length-set s.homes 0 (some (Some history)) ∙ r.one_slot) r.lawful r.below
-            (λ _. one_home s.homes (some (Some history)) r.one_slot ∙ ap (λ (h : List Entry). some (some (Some h))) (sym b.3))
+            (moved s r id me.0 w 0 (set s.homes 0 (some (Some book))) r.past at (omega arith) (length-set s.homes 0 (some (Some book)) ∙ r.one_slot) r.lawful r.below
+            (λ _. (book, one_home s.homes (some (Some book)) r.one_slot, subst (λ (p : Past). Keeps p book) (sym b.3) kept))
             record {
               count = f.count;
               accounts = f.accounts;
               free = λ _. refl;
               taken = λ j e h. absurd (omega arith);
               idle = λ j e h. refl;
+              seen = f.seen;
+              shed = f.shed;
             }
             (λ j u other there. let g = r.seats j u there in record {
               count = g.count;
@@ -147,57 +172,101 @@ module _ (n : ℕ) where
               free = λ _. g.idle b.0 b.1 (λ e. other (sym e ∙ b.2));
               taken = λ i e h. absurd (omega arith);
               idle = λ i e h. absurd (omega arith);
+              seen = g.seen;
+              shed = g.shed;
             })
             (λ j h. h)),
         refl,
       )
 
-  pub publishes : (slots id : ℕ) (me : SeatState) (was : List Entry) (e : Entry) → me.0.taken ≡ Some was
-      → me.1 ≡ (0, Some (was ++ e ∷ [])) ∷ [] → IsLawful Ordered (was ++ e ∷ []) → Has e.caller me.0.accounts
+  pub publishes : (slots id : ℕ) (me : SeatState) (was : Past) (e : Entry) (book : BookView) → me.0.taken ≡ Some was
+      → me.1 ≡ (0, Some book) ∷ [] → Keeps (with_entry was e) book → Has e.caller me.0.accounts
       → Allows (SeatRule n) slots id me 0 (λ _. 0) (λ _. published (step slots 0 0 0 none) me 0)
-  publishes slots id me was e took carried lawful has s r deep at _ =
+  publishes slots id me was e book took carried kept has s r deep at _ =
       let f = r.seats id me.0 at in let b = has_book s r id me.0 was at took in
-      let now : List Entry = was ++ e ∷ [] in
-      let w : SeatView = record { count = me.0.count; accounts = map (up_to_date now) me.0.accounts; taken = None } in
+      let now : Past = with_entry was e in
+      let w : SeatView = with_history me.0 now.history in
       let mine = each_at _ me.0.accounts e.caller f.accounts has in
       let seated : r.seat_of e.caller ≡ id = ap r.seat_of (sym mine.2) ∙ mine.1.seated in
       let small : e.caller < n = (let l = mine.1.below in let q = mine.2 in omega arith) in
-      let more : r.history ++ e ∷ [] ≡ now = ap (λ l. l ++ e ∷ []) b.3 in (
+      let more : r.past.history ++ e ∷ [] ≡ now.history = ap (λ (p : Past). p.history ++ e ∷ []) b.3 in
+      let shed : r.past.shed ≡ now.shed = ap (λ (p : Past). p.shed) b.3 in
+      let longer : (seen : List Entry) → StartsWith r.past.history seen → StartsWith now.history seen =
+      λ seen h. subst (λ (l : List Entry). StartsWith l seen) more (starts_more r.past.history seen e h) in (
         w,
         gives,
         tt,
         subst (λ (cs : List (ℕ × Slot)). SeatRule n (stepped s 0 0 id cs w gives)) (sym carried)
-            (moved s r id me.0 w 0 (set s.homes 0 (some (Some now))) now at (omega arith)
-            (length-set s.homes 0 (some (Some now)) ∙ r.one_slot) lawful
-            (subst (AreBelow n) more (below_more n r.history e r.below small))
-            (λ _. one_home s.homes (some (Some now)) r.one_slot)
+            (moved s r id me.0 w 0 (set s.homes 0 (some (Some book))) now at (omega arith)
+            (length-set s.homes 0 (some (Some book)) ∙ r.one_slot) kept.lawful
+            (subst (AreBelow n) more (below_more n r.past.history e r.below small))
+            (λ _. (book, one_home s.homes (some (Some book)) r.one_slot, kept))
             record {
-              count = λ l. f.count (updated_some now me.0.accounts l);
-              accounts = updated_sit now me.0.accounts f.accounts;
+              count = λ l. f.count (updated_some now.history me.0.accounts l);
+              accounts = updated_sit r.past.history now.history r.seat_of id me.0.accounts f.accounts;
               free = λ _. refl;
               taken = λ j q h. absurd (omega arith);
               idle = λ j q h. refl;
+              seen = longer me.0.seen f.seen;
+              shed = λ s' q. let h = f.shed s' q in (h.0, h.1 ∙ shed);
             }
             (λ j u other there. let g = r.seats j u there in record {
               count = g.count;
-              accounts = sits_on r.history now r.seat_of j u.accounts
+              accounts = sits_on r.past.history now.history r.seat_of j u.accounts
                   (λ y at_j t. subst (λ (h : List Entry). Follows h y) more record {
-                    front = starts_more r.history y.front e t.front;
-                    own = t.own ∙ sym (own-other y.number r.history e (λ q. other (sym at_j ∙ (ap r.seat_of (sym q) ∙ seated))));
+                    front = starts_more r.past.history y.front e t.front;
+                    own = t.own ∙ sym (own-other y.number r.past.history e (λ q. other (sym at_j ∙ (ap r.seat_of (sym q) ∙ seated))));
                   }) g.accounts;
               free = λ _. g.idle b.0 b.1 (λ q. other (sym q ∙ b.2));
               taken = λ i q h. absurd (omega arith);
               idle = λ i q h. absurd (omega arith);
+              seen = longer u.seen g.seen;
+              shed = λ s' q. let h = g.shed s' q in (h.0, h.1 ∙ shed);
             })
-            (λ j h. has_updated now me.0.accounts j h)),
-        λ history is. let same_history : history ≡ now = ap (λ (l : List (ℕ × Slot)). slot_in now l) (sym is ∙ carried) in
-            (λ i. (record { count = me.0.count; accounts = map (up_to_date (sym same_history i)) me.0.accounts; taken = None }, ap rest carried i)),
+            (λ j h. has_updated now.history me.0.accounts j h)),
+        λ was' book' is is'.
+            let same_book : book' ≡ book = ap (λ (l : List (ℕ × Slot)). slot_in book l) (sym is' ∙ carried) in
+            let same_was : was' ≡ was = same_past me.0.taken was' was is took in
+            let whole : now.history ≡ was'.shed ++ book'.kept = kept.whole ∙ (λ i. (sym same_was i).shed ++ (sym same_book i).kept) in
+            (λ i. (with_history me.0 (whole i), ap rest carried i)),
       )
-    where
-      updated_some : (history : List Entry) (xs : List Account) → 0 < length (map (up_to_date history) xs) → 0 < length xs
-      updated_some history [] l = l
-      updated_some history (x ∷ xs) l = omega arith
 
-      updated_sit : (history : List Entry) (xs : List Account) → Each (Sits n r.history r.seat_of id) xs → Each (Sits n history r.seat_of id) (map (up_to_date history) xs)
-      updated_sit history [] h = tt
-      updated_sit history (x ∷ xs) h = (record { below = h.0.below; seated = h.0.seated; follows = record { front = starts_all history; own = refl } }, updated_sit history xs h.1)
+  pub empties : (slots id : ℕ) (me : SeatState) (was : Past) (book : BookView) (shed : List Entry) → me.0.taken ≡ Some was
+      → me.1 ≡ (0, Some book) ∷ [] → Keeps (all_shed was) book → me.0.shed ≡ Some shed
+      → Allows (SeatRule n) slots id me 0 (λ _. 0) (λ _. emptied (step slots 0 0 0 none) me 0)
+  empties slots id me was book shed took carried kept keeper s r deep at _ =
+      let f = r.seats id me.0 at in let b = has_book s r id me.0 was at took in
+      let now : Past = all_shed was in
+      let w : SeatView = with_shed me.0 now.history in
+      let first : id ≡ 0 = (f.shed shed keeper).0 in
+      let still : r.past.history ≡ now.history = ap (λ (p : Past). p.history) b.3 in (
+        w,
+        gives,
+        tt,
+        subst (λ (cs : List (ℕ × Slot)). SeatRule n (stepped s 0 0 id cs w gives)) (sym carried)
+            (moved s r id me.0 w 0 (set s.homes 0 (some (Some book))) now at (omega arith)
+            (length-set s.homes 0 (some (Some book)) ∙ r.one_slot) kept.lawful
+            (subst (AreBelow n) still r.below)
+            (λ _. (book, one_home s.homes (some (Some book)) r.one_slot, kept))
+            record {
+              count = λ l. f.count (updated_some now.history me.0.accounts l);
+              accounts = updated_sit r.past.history now.history r.seat_of id me.0.accounts f.accounts;
+              free = λ _. refl;
+              taken = λ j q h. absurd (omega arith);
+              idle = λ j q h. refl;
+              seen = subst (λ (l : List Entry). StartsWith l me.0.seen) still f.seen;
+              shed = λ s' q. (first, sym (same_shed (Some now.history) now.history s' refl q));
+            }
+            (λ j u other there. let g = r.seats j u there in record {
+              count = g.count;
+              accounts = sits_on r.past.history now.history r.seat_of j u.accounts (λ y _ t. subst (λ (h : List Entry). Follows h y) still t) g.accounts;
+              free = λ _. g.idle b.0 b.1 (λ q. other (sym q ∙ b.2));
+              taken = λ i q h. absurd (omega arith);
+              idle = λ i q h. absurd (omega arith);
+              seen = subst (λ (l : List Entry). StartsWith l u.seen) still g.seen;
+              shed = λ s' q. absurd (other ((g.shed s' q).0 ∙ sym first));
+            })
+            (λ j h. has_updated now.history me.0.accounts j h)),
+        λ was' is. let same_was : was' ≡ was = same_past me.0.taken was' was is took in
+            (λ i. (with_shed me.0 (sym same_was i).history, ap rest carried i)),
+      )

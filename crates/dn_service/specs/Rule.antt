@@ -1,13 +1,14 @@
 -- The rule of the table of the book, true between any two steps of any threads.
 -- The lock word is 0 where the book is at home, and k + 1 where the seat of caller k has taken it.
 use Rattle.std.specs.Prelude.{◌≡◌, ◌≢◌, ℕ, ◌+◌, ◌<◌, ◌≤◌, List, length, slice_index, Some, None}
-use mathlib.Core.Option.{some}
+use mathlib.Core.Option.{Option, some}
 use lib.ListN.{get_elem?}
 use Rattle.atomic_table.specs.Table.{State}
 use Rattle.dn_types.specs.History.{IsLawful, own_entries}
 use Rattle.dn_types.specs.declared.entry.Entry.{Entry}
 use Rattle.dn_types.specs.declared.rule.Rule.TheVariants.{Ordered}
 use Rattle.dn_service.specs.Histories.{StartsWith, AreBelow}
+use Rattle.dn_service.specs.Pasts.{Past, BookView, Keeps}
 use Rattle.dn_service.specs.Seats.{Account, SeatView, Slot, Each, Has}
 
 -- What the caller has seen begins the history, and the account has all its entries so far.
@@ -21,25 +22,32 @@ pub record Sits (n : ℕ) (history : List Entry) (seat_of : ℕ → ℕ) (seat :
   pub seated : seat_of a.number ≡ seat
   pub follows : Follows history a
 
--- What holds of one seat where the lock word is w: each of its callers sits here, and it has the history in its hands
--- exactly where the word names one of them.
-pub record SeatFits (n w : ℕ) (history : List Entry) (seat_of : ℕ → ℕ) (seat : ℕ) (v : SeatView) : Type 0 where
+-- What holds of one seat where the lock word is w: each of its callers sits here, and it has the past in its hands
+-- exactly where the word names one of them. What it was told of begins the history, and only the first seat has entries
+-- taken out, which are then all that were.
+pub record SeatFits (n w : ℕ) (past : Past) (seat_of : ℕ → ℕ) (seat : ℕ) (v : SeatView) : Type 0 where
   pub count : 0 < length v.accounts → v.count ≡ n
-  pub accounts : Each (Sits n history seat_of seat) v.accounts
+  pub accounts : Each (Sits n past.history seat_of seat) v.accounts
   pub free : w ≡ 0 → v.taken ≡ None
-  pub taken : (k : ℕ) → w ≡ k + 1 → seat_of k ≡ seat → v.taken ≡ Some history
+  pub taken : (k : ℕ) → w ≡ k + 1 → seat_of k ≡ seat → v.taken ≡ Some past
   pub idle : (k : ℕ) → w ≡ k + 1 → seat_of k ≢ seat → v.taken ≡ None
+  pub seen : StartsWith past.history v.seen
+  pub shed : (s : List Entry) → v.shed ≡ Some s → (seat ≡ 0) × (s ≡ past.shed)
 
--- The rule for n callers: there is one current history, which is lawful, and while the word is 0 the book with it is in
+-- The book is in the slot, and keeps the past.
+abbrev pub IsHome : Past → List (Option Slot) → Type 0
+IsHome past homes = (book : BookView) × (get_elem? homes 0 ≡ some (some (Some book))) × Keeps past book
+
+-- The rule for n callers: there is one past, which is lawful, and while the word is 0 the book that keeps it is in
 -- the slot. Each caller below n sits at exactly one seat.
 pub record SeatRule (n : ℕ) (s : State Slot SeatView) : Type 0 where
-  pub history : List Entry
+  pub past : Past
   pub seat_of : ℕ → ℕ
   pub one_word : length s.words ≡ 1
   pub one_slot : length s.homes ≡ 1
   pub word : slice_index s.words 0 ≤ n
-  pub lawful : IsLawful Ordered history
-  pub below : AreBelow n history
-  pub home : slice_index s.words 0 ≡ 0 → get_elem? s.homes 0 ≡ some (some (Some history))
-  pub seats : (j : ℕ) (v : SeatView) → get_elem? s.views j ≡ some v → SeatFits n (slice_index s.words 0) history seat_of j v
+  pub lawful : IsLawful Ordered past.history
+  pub below : AreBelow n past.history
+  pub home : slice_index s.words 0 ≡ 0 → IsHome past s.homes
+  pub seats : (j : ℕ) (v : SeatView) → get_elem? s.views j ≡ some v → SeatFits n (slice_index s.words 0) past seat_of j v
   pub held : (k : ℕ) → k < n → (v : SeatView) × (get_elem? s.views (seat_of k) ≡ some v) × Has k v.accounts

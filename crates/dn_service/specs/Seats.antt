@@ -1,9 +1,10 @@
--- What a seat at the table of the book knows: an account of each caller that it stands for, and the history that it took with the book.
-use Rattle.std.specs.Prelude.{◌≡◌, ⊤, ◌⊎◌, ℕ, zero, suc, ◌+◌, ◌<◌, ◌≤◌, List, [], ◌∷◌, ◌++◌, map, take, drop, Option, None}
+-- What a seat at the table of the book knows: an account of each caller that it stands for, and the past that it took with the book.
+use Rattle.std.specs.Prelude.{◌≡◌, ⊤, ◌⊎◌, ℕ, zero, suc, ◌+◌, ◌<◌, ◌≤◌, List, [], ◌∷◌, ◌++◌, map, take, drop, length, nat_le, cond, Option, Some, None}
 use Rattle.atomic_table.specs.Seated.{TableId}
 use Rattle.atomic_table.specs.Table.{Me}
 use Rattle.dn_types.specs.History.{own_entries}
 use Rattle.dn_types.specs.declared.entry.Entry.{Entry}
+use Rattle.dn_service.specs.Pasts.{Past, BookView}
 
 -- One caller: its number, the history that it has seen, and its own entries.
 pub record Account : Type 0 where
@@ -11,16 +12,19 @@ pub record Account : Type 0 where
   pub front : List Entry
   pub own : List Entry
 
--- A seat: the number of all callers, the accounts of those that it stands for, and the history that came with the book
--- where the seat has taken it. A spent seat has no accounts.
+-- A seat: the number of all callers, the accounts of those that it stands for, the past that came with the book where
+-- the seat has taken it, a history that it was told of, and, of the one seat that has entries taken out, these.
+-- A spent seat has no accounts.
 pub record SeatView : Type 0 where
   pub count : ℕ
   pub accounts : List Account
-  pub taken : Option (List Entry)
+  pub taken : Option Past
+  pub seen : List Entry
+  pub shed : Option (List Entry)
 
--- What the slot holds: the book, which clauses see as its history, or nothing.
+-- What the slot holds: the book, or nothing.
 abbrev pub Slot : Type 0
-Slot = Option (List Entry)
+Slot = Option BookView
 
 -- The fact holds of each account.
 abbrev pub Each : (Account → Type 0) → List Account → Type 0
@@ -47,7 +51,11 @@ up_to_date history a = record { number = a.number; front = history; own = own_en
 
 -- A seat that has not taken the book.
 abbrev pub seat_with : ℕ → List Account → SeatView
-seat_with n accounts = record { count = n; accounts = accounts; taken = None }
+seat_with n accounts = record { count = n; accounts = accounts; taken = None; seen = []; shed = None }
+
+-- The same of the seat that has entries taken out.
+abbrev pub keeping : ℕ → List Entry → List Account → SeatView
+keeping n shed accounts = record { count = n; accounts = accounts; taken = None; seen = []; shed = Some shed }
 
 -- The seat of one caller, which has not taken the book.
 abbrev pub sitting : ℕ → ℕ → List Entry → List Entry → SeatView
@@ -55,30 +63,34 @@ sitting n k front own = seat_with n (record { number = k; front = front; own = o
 
 -- The first seat stands for all callers.
 abbrev pub first_seat : ℕ → SeatView
-first_seat n = seat_with n (new_accounts 0 n)
+first_seat n = keeping n [] (new_accounts 0 n)
 
 -- A spent seat, whose number of callers is forgotten.
 abbrev pub spent : SeatView
 spent = seat_with 0 []
 
 -- The seat with this in place of what it has taken.
-abbrev pub with_taken : SeatView → Option (List Entry) → SeatView
-with_taken v t = record { count = v.count; accounts = v.accounts; taken = t }
+abbrev pub with_taken : SeatView → Option Past → SeatView
+with_taken v t = record { count = v.count; accounts = v.accounts; taken = t; seen = v.seen; shed = v.shed }
 
 -- The seat after it gave the book back with this history, which each of its callers has seen.
 abbrev pub with_history : SeatView → List Entry → SeatView
-with_history v history = seat_with v.count (map (up_to_date history) v.accounts)
+with_history v history = record { count = v.count; accounts = map (up_to_date history) v.accounts; taken = None; seen = v.seen; shed = v.shed }
+
+-- The same after it took all entries out.
+abbrev pub with_shed : SeatView → List Entry → SeatView
+with_shed v history = record { count = v.count; accounts = map (up_to_date history) v.accounts; taken = None; seen = v.seen; shed = Some history }
 
 -- The seat after its first caller got a seat of its own, and that seat.
 abbrev pub without_first : SeatView → SeatView
-without_first v = record { count = v.count; accounts = drop 1 v.accounts; taken = v.taken }
+without_first v = record { count = v.count; accounts = drop 1 v.accounts; taken = v.taken; seen = v.seen; shed = v.shed }
 
 abbrev pub only_first : SeatView → SeatView
 only_first v = seat_with v.count (take 1 v.accounts)
 
 -- Two seats in one, which keeps each caller's own account.
 abbrev pub joined : SeatView → SeatView → SeatView
-joined v w = record { count = w.count; accounts = v.accounts ++ w.accounts; taken = v.taken }
+joined v w = record { count = w.count; accounts = v.accounts ++ w.accounts; taken = v.taken; seen = v.seen; shed = v.shed }
 
 -- The front and the own entries of the first account.
 abbrev pub front_in : List Account → List Entry
@@ -88,6 +100,38 @@ front_in (a ∷ accounts) = a.front
 abbrev pub own_in : List Account → List Entry
 own_in [] = []
 own_in (a ∷ accounts) = a.own
+
+-- The longer of two lists.
+abbrev pub longer : List Entry → List Entry → List Entry
+longer xs ys = cond (nat_le (length xs) (length ys)) ys xs
+
+-- A seat that stands for no caller, and knows of a history.
+abbrev pub witness : ℕ → List Entry → SeatView
+witness n seen = record { count = n; accounts = []; taken = None; seen = seen; shed = None }
+
+-- A seat that knows of what the first of these has seen.
+abbrev pub witness_of : SeatView → SeatView
+witness_of v = witness v.count (front_in v.accounts)
+
+abbrev pub as_it_was : SeatView → SeatView
+as_it_was v = v
+
+-- The seat, which was told of what the other knows of.
+abbrev pub told_of : SeatView → SeatView → SeatView
+told_of v w = record { count = v.count; accounts = v.accounts; taken = v.taken; seen = w.seen; shed = v.shed }
+
+-- The account of a caller who has seen this history too.
+abbrev pub having_seen : List Entry → Account → Account
+having_seen seen a = record { number = a.number; front = longer a.front seen; own = a.own }
+
+-- The seat after its callers have seen what it was told of.
+abbrev pub learned : SeatView → SeatView
+learned v = record { count = v.count; accounts = map (having_seen v.seen) v.accounts; taken = v.taken; seen = []; shed = v.shed }
+
+-- What the seat has taken out.
+abbrev pub shed_in : Option (List Entry) → List Entry
+shed_in (Some shed) = shed
+shed_in None = []
 
 -- A seat's view, and the slots that it has in hand.
 abbrev pub SeatState : Type 0
@@ -107,4 +151,21 @@ pub record IsServiceSeat (table : TableId) (count : ℕ) (seat : TableId) (me : 
   pub one_word : seat.words ≡ 1
   pub some : 0 < count
   pub few : count ≤ 16
-  pub waits : me ≡ (seat_with count [], [])
+  pub waits : me ≡ (keeping count [] [], [])
+
+-- The same of a service that lasts, which has had entries taken out.
+pub record IsLastingSeat (table : TableId) (count : ℕ) (seat : TableId) (me : SeatState) : Type 0 where
+  pub at_table : seat ≡ table
+  pub one_word : seat.words ≡ 1
+  pub some : 0 < count
+  pub few : count ≤ 16
+  pub waits : me ≡ (keeping count (shed_in me.0.shed) [], [])
+
+-- The seat of a token, which knows of a history.
+pub record IsTokenSeat (seat : TableId) (me : SeatState) : Type 0 where
+  pub one_word : seat.words ≡ 1
+  pub knows : me ≡ (witness me.0.count me.0.seen, [])
+
+-- The seat stands for the caller of this number alone, and has entries taken out.
+abbrev pub IsKeeperOf : ℕ → SeatState → Type 0
+IsKeeperOf number m = m ≡ (keeping m.0.count (shed_in m.0.shed) (record { number = number; front = front_in m.0.accounts; own = own_in m.0.accounts } ∷ []), [])

@@ -1,13 +1,13 @@
-ghost use Rattle.std.specs.Prelude.{◌≡◌, [], ◌∷◌, ◌++◌, IfOk, OnErr};
-ghost use Rattle.dn_types.specs.History.{IsLawful};
-ghost use Rattle.dn_types.specs.declared.rule.Rule.TheVariants.{Ordered};
+ghost use Rattle.std.specs.Prelude.{◌≡◌, [], IfOk, OnErr};
 ghost use Rattle.dn_service.specs.Histories.{entry_of};
+ghost use Rattle.dn_service.specs.Pasts.{Past, Keeps, no_past, with_entry};
 
 use crate::room::Room;
 use dn_shaper::{HashKey, Shaper};
 use dn_types::{Call, Entry, Reply, Rule};
 use std::alloc::{AllocError, Global};
 use std::marker::Model;
+use std::mem;
 
 /// What a book has in it.
 #[derive(Drop)]
@@ -18,32 +18,25 @@ pub(crate) struct Pages {
     room: Room,
 }
 
-/// The shaper, with the history of all its calls. Contracts see the history, which is lawful, and after whose calls the
-/// shaper stands. Its pages lie in a block of their own, so that a book that changes hands is a pointer.
+/// The shaper, with the history of all its calls but for the entries that were taken out. Contracts see the shaper and
+/// these entries. Its pages lie in a block of their own, so that a book that changes hands is a pointer.
 #[derive(Drop)]
 pub(crate) struct Book {
     pages: Box<Pages>,
 }
 
 impl Model for Book {
-    ghost use Rattle.std.specs.Prelude.{List};
-    ghost use Rattle.dn_types.specs.History.{IsLawful, calls_of};
-    ghost use Rattle.dn_types.specs.declared.entry.Entry.{Entry};
-    ghost use Rattle.dn_types.specs.declared.rule.Rule.TheVariants.{Ordered};
-    ghost use Rattle.dn_shaper.specs.Shaper.{StandsAfter};
+    ghost use Rattle.dn_service.specs.Pasts.{BookView};
 
-    ghost Value = { List Entry };
+    ghost Value = { BookView };
 
-    ghost view = { λ b. b.pages.value.history.items };
-
-    ghost invariant = { λ b. IsLawful Ordered b.pages.value.history.items
-        × StandsAfter Ordered b.pages.value.shaper (calls_of b.pages.value.history.items) };
+    ghost view = { λ b. record { shaper = b.pages.value.shaper; kept = b.pages.value.history.items } };
 }
 
 impl Book {
     /// A new shaper, with no calls.
     pub(crate) fn new(alloc: Global, key: HashKey) -> Result<Book, AllocError>
-        ensures { IfOk result (λ book. book ≡ []) }
+        ensures { IfOk result (λ book. Keeps no_past book) }
     {
         let pages = Pages {
             shaper: Shaper::with_key(alloc, Rule::Ordered, key),
@@ -58,9 +51,9 @@ impl Book {
     /// Applies a caller's call to the shaper, and notes it with its reply. All room is taken before the shaper is touched,
     /// so that a refusal of memory leaves no trace.
     pub(crate) fn apply(&mut self, caller: usize, call: &Call) -> Result<Reply, AllocError>
-        ensures ok { IfOk result (λ reply. self.new ≡ self.old ++ entry_of caller call.now reply ∷ []) }
-        ensures lawful { IsLawful Ordered self.new }
-        ensures err { OnErr result (self.new ≡ self.old) }
+        requires { (past : Past) × Keeps past self.old }
+        ensures ok { IfOk result (λ reply. (past : Past) → Keeps past self.old → Keeps (with_entry past (entry_of caller call.now reply)) self.new) }
+        ensures err { OnErr result ((past : Past) → Keeps past self.old → Keeps past self.new) }
     {
         let pages = &mut *self.pages;
         pages.history.reserve(1)?;
@@ -75,8 +68,18 @@ impl Book {
         Ok(reply)
     }
 
+    /// Takes its entries out. It takes no memory.
+    pub(crate) fn take(&mut self) -> Vec<Entry>
+        ensures entries { result.items ≡ self.old.kept }
+        ensures book { (self.new.shaper ≡ self.old.shaper) × (self.new.kept ≡ []) }
+    {
+        let pages = &mut *self.pages;
+        let empty = Vec::new(*pages.history.allocator());
+        mem::replace(&mut pages.history, empty)
+    }
+
     pub(crate) fn into_history(self) -> Vec<Entry>
-        ensures { result.items ≡ self }
+        ensures { result.items ≡ self.kept }
     {
         let Pages {
             shaper,

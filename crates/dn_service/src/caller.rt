@@ -1,7 +1,10 @@
-ghost use Rattle.std.specs.Prelude.{◌≡◌, ◌<◌, ◌≤◌, [], IfOk, IfErr, OnErr};
+ghost use Rattle.std.specs.Prelude.{◌≡◌, ◌≢◌, ◌<◌, ◌≤◌, [], IfOk, IfErr, OnErr};
 
+use crate::lasting::{Lasting, Segment};
 use crate::lock::{enter, give_back, publish};
 use crate::rule::{BookSeat, BookTable};
+use crate::seen::Seen;
+use crate::steps::{Learn, Tell, Witness};
 use crate::try_fault::TryFault;
 use dn_types::{Call, Reply};
 use std::alloc::AllocError;
@@ -39,7 +42,8 @@ impl Model for Caller {
 
 impl Caller {
     ghost use Rattle.std.specs.Arc.{arc_value};
-    ghost use Rattle.dn_service.specs.Callers.{new_caller, IsSameCaller, Answered, NamesAnother};
+    ghost use Rattle.dn_service.specs.Callers.{new_caller, IsSameCaller, Answered, NamesAnother, IsOf};
+    ghost use Rattle.dn_service.specs.Lasting.{Takes, Learns};
     ghost use Rattle.dn_service.specs.Seats.{sitting};
 
     /// The caller of this number, who sits at the seat.
@@ -134,5 +138,55 @@ impl Caller {
             }
         }
         unreachable!()
+    }
+
+    /// Takes all entries so far out of the service if no other caller is in a call. It tries once, waits for nobody, and takes
+    /// no memory. `Err(k)` says that caller k was in a call, and then nothing has changed.
+    pub fn try_take(&mut self, lasting: &mut Lasting) -> Result<Segment, usize>
+        requires { IsOf lasting.old.service self.old }
+        ensures ok { IfOk result (λ s. Takes lasting.old self.old s.start s.entries.items lasting.new self.new) }
+        ensures same_caller { IsSameCaller self.old self.new }
+        ensures err { OnErr result ((self.new ≡ self.old) × (lasting.new ≡ lasting.old)) }
+        ensures same_service { lasting.new.service ≡ lasting.old.service }
+        ensures busy { IfErr result (λ k. (k < self.old.service.callers) × (k ≢ self.old.number)) }
+    {
+        lasting.take_by(&mut self.seat, self.number)
+    }
+
+    /// The same, and waits while other callers are in a call.
+    pub fn take<R: Wait>(&mut self, rt: &R, lasting: &mut Lasting) -> Segment
+        requires { IsOf lasting.old.service self.old }
+        ensures taken { Takes lasting.old self.old result.start result.entries.items lasting.new self.new }
+        ensures same_caller { IsSameCaller self.old self.new }
+        ensures same_service { lasting.new.service ≡ lasting.old.service }
+    {
+        for _ in rt.forever() {
+            if let Ok(segment) = self.try_take(lasting) {
+                return segment;
+            }
+            thread::yield_now();
+        }
+        unreachable!()
+    }
+
+    /// A token of the history that this caller has seen. It has no bytes, and another caller can learn from it.
+    pub fn seen(&mut self) -> Seen
+        ensures seen { (result.service ≡ self.old.service) × (result.front ≡ self.old.front) }
+        ensures same { self.new ≡ self.old }
+    {
+        let seat = self.table.shared.split_seat::<Witness>(&mut self.seat);
+        Seen::new(seat)
+    }
+
+    /// From now on this caller has seen what the token's caller had seen, so that its next answer comes after all of that.
+    /// It waits for nobody.
+    pub fn learn(&mut self, seen: Seen)
+        requires { seen.service ≡ self.old.service }
+        ensures learns { Learns self.old seen self.new }
+        ensures same_caller { IsSameCaller self.old self.new }
+    {
+        let table: &BookTable = &self.table;
+        table.shared.join_seat::<Tell>(&mut self.seat, seen.into_seat());
+        let _ = table.shared.load::<Learn>(&mut self.seat, 0);
     }
 }

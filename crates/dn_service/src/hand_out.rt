@@ -1,7 +1,7 @@
 ghost use Rattle.std.specs.Prelude.{◌≡◌, ◌≤◌, [], IfOk};
 ghost use Rattle.std.specs.Arc.{arc_value};
 ghost use Rattle.dn_service.specs.Callers.{new_callers};
-ghost use Rattle.dn_service.specs.Seats.{seat_with, new_accounts};
+ghost use Rattle.dn_service.specs.Seats.{keeping, new_accounts};
 
 use crate::caller::Caller;
 use crate::rule::{BookSeat, BookTable};
@@ -18,9 +18,9 @@ pub(crate) fn hand_out(
 ) -> Result<Vec<Caller>, AllocError>
     requires table { (seat.old.table_id ≡ (arc_value table.now).shared.table_id) × (seat.old.table_id.words ≡ 1) }
     requires count { count ≤ 16 }
-    requires seat { seat.old.me ≡ (seat_with count (new_accounts 0 count), []) }
+    requires seat { seat.old.me ≡ (keeping count [] (new_accounts 0 count), []) }
     ensures table { IfOk result (λ _. seat.new.table_id ≡ seat.old.table_id) }
-    ensures seat { IfOk result (λ _. seat.new.me ≡ (seat_with count [], [])) }
+    ensures seat { IfOk result (λ _. seat.new.me ≡ (keeping count [] [], [])) }
     ensures callers { IfOk result (λ callers.
         callers.items ≡ new_callers (record { table = seat.old.table_id; callers = count }) 0 count) }
 {

@@ -1,19 +1,18 @@
 //! The lock of the book: how a seat takes the book, and gives it back.
 ghost use Rattle.std.specs.Prelude.{◌≡◌, ◌+◌, ◌^◌, ◌<◌, List, [], ◌∷◌, ◌++◌, MatchResult, Some, None};
-ghost use Rattle.dn_types.specs.History.{IsLawful};
 ghost use Rattle.dn_types.specs.declared.entry.Entry.{Entry};
-ghost use Rattle.dn_types.specs.declared.rule.Rule.TheVariants.{Ordered};
-ghost use Rattle.dn_service.specs.Seats.{Has, with_taken, with_history};
+ghost use Rattle.dn_service.specs.Pasts.{Past, BookView, Keeps, with_entry, all_shed};
+ghost use Rattle.dn_service.specs.Seats.{Has, with_taken, with_history, with_shed};
 ghost use Rattle.dn_service.specs.Steps.{Won};
 
 use crate::book::Book;
 use crate::rule::{BookSeat, BookTable};
-use crate::steps::{Publish, Return, Try};
+use crate::steps::{Empty, Publish, Return, Try};
 
 /// Takes the book out of the slot, which the seat has in hand.
 fn take_out(table: &BookTable, seat: &mut BookSeat) -> Book
     requires table { seat.old.table_id ≡ table.now.shared.table_id }
-    requires book { (history : List Entry) × (seat.old.me.1 ≡ (0, Some history) ∷ []) }
+    requires book { (book : BookView) × (seat.old.me.1 ≡ (0, Some book) ∷ []) }
     ensures table { (seat.new.table_id ≡ seat.old.table_id) × (seat.new.id ≡ seat.old.id) }
     ensures seat { seat.new.me ≡ (seat.old.me.0, (0, None) ∷ []) }
     ensures book { seat.old.me.1 ≡ (0, Some result) ∷ [] }
@@ -53,7 +52,8 @@ pub(crate) fn enter(table: &BookTable, seat: &mut BookSeat, number: usize) -> Re
 /// Gives the book back as it was taken.
 pub(crate) fn give_back(table: &BookTable, seat: &mut BookSeat, book: Book)
     requires table { (seat.old.table_id ≡ table.now.shared.table_id) × (seat.old.table_id.words ≡ 1) }
-    requires seat { (seat.old.me.0.taken ≡ Some book) × (seat.old.me.1 ≡ (0, None) ∷ []) }
+    requires seat { seat.old.me.1 ≡ (0, None) ∷ [] }
+    requires book { (was : Past) × (seat.old.me.0.taken ≡ Some was) × Keeps was book }
     ensures table { (seat.new.table_id ≡ seat.old.table_id) × (seat.new.id ≡ seat.old.id) }
     ensures seat { seat.new.me ≡ (with_taken seat.old.me.0 None, []) }
 {
@@ -65,11 +65,25 @@ pub(crate) fn give_back(table: &BookTable, seat: &mut BookSeat, book: Book)
 pub(crate) fn publish(table: &BookTable, seat: &mut BookSeat, book: Book)
     requires table { (seat.old.table_id ≡ table.now.shared.table_id) × (seat.old.table_id.words ≡ 1) }
     requires seat { seat.old.me.1 ≡ (0, None) ∷ [] }
-    requires book { (was : List Entry) × (e : Entry) × (seat.old.me.0.taken ≡ Some was)
-        × (book ≡ was ++ e ∷ []) × IsLawful Ordered book × Has e.caller seat.old.me.0.accounts }
+    requires book { (was : Past) × (e : Entry) × (seat.old.me.0.taken ≡ Some was)
+        × Keeps (with_entry was e) book × Has e.caller seat.old.me.0.accounts }
     ensures table { (seat.new.table_id ≡ seat.old.table_id) × (seat.new.id ≡ seat.old.id) }
-    ensures seat { seat.new.me ≡ (with_history seat.old.me.0 book, []) }
+    ensures seat { (was : Past) → seat.old.me.0.taken ≡ Some was
+        → seat.new.me ≡ (with_history seat.old.me.0 (was.shed ++ book.kept), []) }
 {
     put_in(table, seat, book);
     table.shared.store::<Publish>(seat, 0, 0);
+}
+
+/// Gives the book back without its entries, which were taken out. The seat is the one that has all that was taken out before.
+pub(crate) fn give_empty(table: &BookTable, seat: &mut BookSeat, book: Book)
+    requires table { (seat.old.table_id ≡ table.now.shared.table_id) × (seat.old.table_id.words ≡ 1) }
+    requires seat { seat.old.me.1 ≡ (0, None) ∷ [] }
+    requires shed { (shed : List Entry) × (seat.old.me.0.shed ≡ Some shed) }
+    requires book { (was : Past) × (seat.old.me.0.taken ≡ Some was) × Keeps (all_shed was) book }
+    ensures table { (seat.new.table_id ≡ seat.old.table_id) × (seat.new.id ≡ seat.old.id) }
+    ensures seat { (was : Past) → seat.old.me.0.taken ≡ Some was → seat.new.me ≡ (with_shed seat.old.me.0 was.history, []) }
+{
+    put_in(table, seat, book);
+    table.shared.store::<Empty>(seat, 0, 0);
 }

@@ -6,10 +6,10 @@ use crate::caller::Caller;
 use crate::close_fault::CloseFault;
 use crate::closed::Closed;
 use crate::hand_out::hand_out;
-use crate::lock::enter;
+use crate::lasting::Lasting;
 use crate::open_fault::OpenFault;
 use crate::rule::{BookSeat, BookTable};
-use crate::take_in::{first_missing, take_in};
+use crate::take_in::{first_missing, leave};
 use crate::unclosed::Unclosed;
 use atomic_table::Table;
 use dn_shaper::HashKey;
@@ -123,13 +123,20 @@ impl Service {
             mut seat,
             count: _,
         } = self;
-        take_in(&table, &mut seat, callers);
-        // With all callers' seats joined, no other caller can be in a call.
-        let Ok(book) = enter(&table, &mut seat, 0) else {
-            unreachable!()
-        };
         Ok(Closed {
-            history: book.into_history(),
+            history: leave(&table, &mut seat, callers),
         })
+    }
+
+    /// From now on entries can be taken out of the service while it goes on.
+    pub fn lasting(self) -> Lasting
+        ensures { result ≡ record { service = self; taken = [] } }
+    {
+        let Service {
+            table,
+            seat,
+            count,
+        } = self;
+        Lasting::new(table, seat, count)
     }
 }

@@ -30,6 +30,44 @@ impl Play<Option<Book>, View> for Publish {
     ghost then = { published };
 }
 
+/// The word becomes 0 again, and all entries were taken out.
+pub(crate) struct Empty;
+
+impl Play<Option<Book>, View> for Empty {
+    ghost use Rattle.dn_service.specs.Steps.{emptied};
+
+    ghost then = { emptied };
+}
+
+/// The word is looked at, and what the seat was told of is what its callers have seen.
+pub(crate) struct Learn;
+
+impl Play<Option<Book>, View> for Learn {
+    ghost use Rattle.dn_service.specs.Steps.{learnt};
+
+    ghost then = { learnt };
+}
+
+/// The word is looked at by nobody.
+pub(crate) struct Vacate;
+
+impl Play<Option<Book>, View> for Vacate {
+    ghost use Rattle.dn_service.specs.Steps.{vacant};
+
+    ghost then = { vacant };
+}
+
+/// A new seat knows of what the first caller has seen.
+pub(crate) struct Witness;
+
+impl Split<View> for Witness {
+    ghost use Rattle.dn_service.specs.Seats.{as_it_was, witness_of};
+
+    ghost left = { as_it_was };
+
+    ghost right = { witness_of };
+}
+
 /// The seat's first caller gets a seat of its own.
 pub(crate) struct FirstAlone;
 
@@ -48,6 +86,17 @@ impl Join<View> for Together {
     ghost use Rattle.dn_service.specs.Seats.{joined, spent};
 
     ghost both = { joined };
+
+    ghost spent = { spent };
+}
+
+/// One seat is told of what another knows of.
+pub(crate) struct Tell;
+
+impl Join<View> for Tell {
+    ghost use Rattle.dn_service.specs.Seats.{told_of, spent};
+
+    ghost both = { told_of };
 
     ghost spent = { spent };
 }

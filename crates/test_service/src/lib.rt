@@ -4,6 +4,8 @@
 #[cfg(test)]
 mod calls;
 #[cfg(test)]
+mod lasting;
+#[cfg(test)]
 mod one_caller;
 #[cfg(test)]
 mod replies;

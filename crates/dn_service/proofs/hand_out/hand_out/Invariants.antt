@@ -1,12 +1,12 @@
 use Rattle.std.proofs.Common.{◌≡◌, ◌-◌, ◌≤◌, [], vec_len, vec_capacity}
 use Rattle.dn_service.specs.Callers.{new_callers}
-use Rattle.dn_service.specs.Seats.{seat_with, new_accounts}
+use Rattle.dn_service.specs.Seats.{keeping, new_accounts}
 use Rattle.dn_service.proofs.hand_out.hand_out.Given as goal
 
 abbrev pub invariant-loop-number : goal.invariant-loop-number
 invariant-loop-number l =
     (l.seat.table_id ≡ l.initial.seat.table_id)
-    × (l.seat.me ≡ (seat_with l.count (new_accounts l.number (l.count - l.number)), []))
+    × (l.seat.me ≡ (keeping l.count [] (new_accounts l.number (l.count - l.number)), []))
     × (l.callers.items ≡ new_callers (record { table = l.initial.seat.table_id; callers = l.count }) 0 l.number)
     × (vec_len l.callers ≡ l.number)
     × (l.count ≤ vec_capacity l.callers)

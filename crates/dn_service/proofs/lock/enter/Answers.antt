@@ -1,9 +1,5 @@
 use Rattle.std.proofs.Common.{rules, arith, ◌≡◌, ◌≢◌, [], ◌∷◌, Some, ap, ◌∙◌, subst}
-use Rattle.dn_types.specs.History.{IsLawful}
-use Rattle.dn_types.specs.declared.rule.Rule.TheVariants.{Ordered}
-use Rattle.dn_service.specs.Histories.{AreBelow}
-use Rattle.dn_service.specs.Rule.{Follows}
-use Rattle.dn_service.specs.Seats.{Each, with_taken}
+use Rattle.dn_service.specs.Pasts.{Keeps}
 use Rattle.dn_service.proofs.Calling.{same_book}
 use Rattle.dn_service.proofs.Taking.{tries}
 use Rattle.dn_service.proofs.lock.enter.Goals as goal
@@ -15,21 +11,22 @@ pub take_out-requires-clause-book : goal.take_out-requires-clause-book
 take_out-requires-clause-book c =
     let none_had : c.compare_exchange-found.result ≡ 0 = c.if-found-ne0.false in
     let won = c.compare_exchange-found.ensures.2.0 none_had in
-    (won.0, ap (λ x. x.1) won.1 ∙ ap (λ cs. (0, Some won.0) ∷ cs) c.requires.seat.1)
+    (won.1, ap (λ x. x.1) won.2 ∙ ap (λ cs. (0, Some won.1) ∷ cs) c.requires.seat.1)
 
 pub returns-clause-taken : goal.returns-clause-taken
 returns-clause-taken c =
     let none_had : c.compare_exchange-found.result ≡ 0 = c.if-found-ne0.false in
     let won = c.compare_exchange-found.ensures.2.0 none_had in
-    let m = c.args.seat.now.me in
-    let carried : c.compare_exchange-found.new.seat.me.1 ≡ (0, Some won.0) ∷ [] = ap (λ x. x.1) won.1 ∙ ap (λ cs. (0, Some won.0) ∷ cs) c.requires.seat.1 in
-    let same : won.0 ≡ c.take_out.result = same_book _ _ _ carried c.take_out.ensures.book in
+    let carried : c.compare_exchange-found.new.seat.me.1 ≡ (0, Some won.1) ∷ [] = ap (λ x. x.1) won.2 ∙ ap (λ cs. (0, Some won.1) ∷ cs) c.requires.seat.1 in
+    let same : won.1 ≡ c.take_out.result = same_book _ _ _ carried c.take_out.ensures.book in
     record {
-      view = ap (λ x. x.0) c.take_out.ensures.seat ∙ (ap (λ x. x.0) won.1 ∙ ap (λ h. with_taken m.0 (Some h)) same);
+      past = won.0;
+      view = ap (λ x. x.0) c.take_out.ensures.seat ∙ ap (λ x. x.0) won.2;
       hand = ap (λ x. x.1) c.take_out.ensures.seat;
-      lawful = subst (IsLawful Ordered) same won.2;
-      below = subst (AreBelow m.0.count) same won.3;
-      follows = subst (λ h. Each (Follows h) m.0.accounts) same won.4;
+      keeps = subst (Keeps won.0) same won.3;
+      below = won.4;
+      follows = won.5;
+      shed = won.6;
     }
 
 pub returns-then-found-ne0-clause-taken : goal.returns-then-found-ne0-clause-taken

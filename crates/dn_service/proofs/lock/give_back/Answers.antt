@@ -4,9 +4,8 @@ use Rattle.dn_service.proofs.lock.give_back.Goals as goal
 
 pub store-requires : goal.store-requires
 store-requires c =
-    let put = c.put_in.ensures.seat in (
+    let put = c.put_in.ensures.seat in let b = c.requires.book in (
       search rules,
       search rules,
-      gives_back c.args.table.now.shared.key _ _ _ c.args.book (ap (λ x. x.0.taken) put ∙ c.requires.seat.0)
-          (ap (λ x. x.1) put),
+      gives_back c.args.table.now.shared.key _ _ _ b.0 c.args.book (ap (λ x. x.0.taken) put ∙ b.1) (ap (λ x. x.1) put) b.2,
     )

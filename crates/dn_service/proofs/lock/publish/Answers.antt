@@ -1,6 +1,4 @@
-use Rattle.std.proofs.Common.{rules, sym, ap, ◌∙◌, subst, ◌∷◌, [], Some}
-use Rattle.dn_types.specs.History.{IsLawful}
-use Rattle.dn_types.specs.declared.rule.Rule.TheVariants.{Ordered}
+use Rattle.std.proofs.Common.{rules, sym, ap, ◌∙◌, subst, ◌++◌, []}
 use Rattle.dn_service.specs.Seats.{Has, SeatView, with_history}
 use Rattle.dn_service.proofs.Taking.{publishes}
 use Rattle.dn_service.proofs.lock.publish.Goals as goal
@@ -9,9 +7,11 @@ pub store-requires : goal.store-requires
 store-requires c = let put = c.put_in.ensures.seat in let b = c.requires.book in (
   search rules,
   search rules,
-  publishes c.args.table.now.shared.key _ _ _ b.0 b.1 (ap (λ x. x.0.taken) put ∙ b.2) (ap (λ x. x.1) put ∙ ap (λ h. (0, Some h) ∷ []) b.3)
-      (subst (IsLawful Ordered) b.3 b.4) (subst (λ (v : SeatView). Has b.1.caller v.accounts) (sym (ap (λ x. x.0) put)) b.5),
+  publishes c.args.table.now.shared.key _ _ _ b.0 b.1 c.args.book (ap (λ x. x.0.taken) put ∙ b.2) (ap (λ x. x.1) put) b.3
+      (subst (λ (v : SeatView). Has b.1.caller v.accounts) (sym (ap (λ x. x.0) put)) b.4),
 )
 
 pub returns-clause-seat : goal.returns-clause-seat
-returns-clause-seat c = let put = c.put_in.ensures.seat in c.store.ensures.2 c.args.book (ap (λ x. x.1) put) ∙ ap (λ v. (with_history v c.args.book, [])) (ap (λ x. x.0) put)
+returns-clause-seat c = λ was is. let put = c.put_in.ensures.seat in
+    c.store.ensures.2 was c.args.book (ap (λ x. x.0.taken) put ∙ is) (ap (λ x. x.1) put)
+    ∙ ap (λ v. (with_history v (was.shed ++ c.args.book.kept), [])) (ap (λ x. x.0) put)

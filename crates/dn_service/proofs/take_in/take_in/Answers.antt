@@ -1,6 +1,6 @@
 use Rattle.std.proofs.Common.{rules, [], ◌∷◌, ◌++◌, sym, ap, ◌∙◌, append_assoc}
 use Rattle.dn_service.specs.Callers.{IsOf, accounts_of}
-use Rattle.dn_service.specs.Seats.{seat_with}
+use Rattle.dn_service.specs.Seats.{keeping, shed_in}
 use Rattle.dn_service.proofs.Handing.{takes_in, taken_in, between}
 use Rattle.dn_service.proofs.take_in.take_in.Goals as goal
 
@@ -14,7 +14,7 @@ join_seat-requires c =
       c.into_seat.ensures.table ∙ (ap (λ s. s.table) of ∙ (r.1 ∙ c.requires.table.0)),
       ap (λ x. x.1) c.into_seat.ensures.seat,
       search rules,
-      takes_in _ _ _ _ one.service.callers one.number _ one.front one.own _ _ (ap (λ x. x.0) was.3) (ap (λ x. x.0) c.into_seat.ensures.seat),
+      takes_in _ _ _ _ one.service.callers one.number _ _ one.front one.own _ _ (ap (λ x. x.0) was.3) (ap (λ x. x.0) c.into_seat.ensures.seat),
     )
 
 pub loop-caller-preserved : goal.loop-caller-preserved
@@ -28,8 +28,8 @@ loop-caller-preserved c =
       tt,
       did.0 ∙ was.2,
       did.2 ∙ (λ i. (
-        (taken_in _ c.loop-caller.yielded one _ _ (ap (λ x. x.0) was.3) (ap (λ x. x.0) c.into_seat.ensures.seat)
-            ∙ ap (λ n. seat_with n (accounts_of (c.loop-caller.yielded ++ one ∷ []))) (ap (λ s. s.callers) of ∙ sym (ap (λ x. x.0.count) r.2))) i,
+        (taken_in _ _ c.loop-caller.yielded one _ _ (ap (λ x. x.0) was.3) (ap (λ x. x.0) c.into_seat.ensures.seat)
+            ∙ ap (λ n. keeping n (shed_in c.args.seat.now.me.0.shed) (accounts_of (c.loop-caller.yielded ++ one ∷ []))) (ap (λ s. s.callers) of ∙ sym (ap (λ x. x.0.count) r.2))) i,
         (ap (λ x. x.1) was.3) i,
       )),
       append_assoc c.loop-caller.yielded (one ∷ []) c.next.new.self.rest.items ∙ (ap (λ l. c.loop-caller.yielded ++ l) (sym c.in-Some.ensures.steps.0) ∙ was.4),

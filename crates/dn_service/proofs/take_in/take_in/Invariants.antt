@@ -1,6 +1,6 @@
 use Rattle.std.proofs.Common.{◌≡◌, ◌++◌, []}
 use Rattle.dn_service.specs.Callers.{accounts_of}
-use Rattle.dn_service.specs.Seats.{seat_with}
+use Rattle.dn_service.specs.Seats.{keeping, shed_in}
 use Rattle.dn_service.proofs.take_in.take_in.Given as goal
 
 abbrev pub invariant-loop-caller : goal.invariant-loop-caller
@@ -8,5 +8,5 @@ invariant-loop-caller l =
     (goal.iterator-loop-caller).can_next l.caller-iterator
     × (goal.iterator-loop-caller).is_finite l.caller-iterator
     × (l.seat.table_id ≡ l.initial.seat.table_id)
-    × (l.seat.me ≡ (seat_with l.initial.seat.me.0.count (accounts_of l.yielded), []))
+    × (l.seat.me ≡ (keeping l.initial.seat.me.0.count (shed_in l.initial.seat.me.0.shed) (accounts_of l.yielded), []))
     × (l.yielded ++ l.caller-iterator.rest.items ≡ l.fn.callers.items)

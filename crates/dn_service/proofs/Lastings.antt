@@ -1,0 +1,136 @@
+-- What is taken out of a service that lasts, and what a caller learns from a token.
+use Rattle.std.proofs.Common.{◌≡◌, ℕ, ◌+◌, ◌<◌, ◌≤◌, ◌^◌, ◌⊎◌, inl, inr, Bool, true, false, cond, List, [], ◌∷◌, ◌++◌, length, sym, refl, ap, ◌∙◌, subst, arith, Some, None}
+use Rattle.std.specs.Prelude.{nat_le}
+use Rattle.std.proofs.lemmas.Bool.Decides.{nat_tests}
+use Rattle.atomic_table.specs.Seated.{TableId}
+use Rattle.atomic_table.specs.Table.{Splits, Joins}
+use Rattle.dn_types.specs.History.{IsLawful, own_entries}
+use Rattle.dn_types.specs.declared.entry.Entry.{Entry}
+use Rattle.dn_types.specs.declared.rule.Rule.TheVariants.{Ordered}
+use Rattle.dn_service.specs.Callers.{ServiceView, CallerView}
+use Rattle.dn_service.specs.Histories.{StartsWith, AreBelow}
+use Rattle.dn_service.specs.Lasting.{LastingView, Takes, SeenView, Learns, caller_at}
+use Rattle.dn_service.specs.Rule.{Follows, SeatRule}
+use Rattle.dn_service.specs.Seats.{Account, SeatState, SeatView, Each, keeping, sitting, witness, witness_of, as_it_was, told_of, learned, with_shed, without_first, only_first, joined, spent, longer, shed_in, front_in, own_in, IsKeeperOf}
+use Rattle.dn_service.specs.Steps.{Emptied}
+use Rattle.dn_service.proofs.HistoryLaws.{starts_all, begins_longer}
+use Rattle.dn_service.proofs.Splitting.{splits}
+use Rattle.dn_service.proofs.Tokens.{witnesses, tells}
+
+-- the account of the caller k, by its seat
+abbrev pub account_of : ℕ → SeatState → Account
+account_of k m = record { number = k; front = front_in m.0.accounts; own = own_in m.0.accounts }
+
+-- a seat that stands for one caller and has entries taken out can be split
+pub hands_back : (n id k : ℕ) (m : SeatState) → IsKeeperOf k m → Splits (SeatRule n) id m.0 (without_first m.0) (only_first m.0)
+hands_back n id k m is =
+    subst (λ v. Splits (SeatRule n) id v (without_first v) (only_first v)) (sym (ap (λ x. x.0) is))
+    (splits n id m.0.count (shed_in m.0.shed) (account_of k m) [] (λ h. h))
+
+pub kept_back : (k : ℕ) (m l : SeatState) → IsKeeperOf k m → l ≡ (without_first m.0, m.1) → l ≡ (keeping m.0.count (shed_in m.0.shed) [], [])
+kept_back k m l is e = e ∙ (λ i. (without_first (is i).0, (is i).1))
+
+pub got_back : (k : ℕ) (m b : SeatState) → IsKeeperOf k m → b ≡ (only_first m.0, []) → b ≡ (sitting m.0.count k (front_in m.0.accounts) (own_in m.0.accounts), [])
+got_back k m b is e = e ∙ (λ i. (only_first (is i).0, []))
+
+-- two seats in one
+pub keeps_one : (k a : ℕ) (l c m : SeatState) → l ≡ (keeping a (shed_in l.0.shed) [], []) → c ≡ (sitting c.0.count k (front_in c.0.accounts) (own_in c.0.accounts), [])
+    → m ≡ (joined l.0 c.0, l.1) → m ≡ (keeping c.0.count (shed_in l.0.shed) (account_of k c ∷ []), [])
+keeps_one k a l c m is sits did = did ∙ (λ i. (joined (is i).0 (sits i).0, (is i).1))
+
+module _ (k : ℕ) (out : List Entry) (c m m' : SeatState) (entries : List Entry) (is : m ≡ (keeping c.0.count out (account_of k c ∷ []), [])) (did : Emptied m entries m') where
+  abbrev all : List Entry
+  all = out ++ entries
+
+  took : Emptied (keeping c.0.count out (account_of k c ∷ []), []) entries m'
+  took = subst (λ (z : SeatState). Emptied z entries m') is did
+
+  -- the seat of the service, and that of the caller
+  pub left_at : (l : SeatState) → l ≡ (without_first m'.0, m'.1) → l ≡ (keeping c.0.count all [], [])
+  left_at l e = e ∙ (λ i. (without_first (took.now i).0, (took.now i).1))
+
+  pub back_at : (b : SeatState) → b ≡ (only_first m'.0, []) → b ≡ (sitting c.0.count k all (own_entries k all), [])
+  back_at b e = e ∙ (λ i. (only_first (took.now i).0, []))
+
+  pub takes : (before : LastingView) (table table' : TableId) (start : ℕ) (l b : SeatState) (after : LastingView) → before.taken ≡ out → before.service.callers ≡ c.0.count
+      → (length out < 2 ^ 64 → start ≡ length out) → l ≡ (without_first m'.0, m'.1) → b ≡ (only_first m'.0, [])
+      → after.service ≡ before.service → after.taken ≡ shed_in l.0.shed
+      → Takes before (caller_at table k c) start entries after (caller_at table' k b)
+  takes before table table' start l b after was count number e f same now =
+      let have : after.taken ≡ all = now ∙ ap (λ x. shed_in x.0.shed) (left_at l e) in
+      let front : front_in b.0.accounts ≡ all = ap (λ x. front_in x.0.accounts) (back_at b f) in
+      let own : own_in b.0.accounts ≡ own_entries k all = ap (λ x. own_in x.0.accounts) (back_at b f) in
+      let follows : Follows all (account_of k c) = took.follows.0 in record {
+        service = same;
+        taken = have ∙ ap (λ o. o ++ entries) (sym was);
+        start = λ h. number (subst (λ o. length o < 2 ^ 64) was h) ∙ ap length (sym was);
+        lawful = subst (IsLawful Ordered) (sym have) took.lawful;
+        below = subst (λ n. AreBelow n after.taken) (sym count) (subst (AreBelow c.0.count) (sym have) took.below);
+        front = front ∙ sym have;
+        seen = subst (λ h. StartsWith h (front_in c.0.accounts)) (sym front) follows.front;
+        own = own ∙ sym follows.own;
+        all_own = own ∙ ap (own_entries k) (sym have);
+      }
+
+-- one of the two lists begins with the other, and is this one
+abbrev pub IsOneOf : List Entry → List Entry → List Entry → Type 0
+IsOneOf xs ys l = (StartsWith xs ys × (l ≡ xs)) ⊎ (StartsWith ys xs × (l ≡ ys))
+
+abbrev pub BothBegin : List Entry → List Entry → List Entry → Type 0
+BothBegin xs ys l = StartsWith l xs × StartsWith l ys × IsOneOf xs ys l
+
+-- of two that begin one history, the longer begins with both
+pub both_begin : (history xs ys : List Entry) → StartsWith history xs → StartsWith history ys
+    → BothBegin xs ys (longer xs ys)
+both_begin history xs ys p q = by (nat_le (length xs) (length ys)) refl
+  where
+    by : (b : Bool) → nat_le (length xs) (length ys) ≡ b → BothBegin xs ys (cond b ys xs)
+    by true e = let less : length xs ≤ length ys = grind (arith, nat_tests) in let h = begins_longer xs ys p.0 q.0 (sym p.1 ∙ q.1) less in (h, starts_all ys, inr (h, refl))
+    by false e = let less : length ys ≤ length xs = grind (arith, nat_tests) in let h = begins_longer ys xs q.0 p.0 (sym q.1 ∙ p.1) less in (starts_all xs, h, inl (h, refl))
+
+-- the seat of a caller after it learned from a token
+pub learns_at : (k b : ℕ) (seen : List Entry) (m m' m'' w : SeatState) → m ≡ (sitting m.0.count k (front_in m.0.accounts) (own_in m.0.accounts), [])
+    → w ≡ (witness b seen, []) → m' ≡ (told_of m.0 w.0, m.1) → m'' ≡ (learned m'.0, m'.1)
+    → m'' ≡ (sitting m.0.count k (longer (front_in m.0.accounts) seen) (own_in m.0.accounts), [])
+learns_at k b seen m m' m'' w sits is did after = after ∙ (λ i. (learned (did i).0, (did i).1)) ∙ (λ i. (learned (told_of (sits i).0 (is i).0), (sits i).1))
+
+pub learned_from : (k b : ℕ) (seen : List Entry) (m m' m'' w : SeatState) (table table' : TableId) (token : SeenView) (history : List Entry)
+    → m ≡ (sitting m.0.count k (front_in m.0.accounts) (own_in m.0.accounts), []) → w ≡ (witness b seen, []) → m' ≡ (told_of m.0 w.0, m.1) → m'' ≡ (learned m'.0, m'.1)
+    → Each (Follows history) m'.0.accounts → StartsWith history m'.0.seen → token.front ≡ seen
+    → Learns (caller_at table k m) token (caller_at table' k m'')
+learned_from k b seen m m' m'' w table table' token history sits is did after follows starts same =
+    let now = learns_at k b seen m m' m'' w sits is did after in
+    let at : m' ≡ (told_of (sitting m.0.count k (front_in m.0.accounts) (own_in m.0.accounts)) (witness b seen), []) = did ∙ (λ i. (told_of (sits i).0 (is i).0, (sits i).1)) in
+    let f = (subst (λ (z : SeatState). Each (Follows history) z.0.accounts) at follows).0 in
+    let g : StartsWith history seen = subst (λ (z : SeatState). StartsWith history z.0.seen) at starts in
+    let both = both_begin history (front_in m.0.accounts) seen f.front g in
+    let front : front_in m''.0.accounts ≡ longer (front_in m.0.accounts) seen = ap (λ x. front_in x.0.accounts) now in record {
+      had = subst (λ h. StartsWith h (front_in m.0.accounts)) (sym front) both.0;
+      told = subst (λ h. StartsWith h token.front) (sym front) (subst (StartsWith (longer (front_in m.0.accounts) seen)) (sym same) both.1);
+      one = subst (IsOneOf (front_in m.0.accounts) token.front) (sym front)
+          (subst (λ t. IsOneOf (front_in m.0.accounts) t (longer (front_in m.0.accounts) seen)) (sym same) both.2);
+      own = ap (λ x. own_in x.0.accounts) now;
+    }
+
+-- a caller's seat can be split from a seat that knows of what the caller has seen
+pub shows : (n id k : ℕ) (m : SeatState) → m ≡ (sitting m.0.count k (front_in m.0.accounts) (own_in m.0.accounts), []) → Splits (SeatRule n) id m.0 (as_it_was m.0) (witness_of m.0)
+shows n id k m is =
+    subst (λ v. Splits (SeatRule n) id v (as_it_was v) (witness_of v)) (sym (ap (λ x. x.0) is))
+    (witnesses n id m.0.count k (front_in m.0.accounts) (own_in m.0.accounts))
+
+-- a seat can be told of what another knows
+pub is_told : (n id other b : ℕ) (seen : List Entry) (v : SeatView) (w : SeatState) → w ≡ (witness b seen, []) → Joins (SeatRule n) id v other w.0 (told_of v w.0) spent
+is_told n id other b seen v w is = subst (λ u. Joins (SeatRule n) id v other u (told_of v u) spent) (sym (ap (λ x. x.0) is)) (tells n id other b seen v)
+
+-- a seat that is said to be one that stands for one caller is told by its own words
+pub is_keeper : (k n : ℕ) (s front own : List Entry) (m : SeatState) → m ≡ (keeping n s (record { number = k; front = front; own = own } ∷ []), []) → IsKeeperOf k m
+is_keeper k n s front own m e = e ∙ (λ i. let z = sym e i in (keeping z.0.count (shed_in z.0.shed) (account_of k z ∷ []), []))
+
+pub is_sitting : (k n : ℕ) (front own : List Entry) (m : SeatState) → m ≡ (sitting n k front own, []) → m ≡ (sitting m.0.count k (front_in m.0.accounts) (own_in m.0.accounts), [])
+is_sitting k n front own m e = e ∙ (λ i. let z = sym e i in (sitting z.0.count k (front_in z.0.accounts) (own_in z.0.accounts), []))
+
+pub is_waiting : (n : ℕ) (s : List Entry) (m : SeatState) → m ≡ (keeping n s [], []) → m ≡ (keeping n (shed_in m.0.shed) [], [])
+is_waiting n s m e = e ∙ (λ i. let z = sym e i in (keeping n (shed_in z.0.shed) [], []))
+
+pub empties_keeper : (k : ℕ) (m m' : SeatState) (h : List Entry) → IsKeeperOf k m → m' ≡ (with_shed m.0 h, []) → IsKeeperOf k m'
+empties_keeper k m m' h is e = is_keeper k m.0.count h h (own_entries k h) m' (e ∙ (λ i. (with_shed (is i).0 h, [])))

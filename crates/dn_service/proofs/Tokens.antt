@@ -1,0 +1,140 @@
+-- Seats that know of a history, and seats that are spent: each step with them keeps the rule.
+use Rattle.std.proofs.Common.{◌≡◌, ◌≢◌, ℕ, suc, ◌+◌, ◌<◌, ◌≤◌, List, [], ◌∷◌, ◌++◌, map, length, get_or, set, sym, refl, ap, ◌∙◌, subst, ⊎_elim, inl, inr, arith, Bool, true, false, cond}
+use Rattle.std.specs.Prelude.{nat_le}
+use mathlib.Core.Logic.{dite}
+use mathlib.Core.Option.{none, some, some-injective}
+use native.Mathlib.Decide.{ℕ_discrete}
+use lib.ListN.{get_elem?}
+use Rattle.atomic_table.specs.Table.{step, keeps, Allows, Splits, Joins, Enters}
+use Rattle.atomic_table.proofs.Lists.{set_again, set_else, at_longer}
+use Rattle.dn_types.specs.declared.entry.Entry.{Entry}
+use Rattle.dn_service.specs.Histories.{StartsWith}
+use Rattle.dn_service.specs.Rule.{Follows, Sits, SeatFits, SeatRule}
+use Rattle.dn_service.specs.Seats.{Account, SeatState, SeatView, Each, Has, sitting, witness, told_of, having_seen, learned, spent, longer}
+use Rattle.dn_service.specs.Steps.{learnt, vacant}
+use Rattle.dn_service.proofs.Accounts.{each_map}
+use Rattle.dn_service.proofs.HistoryLaws.{starts_none}
+use Rattle.dn_service.proofs.Splitting.{seat_below}
+use Rattle.dn_service.proofs.Taking.{TableState, moved}
+use Rattle.dn_service.proofs.Views.{seats_set, held_set, added_last}
+
+-- what begins with two histories does so with the longer
+pub starts_longer : (history xs ys : List Entry) → StartsWith history xs → StartsWith history ys → StartsWith history (longer xs ys)
+starts_longer history xs ys p q = by (nat_le (length xs) (length ys))
+  where
+    by : (b : Bool) → StartsWith history (cond b ys xs)
+    by true = q
+    by false = p
+
+has_learned : (seen : List Entry) (xs : List Account) (k : ℕ) → Has k xs → Has k (map (having_seen seen) xs)
+has_learned seen [] k has = has
+has_learned seen (x ∷ xs) k has = ⊎_elim (λ (e : x.number ≡ k). inl e) (λ (t : Has k xs). inr (has_learned seen xs k t)) has
+
+learned_some : (seen : List Entry) (xs : List Account) → 0 < length (map (having_seen seen) xs) → 0 < length xs
+learned_some seen [] l = l
+learned_some seen (x ∷ xs) l = omega arith
+
+module _ (n : ℕ) where
+  -- a seat that stands for no caller comes to the table
+  newcomer : (s : TableState) (r : SeatRule n s) (count : ℕ) (seen : List Entry) → StartsWith r.past.history seen
+      → SeatFits n (get_or s.words 0 0) r.past r.seat_of (length s.views) (witness count seen)
+  newcomer s r count seen h = record {
+    count = λ l. absurd (omega arith);
+    accounts = tt;
+    free = λ _. refl;
+    taken = λ k e q. let b = r.word in let l = seat_below n s r k (omega arith) in absurd (omega arith);
+    idle = λ _ _ _. refl;
+    seen = h;
+    shed = λ s' e. absurd (cc);
+  }
+
+  comes : (s : TableState) (r : SeatRule n s) (count : ℕ) (seen : List Entry) → StartsWith r.past.history seen
+      → SeatRule n record { words = s.words; homes = s.homes; views = s.views ++ witness count seen ∷ [] }
+  comes s r count seen h = let w : SeatView = witness count seen in record {
+    past = r.past;
+    seat_of = r.seat_of;
+    one_word = r.one_word;
+    one_slot = r.one_slot;
+    word = r.word;
+    lawful = r.lawful;
+    below = r.below;
+    home = r.home;
+    seats = added_last s.views w (SeatFits n (get_or s.words 0 0) r.past r.seat_of) r.seats (newcomer s r count seen h);
+    held = λ k l. let t = r.held k l in (t.0, at_longer s.views (w ∷ []) (r.seat_of k) t.0 t.1, t.2);
+  }
+
+  pub vacates : (slots : ℕ) (m : SeatState) → Enters (SeatRule n) slots 0 (λ x w. vacant (step slots 0 0 0 none) m x (w, []))
+  vacates slots m s r deep _ = (spent, comes s r 0 [] (starts_none r.past.history), refl)
+
+  pub witnesses : (id m k : ℕ) (front own : List Entry) → Splits (SeatRule n) id (sitting m k front own) (sitting m k front own) (witness m front)
+  witnesses id m k front own s r at =
+      let v : SeatView = sitting m k front own in let f = r.seats id v at in
+      subst (λ (vs : List SeatView). SeatRule n record { words = s.words; homes = s.homes; views = vs ++ witness m front ∷ [] })
+      (sym (set_again s.views id v at)) (comes s r m front f.accounts.0.follows.front)
+
+  pub tells : (id other b : ℕ) (seen : List Entry) (v : SeatView) → Joins (SeatRule n) id v other (witness b seen) (told_of v (witness b seen)) spent
+  tells id other b seen v s r at apart there =
+      let w : SeatView = witness b seen in let u : SeatView = told_of v w in let x : ℕ = get_or s.words 0 0 in
+      let vs : List SeatView = set s.views id u in
+      let there' : get_elem? s.views other ≡ some w = sym (set_else s.views id other u apart) ∙ there in
+      let f = r.seats id v at in let g = r.seats other w there' in
+      let mine : SeatFits n x r.past r.seat_of id u = record {
+        count = f.count;
+        accounts = f.accounts;
+        free = f.free;
+        taken = f.taken;
+        idle = f.idle;
+        seen = g.seen;
+        shed = f.shed;
+      } in
+      let gone : SeatFits n x r.past r.seat_of other spent = record {
+        count = λ l. absurd (omega arith);
+        accounts = tt;
+        free = λ _. refl;
+        taken = g.taken;
+        idle = λ _ _ _. refl;
+        seen = starts_none r.past.history;
+        shed = λ s' e. absurd (cc);
+      } in record {
+        past = r.past;
+        seat_of = r.seat_of;
+        one_word = r.one_word;
+        one_slot = r.one_slot;
+        word = r.word;
+        lawful = r.lawful;
+        below = r.below;
+        home = r.home;
+        seats =
+            seats_set (SeatFits n x r.past r.seat_of) vs other spent gone
+            (λ j c _ e. seats_set (SeatFits n x r.past r.seat_of) s.views id u mine (λ i d _ q. r.seats i d q) j c e);
+        held = λ k l. let t = r.held k l in dite (ℕ_discrete (r.seat_of k) other)
+            (λ e. absurd (subst (λ (z : SeatView). Has k z.accounts) (some-injective t.0 w (sym t.1 ∙ (ap (get_elem? s.views) e ∙ there'))) t.2))
+            (λ ne. let h = held_set s.views id v u at (r.seat_of k) k (λ q. q) t in (h.0, set_else vs other (r.seat_of k) spent ne ∙ h.1, h.2));
+      }
+
+  learned_sit : (past seen : List Entry) (seat_of : ℕ → ℕ) (id : ℕ) (xs : List Account) → StartsWith past seen → Each (Sits n past seat_of id) xs → Each (Sits n past seat_of id) (map (having_seen seen) xs)
+  learned_sit past seen seat_of id [] q h = tt
+  learned_sit past seen seat_of id (x ∷ xs) q h = (
+    record { below = h.0.below; seated = h.0.seated; follows = record { front = starts_longer past x.front seen h.0.follows.front q; own = h.0.follows.own } },
+    learned_sit past seen seat_of id xs q h.1,
+  )
+
+  pub learns : (slots id : ℕ) (me : SeatState) → Allows (SeatRule n) slots id me 0 (λ x. x) (learnt (step slots 0 0 0 none) me)
+  learns slots id me s r deep at _ =
+      let x : ℕ = get_or s.words 0 0 in let f = r.seats id me.0 at in (
+        learned me.0,
+        keeps,
+        tt,
+        moved n s r id me.0 (learned me.0) x s.homes r.past at r.word r.one_slot r.lawful r.below r.home
+            record {
+              count = λ l. f.count (learned_some me.0.seen me.0.accounts l);
+              accounts = learned_sit r.past.history me.0.seen r.seat_of id me.0.accounts f.seen f.accounts;
+              free = f.free;
+              taken = f.taken;
+              idle = f.idle;
+              seen = starts_none r.past.history;
+              shed = f.shed;
+            }
+            (λ j u _ there. r.seats j u there) (λ j h. has_learned me.0.seen me.0.accounts j h),
+        (r.past.history, refl, each_map me.0.accounts (λ y t. t.follows) f.accounts, f.seen),
+      )

@@ -1,0 +1,23 @@
+use Rattle.std.proofs.Common.{rules, ◌≡◌, [], ◌∷◌, sym, ap, ◌∙◌, subst}
+use Rattle.dn_service.specs.Seats.{shed_in, spent}
+use Rattle.dn_service.proofs.Handing.{takes_in}
+use Rattle.dn_service.proofs.Lastings.{account_of, hands_back, is_keeper, keeps_one}
+use Rattle.dn_service.proofs.Tokens.{vacates}
+use Rattle.dn_service.proofs.lasting.Lasting.take_by.Goals as goal
+
+pub load_new_seat-vacant-requires : goal.load_new_seat-vacant-requires
+load_new_seat-vacant-requires c = (search rules, vacates _ _ (spent, []))
+
+pub join_seat-requires : goal.join_seat-requires
+join_seat-requires c =
+    let s = c.args.seat.now in let l = c.self.inside.seat in let sits = c.requires.caller.sits in
+    let same : c.replace.result ≡ s = c.replace.ensures.value in (
+      search rules,
+      ap (λ x. x.table_id) same ∙ (c.requires.caller.at_table ∙ (sym (ap (λ v. v.service.table) c.self.view_is) ∙ (c.self.invariant.0.at_table ∙ sym (ap (λ t. t.shared.table_id) c.deref-table.ensures)))),
+      ap (λ x. x.me.1) same ∙ ap (λ x. x.1) sits,
+      search rules,
+      takes_in _ _ _ _ s.me.0.count c.args.number (shed_in l.me.0.shed) [] _ _ _ _ (ap (λ x. x.0) c.self.invariant.0.waits) (ap (λ x. x.me.0) same ∙ ap (λ x. x.0) sits),
+    )
+
+pub split_seat-requires : goal.split_seat-requires
+split_seat-requires c = (search rules, search rules, hands_back _ _ c.args.number _ c.empty-taken.ensures.seat)

@@ -1,0 +1,49 @@
+-- A service that lasts: entries are taken out of it while it goes on. And what one caller knows of and tells another.
+use Rattle.std.specs.Prelude.{◌≡◌, ◌⊎◌, ◌<◌, ◌^◌, ℕ, List, ◌++◌, length}
+use Rattle.atomic_table.specs.Seated.{TableId}
+use Rattle.dn_types.specs.History.{IsLawful, own_entries}
+use Rattle.dn_types.specs.declared.entry.Entry.{Entry}
+use Rattle.dn_types.specs.declared.rule.Rule.TheVariants.{Ordered}
+use Rattle.dn_service.specs.Callers.{ServiceView, CallerView, Closes}
+use Rattle.dn_service.specs.Histories.{StartsWith, AreBelow}
+use Rattle.dn_service.specs.Seats.{SeatState, front_in, own_in}
+
+-- A service, and all entries that were taken out of it so far, in order.
+pub record LastingView : Type 0 where
+  pub service : ServiceView
+  pub taken : List Entry
+
+-- Through this caller the entries were taken out, of which the first has this place. All that was taken is now
+-- one lawful history, the earlier part and then these, and it is what the caller has seen: it begins with all that the
+-- caller had seen before, and the caller's own entries are those that it has of it.
+pub record Takes (before : LastingView) (caller : CallerView) (place : ℕ) (entries : List Entry) (after : LastingView) (caller' : CallerView) : Type 0 where
+  pub service : after.service ≡ before.service
+  pub taken : after.taken ≡ before.taken ++ entries
+  pub start : length before.taken < 2 ^ 64 → place ≡ length before.taken
+  pub lawful : IsLawful Ordered after.taken
+  pub below : AreBelow before.service.callers after.taken
+  pub front : caller'.front ≡ after.taken
+  pub seen : StartsWith caller'.front caller.front
+  pub own : caller'.own ≡ caller.own
+  pub all_own : caller'.own ≡ own_entries caller.number after.taken
+
+-- What was taken out, and then what was left at the end, is the history that a service leaves.
+abbrev pub ClosesAfter : LastingView → List CallerView → List Entry → Type 0
+ClosesAfter lasting callers rest = Closes lasting.service callers (lasting.taken ++ rest)
+
+-- What is known of a service: a history that its own begins with.
+pub record SeenView : Type 0 where
+  pub service : ServiceView
+  pub front : List Entry
+
+-- The caller has now seen all that it had seen and all that is known. One of these begins with the other, so any two
+-- histories that callers of one service have seen do.
+pub record Learns (before : CallerView) (seen : SeenView) (after : CallerView) : Type 0 where
+  pub had : StartsWith after.front before.front
+  pub told : StartsWith after.front seen.front
+  pub one : (StartsWith before.front seen.front × (after.front ≡ before.front)) ⊎ (StartsWith seen.front before.front × (after.front ≡ seen.front))
+  pub own : after.own ≡ before.own
+
+-- The caller of this number, by its seat at the table.
+abbrev pub caller_at : TableId → ℕ → SeatState → CallerView
+caller_at table number me = record { service = record { table = table; callers = me.0.count }; number = number; front = front_in me.0.accounts; own = own_in me.0.accounts }

@@ -1,0 +1,163 @@
+ghost use Rattle.std.specs.Prelude.{◌≡◌, ◌≢◌, ◌+◌, ◌^◌, ◌<◌, [], All, IfOk, OnErr, IfErr};
+ghost use Rattle.dn_service.specs.Seats.{IsKeeperOf};
+ghost use Rattle.dn_service.specs.Steps.{Emptied};
+
+use crate::caller::Caller;
+use crate::close_fault::CloseFault;
+use crate::closed::Closed;
+use crate::lock::{enter, give_empty};
+use crate::rule::{BookSeat, BookTable};
+use crate::steps::{FirstAlone, Together, Vacate};
+use crate::take_in::{first_missing, leave};
+use dn_types::Entry;
+use std::marker::Model;
+use std::mem;
+use std::sync::Arc;
+
+/// Entries that were taken out of a service.
+#[derive(Debug, Drop)]
+pub struct Segment {
+    /// How many entries were taken out before these.
+    pub start: u64,
+    /// The entries, oldest first.
+    pub entries: Vec<Entry>,
+}
+
+/// A service that lasts: its entries can be taken out while it goes on.
+///
+/// Contracts see the service, and all entries that were *taken* so far.
+#[derive(Drop)]
+pub struct Lasting {
+    table: Arc<BookTable>,
+    seat: BookSeat,
+    count: usize,
+    start: u64,
+}
+
+impl Model for Lasting {
+    ghost use Rattle.std.specs.Prelude.{◌≡◌, ◌^◌, ◌<◌, length};
+    ghost use Rattle.std.specs.Arc.{arc_value};
+    ghost use Rattle.dn_service.specs.Lasting.{LastingView};
+    ghost use Rattle.dn_service.specs.Seats.{IsLastingSeat, shed_in};
+
+    ghost Value = { LastingView };
+
+    ghost view = { λ s. record {
+      service = record { table = s.seat.table_id; callers = s.count };
+      taken = shed_in s.seat.me.0.shed;
+    } };
+
+    ghost invariant = { λ s. IsLastingSeat (arc_value s.table).shared.table_id s.count s.seat.table_id s.seat.me
+        × (length (shed_in s.seat.me.0.shed) < 2 ^ 64 → s.start ≡ length (shed_in s.seat.me.0.shed)) };
+}
+
+/// What was handed to `close`, with the reason why it was not closed. The service goes on as before.
+#[derive(Drop)]
+pub struct Unlasting {
+    /// Why the service was not closed.
+    pub fault: CloseFault,
+    /// The service, with all that it has answered.
+    pub service: Lasting,
+    /// The callers that were handed in, in the same order.
+    pub callers: Vec<Caller>,
+}
+
+/// Takes all entries out of the book, by a seat that stands for the caller `number` alone and has all that was taken out
+/// before. `Err` names the caller that has the book.
+fn empty(table: &BookTable, seat: &mut BookSeat, number: usize) -> Result<Vec<Entry>, usize>
+    requires table { (seat.old.table_id ≡ table.now.shared.table_id) × (seat.old.table_id.words ≡ 1) }
+    requires number { number + 1 < 2 ^ 64 }
+    requires seat { IsKeeperOf number seat.old.me }
+    ensures table { (seat.new.table_id ≡ seat.old.table_id) × (seat.new.id ≡ seat.old.id) }
+    ensures count { seat.new.me.0.count ≡ seat.old.me.0.count }
+    ensures seat { IsKeeperOf number seat.new.me }
+    ensures ok { IfOk result (λ entries. Emptied seat.old.me entries.items seat.new.me) }
+    ensures err { OnErr result (seat.new.me ≡ seat.old.me) }
+    ensures busy { IfErr result (λ k. (k < seat.old.me.0.count) × (k ≢ number)) }
+{
+    match enter(table, seat, number) {
+        Ok(mut book) => {
+            let entries = book.take();
+            give_empty(table, seat, book);
+            Ok(entries)
+        }
+        Err(holder) => Err(holder),
+    }
+}
+
+impl Lasting {
+    ghost use Rattle.dn_service.specs.Callers.{IsOf, IsCloseFault};
+    ghost use Rattle.dn_service.specs.Lasting.{Takes, ClosesAfter, caller_at};
+    ghost use Rattle.dn_service.specs.Seats.{IsCallerSeat, IsServiceSeat};
+    ghost use Rattle.std.specs.Arc.{arc_value};
+
+    pub(crate) fn new(table: Arc<BookTable>, seat: BookSeat, count: usize) -> Lasting
+        requires { IsServiceSeat (arc_value table).shared.table_id count seat.table_id seat.me }
+        ensures { result ≡ record { service = record { table = seat.table_id; callers = count }; taken = [] } }
+    {
+        Lasting {
+            table,
+            seat,
+            count,
+            start: 0,
+        }
+    }
+
+    /// Takes all entries out, by the seat of the caller `number`, which is then a seat of that caller again.
+    pub(crate) fn take_by(
+        &mut self,
+        seat: &mut BookSeat,
+        number: usize,
+    ) -> Result<Segment, usize>
+        requires caller { IsCallerSeat self.old.service.table number seat.old.table_id seat.old.me }
+        requires count { seat.old.me.0.count ≡ self.old.service.callers }
+        ensures table { seat.new.table_id ≡ seat.old.table_id }
+        ensures caller { IsCallerSeat seat.old.table_id number seat.new.table_id seat.new.me }
+        ensures count { seat.new.me.0.count ≡ seat.old.me.0.count }
+        ensures ok { IfOk result (λ s. Takes self.old (caller_at seat.old.table_id number seat.old.me) s.start s.entries.items
+            self.new (caller_at seat.new.table_id number seat.new.me)) }
+        ensures err { OnErr result ((seat.new.me ≡ seat.old.me) × (self.new ≡ self.old)) }
+        ensures busy { IfErr result (λ k. (k < seat.old.me.0.count) × (k ≢ number)) }
+    {
+        let table: &BookTable = &self.table;
+        let (_, vacant) = table.shared.load_new_seat::<Vacate>(0);
+        table
+            .shared
+            .join_seat::<Together>(&mut self.seat, mem::replace(seat, vacant));
+        let taken = empty(table, &mut self.seat, number);
+        *seat = table.shared.split_seat::<FirstAlone>(&mut self.seat);
+        match taken {
+            Ok(entries) => {
+                let start = self.start;
+                self.start = start.wrapping_add(entries.len() as u64);
+                Ok(Segment { start, entries })
+            }
+            Err(holder) => Err(holder),
+        }
+    }
+
+    /// Ends the service, as `Service::close` does, and gives the entries that were not taken out.
+    pub fn close(self, callers: Vec<Caller>) -> Result<Closed, Unlasting>
+        requires { All (IsOf self.service) callers.items }
+        ensures ok { IfOk result (λ closed. ClosesAfter self callers.items closed.history.items) }
+        ensures err { IfErr result (λ back. (back.service ≡ self) × (back.callers ≡ callers)) }
+        ensures fault { IfErr result (λ back. IsCloseFault self.service.callers callers.items back.fault) }
+    {
+        if let Some(number) = first_missing(callers.as_slice(), self.count) {
+            return Err(Unlasting {
+                fault: CloseFault::Absent(number),
+                service: self,
+                callers,
+            });
+        }
+        let Lasting {
+            table,
+            mut seat,
+            count: _,
+            start: _,
+        } = self;
+        Ok(Closed {
+            history: leave(&table, &mut seat, callers),
+        })
+    }
+}
