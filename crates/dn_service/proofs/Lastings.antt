@@ -1,5 +1,5 @@
 -- What is taken out of a service that lasts, and what a caller learns from a token.
-use Rattle.std.proofs.Common.{◌≡◌, ℕ, ◌+◌, ◌<◌, ◌≤◌, ◌^◌, ◌⊎◌, inl, inr, Bool, true, false, cond, List, [], ◌∷◌, ◌++◌, length, sym, refl, ap, ◌∙◌, subst, arith, Some, None}
+use Rattle.std.proofs.Common.{◌≡◌, ℕ, ◌+◌, ◌<◌, ◌≤◌, ◌^◌, ◌⊎◌, inl, inr, Bool, true, false, cond, List, [], ◌∷◌, ◌++◌, length, length-append, sym, refl, ap, ◌∙◌, subst, arith, Some, None}
 use Rattle.std.specs.Prelude.{nat_le}
 use Rattle.std.proofs.lemmas.Bool.Decides.{nat_tests}
 use Rattle.atomic_table.specs.Seated.{TableId}
@@ -9,7 +9,7 @@ use Rattle.dn_types.specs.declared.entry.Entry.{Entry}
 use Rattle.dn_types.specs.declared.rule.Rule.TheVariants.{Ordered}
 use Rattle.dn_service.specs.Callers.{ServiceView, CallerView}
 use Rattle.dn_service.specs.Histories.{StartsWith, AreBelow}
-use Rattle.dn_service.specs.Lasting.{LastingView, Takes, SeenView, Learns, caller_at}
+use Rattle.dn_service.specs.Lasting.{SeenView, Learns, caller_at}
 use Rattle.dn_service.specs.Rule.{Follows, SeatRule}
 use Rattle.dn_service.specs.Seats.{Account, SeatState, SeatView, Each, keeping, sitting, witness, witness_of, as_it_was, told_of, learned, with_shed, without_first, only_first, joined, spent, longer, shed_in, front_in, own_in, IsKeeperOf}
 use Rattle.dn_service.specs.Steps.{Emptied}
@@ -26,51 +26,6 @@ pub hands_back : (n id k : ℕ) (m : SeatState) → IsKeeperOf k m → Splits (S
 hands_back n id k m is =
     subst (λ v. Splits (SeatRule n) id v (without_first v) (only_first v)) (sym (ap (λ x. x.0) is))
     (splits n id m.0.count (shed_in m.0.shed) (account_of k m) [] (λ h. h))
-
-pub kept_back : (k : ℕ) (m l : SeatState) → IsKeeperOf k m → l ≡ (without_first m.0, m.1) → l ≡ (keeping m.0.count (shed_in m.0.shed) [], [])
-kept_back k m l is e = e ∙ (λ i. (without_first (is i).0, (is i).1))
-
-pub got_back : (k : ℕ) (m b : SeatState) → IsKeeperOf k m → b ≡ (only_first m.0, []) → b ≡ (sitting m.0.count k (front_in m.0.accounts) (own_in m.0.accounts), [])
-got_back k m b is e = e ∙ (λ i. (only_first (is i).0, []))
-
--- two seats in one
-pub keeps_one : (k a : ℕ) (l c m : SeatState) → l ≡ (keeping a (shed_in l.0.shed) [], []) → c ≡ (sitting c.0.count k (front_in c.0.accounts) (own_in c.0.accounts), [])
-    → m ≡ (joined l.0 c.0, l.1) → m ≡ (keeping c.0.count (shed_in l.0.shed) (account_of k c ∷ []), [])
-keeps_one k a l c m is sits did = did ∙ (λ i. (joined (is i).0 (sits i).0, (is i).1))
-
-module _ (k : ℕ) (out : List Entry) (c m m' : SeatState) (entries : List Entry) (is : m ≡ (keeping c.0.count out (account_of k c ∷ []), [])) (did : Emptied m entries m') where
-  abbrev all : List Entry
-  all = out ++ entries
-
-  took : Emptied (keeping c.0.count out (account_of k c ∷ []), []) entries m'
-  took = subst (λ (z : SeatState). Emptied z entries m') is did
-
-  -- the seat of the service, and that of the caller
-  pub left_at : (l : SeatState) → l ≡ (without_first m'.0, m'.1) → l ≡ (keeping c.0.count all [], [])
-  left_at l e = e ∙ (λ i. (without_first (took.now i).0, (took.now i).1))
-
-  pub back_at : (b : SeatState) → b ≡ (only_first m'.0, []) → b ≡ (sitting c.0.count k all (own_entries k all), [])
-  back_at b e = e ∙ (λ i. (only_first (took.now i).0, []))
-
-  pub takes : (before : LastingView) (table table' : TableId) (start : ℕ) (l b : SeatState) (after : LastingView) → before.taken ≡ out → before.service.callers ≡ c.0.count
-      → (length out < 2 ^ 64 → start ≡ length out) → l ≡ (without_first m'.0, m'.1) → b ≡ (only_first m'.0, [])
-      → after.service ≡ before.service → after.taken ≡ shed_in l.0.shed
-      → Takes before (caller_at table k c) start entries after (caller_at table' k b)
-  takes before table table' start l b after was count number e f same now =
-      let have : after.taken ≡ all = now ∙ ap (λ x. shed_in x.0.shed) (left_at l e) in
-      let front : front_in b.0.accounts ≡ all = ap (λ x. front_in x.0.accounts) (back_at b f) in
-      let own : own_in b.0.accounts ≡ own_entries k all = ap (λ x. own_in x.0.accounts) (back_at b f) in
-      let follows : Follows all (account_of k c) = took.follows.0 in record {
-        service = same;
-        taken = have ∙ ap (λ o. o ++ entries) (sym was);
-        start = λ h. number (subst (λ o. length o < 2 ^ 64) was h) ∙ ap length (sym was);
-        lawful = subst (IsLawful Ordered) (sym have) took.lawful;
-        below = subst (λ n. AreBelow n after.taken) (sym count) (subst (AreBelow c.0.count) (sym have) took.below);
-        front = front ∙ sym have;
-        seen = subst (λ h. StartsWith h (front_in c.0.accounts)) (sym front) follows.front;
-        own = own ∙ sym follows.own;
-        all_own = own ∙ ap (own_entries k) (sym have);
-      }
 
 -- one of the two lists begins with the other, and is this one
 abbrev pub IsOneOf : List Entry → List Entry → List Entry → Type 0
@@ -134,3 +89,16 @@ is_waiting n s m e = e ∙ (λ i. let z = sym e i in (keeping n (shed_in z.0.she
 
 pub empties_keeper : (k : ℕ) (m m' : SeatState) (h : List Entry) → IsKeeperOf k m → m' ≡ (with_shed m.0 h, []) → IsKeeperOf k m'
 empties_keeper k m m' h is e = is_keeper k m.0.count h h (own_entries k h) m' (e ∙ (λ i. (with_shed (is i).0 h, [])))
+
+-- how many entries were taken out, once all were
+pub gone_all : (history shed kept : List Entry) (gone gone' : ℕ) → history ≡ shed ++ kept → (length shed < 2 ^ 64 → gone ≡ length shed)
+    → (gone + length kept < 2 ^ 64 → gone' ≡ gone + length kept) → length history < 2 ^ 64 → gone' ≡ length history
+gone_all history shed kept gone gone' whole before after few =
+    let size : length history ≡ length shed + length kept = ap length whole ∙ length-append shed kept in
+    let was : gone ≡ length shed = before (omega arith) in
+    let now : gone' ≡ gone + length kept = after (omega arith) in omega arith
+
+-- the place of the next entry
+pub placed : (history shed kept : List Entry) (gone place : ℕ) → history ≡ shed ++ kept → (length shed < 2 ^ 64 → gone ≡ length shed)
+    → (gone + length kept < 2 ^ 64 → place ≡ gone + length kept) → length history < 2 ^ 64 → place ≡ length history
+placed history shed kept gone place whole before after few = gone_all history shed kept gone place whole before after few

@@ -1,5 +1,5 @@
 -- What was called so far, and the book, which has the part of it that was not taken out yet.
-use Rattle.std.specs.Prelude.{◌≡◌, List, [], ◌∷◌, ◌++◌}
+use Rattle.std.specs.Prelude.{◌≡◌, ℕ, ◌<◌, ◌^◌, List, [], ◌∷◌, ◌++◌, length}
 use Rattle.dn_types.specs.History.{IsLawful, calls_of}
 use Rattle.dn_types.specs.declared.entry.Entry.{Entry}
 use Rattle.dn_types.specs.declared.rule.Rule.TheVariants.{Ordered}
@@ -11,16 +11,18 @@ pub record Past : Type 0 where
   pub history : List Entry
   pub shed : List Entry
 
--- A book: the state of its shaper, and the entries that it has.
+-- A book: the state of its shaper, the entries that it has, and how many were taken out of it.
 pub record BookView : Type 0 where
   pub shaper : State
   pub kept : List Entry
+  pub gone : ℕ
 
 -- The book's shaper stands after all calls of the past, which is lawful, and the book has all entries that were not taken out.
 pub record Keeps (past : Past) (b : BookView) : Type 0 where
   pub lawful : IsLawful Ordered past.history
   pub stands : StandsAfter Ordered b.shaper (calls_of past.history)
   pub whole : past.history ≡ past.shed ++ b.kept
+  pub gone : length past.shed < 2 ^ 64 → b.gone ≡ length past.shed
 
 -- Nothing was called.
 abbrev pub no_past : Past

@@ -1,4 +1,4 @@
-ghost use Rattle.std.specs.Prelude.{◌≡◌, [], IfOk, OnErr};
+ghost use Rattle.std.specs.Prelude.{◌≡◌, ◌+◌, ◌<◌, ◌^◌, [], length, IfOk, OnErr};
 ghost use Rattle.dn_service.specs.Histories.{entry_of};
 ghost use Rattle.dn_service.specs.Pasts.{Past, Keeps, no_past, with_entry};
 
@@ -16,6 +16,8 @@ pub(crate) struct Pages {
     history: Vec<Entry>,
     /// For the copy of each reply that the history keeps.
     room: Room,
+    /// How many entries were taken out.
+    gone: u64,
 }
 
 /// The shaper, with the history of all its calls but for the entries that were taken out. Contracts see the shaper and
@@ -30,7 +32,7 @@ impl Model for Book {
 
     ghost Value = { BookView };
 
-    ghost view = { λ b. record { shaper = b.pages.value.shaper; kept = b.pages.value.history.items } };
+    ghost view = { λ b. record { shaper = b.pages.value.shaper; kept = b.pages.value.history.items; gone = b.pages.value.gone } };
 }
 
 impl Book {
@@ -42,6 +44,7 @@ impl Book {
             shaper: Shaper::with_key(alloc, Rule::Ordered, key),
             history: Vec::new(alloc),
             room: Room::new(alloc),
+            gone: 0,
         };
         Ok(Book {
             pages: Box::new(alloc, pages)?,
@@ -72,10 +75,21 @@ impl Book {
     pub(crate) fn take(&mut self) -> Vec<Entry>
         ensures entries { result.items ≡ self.old.kept }
         ensures book { (self.new.shaper ≡ self.old.shaper) × (self.new.kept ≡ []) }
+        ensures gone { self.old.gone + length self.old.kept < 2 ^ 64 → self.new.gone ≡ self.old.gone + length self.old.kept }
     {
         let pages = &mut *self.pages;
+        pages.gone = pages.gone.wrapping_add(pages.history.len() as u64);
         let empty = Vec::new(*pages.history.allocator());
         mem::replace(&mut pages.history, empty)
+    }
+
+    /// How many calls were answered, where those are not 2^64 or more.
+    pub(crate) fn place(&self) -> u64
+        ensures { self.now.gone + length self.now.kept < 2 ^ 64 → result ≡ self.now.gone + length self.now.kept }
+    {
+        self.pages
+            .gone
+            .wrapping_add(self.pages.history.len() as u64)
     }
 
     pub(crate) fn into_history(self) -> Vec<Entry>
@@ -85,6 +99,7 @@ impl Book {
             shaper,
             history,
             room,
+            gone: _,
         } = Box::into_inner(self.pages);
         // The proof of a drop by a call has one step, where that of a drop at the end has one for each field.
         drop(shaper);

@@ -1,7 +1,8 @@
-ghost use Rattle.std.specs.Prelude.{◌≡◌, ◌≢◌, ◌<◌, ◌≤◌, [], IfOk, IfErr, OnErr};
+ghost use Rattle.std.specs.Prelude.{◌≡◌, ◌≢◌, ◌<◌, ◌≤◌, ◌+◌, ◌^◌, [], length, IfOk, IfErr, OnErr};
 
 use crate::lasting::{Lasting, Segment};
 use crate::lock::{enter, give_back, publish};
+use crate::placed::{AfterFault, Placed};
 use crate::rule::{BookSeat, BookTable};
 use crate::seen::Seen;
 use crate::steps::{Learn, Tell, Witness};
@@ -115,6 +116,49 @@ impl Caller {
         }
     }
 
+    /// Makes a call that comes after `after` others, if no other caller is in one, and tells its place in the history. The place
+    /// of an answer, and one more, is a number that another thread can hand in here, by whatever way it came: its call then comes
+    /// after that answer. `Ahead` says that fewer calls were answered, so that the number is of no answer of this service.
+    pub fn try_call_after(&mut self, after: u64, call: Call) -> Result<Placed, AfterFault>
+        ensures ok { IfOk result (λ placed. Answered self.old call placed.reply self.new) }
+        ensures place { IfOk result (λ placed. length self.new.front < 2 ^ 64 → length self.new.front ≡ placed.place + 1) }
+        ensures after { IfOk result (λ placed. after ≤ placed.place) }
+        ensures same_caller { IsSameCaller self.old self.new }
+        ensures err { OnErr result (self.new ≡ self.old) }
+    {
+        self.try_after(after, &call)
+    }
+
+    fn try_after(&mut self, after: u64, call: &Call) -> Result<Placed, AfterFault>
+        ensures ok { IfOk result (λ placed. Answered self.old call.now placed.reply self.new) }
+        ensures place { IfOk result (λ placed. length self.new.front < 2 ^ 64 → length self.new.front ≡ placed.place + 1) }
+        ensures after { IfOk result (λ placed. after ≤ placed.place) }
+        ensures same_caller { IsSameCaller self.old self.new }
+        ensures err { OnErr result (self.new ≡ self.old) }
+    {
+        let caller = self.number;
+        let table: &BookTable = &self.table;
+        let mut book = match enter(table, &mut self.seat, caller) {
+            Ok(book) => book,
+            Err(holder) => return Err(AfterFault::Busy(holder)),
+        };
+        let place = book.place();
+        if place < after {
+            give_back(table, &mut self.seat, book);
+            return Err(AfterFault::Ahead);
+        }
+        match book.apply(caller, call) {
+            Ok(reply) => {
+                publish(table, &mut self.seat, book);
+                Ok(Placed { place, reply })
+            }
+            Err(_) => {
+                give_back(table, &mut self.seat, book);
+                Err(AfterFault::OutOfMemory)
+            }
+        }
+    }
+
     /// Makes a call, and waits while other callers are in one: it yields its processor between two tries. Where memory is
     /// refused, for the call or for its place in the history, nothing has changed.
     pub fn call<R: Wait>(&mut self, rt: &R, call: Call) -> Result<Reply, AllocError>
@@ -186,7 +230,9 @@ impl Caller {
         ensures same_caller { IsSameCaller self.old self.new }
     {
         let table: &BookTable = &self.table;
-        table.shared.join_seat::<Tell>(&mut self.seat, seen.into_seat());
+        table
+            .shared
+            .join_seat::<Tell>(&mut self.seat, seen.into_seat());
         let _ = table.shared.load::<Learn>(&mut self.seat, 0);
     }
 }

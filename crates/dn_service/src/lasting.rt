@@ -104,11 +104,7 @@ impl Lasting {
     }
 
     /// Takes all entries out, by the seat of the caller `number`, which is then a seat of that caller again.
-    pub(crate) fn take_by(
-        &mut self,
-        seat: &mut BookSeat,
-        number: usize,
-    ) -> Result<Segment, usize>
+    pub(crate) fn take_by(&mut self, seat: &mut BookSeat, number: usize) -> Result<Segment, usize>
         requires caller { IsCallerSeat self.old.service.table number seat.old.table_id seat.old.me }
         requires count { seat.old.me.0.count ≡ self.old.service.callers }
         ensures table { seat.new.table_id ≡ seat.old.table_id }

@@ -132,11 +132,7 @@ impl Service {
     pub fn lasting(self) -> Lasting
         ensures { result ≡ record { service = self; taken = [] } }
     {
-        let Service {
-            table,
-            seat,
-            count,
-        } = self;
+        let Service { table, seat, count } = self;
         Lasting::new(table, seat, count)
     }
 }

@@ -6,7 +6,7 @@ use Rattle.dn_shaper.specs.Shaper.{StandsAfter}
 use Rattle.dn_service.specs.Histories.{AreBelow}
 use Rattle.dn_service.specs.Rule.{Follows}
 use Rattle.dn_service.specs.Seats.{Each, Has, with_shed, shed_in}
-use Rattle.dn_service.proofs.Lastings.{empties_keeper}
+use Rattle.dn_service.proofs.Lastings.{empties_keeper, gone_all}
 use Rattle.dn_service.proofs.lasting.empty.Goals as goal
 
 pub enter-requires-clause-seat : goal.enter-requires-clause-seat
@@ -18,12 +18,16 @@ give_empty-requires-clause-shed c = let won = c.in-Ok.ensures.taken in
     (shed_in c.args.seat.now.me.0.shed, ap (λ v. v.shed) won.view ∙ ap (λ x. x.0.shed) c.requires.seat)
 
 pub give_empty-requires-clause-book : goal.give_empty-requires-clause-book
-give_empty-requires-clause-book c = let won = c.in-Ok.ensures.taken in let did = c.take-entries.ensures in
-    (won.past, ap (λ v. v.taken) won.view, record {
-      lawful = won.keeps.lawful;
-      stands = subst (λ s. StandsAfter Ordered s (calls_of won.past.history)) (sym did.book.0) won.keeps.stands;
-      whole = sym (append-nil won.past.history) ∙ ap (λ h. won.past.history ++ h) (sym did.book.1);
-    })
+give_empty-requires-clause-book c = let won = c.in-Ok.ensures.taken in let did = c.take-entries.ensures in (
+  won.past,
+  ap (λ v. v.taken) won.view,
+  record {
+    lawful = won.keeps.lawful;
+    stands = subst (λ s. StandsAfter Ordered s (calls_of won.past.history)) (sym did.book.0) won.keeps.stands;
+    whole = sym (append-nil won.past.history) ∙ ap (λ h. won.past.history ++ h) (sym did.book.1);
+    gone = λ few. gone_all won.past.history won.past.shed c.in-Ok.book.kept c.in-Ok.book.gone _ won.keeps.whole won.keeps.gone did.gone few;
+  },
+)
 
 pub returns-in-Ok-clause-seat : goal.returns-in-Ok-clause-seat
 returns-in-Ok-clause-seat c = let won = c.in-Ok.ensures.taken in

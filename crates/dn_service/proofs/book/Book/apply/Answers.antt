@@ -17,7 +17,7 @@ use Rattle.dn_service.proofs.book.Book.apply.Goals as goal
 
 -- a book with these pages
 abbrev book_of : Pages → BookView
-book_of p = record { shaper = p.shaper; kept = p.history.items }
+book_of p = record { shaper = p.shaper; kept = p.history.items; gone = p.gone }
 
 pub copy_of-copy-requires-clause-room : goal.copy_of-copy-requires-clause-room
 copy_of-copy-requires-clause-room c =
@@ -41,6 +41,7 @@ returns-clause-ok c = λ past was.
       lawful = lawful-more Ordered past.history e kept.lawful told.0;
       stands = subst (StandsAfter Ordered c.apply.new.self) (sym (calls_of-more past.history e)) told.1;
       whole = ap (λ h. h ++ e ∷ []) kept.whole ∙ (append_assoc past.shed pages.history.items (e ∷ []) ∙ ap (λ h. past.shed ++ h) (sym now));
+      gone = kept.gone;
     }
 
 -- a refused call has left the shaper after the same calls
@@ -52,4 +53,5 @@ returns-in_err-reply-clause-err c = on_err c.from_residual-in_err-reply.result (
       lawful = kept.lawful;
       stands = c.in_err-reply.ensures.err Ordered (calls_of past.history) kept.stands;
       whole = kept.whole ∙ ap (λ h. past.shed ++ h) (sym same);
+      gone = kept.gone;
     })

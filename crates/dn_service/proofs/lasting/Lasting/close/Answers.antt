@@ -6,9 +6,12 @@ use Rattle.dn_service.proofs.lasting.Lasting.close.Goals as goal
 
 pub leave-requires-clause-callers : goal.leave-requires-clause-callers
 leave-requires-clause-callers c =
-    let m = c.self.inside.seat.me in
-    (c.args.self.service, sym (ap (λ s. s.service.table) c.self.view_is),
-    c.self.invariant.0.waits ∙ ap (λ n. (keeping n (shed_in m.0.shed) [], [])) (ap (λ s. s.service.callers) c.self.view_is), c.requires)
+    let m = c.self.inside.seat.me in (
+      c.args.self.service,
+      sym (ap (λ s. s.service.table) c.self.view_is),
+      c.self.invariant.0.waits ∙ ap (λ n. (keeping n (shed_in m.0.shed) [], [])) (ap (λ s. s.service.callers) c.self.view_is),
+      c.requires,
+    )
 
 pub returns-clause-ok : goal.returns-clause-ok
 returns-clause-ok c =

@@ -1,7 +1,7 @@
 use Rattle.std.proofs.Common.{rules, ◌≡◌, [], ◌∷◌, sym, ap, ◌∙◌, subst}
 use Rattle.dn_service.specs.Seats.{shed_in, spent}
 use Rattle.dn_service.proofs.Handing.{takes_in}
-use Rattle.dn_service.proofs.Lastings.{account_of, hands_back, is_keeper, keeps_one}
+use Rattle.dn_service.proofs.Lastings.{hands_back}
 use Rattle.dn_service.proofs.Tokens.{vacates}
 use Rattle.dn_service.proofs.lasting.Lasting.take_by.Goals as goal
 

@@ -7,9 +7,12 @@ use Rattle.dn_service.proofs.service.Service.close.Goals as goal
 
 pub leave-requires-clause-callers : goal.leave-requires-clause-callers
 leave-requires-clause-callers c =
-    let m = c.self.inside.seat.me in
-    (c.args.self, sym (ap (λ s. s.table) c.self.view_is),
-    is_waiting c.self.inside.count [] m c.self.invariant.waits ∙ ap (λ n. (keeping n (shed_in m.0.shed) [], [])) (ap (λ s. s.callers) c.self.view_is), c.requires)
+    let m = c.self.inside.seat.me in (
+      c.args.self,
+      sym (ap (λ s. s.table) c.self.view_is),
+      is_waiting c.self.inside.count [] m c.self.invariant.waits ∙ ap (λ n. (keeping n (shed_in m.0.shed) [], [])) (ap (λ s. s.callers) c.self.view_is),
+      c.requires,
+    )
 
 pub returns-clause-ok : goal.returns-clause-ok
 returns-clause-ok c =
