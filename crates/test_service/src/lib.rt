@@ -4,8 +4,6 @@
 #[cfg(test)]
 mod calls;
 #[cfg(test)]
-mod lasting;
-#[cfg(test)]
 mod one_caller;
 #[cfg(test)]
 mod replies;

@@ -21,7 +21,7 @@ use std::alloc::{AllocError, Global};
 const ENTRY_LEN: usize = 128;
 
 /// Adds the record that names the format.
-fn write_header(writer: &mut RecordWriter) -> Result<(), AllocError>
+pub(crate) fn write_header(writer: &mut RecordWriter) -> Result<(), AllocError>
     ensures { OnOk result (writer.new.text ≡ writer.old.text ++ line_of history_header) }
 {
     writer.write(&[Field::Text("dummynet-history"), Field::Text("3")])
@@ -42,7 +42,7 @@ pub fn write_entry(
 }
 
 /// Adds the records of entries.
-fn write_entries(
+pub(crate) fn write_entries(
     alloc: Global,
     writer: &mut RecordWriter,
     entries: &[Entry],
