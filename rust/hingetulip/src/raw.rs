@@ -1,0 +1,91 @@
+//! `hingetulip.h`, by hand: its structs have no gaps.
+#![allow(missing_docs)]
+use core::ffi::c_void;
+
+#[repr(C)]
+pub struct Handle {
+    pub at: *mut c_void,
+    pub open: bool,
+}
+
+#[repr(C)]
+#[derive(Clone, Copy, Default)]
+pub struct Fault {
+    pub word: u64,
+    pub kind: u32,
+    pub reserved: u32,
+}
+
+#[repr(C)]
+#[derive(Clone, Copy, Default)]
+pub struct Packet {
+    pub moment: u64,
+    pub src: u32,
+    pub dst: u32,
+    pub word: u32,
+    pub sport: u16,
+    pub dport: u16,
+    pub length: u16,
+    pub number: u16,
+    pub kind: u8,
+    pub proto: u8,
+    pub reserved: u16,
+}
+
+#[repr(C)]
+#[derive(Clone, Copy, Default)]
+pub struct Fate {
+    pub at: u64,
+    pub flow: u64,
+    pub packet: u64,
+    pub outcome: u32,
+    pub reserved: u32,
+}
+
+#[repr(C)]
+#[derive(Clone, Copy, Default)]
+pub struct Delivery {
+    pub due: u64,
+    pub packet: u64,
+    pub flow: u64,
+    pub start: u64,
+    pub reserved: u64,
+}
+
+#[repr(C)]
+#[derive(Clone, Copy, Default)]
+pub struct Flow {
+    pub flow: u64,
+    pub queued: u64,
+    pub bytes: u64,
+    pub lost: u64,
+    pub full: u64,
+    pub started: u64,
+    pub discarded: u64,
+    pub src: u32,
+    pub dst: u32,
+    pub sport: u16,
+    pub dport: u16,
+    pub number: u16,
+    pub pipe: u16,
+    pub kind: u8,
+    pub proto: u8,
+    pub reserved: u16,
+    pub reserved2: u32,
+}
+
+extern "C" {
+    pub fn dn_version() -> u32;
+    pub fn dn_open_with_key(handle: *mut Handle, rule: u32, high: u64, low: u64) -> u32;
+    pub fn dn_close(handle: *mut Handle) -> u32;
+    pub fn dn_configure(handle: *mut Handle, line: *const u8, length: usize, fault: *mut Fault) -> u32;
+    pub fn dn_submit(handle: *mut Handle, packet: *const Packet, fate: *mut Fate) -> u32;
+    pub fn dn_advance(handle: *mut Handle, moment: u64, at: *mut u64) -> u32;
+    pub fn dn_collect(handle: *mut Handle, moment: u64, list: *mut Delivery, room: usize, count: *mut u64) -> u32;
+    pub fn dn_show(handle: *mut Handle, list: *mut Flow, room: usize, count: *mut u64) -> u32;
+    pub fn dn_wake(handle: *mut Handle, moment: *mut u64) -> u32;
+}
+
+pub const ROOM: u32 = 7;
+pub const LINE: u32 = 8;
+pub const NEVER: u64 = u64::MAX;
