@@ -1,0 +1,17 @@
+# find_package(Hingetulip): the targets Hingetulip::shared and Hingetulip::static, and Hingetulip::Hingetulip, which is the shared one.
+get_filename_component(_hingetulip "${CMAKE_CURRENT_LIST_DIR}/../../.." ABSOLUTE)
+get_filename_component(_hingetulip_lib "${CMAKE_CURRENT_LIST_DIR}/../.." ABSOLUTE)
+if(NOT EXISTS "${_hingetulip}/include/hingetulip.h")  # lib/x86_64-linux-gnu is one folder deeper than lib
+  get_filename_component(_hingetulip "${_hingetulip}/.." ABSOLUTE)
+endif()
+if(NOT TARGET Hingetulip::shared)
+  foreach(_kind shared static)
+    string(TOUPPER ${_kind} _upper)
+    add_library(Hingetulip::${_kind} ${_upper} IMPORTED)
+    set_target_properties(Hingetulip::${_kind} PROPERTIES INTERFACE_INCLUDE_DIRECTORIES "${_hingetulip}/include")
+  endforeach()
+  set_target_properties(Hingetulip::shared PROPERTIES IMPORTED_LOCATION "${_hingetulip_lib}/libhingetulip.so.1" IMPORTED_SONAME libhingetulip.so.1)
+  set_target_properties(Hingetulip::static PROPERTIES IMPORTED_LOCATION "${_hingetulip_lib}/libhingetulip.a")
+  add_library(Hingetulip::Hingetulip INTERFACE IMPORTED)
+  set_target_properties(Hingetulip::Hingetulip PROPERTIES INTERFACE_LINK_LIBRARIES Hingetulip::shared)
+endif()
