@@ -1,0 +1,1 @@
+"""The kit round dummynet, as one command: `hinge`."""

@@ -1,0 +1,122 @@
+"""The frame of every command: its help, its faults as one line, its exit status, and progress on a terminal."""
+
+from __future__ import annotations
+
+import argparse
+import importlib
+import os
+import shutil
+import sys
+import threading
+import time
+from contextlib import contextmanager
+from pathlib import Path
+from types import ModuleType
+from typing import Callable, Iterator, NoReturn, TextIO
+
+CONFIGURATION, ROWS, FILES, MISSING = 3, 4, 6, 7
+STATUSES = "exit status: 0 done, 2 command line, 3 configuration, 4 packet file, report or capture, 6 files, 7 a package is missing"
+PROGRESS_AFTER = 2  # seconds
+NAME = ["hinge"]  # as the user typed it, with the command
+
+
+class Fault(Exception):
+    """Why a command can't go on, as one line, and its exit status."""
+
+    def __init__(self, line: str, status: int) -> None:
+        super().__init__(line)
+        self.status = status
+
+
+def parser(what: str, example: str) -> argparse.ArgumentParser:
+    """A command line whose help ends in an example and the exit statuses."""
+    return argparse.ArgumentParser(
+        prog=NAME[0],
+        description=what,
+        epilog=f"example:\n  {example}\n\n{STATUSES}",
+        formatter_class=argparse.RawDescriptionHelpFormatter,
+    )
+
+
+def say(line: str) -> None:
+    """One line on standard error."""
+    print(f"{NAME[0]}: {line}", file=sys.stderr)
+
+
+def run(main: Callable[[], object]) -> NoReturn:
+    """Runs a command. A fault is one line on standard error; a reader that went away is none."""
+    try:
+        main()
+        sys.stdout.flush()
+    except Fault as fault:
+        say(str(fault))
+        sys.exit(fault.status)
+    except BrokenPipeError:
+        os.dup2(os.open(os.devnull, os.O_WRONLY), sys.stdout.fileno())
+    except OSError as error:
+        say(f"{error.filename or 'standard output'}: {error.strerror}")
+        sys.exit(FILES)
+    except KeyboardInterrupt:
+        sys.exit(130)
+    sys.exit(0)
+
+
+def program(name: str, package: str) -> str:
+    """The path of a program that a Debian package brings."""
+    path = shutil.which(name)
+    if path is None:
+        raise Fault(f"needs {name}: apt-get install {package}", MISSING)
+    return path
+
+
+def module(name: str, package: str) -> ModuleType:
+    """A Python module that a Debian package brings."""
+    try:
+        return importlib.import_module(name)
+    except ImportError:
+        raise Fault(f"needs Python's {name.split('.')[0]}: apt-get install {package}", MISSING) from None
+
+
+@contextmanager
+def writing(path: str | None) -> Iterator[TextIO]:
+    """The file that is written, or standard output where none is named or its name is `-`."""
+    if path in (None, "-"):
+        yield sys.stdout
+        return
+    with open(path, "w", encoding="utf-8", newline="\n") as file:
+        yield file
+
+
+@contextmanager
+def working(what: str) -> Iterator[None]:
+    """Tells on standard error, where that is a terminal, what a command is doing that takes more than two seconds."""
+    if not sys.stderr.isatty():
+        yield
+        return
+    teller = threading.Timer(PROGRESS_AFTER, lambda: print(f"\r{what} ..", end="", file=sys.stderr, flush=True))
+    teller.start()
+    try:
+        yield
+    finally:
+        teller.cancel()
+        print("\r\x1b[K", end="", file=sys.stderr, flush=True)
+
+
+class Progress:
+    """Tells how far a long command is, on standard error, where that is a terminal, after two seconds."""
+
+    def __init__(self, what: str) -> None:
+        self.what = what
+        self.began = self.told = time.monotonic()
+        self.shown = False
+
+    def at(self, count: int) -> None:
+        now = time.monotonic()
+        if now - self.began < PROGRESS_AFTER or now - self.told < 0.5 or not sys.stderr.isatty():
+            return
+        self.told, self.shown = now, True
+        print(f"\r{self.what}: {count:,}", end="", file=sys.stderr, flush=True)
+
+    def done(self) -> None:
+        if self.shown:
+            print("\r\x1b[K", end="", file=sys.stderr, flush=True)

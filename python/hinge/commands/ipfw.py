@@ -1,0 +1,31 @@
+"""Configuration lines of dummynet from files of ipfw and dnctl."""
+
+from __future__ import annotations
+
+import sys
+from pathlib import Path
+
+from hinge.command import CONFIGURATION, Fault, parser, say, writing
+from hinge.ipfw_lines import Conversion
+
+WHAT = """\
+Reads shell scripts, rc files and rule files with lines of ipfw(8) or dnctl(8), and writes the pipes and queues in them as configuration
+lines that dummynet takes. Shell variables that the files set are put in. What is left out is told on standard error with file and line;
+the exit status is 3 where that was a pipe or queue."""
+
+
+def main() -> None:
+    line = parser(WHAT, "ipfw2config rc.firewall > link.config")
+    line.add_argument("files", nargs="*", default=["-"], metavar="file", help="files in the order in which they are run (default: standard input)")
+    line.add_argument("-o", metavar="FILE", help="the configuration (default: standard output)")
+    asked = line.parse_args()
+    conversion = Conversion()
+    for name in asked.files:
+        data = sys.stdin.buffer.read() if name == "-" else Path(name).read_bytes()
+        conversion.read("standard input" if name == "-" else name, data.decode("utf-8", errors="replace"))
+    with writing(asked.o) as out:
+        out.writelines(f"{text}\n" for text in conversion.lines)
+    for note in conversion.notes:
+        say(note)
+    if conversion.left_out:
+        raise Fault(f"{conversion.left_out} commands for pipes and queues were left out", CONFIGURATION)

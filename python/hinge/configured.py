@@ -1,0 +1,86 @@
+"""Configuration lines as the program reads them: it says what each line asks for, in its own spelling, or what is wrong with it."""
+
+from __future__ import annotations
+
+import subprocess
+from dataclasses import dataclass
+from fractions import Fraction
+from tempfile import NamedTemporaryFile
+from typing import Iterable, Optional, Union
+
+from hinge.program import dummynet
+
+LOSS_PARTS = 2**31
+
+
+class LineFault(Exception):
+    """The first line that the program doesn't take, as `config line 3, word 5: bad number`."""
+
+
+@dataclass(frozen=True)
+class Limit:
+    slots: Optional[int]
+    kbytes: Optional[int]
+
+
+@dataclass(frozen=True)
+class Pipe:
+    number: int
+    bw: int
+    delay: int
+    limit: Limit
+    loss: int
+
+
+@dataclass(frozen=True)
+class Queue:
+    number: int
+    pipe: int
+    weight: int
+    limit: Limit
+    loss: int
+
+
+Setting = Union[Pipe, Queue]
+
+
+def setting(text: str) -> tuple[str, int, Optional[Setting]]:
+    """What a command in the program's spelling asks for: `pipe` or `queue`, its number, and what is configured; None is a delete."""
+    words = text.split()
+    if words[1] == "delete":
+        return words[0], int(words[2]), None
+    number, value = int(words[1]), dict(zip(words[3:], words[4:]))
+    size = value.get("queue", "50")
+    limit = Limit(None, int(size[:-6])) if size.endswith("Kbytes") else Limit(int(size), None)
+    loss = int(Fraction(value.get("plr", "0")) * LOSS_PARTS + Fraction(1, 2))
+    if words[0] == "pipe":
+        return "pipe", number, Pipe(number, int(value.get("bw", "0bit/s")[:-5]), int(value.get("delay", 0)), limit, loss)
+    return "queue", number, Queue(number, int(value["pipe"]), int(value.get("weight", 1)), limit, loss)
+
+
+def spelled(data: bytes) -> list[str]:
+    """The lines of a configuration in the program's spelling. What the program says of the first that it doesn't take is a LineFault."""
+    with NamedTemporaryFile() as history:
+        words = [dummynet(), "replay", "/dev/stdin", "/dev/null", "--history", history.name]
+        done = subprocess.run(words, input=data, stdout=subprocess.DEVNULL, stderr=subprocess.PIPE)
+        if done.returncode:
+            raise LineFault(done.stderr.decode().strip())
+        records = history.read().decode().splitlines()
+    return [record.split(",", 3)[3] for record in records if record.startswith("c,0,configure,")]
+
+
+class InForce:
+    """The pipes and queues that commands in the program's spelling leave in force, by number."""
+
+    def __init__(self, commands: Iterable[str] = ()) -> None:
+        self.pipes: dict[int, Pipe] = {}
+        self.queues: dict[int, Queue] = {}
+        for text in commands:
+            self.obey(text)
+
+    def obey(self, text: str) -> None:
+        kind, number, asked = setting(text)
+        table: dict[int, Setting] = self.pipes if kind == "pipe" else self.queues  # type: ignore[assignment]
+        table.pop(number, None)
+        if asked is not None:
+            table[number] = asked

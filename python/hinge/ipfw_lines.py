@@ -1,0 +1,193 @@
+"""Lines of ipfw, dnctl and shell scripts as configuration lines of dummynet, and what is left out of them."""
+
+from __future__ import annotations
+
+import re
+from dataclasses import dataclass, field
+from decimal import Decimal, InvalidOperation
+from typing import Iterator, Optional
+
+from hinge.configured import LineFault, spelled
+
+ASSIGNMENT = re.compile(r"""(?:export\s+)?([A-Za-z_]\w*)=("[^"]*"|'[^']*'|[^\s;'"]*)""")
+VARIABLE = re.compile(r"\$\{([A-Za-z_]\w*)(?::?-([^}]*))?\}|\$([A-Za-z_]\w*)")
+BETWEEN_COMMANDS = re.compile(r"\s*(?:;|&&|\|\|?|(?<!>)&(?!>))\s*")
+REDIRECTION = re.compile(r"\s*\d?>.*")
+HEAD = re.compile(r"(?:^|\s)((?:pipe|queue)\s+(?:\d+\s+(?:config|delete)\b|delete\s+\d).*|(?:pipe|queue)\s+flush\b.*)")
+BANDWIDTH = re.compile(r"(\d+)([kKmMgG]?)([A-Za-z/]*)\Z")
+LIMIT = re.compile(r"(\d+)(?:([kK])(?:[bB]\w*)?|([bB]\w*))?\Z")
+WITHOUT_EFFECT = {"droptail": "the queue is a drop-tail one anyway", "noerror": "a sender learns of no drop anyway"}
+WHOLE_MASKS = {"src-ip": ("/32", "0xffffffff"), "dst-ip": ("/32", "0xffffffff"), "src-port": ("/16", "0xffff"),
+               "dst-port": ("/16", "0xffff"), "proto": ("/8", "0xff")}
+BYTES_PER_KBYTE = 1024
+
+
+class LeftOut(Exception):
+    """Why a command is left out."""
+
+
+@dataclass
+class Conversion:
+    """The configuration lines so far, and what is said of the lines that were read."""
+
+    variables: dict[str, str] = field(default_factory=dict)
+    lines: list[str] = field(default_factory=list)
+    notes: list[str] = field(default_factory=list)
+    left_out: int = 0  # commands that configure or delete a pipe or queue
+
+    def say(self, place: str, text: str) -> None:
+        self.notes.append(f"{place}: {text}")
+
+    def read(self, name: str, text: str) -> None:
+        """Reads a file."""
+        for number, line in joined_lines(text):
+            self.read_line(f"{name}:{number}", line)
+
+    def read_line(self, place: str, line: str) -> None:
+        """Reads the commands of a line. One that has none for pipes and queues is told as a whole."""
+        commands = [line] if ASSIGNMENT.fullmatch(line.strip()) else BETWEEN_COMMANDS.split(line)
+        if not any(ASSIGNMENT.fullmatch(command.strip()) or self.asked(command) for command in commands):
+            self.say(place, f"left out: {line.strip()} (it configures no pipe or queue)")
+            return
+        for command in commands:
+            try:
+                self.read_command(place, command)
+            except LeftOut as reason:
+                self.left_out += 1
+                self.say(place, f"left out: {command.strip()} ({reason})")
+
+    def asked(self, command: str) -> Optional[str]:
+        """What a command asks for a pipe or queue, None where it doesn't."""
+        text = self.expanded(command)
+        found = HEAD.search(text)
+        is_other = found is None or re.search(r"\s(?:add|show|list)\s", text[: found.start(1)])
+        return None if is_other else REDIRECTION.sub("", found[1])
+
+    def read_command(self, place: str, command: str) -> None:
+        if (assigned := ASSIGNMENT.fullmatch(command.strip())) is not None:
+            self.variables[assigned[1]] = self.expanded(assigned[2].strip("\"'"))
+            return
+        if (asked := self.asked(command)) is None:
+            return
+        words = asked.split()
+        if words[1] == "flush":
+            self.lines.clear()
+            self.say(place, "all pipes and queues are deleted here, so the lines before have no effect")
+            return
+        if (unknown := VARIABLE.search(" ".join(words))) is not None:
+            raise LeftOut(f"{unknown[0]} isn't set in these files")
+        for line_words in self.converted(place, words):
+            self.accept(" ".join(line_words))
+
+    def expanded(self, text: str) -> str:
+        """The text with the shell variables that the files set."""
+        def value(found: re.Match[str]) -> str:
+            return self.variables.get(found[1] or found[3], found[0] if found[2] is None else found[2])
+
+        return VARIABLE.sub(value, text)
+
+    def converted(self, place: str, words: list[str]) -> Iterator[list[str]]:
+        """A command in words of dummynet; a delete of several numbers is several commands."""
+        kind = words[0]
+        if "delete" in words[1:3]:
+            for number in (word for word in words[1:] if word != "delete"):
+                yield [kind, "delete", number]
+            return
+        yield words[:3] + list(Options(self, place, kind, words[3:]).words())
+
+    def accept(self, line: str) -> None:
+        """Keeps a line that dummynet takes."""
+        try:
+            spelled("\n".join([*self.lines, line]).encode())
+        except LineFault as fault:  # as `config line 3, word 5: bad number` or `config line 3: no such pipe`
+            where, _, what = str(fault).partition(": ")
+            raise LeftOut(f"{where.partition(', ')[2]} of '{line}': {what}" if ", " in where else what) from None
+        self.lines.append(line)
+
+
+@dataclass
+class Options:
+    """The options of one line, spelled as dummynet reads them."""
+
+    conversion: Conversion
+    place: str
+    kind: str
+    given: list[str]
+
+    def words(self) -> Iterator[str]:
+        rest = iter(self.given)
+        mask: Optional[str] = None
+        for word in rest:
+            if word in WITHOUT_EFFECT:
+                self.conversion.say(self.place, f"{word} is left away: {WITHOUT_EFFECT[word]}")
+                continue
+            yield self.name(word)
+            if word in ("bw", "queue", "plr", "bandwidth", "delay"):
+                yield self.value(word, next(rest, ""))
+            mask = word if word in WHOLE_MASKS else None
+            if mask is not None:
+                yield self.mask(mask, next(rest, ""))
+
+    def name(self, word: str) -> str:
+        """ipfw's other names of options."""
+        if word == "sched" and self.kind == "queue":
+            self.conversion.say(self.place, "the scheduler of that number is taken as the pipe of that number, with WF2Q+")
+            return "pipe"
+        return {"bandwidth": "bw", "flowset": "pipe"}.get(word, word)
+
+    def value(self, option: str, text: str) -> str:
+        readers = {"bw": bandwidth, "bandwidth": bandwidth, "plr": loss_rate, "delay": lambda given: given.removesuffix("msec")}
+        return self.limit(text) if option == "queue" else readers[option](text)
+
+    def limit(self, text: str) -> str:
+        """A queue's limit; ipfw takes bytes where K or B stands behind the number."""
+        found = LIMIT.match(text)
+        if found is None or (found[2] is None and found[3] is None):
+            return text
+        if found[2] is not None:
+            return f"{found[1]}Kbytes"
+        whole, rest = divmod(int(found[1]), BYTES_PER_KBYTE)
+        if rest:
+            self.conversion.say(self.place, f"queue {text} is rounded up to {whole + 1}Kbytes")
+        return f"{whole + bool(rest)}Kbytes"
+
+    def mask(self, mask_field: str, text: str) -> str:
+        slash, whole = WHOLE_MASKS[mask_field]
+        if text.startswith("/") and text != slash:
+            raise LeftOut(f"{mask_field} {text}: write the bits as a number")
+        return whole if text == slash else text
+
+
+def bandwidth(text: str) -> str:
+    """As ipfw reads it: bytes where the unit begins with B (and not Bi) or by, else bits."""
+    found = BANDWIDTH.match(text)
+    if found is None:
+        return text
+    unit = found[3]
+    is_bytes = (unit.startswith("B") and not unit.startswith("Bi")) or unit.startswith("by")
+    return f"{found[1]}{found[2]}{'Byte/s' if is_bytes else 'bit/s'}"
+
+
+def loss_rate(text: str) -> str:
+    """Without an exponent, and with at most 18 digits behind the point."""
+    try:
+        value = Decimal(text)
+    except InvalidOperation:
+        return text
+    return text if "e" not in text.lower() else f"{value:.18f}".rstrip("0").rstrip(".")
+
+
+def joined_lines(text: str) -> Iterator[tuple[int, str]]:
+    """The lines without comments and blank ones, those joined that end in a backslash, with the number of the first."""
+    pending, began = "", 0
+    for number, line in enumerate(text.splitlines(), 1):
+        began = began if pending else number
+        pending += re.sub(r"(^|\s)#.*", "", line).rstrip()
+        if pending.endswith("\\"):
+            pending = pending[:-1] + " "
+            continue
+        if pending.strip():
+            yield began, pending
+        pending = ""
+    if pending.strip():
+        yield began, pending

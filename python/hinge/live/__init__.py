@@ -1,0 +1,1 @@
+"""Live sessions of the program, for hosts in Python."""

@@ -1,0 +1,9 @@
+"""The reference (tools/oracle), against which the kit's queues are tested."""
+
+import sys
+from pathlib import Path
+
+sys.path.append(str(Path(__file__).resolve().parents[3] / "tools" / "oracle"))
+
+from fast import FastDummynet  # noqa: E402,F401
+from program import configured  # noqa: E402,F401

@@ -1,0 +1,190 @@
+"""Packet files from captures, against the packets that were written and tshark's own counts."""
+
+from __future__ import annotations
+
+import gzip
+import importlib.util
+import os
+import re
+import shutil
+import subprocess
+import unittest
+from pathlib import Path
+from unittest import mock
+
+from captures import ETHERNET, Expected, ethernet, ip4, nested, odd_ethernet, other_links, udp, without_times, write
+from kit import MIXED, folder, needs_tshark, rows_of, run
+
+from hinge import tshark
+from hinge.dissect import frames
+
+
+def expected_of(rows: list[dict[str, str]]) -> list[Expected]:
+    names = ("proto", "sport", "dport", "len")
+    return [Expected(int(row["moment"]), row["src"], row["dst"], *(int(row[name]) for name in names)) for row in rows]
+
+
+def packets_of(capture: Path, *words: object) -> list[dict[str, str]]:
+    done = run("packets", capture, "-o", "packets.csv", *words)
+    assert done.returncode == 0, done.stderr
+    return rows_of(folder() / "packets.csv")
+
+
+def tshark_totals(capture: Path) -> tuple[int, int]:
+    """The count of IP packets and the sum of their lengths, as tshark's statistics have them."""
+    fields = [f"{what}({field}){field}" for field in ("ip.len", "ipv6.plen") for what in ("COUNT", "SUM")]
+    words = ["tshark", "-n", "-o", "ip.defragment:FALSE", "-r", str(capture), "-q", "-z", f"io,stat,0,{','.join(fields)}"]
+    table = subprocess.run(words, capture_output=True, text=True, check=True).stdout
+    line = next(line for line in table.splitlines() if "<>" in line and re.search(r"\d", line))
+    four, four_bytes, six, six_bytes = (int(cell) for cell in re.findall(r"\d+", line.split("|", 2)[2]))
+    return four + six, four_bytes + six_bytes + 40 * six
+
+
+def without_tshark() -> dict[str, str]:
+    """An environment in which the commands find no tshark."""
+    return {**os.environ, "PATH": ""}
+
+
+def edited(name: str, capture: Path, *words: str) -> Path:
+    """What editcap makes of a capture."""
+    subprocess.run(["editcap", *words, str(capture), str(folder() / name)], check=True, capture_output=True)
+    return folder() / name
+
+
+def every_capture() -> list[Path]:
+    """Those that the tests write, mixed.pcap, and some of them in other forms."""
+    odd_ethernet(folder() / "odd.pcap")
+    other_links(folder())
+    several, raw = nested(folder()), (folder() / "raw.pcap").read_bytes()
+    half, swapped, twice = folder() / "half.pcap", folder() / "swapped.pcap", folder() / "twice.pcapng"
+    half.write_bytes(MIXED.read_bytes()[:50_000])
+    packet = raw[40:40 + int.from_bytes(raw[32:36], "little")]
+    fields = [0xA1B2C3D4, 0x2_0004, 0, 0, 65535, 101, 1_700_000_000, 123_456, len(packet), len(packet)]  # in microseconds
+    swapped.write_bytes(b"".join(field.to_bytes(4, "big") for field in fields) + packet)
+    sections = [edited("a.pcapng", folder() / "odd.pcap", "-F", "pcapng"), folder() / "other.pcapng"]
+    twice.write_bytes(b"".join(section.read_bytes() for section in sections))
+    (folder() / "mixed.pcap.gz").write_bytes(gzip.compress(MIXED.read_bytes(), 1))
+    cut = [edited(f"{size}.{capture.name}", capture, "-s", str(size), "-F", "pcap")
+           for size in (40, 56, 66) for capture in (folder() / "odd.pcap", several[0])]
+    return [MIXED, folder() / "odd.pcap", folder() / "other.pcapng", *several, half, swapped, twice, folder() / "mixed.pcap.gz", *cut]
+
+
+@needs_tshark
+@unittest.skipUnless(importlib.util.find_spec("scapy"), "scapy isn't there: apt-get install python3-scapy")
+class Dissectors(unittest.TestCase):
+    """scapy, in an environment without tshark, finds what tshark finds."""
+
+    def written(self, capture: Path, by: str) -> list[object]:
+        """The two files, the counts, and whether an incomplete last frame was told."""
+        done = run("packets", capture, "-o", f"{by}.csv", "--index", f"{by}.index", "--mtu", 1500,
+                   "--map", "udp dport 53 => queue 2", "--map", "src 2001:db8::/32 => queue 1", "--map", "=> pipe 3",
+                   env=without_tshark() if by == "scapy" else None)
+        self.assertEqual(done.returncode, 0, done.stderr)
+        self.assertEqual("scapy dissects" in done.stderr, by == "scapy")
+        files = [(folder() / f"{by}.{end}").read_text() for end in ("csv", "index")]
+        return [*files, done.stderr.splitlines()[-1], "cut short" in done.stderr]
+
+    def test_both_write_the_same_files(self) -> None:
+        for capture in every_capture():
+            with self.subTest(capture=capture.name):
+                self.assertEqual(self.written(capture, "scapy"), self.written(capture, "tshark"))
+
+    def test_what_scapy_cannot_do_is_one_line(self) -> None:
+        (folder() / "text.pcap").write_text("no capture")
+        write(folder() / "other.pcap", 147, [(0, bytes(60))])
+        without_times(folder() / "timeless.pcapng")
+        for words, status, line in (
+            ([MIXED, "--map", "tcp.flags.syn == 1 => pipe 9"], 7, "a display filter needs tshark"), (["text.pcap"], 4, "Not a supported"),
+            (["other.pcap"], 7, "link type 147 needs tshark"),
+            (["timeless.pcapng"], 4, "frame 1 of the capture has no time"), (["missing.pcap"], 6, "missing.pcap"),
+        ):
+            done = run("packets", *words, env=without_tshark())
+            self.assertEqual(done.returncode, status, done.stderr)
+            self.assertIn(line, done.stderr.splitlines()[-1])
+            self.assertNotIn("Traceback", done.stderr)
+
+
+@needs_tshark
+class Packets(unittest.TestCase):
+    def test_a_real_capture_has_tsharks_counts_bytes_and_times(self) -> None:
+        rows = packets_of(MIXED)
+        self.assertEqual((len(rows), sum(int(row["len"]) for row in rows)), tshark_totals(MIXED))
+        times = subprocess.run(["tshark", "-n", "-r", str(MIXED), "-Y", "ip", "-T", "fields", "-e", "frame.time_epoch"],
+                               capture_output=True, text=True, check=True).stdout.split()
+        whole = [int(time.replace(".", "")) for time in times]
+        self.assertEqual([int(row["moment"]) for row in rows], [time - whole[0] for time in whole])
+
+    def test_a_capture_in_pieces_has_the_same_packets(self) -> None:
+        whole = list(frames(str(MIXED)))
+        with mock.patch.object(tshark, "LARGE", 0), mock.patch.object(tshark, "FRAMES_A_PIECE", 1000):
+            self.assertEqual(list(frames(str(MIXED))), whole)
+        self.assertEqual(len(whole), 9131)
+
+    def test_tags_pppoe_ipv6_fragments_and_offloaded_segments(self) -> None:
+        expected = odd_ethernet(folder() / "odd.pcap")
+        rows = packets_of(folder() / "odd.pcap")
+        self.assertEqual(expected_of(rows), expected)
+        # tshark's own counts have the packet of 28 bytes that an ICMP message quotes, and no payload of the IPv6 segment of length 0
+        count, total = tshark_totals(folder() / "odd.pcap")
+        self.assertEqual((count, total), (len(rows) + 1, sum(row.length for row in expected) + 28 - 308))
+
+    def test_interfaces_of_a_pcapng_and_other_links(self) -> None:
+        expected = other_links(folder())
+        rows = packets_of(folder() / "other.pcapng")
+        self.assertEqual(expected_of(rows), expected)
+        self.assertEqual(tshark_totals(folder() / "other.pcapng"), (3, 113))
+
+    def test_cut_frames_keep_their_length(self) -> None:
+        expected = odd_ethernet(folder() / "odd.pcap")
+        subprocess.run(["editcap", "-s", "66", "-F", "pcap", str(folder() / "odd.pcap"), str(folder() / "cut.pcap")],
+                       check=True, capture_output=True)
+        found = expected_of(packets_of(folder() / "cut.pcap"))
+        self.assertEqual([row.length for row in found], [row.length for row in expected])
+        self.assertTrue(all(row.moment % 1000 == 0 for row in found), "a capture in microseconds")
+
+    def test_an_incomplete_last_frame_is_told(self) -> None:
+        (folder() / "half.pcap").write_bytes(MIXED.read_bytes()[:50_000])
+        done = run("packets", "half.pcap", "-o", "packets.csv")
+        self.assertEqual(done.returncode, 0)
+        self.assertIn("cut short", done.stderr)
+
+    def test_segments_are_split_at_the_mtu(self) -> None:
+        expected = odd_ethernet(folder() / "odd.pcap")
+        rows = packets_of(folder() / "odd.pcap", "--mtu", 1500, "--l2", 22)
+        self.assertEqual([int(row["len"]) for row in rows[:-3]], [row.length + 22 for row in expected[:-1]])
+        self.assertEqual([int(row["len"]) for row in rows[-3:]], [1522, 1522, 4000 - 2 * 1460 + 40 + 22])
+
+    def test_maps_by_short_words_and_display_filters(self) -> None:
+        rows = packets_of(MIXED, "--map", "src 10.9.0.1/32 udp dport 5202 => queue 2", "--map", "tcp.flags.syn == 1 => pipe 9",
+                          "--map", "icmp => queue 3", "--map", "=> pipe 4")
+        counts = {}
+        for row in rows:
+            counts[row["target"], row["number"]] = counts.get((row["target"], row["number"]), 0) + 1
+        self.assertEqual(counts, {("queue", "2"): 1001, ("pipe", "9"): 8, ("queue", "3"): 200, ("pipe", "4"): 9129 - 1209})
+
+    def test_an_earlier_frame_behind_a_later_one_comes_in_its_place(self) -> None:
+        sent = [(2_000, 1), (1_000, 2), (3_000, 3)]
+        late = [(time, ethernet(0x0800, ip4("10.0.0.1", "10.0.0.2", 17, udp(port, 9, 1)))) for time, port in sent]
+        write(folder() / "late.pcap", ETHERNET, late)
+        rows = packets_of(folder() / "late.pcap", "--index", "late.index")
+        self.assertEqual([(row["moment"], row["sport"]) for row in rows], [("0", "2"), ("1000", "1"), ("2000", "3")])
+        self.assertEqual([row["frame"] for row in rows_of(folder() / "late.index")], ["2", "1", "3"])
+
+    def test_words_come_from_the_seed(self) -> None:
+        words = [[row["word"] for row in packets_of(MIXED, "--seed", seed)] for seed in (1, 1, 2)]
+        self.assertEqual(words[0], words[1])
+        self.assertNotEqual(words[0], words[2])
+        below = sum(int(word) < 2**30 for word in words[0])
+        self.assertAlmostEqual(below / len(words[0]), 0.5, delta=0.03)
+
+    def test_faults_are_one_line(self) -> None:
+        (folder() / "text.pcap").write_text("no capture")
+        without_times(folder() / "timeless.pcapng")
+        for words, status in (
+            (["missing.pcap"], 6), (["text.pcap"], 4), (["timeless.pcapng"], 4),
+            ([MIXED, "--map", "a b c => pipe 1"], 4), ([MIXED, "--map", "=> pipe 0"], 2), ([MIXED, "--map", "src 10.0.0.0/33 => pipe 1"], 2),
+            ([MIXED, "--mtu", "10"], 2), ([MIXED, "-o", "nowhere/packets.csv"], 6),
+        ):
+            done = run("packets", *words)
+            self.assertEqual(done.returncode, status, done.stderr)
+            self.assertNotIn("Traceback", done.stderr)

@@ -1,0 +1,63 @@
+"""Sweeps: each run is the replay of its own configuration and words, and their table has them all."""
+
+from __future__ import annotations
+
+import os
+import unittest
+
+from kit import folder, mixed, needs_tshark, replay, rows_of, run, write
+
+from hinge.study import reseeded
+from hinge.study_chart import lines_of, magnitude
+
+
+@needs_tshark
+class Sweep(unittest.TestCase):
+    def test_a_sweep_from_plan_to_picture(self) -> None:
+        _, packets, _ = mixed("dsl")
+        template = write("template.config", "pipe 1 config bw {bw} delay 5 queue {queue} plr 0.05\n")
+        done = run("sweep", "plan", "study", packets, template, "--set", "bw=3Mbit/s,8Mbit/s", "--set", "queue=9", "--seeds", "1,4")
+        self.assertEqual((done.returncode, done.stderr), (0, "hinge sweep: 4 runs in study\n"))
+        self.assertEqual(run("sweep", "gather", "study").returncode, 4, "no run is made yet")
+        self.assertEqual(run("sweep", "run", "study", 3).returncode, 0)
+        done = run("sweep", "run", "study", "-P", 2)
+        self.assertEqual(done.returncode, 0, done.stderr)
+        done = run("sweep", "gather", "study", "-o", "table.csv", "--plot", "p95_ns", "--against", "bw", "--picture", "p95.png")
+        self.assertEqual(done.returncode, 0, done.stderr)
+        self.assertTrue((folder() / "p95.png").read_bytes().startswith(b"\x89PNG"))
+        rows = rows_of(folder() / "table.csv")
+        self.assertEqual([(row["run"], row["bw"], row["queue"], row["seed"]) for row in rows if row["flow"] == "all"],
+                         [("1", "3Mbit/s", "9", "1"), ("2", "3Mbit/s", "9", "4"), ("3", "8Mbit/s", "9", "1"), ("4", "8Mbit/s", "9", "4")])
+        self.judge_run(rows, packets)
+        lines = lines_of(rows, ["bw", "queue", "seed"], "p95_ns", "bw", "all")
+        self.assertEqual({value: len(found) for value, found in lines["queue 9"].items()}, {"3Mbit/s": 2, "8Mbit/s": 2})
+
+    def judge_run(self, rows: list[dict[str, str]], packets: os.PathLike[str]) -> None:
+        """Run 4 by itself."""
+        config = write("run4.config", "pipe 1 config bw 8Mbit/s delay 5 queue 9 plr 0.05\n")
+        own = write("run4.csv", "".join(reseeded(packets, 4)))
+        report = replay("run4", config, own)
+        done = run("stats", own, report, "--config", config, "--csv", "-o", "run4.table")
+        self.assertEqual(done.returncode, 0, done.stderr)
+        alone = rows_of(folder() / "run4.table")
+        self.assertEqual([{name: row[name] for name in alone[0]} for row in rows if row["run"] == "4"], alone)
+
+    def test_the_words_of_a_seed_are_those_of_pcap2packets(self) -> None:
+        _, packets, _ = mixed("dsl")
+        self.assertEqual("".join(reseeded(packets, 1)), packets.read_text())
+
+    def test_faults_are_one_line(self) -> None:
+        _, packets, _ = mixed("dsl")
+        template = write("wrong.config", "pipe 1 config bw {bw}\n")
+        self.assertEqual(run("sweep", "plan", "wrong", packets, template).returncode, 3)
+        self.assertEqual(run("sweep", "plan", "wrong", packets, template, "--set", "bw=1q").returncode, 0)
+        done = run("sweep", "run", "wrong", 1)
+        self.assertEqual(done.returncode, 3)
+        self.assertIn("run 1 (bw 1q, seed 1): config line 1, word 5: bad number", done.stderr)
+        self.assertEqual(run("sweep", "run", "wrong", 2).returncode, 4)
+        self.assertEqual(run("sweep", "run", "nowhere").returncode, 6)
+
+
+class Values(unittest.TestCase):
+    def test_values_have_their_magnitude(self) -> None:
+        self.assertEqual([magnitude(text) for text in ("2Mbit/s", "0.01", "50", "64Kbytes", "fast")], [2e6, 0.01, 50, 64e3, None])

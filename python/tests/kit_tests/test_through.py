@@ -1,0 +1,71 @@
+"""Captures as the far end sees them."""
+
+from __future__ import annotations
+
+import unittest
+from pathlib import Path
+
+from captures import odd_ethernet
+from kit import MIXED, folder, needs_tshark, replay, rows_of, run, write
+
+from hinge.capture_file import capture_file
+
+Frames = list[tuple[int, int, bytes]]
+
+
+def frames_of(path: Path) -> Frames:
+    """Time, length and bytes of each frame."""
+    with capture_file(str(path)) as capture:
+        return [(record.time, record.length, capture.data[record.begin:record.end]) for record in capture.records]
+
+
+def through(capture: Path, config: str, *words: object) -> tuple[Frames, list[dict[str, str]], list[int]]:
+    """The frames that arrive, the report, and the frame of each row."""
+    done = run("packets", capture, "-o", "t.csv", "--index", "t.index", *words)
+    assert done.returncode == 0, done.stderr
+    report = replay("t", write("t.config", config), folder() / "t.csv")
+    done = run("through", capture, "t.index", "t.csv", report, "-o", "through.pcap")
+    assert done.returncode == 0, done.stderr
+    return frames_of(folder() / "through.pcap"), rows_of(report), [int(row["frame"]) for row in rows_of(folder() / "t.index")]
+
+
+@needs_tshark
+class Through(unittest.TestCase):
+    def test_a_link_without_limits_changes_nothing(self) -> None:
+        odd_ethernet(folder() / "odd.pcap")
+        for capture in (MIXED, folder() / "odd.pcap"):
+            arrived, _, index = through(capture, "pipe 1 config\n")
+            sent = frames_of(capture)
+            self.assertEqual(arrived, [sent[frame - 1] for frame in index])
+            self.assertGreater(len(arrived), 9)
+
+    def test_frames_arrive_when_they_leave_the_link(self) -> None:
+        arrived, report, index = through(MIXED, "pipe 1 config bw 5Mbit/s delay 30 queue 20\n")
+        sent = frames_of(MIXED)
+        began = sent[index[0] - 1][0]
+        due = {int(line["row"]): int(line["due"]) for line in report if line["event"] == "out"}
+        expected = [(began + due[row], *sent[index[row - 1] - 1][1:]) for row in sorted(due, key=lambda row: (due[row], index[row - 1]))]
+        self.assertEqual(arrived, expected)
+        self.assertLess(len(arrived), len(sent) - 100)
+
+    def test_a_split_frame_arrives_with_its_last_packet_or_not_at_all(self) -> None:
+        arrived, report, index = through(MIXED, "pipe 1 config bw 5Mbit/s queue 20\n", "--mtu", 1500)
+        sent, due, gone = frames_of(MIXED), {}, set()
+        for line in report:
+            frame = index[int(line["row"]) - 1]
+            if line["event"] == "out":
+                due[frame] = max(due.get(frame, 0), int(line["due"]))
+            else:
+                gone.add(frame)
+        began = sent[index[0] - 1][0]
+        whole = sorted((moment, frame) for frame, moment in due.items() if frame not in gone)
+        self.assertEqual(arrived, [(began + moment, *sent[frame - 1][1:]) for moment, frame in whole])
+        self.assertTrue(gone & set(due), "some frame lost a part")
+
+    def test_an_index_of_other_packets_is_noticed(self) -> None:
+        through(MIXED, "pipe 1 config\n")
+        index = (folder() / "t.index").read_text().splitlines()
+        write("other.index", "\n".join(index[:-1]) + "\n")
+        done = run("through", MIXED, "other.index", "t.csv", "t.report", "-o", "x.pcap")
+        self.assertEqual(done.returncode, 4)
+        self.assertIn("aren't those of", done.stderr)
