@@ -84,9 +84,9 @@ class Copy:
         (self.top / "release" / "dummynet").chmod(0o755)
         (self.top / "release" / "sources").write_text(sources)
 
-    def change(self, file: str) -> None:
+    def change(self, file: str, line: str = "const CHANGED: u8 = 0;") -> None:
         with open(self.top / file, "a") as it:
-            it.write("// changed\n")
+            it.write(f"{line}\n")
 
     def built(self) -> list[str]:
         return sorted(it.parent.name for it in (self.top / "built").glob("*/dummynet"))
@@ -107,10 +107,11 @@ def which_program(tally: Tally, copy: Copy) -> None:
     tally.equal("the program that was built goes before the release", (0, "built x\n", ""), (done.returncode, done.stdout, done.stderr))
     for crate in ("dn_types/src/lib.rt", "dummynet/src/main.rt"):
         os.utime(copy.top / "crates" / crate)
+    copy.change("crates/dn_link/src/lib.rt", "// A comment.")
     copy.change("crates/test_parts/src/lib.rt")
     (copy.top / "crates.txt").write_text((copy.top / "crates.txt").read_text() + "# a note\ntest_more: dn_types\n")
     done = copy.run("x")
-    tally.equal("a touched file, a test and another crate build nothing", ("built x\n", ""), (done.stdout, copy.calls.read_text()))
+    tally.equal("a touched file, a comment, a test and another crate build nothing", ("built x\n", ""), (done.stdout, copy.calls.read_text()))
     link = copy.top.parent / "link"
     link.symlink_to(copy.top / "dummynet")
     done = subprocess.run([link, "x"], cwd="/", capture_output=True, text=True)
