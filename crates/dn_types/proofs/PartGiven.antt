@@ -10,7 +10,8 @@ use Rattle.std.proofs.lemmas.Cmp.{then_total, on_total, nat_cmp_total}
 use Rattle.std.proofs.lemmas.List.Elements.{All-push, All-drop, All-filter, All-nil, All-cons}
 use Rattle.dn_types.specs.Deliveries.{delivery_cmp, is_given_before, in_order, delivery_of, undelivered, given}
 use Rattle.dn_types.specs.Links.{last_due, due_by, arrival_time}
-use Rattle.dn_types.specs.Parts.{Choice, place, is_link_on, part, delivery_by}
+use Rattle.dn_types.specs.Parts.{Choice, place, is_link_on, part}
+use Rattle.dn_types.specs.ReplyParts.{delivery_by}
 use Rattle.dn_types.specs.Trace.{Link, Accepted, Start, Event, opened, arrived, started, lost, refused, discarded, collected, is_of, backlog}
 use Rattle.dn_types.specs.declared.delivery.Delivery.{Delivery}
 use Rattle.dn_types.specs.declared.rule.Rule.{Rule}

@@ -8,8 +8,10 @@ use Rattle.dn_types.specs.Clock.{effective_moment, call_limit}
 use Rattle.dn_types.specs.Configuration.{Settings, settings, queue_numbers, has_queues, command_reply}
 use Rattle.dn_types.specs.Deliveries.{given}
 use Rattle.dn_types.specs.Flows.{treatment, keys, keys_with}
-use Rattle.dn_types.specs.Parts.{Choice, is_carried, calls_on, part_of, reply_on, AreCommands, ArePackets, IsReplay, own_calls, is_told}
+use Rattle.dn_types.specs.Parts.{Choice, is_carried, calls_on, part_of}
+use Rattle.dn_types.specs.Replays.{AreCommands, ArePackets, IsReplay, own_calls}
 use Rattle.dn_types.specs.Replies.{reply_to_verdict, counted_reply, reply, replies}
+use Rattle.dn_types.specs.ReplyParts.{reply_on, is_told}
 use Rattle.dn_types.specs.Starts.{settled}
 use Rattle.dn_types.specs.Trace.{Event}
 use Rattle.dn_types.specs.declared.call.Call.{Call}

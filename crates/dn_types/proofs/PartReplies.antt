@@ -8,8 +8,9 @@ use Rattle.dn_types.specs.Configuration.{Settings, settings, queue_numbers, has_
 use Rattle.dn_types.specs.Deliveries.{given}
 use Rattle.dn_types.specs.Drops.{is_lost, is_full}
 use Rattle.dn_types.specs.Flows.{Treatment, treatment, key_of, keys, flow_number}
-use Rattle.dn_types.specs.Parts.{Choice, is_carried, call_on, calls_on, place, is_flow_on, is_link_on, is_packet_on, event_by, is_event_on, part, status_by, reply_by, reply_on}
+use Rattle.dn_types.specs.Parts.{Choice, is_carried, call_on, calls_on, place, is_flow_on, is_link_on, is_packet_on, event_by, is_event_on, part}
 use Rattle.dn_types.specs.Replies.{status_of, statuses_from, reply_to_verdict, counted_reply, reply, replies}
+use Rattle.dn_types.specs.ReplyParts.{status_by, reply_by, reply_on}
 use Rattle.dn_types.specs.Starts.{settled}
 use Rattle.dn_types.specs.Trace.{Link, Accepted, Start, Event, opened, arrived, started, lost, refused, discarded, collected, backlog, is_loss_of, is_refusal_of, is_start_of, discarded_count, accepted_count}
 use Rattle.dn_types.specs.declared.call.Call.{Call}

@@ -10,7 +10,8 @@ use Rattle.dn_types.specs.Drops.{is_lost, is_full}
 use Rattle.dn_types.specs.Flows.{Treatment, treatment, key_of, keys, keys_with, flow_number}
 use Rattle.dn_types.specs.Links.{free, transmission_time}
 use Rattle.dn_types.specs.PartLaws.{AreAlike, emptied, IsUntimed, AreMatched}
-use Rattle.dn_types.specs.Parts.{of_pipe, calls_on, part_of, AreCommands}
+use Rattle.dn_types.specs.Parts.{of_pipe, calls_on, part_of}
+use Rattle.dn_types.specs.Replays.{AreCommands}
 use Rattle.dn_types.specs.Replies.{reply_to_verdict, counted_reply, reply, replies}
 use Rattle.dn_types.specs.SharedLinks.{waiting, opening, next_packet}
 use Rattle.dn_types.specs.Starts.{bandwidth_of, delay_of, start_at, sooner, first_start, settle, settled, waiting_all}

@@ -7,8 +7,10 @@ use Rattle.dn_types.specs.Configuration.{settings}
 use Rattle.dn_types.specs.Deliveries.{given}
 use Rattle.dn_types.specs.Flows.{Treatment, treatment, keys}
 use Rattle.dn_types.specs.declared.flow_key.FlowKey.{FlowKey}
-use Rattle.dn_types.specs.Parts.{Choice, of_pipe, calls_on, is_flow_on, part_of, reply_on, own_calls, is_told}
+use Rattle.dn_types.specs.Parts.{Choice, of_pipe, calls_on, is_flow_on, part_of}
+use Rattle.dn_types.specs.Replays.{own_calls}
 use Rattle.dn_types.specs.Replies.{replies}
+use Rattle.dn_types.specs.ReplyParts.{reply_on, is_told}
 use Rattle.dn_types.specs.declared.call.Call.{Call}
 use Rattle.dn_types.specs.declared.call.Call.TheVariants.{Configure, Submit, Advance, Collect, Show}
 use Rattle.dn_types.specs.declared.command.Command.TheVariants.{Pipe, DeleteQueue}

@@ -53,7 +53,8 @@ StartsOnce = (number : ℕ) (calls : List Call) → start_count number (trace_of
 
 -- A packet was given, or is still to be given, as often as it started. So no Collect gives one that an earlier one gave.
 abbrev pub GivesStarted : Type 0
-GivesStarted = (rule : Rule) (number : ℕ) (calls : List Call) → given_count rule number (trace_of calls) + count_by (is_packet number) (undelivered rule (trace_of calls)) ≡ start_count number (trace_of calls)
+GivesStarted = (rule : Rule) (number : ℕ) (calls : List Call) →
+    given_count rule number (trace_of calls) + count_by (is_packet number) (undelivered rule (trace_of calls)) ≡ start_count number (trace_of calls)
 
 abbrev pub GivesOnce : Type 0
 GivesOnce = (rule : Rule) (number : ℕ) (calls : List Call) → given_count rule number (trace_of calls) ≤ 1
@@ -68,7 +69,8 @@ LeavesWhatIsNotDue = (rule : Rule) (moment : ℕ) (calls : List Call) → All (�
 
 -- The transmission time is the least in which the bandwidth carries the packet's bits.
 abbrev pub TransmissionIsLeast : Type 0
-TransmissionIsLeast = (bandwidth len : ℕ) → 0 < bandwidth → (len * 8 * 10 ^ 9 ≤ transmission_time bandwidth len * bandwidth) × ((t : ℕ) → len * 8 * 10 ^ 9 ≤ t * bandwidth → transmission_time bandwidth len ≤ t)
+TransmissionIsLeast = (bandwidth len : ℕ) → 0 < bandwidth →
+    (len * 8 * 10 ^ 9 ≤ transmission_time bandwidth len * bandwidth) × ((t : ℕ) → len * 8 * 10 ^ 9 ≤ t * bandwidth → transmission_time bandwidth len ≤ t)
 
 -- Under Ordered the due moments of a link never fall: a packet's due moment is the last one of its link once it has
 -- started, and that one only rises, whatever happens later.
@@ -84,7 +86,8 @@ LawfulReplies = (rule : Rule) (history : List Entry) → IsLawful rule history �
 
 -- An entry more is its caller's own, and no other caller's.
 abbrev pub OwnEntriesGrow : Type 0
-OwnEntriesGrow = (caller : ℕ) (history : List Entry) (e : Entry) → own_entries caller (history ++ e ∷ []) ≡ cond (nat_eq e.caller caller) (own_entries caller history ++ e ∷ []) (own_entries caller history)
+OwnEntriesGrow = (caller : ℕ) (history : List Entry) (e : Entry) →
+    own_entries caller (history ++ e ∷ []) ≡ cond (nat_eq e.caller caller) (own_entries caller history ++ e ∷ []) (own_entries caller history)
 
 -- A call counts exactly where fewer calls than the limit were made before it.
 abbrev pub CountsUpToTheLimit : Type 0
@@ -97,7 +100,8 @@ ExhaustedChangesNothing = (rule : Rule) (calls : List Call) (c : Call) → call_
 -- Replies rest on the standing alone: where two lists of calls leave the emulator the same, one call more gets the same
 -- reply after both, and leaves it the same again.
 abbrev pub RepliesByStanding : Type 0
-RepliesByStanding = (rule : Rule) (calls others : List Call) → standing rule calls ≡ standing rule others → (c : Call) → (reply rule calls c ≡ reply rule others c) × (standing rule (c ∷ calls) ≡ standing rule (c ∷ others))
+RepliesByStanding = (rule : Rule) (calls others : List Call) → standing rule calls ≡ standing rule others → (c : Call) →
+    (reply rule calls c ≡ reply rule others c) × (standing rule (c ∷ calls) ≡ standing rule (c ∷ others))
 
 -- After calls in range, the moments of a reply to one more are at most 2^62 ns.
 abbrev pub MomentsAreBounded : Type 0

@@ -20,8 +20,10 @@ pub mod PacketLaws
 pub mod PartLaws
 pub mod Parts
 pub mod RateLaws
+pub mod Replays
 pub mod Replies
 pub mod ReplyLaws
+pub mod ReplyParts
 pub mod ResetLaws
 pub mod SharedLinks
 pub mod SharingLaws

@@ -6,8 +6,10 @@ use Rattle.dn_types.specs.Clock.{call_limit, effective_moment, moment_of}
 use Rattle.dn_types.specs.Configuration.{Settings, settings, reply_to_command}
 use Rattle.dn_types.specs.Deliveries.{given}
 use Rattle.dn_types.specs.Flows.{Treatment, treatment, keys}
-use Rattle.dn_types.specs.Parts.{Choice, of_pipe, calls_on, is_flow_on, part_of, reply_on, AreCommands, IsReplay, own_calls, is_told}
+use Rattle.dn_types.specs.Parts.{Choice, of_pipe, calls_on, is_flow_on, part_of}
+use Rattle.dn_types.specs.Replays.{AreCommands, IsReplay, own_calls}
 use Rattle.dn_types.specs.Replies.{replies}
+use Rattle.dn_types.specs.ReplyParts.{reply_on, is_told}
 use Rattle.dn_types.specs.Trace.{Event}
 use Rattle.dn_types.specs.declared.call.Call.{Call}
 use Rattle.dn_types.specs.declared.call.Call.TheVariants.{Configure, Submit, Advance, Collect, Show}
@@ -54,7 +56,8 @@ PartsAreWhole = (rule : Rule) (calls : List Call) (at : ℕ) →
 -- Packets that the pipe carries if any does, and a Collect, where the same is in force for the target of each.
 abbrev pub AreAlike : ℕ → Settings → Settings → List Call → Type 0
 AreAlike pipe here there [] = ⊤
-AreAlike pipe here there (Submit target packet moment ∷ calls) = (here target ≡ there target) × ((how : Treatment) → treatment (here target) ≡ Some how → how.pipe ≡ pipe) × AreAlike pipe here there calls
+AreAlike pipe here there (Submit target packet moment ∷ calls) =
+    (here target ≡ there target) × ((how : Treatment) → treatment (here target) ≡ Some how → how.pipe ≡ pipe) × AreAlike pipe here there calls
 AreAlike pipe here there (Collect moment ∷ calls) = AreAlike pipe here there calls
 AreAlike pipe here there (_ ∷ calls) = ⊥
 
@@ -79,7 +82,8 @@ IsUntimed _ = ⊥
 -- Two calls after two lists match: the same packet, which the pipe carries if any does and for whose target the same is in
 -- force, the same move of the clock, or each a command or a Show.
 abbrev pub IsMatched : ℕ → List Call → List Call → Call → Call → Type 0
-IsMatched pipe calls others (Submit target packet moment) c = (c ≡ Submit target packet moment) × (settings calls target ≡ settings others target) × ((how : Treatment) → treatment (settings calls target) ≡ Some how → how.pipe ≡ pipe)
+IsMatched pipe calls others (Submit target packet moment) c =
+    (c ≡ Submit target packet moment) × (settings calls target ≡ settings others target) × ((how : Treatment) → treatment (settings calls target) ≡ Some how → how.pipe ≡ pipe)
 IsMatched pipe calls others (Advance moment) c = c ≡ Advance moment
 IsMatched pipe calls others (Collect moment) c = c ≡ Collect moment
 IsMatched pipe calls others _ c = IsUntimed c
@@ -94,4 +98,5 @@ AreMatched pipe _ _ = ⊥
 -- Commands act on a pipe by what is in force for it and for its packets' targets, and by the queues that they empty: with
 -- the packets of other pipes taken away, two lists that match in this make the same happen on the pipe.
 abbrev pub CommandsActByForce : Type 0
-CommandsActByForce = (pipe : ℕ) (calls others : List Call) → AreMatched pipe (calls_on (of_pipe pipe) calls) (calls_on (of_pipe pipe) others) → part_of (of_pipe pipe) calls ≡ part_of (of_pipe pipe) others
+CommandsActByForce = (pipe : ℕ) (calls others : List Call) → AreMatched pipe (calls_on (of_pipe pipe) calls) (calls_on (of_pipe pipe) others) →
+    part_of (of_pipe pipe) calls ≡ part_of (of_pipe pipe) others

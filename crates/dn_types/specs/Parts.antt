@@ -1,21 +1,16 @@
--- The part of some links: what is left of calls, of their trace and of their replies where other links carry no packet.
+-- The part of some links: what is left of calls and of their trace where other links carry no packet.
 -- Its flows and its packets are numbered among themselves.
-use Rattle.std.specs.Prelude.{ℕ, zero, suc, max, ⊤, Bool, true, false, cond, ◌&&◌, List, [], ◌∷◌, map, nat_eq, Option, Some, None, slice_get}
-use Rattle.std.specs.List.{filter, list_any}
+use Rattle.std.specs.Prelude.{ℕ, zero, suc, Bool, true, false, cond, ◌&&◌, List, [], ◌∷◌, nat_eq, Option, Some, None, slice_get}
+use Rattle.std.specs.List.{list_any}
 use Rattle.dn_types.specs.Calls.{trace_of}
-use Rattle.dn_types.specs.Clock.{effective_moment}
 use Rattle.dn_types.specs.Configuration.{settings}
 use Rattle.dn_types.specs.Flows.{Treatment, treatment, key_of, keys}
 use Rattle.dn_types.specs.Trace.{Link, own, shared, Accepted, Start, Event, opened, arrived, started, lost, refused, discarded, collected}
 use Rattle.dn_types.specs.Wf2q.{Stamped}
 use Rattle.dn_types.specs.declared.call.Call.{Call}
-use Rattle.dn_types.specs.declared.call.Call.TheVariants.{Configure, Submit, Advance, Collect}
-use Rattle.dn_types.specs.declared.delivery.Delivery.{Delivery}
+use Rattle.dn_types.specs.declared.call.Call.TheVariants.{Submit, Advance}
 use Rattle.dn_types.specs.declared.five_tuple.FiveTuple.{FiveTuple}
 use Rattle.dn_types.specs.declared.flow_key.FlowKey.{FlowKey}
-use Rattle.dn_types.specs.declared.flow_status.FlowStatus.{FlowStatus}
-use Rattle.dn_types.specs.declared.reply.Reply.{Reply}
-use Rattle.dn_types.specs.declared.reply.Reply.TheVariants.{Queued, Lost, Full, NoTarget, Advanced, Delivered, Status}
 use Rattle.dn_types.specs.declared.target.Target.{Target}
 use Rattle.dn_types.specs.declared.target.Target.TheVariants.{Pipe as ToPipe, Queue as ToQueue}
 
@@ -123,63 +118,11 @@ is_event_on chosen is_flow (collected at) = true
 -- The events on the chosen links in the same order, where flows and packets that pass a test are theirs.
 abbrev pub part : Choice → (ℕ → Bool) → (ℕ → Bool) → List Event → List Event
 part chosen is_flow is_packet [] = []
-part chosen is_flow is_packet (e ∷ trace) = cond (is_event_on chosen is_flow e) (event_by (place is_flow) (place is_packet) e ∷ part chosen is_flow is_packet trace) (part chosen is_flow is_packet trace)
+part chosen is_flow is_packet (e ∷ trace) =
+    cond (is_event_on chosen is_flow e) (event_by (place is_flow) (place is_packet) e ∷ part chosen is_flow is_packet trace) (part chosen is_flow is_packet trace)
 
 -- The part of what the calls make happen.
 abbrev pub part_of : Choice → List Call → List Event
 part_of chosen calls =
     let is_flow = is_flow_on chosen (keys calls) in
     part chosen is_flow (is_packet_on chosen is_flow (trace_of calls)) (trace_of calls)
-
--- ---- The part of a reply
-
-abbrev pub delivery_by : (ℕ → ℕ) → (ℕ → ℕ) → Delivery → Delivery
-delivery_by flows packets d = record { due = d.due; packet = packets d.packet; flow = flows d.flow; start = d.start }
-
-abbrev pub status_by : (ℕ → ℕ) → FlowStatus → FlowStatus
-status_by flows s = record { flow = flows s.flow; key = s.key; queued = s.queued; bytes = s.bytes; lost = s.lost; full = s.full; started = s.started; discarded = s.discarded }
-
--- What a packet on a chosen link is answered, with its own numbers. A packet on another is an Advance. Deliveries and
--- states are those of the chosen links' flows, in the same order, and each other reply stays.
-abbrev pub reply_by : (ℕ → Bool) → (ℕ → Bool) → Reply → Reply
-reply_by is_flow is_packet (Queued at flow packet) = cond (is_flow flow) (Queued at (place is_flow flow) (place is_packet packet)) (Advanced at)
-reply_by is_flow is_packet (Lost at flow) = cond (is_flow flow) (Lost at (place is_flow flow)) (Advanced at)
-reply_by is_flow is_packet (Full at flow) = cond (is_flow flow) (Full at (place is_flow flow)) (Advanced at)
-reply_by is_flow is_packet (NoTarget at) = Advanced at
-reply_by is_flow is_packet (Delivered at list) = Delivered at (map (delivery_by (place is_flow) (place is_packet)) (filter (λ d. is_flow d.flow) list))
-reply_by is_flow is_packet (Status list) = Status (map (status_by (place is_flow)) (filter (λ s. is_flow s.flow) list))
-reply_by is_flow is_packet r = r
-
--- The part of a reply to one of the calls.
-abbrev pub reply_on : Choice → List Call → Reply → Reply
-reply_on chosen calls r =
-    let is_flow = is_flow_on chosen (keys calls) in
-    reply_by is_flow (is_packet_on chosen is_flow (trace_of calls)) r
-
--- ---- Replays: commands, then packets, then one Collect
-
-abbrev pub AreCommands : List Call → Type 0
-AreCommands [] = ⊤
-AreCommands (Configure command ∷ calls) = AreCommands calls
-AreCommands (_ ∷ calls) = ⊥
-
-abbrev pub ArePackets : List Call → Type 0
-ArePackets (Submit target packet moment ∷ calls) = ArePackets calls
-ArePackets calls = AreCommands calls
-
-abbrev pub IsReplay : List Call → Type 0
-IsReplay (Collect moment ∷ calls) = ArePackets calls
-IsReplay calls = ArePackets calls
-
--- The replay with the packets on chosen links alone, each at its effective moment, which is its own where the packets
--- come in order of time.
-abbrev pub own_calls : Choice → List Call → List Call
-own_calls chosen [] = []
-own_calls chosen (Submit target packet moment ∷ calls) = cond (is_carried chosen target packet.tuple (treatment (settings calls target))) (Submit target packet (max (effective_moment calls) moment) ∷ own_calls chosen calls) (own_calls chosen calls)
-own_calls chosen (Collect moment ∷ calls) = Collect (max (effective_moment calls) moment) ∷ own_calls chosen calls
-own_calls chosen (c ∷ calls) = c ∷ own_calls chosen calls
-
--- Whether a reply is more than that the clock was moved.
-abbrev pub is_told : Reply → Bool
-is_told (Advanced at) = false
-is_told _ = true

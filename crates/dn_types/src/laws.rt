@@ -3,114 +3,44 @@
 
 ghost use Rattle.dn_types.specs.Bounds.{IsInRange};
 ghost use Rattle.dn_types.specs.ByteShares.{SharesByWeight};
-ghost use Rattle.dn_types.specs.ConfiguredLaws.{
-  CommandsCount,
-  DelaysAreExplained,
-  DropsAreExplained,
-  IsNeverIdle,
-  KeepsTheRate,
-  NoneUnconfigured,
-  QueuesHavePipes,
-  StartsApart,
-  StartsAsConfigured,
-  StartsAtOnce,
-  StartsTheNext,
-};
-ghost use Rattle.dn_types.specs.KeptLaws.{
-  BusyPeriodsBegin,
-  ClockSparesTags,
-  LinksAreKept,
-  PacketsSpareTags,
-  TagsAreKept,
-  VirtualTimeIsKept,
-};
-ghost use Rattle.dn_types.specs.Laws.{
-  BytesAreBounded,
-  CountsAreBounded,
-  CountsUpToTheLimit,
-  DueIsLast,
-  DueMomentsAreBounded,
-  DueMomentsNeverFall,
-  ExhaustedChangesNothing,
-  GivesOnce,
-  GivesStarted,
-  GivesWhatIsDue,
-  LawfulReplies,
-  LeavesWhatIsNotDue,
-  MomentsAreBounded,
-  OwnEntriesGrow,
-  PickIsFirst,
-  PickIsThere,
-  RepliesByStanding,
-  SendsOneAtATime,
-  SettlingEnds,
-  StartsInOrder,
-  StartsOnce,
-  TransmissionIsLeast,
-};
+ghost use Rattle.dn_types.specs.ConfiguredLaws.{CommandsCount, DelaysAreExplained};
+ghost use Rattle.dn_types.specs.ConfiguredLaws.{DropsAreExplained, IsNeverIdle, KeepsTheRate};
+ghost use Rattle.dn_types.specs.ConfiguredLaws.{NoneUnconfigured};
+ghost use Rattle.dn_types.specs.ConfiguredLaws.{QueuesHavePipes, StartsApart, StartsAsConfigured};
+ghost use Rattle.dn_types.specs.ConfiguredLaws.{StartsAtOnce, StartsTheNext};
 ghost use Rattle.dn_types.specs.FairShare.{SharesFairly};
 ghost use Rattle.dn_types.specs.FlowLaws.{FlowsAreByMask, FlowsHaveTheirKeys, FlowsStay};
+ghost use Rattle.dn_types.specs.KeptLaws.{BusyPeriodsBegin, ClockSparesTags, LinksAreKept};
+ghost use Rattle.dn_types.specs.KeptLaws.{PacketsSpareTags, TagsAreKept, VirtualTimeIsKept};
+ghost use Rattle.dn_types.specs.Laws.{BytesAreBounded, CountsAreBounded, CountsUpToTheLimit};
+ghost use Rattle.dn_types.specs.Laws.{DueIsLast, DueMomentsAreBounded, DueMomentsNeverFall};
+ghost use Rattle.dn_types.specs.Laws.{ExhaustedChangesNothing, GivesOnce, GivesStarted};
+ghost use Rattle.dn_types.specs.Laws.{GivesWhatIsDue, LawfulReplies, LeavesWhatIsNotDue};
+ghost use Rattle.dn_types.specs.Laws.{MomentsAreBounded, OwnEntriesGrow, PickIsFirst, PickIsThere};
+ghost use Rattle.dn_types.specs.Laws.{RepliesByStanding, SendsOneAtATime, SettlingEnds};
+ghost use Rattle.dn_types.specs.Laws.{StartsInOrder, StartsOnce, TransmissionIsLeast};
 ghost use Rattle.dn_types.specs.OtherPipes.{OtherPipesChangeNothing};
-ghost use Rattle.dn_types.specs.PartLaws.{
-  AdvancesAreNoMore,
-  AgreeingCallsAgree,
-  CommandsActByForce,
-  OtherLinksChangeNoReply,
-  OtherLinksChangeNothing,
-  PartsAreWhole,
-  PartsRestOnTheirPipe,
-  ReplaysFallApart,
-};
-ghost use Rattle.dn_types.specs.PacketLaws.{
-  ArrivalsAreTold,
-  CommandsSpare,
-  DiscardsAreDeletes,
-  PacketsAddUp,
-  QueuedPacketsArrive,
-  QueuesShareTheRate,
-};
+ghost use Rattle.dn_types.specs.PacketLaws.{ArrivalsAreTold, CommandsSpare, DiscardsAreDeletes};
+ghost use Rattle.dn_types.specs.PacketLaws.{PacketsAddUp, QueuedPacketsArrive, QueuesShareTheRate};
+ghost use Rattle.dn_types.specs.PartLaws.{AdvancesAreNoMore, AgreeingCallsAgree};
+ghost use Rattle.dn_types.specs.PartLaws.{CommandsActByForce, OtherLinksChangeNoReply};
+ghost use Rattle.dn_types.specs.PartLaws.{OtherLinksChangeNothing, PartsAreWhole};
+ghost use Rattle.dn_types.specs.PartLaws.{PartsRestOnTheirPipe, ReplaysFallApart};
 ghost use Rattle.dn_types.specs.RateLaws.{KeepsTheConfiguredRate};
-ghost use Rattle.dn_types.specs.ReplyLaws.{
-  ClockIsTheGreatest,
-  CollectsAreTold,
-  CommandsAreTold,
-  FlowsWereTold,
-  LimitIsCounted,
-  PacketsAreNumbered,
-  QueuedPacketsAreDelivered,
-  QueuedPacketsStay,
-  RepliesTellTheClock,
-  ShowsAreTold,
-  ToldOnce,
-  ToldWhenDue,
-};
-ghost use Rattle.dn_types.specs.ResetLaws.{
-  DroppedChangesNothing,
-  PipeDeleteResets,
-  QueueDeleteResets,
-  TagsBeginAfresh,
-};
-ghost use Rattle.dn_types.specs.SharingLaws.{
-  CommandsMoveNothing,
-  GrowsByWork,
-  PacketsKeepApart,
-  PickIsFair,
-  PickIsLeast,
-  PipeDeleteEmpties,
-  PipeDeleteSpares,
-  QueueDeleteEmpties,
-  QueueDeleteSpares,
-  RaisesToTheLeast,
-  TagsByWeight,
-};
-ghost use Rattle.dn_types.specs.TimeLaws.{
-  DelaysAddUp,
-  EventsStay,
-  GivesInOrder,
-  NoneStartsEarly,
-  StartsInTime,
-  UnlimitedTakesNoTime,
-};
+ghost use Rattle.dn_types.specs.ReplyLaws.{ClockIsTheGreatest, CollectsAreTold, CommandsAreTold};
+ghost use Rattle.dn_types.specs.ReplyLaws.{FlowsWereTold, LimitIsCounted, PacketsAreNumbered};
+ghost use Rattle.dn_types.specs.ReplyLaws.{QueuedPacketsAreDelivered, QueuedPacketsStay};
+ghost use Rattle.dn_types.specs.ReplyLaws.{RepliesTellTheClock, ShowsAreTold, ToldOnce};
+ghost use Rattle.dn_types.specs.ReplyLaws.{ToldWhenDue};
+ghost use Rattle.dn_types.specs.ResetLaws.{DroppedChangesNothing, PipeDeleteResets};
+ghost use Rattle.dn_types.specs.ResetLaws.{QueueDeleteResets, TagsBeginAfresh};
+ghost use Rattle.dn_types.specs.SharingLaws.{CommandsMoveNothing, GrowsByWork};
+ghost use Rattle.dn_types.specs.SharingLaws.{PacketsKeepApart, PickIsFair, PickIsLeast};
+ghost use Rattle.dn_types.specs.SharingLaws.{PipeDeleteEmpties, PipeDeleteSpares};
+ghost use Rattle.dn_types.specs.SharingLaws.{QueueDeleteEmpties, QueueDeleteSpares};
+ghost use Rattle.dn_types.specs.SharingLaws.{RaisesToTheLeast, TagsByWeight};
+ghost use Rattle.dn_types.specs.TimeLaws.{DelaysAddUp, EventsStay, GivesInOrder, NoneStartsEarly};
+ghost use Rattle.dn_types.specs.TimeLaws.{StartsInTime, UnlimitedTakesNoTime};
 
 use crate::call::Call;
 
