@@ -5,7 +5,7 @@ use Rattle.std.specs.List.{All}
 use Rattle.std.proofs.lemmas.Bool.{eqb-true}
 use Rattle.std.proofs.lemmas.List.Elements.{All-map}
 use Rattle.dn_types.specs.Calls.{trace_of}
-use Rattle.dn_types.specs.FairShare.{WaitsThroughout, share, CostsAtMost}
+use Rattle.dn_types.specs.FairShare.{WaitsThroughout, EachThatWaits, CostsAtMost, share}
 use Rattle.dn_types.specs.SharedLinks.{next_packet, virtual_time, link_heads, last_finish_tag}
 use Rattle.dn_types.specs.Trace.{Link, shared, link_eq, Accepted, Start, Event, opened, arrived, started, lost, refused, discarded, collected, is_of, backlog, flow_bound}
 use Rattle.dn_types.specs.Wf2q.{Stamped, heads, pick}
@@ -15,7 +15,7 @@ use Rattle.dn_types.proofs.Firsts.{heads-same, stamped_of, pick-first}
 use Rattle.dn_types.proofs.Settled.{and-left, link_eq-true}
 use Rattle.dn_types.proofs.Settling.{and-right, first-own, backlog-own, is_below}
 use Rattle.dn_types.proofs.Shares.{pick-is-fair}
-use Rattle.dn_types.proofs.Steady.{IsSteady, IsChain, steady, suffix-steady, chain, all-put, all-cheap, suffix-cheap}
+use Rattle.dn_types.proofs.Steady.{IsSteady, IsChain, steady, suffix-steady, chain, all-put, waits-before, waits-after, waits-sooner}
 
 abbrev IsPut' : Accepted → Type 0
 IsPut' p = p.stamped.start_tag ≤ p.stamped.finish_tag
@@ -176,12 +176,12 @@ module _ (pipe : ℕ) where
         by [] e all = absurd cc
         by (x ∷ q) e all = let same : x ≡ a = cc in subst IsPut' same (all 0 x (omega arith))
 
-    cheap-of : (most : ℕ) (t : List Event) (a : Accepted) → CostsAtMost most link flow t → slice_get (backlog link flow t) 0 ≡ Some a → a.stamped.finish_tag ≤ a.stamped.start_tag + most
-    cheap-of most t a h e = by (backlog link flow t) e (all-cheap link flow most t h)
+    cheap-of : (most : ℕ) (t : List Event) (a : Accepted) → All (CostsAtMost most) (backlog link flow t) → slice_get (backlog link flow t) 0 ≡ Some a → CostsAtMost most a
+    cheap-of most t a all e = by (backlog link flow t) e all
       where
-        by : (q : List Accepted) → slice_get q 0 ≡ Some a → All (λ (x : Accepted). x.stamped.finish_tag ≤ x.stamped.start_tag + most) q → a.stamped.finish_tag ≤ a.stamped.start_tag + most
+        by : (q : List Accepted) → slice_get q 0 ≡ Some a → All (CostsAtMost most) q → CostsAtMost most a
         by [] e all = absurd cc
-        by (x ∷ q) e all = let same : x ≡ a = cc in subst (λ (z : Accepted). z.stamped.finish_tag ≤ z.stamped.start_tag + most) same (all 0 x (omega arith))
+        by (x ∷ q) e all = let same : x ≡ a = cc in subst (CostsAtMost most) same (all 0 x (omega arith))
 
     -- The finish tag of a flow's head never falls.
     rises : (e : Event) (t : List Event) (p r : Accepted) → IsSteady (e ∷ t) → slice_get (backlog link flow t) 0 ≡ Some p → slice_get (backlog link flow (e ∷ t)) 0 ≡ Some r →
@@ -212,7 +212,7 @@ module _ (pipe : ℕ) where
 
   module _ (one other most : ℕ) where
     -- After a start of the other flow its head is behind the one's by a packet at most.
-    passes : (e : Event) (t : List Event) (x' y' x y : Accepted) → IsSteady (e ∷ t) → CostsAtMost most link other (e ∷ t) → slice_get (backlog link other t) 0 ≡ Some x' →
+    passes : (e : Event) (t : List Event) (x' y' x y : Accepted) → IsSteady (e ∷ t) → All (CostsAtMost most) (backlog link other t) → slice_get (backlog link other t) 0 ≡ Some x' →
         slice_get (backlog link one t) 0 ≡ Some y' → slice_get (backlog link other (e ∷ t)) 0 ≡ Some x → slice_get (backlog link one (e ∷ t)) 0 ≡ Some y
         → (got other e ≡ 0) ⊎ (x.stamped.start_tag ≤ y.stamped.finish_tag + most)
     passes (started s) t x' y' x y h cheap ex' ey' ex ey = by (is_of link other s.packet) refl ex (rises one (started s) t y' y h ey' ey)
@@ -233,7 +233,7 @@ module _ (pipe : ℕ) where
     passes (discarded g) t x' y' x y h cheap ex' ey' ex ey = inl refl
     passes (collected at) t x' y' x y h cheap ex' ey' ex ey = inl refl
 
-    close : (stretch earlier : List Event) (x y : Accepted) → IsSteady (stretch ++ earlier) → CostsAtMost most link other (stretch ++ earlier) → WaitsThroughout link one stretch earlier →
+    close : (stretch earlier : List Event) (x y : Accepted) → IsSteady (stretch ++ earlier) → EachThatWaits (CostsAtMost most) link other stretch earlier → WaitsThroughout link one stretch earlier →
         WaitsThroughout link other stretch earlier → slice_get (backlog link other (stretch ++ earlier)) 0 ≡ Some x → slice_get (backlog link one (stretch ++ earlier)) 0 ≡ Some y
         → (share link other stretch ≡ 0) ⊎ (x.stamped.start_tag ≤ y.stamped.finish_tag + most)
     close [] earlier x y h cheap w v ex ey = inl refl
@@ -241,7 +241,7 @@ module _ (pipe : ℕ) where
         let t = stretch ++ earlier in
         let x' = some-first (backlog link other (stretch ++ earlier)) (now other stretch earlier v.1) in
         let y' = some-first (backlog link one (stretch ++ earlier)) (now one stretch earlier w.1) in
-        by x'.0 y'.0 (close stretch earlier x'.0 y'.0 h.1 (suffix-cheap link other most (e ∷ []) (stretch ++ earlier) cheap) w.1 v.1 x'.1 y'.1) (passes e (stretch ++ earlier) x'.0 y'.0 x y h cheap x'.1 y'.1 ex ey) (moves other e (stretch ++ earlier) x'.0 x h x'.1 ex) (rises one e (stretch ++ earlier) y'.0 y h y'.1 ey) (share-cons other e stretch)
+        by x'.0 y'.0 (close stretch earlier x'.0 y'.0 h.1 (waits-sooner link other (CostsAtMost most) e stretch earlier cheap) w.1 v.1 x'.1 y'.1) (passes e (stretch ++ earlier) x'.0 y'.0 x y h (waits-after link other (CostsAtMost most) stretch earlier (waits-sooner link other (CostsAtMost most) e stretch earlier cheap)) x'.1 y'.1 ex ey) (moves other e (stretch ++ earlier) x'.0 x h x'.1 ex) (rises one e (stretch ++ earlier) y'.0 y h y'.1 ey) (share-cons other e stretch)
       where
         by : (x' y' : Accepted) → (share link other stretch ≡ 0) ⊎ (x'.stamped.start_tag ≤ y'.stamped.finish_tag + most) →
             (got other e ≡ 0) ⊎ (x.stamped.start_tag ≤ y.stamped.finish_tag + most) → x.stamped.start_tag ≡ x'.stamped.start_tag + got other e →
@@ -255,15 +255,14 @@ pub shares-fairly : (calls : List Call) (pipe one other most_one most_other : �
     trace_of calls ≡ later ++ (stretch ++ (started r ∷ earlier)) →
     is_of (shared pipe) one r.packet ≡ true → WaitsThroughout (shared pipe) one (stretch ++ (started r ∷ [])) earlier →
     WaitsThroughout (shared pipe) other (stretch ++ (started r ∷ [])) earlier →
-    CostsAtMost most_one (shared pipe) one (trace_of calls) → CostsAtMost most_other (shared pipe) other (trace_of calls) →
+    EachThatWaits (CostsAtMost most_one) (shared pipe) one (stretch ++ (started r ∷ [])) earlier →
+    EachThatWaits (CostsAtMost most_other) (shared pipe) other (stretch ++ (started r ∷ [])) earlier →
     share (shared pipe) other (stretch ++ (started r ∷ [])) ≤ share (shared pipe) one (stretch ++ (started r ∷ [])) + most_other + most_other + most_one
 shares-fairly calls pipe one other most_one most_other later stretch earlier r e is w v cheap_one cheap_other =
     let all = stretch ++ (started r ∷ []) in
     let whole = shape stretch in
     let h : IsSteady (all ++ earlier) = subst IsSteady (sym whole) (suffix-steady later (stretch ++ (started r ∷ earlier)) (subst IsSteady e (steady calls))) in
     let start : IsSteady (started r ∷ earlier) = suffix-steady stretch (started r ∷ earlier) (subst IsSteady whole h) in
-    let c1 : CostsAtMost most_one (shared pipe) one (all ++ earlier) = subst (CostsAtMost most_one (shared pipe) one) (sym whole) (suffix-cheap (shared pipe) one most_one later (stretch ++ (started r ∷ earlier)) (subst (CostsAtMost most_one (shared pipe) one) e cheap_one)) in
-    let c2 : CostsAtMost most_other (shared pipe) other (all ++ earlier) = subst (CostsAtMost most_other (shared pipe) other) (sym whole) (suffix-cheap (shared pipe) other most_other later (stretch ++ (started r ∷ earlier)) (subst (CostsAtMost most_other (shared pipe) other) e cheap_other)) in
     let po = some-first pipe (backlog (shared pipe) other earlier) (waits-first pipe other all earlier v) in
     let x = some-first pipe (backlog (shared pipe) other (all ++ earlier)) (now pipe other all earlier v) in
     let y = some-first pipe (backlog (shared pipe) one (all ++ earlier)) (now pipe one all earlier w) in
@@ -271,9 +270,9 @@ shares-fairly calls pipe one other most_one most_other later stretch earlier r e
     let go = progress pipe other all earlier po.0 x.0 h v po.1 x.1 in
     let gone = progress pipe one all earlier r.packet y.0 h w mine.1 y.1 in
     let fair = fair-start pipe earlier r.packet other po.0 start.1 mine.0 po.1 in
-    let first_cost = cheap-of pipe other most_other earlier po.0 (suffix-cheap (shared pipe) other most_other all earlier c2) po.1 in
-    let last_cost = cheap-of pipe one most_one (all ++ earlier) y.0 c1 y.1 in
-    by (share (shared pipe) other all) (share (shared pipe) one all) x.0.stamped.start_tag y.0.stamped.start_tag y.0.stamped.finish_tag po.0.stamped.start_tag po.0.stamped.finish_tag r.packet.stamped.start_tag go gone fair first_cost last_cost (close pipe one other most_other all earlier x.0 y.0 h c2 w v x.1 y.1)
+    let first_cost = cheap-of pipe other most_other earlier po.0 (waits-before (shared pipe) other (CostsAtMost most_other) all earlier cheap_other) po.1 in
+    let last_cost = cheap-of pipe one most_one (all ++ earlier) y.0 (waits-after (shared pipe) one (CostsAtMost most_one) all earlier cheap_one) y.1 in
+    by (share (shared pipe) other all) (share (shared pipe) one all) x.0.stamped.start_tag y.0.stamped.start_tag y.0.stamped.finish_tag po.0.stamped.start_tag po.0.stamped.finish_tag r.packet.stamped.start_tag go gone fair first_cost last_cost (close pipe one other most_other all earlier x.0 y.0 h cheap_other w v x.1 y.1)
   where
     shape : (xs : List Event) → (xs ++ (started r ∷ [])) ++ earlier ≡ xs ++ (started r ∷ earlier)
     shape [] = refl

@@ -1,13 +1,14 @@
 -- The premises of the law of fair shares are met: two queues of one weight, each with four packets of 1,000 bytes.
 use Rattle.std.proofs.Common.{◌≡◌, ◌≤◌, ◌<◌, ◌+◌, ◌*◌, max, ℕ, true, List, [], ◌∷◌, refl, arith}
-use Rattle.std.specs.Prelude.{None, nat_le, nat_lt}
+use Rattle.std.specs.Prelude.{None, ⊤, nat_le, nat_lt}
 use Rattle.std.specs.List.{All}
 use Rattle.std.proofs.lemmas.Bool.Decides.{nat_tests}
 use Rattle.std.proofs.lemmas.List.Elements.{All-nil, All-cons}
+use Rattle.dn_types.specs.ByteShares.{IsWeighted}
 use Rattle.dn_types.specs.Calls.{trace_of}
-use Rattle.dn_types.specs.FairShare.{share}
+use Rattle.dn_types.specs.FairShare.{CostsAtMost, share}
 use Rattle.dn_types.specs.SharedLinks.{link_heads, virtual_time}
-use Rattle.dn_types.specs.Trace.{shared, Start, started}
+use Rattle.dn_types.specs.Trace.{shared, Accepted, Start, started, backlog}
 use Rattle.dn_types.specs.declared.call.Call.{Call}
 use Rattle.dn_types.specs.declared.call.Call.TheVariants.{Configure, Submit, Advance}
 use Rattle.dn_types.specs.declared.command.Command.TheVariants.{Pipe, Queue}
@@ -24,15 +25,19 @@ le a b h = grind (arith, nat_tests)
 lt : (a b : ℕ) → nat_lt a b ≡ true → a < b
 lt a b h = grind (arith, nat_tests)
 
+abbrev weighted : ℕ → Call
+weighted weight = Configure (Queue 1 1 weight (Slots 50) 0 None no_mask)
+
 abbrev to : ℕ → Call
 to queue = Submit (ToQueue queue) (packet (tuple 0 0 0 0 0) 1000 0) 0
 
+-- The first packet went by the weight 5, which is replaced before the others.
 abbrev older : List Call
-older = to 2 ∷ to 2 ∷ to 2 ∷ to 2 ∷ to 1 ∷ to 1 ∷ to 1 ∷ to 1 ∷ Configure (Queue 2 1 1 (Slots 50) 0 None no_mask) ∷ Configure (Queue 1 1 1 (Slots 50) 0 None no_mask) ∷ Configure (Pipe 1 8000000 0 (Slots 50) 0 None no_mask) ∷ []
+older = to 2 ∷ to 2 ∷ to 2 ∷ to 2 ∷ to 1 ∷ to 1 ∷ to 1 ∷ weighted 1 ∷ to 1 ∷ weighted 5 ∷ Configure (Queue 2 1 1 (Slots 50) 0 None no_mask) ∷ Configure (Pipe 1 8000000 0 (Slots 50) 0 None no_mask) ∷ []
 
 abbrev first : Start
 first = record {
-  packet = record { packet = 1; link = shared 1; stamped = record { flow = 0; len = 1000; weight = 1; start_tag = 65536000; finish_tag = 131072000 } };
+  packet = record { packet = 1; link = shared 1; stamped = record { flow = 0; len = 1000; weight = 1; start_tag = 13107200; finish_tag = 78643200 } };
   moment = 1000000;
   transmission = 1000000;
   delay = 0;
@@ -40,27 +45,35 @@ first = record {
 
 abbrev second : Start
 second = record {
-  packet = record { packet = 4; link = shared 1; stamped = record { flow = 1; len = 1000; weight = 1; start_tag = 65536000; finish_tag = 131072000 } };
+  packet = record { packet = 4; link = shared 1; stamped = record { flow = 1; len = 1000; weight = 1; start_tag = 13107200; finish_tag = 78643200 } };
   moment = 2000000;
   transmission = 1000000;
   delay = 0;
 }
 
--- After the starts at 1 ms and 2 ms, one of each flow.
+abbrev Each : (Accepted → Type 0) → List Accepted → Type 0
+Each IsSo [] = ⊤
+Each IsSo (p ∷ q) = IsSo p × Each IsSo q
+
+each : (IsSo : Accepted → Type 0) (q : List Accepted) → Each IsSo q → All IsSo q
+each IsSo [] h = All-nil IsSo
+each IsSo (p ∷ q) h = All-cons IsSo p q h.0 (each IsSo q h.1)
+
+-- After the starts at 1 ms and 2 ms, one of each flow. Three and four packets wait.
 met : share (shared 1) 1 (started second ∷ started first ∷ []) ≤ share (shared 1) 0 (started second ∷ started first ∷ []) + 65536000 + 65536000 + 65536000
 met = shares-fairly (Advance 2000000 ∷ older) 1 0 1 65536000 65536000 [] (started second ∷ []) (trace_of older) first refl refl
     (lt 0 _ refl, (lt 0 _ refl, lt 0 _ refl)) (lt 0 _ refl, (lt 0 _ refl, lt 0 _ refl))
-    (λ e. le _ _ refl, (λ e. le _ _ refl, (λ e. le _ _ refl, (λ e. le _ _ refl, (λ e. le _ _ refl, (λ e. le _ _ refl, (λ e. le _ _ refl, (λ e. le _ _ refl, tt))))))))
-    (λ e. le _ _ refl, (λ e. le _ _ refl, (λ e. le _ _ refl, (λ e. le _ _ refl, (λ e. le _ _ refl, (λ e. le _ _ refl, (λ e. le _ _ refl, (λ e. le _ _ refl, tt))))))))
+    (each (CostsAtMost 65536000) (backlog (shared 1) 0 (trace_of older)) (le _ _ refl, (le _ _ refl, (le _ _ refl, tt))))
+    (each (CostsAtMost 65536000) (backlog (shared 1) 1 (trace_of older)) (le _ _ refl, (le _ _ refl, (le _ _ refl, (le _ _ refl, tt)))))
 
 -- In bytes: 1,000 of each, and the bound is 4,000 and a packet's rounding.
 met_in_bytes : 1000 * 1 * 65536 ≤ (1000 * 1 + 2 * 1000 * 1 + 1000 * 1) * 65536 + 1 * 1 * 1
 met_in_bytes = shares-by-weight (Advance 2000000 ∷ older) 1 0 1 1 1 1000 1000 [] (started second ∷ []) (trace_of older) first refl refl
     (lt 0 _ refl, (lt 0 _ refl, lt 0 _ refl)) (lt 0 _ refl, (lt 0 _ refl, lt 0 _ refl))
     (lt 0 1 refl)
-    (λ e. (refl, le _ _ refl), (λ e. (refl, le _ _ refl), (λ e. (refl, le _ _ refl), (λ e. (refl, le _ _ refl), (λ e. (refl, le _ _ refl), (λ e. (refl, le _ _ refl), (λ e. (refl, le _ _ refl), (λ e. (refl, le _ _ refl), tt))))))))
+    (each (IsWeighted 1 1000) (backlog (shared 1) 0 (trace_of older)) ((refl, le _ _ refl), ((refl, le _ _ refl), ((refl, le _ _ refl), tt))))
     (lt 0 1 refl)
-    (λ e. (refl, le _ _ refl), (λ e. (refl, le _ _ refl), (λ e. (refl, le _ _ refl), (λ e. (refl, le _ _ refl), (λ e. (refl, le _ _ refl), (λ e. (refl, le _ _ refl), (λ e. (refl, le _ _ refl), (λ e. (refl, le _ _ refl), tt))))))))
+    (each (IsWeighted 1 1000) (backlog (shared 1) 1 (trace_of older)) ((refl, le _ _ refl), ((refl, le _ _ refl), ((refl, le _ _ refl), ((refl, le _ _ refl), tt)))))
 
 -- At 1 ms the first packets of both flows have the same finish tag, and that of the lesser flow number starts.
 lesser_flow : 0 ≤ 1
@@ -69,7 +82,7 @@ lesser_flow =
 
 -- The pick among heads that are there: the first packet alone.
 its_own_finish : All (λ x. first.packet.stamped.start_tag ≤ x.finish_tag) (first.packet.stamped ∷ [])
-its_own_finish = pick-is-fair 65536000 (first.packet.stamped ∷ []) first.packet.stamped refl (All-cons (λ x. x.start_tag ≤ x.finish_tag) first.packet.stamped [] (le _ _ refl) (All-nil (λ x. x.start_tag ≤ x.finish_tag)))
+its_own_finish = pick-is-fair 13107200 (first.packet.stamped ∷ []) first.packet.stamped refl (All-cons (λ x. x.start_tag ≤ x.finish_tag) first.packet.stamped [] (le _ _ refl) (All-nil (λ x. x.start_tag ≤ x.finish_tag)))
 
-raised_to_it : (0 ≤ 65536000) × All (λ h. 65536000 ≤ max 0 h.start_tag) (first.packet.stamped ∷ [])
+raised_to_it : (0 ≤ 13107200) × All (λ h. 13107200 ≤ max 0 h.start_tag) (first.packet.stamped ∷ [])
 raised_to_it = raises-to-the-least 0 (first.packet.stamped ∷ [])

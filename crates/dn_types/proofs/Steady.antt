@@ -7,7 +7,7 @@ use Rattle.std.proofs.lemmas.List.Elements.{All-push, All-drop}
 use Rattle.std.proofs.lemmas.Bool.{eqb-true}
 use Rattle.std.proofs.lemmas.Bool.Decides.{leb_tells}
 use Rattle.dn_types.specs.Calls.{trace_of, link_of}
-use Rattle.dn_types.specs.FairShare.{CostsAtMost}
+use Rattle.dn_types.specs.FairShare.{EachThatWaits}
 use Rattle.dn_types.specs.Flows.{Treatment, keys, key_of, flow_number}
 use Rattle.dn_types.specs.SharedLinks.{waiting, next_packet, last_finish_tag}
 use Rattle.dn_types.specs.Trace.{Link, link_eq, Accepted, Event, opened, arrived, started, lost, refused, discarded, collected, is_of, backlog, flow_bound}
@@ -164,28 +164,33 @@ module _ (link : Link) (flow : ℕ) where
   pub all-put : (t : List Event) → IsSteady t → All IsPut (backlog link flow t)
   all-put t h = all-waiting IsPut t (puts t h)
 
-  abbrev pub IsCheap : ℕ → Accepted → Type 0
-  IsCheap most p = p.stamped.finish_tag ≤ p.stamped.start_tag + most
+  -- What holds of each packet that waits in a stretch.
+  module _ (Q : Accepted → Type 0) where
+    pub waits-before : (stretch earlier : List Event) → EachThatWaits Q link flow stretch earlier → All Q (backlog link flow earlier)
+    waits-before [] earlier h = h
+    waits-before (opened l ∷ stretch) earlier h = waits-before stretch earlier h
+    waits-before (arrived p ∷ stretch) earlier h = waits-before stretch earlier h.1
+    waits-before (started s ∷ stretch) earlier h = waits-before stretch earlier h
+    waits-before (lost l g ∷ stretch) earlier h = waits-before stretch earlier h
+    waits-before (refused l g ∷ stretch) earlier h = waits-before stretch earlier h
+    waits-before (discarded g ∷ stretch) earlier h = waits-before stretch earlier h
+    waits-before (collected at ∷ stretch) earlier h = waits-before stretch earlier h
 
-  cheap : (most : ℕ) (t : List Event) → CostsAtMost most link flow t → Arrive (IsCheap most) t
-  cheap most [] h = tt
-  cheap most (opened l ∷ t) h = cheap most t h
-  cheap most (arrived p ∷ t) h = (h.0, cheap most t h.1)
-  cheap most (started s ∷ t) h = cheap most t h
-  cheap most (lost l g ∷ t) h = cheap most t h
-  cheap most (refused l g ∷ t) h = cheap most t h
-  cheap most (discarded g ∷ t) h = cheap most t h
-  cheap most (collected at ∷ t) h = cheap most t h
+    pub waits-after : (stretch earlier : List Event) → EachThatWaits Q link flow stretch earlier → All Q (backlog link flow (stretch ++ earlier))
+    waits-after [] earlier h = h
+    waits-after (opened l ∷ stretch) earlier h = waits-after stretch earlier h
+    waits-after (arrived p ∷ stretch) earlier h = push Q p (backlog link flow (stretch ++ earlier)) (is_of link flow p) h.0 (waits-after stretch earlier h.1)
+    waits-after (started s ∷ stretch) earlier h = less Q (backlog link flow (stretch ++ earlier)) (is_of link flow s.packet) (waits-after stretch earlier h)
+    waits-after (lost l g ∷ stretch) earlier h = waits-after stretch earlier h
+    waits-after (refused l g ∷ stretch) earlier h = waits-after stretch earlier h
+    waits-after (discarded g ∷ stretch) earlier h = clear Q (backlog link flow (stretch ++ earlier)) (nat_eq g flow) (waits-after stretch earlier h)
+    waits-after (collected at ∷ stretch) earlier h = waits-after stretch earlier h
 
-  pub all-cheap : (most : ℕ) (t : List Event) → CostsAtMost most link flow t → All (IsCheap most) (backlog link flow t)
-  all-cheap most t h = all-waiting (IsCheap most) t (cheap most t h)
-
-  pub suffix-cheap : (most : ℕ) (later t : List Event) → CostsAtMost most link flow (later ++ t) → CostsAtMost most link flow t
-  suffix-cheap most [] t h = h
-  suffix-cheap most (opened l ∷ later) t h = suffix-cheap most later t h
-  suffix-cheap most (arrived p ∷ later) t h = suffix-cheap most later t h.1
-  suffix-cheap most (started s ∷ later) t h = suffix-cheap most later t h
-  suffix-cheap most (lost l g ∷ later) t h = suffix-cheap most later t h
-  suffix-cheap most (refused l g ∷ later) t h = suffix-cheap most later t h
-  suffix-cheap most (discarded g ∷ later) t h = suffix-cheap most later t h
-  suffix-cheap most (collected at ∷ later) t h = suffix-cheap most later t h
+    pub waits-sooner : (e : Event) (stretch earlier : List Event) → EachThatWaits Q link flow (e ∷ stretch) earlier → EachThatWaits Q link flow stretch earlier
+    waits-sooner (opened l) stretch earlier h = h
+    waits-sooner (arrived p) stretch earlier h = h.1
+    waits-sooner (started s) stretch earlier h = h
+    waits-sooner (lost l g) stretch earlier h = h
+    waits-sooner (refused l g) stretch earlier h = h
+    waits-sooner (discarded g) stretch earlier h = h
+    waits-sooner (collected at) stretch earlier h = h

@@ -1,7 +1,8 @@
 -- The law of fair shares over a stretch of time, and its words.
-use Rattle.std.specs.Prelude.{ℕ, ◌≡◌, ◌≤◌, ◌<◌, ◌+◌, ◌-◌, true, cond, ⊤, List, [], ◌∷◌, ◌++◌, length}
+use Rattle.std.specs.Prelude.{ℕ, ◌≡◌, ◌≤◌, ◌<◌, ◌+◌, ◌-◌, true, cond, List, [], ◌∷◌, ◌++◌, length}
+use Rattle.std.specs.List.{All}
 use Rattle.dn_types.specs.Calls.{trace_of}
-use Rattle.dn_types.specs.Trace.{Link, shared, Start, Event, arrived, started, is_of, backlog}
+use Rattle.dn_types.specs.Trace.{Link, shared, Accepted, Start, Event, arrived, started, is_of, backlog}
 use Rattle.dn_types.specs.declared.call.Call.{Call}
 
 -- A packet of the flow waits for the link before the stretch, after each of its events, and so throughout.
@@ -17,19 +18,24 @@ share link flow (started s ∷ stretch) =
     cond (is_of link flow s.packet) (s.packet.stamped.finish_tag - s.packet.stamped.start_tag) 0 + share link flow stretch
 share link flow (_ ∷ stretch) = share link flow stretch
 
--- No packet of the flow costs more.
-abbrev pub CostsAtMost : ℕ → Link → ℕ → List Event → Type 0
-CostsAtMost most link flow [] = ⊤
-CostsAtMost most link flow (arrived p ∷ trace) = (is_of link flow p ≡ true → p.stamped.finish_tag ≤ p.stamped.start_tag + most)
-    × CostsAtMost most link flow trace
-CostsAtMost most link flow (_ ∷ trace) = CostsAtMost most link flow trace
+-- Each packet of the flow that waits before the stretch, or arrives in it, is so: and no other packet waits or starts in it.
+abbrev pub EachThatWaits : (Accepted → Type 0) → Link → ℕ → List Event → List Event → Type 0
+EachThatWaits IsSo link flow [] earlier = All IsSo (backlog link flow earlier)
+EachThatWaits IsSo link flow (arrived p ∷ stretch) earlier = (is_of link flow p ≡ true → IsSo p) × EachThatWaits IsSo link flow stretch earlier
+EachThatWaits IsSo link flow (_ ∷ stretch) earlier = EachThatWaits IsSo link flow stretch earlier
+
+-- The packet costs at most so much.
+abbrev pub CostsAtMost : ℕ → Accepted → Type 0
+CostsAtMost most p = p.stamped.finish_tag ≤ p.stamped.start_tag + most
 
 -- From a start of one flow on a shared link, and while packets of it and of another wait throughout, the other gets at most
--- what the one gets, and two of its own packets and one of the one's: by their weights they share the link alike.
+-- what the one gets, and two of its own packets and one of the one's: by their weights they share the link alike. What cost
+-- more before the stretch, or arrived after it, plays no part.
 abbrev pub SharesFairly : Type 0
 SharesFairly = (calls : List Call) (pipe one other most_one most_other : ℕ) (later stretch earlier : List Event) (r : Start) →
     trace_of calls ≡ later ++ (stretch ++ (started r ∷ earlier)) →
     is_of (shared pipe) one r.packet ≡ true → WaitsThroughout (shared pipe) one (stretch ++ (started r ∷ [])) earlier →
     WaitsThroughout (shared pipe) other (stretch ++ (started r ∷ [])) earlier →
-    CostsAtMost most_one (shared pipe) one (trace_of calls) → CostsAtMost most_other (shared pipe) other (trace_of calls) →
+    EachThatWaits (CostsAtMost most_one) (shared pipe) one (stretch ++ (started r ∷ [])) earlier →
+    EachThatWaits (CostsAtMost most_other) (shared pipe) other (stretch ++ (started r ∷ [])) earlier →
     share (shared pipe) other (stretch ++ (started r ∷ [])) ≤ share (shared pipe) one (stretch ++ (started r ∷ [])) + most_other + most_other + most_one
