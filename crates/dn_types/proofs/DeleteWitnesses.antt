@@ -19,7 +19,7 @@ use Rattle.dn_types.specs.declared.target.Target.TheVariants.{Pipe as ToPipe, Qu
 use Rattle.dn_types.proofs.DropLaws.{none-unconfigured}
 use Rattle.dn_types.proofs.Elsewhere.{other-pipes-change-nothing}
 use Rattle.dn_types.proofs.ExampleWords.{tuple, no_mask, worded, pipe, queue, to_pipe, to_queue, key}
-use Rattle.dn_types.proofs.Isolation.{pipe-delete-empties, queue-delete-spares, pipe-delete-spares, commands-move-nothing, commands-count, queues-have-pipes}
+use Rattle.dn_types.proofs.Isolation.{pipe-delete-empties, queue-delete-spares, pipe-delete-spares, commands-move-nothing, commands-count, only-commands-count, queues-have-pipes}
 use Rattle.dn_types.proofs.Masks.{flows-have-their-keys}
 use Rattle.dn_types.proofs.Resets.{pipe-delete-resets}
 
@@ -47,6 +47,10 @@ no_more_in_force = (commands-count queued (DeleteQueue 1)).1 refl
 still_in_force : settings (Configure (DeletePipe 1) ∷ queued) (ToPipe 1) ≡ settings queued (ToPipe 1)
 still_in_force = (commands-count queued (DeletePipe 1)).2 (λ (e : PipeHasQueues ≡ Configured). absurd cc) (λ (e : PipeHasQueues ≡ Deleted). absurd cc)
 
+-- A settling leaves the queue's command in force.
+left_in_force : settings (Advance 5000000 ∷ queued) (ToQueue 1) ≡ Some (Queue 1 1 4 (Slots 50) 0 None no_mask)
+left_in_force = only-commands-count queued (Advance 5000000) (ToQueue 1) (λ command (e : Advance 5000000 ≡ Configure command). absurd cc)
+
 its_pipe : is_some (settings queued (ToPipe 1)) ≡ true
 its_pipe = queues-have-pipes queued (ToQueue 1) 1 1 4 (Slots 50) 0 None no_mask refl
 
@@ -71,3 +75,8 @@ pipe_spared = pipe-delete-spares queued 2 (shared 1) [] [] (key (ToQueue 1) 1 no
 
 by_the_clock : free (shared 1) (trace_of (Advance 5000000 ∷ pipe 2 8000000 0 ∷ queued)) ≡ free (shared 1) (trace_of (Advance 5000000 ∷ queued))
 by_the_clock = (other-pipes-change-nothing Ordered (Advance 5000000 ∷ pipe 2 8000000 0 ∷ []) queued (shared 1) (tt, ((λ (e : 2 ≡ 1). absurd (omega arith)), tt))).1
+
+-- And the queue's flow keeps the finish tag of its second packet.
+its_tag : last_finish_tag (shared 1) 0 (trace_of (Advance 5000000 ∷ pipe 2 8000000 0 ∷ queued)) ≡ 32768000
+its_tag =
+    (other-pipes-change-nothing Ordered (Advance 5000000 ∷ pipe 2 8000000 0 ∷ []) queued (shared 1) (tt, ((λ (e : 2 ≡ 1). absurd (omega arith)), tt))).4 0 (key (ToQueue 1) 1 no_mask (tuple 0 0 0 0 0)) refl refl

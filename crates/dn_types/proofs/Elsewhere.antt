@@ -9,13 +9,14 @@ use Rattle.dn_types.specs.Configuration.{settings, subject, target_eq, setting_a
 use Rattle.dn_types.specs.Flows.{treatment, keys}
 use Rattle.dn_types.specs.Links.{free, last_due}
 use Rattle.dn_types.specs.OtherPipes.{IsCommandElsewhere, IsElsewhere, AreElsewhere}
-use Rattle.dn_types.specs.SharedLinks.{virtual_time, next_packet}
+use Rattle.dn_types.specs.SharedLinks.{virtual_time, last_finish_tag, next_packet}
 use Rattle.dn_types.specs.Starts.{start_at, next_start, settled}
 use Rattle.dn_types.specs.Trace.{Link, pipe_of, Accepted, Event, backlog}
 use Rattle.dn_types.specs.declared.call.Call.{Call}
 use Rattle.dn_types.specs.declared.call.Call.TheVariants.{Configure, Submit, Advance, Collect, Show}
 use Rattle.dn_types.specs.declared.command.Command.{Command}
 use Rattle.dn_types.specs.declared.command.Command.TheVariants.{Pipe, Queue, DeletePipe, DeleteQueue}
+use Rattle.dn_types.specs.declared.flow_key.FlowKey.{FlowKey}
 use Rattle.dn_types.specs.declared.packet.Packet.{Packet}
 use Rattle.dn_types.specs.declared.reply.Reply.{Reply}
 use Rattle.dn_types.specs.declared.reply.Reply.TheVariants.{Deleted}
@@ -28,6 +29,7 @@ use Rattle.dn_types.proofs.Isolation.{false-if, none-left, spared-by, commands-m
 use Rattle.dn_types.proofs.Known.{IsKnown, all-known, fewer-discarded, pipe_of-link}
 use Rattle.dn_types.proofs.OneLink.{IsAlike, alike-refl, alike-sym, alike-then, settled-alike, settled-still, settled-twice}
 use Rattle.dn_types.proofs.Settling.{next_packet-first}
+use Rattle.dn_types.proofs.TagsElsewhere.{tags-elsewhere}
 use Rattle.dn_types.proofs.Timely.{clock-later}
 
 some-first : (q : List Accepted) (p : Accepted) → slice_get q 0 ≡ Some p → 0 < length q
@@ -161,7 +163,10 @@ pub other-pipes-change-nothing : (rule : Rule) (after calls : List Call) (link :
     let without = trace_of (Advance (effective_moment (after ++ calls)) ∷ calls) in
     ((flow : ℕ) → backlog link flow with_them ≡ backlog link flow without) × (free link with_them ≡ free link without)
     × (last_due rule link with_them ≡ last_due rule link without) × (virtual_time link with_them ≡ virtual_time link without)
+    × ((flow : ℕ) (key : FlowKey) → slice_get (keys (after ++ calls)) flow ≡ Some key → key.pipe ≡ pipe_of link →
+    last_finish_tag link flow with_them ≡ last_finish_tag link flow without)
 other-pipes-change-nothing rule after calls link h =
     let rises = clock-later after calls in
     let same : effective_moment (after ++ calls) ≡ max (effective_moment calls) (effective_moment (after ++ calls)) = omega (arith, rises) in
-    subst (λ (m : ℕ). IsAlike rule link (trace_of (after ++ calls)) (settled (settings calls) m (trace_of calls))) same (all-followed rule link after calls h).1
+    let alike = subst (λ (m : ℕ). IsAlike rule link (trace_of (after ++ calls)) (settled (settings calls) m (trace_of calls))) same (all-followed rule link after calls h).1 in
+    (alike.0, alike.1, alike.2, alike.3, λ flow key e on. tags-elsewhere rule link flow after calls h key e on (effective_moment (after ++ calls)))

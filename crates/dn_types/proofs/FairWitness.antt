@@ -1,7 +1,7 @@
 -- The premises of the law of fair shares are met: two queues of one weight, each with four packets of 1,000 bytes.
 use Rattle.std.proofs.Common.{◌≡◌, ◌≤◌, ◌<◌, ◌+◌, ◌*◌, max, ℕ, true, List, [], ◌∷◌, refl, arith}
-use Rattle.std.specs.Prelude.{None, ⊤, nat_le, nat_lt}
-use Rattle.std.specs.List.{All}
+use Rattle.std.specs.Prelude.{None, ⊤, nat_le, nat_lt, nat_eq}
+use Rattle.std.specs.List.{All, filter}
 use Rattle.std.proofs.lemmas.Bool.Decides.{nat_tests}
 use Rattle.std.proofs.lemmas.List.Elements.{All-nil, All-cons}
 use Rattle.dn_types.specs.ByteShares.{IsWeighted}
@@ -17,6 +17,7 @@ use Rattle.dn_types.specs.declared.target.Target.TheVariants.{Queue as ToQueue}
 use Rattle.dn_types.proofs.ByWeight.{shares-by-weight}
 use Rattle.dn_types.proofs.ExampleWords.{tuple, no_mask, packet}
 use Rattle.dn_types.proofs.Fair.{shares-fairly}
+use Rattle.dn_types.proofs.Heads.{heads-are-first}
 use Rattle.dn_types.proofs.Shares.{pick-is-fair, pick-is-least, raises-to-the-least}
 
 le : (a b : ℕ) → nat_le a b ≡ true → a ≤ b
@@ -74,6 +75,10 @@ met_in_bytes = shares-by-weight (Advance 2000000 ∷ older) 1 0 1 1 1 1000 1000 
     (each (IsWeighted 1 1000) (backlog (shared 1) 0 (trace_of older)) ((refl, le _ _ refl), ((refl, le _ _ refl), ((refl, le _ _ refl), tt))))
     (lt 0 1 refl)
     (each (IsWeighted 1 1000) (backlog (shared 1) 1 (trace_of older)) ((refl, le _ _ refl), ((refl, le _ _ refl), ((refl, le _ _ refl), ((refl, le _ _ refl), tt)))))
+
+-- At 1 ms each flow has one head.
+one_head : filter (λ h. nat_eq h.flow 1) (link_heads (shared 1) (trace_of older)) ≡ second.packet.stamped ∷ []
+one_head = heads-are-first (shared 1) 1 (trace_of older)
 
 -- At 1 ms the first packets of both flows have the same finish tag, and that of the lesser flow number starts.
 lesser_flow : 0 ≤ 1

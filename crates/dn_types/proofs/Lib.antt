@@ -25,6 +25,7 @@ mod FairWitness
 pub mod Fifo
 pub mod Firsts
 pub mod Giving
+pub mod Heads
 pub mod Histories
 pub mod InForce
 pub mod InTurn
@@ -77,5 +78,6 @@ pub mod QueuesRate
 pub mod Spares
 pub mod Seen
 pub mod Tags
+pub mod TagsElsewhere
 pub mod Kept
 mod ReplyWitnesses

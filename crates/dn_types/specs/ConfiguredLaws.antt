@@ -32,6 +32,10 @@ CommandsCount = (calls : List Call) (command : Command) →
     settings (Configure command ∷ calls) (subject command) ≡ settings calls (subject command))
     × ((target : Target) → target ≢ subject command → settings (Configure command ∷ calls) target ≡ settings calls target)
 
+-- Nothing but a command changes what is in force.
+abbrev pub OnlyCommandsCount : Type 0
+OnlyCommandsCount = (calls : List Call) (c : Call) (target : Target) → ((command : Command) → c ≢ Configure command) → settings (c ∷ calls) target ≡ settings calls target
+
 -- The pipe of a configured queue is configured.
 abbrev pub QueuesHavePipes : Type 0
 QueuesHavePipes = (calls : List Call) (target : Target) (number pipe weight : ℕ) (limit : Limit) (loss : ℕ) (buckets : Option ℕ) (mask : Mask) →
@@ -40,8 +44,10 @@ QueuesHavePipes = (calls : List Call) (target : Target) (number pipe weight : �
 -- A packet to a configured target is lost exactly where the low 31 bits of its word are below the loss rate in force, and
 -- refused exactly where it isn't lost and its flow's queue is at the limit in force, by what waits at its moment.
 abbrev pub DropsAreExplained : Type 0
-DropsAreExplained = (rule : Rule) (calls : List Call) (target : Target) (packet : Packet) (moment : ℕ) (command : Command) (rate : ℕ) (most : Limit) (carrier : ℕ) → length calls < call_limit → settings calls target ≡ Some command → IsJudgedBy command rate most carrier →
-    IsExplained rate most (packet.word % 2 ^ 31) (λ flow. map (λ p. p.stamped.len) (backlog (link_of target flow carrier) flow (trace_of (Advance moment ∷ calls)))) (reply rule calls (Submit target packet moment))
+DropsAreExplained = (rule : Rule) (calls : List Call) (target : Target) (packet : Packet) (moment : ℕ) (command : Command) (rate : ℕ) (most : Limit) (carrier : ℕ) →
+    length calls < call_limit → settings calls target ≡ Some command → IsJudgedBy command rate most carrier →
+    IsExplained rate most (packet.word % 2 ^ 31) (λ flow. map (λ p. p.stamped.len) (backlog (link_of target flow carrier) flow (trace_of (Advance moment ∷ calls))))
+    (reply rule calls (Submit target packet moment))
 
 -- A packet to a target that is not configured has none.
 abbrev pub NoneUnconfigured : Type 0

@@ -1,12 +1,12 @@
 -- The law of isolation over a stretch of calls: while they are about other pipes, a pipe's links go by the clock alone.
-use Rattle.std.specs.Prelude.{ℕ, ◌≡◌, ◌≢◌, ⊤, List, [], ◌∷◌, ◌++◌, Some}
+use Rattle.std.specs.Prelude.{ℕ, ◌≡◌, ◌≢◌, ⊤, List, [], ◌∷◌, ◌++◌, Some, slice_get}
 use Rattle.dn_types.specs.Calls.{trace_of}
 use Rattle.dn_types.specs.Clock.{effective_moment}
 use Rattle.dn_types.specs.Configuration.{settings}
 use Rattle.dn_types.specs.Explained.{IsJudgedBy}
 use Rattle.dn_types.specs.Flows.{keys}
 use Rattle.dn_types.specs.Links.{free, last_due}
-use Rattle.dn_types.specs.SharedLinks.{virtual_time}
+use Rattle.dn_types.specs.SharedLinks.{virtual_time, last_finish_tag}
 use Rattle.dn_types.specs.Trace.{Link, pipe_of, backlog}
 use Rattle.dn_types.specs.declared.call.Call.{Call}
 use Rattle.dn_types.specs.declared.call.Call.TheVariants.{Configure, Submit, Advance}
@@ -36,10 +36,13 @@ abbrev pub AreElsewhere : ℕ → List Call → List Call → Type 0
 AreElsewhere pipe [] calls = ⊤
 AreElsewhere pipe (c ∷ after) calls = IsElsewhere pipe (after ++ calls) c × AreElsewhere pipe after calls
 
--- Whatever happens on other pipes, the links of a pipe stand as one Advance to the same clock leaves them.
+-- Whatever happens on other pipes, the links of a pipe stand as one Advance to the same clock leaves them, and so do the last
+-- finish tags of its flows.
 abbrev pub OtherPipesChangeNothing : Type 0
 OtherPipesChangeNothing = (rule : Rule) (after calls : List Call) (link : Link) → AreElsewhere (pipe_of link) after calls →
     let with_them = trace_of (after ++ calls) in
     let without = trace_of (Advance (effective_moment (after ++ calls)) ∷ calls) in
     ((flow : ℕ) → backlog link flow with_them ≡ backlog link flow without) × (free link with_them ≡ free link without)
     × (last_due rule link with_them ≡ last_due rule link without) × (virtual_time link with_them ≡ virtual_time link without)
+    × ((flow : ℕ) (key : FlowKey) → slice_get (keys (after ++ calls)) flow ≡ Some key → key.pipe ≡ pipe_of link →
+    last_finish_tag link flow with_them ≡ last_finish_tag link flow without)

@@ -1,7 +1,7 @@
 -- The laws of sharing and of isolation: weights share a link, and a delete or a packet reaches what it is about and nothing
 -- else.
-use Rattle.std.specs.Prelude.{ℕ, ◌≡◌, ◌≢◌, ◌≤◌, ◌<◌, ◌+◌, ◌*◌, max, List, [], ◌∷◌, ◌++◌, map, sum, length, Option, Some}
-use Rattle.std.specs.List.{All}
+use Rattle.std.specs.Prelude.{ℕ, ◌≡◌, ◌≢◌, ◌≤◌, ◌<◌, ◌+◌, ◌*◌, max, List, [], ◌∷◌, ◌++◌, map, sum, take, length, nat_eq, Option, Some}
+use Rattle.std.specs.List.{All, filter}
 use Rattle.dn_types.specs.Calls.{trace_of}
 use Rattle.dn_types.specs.Configuration.{settings, reply_to_command}
 use Rattle.dn_types.specs.Deliveries.{undelivered}
@@ -26,9 +26,16 @@ use Rattle.dn_types.specs.declared.target.Target.TheVariants.{Queue as ToQueue}
 
 -- A packet to a queue is tagged by its length and the queue's weight in force.
 abbrev pub TagsByWeight : Type 0
-TagsByWeight = (calls : List Call) (target : Target) (packet : Packet) (moment : ℕ) (later between : List Event) (p : Accepted) (number pipe weight : ℕ) (limit : Limit) (loss : ℕ) (buckets : Option ℕ) (mask : Mask) →
+TagsByWeight = (calls : List Call) (target : Target) (packet : Packet) (moment : ℕ) (later between : List Event) (p : Accepted)
+    (number pipe weight : ℕ) (limit : Limit) (loss : ℕ) (buckets : Option ℕ) (mask : Mask) →
     trace_of (Submit target packet moment ∷ calls) ≡ later ++ arrived p ∷ between ++ trace_of calls →
     settings calls target ≡ Some (Queue number pipe weight limit loss buckets mask) → IsTagged packet.len weight (between ++ trace_of calls) p
+
+-- The heads of a link, among which a start picks and by whose weights virtual time grows, are the first packets that wait for
+-- it: one of each flow of which one waits, and no other.
+abbrev pub HeadsAreFirst : Type 0
+HeadsAreFirst = (link : Link) (flow : ℕ) (trace : List Event) →
+    filter (λ h. nat_eq h.flow flow) (link_heads link trace) ≡ map (λ p. p.stamped) (take 1 (backlog link flow trace))
 
 -- No packet starts in whose favour another flow is passed over by more than a packet: the pick's start tag is at most the
 -- finish tag of each head.
@@ -89,7 +96,8 @@ CommandsMoveNothing = (rule : Rule) (calls : List Call) (command : Command) (lin
 
 -- A packet changes nothing on the links of other pipes, against a call at its moment that has none.
 abbrev pub PacketsKeepApart : Type 0
-PacketsKeepApart = (rule : Rule) (calls : List Call) (target : Target) (packet : Packet) (moment : ℕ) (command : Command) (rate : ℕ) (most : Limit) (carrier : ℕ) (link : Link) → settings calls target ≡ Some command → IsJudgedBy command rate most carrier → pipe_of link ≢ carrier →
+PacketsKeepApart = (rule : Rule) (calls : List Call) (target : Target) (packet : Packet) (moment : ℕ) (command : Command) (rate : ℕ) (most : Limit) (carrier : ℕ) (link : Link) →
+    settings calls target ≡ Some command → IsJudgedBy command rate most carrier → pipe_of link ≢ carrier →
     let with_it = trace_of (Submit target packet moment ∷ calls) in
     let without = trace_of (Advance moment ∷ calls) in
     ((flow : ℕ) → backlog link flow with_it ≡ backlog link flow without) × (free link with_it ≡ free link without)

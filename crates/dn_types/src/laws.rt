@@ -5,7 +5,7 @@ ghost use Rattle.dn_types.specs.Bounds.{IsInRange};
 ghost use Rattle.dn_types.specs.ByteShares.{SharesByWeight};
 ghost use Rattle.dn_types.specs.ConfiguredLaws.{CommandsCount, DelaysAreExplained};
 ghost use Rattle.dn_types.specs.ConfiguredLaws.{DropsAreExplained, IsNeverIdle, KeepsTheRate};
-ghost use Rattle.dn_types.specs.ConfiguredLaws.{NoneUnconfigured};
+ghost use Rattle.dn_types.specs.ConfiguredLaws.{NoneUnconfigured, OnlyCommandsCount};
 ghost use Rattle.dn_types.specs.ConfiguredLaws.{QueuesHavePipes, StartsApart, StartsAsConfigured};
 ghost use Rattle.dn_types.specs.ConfiguredLaws.{StartsAtOnce, StartsTheNext};
 ghost use Rattle.dn_types.specs.FairShare.{SharesFairly};
@@ -34,7 +34,7 @@ ghost use Rattle.dn_types.specs.ReplyLaws.{RepliesTellTheClock, ShowsAreTold, To
 ghost use Rattle.dn_types.specs.ReplyLaws.{ToldWhenDue};
 ghost use Rattle.dn_types.specs.ResetLaws.{DroppedChangesNothing, PipeDeleteResets};
 ghost use Rattle.dn_types.specs.ResetLaws.{QueueDeleteResets, TagsBeginAfresh};
-ghost use Rattle.dn_types.specs.SharingLaws.{CommandsMoveNothing, GrowsByWork};
+ghost use Rattle.dn_types.specs.SharingLaws.{CommandsMoveNothing, GrowsByWork, HeadsAreFirst};
 ghost use Rattle.dn_types.specs.SharingLaws.{PacketsKeepApart, PickIsFair, PickIsLeast};
 ghost use Rattle.dn_types.specs.SharingLaws.{PipeDeleteEmpties, PipeDeleteSpares};
 ghost use Rattle.dn_types.specs.SharingLaws.{QueueDeleteEmpties, QueueDeleteSpares};
@@ -54,9 +54,11 @@ pub fn laws_of_starts()
     ensures once { StartsOnce }
 {}
 
-/// On a shared link WF2Q+ picks a packet wherever one waits: of the eligible heads the one with the
-/// least finish tag, and of those with equal tags that of the least flow number.
+/// The heads of a link are the first packets of the flows that wait for it. On a shared link WF2Q+
+/// picks one wherever there is one: of the eligible heads the one with the least finish tag, and of
+/// those with equal tags that of the least flow number.
 pub fn laws_of_the_pick()
+    ensures heads { HeadsAreFirst }
     ensures there { PickIsThere }
     ensures first { PickIsFirst }
 {}
@@ -180,6 +182,7 @@ pub fn laws_of_isolation()
     ensures pipe_spares { PipeDeleteSpares }
     ensures commands { CommandsMoveNothing }
     ensures commands_count { CommandsCount }
+    ensures only_commands { OnlyCommandsCount }
     ensures queues { QueuesHavePipes }
     ensures packets { PacketsKeepApart }
     ensures other_pipes { OtherPipesChangeNothing }

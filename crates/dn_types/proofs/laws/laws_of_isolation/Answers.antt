@@ -1,8 +1,7 @@
 -- Each law is a lemma over the definitions.
 use Rattle.dn_types.proofs.Elsewhere.{other-pipes-change-nothing}
-use Rattle.dn_types.proofs.Isolation.{pipe-delete-empties, queue-delete-empties, queue-delete-spares, pipe-delete-spares, commands-move-nothing, commands-count, packets-keep-apart, queues-have-pipes}
-use Rattle.dn_types.proofs.Spares.{packets-spare-tags}
-use Rattle.dn_types.proofs.Spares.{clock-spares-tags}
+use Rattle.dn_types.proofs.Isolation.{pipe-delete-empties, queue-delete-empties, queue-delete-spares, pipe-delete-spares, commands-move-nothing, commands-count, only-commands-count, packets-keep-apart, queues-have-pipes}
+use Rattle.dn_types.proofs.Spares.{packets-spare-tags, clock-spares-tags}
 use Rattle.dn_types.proofs.laws.laws_of_isolation.Goals as goal
 
 pub returns-clause-pipe_delete : goal.returns-clause-pipe_delete
@@ -37,3 +36,6 @@ returns-clause-packet_tags c = packets-spare-tags
 
 pub returns-clause-clock_tags : goal.returns-clause-clock_tags
 returns-clause-clock_tags c = clock-spares-tags
+
+pub returns-clause-only_commands : goal.returns-clause-only_commands
+returns-clause-only_commands c = only-commands-count

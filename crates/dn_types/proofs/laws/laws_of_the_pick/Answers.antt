@@ -1,4 +1,5 @@
 -- Each law is a lemma over the definitions.
+use Rattle.dn_types.proofs.Heads.{heads-are-first}
 use Rattle.dn_types.proofs.PickLaws.{pick-is-first}
 use Rattle.dn_types.proofs.Picks.{pick-some}
 use Rattle.dn_types.proofs.laws.laws_of_the_pick.Goals as goal
@@ -8,3 +9,6 @@ returns-clause-there c = pick-some
 
 pub returns-clause-first : goal.returns-clause-first
 returns-clause-first c = pick-is-first
+
+pub returns-clause-heads : goal.returns-clause-heads
+returns-clause-heads c = heads-are-first
