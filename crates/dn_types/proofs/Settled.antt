@@ -50,17 +50,6 @@ module _ (link : Link) (s : Start) (trace : List Event) (elsewhere : link_eq s.p
   pub last_due-elsewhere : (rule : Rule) → last_due rule link (started s ∷ trace) ≡ last_due rule link trace
   last_due-elsewhere rule = ap (λ b. cond b (due_by rule (arrival_time s) (last_due rule link trace)) (last_due rule link trace)) elsewhere
 
--- So the next packet of the link stays.
-next_packet-elsewhere : (link : Link) (s : Start) (trace : List Event) → link_eq s.packet.link link ≡ false → next_packet link (started s ∷ trace) ≡ next_packet link trace
-next_packet-elsewhere (own pipe flow) s trace e = ap (λ (q : List Accepted). slice_get q 0) (backlog-elsewhere (own pipe flow) s trace e flow)
-next_packet-elsewhere (shared pipe) s trace e = λ i.
-    option_and_then (λ (h : Stamped). slice_get (backlog-elsewhere (shared pipe) s trace e h.flow i) 0)
-    (pick (virtual_time-elsewhere (shared pipe) s trace e i) (map (λ (p : Accepted). p.stamped) (heads (flow_bound trace) (λ flow. backlog-elsewhere (shared pipe) s trace e flow i))))
-
-next_start-elsewhere : (settings : Settings) (at : ℕ) (link : Link) (s : Start) (trace : List Event) → link_eq s.packet.link link ≡ false → next_start settings at link (started s ∷ trace) ≡ next_start settings at link trace
-next_start-elsewhere settings at link s trace e = λ i.
-    cond (nat_le (free-elsewhere link s trace e i) at) (option_map (λ (p : Accepted). start_at settings link p (free-elsewhere link s trace e i)) (next_packet-elsewhere link s trace e i)) None
-
 -- The next start of a link is a start on it.
 pub next_start-link : (settings : Settings) (at : ℕ) (link : Link) (trace : List Event) (s : Start) → next_start settings at link trace ≡ Some s → s.packet.link ≡ link
 next_start-link settings at link trace s e =
