@@ -6,6 +6,8 @@
     tools/wrong_definitions.py --list       prints the rows and tries nothing
     tools/wrong_definitions.py --table      prints the table as it is if each row is refused, and tries nothing
 
+In the table a row with a file in tools/refuted, by which refuted_laws.py shows that the law is false of it, has a star.
+
 Each row changes one line of crates/dn_types/specs, or a few of one file, in a copy from which the worked examples, the lists
 of calls and the witnesses are taken out, and checks the function of `laws` with the law that is false of the definition. A row
 passes where it is not proved. A row without a law is a choice that no law judges: it is pinned by examples alone.
@@ -227,6 +229,16 @@ ROWS = [
       'last_due rule link (arrived p ∷ trace) = '
       'cond (link_eq p.link link) (last_due rule link trace + 1) (last_due rule link trace)\n'
       'last_due rule link (_ ∷ trace) = last_due rule link trace'), 'laws_of_links', 'kept'),
+    ('each head counts twice in the sum of weights', 'Wf2q', '= heads flow backlog ++ take 1 (backlog flow)',
+     '= heads flow backlog ++ (take 1 (backlog flow) ++ take 1 (backlog flow))', 'laws_of_the_pick', 'heads'),
+    ('the flow with the greatest number has no head', 'Trace',
+     'max (flow_bound trace) (p.stamped.flow + 1)', 'max (flow_bound trace) p.stamped.flow',
+     'laws_of_the_pick', 'heads'),
+    ('a Collect ends what is in force', 'Configuration',
+     ('TheVariants.{Configure}', 'settings (_ ∷ calls) target = settings calls target'),
+     ('TheVariants.{Configure, Collect}',
+      'settings (Collect moment ∷ calls) target = None\nsettings (_ ∷ calls) target = settings calls target'),
+     'laws_of_isolation', 'only_commands'),
     ('each arrival moves virtual time', 'SharedLinks',
      ('Prelude.{ℕ, cond', 'virtual_time link (_ ∷ trace) = virtual_time link trace'),
      ('Prelude.{ℕ, ◌+◌, cond',
@@ -267,20 +279,24 @@ def check(crate, function):
     return set(unproved), refused.group(1) + '.' + refused.group(2) if refused else '', len(unproved) + len(proved) > 0
 
 
+def changed(text, old, new):
+    """The text of a spec with the wrong definition in the place of the right one."""
+    for before, after in zip(*((old, new) if isinstance(old, tuple) else ((old,), (new,)))):
+        if before not in text:
+            sys.exit('the text to change is not there: ' + before)
+        text = text.replace(before, after)
+    return text
+
+
 def try_row(crate, row):
     """What was refused, and whether the row went as it should."""
     _, name, old, new, function, _ = row
     spec = os.path.join(crate, 'specs', name + '.antt')
     with open(spec) as file:
         right = file.read()
-    wrong = right
-    for before, after in zip(*((old, new) if isinstance(old, tuple) else ((old,), (new,)))):
-        if before not in wrong:
-            return 'the text to change is not in ' + name, False
-        wrong = wrong.replace(before, after)
     try:
         with open(spec, 'w') as file:
-            file.write(wrong)
+            file.write(changed(right, old, new))
         unproved, refused, finished = check(crate, function or 'laws')
     finally:
         with open(spec, 'w') as file:
@@ -291,15 +307,26 @@ def try_row(crate, row):
     return refused if refuses else 'not refused', refuses
 
 
+def refuted_rows():
+    """The names of the rows with a file in tools/refuted: each file begins with one."""
+    folder = os.path.join(TOP, 'tools', 'refuted')
+    names = set()
+    for name in os.listdir(folder):
+        with open(os.path.join(folder, name)) as file:
+            names.add(file.readline().strip().replace('-- Wrong: ', ''))
+    return names
+
+
 def print_table(rows):
-    """The laws in the order of their first row, each with the definitions that it refuses."""
-    by_law = {}
+    """The functions in the order of their first row, and with each clause the definitions that it refuses."""
+    by_function, refuted = {}, refuted_rows()
     for wrong, _, _, _, function, clause in rows:
-        law = '`%s`, `%s`' % (function, clause) if function else 'none: pinned by examples alone'
-        by_law.setdefault(law, []).append(wrong)
-    print('| Law | Wrong definitions of which it is false |\n|---|---|')
-    for law, wrongs in by_law.items():
-        print('| %s | %s |' % (law, '; '.join(wrongs)))
+        clauses = by_function.setdefault('`%s`' % function if function else 'none: pinned by examples alone', {})
+        clauses.setdefault('`%s`' % clause, []).append(wrong + ' *' * (wrong in refuted))
+    print('| Law | Clause: wrong definitions of which it is false |\n|---|---|')
+    for function, clauses in by_function.items():
+        print('| %s | %s |' % (function, '. '.join('%s: %s' % (clause, '; '.join(wrongs))
+                                                   for clause, wrongs in clauses.items())))
 
 
 def main(arguments):
