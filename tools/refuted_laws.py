@@ -115,13 +115,15 @@ def set_refutations(crate: str, refutations: Sequence[Refutation], laws: Laws) -
     write(crate, 'proofs/Lib.antt', 'pub mod %s\n%s' % (WORDS, modules))
 
 
-def proved_lemmas(crate: str) -> Dict[int, List[bool]]:
-    """Of each refutation, whether each of its lemmas is proved."""
+def proved_lemmas(crate: str, tell: bool = False) -> Dict[int, List[bool]]:
+    """Of each refutation, whether each of its lemmas is proved. Tells the prover's errors where asked."""
     command = os.environ.get('RT', 'rt').split() + ['check', '--only', 'laws']
     told = subprocess.run(command, cwd=crate, stdout=subprocess.PIPE, stderr=subprocess.STDOUT, text=True).stdout
     verdicts = re.findall(r'^fn dn_types::laws::refuted(\d+)_\d+: (.*)$', told, flags=re.M)
     if not verdicts or re.search(r'specs/\w+\.antt:\d+:\d+: error', told):
         sys.exit(told + '\nthe copy is not accepted')
+    if tell:
+        print(*re.findall(r'^.*: error: .*$', told, flags=re.M), sep='\n', file=sys.stderr)
     by_number: Dict[int, List[bool]] = {}
     for number, verdict in verdicts:
         by_number.setdefault(int(number), []).append(verdict == 'proved')
@@ -151,7 +153,7 @@ def try_row(crate: str, row: Row, refutation: Refutation, laws: Laws) -> str:
     set_refutations(crate, [refutation], laws)
     try:
         write(crate, spec, wrong_definitions.changed(right, row[2], row[3]))
-        return 'refuted' if all(proved_lemmas(crate)[0]) else 'not refuted'
+        return 'refuted' if all(proved_lemmas(crate, tell=True)[0]) else 'not refuted'
     finally:
         write(crate, spec, right)
 

@@ -119,7 +119,7 @@ ROWS = [
     ('a Show forgets what happened', 'Calls', 'after_call calls Show trace = trace', 'after_call calls Show trace = []',
      'laws_of_time', 'stay'),
     ('the clock goes back', 'Clock', '= max (effective_moment calls) (moment_of c)', '= moment_of c',
-     'laws_of_time', 'in_time'),
+     'laws_of_replies', 'greatest'),
     ('a packet joins at the front', 'Trace', '(backlog link flow trace ++ p ∷ [])', '(p ∷ backlog link flow trace)',
      'laws_of_starts', 'in_order'),
     ('a Collect gives what one gave before', 'Deliveries', '= filter (λ d. nat_lt at d.due) (undelivered rule trace)',
@@ -245,6 +245,10 @@ ROWS = [
       'virtual_time link (arrived p ∷ trace) = '
       'cond (link_eq p.link link) (virtual_time link trace + 1) (virtual_time link trace)\n'
       'virtual_time link (_ ∷ trace) = virtual_time link trace'), 'laws_of_links', 'virtual_time'),
+    ('a history is read backwards', 'History', 'reverse (map (λ e. e.call) history)', 'map (λ e. e.call) history',
+     'laws_of_histories', 'replies'),
+    ('each entry is every caller\'s own', 'History', 'filter (λ e. nat_eq e.caller caller) history', 'history',
+     'laws_of_histories', 'own'),
 ]
 
 
