@@ -2,18 +2,19 @@
 -- A packet of 1,000 bytes to a pipe.
 use Rattle.std.proofs.Common.{List, [], ap, arith, drop, refl, take, ℕ, ◌∷◌, ◌≡◌}
 use Rattle.dn_types.specs.Calls.{trace_of}
+use Rattle.dn_types.specs.Explained.{sent}
 use Rattle.dn_types.specs.PacketLaws.{ArrivalsAreTold}
 use Rattle.dn_types.specs.Trace.{Accepted, own}
 use Rattle.dn_types.specs.declared.call.Call.{Call}
 use Rattle.dn_types.specs.declared.call.Call.TheVariants.{Submit}
 use Rattle.dn_types.specs.declared.rule.Rule.TheVariants.{Ordered}
-use Rattle.dn_types.proofs.ExampleWords.{packet, pipe, to_pipe}
+use Rattle.dn_types.proofs.ExampleWords.{pipe, to_pipe}
 
 abbrev configured : List Call
 configured = pipe 1 8000000 0 ∷ []
 
 len-of : Call → ℕ
-len-of (Submit target packet moment) = packet.len
+len-of (Submit to sent moment) = sent.len
 len-of _ = 0
 
 -- The packet as it arrives by this definition.
