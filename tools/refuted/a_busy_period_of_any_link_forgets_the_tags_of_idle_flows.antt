@@ -6,7 +6,7 @@ use Rattle.std.specs.Prelude.{None}
 use Rattle.dn_types.specs.Calls.{trace_of}
 use Rattle.dn_types.specs.KeptLaws.{IsApart, PacketsSpareTags, TagsAreKept}
 use Rattle.dn_types.specs.SharedLinks.{last_finish_tag}
-use Rattle.dn_types.specs.Trace.{Accepted, arrived, opened, own, started}
+use Rattle.dn_types.specs.Trace.{Accepted, Event, arrived, opened, own, started}
 use Rattle.dn_types.specs.declared.call.Call.{Call}
 use Rattle.dn_types.specs.declared.call.Call.TheVariants.{Advance}
 use Rattle.dn_types.specs.declared.command.Command.TheVariants.{Pipe}
@@ -27,9 +27,13 @@ forgets h =
 abbrev first : Accepted
 first = record { packet = 0; link = own 1 0; stamped = record { flow = 0; len = 1000; weight = 1; start_tag = 0; finish_tag = 65536000 } }
 
+abbrev start : Event
+start = started (record { packet = first; moment = 0; transmission = 1000000; delay = 0 })
+
 pub moved : TagsAreKept → ⊥
 moved h =
-    let apart = All-cons (IsApart (own 1 0) 0) (opened (own 2 1)) (started (record { packet = first; moment = 0; transmission = 1000000; delay = 0 }) ∷ []) (λ (e : own 2 1 ≡ own 1 0). absurd cc) (All-cons (IsApart (own 1 0) 0) (started (record { packet = first; moment = 0; transmission = 1000000; delay = 0 })) [] tt (All-nil (IsApart (own 1 0) 0))) in
-    let e : last_finish_tag (own 1 0) 0 (opened (own 2 1) ∷ started (record { packet = first; moment = 0; transmission = 1000000; delay = 0 }) ∷ arrived first ∷ []) ≡ 65536000 =
-        (h (own 1 0) 0 (opened (own 2 1) ∷ started (record { packet = first; moment = 0; transmission = 1000000; delay = 0 }) ∷ []) [] apart).0 first refl refl in
+    let apart = All-cons (IsApart (own 1 0) 0) (opened (own 2 1)) (start ∷ []) (λ (e : own 2 1 ≡ own 1 0). absurd cc)
+        (All-cons (IsApart (own 1 0) 0) start [] tt (All-nil (IsApart (own 1 0) 0))) in
+    let e : last_finish_tag (own 1 0) 0 (opened (own 2 1) ∷ start ∷ arrived first ∷ []) ≡ 65536000 =
+        (h (own 1 0) 0 (opened (own 2 1) ∷ start ∷ []) [] apart).0 first refl refl in
     absurd cc

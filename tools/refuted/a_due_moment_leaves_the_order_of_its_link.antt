@@ -5,7 +5,9 @@ use Rattle.dn_types.specs.Laws.{DueMomentsNeverFall}
 use Rattle.dn_types.specs.Trace.{Start, own, started}
 
 abbrev start : ℕ → Start
-start delay = record { packet = record { packet = 0; link = own 1 0; stamped = record { flow = 0; len = 1000; weight = 1; start_tag = 0; finish_tag = 1 } }; moment = 0; transmission = 0; delay = delay }
+start delay =
+    record { packet = record { packet = 0; link = own 1 0; stamped = record { flow = 0; len = 1000; weight = 1; start_tag = 0; finish_tag = 1 } };
+      moment = 0; transmission = 0; delay = delay }
 
 pub falls : DueMomentsNeverFall → ⊥
 falls h =

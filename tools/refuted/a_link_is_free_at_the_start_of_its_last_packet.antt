@@ -11,7 +11,9 @@ abbrev two : List Call
 two = to_pipe 1 0 ∷ to_pipe 1 0 ∷ pipe 1 8000000 0 ∷ []
 
 abbrev start : ℕ → Start
-start number = record { packet = record { packet = number; link = own 1 0; stamped = record { flow = 0; len = 1000; weight = 1; start_tag = 0; finish_tag = 65536000 } }; moment = 0; transmission = 1000000; delay = 0 }
+start number =
+    record { packet = record { packet = number; link = own 1 0; stamped = record { flow = 0; len = 1000; weight = 1; start_tag = 0; finish_tag = 65536000 } };
+      moment = 0; transmission = 1000000; delay = 0 }
 
 pub apart : StartsApart → ⊥
 apart h =

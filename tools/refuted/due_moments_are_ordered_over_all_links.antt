@@ -16,5 +16,6 @@ both = pipe 2 8000000 0 ∷ pipe 1 8000000 0 ∷ []
 
 pub apart : PacketsKeepApart → ⊥
 apart h =
-    let e : 1000000 ≡ 0 = (h Ordered both (ToPipe 2) (sized 1000) 0 (Pipe 2 8000000 0 (Slots 50) 0 None no_mask) 0 (Slots 50) 2 (own 1 0) refl (refl, refl, refl) (λ (same : 1 ≡ 2). absurd (omega arith))).2 in
+    let e : 1000000 ≡ 0 =
+        (h Ordered both (ToPipe 2) (sized 1000) 0 (Pipe 2 8000000 0 (Slots 50) 0 None no_mask) 0 (Slots 50) 2 (own 1 0) refl (refl, refl, refl) (λ (same : 1 ≡ 2). absurd (omega arith))).2 in
     absurd (omega (arith, e))

@@ -13,5 +13,6 @@ first = record { packet = 0; link = own 1 0; stamped = record { flow = 0; len = 
 pub moved : VirtualTimeIsKept → ⊥
 moved h =
     let e : virtual_time (own 1 0) (arrived first ∷ []) ≡ 0 =
-        (h (own 1 0) (arrived first ∷ []) [] (All-cons (IsNoStart (own 1 0)) (arrived first) [] tt (All-nil (IsNoStart (own 1 0)))) (All-cons (IsNoOpening (own 1 0)) (arrived first) [] tt (All-nil (IsNoOpening (own 1 0))))).0 in
+        (h (own 1 0) (arrived first ∷ []) [] (All-cons (IsNoStart (own 1 0)) (arrived first) [] tt (All-nil (IsNoStart (own 1 0))))
+        (All-cons (IsNoOpening (own 1 0)) (arrived first) [] tt (All-nil (IsNoOpening (own 1 0))))).0 in
     absurd cc

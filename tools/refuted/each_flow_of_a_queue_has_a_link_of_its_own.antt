@@ -24,5 +24,6 @@ start n = record { packet = accepted n; moment = 0; transmission = 1000000; dela
 pub no-rate : QueuesShareTheRate → ⊥
 no-rate h =
     let t = trace_of (both ++ base) in
-    let e : 1000 * 8 * 10 ^ 9 + 0 * 8000000 ≤ 0 * 8000000 = h both base 1 8000000 0 (Slots 50) 0 None no_mask [] (take 2 (drop 1 t)) (drop 4 t) (start 1) (start 0) (refl, (refl, (refl, (refl, refl)))) (omega arith) refl refl refl in
+    let e : 1000 * 8 * 10 ^ 9 + 0 * 8000000 ≤ 0 * 8000000 =
+        h both base 1 8000000 0 (Slots 50) 0 None no_mask [] (take 2 (drop 1 t)) (drop 4 t) (start 1) (start 0) (refl, (refl, (refl, (refl, refl)))) (omega arith) refl refl refl in
     absurd (omega (arith, e))

@@ -7,7 +7,9 @@ use Rattle.dn_types.specs.declared.rule.Rule.TheVariants.{Ordered}
 use Rattle.dn_types.proofs.ExampleWords.{delivery}
 
 abbrev start : ℕ → ℕ → Start
-start number flow = record { packet = record { packet = number; link = own 1 flow; stamped = record { flow = flow; len = 1; weight = 1; start_tag = 0; finish_tag = 1 } }; moment = 0; transmission = 0; delay = 0 }
+start number flow =
+    record { packet = record { packet = number; link = own 1 flow; stamped = record { flow = flow; len = 1; weight = 1; start_tag = 0; finish_tag = 1 } };
+      moment = 0; transmission = 0; delay = 0 }
 
 pub order : GivesInOrder → ⊥
 order h =

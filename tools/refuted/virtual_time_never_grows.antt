@@ -16,7 +16,9 @@ abbrev configured : List Call
 configured = queue 1 1 1 ∷ pipe 1 8000000 0 ∷ []
 
 abbrev second : Start
-second = record { packet = record { packet = 1; link = shared 1; stamped = record { flow = 0; len = 1000; weight = 1; start_tag = 65536000; finish_tag = 131072000 } }; moment = 1000000; transmission = 1000000; delay = 0 }
+second =
+    record { packet = record { packet = 1; link = shared 1; stamped = record { flow = 0; len = 1000; weight = 1; start_tag = 65536000; finish_tag = 131072000 } };
+      moment = 1000000; transmission = 1000000; delay = 0 }
 
 pub grows : GrowsByWork → ⊥
 grows h =
