@@ -20,7 +20,7 @@ import shutil
 import subprocess
 import sys
 import tempfile
-from typing import Dict, List, NamedTuple, Sequence, Tuple
+from typing import Dict, List, NamedTuple, Sequence, Tuple, Union
 
 import wrong_definitions
 
@@ -35,7 +35,9 @@ returns c = %s
 '''
 
 
-Row = Tuple  # a row of wrong_definitions.ROWS
+# A row of wrong_definitions.ROWS: what is wrong, the spec, the right and the wrong texts, the function and the clause.
+Texts = Union[str, Tuple[str, ...]]
+Row = Tuple[str, str, Texts, Texts, str, str]
 
 
 class Refutation(NamedTuple):

@@ -5,7 +5,7 @@ use Rattle.dn_types.specs.Laws.{StartsInOrder}
 use Rattle.dn_types.specs.Trace.{Accepted, own}
 use Rattle.dn_types.proofs.ExampleWords.{pipe, to_pipe}
 
-numbers : List Accepted → List ℕ
+abbrev numbers : List Accepted → List ℕ
 numbers ps = map (λ p. p.packet) ps
 
 pub turned : StartsInOrder → ⊥

@@ -13,7 +13,7 @@ use Rattle.dn_types.proofs.ExampleWords.{pipe, to_pipe}
 abbrev configured : List Call
 configured = pipe 1 8000000 0 ∷ []
 
-len-of : Call → ℕ
+abbrev len-of : Call → ℕ
 len-of (Submit to sent moment) = sent.len
 len-of _ = 0
 
