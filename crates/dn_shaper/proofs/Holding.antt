@@ -60,9 +60,12 @@ module _ (rule : Rule) (calls : List Call) (s : State) (sound : IsSound s) (stan
   holds-are : s.parts.waiting + length s.parts.line.pending ≡ held rule (trace_of calls)
   holds-are = λ i. waits-are i + under-way i
 
-  -- The greater of what is held and the count of flows.
-  pub room-is : (n flows : ℕ) → n ≡ length s.parts.line.pending → flows ≡ length s.parts.flows.keys → max (s.parts.waiting + n) flows ≡ max (held rule (trace_of calls)) (length (keys calls))
-  room-is n flows line many = λ i. max (((λ j. s.parts.waiting + line j) ∙ holds-are) i) ((many ∙ ap (λ (ks : List FlowKey). length ks) stands.keys_are) i)
+  -- What is held, and the count of flows.
+  pub held-is : (n : ℕ) → n ≡ length s.parts.line.pending → s.parts.waiting + n ≡ held rule (trace_of calls)
+  held-is n line = (λ i. s.parts.waiting + line i) ∙ holds-are
+
+  pub flows-are : length s.parts.flows.keys ≡ length (keys calls)
+  flows-are = ap (λ (ks : List FlowKey). length ks) stands.keys_are
 
 -- ---- A settling holds no more
 
@@ -122,6 +125,16 @@ given-few rule at trace =
     let b = count_by-le-length (λ (d : Delivery). nat_le d.due at) (undelivered rule trace) in
     omega arith
 
+collected-few : (rule : Rule) (calls : List Call) (moment : ℕ) → items_in (counted_reply rule calls (Collect moment)) ≤ held rule (trace_of calls)
+collected-few rule calls moment =
+    let at = max (effective_moment calls) moment in
+    let a = given-few rule at (settled (settings calls) at (trace_of calls)) in
+    let b = held-settle rule (settings calls) at (waiting_all (links (trace_of calls)) (trace_of calls)) (trace_of calls) in
+    omega arith
+
+shown-few : (rule : Rule) (calls : List Call) → items_in (counted_reply rule calls Show) ≤ length (keys calls)
+shown-few rule calls = let all = length-statuses 0 (keys calls) (trace_of calls) in omega arith
+
 counted-items : (rule : Rule) (calls : List Call) (call : Call) → items_in (counted_reply rule calls call) ≤ max (held rule (trace_of calls)) (length (keys calls))
 counted-items rule calls (Configure command) = let none = none-configured (settings calls) (queue_numbers calls) command in omega arith
 counted-items rule calls (Submit target packet moment) =
@@ -130,16 +143,22 @@ counted-items rule calls (Submit target packet moment) =
     let none = none-submitted at (verdict calls target packet before) before in
     omega arith
 counted-items rule calls (Advance moment) = omega arith
-counted-items rule calls (Collect moment) =
-    let at = max (effective_moment calls) moment in
-    let a = given-few rule at (settled (settings calls) at (trace_of calls)) in
-    let b = held-settle rule (settings calls) at (waiting_all (links (trace_of calls)) (trace_of calls)) (trace_of calls) in
-    omega arith
-counted-items rule calls Show = let all = length-statuses 0 (keys calls) (trace_of calls) in omega arith
+counted-items rule calls (Collect moment) = let few = collected-few rule calls moment in omega arith
+counted-items rule calls Show = let few = shown-few rule calls in omega arith
 
--- No list in the next reply is longer.
-pub items-few : (rule : Rule) (calls : List Call) (call : Call) → items_in (reply rule calls call) ≤ max (held rule (trace_of (counted calls))) (length (keys (counted calls)))
-items-few rule calls call = ⊎_elim
-    (λ few. subst (λ (x : Reply × List Call). items_in x.0 ≤ max (held rule (trace_of x.1)) (length (keys x.1))) (λ i. (sym few.2 i, sym few.1 i)) (counted-items rule calls call))
-    (λ many. subst (λ (r : Reply). items_in r ≤ max (held rule (trace_of (counted calls))) (length (keys (counted calls)))) (sym many.1) (omega arith))
+-- What bounds the list of a call that counts bounds that of the call, since Exhausted has none.
+bounded : (most : List Call → ℕ) (rule : Rule) (calls : List Call) (call : Call) → ((cs : List Call) → items_in (counted_reply rule cs call) ≤ most cs) → items_in (reply rule calls call) ≤ most (counted calls)
+bounded most rule calls call few = ⊎_elim
+    (λ below. subst (λ (x : Reply × List Call). items_in x.0 ≤ most x.1) (λ i. (sym below.2 i, sym below.1 i)) (few calls))
+    (λ many. subst (λ (r : Reply). items_in r ≤ most (counted calls)) (sym many.1) (omega arith))
     (counts rule calls call)
+
+-- No list in the next reply is longer than these.
+pub collects-few : (rule : Rule) (calls : List Call) (moment : ℕ) → items_in (reply rule calls (Collect moment)) ≤ held rule (trace_of (counted calls))
+collects-few rule calls moment = bounded (λ cs. held rule (trace_of cs)) rule calls (Collect moment) (λ cs. collected-few rule cs moment)
+
+pub shows-few : (rule : Rule) (calls : List Call) → items_in (reply rule calls Show) ≤ length (keys (counted calls))
+shows-few rule calls = bounded (λ cs. length (keys cs)) rule calls Show (λ cs. shown-few rule cs)
+
+pub items-few : (rule : Rule) (calls : List Call) (call : Call) → items_in (reply rule calls call) ≤ max (held rule (trace_of (counted calls))) (length (keys (counted calls)))
+items-few rule calls call = bounded (λ cs. max (held rule (trace_of cs)) (length (keys cs))) rule calls call (λ cs. counted-items rule cs call)

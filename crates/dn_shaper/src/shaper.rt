@@ -4,7 +4,7 @@ ghost use Rattle.dn_types.specs.Clock.{call_limit, counted, effective_moment};
 ghost use Rattle.dn_types.specs.Flows.{keys};
 ghost use Rattle.dn_types.specs.Replies.{reply};
 ghost use Rattle.dn_types.specs.declared.call.Call.{Call as CallValue};
-ghost use Rattle.dn_types.specs.declared.call.Call.TheVariants.{Advance, Collect};
+ghost use Rattle.dn_types.specs.declared.call.Call.TheVariants.{Advance, Collect, Show};
 ghost use Rattle.dn_types.specs.declared.rule.Rule.{Rule as RuleValue};
 ghost use Rattle.dn_types.specs.declared.rule.Rule.TheVariants.{Ordered};
 ghost use Rattle.dn_shaper.specs.Shaper.{CanNeedMemory, StandsAfter, held, items_in};
@@ -127,13 +127,29 @@ impl Shaper {
         earlier(due, first_free(&self.state.heap))
     }
 
-    /// The list in the next reply has at most so many items: the greater of the count of packets that
-    /// wait or are under way and the count of flows.
+    /// How many packets wait or are under way. The list in the reply to a Collect has at most so many items.
+    pub fn held(&self) -> usize
+        ensures value { (rule : RuleValue) (calls : List CallValue) → StandsAfter rule self.now calls → result ≡ held rule (trace_of (counted calls)) }
+        ensures room { (rule : RuleValue) (calls : List CallValue) → StandsAfter rule self.now calls → (moment : ℕ) → items_in (reply rule calls (Collect moment)) ≤ result }
+    {
+        let parts = &self.state.parts;
+        parts.waiting + parts.line.len()
+    }
+
+    /// How many flows there are. The list in the reply to a Show has at most so many items.
+    pub fn flows(&self) -> usize
+        ensures value { (rule : RuleValue) (calls : List CallValue) → StandsAfter rule self.now calls → result ≡ length (keys (counted calls)) }
+        ensures room { (rule : RuleValue) (calls : List CallValue) → StandsAfter rule self.now calls → items_in (reply rule calls Show) ≤ result }
+    {
+        self.state.parts.flows.len()
+    }
+
+    /// The list in the next reply has at most so many items, whatever the call: the greater of the count of
+    /// packets that wait or are under way and the count of flows.
     pub fn reply_room(&self) -> usize
         ensures value { (rule : RuleValue) (calls : List CallValue) → StandsAfter rule self.now calls → result ≡ max (held rule (trace_of (counted calls))) (length (keys (counted calls))) }
         ensures room { (rule : RuleValue) (calls : List CallValue) → StandsAfter rule self.now calls → (c : CallValue) → items_in (reply rule calls c) ≤ result }
     {
-        let parts = &self.state.parts;
-        (parts.waiting + parts.line.len()).max(parts.flows.len())
+        self.held().max(self.flows())
     }
 }

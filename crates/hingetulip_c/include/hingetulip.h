@@ -177,11 +177,12 @@ uint32_t dn_submit_many(struct dn_handle *handle, const struct dn_packet *packet
 uint32_t dn_advance(struct dn_handle *handle, uint64_t moment, uint64_t *at);
 
 /* Moves the clock, and takes the packets that are due, in the order in which they are due. DN_OK: *count of them stand in the
-   first places of `list`, which has `room` places. DN_ROOM: nothing happened, and with *count places the call is answered; that
-   can be more than comes, since it counts all packets that wait or are under way, or all flows where those are more. */
+   first places of `list`, which has `room` places; the others are as they were. DN_ROOM: nothing happened, and with *count places
+   the call is answered; that can be more than comes, since it counts all packets that wait or are under way. */
 uint32_t dn_collect(struct dn_handle *handle, uint64_t moment, struct dn_delivery *list, size_t room, uint64_t *count);
 
-/* Tells the state of all flows, in the order of their numbers. DN_OK, DN_ROOM: as for dn_collect. */
+/* Tells the state of all flows, in the order of their numbers. DN_OK: *count of them stand in the first places of `list`; the
+   others are as they were. DN_ROOM: there are *count flows, more than `room` places. */
 uint32_t dn_show(struct dn_handle *handle, struct dn_flow *list, size_t room, uint64_t *count);
 
 /* When to collect: DN_OK writes *moment, the first moment at which a packet is due or its transmission begins, if no other call

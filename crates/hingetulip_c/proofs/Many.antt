@@ -30,8 +30,8 @@ same-at old now i f same =
     let none : i + 0 ≡ i = omega arith in
     ap (λ (n : ℕ). get_or now n f) (sym none) ∙ sym (get_or-drop i now 0 f) ∙ ap (λ (fs : List CFate). get_or fs 0 f) same ∙ get_or-drop i old 0 f ∙ ap (λ (n : ℕ). get_or old n f) none
 
-pub others-more : (old now : List CFate) (i : ℕ) (fate : CFate) → drop i now ≡ drop i old → drop (i + 1) (set now i fate) ≡ drop (i + 1) old
-others-more old now i fate same = drop-set-lt (i + 1) now i fate (omega arith) ∙ sym (drop-drop 1 i now) ∙ ap (λ (fs : List CFate). drop 1 fs) same ∙ drop-drop 1 i old
+pub others_more : {X : Type 0} (old now : List X) (i : ℕ) (x : X) → drop i now ≡ drop i old → drop (i + 1) (set now i x) ≡ drop (i + 1) old
+others_more {X} old now i x same = drop-set-lt (i + 1) now i x (omega arith) ∙ sym (drop-drop 1 i now) ∙ ap (λ (xs : List X). drop 1 xs) same ∙ drop-drop 1 i old
 
 module _ (rule : Rule) (calls : List Call) (packets : List CPacket) (old now : List CFate) (i : ℕ) (fate : CFate) where
   abbrev Told : List CFate → ℕ → CPacket → CFate → Type 0

@@ -1,5 +1,5 @@
 -- What a reply's list is in C's words, and how much room is asked for it.
-use Rattle.std.specs.Prelude.{ℕ, max, List, [], map, length}
+use Rattle.std.specs.Prelude.{ℕ, List, [], map, length}
 use Rattle.dn_types.specs.Calls.{trace_of}
 use Rattle.dn_types.specs.Clock.{counted}
 use Rattle.dn_types.specs.Flows.{keys}
@@ -15,9 +15,13 @@ use Rattle.dn_shaper.specs.Shaper.{held}
 use Rattle.hingetulip_c.specs.declared.records.c_delivery.CDelivery.{CDelivery}
 use Rattle.hingetulip_c.specs.declared.records.c_flow.CFlow.{CFlow}
 
--- The room that a list is asked to have: the packets that wait or are under way, or the flows where those are more.
-abbrev pub room_after : Rule → List Call → ℕ
-room_after rule calls = max (held rule (trace_of (counted calls))) (length (keys (counted calls)))
+-- The room that a list of deliveries is asked to have: the packets that wait or are under way.
+abbrev pub held_after : Rule → List Call → ℕ
+held_after rule calls = held rule (trace_of (counted calls))
+
+-- The room that a list of flows is asked to have: one place a flow.
+abbrev pub flows_after : List Call → ℕ
+flows_after calls = length (keys (counted calls))
 
 -- A delivery as C reads it.
 abbrev pub c_delivery : Delivery → CDelivery

@@ -1,4 +1,4 @@
-ghost use Rattle.std.specs.Prelude.{◌≡◌, ◌≢◌, ◌≤◌, true, length, take, map};
+ghost use Rattle.std.specs.Prelude.{◌≡◌, ◌≢◌, ◌≤◌, true, length, take, drop, map};
 ghost use Rattle.dn_shaper.specs.Shaper.{items_in};
 ghost use Rattle.hingetulip_c.specs.Lists.{c_delivery, c_flow, deliveries_of, flows_of};
 ghost use Rattle.hingetulip_c.specs.Statuses.{answered, collect_status, collect_count, show_status, show_count};
@@ -47,18 +47,22 @@ fn flow_of(flow: &FlowStatus) -> CFlow
     }
 }
 
+#[tactic(auto, using(crate::proofs::Many::others_more))]
 fn copy_deliveries(given: &[Delivery], list: &mut [CDelivery])
     requires { length given.now ≤ length list.old }
-    ensures { take (length given.now) list.new ≡ map c_delivery given.now }
+    ensures written { take (length given.now) list.new ≡ map c_delivery given.now }
+    ensures others { drop (length given.now) list.new ≡ drop (length given.now) list.old }
 {
     for i in 0..given.len() {
         list[i] = delivery_of(&given[i]);
     }
 }
 
+#[tactic(auto, using(crate::proofs::Many::others_more))]
 fn copy_flows(given: &[FlowStatus], list: &mut [CFlow])
     requires { length given.now ≤ length list.old }
-    ensures { take (length given.now) list.new ≡ map c_flow given.now }
+    ensures written { take (length given.now) list.new ≡ map c_flow given.now }
+    ensures others { drop (length given.now) list.new ≡ drop (length given.now) list.old }
 {
     for i in 0..given.len() {
         list[i] = flow_of(&given[i]);
@@ -72,6 +76,7 @@ pub(crate) fn put_deliveries(reply: &Reply, list: &mut [CDelivery], count: &mut 
     ensures no_list { result ≢ 0 → list.new ≡ list.old }
     ensures count { count.new ≡ collect_count count.old reply.now }
     ensures list { items_in reply.now ≤ length list.old → take (length (deliveries_of reply.now)) list.new ≡ deliveries_of reply.now }
+    ensures others { result ≡ 0 → drop count.new list.new ≡ drop count.new list.old }
 {
     match reply {
         Reply::Delivered { at: _, list: given } => {
@@ -93,6 +98,7 @@ pub(crate) fn put_flows(reply: &Reply, list: &mut [CFlow], count: &mut u64) -> u
     ensures no_list { result ≢ 0 → list.new ≡ list.old }
     ensures count { count.new ≡ show_count count.old reply.now }
     ensures list { items_in reply.now ≤ length list.old → take (length (flows_of reply.now)) list.new ≡ flows_of reply.now }
+    ensures others { result ≡ 0 → drop count.new list.new ≡ drop count.new list.old }
 {
     match reply {
         Reply::Status { list: given } => {

@@ -2,14 +2,14 @@ ghost use Rattle.std.specs.Prelude.{◌≡◌, ◌≢◌, ◌≤◌, ℕ, List, 
 ghost use Rattle.std.specs.Option.{MatchOption};
 ghost use Rattle.std_alloc.specs.Box.Ownership.{box_owns};
 ghost use Rattle.dn_types.specs.declared.call.Call.{Call as CallValue};
-ghost use Rattle.dn_types.specs.declared.call.Call.TheVariants.{Advance};
+ghost use Rattle.dn_types.specs.declared.call.Call.TheVariants.{Advance, Collect, Show};
 ghost use Rattle.dn_types.specs.declared.rule.Rule.{Rule as RuleValue};
 ghost use Rattle.dn_shaper.specs.Shaper.{items_in};
 ghost use Rattle.dn_types.specs.Replies.{reply};
 ghost use Rattle.dn_shaper.specs.contracts.shaper.Shaper.{the_row};
 ghost use Rattle.dn_shaper.specs.declared.state.State.{State};
 ghost use Rattle.hingetulip_c.specs.Handles.{freed, owned_by, HeldAfter, StillHeld, AnswersHeld, CanLackMemory};
-ghost use Rattle.hingetulip_c.specs.Lists.{room_after};
+ghost use Rattle.hingetulip_c.specs.Lists.{held_after, flows_after};
 ghost use base.Stored.{coded_list};
 
 use crate::raw_box::RawBox;
@@ -111,16 +111,30 @@ impl Handle {
         }
     }
 
-    /// How many items the list of the next reply can have, and None where the handle is closed.
-    pub(crate) fn room(&mut self, alloc: Global) -> Option<usize>
+    /// How many packets the reply to a Collect can have, and None where the handle is closed.
+    pub(crate) fn room_for_deliveries(&mut self, alloc: Global) -> Option<usize>
         ensures same { self.new.held ≡ self.old.held }
-        ensures room { IfSome result (λ room. (rule : RuleValue) (calls : List CallValue) → HeldAfter rule self.old.held calls → room ≡ room_after rule calls) }
-        ensures fits { IfSome result (λ room. (rule : RuleValue) (calls : List CallValue) → HeldAfter rule self.old.held calls → (c : CallValue) → items_in (reply rule calls c) ≤ room) }
+        ensures room { IfSome result (λ room. (rule : RuleValue) (calls : List CallValue) → HeldAfter rule self.old.held calls → room ≡ held_after rule calls) }
+        ensures fits { IfSome result (λ room. (rule : RuleValue) (calls : List CallValue) → HeldAfter rule self.old.held calls → (moment : ℕ) → items_in (reply rule calls (Collect moment)) ≤ room) }
         ensures closed { IfNone result (self.old.held ≡ []) }
         ensures there { IfSome result (λ room. self.old.held ≢ []) }
     {
         let shaper = self.take(alloc)?;
-        let room = shaper.reply_room();
+        let room = shaper.held();
+        let _none = self.put(alloc, shaper);
+        Some(room)
+    }
+
+    /// How many flows the reply to a Show can have, and None where the handle is closed.
+    pub(crate) fn room_for_flows(&mut self, alloc: Global) -> Option<usize>
+        ensures same { self.new.held ≡ self.old.held }
+        ensures room { IfSome result (λ room. (rule : RuleValue) (calls : List CallValue) → HeldAfter rule self.old.held calls → room ≡ flows_after calls) }
+        ensures fits { IfSome result (λ room. (rule : RuleValue) (calls : List CallValue) → HeldAfter rule self.old.held calls → items_in (reply rule calls Show) ≤ room) }
+        ensures closed { IfNone result (self.old.held ≡ []) }
+        ensures there { IfSome result (λ room. self.old.held ≢ []) }
+    {
+        let shaper = self.take(alloc)?;
+        let room = shaper.flows();
         let _none = self.put(alloc, shaper);
         Some(room)
     }

@@ -9,16 +9,18 @@ use std::io::Print;
 use std::process::Abort;
 use std::test::Fail;
 
-// After each step the next reply has the room that stands beside it.
+// After each step so many packets are held, and there are so many flows.
 fn check_rooms(
     rt: &(impl Abort + Print),
     alloc: Global,
     shaper: &mut Shaper,
-    steps: &[(Step<'_>, usize)],
+    steps: &[(Step<'_>, usize, usize)],
 ) -> Result<(), Fail> {
-    for (place, (step, room)) in steps.iter().enumerate() {
+    for (place, (step, held, flows)) in steps.iter().enumerate() {
         answers_step(rt, alloc, shaper, place, step)?;
-        assert!(rt; shaper.reply_room() == *room);
+        assert!(rt; shaper.held() == *held);
+        assert!(rt; shaper.flows() == *flows);
+        assert!(rt; shaper.reply_room() == (*held).max(*flows));
     }
     Ok(())
 }
@@ -32,12 +34,12 @@ fn room_for_what_is_held_and_for_each_flow(rt: HostRuntime) -> Result<(), Fail> 
         delivery(2, 0, 2_000_000, 3_000_000),
     ];
     let steps = [
-        (config("pipe 1 config bw 8Mbit/s"), 0),
-        (to_pipe(1, 0, queued(0, 0, 0)), 1),
-        (to_pipe(1, 0, queued(0, 0, 1)), 2),
-        (to_pipe(1, 0, queued(0, 0, 2)), 3),
-        (collect(1_000_000, &first), 2),
-        (collect(3_000_000, &rest), 1),
+        (config("pipe 1 config bw 8Mbit/s"), 0, 0),
+        (to_pipe(1, 0, queued(0, 0, 0)), 1, 1),
+        (to_pipe(1, 0, queued(0, 0, 1)), 2, 1),
+        (to_pipe(1, 0, queued(0, 0, 2)), 3, 1),
+        (collect(1_000_000, &first), 2, 1),
+        (collect(3_000_000, &rest), 0, 1),
     ];
     let mut shaper = Shaper::new(rt.alloc());
     assert!(rt; shaper.reply_room() == 0);

@@ -117,23 +117,24 @@ static void moments_and_rules_out_of_range(struct dn_handle *handle) {
     HOLDS(handle->at == before.at && handle->open);
 }
 
-/* Two packets on their way, with room for one. */
+/* Two packets of one flow, with room for one. */
 static void lists_that_are_too_short(struct dn_handle *handle) {
     struct dn_fault fault;
     struct dn_delivery list[3];
-    struct dn_flow flow;
+    struct dn_flow flows[2];
     struct dn_packet two[2] = {good(0), good(0)};
     struct dn_fate fates[2];
     uint64_t count;
     memset(list, 77, sizeof list);
-    memset(&flow, 77, sizeof flow);
+    memset(flows, 77, sizeof flows);
     memset(fates, 77, sizeof fates);
     HOLDS(configured(handle, "pipe 1 config bw 8Mbit/s", &fault) == DN_OK);
     HOLDS(dn_submit_many(handle, two, 2, fates, 1, &count) == DN_ROOM && count == 0 && untouched(fates, sizeof fates));
     HOLDS(dn_submit_many(handle, two, 0, fates, 0, &count) == DN_OK && count == 0 && untouched(fates, sizeof fates));
     HOLDS(dn_submit_many(handle, two, 2, fates, 2, &count) == DN_OK && count == 2 && fates[1].packet == 1);
     HOLDS(dn_collect(handle, 2000000, list, 1, &count) == DN_ROOM && count == 2 && untouched(list, sizeof list));
-    HOLDS(dn_show(handle, &flow, 0, &count) == DN_ROOM && count >= 1 && untouched(&flow, sizeof flow));
+    HOLDS(dn_show(handle, flows, 0, &count) == DN_ROOM && count == 1 && untouched(flows, sizeof flows));
+    HOLDS(dn_show(handle, flows, 1, &count) == DN_OK && count == 1 && flows[0].started == 1 && untouched(flows + 1, sizeof *flows));
     HOLDS(dn_collect(handle, 2000000, list, 2, &count) == DN_OK && count == 2 && list[0].due == 1000000 && list[1].due == 2000000);
     HOLDS(untouched(list + 2, sizeof *list));
 }

@@ -1,4 +1,4 @@
-ghost use Rattle.std.specs.Prelude.{◌≡◌, ◌<◌, ◌≤◌, ◌⊎◌, cond, nat_eq, []};
+ghost use Rattle.std.specs.Prelude.{◌≡◌, ◌≢◌, ◌<◌, ◌≤◌, ◌⊎◌, cond, nat_eq, []};
 ghost use Rattle.dn_types.specs.declared.rule.Rule.TheVariants.{Ordered, Free};
 ghost use Rattle.hingetulip_c.specs.Handles.{HeldAfter};
 
@@ -24,7 +24,7 @@ fn open(alloc: Global, handle: &mut Handle, rule: u32, key: HashKey) -> u32
     ensures memory { result ≡ 6 → handle.new.held ≡ [] }
     ensures bad_rule { result ≡ 10 → (1 < rule) × (handle.new.held ≡ handle.old.held) }
     ensures statuses { (result ≡ 0) ⊎ (result ≡ 6) ⊎ (result ≡ 10) }
-    ensures known { result ≡ 0 → rule ≤ 1 }
+    ensures known { result ≢ 10 → rule ≤ 1 }
 {
     let rule = match rule {
         0 => Rule::Ordered,
@@ -48,7 +48,7 @@ pub extern "C" fn dn_open(alloc: Global, handle: &mut Handle, rule: u32) -> u32
     ensures memory { result ≡ 6 → handle.new.held ≡ [] }
     ensures bad_rule { result ≡ 10 → (1 < rule) × (handle.new.held ≡ handle.old.held) }
     ensures statuses { (result ≡ 0) ⊎ (result ≡ 6) ⊎ (result ≡ 10) }
-    ensures known { result ≡ 0 → rule ≤ 1 }
+    ensures known { result ≢ 10 → rule ≤ 1 }
 {
     open(alloc, handle, rule, HashKey(0))
 }
@@ -67,7 +67,7 @@ pub extern "C" fn dn_open_with_key(
     ensures memory { result ≡ 6 → handle.new.held ≡ [] }
     ensures bad_rule { result ≡ 10 → (1 < rule) × (handle.new.held ≡ handle.old.held) }
     ensures statuses { (result ≡ 0) ⊎ (result ≡ 6) ⊎ (result ≡ 10) }
-    ensures known { result ≡ 0 → rule ≤ 1 }
+    ensures known { result ≢ 10 → rule ≤ 1 }
 {
     let key = HashKey(u128::from(high) << 64 | u128::from(low));
     open(alloc, handle, rule, key)

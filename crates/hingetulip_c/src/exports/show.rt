@@ -1,10 +1,10 @@
-ghost use Rattle.std.specs.Prelude.{◌≡◌, ◌≢◌, ◌<◌, ◌⊎◌, List, [], ◌∷◌, true, false, length, take};
+ghost use Rattle.std.specs.Prelude.{◌≡◌, ◌≢◌, ◌<◌, ◌⊎◌, List, [], ◌∷◌, true, false, length, take, drop};
 ghost use Rattle.dn_types.specs.Replies.{reply};
 ghost use Rattle.dn_types.specs.declared.call.Call.{Call as CallValue};
 ghost use Rattle.dn_types.specs.declared.call.Call.TheVariants.{Show as ShowCall};
 ghost use Rattle.dn_types.specs.declared.rule.Rule.{Rule as RuleValue};
 ghost use Rattle.hingetulip_c.specs.Handles.{HeldAfter, StillHeld, CanLackMemory};
-ghost use Rattle.hingetulip_c.specs.Lists.{flows_of, room_after};
+ghost use Rattle.hingetulip_c.specs.Lists.{flows_after, flows_of};
 ghost use Rattle.hingetulip_c.specs.Statuses.{answered, show_status, show_count};
 
 use crate::copy::put_flows;
@@ -27,13 +27,14 @@ pub extern "C" fn dn_show(
     ensures no_list { result ≢ 0 → list.new ≡ list.old }
     ensures no_count { answered result ≡ false → result ≢ 7 → count.new ≡ count.old }
     ensures why { answered result ≡ false → ((result ≡ 5) × (handle.old.held ≡ [])) ⊎ ((result ≡ 6) × (handle.old.held ≢ []) × ((rule : RuleValue) (calls : List CallValue) → HeldAfter rule handle.old.held calls → CanLackMemory calls ShowCall)) ⊎ ((result ≡ 7) × (handle.old.held ≢ [])) }
-    ensures room { result ≡ 7 → (rule : RuleValue) (calls : List CallValue) → HeldAfter rule handle.old.held calls → (count.new ≡ room_after rule calls) × (length list.old < room_after rule calls) }
+    ensures room { result ≡ 7 → (rule : RuleValue) (calls : List CallValue) → HeldAfter rule handle.old.held calls → (count.new ≡ flows_after calls) × (length list.old < flows_after calls) }
     ensures status { answered result ≡ true → (rule : RuleValue) (calls : List CallValue) → HeldAfter rule handle.old.held calls → result ≡ show_status (reply rule calls ShowCall) }
     ensures count { answered result ≡ true → (rule : RuleValue) (calls : List CallValue) → HeldAfter rule handle.old.held calls → count.new ≡ show_count count.old (reply rule calls ShowCall) }
     ensures list { answered result ≡ true → (rule : RuleValue) (calls : List CallValue) → HeldAfter rule handle.old.held calls → take (length (flows_of (reply rule calls ShowCall))) list.new ≡ flows_of (reply rule calls ShowCall) }
+    ensures others { result ≡ 0 → drop count.new list.new ≡ drop count.new list.old }
     ensures stands { answered result ≡ true → (rule : RuleValue) (calls : List CallValue) → HeldAfter rule handle.old.held calls → HeldAfter rule handle.new.held (ShowCall ∷ calls) }
 {
-    let Some(room) = handle.room(alloc) else {
+    let Some(room) = handle.room_for_flows(alloc) else {
         return CLOSED;
     };
     if list.len() < room {

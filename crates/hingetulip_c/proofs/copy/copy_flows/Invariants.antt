@@ -1,7 +1,10 @@
--- What was written so far.
-use Rattle.std.proofs.Common.{◌≡◌, take, map}
+-- What was written so far, and what stands behind it.
+use Rattle.std.proofs.Common.{◌≡◌, take, drop, map}
 use Rattle.hingetulip_c.specs.Lists.{c_flow}
 use Rattle.hingetulip_c.proofs.copy.copy_flows.Given as goal
 
 abbrev pub invariant-loop-i : goal.invariant-loop-i
-invariant-loop-i l = take l.i l.list ≡ map c_flow (take l.i l.given)
+invariant-loop-i l = record {
+  written : take l.i l.list ≡ map c_flow (take l.i l.given);
+  others : drop l.i l.list ≡ drop l.i l.fn.list;
+}

@@ -9,7 +9,7 @@ use Rattle.hingetulip_c.specs.Many.{sent}
 use Rattle.hingetulip_c.specs.Submits.{Faulty, InRange, submit_of}
 use Rattle.hingetulip_c.specs.declared.records.c_fate.CFate.{CFate}
 use Rattle.hingetulip_c.specs.declared.records.c_packet.CPacket.{CPacket}
-use Rattle.hingetulip_c.proofs.Many.{sent-more, told-more, others-more, unanswered, is_answered, is_answered_last, answered_once, untold}
+use Rattle.hingetulip_c.proofs.Many.{sent-more, told-more, others_more, unanswered, is_answered, is_answered_last, answered_once, untold}
 use Rattle.hingetulip_c.proofs.exports.submit_many.dn_submit_many.Goals as goal
 
 -- What stands for a packet or a fate beyond the end of a list.
@@ -61,7 +61,7 @@ loop-i-preserved c =
           (c.dn_submit-status.ensures.status ok rule before now) (c.dn_submit-status.ensures.fate ok rule before now) (inv.told rule calls held);
       closed = λ shut. answered_once c.dn_submit-status.result ok (c.dn_submit-status.ensures.closed (inv.closed shut).0).0;
       opened = λ shut. inv.opened (c.dn_submit-status.ensures.stays_open shut);
-      others = others-more c.args.fates.now c.loop-i.fates i c.dn_submit-status.new.fate inv.others;
+      others = others_more c.args.fates.now c.loop-i.fates i c.dn_submit-status.new.fate inv.others;
       long = length-set c.loop-i.fates i c.dn_submit-status.new.fate ∙ inv.long;
     }
 
