@@ -1,32 +1,50 @@
 #!/usr/bin/env python3
-"""Tells how many lines of definitions a reader has to believe for each headline: those that its clauses reach through
-the crates' specs/. Comments, imports and blank lines don't count, and neither do the toolchain's own words.
+"""Tells how much of definitions a reader has to believe for each headline: those that its clauses reach through the crates'
+specs/, by lines and by characters. Comments, imports and blank lines don't count, and neither do the toolchain's own words.
 
     python3 tools/lines_to_believe.py          (in the top folder; prints a table in Markdown)
 """
 
-import pathlib
+from __future__ import annotations
+
 import re
 import sys
+from pathlib import Path
+from typing import Dict, Iterable, Iterator, NamedTuple, Tuple
 
 NAME = r"([A-Za-z_][\w'\-]*)"
 DEFINITION = re.compile(r"^(?:(?:abbrev|unfoldable|record|data)\s+(?:pub\s+)?|pub\s+(?:record|data|abbrev)\s+(?:pub\s+)?|pub\s+)" + NAME)
 IMPORT = re.compile(r"use\s+Rattle\.(\w+)\.specs\.([\w.]+?)\.\{([^}]*)\}", re.S)
 WORD = re.compile(r"[A-Za-z_][\w'\-]*")
+SKIPPED = re.compile(r"\s*(--|use |pub use |pub mod |mod |module |$)")
+# A method stands in the file of its type or trait, and a function anywhere in its crate.
 HEADLINES = [
-    ("`Service::close`", "dn_service", "close"),
-    ("`Caller::call`", "dn_service", "call"),
-    ("`Shaper::apply`", "dn_shaper", "apply"),
-    ("`replay`", "dn_replay", "replay"),
-    ("`replay_callers`", "dn_replay", "replay_callers"),
-    ("`audit`", "dn_audit", "audit"),
-    ("`audit_file`", "dn_audit", "audit_file"),
-    ("`parse_line`", "dn_config", "parse_line"),
+    ("Service::close", "dn_service"),
+    ("Caller::call", "dn_service"),
+    ("Emulator::apply", "dn_shaper"),
+    ("replay", "dn_replay"),
+    ("replay_callers", "dn_replay"),
+    ("live", "dn_live"),
+    ("audit", "dn_audit"),
+    ("audit_file", "dn_audit"),
+    ("parse_line", "dn_config"),
 ]
+Key = Tuple[str, str, str]  # the crate of a definition, its module and its name
+Imports = Dict[str, Key]
 
 
-def imports_of(text):
-    """The names that a text imports: name → (crate, module, the name there)."""
+class Definition(NamedTuple):
+    """The lines of a definition without comments, and what its file imports."""
+
+    lines: list[str]
+    imports: Imports
+
+
+Definitions = Dict[Key, Definition]
+
+
+def imports_of(text: str) -> Imports:
+    """The names that a text imports, each with the definition that it is of."""
     found = {}
     for crate, module, names in IMPORT.findall(text):
         for item in names.split(","):
@@ -36,64 +54,81 @@ def imports_of(text):
     return found
 
 
-def read_specs(top):
-    """Each definition with its lines and the words in them: (crate, module, name) → [count, words, imports]."""
-    definitions = {}
-    for path in sorted(top.glob("crates/*/specs/**/*.antt")):
-        crate = path.parts[path.parts.index("specs") - 1]
-        module = ".".join(path.relative_to(top / "crates" / crate / "specs").with_suffix("").parts)
-        text = path.read_text()
-        imports, current = imports_of(text), None
-        for line in text.splitlines():
-            if not line.strip() or re.match(r"\s*(--|use |pub use |pub mod |mod |module )", line):
-                continue
-            head = DEFINITION.match(line)
-            if head and head.group(1) not in ("use", "mod"):
-                current = (crate, module, head.group(1))
-                definitions.setdefault(current, [0, set(), imports])
-            if current:
-                definitions[current][0] += 1
-                definitions[current][1] |= set(WORD.findall(line))
-    return definitions
-
-
-def clauses_of(top, crate, function):
-    """The words of a function's clauses, and what its file imports."""
-    words, imports = set(), {}
-    for path in sorted((top / "crates" / crate / "src").glob("**/*.rt")):
-        text = path.read_text()
-        # The clauses stand between the signature and the line of the body's brace.
-        for match in re.finditer(r"pub fn " + function + r"\b.*?\n(\s*(?:requires|ensures)\b.*?)\n\s*\{\n", text, re.S):
-            words |= set(WORD.findall(match.group(1)))
-            imports |= imports_of(text)
-    return words, imports
-
-
-def reached(definitions, words, imports):
-    """The definitions that the words reach."""
-    found, open_words = set(), [imports[word] for word in words if word in imports]
-    while open_words:
-        key = open_words.pop()
-        if key in found or key not in definitions:
+def definitions_in(path: Path, crate: str, module: str) -> Definitions:
+    """The definitions of a file of specs/."""
+    text, found, current = path.read_text(), {}, None
+    imports = imports_of(text)
+    for line in text.splitlines():
+        if SKIPPED.match(line):
             continue
-        found.add(key)
-        _, inner, names = definitions[key]
-        for word in inner:
-            open_words.append(names.get(word, (key[0], key[1], word)))
+        head = DEFINITION.match(line)
+        if head:
+            current = found.setdefault((crate, module, head.group(1)), Definition([], imports))
+        if current:
+            current.lines.append(line.strip())
     return found
 
 
-def main():
-    top = pathlib.Path(sys.argv[1] if len(sys.argv) > 1 else ".")
-    definitions = read_specs(top)
-    print("| Headline | Definitions | Lines |\n|---|---|---|")
-    every = set()
-    for title, crate, function in HEADLINES:
-        found = reached(definitions, *clauses_of(top, crate, function))
+def read_specs(top: Path) -> Definitions:
+    found = {}
+    for path in sorted(top.glob("crates/*/specs/**/*.antt")):
+        place = path.relative_to(top / "crates").with_suffix("").parts
+        found.update(definitions_in(path, place[0], ".".join(place[2:])))
+    return found
+
+
+def file_of(top: Path, crate: str, title: str) -> tuple[str, str]:
+    """The text of the file in which a headline's function stands, and the function's name."""
+    kind, _, name = title.rpartition("::")
+    for path in sorted((top / "crates" / crate / "src").glob(f"**/{kind.lower() or '*'}.rt")):
+        text = path.read_text()
+        if re.search(rf"\bfn {name}\b", text):
+            return text, name
+    raise ValueError(f"no `{title}` in {crate}")
+
+
+def clause_lines(text: str, name: str) -> Iterator[str]:
+    """The lines of a function's clauses: behind its signature, up to the brace of its body or the semicolon of a trait's method."""
+    inside = False
+    for line in text[re.search(rf"\bfn {name}\b", text).start():].splitlines():
+        inside = inside or line.strip().startswith(("requires", "ensures"))
+        if line.strip() == "{":
+            return
+        if inside:
+            yield line.partition("//")[0]
+            if line.endswith(";"):
+                return
+
+
+def reached(definitions: Definitions, words: Iterable[str], imports: Imports) -> set[Key]:
+    """The definitions that the words reach."""
+    found, left = set(), [imports[word] for word in words if word in imports]
+    while left:
+        key = left.pop()
+        if key in found or key not in definitions:
+            continue
+        found.add(key)
+        inner = definitions[key]
+        left += [inner.imports.get(word, (*key[:2], word)) for line in inner.lines for word in WORD.findall(line)]
+    return found
+
+
+def row(name: str, definitions: Definitions, found: set[Key]) -> str:
+    lines = [line for key in found for line in definitions[key].lines]
+    return f"| {name} | {len(found)} | {len(lines)} | {sum(map(len, lines)):,} |"
+
+
+def main(top: Path) -> None:
+    definitions, every = read_specs(top), set()
+    print("| Promise | Definitions | Lines | Characters |\n|---|---|---|---|")
+    for title, crate in HEADLINES:
+        text, name = file_of(top, crate, title)
+        words = [word for line in clause_lines(text, name) for word in WORD.findall(line)]
+        found = reached(definitions, words, imports_of(text))
         every |= found
-        print(f"| {title} of `{crate}` | {len(found)} | {sum(definitions[key][0] for key in found)} |")
-    print(f"| all of these | {len(every)} | {sum(definitions[key][0] for key in every)} |")
+        print(row(f"`{title}` of {crate}", definitions, found))
+    print(row("all of these", definitions, every))
 
 
 if __name__ == "__main__":
-    main()
+    main(Path(sys.argv[1] if len(sys.argv) > 1 else "."))

@@ -2,6 +2,7 @@
 #![tactic(auto)]
 
 mod calls;
+mod emulator;
 mod links;
 mod room;
 mod runs;
@@ -10,5 +11,6 @@ mod shaper;
 mod state;
 
 pub use dn_flows::HashKey;
+pub use emulator::Emulator;
 pub use runs::run;
 pub use shaper::Shaper;

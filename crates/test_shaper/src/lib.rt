@@ -8,6 +8,8 @@ mod deletes;
 #[cfg(test)]
 mod destination;
 #[cfg(test)]
+mod emulator;
+#[cfg(test)]
 mod example;
 #[cfg(test)]
 mod flow;
