@@ -1,3 +1,4 @@
 pub mod AuditSteps
 pub mod FileAuditSteps
+pub mod Found
 pub mod SameReplies

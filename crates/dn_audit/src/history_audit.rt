@@ -1,5 +1,7 @@
-ghost use Rattle.std.specs.Prelude.{IfOk, OnErr};
+ghost use Rattle.std.specs.Prelude.{◌≡◌, IfOk, OnErr};
+ghost use Rattle.dn_types.specs.History.{IsLawful};
 ghost use Rattle.dn_audit.specs.Audit.{CanWantMemory, IsVerdict};
+ghost use Rattle.dn_audit.specs.declared.verdict.Verdict.TheVariants.{Lawful};
 
 use crate::running_audit::RunningAudit;
 use crate::verdict::Verdict;
@@ -17,6 +19,7 @@ pub fn audit(
     entries: &[Entry],
 ) -> Result<Verdict, AllocError>
     ensures ok { IfOk result (λ verdict. IsVerdict rule entries.now verdict) }
+    ensures lawful { IfOk result (λ verdict. IsLawful rule entries.now → verdict ≡ Lawful) }
     ensures err { OnErr result (CanWantMemory rule entries.now) }
 {
     let mut audit = RunningAudit::new(alloc, key, rule);
