@@ -1,13 +1,16 @@
-"""Compares release/ with the program that was built, byte for byte, and the sources of both with the present ones.
+"""Compares release/ with the program and the C library that were built, byte for byte, and the sources of both with the present ones.
 
     python3 tools/gate/release.py PROGRAM
 
 The release is judged where it was made by the kit that is here; by another kit its bytes may be others. A release of other
-sources fails, since ./dummynet wouldn't run it: `tools/release` makes it anew.
+sources fails, since ./dummynet wouldn't run it: `tools/release` makes it anew. `rt ci` builds no library. So the library is built
+here once for its sources, where this clone keeps what was proved of the crates below it: without that it takes a quarter of an
+hour, and the library's bytes aren't compared.
 """
 
 from __future__ import annotations
 
+import re
 import subprocess
 import sys
 from hashlib import sha256
@@ -16,8 +19,45 @@ from pathlib import Path
 from tally import Tally
 
 TOP = Path(__file__).resolve().parent.parent.parent
+sys.path.append(str(TOP / "tools"))
+
+from link_library import SHARED, STATIC  # noqa: E402
+
 RELEASE = TOP / "release"
-LIBRARY = ["libhingetulip.a", "libhingetulip.so.1"]
+LIBRARY = "hingetulip_c"
+COMPILER = re.compile(rb"GCC: \([^)]*\) [\d.]+")
+
+
+def said(*words: str | Path) -> str:
+    return subprocess.run(words, stdout=subprocess.PIPE, text=True, check=True).stdout
+
+
+def are_kept(crates: list[str]) -> bool:
+    """Whether rt keeps a built library of each of these crates."""
+    return all((TOP / "crates" / crate / "out" / "rlib" / "stamp").is_file() for crate in crates)
+
+
+def built_library(sum: str) -> Path | None:
+    """The folder with the library that was built here from the sources of this checksum, and None where it wasn't."""
+    folder = TOP / "built" / sum
+    crates = said(TOP / "tools" / "program_sources", "--crates", LIBRARY).split()
+    if not (folder / STATIC).is_file() and are_kept(crates[:-1]):
+        subprocess.run([TOP / "build", "--lib"], check=True)
+    return folder if (folder / STATIC).is_file() else None
+
+
+def compare_library(tally: Tally, sum: str, anew: str) -> None:
+    """The shared library is linked by the system's compiler, so its bytes are compared where that is the one of the release."""
+    folder = built_library(sum)
+    if folder is None:
+        print("the C library wasn't built here, so its bytes aren't compared; ./build --lib builds it")
+        return
+    for name in (STATIC, SHARED):
+        built, released = (folder / name).read_bytes(), (RELEASE / name).read_bytes()
+        if name == SHARED and set(COMPILER.findall(built)) != set(COMPILER.findall(released)):
+            print(f"{name} was linked by another compiler, so its bytes aren't compared")
+        else:
+            tally.note(f"bytes of {name}", "" if built == released else f"the release isn't what was built here; {anew}")
 
 
 def main(program: str) -> int:
@@ -25,22 +65,25 @@ def main(program: str) -> int:
     if not (RELEASE / "dummynet").is_file():
         tally.note("release", "there is none; tools/release makes it from what ./check or ./build has built")
         return tally.end()
-    sources = subprocess.run([TOP / "tools" / "program_sources"], capture_output=True, text=True, check=True).stdout
+    sources = said(TOP / "tools" / "program_sources")
     released = (RELEASE / "dummynet").read_bytes()
-    names = ["dummynet", *(name for name in LIBRARY if (RELEASE / name).is_file())]
+    names = ["dummynet", *(name for name in (STATIC, SHARED) if (RELEASE / name).is_file())]
     anew = "tools/release makes it anew from what ./check or ./build has built"
     tally.note("sources", "" if (RELEASE / "sources").read_text() == sources else f"the release was built from other sources; {anew}")
     sums = "".join(f"{sha256((RELEASE / name).read_bytes()).hexdigest()}  {name}\n" for name in names)
     tally.equal("checksums", sums, (RELEASE / "SHA256SUMS").read_text())
-    library = subprocess.run([TOP / "tools" / "program_sources", "hingetulip_c"], capture_output=True, text=True, check=True).stdout
-    tally.note("sources of the library", "" if (RELEASE / "library-sources").read_text() == library else f"the released library was built from other sources; {anew}, with ./build --lib before it")
-    kit = subprocess.run(["rt", "version"], capture_output=True, text=True, check=True).stdout.split()[0]
+    library = said(TOP / "tools" / "program_sources", LIBRARY)
+    is_same = (RELEASE / "library-sources").read_text() == library
+    tally.note("sources of the library", "" if is_same else f"the released library was built from other sources; {anew}, with ./build --lib before it")
+    kit = said("rt", "version").split()[0]
     if f"built by {kit}." not in (RELEASE / "README.md").read_text().replace("\n", " "):
         print(f"the release was built by another kit than {kit}, so its bytes aren't compared")
-    else:
-        version = subprocess.run([program, "--version"], capture_output=True, text=True).stdout
-        tally.note("version", "" if kit in version else f"{version.strip()} doesn't name {kit}: crates/dummynet/src/command.rt")
-        tally.note("bytes", "" if released == Path(program).read_bytes() else f"the release isn't what was built here; {anew}")
+        return tally.end()
+    version = subprocess.run([program, "--version"], capture_output=True, text=True).stdout
+    tally.note("version", "" if kit in version else f"{version.strip()} doesn't name {kit}: crates/dummynet/src/command.rt")
+    tally.note("bytes", "" if released == Path(program).read_bytes() else f"the release isn't what was built here; {anew}")
+    if is_same:
+        compare_library(tally, library.strip(), f"{anew}, with ./build --lib before it")
     return tally.end()
 
 
