@@ -22,19 +22,9 @@ groups_skip zero at ws = rw add-zero refl
 groups_skip (suc k) at [] = refl
 groups_skip (suc k) at (w ∷ ws) = groups_skip k (at + 1) ws ∙ ap (λ n. groups_after 0 n (drop k ws)) (omega arith)
 
-more_filled : (o : Options) (s : Setting) (ss : List Setting) → filled o (s ∷ ss) ≡ filled (set_option o s) ss
-more_filled o (set.Bandwidth n) ss = refl
-more_filled o (set.Delay n) ss = refl
-more_filled o (set.Limit n) ss = refl
-more_filled o (set.Loss n) ss = refl
-more_filled o (set.Buckets n) ss = refl
-more_filled o (set.Weight n) ss = refl
-more_filled o (set.Pipe n) ss = refl
-more_filled o (set.Mask n) ss = refl
-
 one_more : (o : Options) (r : Result (List Setting) LineFault) (s : Setting)
     → ◌>>=◌ {B = Options} (◌>>=◌ {B = List Setting} r (λ ss. Ok (s ∷ ss))) (λ ss. Ok (filled o ss)) ≡ ◌>>=◌ {B = Options} r (λ ss. Ok (filled (set_option o s) ss))
-one_more o (Ok ss) s = ap Ok (more_filled o s ss)
+one_more o (Ok ss) s = refl
 one_more o (Err x) s = refl
 
 settings_behind : (k : Kind) (o : Options) (r : Result Setting LineFault) (n at : ℕ) (ws : List (List ℕ))
