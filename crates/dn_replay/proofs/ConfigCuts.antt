@@ -7,7 +7,7 @@ use Rattle.std.proofs.lemmas.List.Elements.{All-head, All-tail}
 use Rattle.std.proofs.lemmas.Slice.Eq.{bytes_eq-Decides}
 use Rattle.dn_text.specs.Joined.{after_end, after_mark, joined_parts, parts_from}
 use Rattle.dn_replay.specs.OnePass.{behind, is_mark, IsConfigSoFar, IsLine}
-use Rattle.dn_replay.specs.declared.one_pass.config_part.ConfigPart.{ConfigPart}
+use Rattle.dn_replay.specs.declared.config.config_part.ConfigPart.{ConfigPart}
 
 head : (byte : ℕ) (line : List ℕ) → IsLine (byte ∷ line) → (byte == 10) ≡ false
 head byte line is = All-head (λ (b : ℕ). (b == 10) ≡ false) byte line is

@@ -10,7 +10,7 @@ use Rattle.dn_files.specs.declared.replay_fault.ReplayFault.TheVariants.{BadRow,
 use Rattle.dn_files.specs.declared.source.Source.{Source}
 use Rattle.dn_files.specs.declared.source.Source.TheVariants.{Packets}
 use Rattle.dn_files.proofs.Inputs.{carried, short}
-use Rattle.dn_replay.specs.declared.one_pass.input.Input.{Input as TheInput}
+use Rattle.dn_replay.specs.declared.replays.input.Input.{Input as TheInput}
 use Rattle.dn_replay.specs.Configuring.{configured_by}
 use Rattle.dn_replay.specs.OnePass.{calls_with, HasTaken, IsAnswered, IsCutAt, IsUnbegun}
 use Rattle.dn_replay.specs.InParts.{calls_asked, source_of}

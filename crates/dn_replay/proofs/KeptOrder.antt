@@ -13,8 +13,8 @@ use Rattle.dn_replay.specs.Kept.{accepted_places, delivery_line, fate_line, fate
 use Rattle.dn_replay.specs.Report.{delivery_of_packet, due_of, is_other, is_out, outs_in_order, packet_of, queued_line, row_number, sorted_by}
 use Rattle.dn_replay.specs.declared.report.fate.Fate.{Fate}
 use Rattle.dn_replay.specs.declared.report.fate.Fate.TheVariants.{Accepted, Lost, Full, NoTarget, Unanswered}
-use Rattle.dn_replay.specs.declared.report.report_line.ReportLine.{ReportLine}
-use Rattle.dn_replay.specs.declared.report.report_line.ReportLine.TheVariants as line
+use Rattle.dn_replay.specs.declared.report.line.ReportLine.{ReportLine}
+use Rattle.dn_replay.specs.declared.report.line.ReportLine.TheVariants as line
 use Rattle.dn_replay.proofs.Orders.{AtLeast, Rises, at, in_order-level, in_order-rises, unique}
 
 turned : (a b : ℕ) → nat_eq a b ≡ nat_eq b a

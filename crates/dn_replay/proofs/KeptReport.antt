@@ -25,7 +25,7 @@ use Rattle.dn_replay.specs.Kept.{AreKnown, CanReport, delivery_line, fate_lines,
 use Rattle.dn_replay.specs.Report.{delivered, deliveries, is_other, is_out, line_fields, lines_after, outs_in_order, report, report_header, row_number, sorted_by, submit_lines}
 use Rattle.dn_replay.specs.Runs.{entry_after, history_of}
 use Rattle.dn_replay.specs.declared.report.kept.Kept.{Kept}
-use Rattle.dn_replay.specs.declared.report.report_line.ReportLine.{ReportLine}
+use Rattle.dn_replay.specs.declared.report.line.ReportLine.{ReportLine}
 use Rattle.dn_replay.proofs.Deliveries.{deliveries-append}
 use Rattle.dn_replay.proofs.KeptOrder.{AreGiven, others-by-row, outs-as-given}
 use Rattle.dn_replay.proofs.KeptSteps.{lines-push}

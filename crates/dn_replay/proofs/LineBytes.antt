@@ -5,7 +5,7 @@ use Rattle.csv.specs.Writing.{default_writer, fields_text, is_blank}
 use Rattle.dn_records.proofs.Lines.{decimal_is_plain}
 use Rattle.dn_records.specs.Records.{Fields, line_of}
 use Rattle.dn_replay.specs.Report.{line_fields, report_header}
-use Rattle.dn_replay.specs.declared.report.report_line.ReportLine.TheVariants.{Out, Held, Lost, Full, NoTarget}
+use Rattle.dn_replay.specs.declared.report.line.ReportLine.TheVariants.{Out, Held, Lost, Full, NoTarget}
 
 -- A number, and what stands behind it.
 number-then : (n : ℕ) (fields : Fields) (rest : List ℕ) → n < 2 ^ 64 → fields_text default_writer fields ++ 10 ∷ [] ≡ rest → fields_text default_writer (decimal n ∷ fields) ++ 10 ∷ [] ≡ 44 ∷ (decimal n ++ rest)

@@ -12,7 +12,7 @@ use Rattle.dn_types.specs.declared.entry.Entry.{Entry}
 use Rattle.dn_records.specs.Records.{line_of, text_of}
 use Rattle.dn_replay.specs.Report.{entry_line, sorted_by, is_other, is_out, is_submit, line_fields, lines_after, submit_lines, outs_in_order, report, report_header, row_number, submits_by}
 use Rattle.dn_replay.specs.Tables.{counts_after}
-use Rattle.dn_replay.specs.declared.report.report_line.ReportLine.{ReportLine}
+use Rattle.dn_replay.specs.declared.report.line.ReportLine.{ReportLine}
 use Rattle.dn_records.proofs.TextSteps.{text-append}
 
 same : (a b : ℕ) → nat_eq a b ≡ true → a ≡ b

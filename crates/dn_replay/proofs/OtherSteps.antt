@@ -15,8 +15,8 @@ use Rattle.dn_replay.specs.Kept.{AreMarksOf, accepted_places, fate_line, fate_li
 use Rattle.dn_replay.specs.Report.{delivery_of_packet, is_other, line_fields, queued_line}
 use Rattle.dn_replay.specs.declared.report.fate.Fate.{Fate}
 use Rattle.dn_replay.specs.declared.report.fate.Fate.TheVariants.{Accepted, Lost, Full, NoTarget, Unanswered}
-use Rattle.dn_replay.specs.declared.report.report_line.ReportLine.{ReportLine}
-use Rattle.dn_replay.specs.declared.report.report_line.ReportLine.TheVariants as line
+use Rattle.dn_replay.specs.declared.report.line.ReportLine.{ReportLine}
+use Rattle.dn_replay.specs.declared.report.line.ReportLine.TheVariants as line
 use Rattle.dn_replay.proofs.PartSteps.{one-line}
 
 -- The text of one fate's line, if it isn't an `out` line.

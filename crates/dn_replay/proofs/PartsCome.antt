@@ -7,8 +7,8 @@ use Rattle.dn_files.specs.declared.source.Source.TheVariants.{Input, Packets}
 use Rattle.dn_replay.specs.InParts.{CanGoOn, Coming, HasCome}
 use Rattle.dn_replay.specs.OnePass.{AreFew, calls_with, HasTaken, IsUnbegun}
 use Rattle.dn_replay.specs.Replays.{calls_of_parts, config_calls}
-use Rattle.dn_replay.specs.declared.one_pass.input.Input.{Input as TheInput}
-use Rattle.dn_replay.specs.declared.one_pass.stage.Stage.TheVariants.{Refused}
+use Rattle.dn_replay.specs.declared.replays.input.Input.{Input as TheInput}
+use Rattle.dn_replay.specs.declared.replays.input.Stage.TheVariants.{Refused}
 use Rattle.dn_replay.proofs.FewCalls.{few-asked}
 use Rattle.dn_replay.proofs.InputSteps.{asked_within, from_start, joined_asks, packets_ask}
 

@@ -23,8 +23,8 @@ use Rattle.dn_replay.specs.OnePass.{AreFew, calls_with, HasAnswered, HasEnded, H
 use Rattle.dn_replay.specs.Replays.{IsUnreplayed}
 use Rattle.dn_replay.specs.Report.{delivered, report}
 use Rattle.dn_replay.specs.Runs.{entry_after, HasMade, history_of, replayed, submit, submitted}
-use Rattle.dn_replay.specs.declared.one_caller.run.Run.{Run}
-use Rattle.dn_replay.specs.declared.one_pass.pass.Pass.{Pass}
+use Rattle.dn_replay.specs.declared.config.run.Run.{Run}
+use Rattle.dn_replay.specs.declared.replays.pass.Pass.{Pass}
 use Rattle.dn_replay.specs.declared.report.kept.Kept.{Kept}
 use Rattle.dn_replay.proofs.PassingCalls.{passed-collect, passed-none, passed-submit, same-collect, same-last, same-submit}
 use Rattle.dn_replay.proofs.ReplaySteps.{lawful, unread_text, unreplayed, unreported}

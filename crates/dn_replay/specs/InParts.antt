@@ -8,7 +8,7 @@ use Rattle.dn_files.specs.declared.source.Source.{Source}
 use Rattle.dn_files.specs.declared.source.Source.TheVariants.{Input, Packets}
 use Rattle.dn_replay.specs.OnePass.{HasTaken}
 use Rattle.dn_replay.specs.Replays.{calls_of_inputs, calls_of_joined}
-use Rattle.dn_replay.specs.declared.one_pass.input.Input.{Input as TheInput}
+use Rattle.dn_replay.specs.declared.replays.input.Input.{Input as TheInput}
 
 -- What a text asks for: the packets behind this configuration, or, where there is none, a joined input.
 abbrev pub calls_asked : Option (List ℕ) → List ℕ → Result (List Call) ReplayFault

@@ -15,8 +15,8 @@ use Rattle.dn_replay.specs.Runs.{history_of}
 use Rattle.dn_replay.specs.declared.report.fate.Fate.{Fate}
 use Rattle.dn_replay.specs.declared.report.fate.Fate.TheVariants.{Accepted, Lost, Full, NoTarget, Unanswered}
 use Rattle.dn_replay.specs.declared.report.kept.Kept.{Kept}
-use Rattle.dn_replay.specs.declared.report.report_line.ReportLine.{ReportLine}
-use Rattle.dn_replay.specs.declared.report.report_line.ReportLine.TheVariants as line
+use Rattle.dn_replay.specs.declared.report.line.ReportLine.{ReportLine}
+use Rattle.dn_replay.specs.declared.report.line.ReportLine.TheVariants as line
 
 -- What became of a packet, by the reply to its Submit.
 abbrev pub fate_of : Reply → Fate

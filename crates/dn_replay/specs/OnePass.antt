@@ -22,13 +22,13 @@ use Rattle.dn_replay.specs.Passing.{HasPassed}
 use Rattle.dn_replay.specs.Replays.{calls_of_parts, IsReplayed}
 use Rattle.dn_replay.specs.Report.{report}
 use Rattle.dn_replay.specs.Runs.{HasMade, history_of, replayed, submitted}
-use Rattle.dn_replay.specs.declared.one_caller.run.Run.{Run}
-use Rattle.dn_replay.specs.declared.one_pass.config_part.ConfigPart.{ConfigPart}
-use Rattle.dn_replay.specs.declared.one_pass.input.Input.{Input}
-use Rattle.dn_replay.specs.declared.one_pass.pass.Pass.{Pass}
-use Rattle.dn_replay.specs.declared.one_pass.stage.Stage.{Stage}
+use Rattle.dn_replay.specs.declared.config.run.Run.{Run}
+use Rattle.dn_replay.specs.declared.config.config_part.ConfigPart.{ConfigPart}
+use Rattle.dn_replay.specs.declared.replays.input.Input.{Input}
+use Rattle.dn_replay.specs.declared.replays.pass.Pass.{Pass}
+use Rattle.dn_replay.specs.declared.replays.input.Stage.{Stage}
 use Rattle.dn_replay.specs.declared.report.kept.Kept.{Kept}
-use Rattle.dn_replay.specs.declared.one_pass.stage.Stage.TheVariants.{Config, Packets, Refused}
+use Rattle.dn_replay.specs.declared.replays.input.Stage.TheVariants.{Config, Packets, Refused}
 
 -- There are calls that are asked for, and the report of their history, which is lawful, was written.
 abbrev pub IsReportedFor : (Result (List Call) ReplayFault → Type 0) → Option (List ℕ) → Option (List ℕ) → Type 0

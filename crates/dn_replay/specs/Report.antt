@@ -8,8 +8,8 @@ use Rattle.dn_types.specs.declared.entry.Entry.{Entry}
 use Rattle.dn_types.specs.declared.reply.Reply.{Reply}
 use Rattle.dn_types.specs.declared.reply.Reply.TheVariants.{Queued, Lost, Full, NoTarget, Delivered}
 use Rattle.dn_records.specs.Records.{Fields, text_of}
-use Rattle.dn_replay.specs.declared.report.report_line.ReportLine.{ReportLine}
-use Rattle.dn_replay.specs.declared.report.report_line.ReportLine.TheVariants as line
+use Rattle.dn_replay.specs.declared.report.line.ReportLine.{ReportLine}
+use Rattle.dn_replay.specs.declared.report.line.ReportLine.TheVariants as line
 
 -- What a reply delivers.
 abbrev pub delivered : Reply → List Delivery

@@ -7,7 +7,7 @@ use Rattle.dn_types.specs.declared.entry.Entry.{Entry}
 use Rattle.dn_types.specs.declared.rule.Rule.TheVariants.{Ordered}
 use Rattle.dn_shaper.specs.Shaper.{StandsAfter}
 use Rattle.dn_files.specs.declared.row.Row.{Row}
-use Rattle.dn_replay.specs.declared.one_caller.run.Run.{Run}
+use Rattle.dn_replay.specs.declared.config.run.Run.{Run}
 
 -- The entry of a call by caller 0, after the calls before it.
 abbrev pub entry_after : List Call → Call → Entry

@@ -2,6 +2,7 @@
 
 mod calls;
 mod gate;
+mod inputs;
 mod no_gate;
 mod replay;
 

@@ -2,8 +2,8 @@
 #![tactic(auto)]
 
 mod callers;
-mod one_caller;
-mod one_pass;
+mod config;
+mod replays;
 mod report;
 
 pub use callers::{Gate, NoGate, replay_callers};
@@ -12,5 +12,5 @@ pub use dn_files::{ReplayFault, Row, Source, read_config, read_packets};
 pub use dn_history::{read_history, write_history};
 pub use dn_records::{FromReader, FromWriter, Inlet, Outlet};
 pub use dn_shaper::HashKey;
-pub use one_pass::{FileReplay, replay, replay_joined, replay_joined_report, replay_report};
+pub use replays::{FileReplay, replay, replay_joined, replay_joined_report, replay_report};
 pub use report::write_report;

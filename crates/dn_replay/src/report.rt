@@ -3,11 +3,10 @@
 mod delivered;
 mod fate;
 mod kept;
-mod line_bytes;
+mod line;
 mod line_text;
+mod order;
 mod parts;
-mod report_line;
-mod report_lines;
 mod write;
 mod write_kept;
 

@@ -6,7 +6,7 @@ ghost use Rattle.dn_service.specs.Callers.{IsSameCaller, ServiceView};
 ghost use Rattle.dn_replay.specs.Callers.{AllSubmitted, calls_by, calls_given, HasSubmitted, AreCallersOf};
 
 use crate::callers::gate::Gate;
-use crate::one_caller::run::submit;
+use crate::config::run::submit;
 use dn_files::Row;
 use dn_service::Caller;
 use dn_types::{Call, Entry, Moment};

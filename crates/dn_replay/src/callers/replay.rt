@@ -10,8 +10,8 @@ ghost use Rattle.dn_replay.specs.Runs.{HasMade, history_of};
 
 use crate::callers::calls::run_callers;
 use crate::callers::gate::Gate;
-use crate::one_caller::inputs::read_inputs;
-use crate::one_caller::run::Run;
+use crate::callers::inputs::read_inputs;
+use crate::config::run::Run;
 use crate::report::write_report;
 use dn_files::{ReplayFault, Row};
 use dn_records::{Inlet, Outlet};

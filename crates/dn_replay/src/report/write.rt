@@ -4,11 +4,11 @@ ghost use Rattle.dn_types.specs.declared.entry.Entry.{Entry};
 ghost use Rattle.dn_records.specs.Records.{line_of, text_of};
 ghost use Rattle.dn_replay.specs.Report.{line_fields, report, report_header};
 ghost use Rattle.dn_files.specs.Writing.{IsUnwritten};
-ghost use Rattle.dn_replay.specs.declared.report.report_line.ReportLine.TheVariants.{Held, NoTarget};
+ghost use Rattle.dn_replay.specs.declared.report.line.ReportLine.TheVariants.{Held, NoTarget};
 ghost use Rattle.dn_files.specs.declared.source.Source.TheVariants.{Report};
 
-use crate::report::report_line::ReportLine;
-use crate::report::report_lines::lines_of_history;
+use crate::report::line::ReportLine;
+use crate::report::order::lines_of_history;
 use dn_files::{ReplayFault, Source, number, write_text};
 use dn_records::{Field, Outlet, RecordWriter};
 use dn_types::Entry;

@@ -17,8 +17,7 @@ ghost use Rattle.dn_replay.specs.declared.report.fate.Fate.TheVariants.{Unanswer
 
 use crate::report::fate::Fate;
 use crate::report::kept::Kept;
-use crate::report::line_bytes::LINE;
-use crate::report::line_text::{add_header, add_held, add_no_target, add_out, add_refused};
+use crate::report::line_text::{LINE, add_header, add_held, add_no_target, add_out, add_refused};
 use crate::report::parts::{PART, write_full_part, write_part};
 use dn_files::{ReplayFault, Source};
 use dn_records::{Outlet, WriteFault};

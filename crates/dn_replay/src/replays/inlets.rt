@@ -1,0 +1,201 @@
+ghost use Rattle.std.specs.Prelude.{◌≡◌, ◌<◌, ℕ, All, Bool, List, [], Option, false, None, OnOk, IfOk, IfErr};
+ghost use Rattle.dn_types.specs.History.{IsLawful};
+ghost use Rattle.dn_types.specs.declared.rule.Rule.TheVariants.{Ordered};
+ghost use Rattle.dn_files.specs.Reading.{IsTextOf};
+ghost use Rattle.dn_replay.specs.InParts.{calls_asked, HasCome, IsAskedBehind, source_of};
+ghost use Rattle.dn_replay.specs.OnePass.{IsAnswered, IsReportedFor};
+ghost use Rattle.dn_replay.specs.Replays.{AskFor, AsksFor, EitherFailed, InputFailed, IsReplayed, IsUnreplayed, TextFailed};
+
+use crate::replays::file_replay::FileReplay;
+use dn_files::{CONFIG_LIMIT, ReplayFault, Source, read_input};
+use dn_records::{Inlet, Outlet};
+use dn_shaper::HashKey;
+use dn_types::Entry;
+use std::alloc::Global;
+
+/// Feeds a replay of which nothing has come what an inlet has left, and answers it.
+fn answer<I: Inlet, O: Outlet>(
+    mut replay: FileReplay,
+    inlet: &mut I,
+    out: &mut O,
+) -> Result<Vec<Entry>, ReplayFault>
+    requires inlet { I.has_failed inlet.old ≡ false }
+    requires out { O.has_failed out.old ≡ false }
+    ensures ok { IfOk result (λ entries. (text : List ℕ) × IsTextOf (I.remaining inlet.old) text
+        × ((records : Bool) (config : Option (List ℕ)) → HasCome records replay config []
+        → IsAnswered records (λ asked. calls_asked config text ≡ asked) entries.items (O.contents out.old) (O.contents out.new))) }
+    ensures inlet { IfOk result (λ _. I.has_failed inlet.new ≡ false) }
+    ensures sound { IfOk result (λ _. O.has_failed out.new ≡ false) }
+    ensures err { IfErr result (λ fault. (records : Bool) (config : Option (List ℕ)) → HasCome records replay config []
+        → IsUnreplayed (TextFailed (source_of config) (I.has_failed inlet.new)) (IsAskedBehind config (I.remaining inlet.old))
+        (O.contents out.old) (O.contents out.new) (O.has_failed out.new) fault) }
+{
+    match replay.read(inlet) {
+        Ok(()) => replay.finish(out),
+        Err(fault) => {
+            // The proof of a drop by a call has one step, where that of a drop at the end has one for each field.
+            drop(replay);
+            Err(fault)
+        }
+    }
+}
+
+/// Two inputs are read and what they ask for is answered.
+fn replay_inputs<C: Inlet, P: Inlet, O: Outlet>(
+    alloc: Global,
+    key: HashKey,
+    records: bool,
+    config: &mut C,
+    packets: &mut P,
+    out: &mut O,
+) -> Result<Vec<Entry>, ReplayFault>
+    requires config { C.has_failed config.old ≡ false }
+    requires packets { P.has_failed packets.old ≡ false }
+    requires out { O.has_failed out.old ≡ false }
+    ensures ok { IfOk result (λ entries. IsAnswered records (AskFor (C.remaining config.old) (P.remaining packets.old))
+        entries.items (O.contents out.old) (O.contents out.new)) }
+    ensures inputs { IfOk result (λ _. EitherFailed (C.remaining config.old)
+        (C.has_failed config.new) (P.has_failed packets.new) None) }
+    ensures sound { IfOk result (λ _. O.has_failed out.new ≡ false) }
+    ensures err { IfErr result (λ fault.
+        IsUnreplayed (EitherFailed (C.remaining config.old) (C.has_failed config.new) (P.has_failed packets.new))
+        (AskFor (C.remaining config.old) (P.remaining packets.old))
+        (O.contents out.old) (O.contents out.new) (O.has_failed out.new) fault) }
+{
+    let text = read_input(alloc, config, CONFIG_LIMIT, Source::Config)?;
+    let replay = FileReplay::behind(alloc, key, records, text.as_slice())?;
+    answer(replay, packets, out)
+}
+
+/// A joined input is read and what it asks for is answered.
+fn replay_input<I: Inlet, O: Outlet>(
+    alloc: Global,
+    key: HashKey,
+    records: bool,
+    input: &mut I,
+    out: &mut O,
+) -> Result<Vec<Entry>, ReplayFault>
+    requires input { I.has_failed input.old ≡ false }
+    requires out { O.has_failed out.old ≡ false }
+    ensures ok { IfOk result (λ entries. IsAnswered records (AsksFor (I.remaining input.old))
+        entries.items (O.contents out.old) (O.contents out.new)) }
+    ensures inputs { IfOk result (λ _. InputFailed (I.has_failed input.new) None) }
+    ensures sound { IfOk result (λ _. O.has_failed out.new ≡ false) }
+    ensures err { IfErr result (λ fault.
+        IsUnreplayed (InputFailed (I.has_failed input.new)) (AsksFor (I.remaining input.old))
+        (O.contents out.old) (O.contents out.new) (O.has_failed out.new) fault) }
+{
+    answer(FileReplay::joined(alloc, key, records), input, out)
+}
+
+/// Replays a packet file through a configuration for one caller: it makes the command of each
+/// configuration line, submits each row, and then takes all packets that are due by 2^62 ns. It writes
+/// the report and answers the history. The packets are submitted as they are read. Nothing is written before
+/// both inputs were read and judged. No answer depends on the key, the secret of the flow table.
+pub fn replay<C: Inlet, P: Inlet, O: Outlet>(
+    alloc: Global,
+    key: HashKey,
+    config: &mut C,
+    packets: &mut P,
+    out: &mut O,
+) -> Result<Vec<Entry>, ReplayFault>
+    requires config { C.has_failed config.old ≡ false }
+    requires packets { P.has_failed packets.old ≡ false }
+    requires out { O.has_failed out.old ≡ false }
+    ensures ok { IfOk result (λ entries.
+        IsReplayed (AskFor (C.remaining config.old) (P.remaining packets.old)) entries.items
+        (O.contents out.old) (O.contents out.new)) }
+
+    // The history is lawful, and the report of one caller stands for it.
+    ensures lawful { IfOk result (λ entries. IsLawful Ordered entries.items) }
+    ensures callers { IfOk result (λ entries. All (λ e. e.caller < 1) entries.items) }
+
+    // No read and no write failed.
+    ensures inputs { IfOk result (λ _. EitherFailed (C.remaining config.old)
+        (C.has_failed config.new) (P.has_failed packets.new) None) }
+    ensures sound { IfOk result (λ _. O.has_failed out.new ≡ false) }
+    ensures err { IfErr result (λ fault.
+        IsUnreplayed (EitherFailed (C.remaining config.old) (C.has_failed config.new) (P.has_failed packets.new))
+        (AskFor (C.remaining config.old) (P.remaining packets.old))
+        (O.contents out.old) (O.contents out.new) (O.has_failed out.new) fault) }
+{
+    replay_inputs(alloc, key, true, config, packets, out)
+}
+
+/// Replays a packet file through a configuration for one caller, as [`replay`] does, and writes
+/// the report alone. The packets are submitted as they are read, and no history is kept: what is kept of a
+/// packet is what its line says. Nothing is written before both inputs were read and judged. No answer depends
+/// on the key, the secret of the flow table.
+pub fn replay_report<C: Inlet, P: Inlet, O: Outlet>(
+    alloc: Global,
+    key: HashKey,
+    config: &mut C,
+    packets: &mut P,
+    out: &mut O,
+) -> Result<(), ReplayFault>
+    requires config { C.has_failed config.old ≡ false }
+    requires packets { P.has_failed packets.old ≡ false }
+    requires out { O.has_failed out.old ≡ false }
+    ensures ok { OnOk result (IsReportedFor (AskFor (C.remaining config.old) (P.remaining packets.old))
+        (O.contents out.old) (O.contents out.new)) }
+
+    // No read and no write failed.
+    ensures inputs { OnOk result (EitherFailed (C.remaining config.old)
+        (C.has_failed config.new) (P.has_failed packets.new) None) }
+    ensures sound { OnOk result (O.has_failed out.new ≡ false) }
+    ensures err { IfErr result (λ fault.
+        IsUnreplayed (EitherFailed (C.remaining config.old) (C.has_failed config.new) (P.has_failed packets.new))
+        (AskFor (C.remaining config.old) (P.remaining packets.old))
+        (O.contents out.old) (O.contents out.new) (O.has_failed out.new) fault) }
+{
+    match replay_inputs(alloc, key, false, config, packets, out) {
+        Ok(_) => Ok(()),
+        Err(fault) => Err(fault),
+    }
+}
+
+/// [`replay`] over one joined input of at most 67,108,864 bytes: a configuration up to the first line
+/// `--`, and then a packet file.
+pub fn replay_joined<I: Inlet, O: Outlet>(
+    alloc: Global,
+    key: HashKey,
+    input: &mut I,
+    out: &mut O,
+) -> Result<Vec<Entry>, ReplayFault>
+    requires input { I.has_failed input.old ≡ false }
+    requires out { O.has_failed out.old ≡ false }
+    ensures ok { IfOk result (λ entries. IsReplayed (AsksFor (I.remaining input.old)) entries.items
+        (O.contents out.old) (O.contents out.new)) }
+    ensures lawful { IfOk result (λ entries. IsLawful Ordered entries.items) }
+    ensures callers { IfOk result (λ entries. All (λ e. e.caller < 1) entries.items) }
+    ensures inputs { IfOk result (λ _. InputFailed (I.has_failed input.new) None) }
+    ensures sound { IfOk result (λ _. O.has_failed out.new ≡ false) }
+    ensures err { IfErr result (λ fault.
+        IsUnreplayed (InputFailed (I.has_failed input.new)) (AsksFor (I.remaining input.old))
+        (O.contents out.old) (O.contents out.new) (O.has_failed out.new) fault) }
+{
+    replay_input(alloc, key, true, input, out)
+}
+
+/// [`replay_report`] over one such joined input.
+pub fn replay_joined_report<I: Inlet, O: Outlet>(
+    alloc: Global,
+    key: HashKey,
+    input: &mut I,
+    out: &mut O,
+) -> Result<(), ReplayFault>
+    requires input { I.has_failed input.old ≡ false }
+    requires out { O.has_failed out.old ≡ false }
+    ensures ok { OnOk result (IsReportedFor (AsksFor (I.remaining input.old))
+        (O.contents out.old) (O.contents out.new)) }
+    ensures inputs { OnOk result (InputFailed (I.has_failed input.new) None) }
+    ensures sound { OnOk result (O.has_failed out.new ≡ false) }
+    ensures err { IfErr result (λ fault.
+        IsUnreplayed (InputFailed (I.has_failed input.new)) (AsksFor (I.remaining input.old))
+        (O.contents out.old) (O.contents out.new) (O.has_failed out.new) fault) }
+{
+    match replay_input(alloc, key, false, input, out) {
+        Ok(_) => Ok(()),
+        Err(fault) => Err(fault),
+    }
+}
