@@ -3,6 +3,7 @@
 #![tactic(auto)]
 
 mod config;
+mod feed;
 mod fields;
 mod input;
 mod output;
@@ -16,6 +17,7 @@ mod row_fields;
 mod source;
 
 pub use config::{CONFIG_LIMIT, command_at, read_config};
+pub use feed::{Feed, feed_all};
 pub use fields::{column, is_form, is_name, number_at};
 pub use input::read_input;
 pub use output::{number, write_text};
