@@ -62,11 +62,11 @@ CONTROLS = {
         ("fn push_reserved(", "ghost use Rattle.std.specs.Prelude.{slice_set}; ghost use Rattle.dn_flows.specs.Table.{pushed}; fn push_reserved("),
         ("ensures keys {", "ensures flows { flows.new.flows ≡ slice_set flows.old.flows flow (pushed waiting (flow_at flows.old.flows flow)) } ensures keys {")],
     "dn_files/without_the_fault_of_a_line": [("IfOk result (λ command. Ok command ≡ answer line.now)", "result ≡ answer line.now")],
-    "dn_audit/short_read_ends_an_audit": [("return Ok(());", "")],
+    "dn_files/short_read_ends_the_feed": [("count < PART", "count == 0")],
     "dn_replay/bad_row_before_a_failed_read": [
         ("let fault = replay.finish(&mut dn_records::FromWriter::new(std::io::sink())).err().unwrap_or(fault);",
          "drop(replay.finish(&mut dn_records::FromWriter::new(std::io::sink())));")],
-    "dn_replay/short_read_ends_a_replay": [("count < PART", "count == 0")],
+    "dn_replay/fault_before_a_failed_read": [("return Err(fault);", "let _ = fault;")],
     "dn_replay/without_the_answers_of_a_caller": [
         ("Prelude.{OnErr};", "Prelude.{OnErr}; ghost use Rattle.dn_service.specs.Callers.{Answered};"),
         ("ensures same_caller {", "ensures ok { IfOk result (λ reply. Answered self.old call reply self.new) } ensures same_caller {")],

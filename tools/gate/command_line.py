@@ -70,6 +70,13 @@ FORMS = [
     Case("a history over the packets by another name", replay("--history", "./p"), 0, REPORT, made={"p": HISTORY}),
     Case("sixteen callers", replay("--callers", "16"), 0, REPORT),
     Case("two callers", replay("--callers", "2"), 0, REPORT),
+    Case("packets of as many bytes as are told", replay("--most-packets", str(len(PACKETS))), 0, REPORT),
+    Case("a history of such packets", replay("--most-packets", str(len(PACKETS)), "--history", "new"), 0, REPORT, made={"new": HISTORY}),
+    Case("the greatest limit", replay(f"--most-packets={2**40}"), 0, REPORT),
+    fault("packets of one byte more", replay("--most-packets", str(len(PACKETS) - 1)), 6, "packets too long"),
+    fault("the same with a history", replay("--most-packets", str(len(PACKETS) - 1), "--history", "old"), 6, "packets too long", files={**FILES, "old": OLDER}),
+    Case("a history of as many bytes as are told", ["audit", "h", "--most-history", str(len(HISTORY))], 0, "lawful 3\n"),
+    fault("a history of one byte more", ["audit", "--most-history", str(len(HISTORY) - 1), "h"], 6, "history too long"),
     Case("lawful history", ["audit", "h"], 0, "lawful 3\n"),
     Case("changed history", ["audit", "h"], 1, "differs 1\n", files={"h": CHANGED}),
     Case("a live session", ["live"], 0, HISTORY, stdin=SESSION),
@@ -117,12 +124,16 @@ FAULTS = [
          files={"c": CONFIG, "p": HEADER + "0\n", "old": OLDER}),
 ]
 SAME = "error: --history FILE would overwrite CONFIG or PACKETS\n"
+LIMITED = "error: --most-packets BYTES can't be used with --callers N\n"
 USAGES = [
     *[Case(f"usage: {' '.join(words)}", words, 2, "", None)
       for words in (["nothing"], ["--nothing"], ["replay"], ["replay", "c"], replay("more"), replay("--callers", "0"), replay("--callers", "17"),
                     replay("--callers", "two"), replay("--callers"), replay("--history"), replay("--callers", "17", "--history", "new"),
                     replay("--callers", "2", "--callers", "2"), ["audit"], ["audit", "h", "h"], ["audit", "h", "--history", "new"],
-                    ["live", "h"], ["live", "--callers", "2"], ["--callers", "2"], ["-x"])],
+                    ["live", "h"], ["live", "--callers", "2"], ["--callers", "2"], ["-x"],
+                    replay("--most-packets"), replay("--most-packets", "0"), replay("--most-packets", str(2**40 + 1)), replay("--most-packets", "x"),
+                    replay("--most-packets", "9", "--callers", "2"), replay("--most-history", "9"), ["--most-packets", "9"],
+                    ["audit", "h", "--most-history", "0"], ["audit", "h", "--most-history", str(2**40 + 1)], ["audit", "h", "--most-packets", "9"])],
     *[Case(f"a history over {name}, the {word}", ["replay", *names, "--history", name], 2, "", None)
       for names, name, word in ((["c", "p"], "c", "configuration"), (["c", "p"], "p", "packets"), (["none", "p"], "none", "missing file"),
                               (["c", "p", "--callers", "2"], "p", "packets of two callers"))],
@@ -159,14 +170,17 @@ def texts(tally: Tally, program: str) -> None:
     with TemporaryDirectory() as folder:
         for words, wanted in ((["--version"], ["dummynet 1.", "rattle-kit"]), (["-V"], ["dummynet 1.", "rattle-kit"]),
                               (["--help"], ["CONFIG", "PACKETS", "HISTORY", "Example:", "replay", "audit", "live"]), (["-h"], ["Usage: dummynet"]),
-                              (["help"], ["Usage: dummynet"]), (["replay", "--help"], ["CONFIG", "PACKETS", "--callers", "--history"]),
-                              (["help", "replay"], ["CONFIG"]), (["audit", "--help"], ["HISTORY"])):
+                              (["help"], ["Usage: dummynet"]), (["replay", "--help"], ["CONFIG", "PACKETS", "--callers", "--history", "--most-packets"]),
+                              (["help", "replay"], ["CONFIG"]), (["audit", "--help"], ["HISTORY", "--most-history", "live"])):
             done = run(program, words, folder, "")
             lacking = [text for text in wanted if text not in done.stdout.decode()]
             tally.equal(" ".join(words), (0, b"", []), (done.returncode, done.stderr, lacking))
         laid(Path(folder), FILES)
         done = run(program, replay("--history", "p"), folder, "")
         tally.equal("the words of a history over packets", SAME, done.stderr.decode()[:len(SAME)])
+        tally.equal("its own usage", True, "\nUsage: dummynet replay [OPTIONS] <CONFIG> <PACKETS>\n" in done.stderr.decode())
+        done = run(program, replay("--most-packets", "9", "--callers", "2"), folder, "")
+        tally.equal("the words of a limit of callers", LIMITED, done.stderr.decode()[:len(LIMITED)])
         done = run(program, [os.fsdecode(b"\xff")], folder, "")
         tally.equal("an argument that isn't UTF-8", (2, b"", b"error: an argument isn't UTF-8\n"), (done.returncode, done.stdout, done.stderr))
 

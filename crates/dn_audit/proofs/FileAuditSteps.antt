@@ -4,14 +4,15 @@ use Rattle.std.proofs.KnownBytes.{Keeps-refl}
 use Rattle.dn_types.specs.declared.entry.Entry.{Entry}
 use Rattle.dn_types.specs.declared.rule.Rule.{Rule}
 use Rattle.dn_audit.specs.Audit.{HasAudited}
-use Rattle.dn_audit.specs.FileAudit.{AreAudited, HasVerdict, IsAuditFault, IsTold, IsUnaudited, verdict_line}
+use Rattle.dn_audit.specs.FileAudit.{AreAudited, HasVerdict, history_within, IsAuditFault, IsTold, IsUnauditedWithin, verdict_line}
 use Rattle.dn_history.specs.HistoryFaults.{IsHistoryFault}
 use Rattle.dn_history.specs.EntriesLeft.{EntriesLeft}
-use Rattle.dn_history.specs.HistoryFile.{history_file, history_in, history_limit}
+use Rattle.dn_history.specs.HistoryFile.{history_in}
 use Rattle.dn_history.specs.HistoryParts.{history_behind}
 use Rattle.dn_history.proofs.HistoryReading.{after_front, end_read}
 use Rattle.dn_files.specs.Reading.{IsFaultOf, IsRefusal, IsTextOf, within_limit}
 use Rattle.dn_files.specs.Writing.{IsUnwritten}
+use Rattle.dn_files.proofs.Causes.{unwritten-cases}
 use Rattle.dn_files.proofs.Inputs.{carried}
 use Rattle.dn_files.specs.declared.replay_fault.ReplayFault.{ReplayFault}
 use Rattle.dn_files.specs.declared.replay_fault.ReplayFault.TheVariants.{BadRow, Read, Write, TooLong, OutOfMemory, Config, ConfigText, NoSuchPipe, BadRecord, BadCount, PipeHasQueues, NoSuchQueue}
@@ -20,41 +21,31 @@ use Rattle.dn_audit.specs.declared.running_audit.RunningAudit.{RunningAudit}
 use Rattle.dn_audit.specs.declared.verdict.Verdict.{Verdict}
 
 -- A file isn't read.
-pub unread : (known old : Option (List ℕ)) (read_failed failed : Bool) (fault : ReplayFault)
-    → failed ≡ false → IsRefusal History history_file known read_failed fault → IsUnaudited known read_failed old old failed fault
-unread known old read_failed failed (Write what) sound h = absurd h
-unread known old read_failed failed OutOfMemory sound h = (h, (sound, Keeps-refl old))
-unread known old read_failed failed (Read what) sound h = (h, (sound, Keeps-refl old))
-unread known old read_failed failed (Config l f) sound h = (h, (sound, Keeps-refl old))
-unread known old read_failed failed (ConfigText l) sound h = (h, (sound, Keeps-refl old))
-unread known old read_failed failed (NoSuchPipe l) sound h = (h, (sound, Keeps-refl old))
-unread known old read_failed failed (BadRow r f) sound h = (h, (sound, Keeps-refl old))
-unread known old read_failed failed (BadRecord n) sound h = (h, (sound, Keeps-refl old))
-unread known old read_failed failed (TooLong s) sound h = (h, (sound, Keeps-refl old))
-unread known old read_failed failed BadCount sound h = (h, (sound, Keeps-refl old))
-unread known old read_failed failed (PipeHasQueues l) sound h = (h, (sound, Keeps-refl old))
-unread known old read_failed failed (NoSuchQueue l) sound h = (h, (sound, Keeps-refl old))
+pub unread : (limit : ℕ) (known old : Option (List ℕ)) (read_failed failed : Bool) (fault : ReplayFault)
+    → failed ≡ false → IsRefusal History (history_within limit) known read_failed fault → IsUnauditedWithin limit known read_failed old old failed fault
+unread limit known old read_failed failed (Write what) sound h = absurd h
+unread limit known old read_failed failed OutOfMemory sound h = (h, (sound, Keeps-refl old))
+unread limit known old read_failed failed (Read what) sound h = (h, (sound, Keeps-refl old))
+unread limit known old read_failed failed (Config l f) sound h = (h, (sound, Keeps-refl old))
+unread limit known old read_failed failed (ConfigText l) sound h = (h, (sound, Keeps-refl old))
+unread limit known old read_failed failed (NoSuchPipe l) sound h = (h, (sound, Keeps-refl old))
+unread limit known old read_failed failed (BadRow r f) sound h = (h, (sound, Keeps-refl old))
+unread limit known old read_failed failed (BadRecord n) sound h = (h, (sound, Keeps-refl old))
+unread limit known old read_failed failed (TooLong s) sound h = (h, (sound, Keeps-refl old))
+unread limit known old read_failed failed BadCount sound h = (h, (sound, Keeps-refl old))
+unread limit known old read_failed failed (PipeHasQueues l) sound h = (h, (sound, Keeps-refl old))
+unread limit known old read_failed failed (NoSuchQueue l) sound h = (h, (sound, Keeps-refl old))
 
 -- The line of a verdict isn't written.
-pub untold : (known old new : Option (List ℕ)) (read_failed failed : Bool) (verdict : Verdict) (line : List ℕ) (fault : ReplayFault)
-    → read_failed ≡ false → IsTold known verdict line → IsUnwritten Report line old new failed fault → IsUnaudited known read_failed old new failed fault
-untold known old new read_failed failed verdict line (Write what) sound told h = (sound, (verdict, line, told, h))
-untold known old new read_failed failed verdict line OutOfMemory sound told h = (sound, h)
-untold known old new read_failed failed verdict line (Read what) sound told h = absurd h
-untold known old new read_failed failed verdict line (Config l f) sound told h = absurd h
-untold known old new read_failed failed verdict line (ConfigText l) sound told h = absurd h
-untold known old new read_failed failed verdict line (NoSuchPipe l) sound told h = absurd h
-untold known old new read_failed failed verdict line (BadRow r f) sound told h = absurd h
-untold known old new read_failed failed verdict line (BadRecord n) sound told h = absurd h
-untold known old new read_failed failed verdict line (TooLong s) sound told h = absurd h
-untold known old new read_failed failed verdict line BadCount sound told h = absurd h
-untold known old new read_failed failed verdict line (PipeHasQueues l) sound told h = absurd h
-untold known old new read_failed failed verdict line (NoSuchQueue l) sound told h = absurd h
+pub untold : (limit : ℕ) (known old new : Option (List ℕ)) (read_failed failed : Bool) (verdict : Verdict) (line : List ℕ) (fault : ReplayFault)
+    → read_failed ≡ false → IsTold limit known verdict line → IsUnwritten Report line old new failed fault → IsUnauditedWithin limit known read_failed old new failed fault
+untold limit known old new read_failed failed verdict line fault sound told =
+    unwritten-cases (IsUnauditedWithin limit known read_failed old new failed) Report line old new failed fault (λ what h. (sound, (verdict, line, told, h))) (λ h. (sound, h))
 
 -- The text that was read is a history with this verdict, and the bytes that are written are the line of that.
-pub told : (known : Option (List ℕ)) (text : List ℕ) (verdict : Verdict) (count : ℕ) (line bytes : List ℕ)
-    → IsTextOf known text → within_limit history_limit History text ≡ Ok text → HasVerdict text verdict count → line ≡ verdict_line count verdict → bytes ≡ line → IsTold known verdict bytes
-told known text verdict count line bytes is within (history, reads, found, counted) line_is same =
+pub told : (limit : ℕ) (known : Option (List ℕ)) (text : List ℕ) (verdict : Verdict) (count : ℕ) (line bytes : List ℕ)
+    → IsTextOf known text → within_limit limit History text ≡ Ok text → HasVerdict text verdict count → line ≡ verdict_line count verdict → bytes ≡ line → IsTold limit known verdict bytes
+told limit known text verdict count line bytes is within (history, reads, found, counted) line_is same =
     (history, (text, is, rw within reads), found, same ∙ line_is ∙ ap (λ (n : ℕ). verdict_line n verdict) counted)
 
 -- No entry behind those before, one more, and how many they are.
@@ -104,15 +95,4 @@ of_reading (NoSuchQueue line) h = absurd h
 
 -- Why the line of a verdict isn't written.
 pub of_writing : (text : List ℕ) (old new : Option (List ℕ)) (failed : Bool) (fault : ReplayFault) → IsUnwritten Report text old new failed fault → IsAuditFault fault
-of_writing text old new failed (Write what) h = h.0
-of_writing text old new failed OutOfMemory h = tt
-of_writing text old new failed (Read what) h = absurd h
-of_writing text old new failed (Config line f) h = absurd h
-of_writing text old new failed (ConfigText line) h = absurd h
-of_writing text old new failed (NoSuchPipe line) h = absurd h
-of_writing text old new failed (BadRow row field) h = absurd h
-of_writing text old new failed (BadRecord number) h = absurd h
-of_writing text old new failed (TooLong what) h = absurd h
-of_writing text old new failed BadCount h = absurd h
-of_writing text old new failed (PipeHasQueues line) h = absurd h
-of_writing text old new failed (NoSuchQueue line) h = absurd h
+of_writing text old new failed fault = unwritten-cases IsAuditFault Report text old new failed fault (λ what h. h.0) (λ h. tt)

@@ -6,10 +6,10 @@ use Rattle.dn_types.specs.declared.entry.Entry.{Entry}
 use Rattle.dn_types.specs.declared.rule.Rule.{Rule}
 use Rattle.dn_audit.specs.Audit.{HasAudited, IsVerdict}
 use Rattle.dn_history.specs.HistoryFaults.{IsHistoryFault}
-use Rattle.dn_history.specs.HistoryFile.{history_file, history_in, history_limit}
+use Rattle.dn_history.specs.HistoryFile.{history_in, history_limit}
 use Rattle.dn_history.specs.HistoryParts.{HasRead}
 use Rattle.dn_history.specs.HistoryRecords.{rule_of}
-use Rattle.dn_files.specs.Reading.{IsRefusal, ReadsAs}
+use Rattle.dn_files.specs.Reading.{◌>>=◌, IsRefusal, ReadsAs, within_limit}
 use Rattle.dn_files.specs.Writing.{IsUnwritten, NothingWritten}
 use Rattle.dn_files.specs.declared.replay_fault.ReplayFault.{ReplayFault}
 use Rattle.dn_files.specs.declared.replay_fault.ReplayFault.TheVariants.{Write}
@@ -46,26 +46,41 @@ HasTaken audit text = IsTakenBy audit.begun audit.front.items text
 -- The same of a text within its limit.
 pub record HasCome (audit : FileAudit) (text : List ℕ) : Type 0 where
   pub size : audit.length ≡ length text
-  pub short : length text ≤ history_limit
+  pub short : length text ≤ audit.limit
   pub taken : HasTaken audit text
+
+-- What a history file of at most so many bytes is read as.
+abbrev pub history_within : ℕ → List ℕ → Result (Rule × List Entry) ReplayFault
+history_within limit text = within_limit limit History text >>= history_in
 
 -- A text is a history of this many entries with this verdict by its own rule.
 abbrev pub HasVerdict : List ℕ → Verdict → ℕ → Type 0
 HasVerdict text verdict count = (history : Rule × List Entry) × (history_in text ≡ Ok history) × IsVerdict history.0 history.1 verdict × (count ≡ length history.1)
 
--- What a file may have held is read as a history with this verdict by the rule of the file, and this is the verdict's line.
-abbrev pub IsTold : Option (List ℕ) → Verdict → List ℕ → Type 0
-IsTold known verdict line = (history : Rule × List Entry) × ReadsAs history_file known history × IsVerdict history.0 history.1 verdict × (line ≡ verdict_line (length history.1) verdict)
+-- What a file of at most so many bytes may have held is read as a history with this verdict by the rule of the file, and this is the
+-- verdict's line.
+abbrev pub IsTold : ℕ → Option (List ℕ) → Verdict → List ℕ → Type 0
+IsTold limit known verdict line = (history : Rule × List Entry) × ReadsAs (history_within limit) known history × IsVerdict history.0 history.1 verdict
+    × (line ≡ verdict_line (length history.1) verdict)
 
 -- A file was audited, and the line of its verdict was written.
+abbrev pub IsAuditedWithin : ℕ → Option (List ℕ) → Verdict → Option (List ℕ) → Option (List ℕ) → Type 0
+IsAuditedWithin limit known verdict old new = (line : List ℕ) × IsTold limit known verdict line × Appends old new line
+
+-- The same with the limit of a history file.
 abbrev pub IsAudited : Option (List ℕ) → Verdict → Option (List ℕ) → Option (List ℕ) → Type 0
-IsAudited known verdict old new = (line : List ℕ) × IsTold known verdict line × Appends old new line
+IsAudited known verdict old new = IsAuditedWithin history_limit known verdict old new
 
 -- Why a file has no verdict, by its bytes and by whether a read of it failed. Before a failed write a part of the verdict's
 -- line was written. Any other fault is one of reading, or a want of memory, and nothing was written.
+abbrev pub IsUnauditedWithin : ℕ → Option (List ℕ) → Bool → Option (List ℕ) → Option (List ℕ) → Bool → ReplayFault → Type 0
+IsUnauditedWithin limit known read_failed old new failed (Write what) = (read_failed ≡ false)
+    × ((verdict : Verdict) × (line : List ℕ) × IsTold limit known verdict line × IsUnwritten Report line old new failed (Write what))
+IsUnauditedWithin limit known read_failed old new failed fault = IsRefusal History (history_within limit) known read_failed fault × NothingWritten old new failed
+
+-- The same with the limit of a history file.
 abbrev pub IsUnaudited : Option (List ℕ) → Bool → Option (List ℕ) → Option (List ℕ) → Bool → ReplayFault → Type 0
-IsUnaudited known read_failed old new failed (Write what) = (read_failed ≡ false) × ((verdict : Verdict) × (line : List ℕ) × IsTold known verdict line × IsUnwritten Report line old new failed (Write what))
-IsUnaudited known read_failed old new failed fault = IsRefusal History history_file known read_failed fault × NothingWritten old new failed
+IsUnaudited known read_failed old new failed fault = IsUnauditedWithin history_limit known read_failed old new failed fault
 
 -- The faults of an audit of a file: those of its reading, and of the writing of the line. No other comes.
 abbrev pub IsAuditFault : ReplayFault → Type 0

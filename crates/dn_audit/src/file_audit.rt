@@ -3,8 +3,7 @@
 ghost use Rattle.std.specs.Prelude.{◌≡◌, false, ℕ, List, string_bytes, IfOk, IfErr, Ok};
 ghost use Rattle.dn_files.specs.Reading.{IsRefusal, IsTextOf, within_limit};
 ghost use Rattle.dn_files.specs.declared.source.Source.TheVariants.{History};
-ghost use Rattle.dn_history.specs.HistoryFile.{history_file, history_limit};
-ghost use Rattle.dn_audit.specs.FileAudit.{HasVerdict, IsAuditFault, IsAudited, IsUnaudited, verdict_line};
+ghost use Rattle.dn_audit.specs.FileAudit.{HasVerdict, history_within, IsAuditFault, IsAudited, IsAuditedWithin, IsUnaudited, IsUnauditedWithin, verdict_line};
 
 mod entries;
 mod file_audit;
@@ -12,6 +11,7 @@ mod parts_audit;
 
 use crate::verdict::Verdict;
 use dn_files::{ReplayFault, Source, write_text};
+use dn_history::HISTORY_LIMIT;
 use dn_records::{Inlet, Outlet};
 use dn_shaper::HashKey;
 pub use file_audit::FileAudit;
@@ -31,16 +31,17 @@ fn verdict_line(alloc: Global, entries: usize, verdict: Verdict) -> Result<Strin
 fn audit_input<I: Inlet>(
     alloc: Global,
     key: HashKey,
+    limit: usize,
     history: &mut I,
 ) -> Result<(Verdict, usize), ReplayFault>
     requires { I.has_failed history.old ≡ false }
     ensures ok { IfOk result (λ found. (text : List ℕ) × IsTextOf (I.remaining history.old) text
-        × (within_limit history_limit History text ≡ Ok text) × HasVerdict text found.0 found.1) }
+        × (within_limit limit History text ≡ Ok text) × HasVerdict text found.0 found.1) }
     ensures sound { IfOk result (λ _. I.has_failed history.new ≡ false) }
-    ensures err { IfErr result (λ fault. IsRefusal History history_file
+    ensures err { IfErr result (λ fault. IsRefusal History (history_within limit)
         (I.remaining history.old) (I.has_failed history.new) fault) }
 {
-    let mut audit = FileAudit::new(alloc, key);
+    let mut audit = FileAudit::within(alloc, key, limit);
     match audit.read(history) {
         Ok(()) => audit.finish(),
         Err(fault) => {
@@ -58,6 +59,28 @@ fn audit_input<I: Inlet>(
 /// where a write of the line failed.
 pub fn audit_file<I: Inlet, O: Outlet>(
     alloc: Global,
+    history: &mut I,
+    out: &mut O,
+) -> Result<Verdict, ReplayFault>
+    requires input { I.has_failed history.old ≡ false }
+    requires out { O.has_failed out.old ≡ false }
+    ensures ok { IfOk result (λ verdict. IsAudited (I.remaining history.old) verdict
+        (O.contents out.old) (O.contents out.new)) }
+
+    // No read and no write failed.
+    ensures inputs { IfOk result (λ _. I.has_failed history.new ≡ false) }
+    ensures sound { IfOk result (λ _. O.has_failed out.new ≡ false) }
+    ensures err { IfErr result (λ fault. IsUnaudited (I.remaining history.old) (I.has_failed history.new)
+        (O.contents out.old) (O.contents out.new) (O.has_failed out.new) fault) }
+    ensures faults { IfErr result (λ fault. IsAuditFault fault) }
+{
+    audit_file_with_key(alloc, HashKey(0), history, out)
+}
+
+/// [`audit_file`] with a secret for the flow table's hash, where a stranger chose the packets. No verdict depends on
+/// it.
+pub fn audit_file_with_key<I: Inlet, O: Outlet>(
+    alloc: Global,
     key: HashKey,
     history: &mut I,
     out: &mut O,
@@ -74,7 +97,30 @@ pub fn audit_file<I: Inlet, O: Outlet>(
         (O.contents out.old) (O.contents out.new) (O.has_failed out.new) fault) }
     ensures faults { IfErr result (λ fault. IsAuditFault fault) }
 {
-    let (verdict, entries) = match audit_input(alloc, key, history) {
+    audit_file_within(alloc, key, HISTORY_LIMIT, history, out)
+}
+
+/// [`audit_file_with_key`] of a history file of at most `limit` bytes.
+pub fn audit_file_within<I: Inlet, O: Outlet>(
+    alloc: Global,
+    key: HashKey,
+    limit: usize,
+    history: &mut I,
+    out: &mut O,
+) -> Result<Verdict, ReplayFault>
+    requires input { I.has_failed history.old ≡ false }
+    requires out { O.has_failed out.old ≡ false }
+    ensures ok { IfOk result (λ verdict. IsAuditedWithin limit (I.remaining history.old) verdict
+        (O.contents out.old) (O.contents out.new)) }
+
+    // No read and no write failed.
+    ensures inputs { IfOk result (λ _. I.has_failed history.new ≡ false) }
+    ensures sound { IfOk result (λ _. O.has_failed out.new ≡ false) }
+    ensures err { IfErr result (λ fault. IsUnauditedWithin limit (I.remaining history.old) (I.has_failed history.new)
+        (O.contents out.old) (O.contents out.new) (O.has_failed out.new) fault) }
+    ensures faults { IfErr result (λ fault. IsAuditFault fault) }
+{
+    let (verdict, entries) = match audit_input(alloc, key, limit, history) {
         Ok(found) => found,
         Err(fault) => return Err(fault),
     };

@@ -12,7 +12,16 @@ use std::alloc::{AllocError, Global};
 /// Asks a new shaper the calls of a history, oldest first, and compares each reply with the entry's.
 /// The first that differs is the answer. It doesn't matter which caller made a call. Err says that memory was
 /// refused for a call.
-pub fn audit(
+pub fn audit(alloc: Global, rule: Rule, entries: &[Entry]) -> Result<Verdict, AllocError>
+    ensures ok { IfOk result (λ verdict. IsVerdict rule entries.now verdict) }
+    ensures lawful { IfOk result (λ verdict. IsLawful rule entries.now → verdict ≡ Lawful) }
+    ensures err { OnErr result (CanWantMemory rule entries.now) }
+{
+    audit_with_key(alloc, HashKey(0), rule, entries)
+}
+
+/// [`audit`] with a secret for the flow table's hash, where a stranger chose the packets. No verdict depends on it.
+pub fn audit_with_key(
     alloc: Global,
     key: HashKey,
     rule: Rule,

@@ -1,5 +1,5 @@
 -- The command line of the program, as clap's own definitions read one: its commands, and the arguments of each.
-use Rattle.std.specs.Prelude.{◌≡◌, true, false, Some, codes}
+use Rattle.std.specs.Prelude.{◌≡◌, ◌^◌, true, false, Some, codes}
 use Rattle.clap.specs.Words.{App, Rule, Shape, Text, app_of, new_app, new_rule, with_rule, with_subcommand}
 use Rattle.clap.specs.declared.builder.command.Command.{Command}
 use Rattle.clap.specs.declared.builder.command.Command.TheViews.{out-Command as fields_of}
@@ -24,18 +24,30 @@ history_rule = record (new_rule (codes "history")) {
   value_names = 1;
 }
 
--- replay CONFIG PACKETS, with both options
-abbrev pub replay_form : App
-replay_form =
+-- --most-packets BYTES or --most-history BYTES, of 1 to 2^40.
+abbrev pub most_rule : Text → Rule
+most_rule id = record (new_rule id) {
+  long = Some id;
+  value_names = 1;
+  parser = Some (Unsigned 1 (2 ^ 40));
+}
+
+-- replay CONFIG PACKETS, with two of its options
+abbrev pub unlimited_form : App
+unlimited_form =
     with_rule
     (with_rule
     (with_rule (with_rule (new_app (codes "replay")) (file_rule (codes "config"))) (file_rule (codes "packets")))
     callers_rule)
     history_rule
 
--- audit HISTORY
+-- The same with --most-packets
+abbrev pub replay_form : App
+replay_form = with_rule unlimited_form (most_rule (codes "most-packets"))
+
+-- audit HISTORY, with its option
 abbrev pub audit_form : App
-audit_form = with_rule (new_app (codes "audit")) (file_rule (codes "history"))
+audit_form = with_rule (with_rule (new_app (codes "audit")) (file_rule (codes "history"))) (most_rule (codes "most-history"))
 
 -- live
 abbrev pub live_form : App

@@ -1,5 +1,5 @@
 -- What the words of a command line ask for, and why they ask for nothing.
-use Rattle.std.specs.Prelude.{◌≡◌, ◌≢◌, ◌⊎◌, ◌<◌, ◌^◌, ⊤, ℕ, Bool, true, false, List, [], Option, Some, None, codes, option_map, unwrap_or}
+use Rattle.std.specs.Prelude.{◌≡◌, ◌≢◌, ◌⊎◌, ◌<◌, ◌^◌, ⊤, ℕ, Bool, true, false, IsTrue, List, [], Option, Some, None, codes, is_some, option_map, unwrap_or}
 use Rattle.std.specs.Str.{bytes_eq}
 use Rattle.std.specs.Str.Parse.{IsNumeral, digits_value, without_leading_plus}
 use Rattle.clap.specs.Words.{IsAmong, Row, Text, fault_of, first_of, kind_of, one_of, subcommand_of}
@@ -9,6 +9,7 @@ use Rattle.clap.specs.declared.error.kind.ErrorKind.TheVariants as kind
 use Rattle.dn_command.specs.Program.{program}
 use Rattle.dn_command.specs.declared.refusal.Refusal.{Refusal}
 use Rattle.dn_command.specs.declared.refusal.Refusal.TheVariants as refusal
+use Rattle.dn_command.specs.declared.request.Audit.{Audit}
 use Rattle.dn_command.specs.declared.request.Replay.{Replay}
 use Rattle.dn_command.specs.declared.request.Request.{Request}
 use Rattle.dn_command.specs.declared.request.Request.TheVariants as request
@@ -33,9 +34,15 @@ pub record IsReplayOf (rows : List Row) (replay : Replay) : Type 0 where
   pub packets : replay.packets.now ≡ value_of (codes "packets") rows
   pub callers : IsCountOf (one_of (codes "callers") rows) replay.callers
   pub history : option_map (λ s. s.now) replay.history ≡ first_of (codes "history") rows
+  pub most_packets : IsCountOf (one_of (codes "most-packets") rows) replay.most_packets
+
+-- The audit that they ask for.
+pub record IsAuditOf (rows : List Row) (audit : Audit) : Type 0 where
+  pub history : audit.history.now ≡ value_of (codes "history") rows
+  pub most_history : IsCountOf (one_of (codes "most-history") rows) audit.most_history
 
 abbrev pub AsksForAudit : List Row → Request → Type 0
-AsksForAudit rows (request.Audit path) = path.now ≡ value_of (codes "history") rows
+AsksForAudit rows (request.Audit audit) = IsAuditOf rows audit
 AsksForAudit rows _ = ⊥
 
 abbrev pub AsksForReplay : List Row → Request → Type 0
@@ -60,22 +67,32 @@ Overwrites (request.Replay replay) = (option_map (λ s. s.now) replay.history �
     ⊎ (option_map (λ s. s.now) replay.history ≡ Some replay.packets.now)
 Overwrites _ = ⊥
 
+-- A limit of the packets is given to callers, who have the usual one.
+abbrev pub LimitsCallers : Request → Type 0
+LimitsCallers (request.Replay replay) = IsTrue (is_some replay.callers) × IsTrue (is_some replay.most_packets)
+LimitsCallers _ = ⊥
+
+-- Arguments that don't go together.
+abbrev pub Conflicts : Request → Type 0
+Conflicts r = Overwrites r ⊎ LimitsCallers r
+
 -- The words, the program's name first, are understood, and ask for this.
 pub record Asks (words : List Text) (r : Request) : Type 0 where
   pub understood : fault_of program words ≡ []
   pub asked : AsksFor (subcommand_of program words) r
   pub spares_inputs : Overwrites r → ⊥
+  pub fits : LimitsCallers r → ⊥
 
--- They ask for a replay that would overwrite what it reads.
-abbrev pub AskToOverwrite : List Text → Type 0
-AskToOverwrite words = (r : Request) × AsksFor (subcommand_of program words) r × Overwrites r
+-- They ask for a replay whose arguments don't go together.
+abbrev pub AskInConflict : List Text → Type 0
+AskInConflict words = (r : Request) × AsksFor (subcommand_of program words) r × Conflicts r
 
 -- Why they ask for nothing: want of memory, which comes with any words, or a kind of fault that they have.
 abbrev pub IsRefusedFor : List Text → Refusal → Type 0
 IsRefusedFor words refusal.OutOfMemory = ⊤
 IsRefusedFor words refusal.NotUtf8 = ⊥
 IsRefusedFor words (refusal.Told e) = IsAmong (kind_of e) (fault_of program words)
-    ⊎ ((kind_of e ≡ kind.ArgumentConflict) × AskToOverwrite words)
+    ⊎ ((kind_of e ≡ kind.ArgumentConflict) × AskInConflict words)
 
 -- The words themselves can't be had.
 abbrev pub IsUnread : Refusal → Type 0

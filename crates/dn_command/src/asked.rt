@@ -1,10 +1,10 @@
-ghost use Rattle.std.specs.Prelude.{◌≡◌, ◌↔◌, IfErr, IfOk, IsTrue, map, string_bytes};
+ghost use Rattle.std.specs.Prelude.{◌≡◌, ◌↔◌, IfErr, IfOk, IsTrue, MatchOption, map, string_bytes};
 ghost use Rattle.clap.specs.Words.{found_of, rows_of, subcommand_rows_of};
-ghost use Rattle.dn_command.specs.Requests.{Asks, AsksFor, IsRefusedFor, IsReplayOf, Overwrites, value_of};
+ghost use Rattle.dn_command.specs.Requests.{Asks, AsksFor, Conflicts, IsAuditOf, IsRefusedFor, IsReplayOf, LimitsCallers, Overwrites, value_of};
 
-use crate::form::form;
+use crate::form::{called_replay, form};
 use crate::refusal::Refusal;
-use crate::request::{Replay, Request};
+use crate::request::{Audit, Replay, Request};
 use clap::ArgMatches;
 use clap::error::ErrorKind;
 use std::alloc::Global;
@@ -25,6 +25,17 @@ fn replay<'a>(found: &ArgMatches<'a>) -> Replay<'a>
         packets: value(found, "packets"),
         callers: found.get_one::<usize>("callers"),
         history: found.get_str("history"),
+        most_packets: found.get_one::<usize>("most-packets"),
+    }
+}
+
+// The audit that these arguments ask for.
+fn audit<'a>(found: &ArgMatches<'a>) -> Audit<'a>
+    ensures { IsAuditOf (rows_of (found_of found.now)) result }
+{
+    Audit {
+        history: value(found, "history"),
+        most_history: found.get_one::<usize>("most-history"),
     }
 }
 
@@ -34,7 +45,7 @@ fn asked<'a>(matches: &ArgMatches<'a>) -> Request<'a>
 {
     match matches.subcommand() {
         None => Request::Joined,
-        Some(("audit", found)) => Request::Audit(value(found, "history")),
+        Some(("audit", found)) => Request::Audit(audit(found)),
         Some(("live", _)) => Request::Live,
         Some((_, found)) => Request::Replay(replay(found)),
     }
@@ -53,6 +64,29 @@ fn overwrites(request: &Request<'_>) -> bool
     history == replay.config || history == replay.packets
 }
 
+// Whether a limit of the packets is given to callers, who have the usual one.
+fn limits_callers(request: &Request<'_>) -> bool
+    ensures { IsTrue result ↔ LimitsCallers request.now }
+{
+    let Request::Replay(replay) = request else {
+        return false;
+    };
+    replay.callers.is_some() && replay.most_packets.is_some()
+}
+
+// Why the arguments of a request don't go together, if they don't.
+fn conflict_of(request: &Request<'_>) -> Option<&'static str>
+    ensures { MatchOption result (Conflicts request.now → ⊥) (λ _. Conflicts request.now) }
+{
+    if overwrites(request) {
+        return Some("--history FILE would overwrite CONFIG or PACKETS");
+    }
+    if limits_callers(request) {
+        return Some("--most-packets BYTES can't be used with --callers N");
+    }
+    None
+}
+
 /// What the words of a command line ask for, of which the first is the program's name, or why they ask for nothing.
 pub fn request_of<'a>(alloc: Global, words: &'a [String]) -> Result<Request<'a>, Refusal>
     ensures ok { IfOk result (Asks (map (λ s. string_bytes s) words.now)) }
@@ -61,9 +95,9 @@ pub fn request_of<'a>(alloc: Global, words: &'a [String]) -> Result<Request<'a>,
     let mut form = form(alloc)?;
     let matches = form.try_get_matches_from_mut(words)?;
     let request = asked(&matches);
-    if overwrites(&request) {
-        let told = "--history FILE would overwrite CONFIG or PACKETS";
-        return Err(Refusal::from(form.error(ErrorKind::ArgumentConflict, told)?));
+    if let Some(told) = conflict_of(&request) {
+        let mut replay = called_replay(alloc)?;
+        return Err(Refusal::from(replay.error(ErrorKind::ArgumentConflict, told)?));
     }
     Ok(request)
 }

@@ -1,13 +1,13 @@
 ghost use Rattle.std.specs.Prelude.{◌≡◌, IfOk, false};
 ghost use Rattle.clap.specs.Words.{rule_of};
-ghost use Rattle.dn_command.specs.Program.{IsForm, audit_form, bare_form, callers_rule, file_rule, history_rule, live_form, program, replay_form};
+ghost use Rattle.dn_command.specs.Program.{IsForm, audit_form, bare_form, callers_rule, file_rule, history_rule, live_form, most_rule, program, replay_form, unlimited_form};
 
 use clap::builder::ValueParser;
 use clap::{Arg, Command};
 use std::alloc::{AllocError, Global};
 
 // What `--version` tells: the version, and the kit with which it is proved and built.
-const VERSION: &str = "1.0.0 (rattle-kit-13f)";
+const VERSION: &str = "1.1.0 (rattle-kit-13b)";
 
 // What stands below the options in the help of the whole.
 const EXAMPLE: &str = "Example:
@@ -56,9 +56,21 @@ fn history<'a>(alloc: Global) -> Arg<'a>
         )
 }
 
-// The command that replays two files.
-fn replay<'a>(alloc: Global) -> Result<Command<'a>, AllocError>
-    ensures { IfOk result (IsForm replay_form) }
+// How many bytes a file can have at most.
+fn most<'a>(alloc: Global, name: &'a str, help: &'a str) -> Arg<'a>
+    ensures rule { rule_of result ≡ most_rule name.entry.now }
+    ensures local { result.global ≡ false }
+{
+    Arg::new(alloc, name)
+        .long(name)
+        .value_name("BYTES")
+        .value_parser(ValueParser::unsigned(1, 1 << 40))
+        .help(help)
+}
+
+// The command that replays two files, without a limit of the packets.
+fn unlimited_replay<'a>(alloc: Global) -> Result<Command<'a>, AllocError>
+    ensures { IfOk result (IsForm unlimited_form) }
 {
     Command::new(alloc, "replay")
         .about("Replays a packet file through a configuration and writes the report")
@@ -78,13 +90,39 @@ fn replay<'a>(alloc: Global) -> Result<Command<'a>, AllocError>
         .arg(history(alloc))
 }
 
+// The command that replays two files.
+fn replay<'a>(alloc: Global) -> Result<Command<'a>, AllocError>
+    ensures { IfOk result (IsForm replay_form) }
+{
+    unlimited_replay(alloc)?.arg(most(
+        alloc,
+        "most-packets",
+        "Takes PACKETS of at most so many bytes, in place of 67108864. Not with --callers",
+    ))
+}
+
+// The same command under the name by which it is called, so that a fault of its own shows its own usage.
+pub(crate) fn called_replay<'a>(alloc: Global) -> Result<Command<'a>, AllocError> {
+    replay(alloc)?.bin_name("dummynet replay")
+}
+
 // The command that audits a history.
 fn audit<'a>(alloc: Global) -> Result<Command<'a>, AllocError>
     ensures { IfOk result (IsForm audit_form) }
 {
     Command::new(alloc, "audit")
         .about("Tells whether a history is lawful, or the first entry that differs")
-        .arg(required(alloc, "history", "HISTORY", "A file that --history wrote"))
+        .arg(required(
+            alloc,
+            "history",
+            "HISTORY",
+            "A history: a file that replay --history wrote, or what live or the library did",
+        ))?
+        .arg(most(
+            alloc,
+            "most-history",
+            "Takes a HISTORY of at most so many bytes, in place of 268435456",
+        ))
 }
 
 // The command that serves a live session.

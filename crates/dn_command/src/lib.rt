@@ -9,5 +9,5 @@ mod words;
 
 pub use asked::request_of;
 pub use refusal::Refusal;
-pub use request::{Replay, Request};
+pub use request::{Audit, Replay, Request};
 pub use words::words_of;

@@ -5,8 +5,8 @@ pub enum Request<'a> {
     Joined,
     /// A replay of two files.
     Replay(Replay<'a>),
-    /// The audit of the history at this path.
-    Audit(&'a str),
+    /// The audit of a history.
+    Audit(Audit<'a>),
     /// A live session.
     Live,
 }
@@ -22,4 +22,15 @@ pub struct Replay<'a> {
     pub callers: Option<usize>,
     /// The path to which the history goes, if one is given.
     pub history: Option<&'a str>,
+    /// How many bytes the packets can have at most, 1 to 2^40; as many as is usual, where no count is given.
+    pub most_packets: Option<usize>,
+}
+
+/// The audit of a history.
+#[derive(Clone, Copy, Debug)]
+pub struct Audit<'a> {
+    /// The path of the history.
+    pub history: &'a str,
+    /// How many bytes it can have at most, 1 to 2^40; as many as is usual, where no count is given.
+    pub most_history: Option<usize>,
 }

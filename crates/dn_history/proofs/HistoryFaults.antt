@@ -3,11 +3,12 @@ use Rattle.std.proofs.Common.{◌≡◌, ℕ, zero, suc, ◌+◌, Bool, true, fa
 use Rattle.std.specs.Prelude.{cond, ⊤}
 use Rattle.dn_types.specs.declared.command.Command.{Command}
 use Rattle.dn_types.specs.declared.entry.Entry.{Entry}
+use Rattle.dn_types.specs.declared.rule.Rule.{Rule}
 use Rattle.dn_records.specs.Records.{Fields}
 use Rattle.dn_history.specs.HistoryFile.{before, call_of, command_by, delivered_from, end_by, entries_from, entry_by}
-use Rattle.dn_history.specs.HistoryFile.{entry_from, history_file, history_from, history_limit, nothing_in, reply_by, reply_from, status_from}
+use Rattle.dn_history.specs.HistoryFile.{entry_from, history_file, history_from, history_in, history_limit, nothing_in, reply_by, reply_from, status_from}
 use Rattle.dn_history.specs.HistoryFaults.{IsHistoryFault}
-use Rattle.dn_files.specs.Reading.{◌>>=◌, IsRefusal}
+use Rattle.dn_files.specs.Reading.{◌>>=◌, IsRefusal, within_limit}
 use Rattle.dn_history.specs.RecordsLeft.{Rest, first_record, in_record, item_from, items_from, next_record}
 use Rattle.dn_history.specs.declared.history_version.HistoryVersion.{HistoryVersion}
 use Rattle.dn_files.specs.declared.replay_fault.ReplayFault.{ReplayFault}
@@ -123,23 +124,31 @@ limit_good : (b : Bool) (text : List ℕ) → IsGood (cond b (Ok text) (Err (Too
 limit_good true text = record { fits = tt }
 limit_good false text = record { fits = refl }
 
-file_good : (text : List ℕ) → IsGood (history_file text)
-file_good text = bound _ _ (limit_good (nat_le (length text) history_limit) text) (λ whole. history_good _)
+-- What a text of at most so many bytes is read as.
+abbrev file_within : ℕ → List ℕ → Result (Rule × List Entry) ReplayFault
+file_within limit text = within_limit limit History text >>= history_in
 
-of_file : (text : List ℕ) (fault : ReplayFault) → history_file text ≡ Err fault → IsHistoryFault fault
-of_file text fault is = (rw is at (file_good text)).fits
+file_good : (limit : ℕ) (text : List ℕ) → IsGood (file_within limit text)
+file_good limit text = bound _ _ (limit_good (nat_le (length text) limit) text) (λ whole. history_good _)
+
+of_file : (limit : ℕ) (text : List ℕ) (fault : ReplayFault) → file_within limit text ≡ Err fault → IsHistoryFault fault
+of_file limit text fault is = (rw is at (file_good limit text)).fits
 
 -- Why a history file isn't read.
+pub of_reading_within : (limit : ℕ) (known : Option (List ℕ)) (failed : Bool) (fault : ReplayFault) → IsRefusal History (file_within limit) known failed fault → IsHistoryFault fault
+of_reading_within limit known failed (Read what) h = h.0
+of_reading_within limit known failed (Write what) h = absurd h
+of_reading_within limit known failed OutOfMemory h = tt
+of_reading_within limit known failed (Config line f) h = of_file limit h.1.0 (Config line f) h.1.2
+of_reading_within limit known failed (ConfigText line) h = of_file limit h.1.0 (ConfigText line) h.1.2
+of_reading_within limit known failed (NoSuchPipe line) h = of_file limit h.1.0 (NoSuchPipe line) h.1.2
+of_reading_within limit known failed (BadRow row field) h = of_file limit h.1.0 (BadRow row field) h.1.2
+of_reading_within limit known failed (BadRecord number) h = of_file limit h.1.0 (BadRecord number) h.1.2
+of_reading_within limit known failed (TooLong what) h = of_file limit h.1.0 (TooLong what) h.1.2
+of_reading_within limit known failed BadCount h = of_file limit h.1.0 BadCount h.1.2
+of_reading_within limit known failed (PipeHasQueues line) h = of_file limit h.1.0 (PipeHasQueues line) h.1.2
+of_reading_within limit known failed (NoSuchQueue line) h = of_file limit h.1.0 (NoSuchQueue line) h.1.2
+
+-- The same with the limit of a history file.
 pub of_reading : (known : Option (List ℕ)) (failed : Bool) (fault : ReplayFault) → IsRefusal History history_file known failed fault → IsHistoryFault fault
-of_reading known failed (Read what) h = h.0
-of_reading known failed (Write what) h = absurd h
-of_reading known failed OutOfMemory h = tt
-of_reading known failed (Config line f) h = of_file h.1.0 (Config line f) h.1.2
-of_reading known failed (ConfigText line) h = of_file h.1.0 (ConfigText line) h.1.2
-of_reading known failed (NoSuchPipe line) h = of_file h.1.0 (NoSuchPipe line) h.1.2
-of_reading known failed (BadRow row field) h = of_file h.1.0 (BadRow row field) h.1.2
-of_reading known failed (BadRecord number) h = of_file h.1.0 (BadRecord number) h.1.2
-of_reading known failed (TooLong what) h = of_file h.1.0 (TooLong what) h.1.2
-of_reading known failed BadCount h = of_file h.1.0 BadCount h.1.2
-of_reading known failed (PipeHasQueues line) h = of_file h.1.0 (PipeHasQueues line) h.1.2
-of_reading known failed (NoSuchQueue line) h = of_file h.1.0 (NoSuchQueue line) h.1.2
+of_reading known failed fault h = of_reading_within history_limit known failed fault h

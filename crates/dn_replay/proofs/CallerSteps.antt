@@ -11,6 +11,7 @@ use Rattle.dn_replay.specs.Replays.{AskFor, config_calls, IsUnread}
 use Rattle.dn_replay.specs.Report.{report}
 use Rattle.dn_replay.specs.Runs.{history_of}
 use Rattle.dn_files.specs.Writing.{IsUnwritten}
+use Rattle.dn_files.proofs.Causes.{unwritten-cases}
 use Rattle.dn_files.specs.declared.replay_fault.ReplayFault.{ReplayFault}
 use Rattle.dn_files.specs.declared.replay_fault.ReplayFault.TheVariants.{BadRow, Read, Write, TooLong, OutOfMemory, Config, ConfigText, NoSuchPipe, BadRecord, BadCount, PipeHasQueues, NoSuchQueue}
 use Rattle.dn_files.specs.declared.row.Row.{Row}
@@ -67,15 +68,6 @@ module _ (n : ℕ) (Unread : Type 0) (ReadFailed : Option Source → Type 0) (co
   -- The report of the callers' history wasn't written.
   pub callers_unreported : (entries : List Entry) (old new : Option (List ℕ)) (failed : Bool) (fault : ReplayFault) → IsCount n → ReadFailed None → IsReplayOfCallers n config packets entries
       → IsUnwritten Report (report n entries) old new failed fault → IsUnreplayedByCallers n Unread ReadFailed config packets old new failed fault
-  callers_unreported entries old new failed (Write what) count sound replay h = (count, sound, (entries, replay, h))
-  callers_unreported entries old new failed OutOfMemory count sound replay h = (count, (sound, h))
-  callers_unreported entries old new failed BadCount count sound replay h = absurd h
-  callers_unreported entries old new failed (Read what) count sound replay h = absurd h
-  callers_unreported entries old new failed (Config l f) count sound replay h = absurd h
-  callers_unreported entries old new failed (ConfigText l) count sound replay h = absurd h
-  callers_unreported entries old new failed (NoSuchPipe l) count sound replay h = absurd h
-  callers_unreported entries old new failed (BadRow r f) count sound replay h = absurd h
-  callers_unreported entries old new failed (BadRecord r) count sound replay h = absurd h
-  callers_unreported entries old new failed (TooLong s) count sound replay h = absurd h
-  callers_unreported entries old new failed (PipeHasQueues l) count sound replay h = absurd h
-  callers_unreported entries old new failed (NoSuchQueue l) count sound replay h = absurd h
+  callers_unreported entries old new failed fault count sound replay =
+      unwritten-cases (IsUnreplayedByCallers n Unread ReadFailed config packets old new failed) Report (report n entries) old new failed fault
+      (λ what h. (count, sound, (entries, replay, h))) (λ h. (count, (sound, h)))

@@ -15,7 +15,7 @@ use Rattle.dn_text.specs.Lines.{is_line_feed, lines_of, without_empty_end}
 use Rattle.dn_text.specs.Words.{is_nonempty}
 use Rattle.dn_records.specs.Records.{Fields, records_of}
 use Rattle.dn_files.specs.ConfigFile.{command_at, config_limit}
-use Rattle.dn_files.specs.PacketFile.{is_header, packet_file, packet_limit, row_at, row_of, rows_below, rows_from, rows_of}
+use Rattle.dn_files.specs.PacketFile.{is_header, row_at, row_of, rows_below, rows_from, rows_of}
 use Rattle.dn_files.specs.Reading.{◌>>=◌, ReadsAs, within_limit}
 use Rattle.dn_files.specs.declared.replay_fault.ReplayFault.{ReplayFault}
 use Rattle.dn_files.specs.declared.replay_fault.ReplayFault.TheVariants.{BadRow, TooLong}
@@ -25,9 +25,9 @@ use Rattle.dn_files.specs.declared.source.Source.TheVariants.{Config, Input, Pac
 use Rattle.dn_files.proofs.Inputs.{short}
 use Rattle.dn_history.proofs.HistoryReading.{numbered}
 use Rattle.dn_replay.specs.Configuring.{applied, configured_by, configured_from, refusal, unless}
-use Rattle.dn_replay.specs.InParts.{calls_asked}
+use Rattle.dn_replay.specs.InParts.{calls_asked, IsLimit}
 use Rattle.dn_replay.specs.OnePass.{AreFew, calls_with}
-use Rattle.dn_replay.specs.Replays.{calls_of_inputs, calls_of_joined, calls_of_parts, config_calls}
+use Rattle.dn_replay.specs.Replays.{calls_of_joined_within, calls_of_parts, calls_within, config_calls}
 use Rattle.dn_replay.specs.Runs.{replayed, submit, submitted}
 
 -- ---- Rows
@@ -115,16 +115,14 @@ config-le text calls e = by (within_limit config_limit Config text) refl e
         let le = configured_by-le read calls e in
         omega (arith, le, same, short.1)
 
-few-after : (calls : List Call) (n : ℕ) (o : Result (List Row) ReplayFault) → length calls ≤ n → n ≤ 2 ^ 32 → ((rows : List Row) → o ≡ Ok rows → length rows ≤ 2 ^ 32) → AreFew (o >>= λ rows. Ok (replayed calls rows))
+few-after : (calls : List Call) (n : ℕ) (o : Result (List Row) ReplayFault) → length calls ≤ n → n ≤ 2 ^ 41 → ((rows : List Row) → o ≡ Ok rows → length rows ≤ 2 ^ 41) → AreFew (o >>= λ rows. Ok (replayed calls rows))
 few-after calls n (Err fault) le small h = tt
 few-after calls n (Ok rows) le small h = let size = submitted-size calls rows in let few = h rows refl in omega (arith, size, few, le, small)
 
 -- The calls of a configuration and of a packet file are few.
-few-of-inputs : (config : Option (List ℕ)) (calls : List Call) (text : List ℕ) (source : Source) → ReadsAs config_calls config calls → within_limit packet_limit source text ≡ Ok text
-    → AreFew (calls_with calls text)
-few-of-inputs config calls text source reads fits =
+few-of-inputs : (config : Option (List ℕ)) (calls : List Call) (text : List ℕ) → ReadsAs config_calls config calls → length text ≤ 2 ^ 40 → AreFew (calls_with calls text)
+few-of-inputs config calls text reads short =
     let le = config-le reads.0 calls reads.2 in
-    let short = (within packet_limit source text text fits).1 in
     few-after calls (config_limit + 1) (rows_of text) le (omega arith) (λ rows is. let few = rows_of-le text rows is in omega (arith, few, short))
 
 -- ---- The two parts of one input
@@ -149,26 +147,25 @@ parts-le start (c ∷ rest) = by (start && is_some (after_mark (c ∷ rest))) (p
     by true le = let behind = mark-le (c ∷ rest) in omega (arith, behind)
     by false le = omega (arith, le)
 
-few-parts : (o : Result (List Call) ReplayFault) (packets : List ℕ) → ((calls : List Call) → o ≡ Ok calls → length calls ≤ 2 ^ 32) → length packets < 2 ^ 32 → AreFew (o >>= λ calls. calls_with calls packets)
+few-parts : (o : Result (List Call) ReplayFault) (packets : List ℕ) → ((calls : List Call) → o ≡ Ok calls → length calls ≤ 2 ^ 41) → length packets < 2 ^ 41 → AreFew (o >>= λ calls. calls_with calls packets)
 few-parts (Err fault) packets h short = tt
-few-parts (Ok calls) packets h short = few-after calls (2 ^ 32) (rows_of packets) (h calls refl) (omega arith) (λ rows is. let few = rows_of-le packets rows is in omega (arith, few, short))
+few-parts (Ok calls) packets h short = few-after calls (2 ^ 41) (rows_of packets) (h calls refl) (omega arith) (λ rows is. let few = rows_of-le packets rows is in omega (arith, few, short))
 
 -- And so are those of one joined input.
-few-of-joined : (text : List ℕ) (source : Source) → within_limit packet_limit source text ≡ Ok text → AreFew (calls_of_parts (joined_parts text))
-few-of-joined text source fits =
-    let short = (within packet_limit source text text fits).1 in
+few-of-joined : (text : List ℕ) → length text ≤ 2 ^ 40 → AreFew (calls_of_parts (joined_parts text))
+few-of-joined text short =
     let parts = parts-le true text in
     few-parts (configured_by (joined_parts text).0) (joined_parts text).1 (λ calls is. let le = configured_by-le (joined_parts text).0 calls is in omega (arith, le, parts, short)) (omega (arith, parts, short))
 
 -- So what is asked for is few calls, or a fault.
-pub few-asked : (config : Option (List ℕ)) (text : List ℕ) → length text ≤ packet_limit → AreFew (calls_asked config text)
-unfolding calls_of_inputs calls_of_joined
-few-asked None text le = let fits = short Input packet_limit text le in rw fits (few-of-joined text Input fits)
-few-asked (Some config) text le = by (config_calls config) refl
+pub few-asked : (limit : ℕ) (config : Option (List ℕ)) (text : List ℕ) → IsLimit limit → length text ≤ limit → AreFew (calls_asked limit config text)
+unfolding calls_within calls_of_joined_within
+few-asked limit None text small le = rw (short Input limit text le) (few-of-joined text (omega (arith, small, le)))
+few-asked limit (Some config) text small le = by (config_calls config) refl
   where
-    fits : within_limit packet_limit Packets text ≡ Ok text
-    fits = short Packets packet_limit text le
+    fits : within_limit limit Packets text ≡ Ok text
+    fits = short Packets limit text le
 
-    by : (o : Result (List Call) ReplayFault) → config_calls config ≡ o → AreFew (o >>= λ calls. packet_file text >>= λ rows. Ok (replayed calls rows))
+    by : (o : Result (List Call) ReplayFault) → config_calls config ≡ o → AreFew (o >>= λ calls. (within_limit limit Packets text >>= rows_of) >>= λ rows. Ok (replayed calls rows))
     by (Err fault) is = tt
-    by (Ok calls) is = rw fits (few-of-inputs (Some config) calls text Packets (config, refl, is) fits)
+    by (Ok calls) is = rw fits (few-of-inputs (Some config) calls text (config, refl, is) (omega (arith, small, le)))

@@ -3,7 +3,7 @@ use Rattle.std.proofs.Common.{◌≡◌, ◌∙◌, ℕ, ◌≤◌, Bool, true, 
 use Rattle.dn_types.specs.declared.call.Call.{Call}
 use Rattle.dn_types.specs.declared.entry.Entry.{Entry}
 use Rattle.dn_text.specs.Joined.{joined_parts}
-use Rattle.dn_files.specs.PacketFile.{packet_limit, rows_of}
+use Rattle.dn_files.specs.PacketFile.{rows_of}
 use Rattle.dn_files.specs.Reading.{◌>>=◌, IsFaultOf, IsTextOf, within_limit}
 use Rattle.dn_files.specs.declared.replay_fault.ReplayFault.{ReplayFault}
 use Rattle.dn_files.specs.declared.replay_fault.ReplayFault.TheVariants.{BadRow, Read, Write, TooLong, OutOfMemory, Config, ConfigText, NoSuchPipe, BadRecord, BadCount, PipeHasQueues, NoSuchQueue}
@@ -14,7 +14,7 @@ use Rattle.dn_replay.specs.declared.replays.input.Input.{Input as TheInput}
 use Rattle.dn_replay.specs.Configuring.{configured_by}
 use Rattle.dn_replay.specs.OnePass.{calls_with, HasTaken, IsAnswered, IsCutAt, IsUnbegun}
 use Rattle.dn_replay.specs.InParts.{calls_asked, source_of}
-use Rattle.dn_replay.specs.Replays.{AskFor, calls_of_inputs, calls_of_joined, calls_of_parts, config_calls, EitherFailed, IsAccepted, IsUnreplayed, TextFailed}
+use Rattle.dn_replay.specs.Replays.{AskForWithin, calls_of_joined_within, calls_of_parts, calls_within, config_calls, EitherFailed, IsAccepted, IsUnreplayed, TextFailed}
 use Rattle.dn_replay.specs.Runs.{replayed}
 
 -- Nothing has come.
@@ -22,23 +22,24 @@ pub from_start : (input : TheInput) → IsUnbegun input → HasTaken input.pass.
 from_start input unbegun = rw unbegun.stage (refl, unbegun.pass, unbegun.config, λ whole. refl)
 
 -- What an input within its limit asks for.
-abbrev pub Asks : Option (List ℕ) → (List ℕ → Result (List Call) ReplayFault) → Type 0
-Asks config asked = (whole : List ℕ) → calls_asked config whole ≡ (within_limit packet_limit (source_of config) whole >>= asked)
+abbrev pub Asks : ℕ → Option (List ℕ) → (List ℕ → Result (List Call) ReplayFault) → Type 0
+Asks limit config asked = (whole : List ℕ) → calls_asked limit config whole ≡ (within_limit limit (source_of config) whole >>= asked)
 
-pub joined_asks : Asks None (λ text. calls_of_parts (joined_parts text))
-unfolding calls_of_joined
-joined_asks whole = refl
+pub joined_asks : (limit : ℕ) → Asks limit None (λ text. calls_of_parts (joined_parts text))
+unfolding calls_of_joined_within
+joined_asks limit whole = refl
 
 rows_ask : (calls : List Call) (within : Result (List ℕ) ReplayFault) → ((within >>= rows_of) >>= λ rows. Ok (replayed calls rows)) ≡ (within >>= calls_with calls)
 rows_ask calls (Ok text) = refl
 rows_ask calls (Err fault) = refl
 
-pub packets_ask : (config : List ℕ) (calls : List Call) → config_calls config ≡ Ok calls → Asks (Some config) (calls_with calls)
-unfolding calls_of_inputs
-packets_ask config calls accepted whole = rw accepted (rows_ask calls (within_limit packet_limit Packets whole))
+pub packets_ask : (limit : ℕ) (config : List ℕ) (calls : List Call) → config_calls config ≡ Ok calls → Asks limit (Some config) (calls_with calls)
+unfolding calls_within
+packets_ask limit config calls accepted whole = rw accepted (rows_ask calls (within_limit limit Packets whole))
 
-pub asked_within : (config : Option (List ℕ)) (asked : List ℕ → Result (List Call) ReplayFault) (text : List ℕ) → Asks config asked → length text ≤ packet_limit → calls_asked config text ≡ asked text
-asked_within config asked text asks le = asks text ∙ rw (short (source_of config) packet_limit text le) refl
+pub asked_within : (limit : ℕ) (config : Option (List ℕ)) (asked : List ℕ → Result (List Call) ReplayFault) (text : List ℕ) → Asks limit config asked → length text ≤ limit
+    → calls_asked limit config text ≡ asked text
+asked_within limit config asked text asks le = asks text ∙ rw (short (source_of config) limit text le) refl
 
 parts_ask : (config packets : List ℕ) (calls : List Call) → configured_by config ≡ Ok calls → calls_of_parts (config, packets) ≡ calls_with calls packets
 parts_ask config packets calls accepted = rw accepted refl
@@ -113,9 +114,9 @@ module _ (Asked Inputs : Result (List Call) ReplayFault → Type 0) (old new : O
     unanswered_through failed (NoSuchQueue l) h = (failures None h.0, through (Err (NoSuchQueue l)) h.1, h.2)
 
 -- What is asked for behind the text of a configuration is asked for by both inputs.
-pub asked_by_both : (config packets : Option (List ℕ)) (text rows : List ℕ) → IsTextOf config text → IsTextOf packets rows
-    → (asked : Result (List Call) ReplayFault) → calls_asked (Some text) rows ≡ asked → AskFor config packets asked
-asked_by_both config packets text rows is_config is_packets asked e = (text, rows, is_config, is_packets, e)
+pub asked_by_both : (limit : ℕ) (config packets : Option (List ℕ)) (text rows : List ℕ) → IsTextOf config text → IsTextOf packets rows
+    → (asked : Result (List Call) ReplayFault) → calls_asked limit (Some text) rows ≡ asked → AskForWithin limit config packets asked
+asked_by_both limit config packets text rows is_config is_packets asked e = (text, rows, is_config, is_packets, e)
 
 -- A read of the packets failed behind a configuration that was accepted, or none did.
 pub either_failed : (config : Option (List ℕ)) (config_failed failed : Bool) → config_failed ≡ false → IsAccepted config → (what : Option Source) → TextFailed Packets failed what

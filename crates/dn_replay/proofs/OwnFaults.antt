@@ -18,7 +18,7 @@ use Rattle.dn_files.specs.ConfigFile.{command_at, config_limit, fault_at, said_a
 use Rattle.dn_replay.specs.Configuring.{applied, configured_by, configured_from, refusal, unless}
 use Rattle.dn_files.specs.PacketFile.{is_header, packet_file, packet_limit, row_at, row_of, rows_below, rows_from, rows_of}
 use Rattle.dn_files.specs.Reading.{◌>>=◌, within_limit}
-use Rattle.dn_replay.specs.Replays.{AskFor, calls_of_inputs, config_calls}
+use Rattle.dn_replay.specs.Replays.{AskFor, calls_of_inputs, calls_within, config_calls}
 use Rattle.dn_replay.specs.Runs.{replayed}
 use Rattle.dn_files.specs.declared.replay_fault.ReplayFault.{ReplayFault}
 use Rattle.dn_files.specs.declared.replay_fault.ReplayFault.TheVariants.{BadCount, BadRow, ConfigText, TooLong}
@@ -110,7 +110,7 @@ in_packets : (text : List ℕ) → IfErr (packet_file text) IsOther
 in_packets text = chained (within_limit packet_limit Packets text) rows_of (limited packet_limit Packets text) (λ whole. in_records (records_of whole))
 
 in_both : (config packets : List ℕ) → IfErr (calls_of_inputs config packets) IsOther
-unfolding calls_of_inputs
+unfolding calls_within
 in_both config packets =
     chained (config_calls config) (λ calls. packet_file packets >>= λ rows. Ok (replayed calls rows)) (in_config config)
     (λ calls. chained (packet_file packets) (λ rows. Ok (replayed calls rows)) (in_packets packets) (λ rows. tt))

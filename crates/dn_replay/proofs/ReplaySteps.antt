@@ -9,11 +9,14 @@ use Rattle.dn_types.specs.declared.entry.Entry.{Entry}
 use Rattle.dn_types.specs.declared.rule.Rule.TheVariants.{Ordered}
 use Rattle.dn_files.specs.PacketFile.{packet_file}
 use Rattle.dn_files.specs.Reading.{IsFaultOf, IsRefusal, IsRefusedFor, IsTextOf, ReadsAs}
-use Rattle.dn_replay.specs.Replays.{AskFor, calls_of_inputs, config_calls, IsReplayed, IsUnread, IsUnreplayed, IsUnreported}
+use Rattle.dn_replay.specs.Replays.{AskFor, AskForWithin, calls_within, config_calls, IsReplayed, IsUnread, IsUnreplayed, IsUnreported}
+use Rattle.dn_replay.specs.Report.{report}
 use Rattle.dn_replay.specs.Runs.{entry_after, history_of}
 use Rattle.dn_files.specs.declared.replay_fault.ReplayFault.{ReplayFault}
 use Rattle.dn_files.specs.declared.replay_fault.ReplayFault.TheVariants.{BadRow, Read, Write, TooLong, OutOfMemory, Config, ConfigText, NoSuchPipe, BadRecord, BadCount, PipeHasQueues, NoSuchQueue}
 use Rattle.dn_files.specs.declared.source.Source.{Source}
+use Rattle.dn_files.specs.declared.source.Source.TheVariants.{Report}
+use Rattle.dn_files.proofs.Causes.{unwritten-cases}
 use Rattle.dn_types.proofs.Histories.{calls_of-more, lawful-more}
 
 -- Each entry of a run is by caller 0.
@@ -52,18 +55,8 @@ some_text (Some bytes) = (bytes, refl)
 -- The report of the calls that were asked for wasn't written, and no read failed.
 pub unreported : (ReadFailed : Option Source → Type 0) (Asked : Result (List Call) ReplayFault → Type 0) (calls : List Call) (old new : Option (List ℕ)) (failed : Bool) (fault : ReplayFault)
     → ReadFailed None → Asked (Ok calls) → IsUnreported calls old new failed fault → IsUnreplayed ReadFailed Asked old new failed fault
-unreported ReadFailed Asked calls old new failed (Write what) sound asked h = (sound, (calls, asked, h))
-unreported ReadFailed Asked calls old new failed OutOfMemory sound asked h = (sound, h)
-unreported ReadFailed Asked calls old new failed (Read what) sound asked h = absurd h
-unreported ReadFailed Asked calls old new failed (Config l f) sound asked h = absurd h
-unreported ReadFailed Asked calls old new failed (ConfigText l) sound asked h = absurd h
-unreported ReadFailed Asked calls old new failed (NoSuchPipe l) sound asked h = absurd h
-unreported ReadFailed Asked calls old new failed (BadRow r f) sound asked h = absurd h
-unreported ReadFailed Asked calls old new failed (BadRecord n) sound asked h = absurd h
-unreported ReadFailed Asked calls old new failed (TooLong s) sound asked h = absurd h
-unreported ReadFailed Asked calls old new failed BadCount sound asked h = absurd h
-unreported ReadFailed Asked calls old new failed (PipeHasQueues l) sound asked h = absurd h
-unreported ReadFailed Asked calls old new failed (NoSuchQueue l) sound asked h = absurd h
+unreported ReadFailed Asked calls old new failed fault sound asked =
+    unwritten-cases (IsUnreplayed ReadFailed Asked old new failed) Report (report 1 (history_of calls)) old new failed fault (λ what h. (sound, (calls, asked, h))) (λ h. (sound, h))
 
 -- A text has a fault of its own.
 pub unread_text : {A : Type 0} (ReadFailed : Option Source → Type 0) (Asked : Result (List Call) ReplayFault → Type 0) (read : Result A ReplayFault) (fault : ReplayFault)
@@ -116,11 +109,11 @@ unreplayed ReadFailed Asked known failed (PipeHasQueues l) whole h = (h.0, h.1, 
 unreplayed ReadFailed Asked known failed (NoSuchQueue l) whole h = (h.0, h.1, (whole, Keeps-refl known))
 
 -- The first fault of two inputs.
-pub config_fault : (config packets : Option (List ℕ)) (fault : ReplayFault) → IsRefusedFor config_calls config fault → AskFor config packets (Err fault)
-unfolding calls_of_inputs
-config_fault config packets fault c = let (text, is) = some_text packets in (c.0, text, c.1, is, rw c.2 refl)
+pub config_fault : (limit : ℕ) (config packets : Option (List ℕ)) (fault : ReplayFault) → IsRefusedFor config_calls config fault → AskForWithin limit config packets (Err fault)
+unfolding calls_within
+config_fault limit config packets fault c = let (text, is) = some_text packets in (c.0, text, c.1, is, rw c.2 refl)
 
 pub packet_fault : (config packets : Option (List ℕ)) (calls : List Call) (fault : ReplayFault) → ReadsAs config_calls config calls → IsRefusedFor packet_file packets fault
     → AskFor config packets (Err fault)
-unfolding calls_of_inputs
+unfolding calls_within
 packet_fault config packets calls fault c p = (c.0, p.0, c.1, p.1, rw (c.2, p.2) refl)

@@ -1,30 +1,40 @@
 -- A replay whose input comes in parts: which text has come, and what it asks for.
-use Rattle.std.specs.Prelude.{◌≡◌, ◌≤◌, length, ℕ, Bool, List, Option, None, Some, Result}
+use Rattle.std.specs.Prelude.{◌≡◌, ◌≤◌, ◌^◌, length, ℕ, Bool, List, Option, None, Some, Result}
 use Rattle.dn_types.specs.declared.call.Call.{Call}
-use Rattle.dn_files.specs.PacketFile.{packet_limit}
 use Rattle.dn_files.specs.Reading.{◌>>=◌, IsTextOf, within_limit}
 use Rattle.dn_files.specs.declared.replay_fault.ReplayFault.{ReplayFault}
 use Rattle.dn_files.specs.declared.source.Source.{Source}
 use Rattle.dn_files.specs.declared.source.Source.TheVariants.{Input, Packets}
 use Rattle.dn_replay.specs.OnePass.{HasTaken}
-use Rattle.dn_replay.specs.Replays.{calls_of_inputs, calls_of_joined}
+use Rattle.dn_replay.specs.Replays.{calls_of_joined_within, calls_within}
 use Rattle.dn_replay.specs.declared.replays.input.Input.{Input as TheInput}
 
--- What a text asks for: the packets behind this configuration, or, where there is none, a joined input.
-abbrev pub calls_asked : Option (List ℕ) → List ℕ → Result (List Call) ReplayFault
-calls_asked None text = calls_of_joined text
-calls_asked (Some config) text = calls_of_inputs config text
+-- A limit is so small that all calls of a text within it count.
+abbrev pub IsLimit : ℕ → Type 0
+IsLimit limit = limit ≤ 2 ^ 40
+
+-- What a text of at most so many bytes asks for: the packets behind this configuration, or, where there is none, a joined input.
+abbrev pub calls_asked : ℕ → Option (List ℕ) → List ℕ → Result (List Call) ReplayFault
+calls_asked limit None text = calls_of_joined_within limit text
+calls_asked limit (Some config) text = calls_within limit config text
 
 -- The name of such a text in a fault.
 abbrev pub source_of : Option (List ℕ) → Source
 source_of None = Input
 source_of (Some config) = Packets
 
--- What a replay under way has taken, whether it records, the name of its text in a fault, and how long that is so far.
+-- What is known of a replay under way: whether it records, the configuration before its text, if there is one, and the text's limit.
+pub record AskedOf : Type 0 where
+  pub records : Bool
+  pub config : Option (List ℕ)
+  pub limit : ℕ
+
+-- What a replay under way has taken, whether it records, the name of its text in a fault, how long that can be, and how long it is so far.
 pub record Coming : Type 0 where
   pub input : TheInput
   pub records : Bool
   pub source : Source
+  pub limit : ℕ
   pub length : ℕ
 
 -- This text has come of the packets behind a configuration, or of a joined input, and each call is kept with its reply, or isn't.
@@ -32,9 +42,10 @@ pub record HasCome (records : Bool) (replay : Coming) (config : Option (List ℕ
   pub records_is : replay.records ≡ records
   pub source_is : replay.source ≡ source_of config
   pub size : replay.length ≡ length text
-  pub short : length text ≤ packet_limit
+  pub short : length text ≤ replay.limit
+  pub few : IsLimit replay.limit
   pub asked : List ℕ → Result (List Call) ReplayFault
-  pub asks : (whole : List ℕ) → calls_asked config whole ≡ (within_limit packet_limit (source_of config) whole >>= asked)
+  pub asks : (whole : List ℕ) → calls_asked replay.limit config whole ≡ (within_limit replay.limit (source_of config) whole >>= asked)
   pub taken : HasTaken records replay.input asked text
 
 -- Some text has come.
@@ -42,5 +53,5 @@ abbrev pub CanGoOn : Coming → Type 0
 CanGoOn replay = (records : Bool) × (config : Option (List ℕ)) × (text : List ℕ) × HasCome records replay config text
 
 -- What an input may have held asks for these calls, or has this fault.
-abbrev pub IsAskedBehind : Option (List ℕ) → Option (List ℕ) → Result (List Call) ReplayFault → Type 0
-IsAskedBehind config known asked = (text : List ℕ) × IsTextOf known text × (calls_asked config text ≡ asked)
+abbrev pub IsAskedBehind : ℕ → Option (List ℕ) → Option (List ℕ) → Result (List Call) ReplayFault → Type 0
+IsAskedBehind limit config known asked = (text : List ℕ) × IsTextOf known text × (calls_asked limit config text ≡ asked)

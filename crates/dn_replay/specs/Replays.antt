@@ -6,7 +6,7 @@ use Rattle.dn_types.specs.declared.entry.Entry.{Entry}
 use Rattle.dn_text.specs.Joined.{joined_parts}
 use Rattle.dn_files.specs.ConfigFile.{config_limit}
 use Rattle.dn_replay.specs.Configuring.{configured_by}
-use Rattle.dn_files.specs.PacketFile.{packet_file, packet_limit, rows_of}
+use Rattle.dn_files.specs.PacketFile.{packet_limit, rows_of}
 use Rattle.dn_files.specs.Reading.{◌>>=◌, within_limit, IsTextOf, ReadsAs}
 use Rattle.dn_replay.specs.Report.{report}
 use Rattle.dn_replay.specs.Runs.{history_of, replayed}
@@ -20,18 +20,30 @@ use Rattle.dn_files.specs.declared.source.Source.TheVariants.{Input, Config, Pac
 abbrev pub config_calls : List ℕ → Result (List Call) ReplayFault
 config_calls text = within_limit config_limit Config text >>= configured_by
 
--- The calls of two inputs, newest first, or their first fault. The configuration comes before the packets.
-unfoldable pub calls_of_inputs : List ℕ → List ℕ → Result (List Call) ReplayFault
-calls_of_inputs config packets = config_calls config >>= λ calls. packet_file packets >>= λ rows. Ok (replayed calls rows)
+-- The calls of two inputs, newest first, or their first fault, where the packets have at most so many bytes. The configuration comes
+-- before the packets.
+unfoldable pub calls_within : ℕ → List ℕ → List ℕ → Result (List Call) ReplayFault
+calls_within limit config packets = config_calls config >>= λ calls. (within_limit limit Packets packets >>= rows_of) >>= λ rows. Ok (replayed calls rows)
+
+-- The same with the limit of a packet file.
+abbrev pub calls_of_inputs : List ℕ → List ℕ → Result (List Call) ReplayFault
+calls_of_inputs config packets = calls_within packet_limit config packets
 
 -- The same of the two parts of one input, which has one limit.
 abbrev pub calls_of_parts : List ℕ × List ℕ → Result (List Call) ReplayFault
 calls_of_parts parts = configured_by parts.0 >>= λ calls. rows_of parts.1 >>= λ rows. Ok (replayed calls rows)
 
-unfoldable pub calls_of_joined : List ℕ → Result (List Call) ReplayFault
-calls_of_joined text = within_limit packet_limit Input text >>= λ whole. calls_of_parts (joined_parts whole)
+unfoldable pub calls_of_joined_within : ℕ → List ℕ → Result (List Call) ReplayFault
+calls_of_joined_within limit text = within_limit limit Input text >>= λ whole. calls_of_parts (joined_parts whole)
 
--- What two inputs may have held asks for these calls, or has this fault.
+abbrev pub calls_of_joined : List ℕ → Result (List Call) ReplayFault
+calls_of_joined text = calls_of_joined_within packet_limit text
+
+-- What two inputs may have held asks for these calls, or has this fault, where the packets have at most so many bytes.
+abbrev pub AskForWithin : ℕ → Option (List ℕ) → Option (List ℕ) → Result (List Call) ReplayFault → Type 0
+AskForWithin limit config packets asked = (c : List ℕ) × (p : List ℕ) × IsTextOf config c × IsTextOf packets p × (calls_within limit c p ≡ asked)
+
+-- The same with the limit of a packet file.
 abbrev pub AskFor : Option (List ℕ) → Option (List ℕ) → Result (List Call) ReplayFault → Type 0
 AskFor config packets asked = (c : List ℕ) × (p : List ℕ) × IsTextOf config c × IsTextOf packets p × (calls_of_inputs c p ≡ asked)
 

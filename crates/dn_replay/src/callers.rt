@@ -8,4 +8,4 @@ mod replay;
 
 pub use gate::Gate;
 pub use no_gate::NoGate;
-pub use replay::replay_callers;
+pub use replay::{replay_callers, replay_callers_with_key};

@@ -6,11 +6,16 @@ mod config;
 mod replays;
 mod report;
 
-pub use callers::{Gate, NoGate, replay_callers};
-pub use dn_audit::{FileAudit, Verdict, audit, audit_file};
-pub use dn_files::{ReplayFault, Row, Source, read_config, read_packets};
-pub use dn_history::{read_history, write_history};
+pub use callers::{Gate, NoGate, replay_callers, replay_callers_with_key};
+pub use dn_audit::{
+    FileAudit, Verdict, audit, audit_file, audit_file_with_key, audit_file_within, audit_with_key,
+};
+pub use dn_files::{PACKET_LIMIT, ReplayFault, Row, Source, read_config, read_packets};
+pub use dn_history::{HISTORY_LIMIT, read_history, write_history};
 pub use dn_records::{FromReader, FromWriter, Inlet, Outlet};
 pub use dn_shaper::HashKey;
-pub use replays::{FileReplay, replay, replay_joined, replay_joined_report, replay_report};
+pub use replays::{
+    FileReplay, replay, replay_joined, replay_joined_report, replay_joined_with_key, replay_report,
+    replay_report_within, replay_with_key, replay_within,
+};
 pub use report::write_report;

@@ -5,6 +5,11 @@ mod file_replay;
 mod inlets;
 mod input;
 mod pass;
+mod unkeyed;
 
 pub use file_replay::FileReplay;
-pub use inlets::{replay, replay_joined, replay_joined_report, replay_report};
+pub use inlets::{
+    replay_joined_report, replay_joined_with_key, replay_report, replay_report_within,
+    replay_with_key, replay_within,
+};
+pub use unkeyed::{replay, replay_joined};

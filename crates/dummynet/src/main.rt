@@ -4,10 +4,10 @@
 mod late_file;
 mod replays;
 
-use dn_command::{Refusal, Request, request_of, words_of};
+use dn_command::{Audit, Refusal, Request, request_of, words_of};
 use dn_live::live;
 use dn_records::{FromReader, FromWriter};
-use dn_replay::{HashKey, ReplayFault, Source, audit_file};
+use dn_replay::{HISTORY_LIMIT, HashKey, ReplayFault, Source, audit_file_within};
 use replays::{replay_files, replay_input};
 use std::process::ExitCode;
 use std::random::RandomSource;
@@ -26,13 +26,15 @@ const UNREAD: u8 = 6;
 fn audit<R: Files + Print + AllocGlobal>(
     rt: &R,
     key: HashKey,
-    path: &str,
+    asked: &Audit<'_>,
 ) -> Result<u8, ReplayFault> {
-    let Ok(file) = fs::open(rt, path) else {
+    let Ok(file) = fs::open(rt, asked.history) else {
         return Err(ReplayFault::Read(Source::History));
     };
+    let limit = asked.most_history.unwrap_or(HISTORY_LIMIT);
+    let mut history = FromReader::new(file);
     let mut out = FromWriter::new(io::writer(rt));
-    Ok(audit_file(rt.alloc(), key, &mut FromReader::new(file), &mut out)?.status())
+    Ok(audit_file_within(rt.alloc(), key, limit, &mut history, &mut out)?.status())
 }
 
 /// Serves a live session from standard input, and answers its status.
@@ -51,7 +53,7 @@ fn run<R: Input + Files + Print + AllocGlobal + Threads + Wait + Sync>(
     match request {
         Request::Joined => replay_input(rt, key)?,
         Request::Replay(asked) => replay_files(rt, key, asked)?,
-        Request::Audit(path) => return audit(rt, key, path),
+        Request::Audit(asked) => return audit(rt, key, asked),
         Request::Live => return serve(rt, key),
     }
     Ok(DONE)

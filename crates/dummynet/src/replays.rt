@@ -2,13 +2,16 @@ use crate::late_file::LateFile;
 use dn_command::Replay;
 use dn_records::{FromReader, FromWriter};
 use dn_replay::{
-    HashKey, NoGate, ReplayFault, Source, replay, replay_callers, replay_joined_report,
-    replay_report, write_history,
+    HashKey, NoGate, PACKET_LIMIT, ReplayFault, Source, replay_callers_with_key,
+    replay_joined_report, replay_report_within, replay_within, write_history,
 };
 use std::rt::Files;
 use std::sync::Wait;
 use std::thread::Threads;
 use std::{fs, io};
+
+// No limit is above this one, as the command line says too.
+const MOST: usize = 1 << 40;
 
 /// From standard input to standard output.
 pub fn replay_input<R: Input + Print + AllocGlobal>(
@@ -37,11 +40,12 @@ pub fn replay_files<R: Files + Print + AllocGlobal + Threads + Wait + Sync>(
     let mut packets = FromReader::new(packets);
     let mut out = FromWriter::new(io::writer(rt));
     let alloc = rt.alloc();
+    let limit = asked.most_packets.unwrap_or(PACKET_LIMIT).min(MOST);
     let entries = match (asked.callers, asked.history) {
         (None, None) => {
-            return replay_report(alloc, key, &mut config, &mut packets, &mut out);
+            return replay_report_within(alloc, key, limit, &mut config, &mut packets, &mut out);
         }
-        (Some(n), _) => replay_callers(
+        (Some(n), _) => replay_callers_with_key(
             rt,
             alloc,
             key,
@@ -51,7 +55,7 @@ pub fn replay_files<R: Files + Print + AllocGlobal + Threads + Wait + Sync>(
             &mut out,
             &NoGate,
         )?,
-        (None, Some(_)) => replay(alloc, key, &mut config, &mut packets, &mut out)?,
+        (None, Some(_)) => replay_within(alloc, key, limit, &mut config, &mut packets, &mut out)?,
     };
     let Some(path) = asked.history else {
         return Ok(());

@@ -1,6 +1,6 @@
 use crate::gates::{Count, Meeting, OneFirst};
 use dn_records::{FromReader, FromWriter};
-use dn_replay::{Gate, HashKey, NoGate, ReplayFault, replay, replay_callers};
+use dn_replay::{Gate, HashKey, NoGate, ReplayFault, replay_callers, replay_with_key};
 use dn_types::{Call, Entry};
 use std::alloc::Global;
 use std::sync::Wait;
@@ -40,16 +40,7 @@ pub fn replay_by<G: Gate + Sync, R: Threads + Wait + Sync>(
     let mut config = FromReader::new(config.as_bytes());
     let mut packets = FromReader::new(packets.as_bytes());
     let mut out = FromWriter::new(written);
-    replay_callers(
-        rt,
-        alloc,
-        HashKey(7),
-        n,
-        &mut config,
-        &mut packets,
-        &mut out,
-        gate,
-    )
+    replay_callers(rt, alloc, n, &mut config, &mut packets, &mut out, gate)
 }
 
 // The same by one caller, without threads.
@@ -62,7 +53,7 @@ fn replay_alone(
     let mut config = FromReader::new(config.as_bytes());
     let mut packets = FromReader::new(packets.as_bytes());
     let mut out = FromWriter::new(written);
-    replay(alloc, HashKey(7), &mut config, &mut packets, &mut out)
+    replay_with_key(alloc, HashKey(7), &mut config, &mut packets, &mut out)
 }
 
 // Whether a report has a line for each of so many rows that came out.

@@ -1,6 +1,7 @@
 use dn_replay::{
-    FromReader, FromWriter, HashKey, NoGate, Verdict, audit, audit_file, read_config, read_packets,
-    replay, replay_callers, write_history, write_report,
+    FromReader, FromWriter, HashKey, NoGate, Verdict, audit_file_with_key, audit_with_key,
+    read_config, read_packets, replay_callers_with_key, replay_with_key, write_history,
+    write_report,
 };
 use dn_types::Rule;
 use std::test::Fail;
@@ -16,7 +17,7 @@ fn the_example_of_the_readme(rt: HostRuntime) -> Result<(), Fail> {
     let mut file = Vec::new(alloc);
     let mut output = Vec::new(alloc);
     let mut out = FromWriter::new(&mut output);
-    let history = replay(
+    let history = replay_with_key(
         alloc,
         key,
         &mut FromReader::new(config),
@@ -25,14 +26,14 @@ fn the_example_of_the_readme(rt: HostRuntime) -> Result<(), Fail> {
     )?;
     write_report(alloc, 1, &history, &mut out)?;
     write_history(alloc, &history, &mut FromWriter::new(&mut file))?;
-    let verdict = audit(alloc, key, Rule::Ordered, &history)?;
+    let verdict = audit_with_key(alloc, key, Rule::Ordered, &history)?;
     assert!(rt; verdict == Verdict::Lawful);
-    let same = audit_file(alloc, key, &mut FromReader::new(file.as_slice()), &mut out)?;
+    let same = audit_file_with_key(alloc, key, &mut FromReader::new(file.as_slice()), &mut out)?;
     assert!(rt; same == verdict);
     let rows = read_packets(alloc, &mut FromReader::new(packets))?;
     let commands = read_config(alloc, &mut FromReader::new(config))?;
     assert!(rt; history.len() == commands.len() + rows.len() + 1);
-    let shared = replay_callers(
+    let shared = replay_callers_with_key(
         &rt,
         alloc,
         key,

@@ -1,6 +1,6 @@
 use crate::histories::{entry, moment, number, one_caller, submit};
 use dn_config::parse_line;
-use dn_replay::{HashKey, Verdict, audit};
+use dn_replay::{HashKey, Verdict, audit, audit_with_key};
 use dn_types::{Call, Deliveries, Delivery, Entry, Reply, Rule, Target};
 use std::alloc::Global;
 use std::test::Fail;
@@ -24,13 +24,16 @@ fn change(history: &mut [Entry], place: usize, reply: Reply) {
 fn differs(alloc: Global, place: usize, reply: Reply) -> Result<bool, Fail> {
     let mut history = one_caller(alloc)?;
     change(&mut history, place, reply);
-    Ok(audit(alloc, HashKey(7), Rule::Ordered, history.as_slice()) == Ok(Verdict::Differs(place)))
+    Ok(
+        audit_with_key(alloc, HashKey(7), Rule::Ordered, history.as_slice())
+            == Ok(Verdict::Differs(place)),
+    )
 }
 
 #[test]
 fn one_caller_history(rt: HostRuntime) -> Result<(), Fail> {
     let alloc = rt.alloc();
-    let verdict = audit(
+    let verdict = audit_with_key(
         alloc,
         HashKey(7),
         Rule::Ordered,
@@ -84,9 +87,12 @@ fn overtaking(alloc: Global) -> Result<Vec<Entry>, Fail> {
 fn rules_of_old_files(rt: HostRuntime) -> Result<(), Fail> {
     let alloc = rt.alloc();
     let history = overtaking(alloc)?;
-    assert!(rt; audit(alloc, HashKey(7), Rule::Free, history.as_slice()) == Ok(Verdict::Lawful));
     assert!(rt;
-        audit(alloc, HashKey(7), Rule::Ordered, history.as_slice()) == Ok(Verdict::Differs(4))
+        audit_with_key(alloc, HashKey(7), Rule::Free, history.as_slice()) == Ok(Verdict::Lawful)
+    );
+    assert!(rt;
+        audit_with_key(alloc, HashKey(7), Rule::Ordered, history.as_slice())
+            == Ok(Verdict::Differs(4))
     );
     Ok(())
 }
@@ -94,7 +100,7 @@ fn rules_of_old_files(rt: HostRuntime) -> Result<(), Fail> {
 #[test]
 fn the_empty_history_is_lawful(rt: HostRuntime) {
     for rule in [Rule::Free, Rule::Ordered] {
-        assert!(rt; audit(rt.alloc(), HashKey(7), rule, &[]) == Ok(Verdict::Lawful));
+        assert!(rt; audit(rt.alloc(), rule, &[]) == Ok(Verdict::Lawful));
     }
 }
 

@@ -1,5 +1,7 @@
 use crate::history::ONE_CALLER;
-use dn_replay::{FileAudit, FromReader, FromWriter, HashKey, ReplayFault, Verdict, audit_file};
+use dn_replay::{
+    FileAudit, FromReader, FromWriter, HashKey, ReplayFault, Verdict, audit_file_with_key,
+};
 use std::alloc::Global;
 use std::test::Fail;
 use test_devices::Parts;
@@ -28,7 +30,7 @@ fn audits(
     let mut written = Vec::new(alloc);
     let mut input = FromReader::new(Parts::of(file.as_bytes(), step));
     let mut out = FromWriter::new(&mut written);
-    let found = audit_file(alloc, HashKey(7), &mut input, &mut out);
+    let found = audit_file_with_key(alloc, HashKey(7), &mut input, &mut out);
     found == answer && written.as_slice() == line.as_bytes() && fed(alloc, file, step) == answer
 }
 

@@ -6,7 +6,7 @@ use crate::histories::one_caller;
 use crate::history::ONE_CALLER;
 use crate::history_files::is_read_as;
 use dn_records::FromWriter;
-use dn_replay::{HashKey, Verdict, audit, write_history, write_report};
+use dn_replay::{HashKey, Verdict, audit_with_key, write_history, write_report};
 use dn_service::{Caller, CloseFault, Service};
 use dn_types::{Entry, Rule};
 use std::alloc::{AllocError, Global};
@@ -54,7 +54,7 @@ fn one_caller_history(rt: HostRuntime) -> Result<(), Fail> {
     let history = closed(&rt, alloc, &expected)?;
     assert!(rt; history.as_slice() == expected.as_slice());
     assert!(rt; is_read_as(alloc, ONE_CALLER.as_bytes(), &history)?);
-    assert!(rt; audit(alloc, HashKey(7), Rule::Ordered, &history) == Ok(Verdict::Lawful));
+    assert!(rt; audit_with_key(alloc, HashKey(7), Rule::Ordered, &history) == Ok(Verdict::Lawful));
     let mut file = Vec::new(alloc);
     let mut report = Vec::new(alloc);
     write_history(alloc, &history, &mut FromWriter::new(&mut file))?;

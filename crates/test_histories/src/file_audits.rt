@@ -2,6 +2,7 @@ use crate::history::ONE_CALLER;
 use crate::history_files::text_with;
 use dn_replay::{
     FromReader, FromWriter, HashKey, Inlet, Outlet, ReplayFault, Source, Verdict, audit_file,
+    audit_file_with_key,
 };
 use std::alloc::Global;
 use std::test::Fail;
@@ -11,7 +12,7 @@ use test_devices::{Parts, Sink, WhenFull};
 fn audits(alloc: Global, file: &str, answer: Result<Verdict, ReplayFault>, line: &str) -> bool {
     let mut written = Vec::new(alloc);
     let mut input = FromReader::new(file.as_bytes());
-    let found = audit_file(
+    let found = audit_file_with_key(
         alloc,
         HashKey(7),
         &mut input,
@@ -87,7 +88,7 @@ fn a_file_without_its_last_record_has_no_verdict(rt: HostRuntime) -> Result<(), 
 fn read_fails(alloc: Global, good: usize) -> bool {
     let mut written = Vec::new(alloc);
     let mut input = FromReader::new(Parts::failing(ONE_CALLER.as_bytes(), good));
-    let answer = audit_file(
+    let answer = audit_file_with_key(
         alloc,
         HashKey(7),
         &mut input,
@@ -108,7 +109,7 @@ fn write_fails(alloc: Global, line: &[u8], room: usize, when_full: WhenFull) -> 
     let mut sink = Sink::new(alloc, room, when_full);
     let mut out = FromWriter::new(&mut sink);
     let mut input = FromReader::new(ONE_CALLER.as_bytes());
-    let answer = audit_file(alloc, HashKey(7), &mut input, &mut out);
+    let answer = audit_file(alloc, &mut input, &mut out);
     out.failed()
         && answer == Err(ReplayFault::Write(Source::Report))
         && Some(sink.held.as_slice()) == line.get(..room)

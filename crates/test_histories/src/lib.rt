@@ -4,6 +4,8 @@
 #[cfg(test)]
 mod audit;
 #[cfg(test)]
+mod audit_limits;
+#[cfg(test)]
 mod audit_parts;
 #[cfg(test)]
 mod closed;

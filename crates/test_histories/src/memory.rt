@@ -2,7 +2,8 @@ use crate::histories::one_caller;
 use crate::history::ONE_CALLER;
 use crate::history_files::is_read_as;
 use dn_replay::{
-    FromReader, FromWriter, HashKey, ReplayFault, Verdict, audit, audit_file, write_history,
+    FromReader, FromWriter, HashKey, ReplayFault, Verdict, audit_file_with_key, audit_with_key,
+    write_history,
 };
 use dn_types::Rule;
 use std::alloc::Global;
@@ -12,7 +13,7 @@ use test_devices::with_room;
 // The verdict on the file of one caller's history. What it writes is added to `written`.
 fn audit_one(alloc: Global, written: &mut Vec<u8>) -> Result<Verdict, ReplayFault> {
     let mut file = FromReader::new(ONE_CALLER.as_bytes());
-    audit_file(alloc, HashKey(7), &mut file, &mut FromWriter::new(written))
+    audit_file_with_key(alloc, HashKey(7), &mut file, &mut FromWriter::new(written))
 }
 
 // Run with each growth refused in turn, these tests pass for every one: a call that is refused memory has written
@@ -48,9 +49,9 @@ fn a_refused_history_is_read_again(rt: HostRuntime) -> Result<(), Fail> {
 fn a_refused_audit_is_made_again(rt: HostRuntime) -> Result<(), Fail> {
     let alloc = rt.alloc();
     let entries = one_caller(alloc)?;
-    let mut verdict = audit(alloc, HashKey(7), Rule::Ordered, &entries);
+    let mut verdict = audit_with_key(alloc, HashKey(7), Rule::Ordered, &entries);
     if verdict.is_err() {
-        verdict = audit(alloc, HashKey(7), Rule::Ordered, &entries);
+        verdict = audit_with_key(alloc, HashKey(7), Rule::Ordered, &entries);
     }
     assert!(rt; verdict == Ok(Verdict::Lawful));
     Ok(())

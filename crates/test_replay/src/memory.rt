@@ -1,6 +1,6 @@
 use crate::broken::{FULL_QUEUE, REPORT};
 use dn_records::{FromReader, FromWriter};
-use dn_replay::{HashKey, ReplayFault, replay, replay_joined};
+use dn_replay::{HashKey, ReplayFault, replay_joined_with_key, replay_with_key};
 use dn_text::split_joined;
 use std::alloc::Global;
 use std::test::Fail;
@@ -10,7 +10,7 @@ use test_devices::with_room;
 fn replay_one(alloc: Global, written: &mut Vec<u8>) -> Result<usize, ReplayFault> {
     let mut input = FromReader::new(FULL_QUEUE.as_bytes());
     let mut out = FromWriter::new(written);
-    replay_joined(alloc, HashKey(7), &mut input, &mut out).map(|entries| entries.len())
+    replay_joined_with_key(alloc, HashKey(7), &mut input, &mut out).map(|entries| entries.len())
 }
 
 // The same of its two parts.
@@ -19,7 +19,9 @@ fn replay_two(alloc: Global, written: &mut Vec<u8>) -> Result<usize, ReplayFault
     let mut config = FromReader::new(config);
     let mut packets = FromReader::new(packets);
     let mut out = FromWriter::new(written);
-    replay(alloc, HashKey(7), &mut config, &mut packets, &mut out).map(|entries| entries.len())
+    replay_with_key(alloc, HashKey(7), &mut config, &mut packets, &mut out).map(
+        |entries| entries.len(),
+    )
 }
 
 // Run with each growth refused in turn, these tests pass for every one: a call that is refused memory has written

@@ -2,7 +2,8 @@ use crate::broken::{FULL_QUEUE, REPORT};
 use crate::headers::PACKET_HEADER;
 use dn_records::{FromReader, FromWriter};
 use dn_replay::{
-    HashKey, ReplayFault, Source, replay, replay_joined, replay_joined_report, replay_report,
+    HashKey, ReplayFault, Source, replay_joined_report, replay_joined_with_key, replay_report,
+    replay_with_key,
 };
 use dn_text::split_joined;
 use std::alloc::{AllocError, Global};
@@ -23,7 +24,7 @@ fn joined(
     let mut input = FromReader::new(input);
     let mut out = FromWriter::new(written);
     if records {
-        let history = replay_joined(alloc, HashKey(7), &mut input, &mut out);
+        let history = replay_joined_with_key(alloc, HashKey(7), &mut input, &mut out);
         return history.map(|entries| Some(entries.len()));
     }
     replay_joined_report(alloc, HashKey(7), &mut input, &mut out).map(|()| None)
@@ -41,7 +42,7 @@ fn both(
     let mut packets = FromReader::new(Parts::of(packets, step));
     let mut out = FromWriter::new(written);
     if records {
-        let history = replay(alloc, HashKey(7), &mut config, &mut packets, &mut out);
+        let history = replay_with_key(alloc, HashKey(7), &mut config, &mut packets, &mut out);
         return history.map(|entries| Some(entries.len()));
     }
     replay_report(alloc, HashKey(7), &mut config, &mut packets, &mut out).map(|()| None)

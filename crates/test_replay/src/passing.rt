@@ -1,6 +1,6 @@
 use crate::headers::PACKET_HEADER;
 use dn_records::{FromReader, FromWriter};
-use dn_replay::{HashKey, ReplayFault, replay_joined, replay_joined_report, write_report};
+use dn_replay::{HashKey, ReplayFault, replay_joined_report, replay_joined_with_key, write_report};
 use std::alloc::{AllocError, Global};
 use std::test::Fail;
 
@@ -28,7 +28,7 @@ fn with_history(alloc: Global, text: &str) -> Result<(Vec<u8>, Vec<u8>), ReplayF
     let mut written = Vec::new(alloc);
     let mut input = FromReader::new(text.as_bytes());
     let mut out = FromWriter::new(&mut written);
-    let history = replay_joined(alloc, HashKey(7), &mut input, &mut out)?;
+    let history = replay_joined_with_key(alloc, HashKey(7), &mut input, &mut out)?;
     let mut of_history = Vec::new(alloc);
     let mut out = FromWriter::new(&mut of_history);
     write_report(alloc, 1, history.as_slice(), &mut out)?;

@@ -1,6 +1,6 @@
 use crate::headers::{PACKET_HEADER, REPORT_HEADER};
 use dn_records::{FromReader, FromWriter};
-use dn_replay::{HashKey, ReplayFault, read_config, read_packets, replay, replay_joined};
+use dn_replay::{ReplayFault, read_config, read_packets, replay, replay_joined};
 use dn_types::{Command, Limit, Loss, Mask, Number, Weight};
 use std::alloc::{AllocError, Global};
 use std::io::Read;
@@ -34,7 +34,7 @@ pub fn replay_readers<C: Read + Drop, P: Read + Drop>(
     let mut packets = FromReader::new(packets);
     let mut written = Vec::new(alloc);
     let mut out = FromWriter::new(&mut written);
-    let history = replay(alloc, HashKey(7), &mut config, &mut packets, &mut out);
+    let history = replay(alloc, &mut config, &mut packets, &mut out);
     let answer = history.map(|entries| entries.len());
     Outcome { answer, written }
 }
@@ -47,7 +47,7 @@ pub fn replay_joined_reader<I: Read + Drop>(alloc: Global, input: I) -> Outcome 
     let mut input = FromReader::new(input);
     let mut written = Vec::new(alloc);
     let mut out = FromWriter::new(&mut written);
-    let history = replay_joined(alloc, HashKey(7), &mut input, &mut out);
+    let history = replay_joined(alloc, &mut input, &mut out);
     let answer = history.map(|entries| entries.len());
     Outcome { answer, written }
 }

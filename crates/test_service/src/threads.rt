@@ -3,7 +3,7 @@ ghost use Rattle.std.specs.Prelude.{◌≡◌, All, IfOk};
 ghost use Rattle.dn_service.specs.Callers.{IsOf, IsSameCaller};
 
 use crate::calls::{history_of, made, packet, pipe};
-use dn_replay::{HashKey, Verdict, audit};
+use dn_replay::{HashKey, Verdict, audit_with_key};
 use dn_service::{Caller, CloseFault, OpenFault, Service, TryFault};
 use dn_types::{Call, Entry, Reply, Rule};
 use std::alloc::Global;
@@ -168,7 +168,7 @@ fn check_thousands<R: Abort>(rt: &R, history: &[Entry]) {
 fn check_history<R: Abort>(rt: &R, alloc: Global, history: &[Entry]) {
     assert!(rt; history.len() == 16_001);
     check_thousands(rt, history);
-    assert!(rt; audit(alloc, HashKey(7), Rule::Ordered, history) == Ok(Verdict::Lawful));
+    assert!(rt; audit_with_key(alloc, HashKey(7), Rule::Ordered, history) == Ok(Verdict::Lawful));
 }
 
 /// A service with sixteen callers, the first of which has configured the pipe.

@@ -1,21 +1,20 @@
-ghost use Rattle.std.specs.Prelude.{◌≡◌, ◌<◌, ◌≤◌, ◌++◌, length, ℕ, List, [], IfOk, IfErr, OnOk, None, false};
+ghost use Rattle.std.specs.Prelude.{◌≡◌, ◌≤◌, ◌+◌, ◌-◌, ◌++◌, length, ⊤, ℕ, List, [], IfOk, IfErr, OnOk, None, false};
+ghost use Rattle.dn_types.specs.declared.entry.Entry.{Entry as EntryValue};
+ghost use Rattle.dn_types.specs.declared.rule.Rule.{Rule as RuleValue};
 ghost use Rattle.dn_files.specs.Reading.{IsFaultOf, IsRefusal, IsTextOf};
 ghost use Rattle.dn_files.specs.declared.source.Source.TheVariants.{History};
-ghost use Rattle.dn_history.specs.HistoryFile.{history_file, history_in};
-ghost use Rattle.dn_audit.specs.FileAudit.{HasCome, HasTaken, HasVerdict};
+ghost use Rattle.dn_history.specs.HistoryFile.{history_in};
+ghost use Rattle.dn_audit.specs.FileAudit.{HasCome, HasTaken, HasVerdict, history_within};
 
 use crate::file_audit::entries::audit_text;
 use crate::file_audit::parts_audit::PartsAudit;
 use crate::verdict::Verdict;
-use dn_files::{ReplayFault, Source};
+use dn_files::{Feed, ReplayFault, Source, feed_all};
 use dn_history::{HISTORY_LIMIT, HistoryParts};
 use dn_records::Inlet;
 use dn_shaper::HashKey;
 use std::alloc::{AllocError, Global};
 use std::mem;
-
-// How many bytes one read asks for at most.
-const PART: usize = 65536;
 
 /// The audit of a history file that comes in parts of any length. `HasCome` says which text has come. Its
 /// entries are audited as they come once the line of its version has; where that isn't written plainly the text
@@ -24,6 +23,7 @@ const PART: usize = 65536;
 pub struct FileAudit {
     alloc: Global,
     key: HashKey,
+    pub(crate) limit: usize,
     pub(crate) length: usize,
     pub(crate) front: Vec<u8>,
     // In a block of its own, so that the proof that an audit is dropped doesn't go through all that is in it.
@@ -31,13 +31,24 @@ pub struct FileAudit {
 }
 
 impl FileAudit {
-    /// An audit of which nothing has come. No verdict depends on the key, the secret of the flow table.
+    /// An audit of which nothing has come, of at most 268,435,456 bytes. No verdict depends on the key, the secret of
+    /// the flow table.
     pub fn new(alloc: Global, key: HashKey) -> FileAudit
-        ensures { HasCome result [] }
+        ensures come { HasCome result [] }
+        ensures limit { result.limit ≡ 268435456 }
+    {
+        FileAudit::within(alloc, key, HISTORY_LIMIT)
+    }
+
+    /// The same of at most `limit` bytes.
+    pub fn within(alloc: Global, key: HashKey, limit: usize) -> FileAudit
+        ensures come { HasCome result [] }
+        ensures limit { result.limit ≡ limit }
     {
         FileAudit {
             alloc,
             key,
+            limit,
             length: 0,
             front: Vec::new(alloc),
             begun: None,
@@ -49,6 +60,7 @@ impl FileAudit {
         requires { self.old.begun ≡ None }
         ensures taken { OnOk result ((text : List ℕ) → HasTaken self.old text → HasTaken self.new (text ++ part.now)) }
         ensures length { self.new.length ≡ self.old.length }
+        ensures limit { self.new.limit ≡ self.old.limit }
     {
         self.front.extend_from_slice(part)?;
         let Some(parts) = HistoryParts::new(self.alloc, self.front.as_slice())? else {
@@ -63,6 +75,7 @@ impl FileAudit {
     fn take(&mut self, part: &[u8]) -> Result<(), AllocError>
         ensures taken { OnOk result ((text : List ℕ) → HasTaken self.old text → HasTaken self.new (text ++ part.now)) }
         ensures length { self.new.length ≡ self.old.length }
+        ensures limit { self.new.limit ≡ self.old.limit }
     {
         match &mut self.begun {
             Some(begun) => begun.take(part),
@@ -70,14 +83,16 @@ impl FileAudit {
         }
     }
 
-    /// Takes the next part of the text, which has at most 268,435,456 bytes in all. TooLong says that it has more,
-    /// and OutOfMemory that a growth was refused; after either the audit is of no more use.
+    /// Takes the next part of the text, which has at most as many bytes in all as its limit says. TooLong says that it
+    /// has more, and OutOfMemory that a growth was refused; after either the audit is of no more use.
     pub fn feed(&mut self, part: &[u8]) -> Result<(), ReplayFault>
         ensures ok { OnOk result ((text : List ℕ) → HasCome self.old text → HasCome self.new (text ++ part.now)) }
+        ensures limit { self.new.limit ≡ self.old.limit }
+        ensures room { OnOk result (length part.now + (self.new.limit - self.new.length) ≤ self.old.limit - self.old.length) }
         ensures err { IfErr result (λ fault. (text more : List ℕ) → HasCome self.old text
-            → IsFaultOf (history_file (text ++ (part.now ++ more))) fault) }
+            → IsFaultOf (history_within self.old.limit (text ++ (part.now ++ more))) fault) }
     {
-        if part.len() > HISTORY_LIMIT.saturating_sub(self.length) {
+        if part.len() > self.limit.saturating_sub(self.length) {
             return Err(ReplayFault::TooLong(Source::History));
         }
         let Ok(()) = self.take(part) else {
@@ -87,44 +102,18 @@ impl FileAudit {
         Ok(())
     }
 
-    // Feeds what an inlet has left, a read of at most the length of `chunk` at a time.
-    fn read_by<I: Inlet>(&mut self, inlet: &mut I, chunk: &mut [u8]) -> Result<(), ReplayFault>
-        requires come { HasCome self.old [] }
-        requires sound { I.has_failed inlet.old ≡ false }
-        requires room { (0 < length chunk.old) × (length chunk.old ≤ 65536) }
-        ensures ok { OnOk result ((text : List ℕ) × IsTextOf (I.remaining inlet.old) text × HasCome self.new text) }
-        ensures sound { OnOk result (I.has_failed inlet.new ≡ false) }
-        ensures err { IfErr result (λ fault. IsRefusal History history_file
-            (I.remaining inlet.old) (I.has_failed inlet.new) fault) }
-    {
-        loop {
-            let Some(count) = inlet.read(chunk) else {
-                return Err(ReplayFault::Read(Source::History));
-            };
-            if count == 0 {
-                return Ok(());
-            }
-            match self.feed(&chunk[..count]) {
-                Ok(()) => {}
-                Err(fault) => return Err(fault),
-            }
-        }
-    }
-
     /// Feeds what an inlet has left, in parts of at most 65,536 bytes. The faults are those of `feed`, and Read
     /// where a read failed. Once more bytes have come than a file has at most, nothing more is read.
     pub fn read<I: Inlet>(&mut self, inlet: &mut I) -> Result<(), ReplayFault>
         requires come { HasCome self.old [] }
         requires sound { I.has_failed inlet.old ≡ false }
         ensures ok { OnOk result ((text : List ℕ) × IsTextOf (I.remaining inlet.old) text × HasCome self.new text) }
+        ensures limit { OnOk result (self.new.limit ≡ self.old.limit) }
         ensures sound { OnOk result (I.has_failed inlet.new ≡ false) }
-        ensures err { IfErr result (λ fault. IsRefusal History history_file
+        ensures err { IfErr result (λ fault. IsRefusal History (history_within self.old.limit)
             (I.remaining inlet.old) (I.has_failed inlet.new) fault) }
     {
-        let Ok(mut chunk) = vec![in self.alloc; 0u8; PART] else {
-            return Err(ReplayFault::OutOfMemory);
-        };
-        self.read_by(inlet, chunk.as_mut_slice())
+        feed_all(self.alloc, inlet, self)
     }
 
     /// The verdict on the history, whose text has ended, and the count of its entries, or the fault of the text:
@@ -142,5 +131,28 @@ impl FileAudit {
         // The proof of a drop by a call has one step, where that of a drop at the end has one for each field.
         drop(audit);
         found
+    }
+}
+
+impl Feed for FileAudit {
+    // The limit.
+    ghost Known = { ℕ };
+
+    ghost Value = { RuleValue × List EntryValue };
+
+    ghost reading = { history_within };
+
+    ghost source_of = { λ limit. History };
+
+    ghost has_come = { λ limit audit text. HasCome audit text × (audit.limit ≡ limit) };
+
+    ghost room = { λ audit. audit.limit - audit.length };
+
+    fn feed(&mut self, part: &[u8]) -> Result<(), ReplayFault> {
+        FileAudit::feed(self, part)
+    }
+
+    fn source(&self) -> Source {
+        Source::History
     }
 }

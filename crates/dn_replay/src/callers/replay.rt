@@ -90,6 +90,43 @@ fn history<G: Gate + Sync, R: Threads + Wait + Sync>(
 pub fn replay_callers<C: Inlet, P: Inlet, O: Outlet, G: Gate + Sync, R: Threads + Wait + Sync>(
     rt: &R,
     alloc: Global,
+    n: usize,
+    config: &mut C,
+    packets: &mut P,
+    out: &mut O,
+    gate: &G,
+) -> Result<Vec<Entry>, ReplayFault>
+    requires config { C.has_failed config.old ≡ false }
+    requires packets { P.has_failed packets.old ≡ false }
+    requires out { O.has_failed out.old ≡ false }
+    ensures ok { IfOk result (λ entries.
+        IsReplayedByCallers n (C.remaining config.old) (P.remaining packets.old) entries.items
+        (O.contents out.old) (O.contents out.new)) }
+
+    // No read and no write failed.
+    ensures inputs { IfOk result (λ _. EitherFailed (C.remaining config.old)
+        (C.has_failed config.new) (P.has_failed packets.new) None) }
+    ensures sound { IfOk result (λ _. O.has_failed out.new ≡ false) }
+    ensures err { IfErr result (λ fault. IsUnreplayedByCallers n
+        (AreUnread (C.remaining config.old) (C.remaining config.new) (P.remaining packets.old) (P.remaining packets.new))
+        (EitherFailed (C.remaining config.old) (C.has_failed config.new) (P.has_failed packets.new))
+        (C.remaining config.old) (P.remaining packets.old)
+        (O.contents out.old) (O.contents out.new) (O.has_failed out.new) fault) }
+{
+    replay_callers_with_key(rt, alloc, HashKey(0), n, config, packets, out, gate)
+}
+
+/// [`replay_callers`] with a secret for the flow table's hash, where a stranger chose the packets. No answer depends on
+/// it.
+pub fn replay_callers_with_key<
+    C: Inlet,
+    P: Inlet,
+    O: Outlet,
+    G: Gate + Sync,
+    R: Threads + Wait + Sync,
+>(
+    rt: &R,
+    alloc: Global,
     key: HashKey,
     n: usize,
     config: &mut C,

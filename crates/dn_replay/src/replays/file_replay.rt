@@ -1,20 +1,17 @@
-ghost use Rattle.std.specs.Prelude.{◌≡◌, ◌<◌, ◌≤◌, ◌++◌, length, ℕ, Bool, List, [], Option, None, Some, Ok, OnOk, IfOk, IfErr, false};
+ghost use Rattle.std.specs.Prelude.{◌≡◌, ◌≤◌, ◌+◌, ◌-◌, ◌++◌, length, ℕ, Bool, List, [], Option, None, Some, Ok, OnOk, IfOk, IfErr, false};
 ghost use Rattle.dn_types.specs.declared.call.Call.{Call as CallValue};
 ghost use Rattle.dn_files.specs.Reading.{IsFaultOf, IsRefusal, IsTextOf};
-ghost use Rattle.dn_replay.specs.InParts.{calls_asked, HasCome, source_of};
+ghost use Rattle.dn_replay.specs.InParts.{AskedOf, calls_asked, HasCome, IsLimit, source_of};
 ghost use Rattle.dn_replay.specs.OnePass.{IsAnswered, NoneFailed};
 ghost use Rattle.dn_replay.specs.Replays.{config_calls, IsUnreplayed};
 
 use crate::replays::input::{Input, Stage};
-use dn_files::{CONFIG_LIMIT, PACKET_LIMIT, ReplayFault, Source};
+use dn_files::{CONFIG_LIMIT, Feed, PACKET_LIMIT, ReplayFault, Source, feed_all};
 use dn_records::{Inlet, Outlet};
 use dn_shaper::HashKey;
 use dn_types::Entry;
 use std::alloc::Global;
 use std::marker::Model;
-
-// How many bytes one read asks for at most.
-const PART: usize = 65536;
 
 /// A replay by one caller of files that come in parts of any length: a joined input, or the packets behind a
 /// configuration. `HasCome` says which text has come. Packets are submitted as they come, and nothing is written
@@ -24,6 +21,7 @@ pub struct FileReplay {
     input: Input,
     records: bool,
     source: Source,
+    limit: usize,
     length: usize,
     alloc: Global,
 }
@@ -33,30 +31,32 @@ impl Model for FileReplay {
 
     ghost Value = { Coming };
 
-    ghost view = { λ s. record { input = s.input; records = s.records; source = s.source; length = s.length } };
+    ghost view = { λ s. record { input = s.input; records = s.records; source = s.source; limit = s.limit; length = s.length } };
 
-    ghost invariant = { λ s. CanGoOn (record { input = s.input; records = s.records; source = s.source; length = s.length }) };
+    ghost invariant = { λ s. CanGoOn (record { input = s.input; records = s.records; source = s.source; limit = s.limit; length = s.length }) };
 }
 
 impl FileReplay {
     /// A replay of a joined input, of which nothing has come: a configuration up to the line `--`, and then
     /// packets. Where it records, each call is kept with its reply; else what is kept of a packet is what the
-    /// report's line says. No answer depends on the key, the secret of the flow table.
+    /// report's line says. It has at most 67,108,864 bytes. No answer depends on the key, the secret of the flow table.
     pub fn joined(alloc: Global, key: HashKey, records: bool) -> FileReplay
-        ensures { HasCome records result None [] }
+        ensures come { HasCome records result None [] }
+        ensures limit { result.limit ≡ 67108864 }
     {
         FileReplay {
             input: Input::new(alloc, key, records),
             records,
             source: Source::Input,
+            limit: PACKET_LIMIT,
             length: 0,
             alloc,
         }
     }
 
     /// A replay of packets, of which none has come, behind a configuration of at most 1,048,576 bytes, whose
-    /// commands are made. The fault is that of the first line that is bad or refused, TooLong(Config), or
-    /// OutOfMemory.
+    /// commands are made. The packets have at most 67,108,864 bytes. The fault is that of the first line that is bad
+    /// or refused, TooLong(Config), or OutOfMemory.
     pub fn behind(
         alloc: Global,
         key: HashKey,
@@ -64,6 +64,24 @@ impl FileReplay {
         config: &[u8],
     ) -> Result<FileReplay, ReplayFault>
         ensures ok { IfOk result (λ replay. HasCome records replay (Some config.now) []) }
+        ensures limit { IfOk result (λ replay. replay.limit ≡ 67108864) }
+        ensures accepted { OnOk result ((calls : List CallValue) × (config_calls config.now ≡ Ok calls)) }
+        ensures err { IfErr result (λ fault. IsFaultOf (config_calls config.now) fault) }
+    {
+        FileReplay::behind_within(alloc, key, records, PACKET_LIMIT, config)
+    }
+
+    /// The same of packets of at most `limit` bytes, of which there are at most 2^40.
+    pub fn behind_within(
+        alloc: Global,
+        key: HashKey,
+        records: bool,
+        limit: usize,
+        config: &[u8],
+    ) -> Result<FileReplay, ReplayFault>
+        requires { IsLimit limit }
+        ensures ok { IfOk result (λ replay. HasCome records replay (Some config.now) []) }
+        ensures limit { IfOk result (λ replay. replay.limit ≡ limit) }
         ensures accepted { OnOk result ((calls : List CallValue) × (config_calls config.now ≡ Ok calls)) }
         ensures err { IfErr result (λ fault. IsFaultOf (config_calls config.now) fault) }
     {
@@ -76,6 +94,7 @@ impl FileReplay {
                 input,
                 records,
                 source: Source::Packets,
+                limit,
                 length: 0,
                 alloc,
             }),
@@ -87,15 +106,17 @@ impl FileReplay {
         }
     }
 
-    /// Takes the next part, of at most 67,108,864 bytes in all. TooLong says that there are more, and nothing of
-    /// the part was taken. After OutOfMemory, which says that a growth was refused, `finish` answers it too.
+    /// Takes the next part, of at most as many bytes in all as its limit says. TooLong says that there are more, and
+    /// nothing of the part was taken. After OutOfMemory, which says that a growth was refused, `finish` answers it too.
     pub fn feed(&mut self, part: &[u8]) -> Result<(), ReplayFault>
         ensures ok { OnOk result ((records : Bool) (config : Option (List ℕ)) (text : List ℕ)
             → HasCome records self.old config text → HasCome records self.new config (text ++ part.now)) }
+        ensures limit { self.new.limit ≡ self.old.limit }
+        ensures room { OnOk result (length part.now + (self.new.limit - self.new.length) ≤ self.old.limit - self.old.length) }
         ensures err { IfErr result (λ fault. (records : Bool) (config : Option (List ℕ)) (text more : List ℕ)
-            → HasCome records self.old config text → IsFaultOf (calls_asked config (text ++ (part.now ++ more))) fault) }
+            → HasCome records self.old config text → IsFaultOf (calls_asked self.old.limit config (text ++ (part.now ++ more))) fault) }
     {
-        if part.len() > PACKET_LIMIT - self.length {
+        if part.len() > self.limit - self.length {
             return Err(ReplayFault::TooLong(self.source));
         }
         let Ok(()) = self.input.take(part) else {
@@ -106,44 +127,18 @@ impl FileReplay {
         Ok(())
     }
 
-    // Feeds what an inlet has left, a read of at most the length of `chunk` at a time.
-    fn read_by<I: Inlet>(&mut self, inlet: &mut I, chunk: &mut [u8]) -> Result<(), ReplayFault>
-        requires sound { I.has_failed inlet.old ≡ false }
-        requires room { (0 < length chunk.old) × (length chunk.old ≤ 65536) }
-        ensures ok { OnOk result ((text : List ℕ) × IsTextOf (I.remaining inlet.old) text
-            × ((records : Bool) (config : Option (List ℕ)) → HasCome records self.old config [] → HasCome records self.new config text)) }
-        ensures sound { OnOk result (I.has_failed inlet.new ≡ false) }
-        ensures err { IfErr result (λ fault. (records : Bool) (config : Option (List ℕ)) → HasCome records self.old config []
-            → IsRefusal (source_of config) (calls_asked config) (I.remaining inlet.old) (I.has_failed inlet.new) fault) }
-    {
-        loop {
-            let Some(count) = inlet.read(chunk) else {
-                return Err(ReplayFault::Read(self.source));
-            };
-            if count == 0 {
-                return Ok(());
-            }
-            match self.feed(&chunk[..count]) {
-                Ok(()) => {}
-                Err(fault) => return Err(fault),
-            }
-        }
-    }
-
     /// Feeds what an inlet has left, in parts of at most 65,536 bytes. The faults are those of `feed`, after which
     /// nothing more is read, and Read where a read failed.
     pub fn read<I: Inlet>(&mut self, inlet: &mut I) -> Result<(), ReplayFault>
         requires sound { I.has_failed inlet.old ≡ false }
         ensures ok { OnOk result ((text : List ℕ) × IsTextOf (I.remaining inlet.old) text
             × ((records : Bool) (config : Option (List ℕ)) → HasCome records self.old config [] → HasCome records self.new config text)) }
+        ensures limit { OnOk result ((records : Bool) (config : Option (List ℕ)) → HasCome records self.old config [] → self.new.limit ≡ self.old.limit) }
         ensures sound { OnOk result (I.has_failed inlet.new ≡ false) }
         ensures err { IfErr result (λ fault. (records : Bool) (config : Option (List ℕ)) → HasCome records self.old config []
-            → IsRefusal (source_of config) (calls_asked config) (I.remaining inlet.old) (I.has_failed inlet.new) fault) }
+            → IsRefusal (source_of config) (calls_asked self.old.limit config) (I.remaining inlet.old) (I.has_failed inlet.new) fault) }
     {
-        let Ok(mut chunk) = vec![in self.alloc; 0u8; PART] else {
-            return Err(ReplayFault::OutOfMemory);
-        };
-        self.read_by(inlet, chunk.as_mut_slice())
+        feed_all(self.alloc, inlet, self)
     }
 
     /// Takes the end of the text: its first fault is answered, or its report is written and its history answered,
@@ -152,11 +147,11 @@ impl FileReplay {
     pub fn finish<O: Outlet>(self, out: &mut O) -> Result<Vec<Entry>, ReplayFault>
         requires sound { O.has_failed out.old ≡ false }
         ensures ok { IfOk result (λ entries. (records : Bool) (config : Option (List ℕ)) (text : List ℕ) → HasCome records self config text
-            → IsAnswered records (λ asked. calls_asked config text ≡ asked) entries.items (O.contents out.old) (O.contents out.new)) }
+            → IsAnswered records (λ asked. calls_asked self.limit config text ≡ asked) entries.items (O.contents out.old) (O.contents out.new)) }
         ensures unasked { IfOk result (λ entries. self.records ≡ false → entries.items ≡ []) }
         ensures sound { IfOk result (λ _. O.has_failed out.new ≡ false) }
         ensures err { IfErr result (λ fault. (records : Bool) (config : Option (List ℕ)) (text : List ℕ) → HasCome records self config text
-            → IsUnreplayed NoneFailed (λ asked. calls_asked config text ≡ asked) (O.contents out.old) (O.contents out.new) (O.has_failed out.new) fault) }
+            → IsUnreplayed NoneFailed (λ asked. calls_asked self.limit config text ≡ asked) (O.contents out.old) (O.contents out.new) (O.has_failed out.new) fault) }
     {
         let alloc = self.alloc;
         let records = self.records;
@@ -172,5 +167,27 @@ impl FileReplay {
             Ok(()) => Ok(history),
             Err(fault) => Err(fault),
         }
+    }
+}
+
+impl Feed for FileReplay {
+    ghost Known = { AskedOf };
+
+    ghost Value = { List CallValue };
+
+    ghost reading = { λ known. calls_asked known.limit known.config };
+
+    ghost source_of = { λ known. source_of known.config };
+
+    ghost has_come = { λ known replay text. HasCome known.records replay known.config text × (replay.limit ≡ known.limit) };
+
+    ghost room = { λ replay. replay.limit - replay.length };
+
+    fn feed(&mut self, part: &[u8]) -> Result<(), ReplayFault> {
+        FileReplay::feed(self, part)
+    }
+
+    fn source(&self) -> Source {
+        self.source
     }
 }

@@ -2,12 +2,12 @@ ghost use Rattle.std.specs.Prelude.{◌≡◌, ◌<◌, ℕ, All, Bool, List, []
 ghost use Rattle.dn_types.specs.History.{IsLawful};
 ghost use Rattle.dn_types.specs.declared.rule.Rule.TheVariants.{Ordered};
 ghost use Rattle.dn_files.specs.Reading.{IsTextOf};
-ghost use Rattle.dn_replay.specs.InParts.{calls_asked, HasCome, IsAskedBehind, source_of};
+ghost use Rattle.dn_replay.specs.InParts.{calls_asked, HasCome, IsAskedBehind, IsLimit, source_of};
 ghost use Rattle.dn_replay.specs.OnePass.{IsAnswered, IsReportedFor};
-ghost use Rattle.dn_replay.specs.Replays.{AskFor, AsksFor, EitherFailed, InputFailed, IsReplayed, IsUnreplayed, TextFailed};
+ghost use Rattle.dn_replay.specs.Replays.{AskFor, AskForWithin, AsksFor, EitherFailed, InputFailed, IsReplayed, IsUnreplayed, TextFailed};
 
 use crate::replays::file_replay::FileReplay;
-use dn_files::{CONFIG_LIMIT, ReplayFault, Source, read_input};
+use dn_files::{CONFIG_LIMIT, PACKET_LIMIT, ReplayFault, Source, read_input};
 use dn_records::{Inlet, Outlet};
 use dn_shaper::HashKey;
 use dn_types::Entry;
@@ -23,11 +23,11 @@ fn answer<I: Inlet, O: Outlet>(
     requires out { O.has_failed out.old ≡ false }
     ensures ok { IfOk result (λ entries. (text : List ℕ) × IsTextOf (I.remaining inlet.old) text
         × ((records : Bool) (config : Option (List ℕ)) → HasCome records replay config []
-        → IsAnswered records (λ asked. calls_asked config text ≡ asked) entries.items (O.contents out.old) (O.contents out.new))) }
+        → IsAnswered records (λ asked. calls_asked replay.limit config text ≡ asked) entries.items (O.contents out.old) (O.contents out.new))) }
     ensures inlet { IfOk result (λ _. I.has_failed inlet.new ≡ false) }
     ensures sound { IfOk result (λ _. O.has_failed out.new ≡ false) }
     ensures err { IfErr result (λ fault. (records : Bool) (config : Option (List ℕ)) → HasCome records replay config []
-        → IsUnreplayed (TextFailed (source_of config) (I.has_failed inlet.new)) (IsAskedBehind config (I.remaining inlet.old))
+        → IsUnreplayed (TextFailed (source_of config) (I.has_failed inlet.new)) (IsAskedBehind replay.limit config (I.remaining inlet.old))
         (O.contents out.old) (O.contents out.new) (O.has_failed out.new) fault) }
 {
     match replay.read(inlet) {
@@ -45,25 +45,27 @@ fn replay_inputs<C: Inlet, P: Inlet, O: Outlet>(
     alloc: Global,
     key: HashKey,
     records: bool,
+    limit: usize,
     config: &mut C,
     packets: &mut P,
     out: &mut O,
 ) -> Result<Vec<Entry>, ReplayFault>
+    requires limit { IsLimit limit }
     requires config { C.has_failed config.old ≡ false }
     requires packets { P.has_failed packets.old ≡ false }
     requires out { O.has_failed out.old ≡ false }
-    ensures ok { IfOk result (λ entries. IsAnswered records (AskFor (C.remaining config.old) (P.remaining packets.old))
+    ensures ok { IfOk result (λ entries. IsAnswered records (AskForWithin limit (C.remaining config.old) (P.remaining packets.old))
         entries.items (O.contents out.old) (O.contents out.new)) }
     ensures inputs { IfOk result (λ _. EitherFailed (C.remaining config.old)
         (C.has_failed config.new) (P.has_failed packets.new) None) }
     ensures sound { IfOk result (λ _. O.has_failed out.new ≡ false) }
     ensures err { IfErr result (λ fault.
         IsUnreplayed (EitherFailed (C.remaining config.old) (C.has_failed config.new) (P.has_failed packets.new))
-        (AskFor (C.remaining config.old) (P.remaining packets.old))
+        (AskForWithin limit (C.remaining config.old) (P.remaining packets.old))
         (O.contents out.old) (O.contents out.new) (O.has_failed out.new) fault) }
 {
     let text = read_input(alloc, config, CONFIG_LIMIT, Source::Config)?;
-    let replay = FileReplay::behind(alloc, key, records, text.as_slice())?;
+    let replay = FileReplay::behind_within(alloc, key, records, limit, text.as_slice())?;
     answer(replay, packets, out)
 }
 
@@ -88,11 +90,9 @@ fn replay_input<I: Inlet, O: Outlet>(
     answer(FileReplay::joined(alloc, key, records), input, out)
 }
 
-/// Replays a packet file through a configuration for one caller: it makes the command of each
-/// configuration line, submits each row, and then takes all packets that are due by 2^62 ns. It writes
-/// the report and answers the history. The packets are submitted as they are read. Nothing is written before
-/// both inputs were read and judged. No answer depends on the key, the secret of the flow table.
-pub fn replay<C: Inlet, P: Inlet, O: Outlet>(
+/// [`replay`](crate::replay) with a secret for the flow table's hash, where a stranger chose the packets. No answer
+/// depends on it.
+pub fn replay_with_key<C: Inlet, P: Inlet, O: Outlet>(
     alloc: Global,
     key: HashKey,
     config: &mut C,
@@ -119,10 +119,43 @@ pub fn replay<C: Inlet, P: Inlet, O: Outlet>(
         (AskFor (C.remaining config.old) (P.remaining packets.old))
         (O.contents out.old) (O.contents out.new) (O.has_failed out.new) fault) }
 {
-    replay_inputs(alloc, key, true, config, packets, out)
+    replay_within(alloc, key, PACKET_LIMIT, config, packets, out)
 }
 
-/// Replays a packet file through a configuration for one caller, as [`replay`] does, and writes
+/// [`replay_with_key`] of packets of at most `limit` bytes, of which there are at most 2^40.
+pub fn replay_within<C: Inlet, P: Inlet, O: Outlet>(
+    alloc: Global,
+    key: HashKey,
+    limit: usize,
+    config: &mut C,
+    packets: &mut P,
+    out: &mut O,
+) -> Result<Vec<Entry>, ReplayFault>
+    requires limit { IsLimit limit }
+    requires config { C.has_failed config.old ≡ false }
+    requires packets { P.has_failed packets.old ≡ false }
+    requires out { O.has_failed out.old ≡ false }
+    ensures ok { IfOk result (λ entries.
+        IsReplayed (AskForWithin limit (C.remaining config.old) (P.remaining packets.old)) entries.items
+        (O.contents out.old) (O.contents out.new)) }
+
+    // The history is lawful, and the report of one caller stands for it.
+    ensures lawful { IfOk result (λ entries. IsLawful Ordered entries.items) }
+    ensures callers { IfOk result (λ entries. All (λ e. e.caller < 1) entries.items) }
+
+    // No read and no write failed.
+    ensures inputs { IfOk result (λ _. EitherFailed (C.remaining config.old)
+        (C.has_failed config.new) (P.has_failed packets.new) None) }
+    ensures sound { IfOk result (λ _. O.has_failed out.new ≡ false) }
+    ensures err { IfErr result (λ fault.
+        IsUnreplayed (EitherFailed (C.remaining config.old) (C.has_failed config.new) (P.has_failed packets.new))
+        (AskForWithin limit (C.remaining config.old) (P.remaining packets.old))
+        (O.contents out.old) (O.contents out.new) (O.has_failed out.new) fault) }
+{
+    replay_inputs(alloc, key, true, limit, config, packets, out)
+}
+
+/// Replays a packet file through a configuration for one caller, as [`replay`](crate::replay) does, and writes
 /// the report alone. The packets are submitted as they are read, and no history is kept: what is kept of a
 /// packet is what its line says. Nothing is written before both inputs were read and judged. No answer depends
 /// on the key, the secret of the flow table.
@@ -148,15 +181,42 @@ pub fn replay_report<C: Inlet, P: Inlet, O: Outlet>(
         (AskFor (C.remaining config.old) (P.remaining packets.old))
         (O.contents out.old) (O.contents out.new) (O.has_failed out.new) fault) }
 {
-    match replay_inputs(alloc, key, false, config, packets, out) {
+    replay_report_within(alloc, key, PACKET_LIMIT, config, packets, out)
+}
+
+/// [`replay_report`] of packets of at most `limit` bytes, of which there are at most 2^40.
+pub fn replay_report_within<C: Inlet, P: Inlet, O: Outlet>(
+    alloc: Global,
+    key: HashKey,
+    limit: usize,
+    config: &mut C,
+    packets: &mut P,
+    out: &mut O,
+) -> Result<(), ReplayFault>
+    requires limit { IsLimit limit }
+    requires config { C.has_failed config.old ≡ false }
+    requires packets { P.has_failed packets.old ≡ false }
+    requires out { O.has_failed out.old ≡ false }
+    ensures ok { OnOk result (IsReportedFor (AskForWithin limit (C.remaining config.old) (P.remaining packets.old))
+        (O.contents out.old) (O.contents out.new)) }
+
+    // No read and no write failed.
+    ensures inputs { OnOk result (EitherFailed (C.remaining config.old)
+        (C.has_failed config.new) (P.has_failed packets.new) None) }
+    ensures sound { OnOk result (O.has_failed out.new ≡ false) }
+    ensures err { IfErr result (λ fault.
+        IsUnreplayed (EitherFailed (C.remaining config.old) (C.has_failed config.new) (P.has_failed packets.new))
+        (AskForWithin limit (C.remaining config.old) (P.remaining packets.old))
+        (O.contents out.old) (O.contents out.new) (O.has_failed out.new) fault) }
+{
+    match replay_inputs(alloc, key, false, limit, config, packets, out) {
         Ok(_) => Ok(()),
         Err(fault) => Err(fault),
     }
 }
 
-/// [`replay`] over one joined input of at most 67,108,864 bytes: a configuration up to the first line
-/// `--`, and then a packet file.
-pub fn replay_joined<I: Inlet, O: Outlet>(
+/// [`replay_joined`](crate::replay_joined) with such a secret.
+pub fn replay_joined_with_key<I: Inlet, O: Outlet>(
     alloc: Global,
     key: HashKey,
     input: &mut I,

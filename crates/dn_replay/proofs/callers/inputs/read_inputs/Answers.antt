@@ -1,5 +1,5 @@
 use Rattle.std.proofs.lemmas.Result.{err_from_is_err_and, IfErr-weaker, IfOk-weaker}
-use Rattle.dn_files.specs.PacketFile.{packet_file}
+use Rattle.dn_files.specs.PacketFile.{packet_file, packet_limit}
 use Rattle.dn_files.specs.declared.source.Source.TheVariants.{Config, Packets}
 use Rattle.dn_replay.specs.Replays.{AskFor, config_calls, EitherFailed}
 use Rattle.dn_replay.proofs.ReplaySteps.{config_fault, packet_fault, unread_input}
@@ -12,7 +12,7 @@ returns-in_err-configure_from-clause-err g c =
     let failed = g.C.Inlet.has_failed c.configure_from.new.config in
     let p = err_from_is_err_and c.from_residual.result c.from_residual.ensures.1 in
     rw (p.1, p.2) (unread_input (EitherFailed config failed (g.P.Inlet.has_failed c.args.packets.now)) (AskFor config packets) Config config_calls config failed _
-    (λ f r. config_fault config packets f r) (λ sound. (sound, c.requires.packets)) (λ bad. (bad, c.requires.packets)) c.in_err-configure_from.ensures.err)
+    (λ f r. config_fault packet_limit config packets f r) (λ sound. (sound, c.requires.packets)) (λ bad. (bad, c.requires.packets)) c.in_err-configure_from.ensures.err)
 
 pub returns-clause-ok : goal.returns-clause-ok
 returns-clause-ok g c =

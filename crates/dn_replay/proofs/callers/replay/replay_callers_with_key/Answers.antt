@@ -4,7 +4,7 @@ use Rattle.std.proofs.lemmas.Result.{err_from_is_err_and}
 use Rattle.dn_replay.specs.CallerReplays.{AreUnread}
 use Rattle.dn_replay.specs.Replays.{EitherFailed}
 use Rattle.dn_replay.proofs.CallerSteps.{callers_replay, callers_unread, callers_unreported, unopened}
-use Rattle.dn_replay.proofs.callers.replay.replay_callers.Goals as goal
+use Rattle.dn_replay.proofs.callers.replay.replay_callers_with_key.Goals as goal
 
 pub returns-in_err-opened-clause-err : goal.returns-in_err-opened-clause-err
 returns-in_err-opened-clause-err g c =

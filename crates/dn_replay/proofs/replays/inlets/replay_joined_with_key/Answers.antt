@@ -1,7 +1,7 @@
 use Rattle.std.proofs.lemmas.Result.{IfOk-weaker}
 use Rattle.dn_replay.specs.Replays.{AsksFor}
 use Rattle.dn_replay.proofs.ReplaySteps.{lawful_replay, one_replays}
-use Rattle.dn_replay.proofs.replays.inlets.replay_joined.Goals as goal
+use Rattle.dn_replay.proofs.replays.inlets.replay_joined_with_key.Goals as goal
 
 pub returns-clause-lawful : goal.returns-clause-lawful
 returns-clause-lawful g c =

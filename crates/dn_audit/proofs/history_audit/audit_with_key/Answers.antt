@@ -1,6 +1,6 @@
 use Rattle.std.proofs.Common.{[], refl}
 use Rattle.dn_audit.proofs.Found.{found-lawful}
-use Rattle.dn_audit.proofs.history_audit.audit.Goals as goal
+use Rattle.dn_audit.proofs.history_audit.audit_with_key.Goals as goal
 
 pub returns-in-Ok-clause-ok : goal.returns-in-Ok-clause-ok
 returns-in-Ok-clause-ok c = rw c.verdict-verdict.ensures (c.in-Ok.ensures.ok c.args.rule [] c.new-audit.ensures refl).found

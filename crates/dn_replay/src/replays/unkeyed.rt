@@ -1,0 +1,66 @@
+ghost use Rattle.std.specs.Prelude.{◌≡◌, ◌<◌, All, false, None, IfOk, IfErr};
+ghost use Rattle.dn_types.specs.History.{IsLawful};
+ghost use Rattle.dn_types.specs.declared.rule.Rule.TheVariants.{Ordered};
+ghost use Rattle.dn_replay.specs.Replays.{AskFor, AsksFor, EitherFailed, InputFailed, IsReplayed, IsUnreplayed};
+
+use crate::replays::inlets::{replay_joined_with_key, replay_with_key};
+use dn_files::ReplayFault;
+use dn_records::{Inlet, Outlet};
+use dn_shaper::HashKey;
+use dn_types::Entry;
+use std::alloc::Global;
+
+/// Replays a packet file through a configuration for one caller: it makes the command of each
+/// configuration line, submits each row, and then takes all packets that are due by 2^62 ns. It writes
+/// the report and answers the history. The packets are submitted as they are read. Nothing is written before
+/// both inputs were read and judged. The packets have at most 67,108,864 bytes.
+pub fn replay<C: Inlet, P: Inlet, O: Outlet>(
+    alloc: Global,
+    config: &mut C,
+    packets: &mut P,
+    out: &mut O,
+) -> Result<Vec<Entry>, ReplayFault>
+    requires config { C.has_failed config.old ≡ false }
+    requires packets { P.has_failed packets.old ≡ false }
+    requires out { O.has_failed out.old ≡ false }
+    ensures ok { IfOk result (λ entries.
+        IsReplayed (AskFor (C.remaining config.old) (P.remaining packets.old)) entries.items
+        (O.contents out.old) (O.contents out.new)) }
+
+    // The history is lawful, and the report of one caller stands for it.
+    ensures lawful { IfOk result (λ entries. IsLawful Ordered entries.items) }
+    ensures callers { IfOk result (λ entries. All (λ e. e.caller < 1) entries.items) }
+
+    // No read and no write failed.
+    ensures inputs { IfOk result (λ _. EitherFailed (C.remaining config.old)
+        (C.has_failed config.new) (P.has_failed packets.new) None) }
+    ensures sound { IfOk result (λ _. O.has_failed out.new ≡ false) }
+    ensures err { IfErr result (λ fault.
+        IsUnreplayed (EitherFailed (C.remaining config.old) (C.has_failed config.new) (P.has_failed packets.new))
+        (AskFor (C.remaining config.old) (P.remaining packets.old))
+        (O.contents out.old) (O.contents out.new) (O.has_failed out.new) fault) }
+{
+    replay_with_key(alloc, HashKey(0), config, packets, out)
+}
+
+/// [`replay`] over one joined input of at most 67,108,864 bytes: a configuration up to the first line
+/// `--`, and then a packet file.
+pub fn replay_joined<I: Inlet, O: Outlet>(
+    alloc: Global,
+    input: &mut I,
+    out: &mut O,
+) -> Result<Vec<Entry>, ReplayFault>
+    requires input { I.has_failed input.old ≡ false }
+    requires out { O.has_failed out.old ≡ false }
+    ensures ok { IfOk result (λ entries. IsReplayed (AsksFor (I.remaining input.old)) entries.items
+        (O.contents out.old) (O.contents out.new)) }
+    ensures lawful { IfOk result (λ entries. IsLawful Ordered entries.items) }
+    ensures callers { IfOk result (λ entries. All (λ e. e.caller < 1) entries.items) }
+    ensures inputs { IfOk result (λ _. InputFailed (I.has_failed input.new) None) }
+    ensures sound { IfOk result (λ _. O.has_failed out.new ≡ false) }
+    ensures err { IfErr result (λ fault.
+        IsUnreplayed (InputFailed (I.has_failed input.new)) (AsksFor (I.remaining input.old))
+        (O.contents out.old) (O.contents out.new) (O.has_failed out.new) fault) }
+{
+    replay_joined_with_key(alloc, HashKey(0), input, out)
+}
