@@ -25,8 +25,9 @@ MANUAL = TOP / "docs" / "hingetulip.3"
 EXAMPLES = TOP / "examples" / "embed"
 FIRST, LINK, SIMULATION = EXAMPLES / "first.c", EXAMPLES / "tun_link.c", EXAMPLES / "aimd.py"
 WARNINGS = ["-Wall", "-Wextra", "-Werror"]
-INSTALLED = ["include/hingetulip.h", "lib/libhingetulip.a", "lib/libhingetulip.so", "lib/libhingetulip.so.1", "lib/pkgconfig/hingetulip.pc",
-             "share/man/man3/hingetulip.3"]
+INSTALLED = ["include/hingetulip.h", "lib/cmake/Hingetulip/HingetulipConfig.cmake", "lib/cmake/Hingetulip/HingetulipConfigVersion.cmake",
+             "lib/libhingetulip.a", "lib/libhingetulip.so", "lib/libhingetulip.so.1", "lib/pkgconfig/hingetulip.pc",
+             "share/hingetulip/installed", "share/man/man3/hingetulip.3"]
 AROUND = "#include <hingetulip.h>\n#include <stdio.h>\n#include <string.h>\nint main(void)\n{\n%s\nreturn 0;\n}\n"
 Done = subprocess.CompletedProcess  # of a program that was run
 

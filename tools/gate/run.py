@@ -107,7 +107,6 @@ def parts(cases: str, seed: int) -> list[Part]:
                ("test_shaper", "refused_growths::"), ("test_parts", "scheduler::"), ("test_parts", "heap::"),
                *[("test_parts", f"{part}::a_refused_growth_changes_nothing") for part in ("link", "flows")],
                *[("test_service", f"one_caller::a_{call}_that_{refused}", row) for call in ("call", "try") for row in ("1", "2")]]
-    capture = TOP / "tools" / "capture" / "test"
     return [
         Part("limits of input", [python, "tools/limit_checks.py", program]),
         *[Part(f"refused growths: {' '.join(words)}", [python, "tools/gate/growths.py", *words], "cc") for words in growths],
@@ -126,7 +125,7 @@ def parts(cases: str, seed: int) -> list[Part]:
         Part("examples", [python, "tools/gate/examples.py", program]),
         Part("the release", [python, "tools/gate/release.py", program]),
         Part("the manual page", [python, "tools/gate/manual.py", program], "mandoc"),
-        *([Part("the capture kit", [str(capture)])] if capture.exists() else []),
+        Part("the kit", ["python/tests/kit"]),
     ]
 
 

@@ -20,8 +20,17 @@ from tempfile import TemporaryDirectory
 from tally import Tally
 
 TOP = Path(__file__).resolve().parent.parent.parent
-SCRIPTS = ("dummynet", "build", "install", "tools/program_sources", "tools/build_program.py", "tools/link_library.py", "tools/library", "tools/release",
-           "tools/completion.bash", "docs/dummynet.1", "crates.txt", "HANDLES")
+SCRIPTS = ("dummynet", "build", "install", "hinge", "tools/program_sources", "tools/build_program.py", "tools/link_library.py", "tools/library",
+           "tools/release", "tools/completion.bash", "docs/dummynet.1", "crates.txt", "HANDLES", "crates/hingetulip_c/include/hingetulip.h",
+           "crates/hingetulip_c/hingetulip.pc", "crates/hingetulip_c/cmake/HingetulipConfig.cmake",
+           "crates/hingetulip_c/cmake/HingetulipConfigVersion.cmake", "examples/live/namespaces.sh", "examples/live/tun_link.c",
+           "examples/live/session.h", "examples/live/40ms.config", "python/hinge/__main__.py", "python/hingetulip/errors.py")
+PROGRAM = ["bin/dummynet", "bin/hinge", "lib/python/hinge/__main__.py", "share/bash-completion/completions/dummynet", "share/hingetulip/installed",
+           "share/hingetulip/live/40ms.config", "share/hingetulip/live/namespaces.sh", "share/hingetulip/live/session.h",
+           "share/hingetulip/live/tun_link.c", "share/man/man1/dummynet.1"]
+LIBRARY = ["include/hingetulip.h", "lib/cmake/Hingetulip/HingetulipConfig.cmake", "lib/cmake/Hingetulip/HingetulipConfigVersion.cmake",
+           "lib/libhingetulip.a", "lib/libhingetulip.so", "lib/libhingetulip.so.1", "lib/pkgconfig/hingetulip.pc", "lib/python/hingetulip/errors.py",
+           "share/hingetulip/installed"]
 PRETENDED = """#!/bin/sh
 crate=$(basename "$PWD")
 case $1 in
@@ -49,10 +58,6 @@ class Copy:
             (self.top / file).parent.mkdir(parents=True, exist_ok=True)
             shutil.copy(TOP / file, self.top / file)
         crates = subprocess.run([TOP / "tools" / "program_sources", "--crates"], capture_output=True, text=True, check=True).stdout.split()
-        for file in ("include/hingetulip.h", "hingetulip.pc"):
-            to = self.top / "crates" / "hingetulip_c" / file
-            to.parent.mkdir(parents=True, exist_ok=True)
-            shutil.copy(TOP / "crates" / "hingetulip_c" / file, to)
         for crate in [*crates, "hingetulip_c", "test_parts"]:
             shutil.copytree(TOP / "crates" / crate / "src", self.top / "crates" / crate / "src")
         self.crates = crates
@@ -157,8 +162,7 @@ def released_and_installed(tally: Tally, copy: Copy) -> None:
         trees.append({str(it.relative_to(prefix)): it.read_bytes() for it in prefix.rglob("*") if it.is_file()})
         tally.equal("./install", 0, done.returncode)
     tally.equal("./install twice", trees[0], trees[1])
-    tally.equal("what is installed", ["bin/dummynet", "share/bash-completion/completions/dummynet", "share/man/man1/dummynet.1"],
-                sorted(trees[0]))
+    tally.equal("what is installed", PROGRAM, sorted(trees[0]))
     tally.equal("./install without a folder", 2, copy.run(script="install").returncode)
     copy.change("crates/dummynet/src/main.rt")
     done = copy.run(script="tools/release")
@@ -181,9 +185,27 @@ def the_library(tally: Tally, copy: Copy) -> None:
     tally.equal("./build --lib leaves the programs", programs, copy.built())
     done = copy.run("--lib", str(prefix), script="install", has_rt=False)
     tally.note("./install --lib", "" if done.returncode == 0 else f"got {done}")
-    tally.equal("what is installed of the library", ["include/hingetulip.h", "lib/libhingetulip.a", "lib/libhingetulip.so", "lib/libhingetulip.so.1",
-                "lib/pkgconfig/hingetulip.pc"], sorted(str(it.relative_to(prefix)) for it in prefix.rglob("*") if it.is_file()))
+    tally.equal("what is installed of the library", LIBRARY, installed(prefix))
+    uninstalled(tally, copy, prefix)
     tally.equal("./build of something else", 2, copy.run("--all", script="build").returncode)
+
+
+def installed(prefix: Path) -> list[str]:
+    return sorted(str(it.relative_to(prefix)) for it in prefix.rglob("*") if it.is_file())
+
+
+def uninstalled(tally: Tally, copy: Copy, prefix: Path) -> None:
+    """./install --uninstall takes away what was put there and its byte code, and leaves a file of the user's own."""
+    (prefix / "lib" / "own").write_text("")
+    kept = prefix / "lib" / "python" / "hingetulip" / "__pycache__"
+    kept.mkdir()
+    for version in ("39", "311"):
+        (kept / f"errors.cpython-{version}.pyc").write_text("")
+    done = copy.run("--uninstall", str(prefix), script="install", has_rt=False)
+    tally.equal("./install --uninstall", (0, ["lib/own"]), (done.returncode, installed(prefix)))
+    tally.equal("folders that are left", ["lib"], sorted(str(it.relative_to(prefix)) for it in prefix.rglob("*") if it.is_dir()))
+    done = copy.run("--uninstall", str(prefix), script="install", has_rt=False)
+    tally.note("nothing to uninstall", "" if done.returncode == 1 and "isn't there" in done.stderr else f"got {done}")
 
 
 def through_the_wrapper(tally: Tally, program: str) -> None:
