@@ -2,10 +2,13 @@
 
 from __future__ import annotations
 
+import difflib
 import importlib
 import sys
+from typing import NoReturn
 
 from hinge import command
+from hinge.version import version
 
 COMMANDS = {
     "packets": "a capture as a packet file",
@@ -19,29 +22,51 @@ COMMANDS = {
     "udp": "a UDP path between two programs through emulated links",
     "trace": "such a path whose bandwidth follows a recorded trace",
 }
-USAGE = "usage: hinge COMMAND ..\n\n" + "".join(f"  {name:<9}{what}\n" for name, what in COMMANDS.items()) + "\n`hinge COMMAND --help` tells more.\n"
+USAGE = 2  # the exit status
+HELP, VERSION = ("help", "-h", "--help"), ("--version", "-V")
+
+
+def summary() -> str:
+    """What `hinge help` prints: the commands, and where more is told."""
+    rows = "".join(f"  {name:<9}{what}\n" for name, what in COMMANDS.items())
+    return (f"usage: hinge COMMAND ..\n\nThe kit round dummynet: captures, pictures, tables and live links.\n\n{rows}"
+            "\n`hinge help COMMAND` tells more, with an example; `hinge --version` prints the version.\n")
+
+
+def refuse(word: str) -> NoReturn:
+    """Ends the kit because of a word that is no command."""
+    near = difflib.get_close_matches(word, COMMANDS, 1)
+    told = f"did you mean `hinge {near[0]}`?" if near else "`hinge help` lists the commands."
+    print(f"hinge: no command {word!r}; {told}", file=sys.stderr)
+    sys.exit(USAGE)
+
+
+def begin(word: str) -> None:
+    """Runs a command over the words behind it."""
+    try:
+        importlib.import_module(f"hinge.commands.{word}").main()
+    except ModuleNotFoundError as missing:
+        if missing.name != "numpy":
+            raise
+        raise command.Fault(command.lacking("numpy", "python3-numpy"), command.MISSING) from None
 
 
 def main() -> None:
-    word = sys.argv[1] if len(sys.argv) > 1 else ""
-    if word in ("", "-h", "--help"):
-        print(USAGE, end="", file=sys.stdout if word else sys.stderr)
-        sys.exit(0 if word else 2)
-    if word not in COMMANDS:
-        print(f"hinge: no command {word!r}\n{USAGE}", end="", file=sys.stderr)
-        sys.exit(2)
-    del sys.argv[1]
-    command.NAME[0] = f"hinge {word}"
-
-    def chosen() -> None:
-        try:
-            importlib.import_module(f"hinge.commands.{word}").main()
-        except ModuleNotFoundError as missing:
-            if missing.name == "numpy":
-                raise command.Fault("needs Python's numpy: pip install hingetulip[capture], or apt-get install python3-numpy", command.MISSING) from None
-            raise
-
-    command.run(chosen)
+    words = sys.argv[1:]
+    if words[:1] == ["help"] and len(words) > 1:
+        words = [words[1], "--help"]
+    if not words:
+        print(summary(), end="", file=sys.stderr)
+        sys.exit(USAGE)
+    if words[0] in HELP:
+        command.run(lambda: print(summary(), end=""))
+    if words[0] in VERSION:
+        command.run(lambda: print(f"hinge {version()}"))
+    if words[0] not in COMMANDS:
+        refuse(words[0])
+    sys.argv[1:] = words[1:]
+    command.NAME[0] = f"hinge {words[0]}"
+    command.run(lambda: begin(words[0]))
 
 
 if __name__ == "__main__":

@@ -69,12 +69,17 @@ def program(name: str, package: str) -> str:
     return path
 
 
+def lacking(name: str, package: str) -> str:
+    """What is told where a module of Python isn't there: how to get it from pip and from Debian."""
+    return f"needs Python's {name}: pip install 'hingetulip[capture]', or apt-get install {package}"
+
+
 def module(name: str, package: str) -> ModuleType:
-    """A Python module that a Debian package brings."""
+    """A Python module that `hingetulip[capture]` or a Debian package brings."""
     try:
         return importlib.import_module(name)
     except ImportError:
-        raise Fault(f"needs Python's {name.split('.')[0]}: apt-get install {package}", MISSING) from None
+        raise Fault(lacking(name.partition(".")[0], package), MISSING) from None
 
 
 @contextmanager

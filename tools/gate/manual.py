@@ -1,11 +1,15 @@
-"""The manual page: whether mandoc has nothing to say of it, and whether it names each status and each fault line.
+"""The manual pages of the commands: whether mandoc has nothing to say of them, and whether they name what the commands take and report.
 
     python3 tools/gate/manual.py PROGRAM
+
+dummynet(1) names each option and each fault line, and hinge(1) each command of `hinge help` and each option in its help. Each
+command's help has an example that calls it.
 """
 
 from __future__ import annotations
 
 import re
+import shutil
 import subprocess
 import sys
 from pathlib import Path
@@ -13,21 +17,61 @@ from pathlib import Path
 from tally import Tally
 
 TOP = Path(__file__).resolve().parent.parent.parent
-PAGE = TOP / "docs" / "dummynet.1"
+PYTHON = "/usr/bin/python3" if shutil.which("/usr/bin/python3") else sys.executable  # ./hinge's own, which has numpy
+
+
+def printed(*words: object) -> str:
+    return subprocess.run(list(map(str, words)), capture_output=True, text=True, check=True).stdout
+
+
+def page(tally: Tally, name: str) -> str:
+    """The words of a page as it is shown, after mandoc has judged it."""
+    file = TOP / "docs" / name
+    lint = subprocess.run(["mandoc", "-Tlint", "-Wstyle", file], capture_output=True, text=True)
+    tally.equal(f"mandoc -Tlint {name}", [], lint.stdout.splitlines())
+    return re.sub(r"\s+", " ", re.sub(".\b", "", printed("mandoc", "-Tutf8", file)))
+
+
+def options(text: str) -> list[str]:
+    """The long options that a help lists."""
+    return sorted(set(re.findall(r"(?<![\w`-])--[a-z][a-z0-9-]*", text)))
+
+
+def named(tally: Tally, text: str, whose: str, words: list[str]) -> None:
+    for word in words:
+        tally.note(f"{whose} {word}", "" if re.search(rf"(?<![\w-]){re.escape(word)}(?![\w-])", text) else "the manual page doesn't name it")
+
+
+def of_dummynet(tally: Tally, program: str) -> None:
+    text = page(tally, "dummynet.1")
+    for line in re.findall(r"^\| `([^`]+)` \|", (TOP / "docs" / "FORMATS.md").read_text().partition("## Faults")[2], re.M):
+        tally.note(f"fault line {line}", "" if line in text else "the manual page doesn't name it")
+    named(tally, text, "dummynet", options(printed(program, "replay", "--help")))
+
+
+def of_hinge(tally: Tally) -> None:
+    hinge = (PYTHON, TOP / "hinge")
+    text = page(tally, "hinge.1")
+    commands = re.findall(r"^  ([a-z]+) ", printed(*hinge, "help"), re.M)
+    tally.note("the commands of hinge", "" if len(commands) >= 10 else f"got {commands}")
+    named(tally, text, "hinge", commands)
+    for command in commands:
+        told = printed(*hinge, command, "--help")
+        example = told.partition("\nexample:\n")[2]
+        tally.note(f"the example of hinge {command}", "" if re.search(rf"^  hinge {command} ", example, re.M) else f"got {example!r}")
+        tally.equal(f"hinge help {command}", told, printed(*hinge, "help", command))
+        steps = re.findall(r"^    ([a-z]+) ", told.partition("positional arguments:")[2].partition("options:")[0], re.M)
+        for words in [[command], *([command, step] for step in steps)]:
+            named(tally, text, f"hinge {' '.join(words)}", options(printed(*hinge, *words, "--help").partition("\nexample:")[0]))
 
 
 def main(program: str) -> int:
     tally = Tally()
-    lint = subprocess.run(["mandoc", "-Tlint", "-Wstyle", PAGE], capture_output=True, text=True)
-    told = lint.stdout.splitlines()
-    tally.equal("mandoc -Tlint", [], told)
-    shown = subprocess.run(["mandoc", "-Tutf8", PAGE], capture_output=True, text=True, check=True).stdout
-    text = re.sub(r"\s+", " ", re.sub(".\b", "", shown))
-    for line in re.findall(r"^\| `([^`]+)` \|", (TOP / "docs" / "FORMATS.md").read_text().partition("## Faults")[2], re.M):
-        tally.note(f"fault line {line}", "" if line in text else "the manual page doesn't name it")
-    help_text = subprocess.run([program, "replay", "--help"], capture_output=True, text=True, check=True).stdout
-    for option in sorted(set(re.findall(r"--[a-z]+", help_text))):
-        tally.note(option, "" if option in text else "the manual page doesn't name it")
+    of_dummynet(tally, program)
+    if subprocess.run([PYTHON, "-c", "import numpy"], capture_output=True).returncode:
+        print("the kit's help: skipped, since Python has no numpy")
+    else:
+        of_hinge(tally)
     return tally.end()
 
 

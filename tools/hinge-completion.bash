@@ -1,0 +1,18 @@
+# Completion of hinge's command line for bash. The commands and their options are those that its help names.
+_hinge() {
+    local word=${COMP_WORDS[COMP_CWORD]} command=${COMP_WORDS[1]} hinge=${COMP_WORDS[0]} words=
+    COMPREPLY=()
+    if [ "$COMP_CWORD" = 1 ] || { [ "$COMP_CWORD" = 2 ] && [ "$command" = help ]; }; then
+        words=$("$hinge" help 2>/dev/null | sed -n 's/^  \([a-z]*\)  *.*/\1/p')
+        [ "$COMP_CWORD" != 1 ] || words="$words help --help --version"
+    elif [ "$command" = sweep ] && [ "$COMP_CWORD" = 2 ] && [ "${word#-}" = "$word" ]; then
+        words=$("$hinge" sweep --help 2>/dev/null | sed -n 's/^    \([a-z]*\)  .*/\1/p')
+    elif [ "${word#-}" != "$word" ]; then
+        [ "$command" != sweep ] || [ "$COMP_CWORD" = 2 ] || command="sweep ${COMP_WORDS[2]}"
+        words=$("$hinge" $command --help 2>/dev/null | grep -o -e '--[a-z0-9-]*' | sort -u)
+    else
+        mapfile -t COMPREPLY < <(compgen -f -- "$word")
+    fi
+    [ -z "$words" ] || mapfile -t COMPREPLY < <(compgen -W "$words" -- "$word")
+}
+complete -o filenames -F _hinge hinge ./hinge
