@@ -1,6 +1,7 @@
-"""Builds the wheel, by what stands in release/ and without a compiler: a backend of PEP 517 that needs nothing but Python.
+"""Builds the wheel, from release/ and without a compiler: a backend of PEP 517 that needs nothing but Python.
 
-The wheel is the same, byte by byte, wherever and whenever it is built: its files stand in order, stored, with one date.
+The wheel is the same, byte by byte, wherever and whenever it is built: its files come in order, stored, with one date. It is refused
+where release/ was built from other sources than those that are here.
 """
 
 from __future__ import annotations
@@ -13,13 +14,18 @@ import sys
 import time
 import zipfile
 from pathlib import Path
-from typing import Iterator, Optional
+from typing import Iterator, NamedTuple, Optional
 
 HERE = Path(__file__).resolve().parent
 TOP = HERE.parent
-NAME, VERSION = "hingetulip", "1.1.0"
+RELEASE = TOP / "release"
+NAME = "hingetulip"
+VERSION = (TOP / "VERSION").read_text(encoding="ascii").strip()
+BASE = f"{NAME}-{VERSION}"
 PACKAGES = ("hingetulip", "hinge")
 TAG = "py3-none-manylinux_2_34_x86_64"
+LIBRARY = "libhingetulip.so.1"
+HOST = "hinge-link"  # the host of live links, in C, where the release has it
 FIRST_DATE = 315532800  # 1980-01-01, the first that a zip file can have
 METADATA = f"""\
 Metadata-Version: 2.1
@@ -45,54 +51,92 @@ hinge = hinge.__main__:main
 [pytest11]
 hingetulip = hinge.pytest_plugin
 """
+WHEEL = f"Wheel-Version: 1.0\nGenerator: {NAME}\nRoot-Is-Purelib: false\nTag: {TAG}\n"
 
 
-def release(name: str, sources: str, crate: str) -> Path:
+class File(NamedTuple):
+    """A file of the wheel."""
+
+    name: str
+    data: bytes
+    mode: int = 0o644
+
+
+def released(name: str, sources: str, crate: str) -> Path:
     """A file of the release, if it was built from the present sources."""
     present = subprocess.run([TOP / "tools" / "program_sources", crate], capture_output=True, text=True, check=True).stdout
-    if (TOP / "release" / sources).read_text() != present:
+    noted = RELEASE / sources
+    if not noted.is_file() or noted.read_text() != present:
         raise SystemExit(f"release/{name} isn't of these sources: tools/release makes it anew")
-    return TOP / "release" / name
+    return RELEASE / name
 
 
-def files(editable: bool) -> Iterator[tuple[str, bytes, int]]:
-    """Each file of the wheel: its name, its bytes and its mode."""
-    base = f"{NAME}-{VERSION}"
-    if editable:
-        library = release("libhingetulip.so.1", "library-sources", "hingetulip_c")
-        names_it = f"import os; os.environ.setdefault('HINGETULIP_LIBRARY', {str(library)!r})"
-        yield f"{NAME}.pth", f"{HERE}\n{names_it}\n".encode(), 0o644
-    else:
-        for package in PACKAGES:
-            for path in sorted((HERE / package).rglob("*")):
-                if path.is_file() and (path.suffix == ".py" or path.name == "py.typed"):
-                    yield str(path.relative_to(HERE)), path.read_bytes(), 0o644
-        library = release("libhingetulip.so.1", "library-sources", "hingetulip_c")
-        yield "hingetulip/libhingetulip.so.1", library.read_bytes(), 0o755
-    yield f"{base}.data/scripts/dummynet", release("dummynet", "sources", "dummynet").read_bytes(), 0o755
-    yield f"{base}.data/data/share/man/man1/dummynet.1", (TOP / "docs" / "dummynet.1").read_bytes(), 0o644
-    yield f"{base}.dist-info/LICENSE", (TOP / "LICENSE").read_bytes(), 0o644
-    yield f"{base}.dist-info/METADATA", (METADATA + "\n" + (HERE / "README.md").read_text()).encode(), 0o644
-    yield f"{base}.dist-info/WHEEL", f"Wheel-Version: 1.0\nGenerator: hingetulip\nRoot-Is-Purelib: false\nTag: {TAG}\n".encode(), 0o644
-    yield f"{base}.dist-info/entry_points.txt", ENTRY_POINTS.encode(), 0o644
+def library() -> Path:
+    return released(LIBRARY, "library-sources", "hingetulip_c")
+
+
+def manual(name: str) -> bytes:
+    """A manual page, with the version in its last line."""
+    return (TOP / "docs" / name).read_text(encoding="utf-8").replace("\n.Os\n", f"\n.Os Hingetulip {VERSION}\n", 1).encode()
+
+
+def packages() -> Iterator[File]:
+    """The modules, with the library and the version, which is what an installation needs beside the clone's files."""
+    for package in PACKAGES:
+        for path in sorted((HERE / package).rglob("*")):
+            if path.is_file() and "__pycache__" not in path.parts and not path.name.startswith("libhingetulip."):
+                yield File(str(path.relative_to(HERE)), path.read_bytes())
+    yield File(f"hingetulip/{LIBRARY}", library().read_bytes(), 0o755)
+    yield File("hinge/VERSION", f"{VERSION}\n".encode())
+    if (RELEASE / HOST).is_file():
+        yield File(f"hinge/{HOST}", (RELEASE / HOST).read_bytes(), 0o755)
+
+
+def links_to_clone() -> Iterator[File]:
+    """For an editable installation: the clone's folder on the path, and its library."""
+    names_it = f"import os; os.environ.setdefault('HINGETULIP_LIBRARY', {str(library())!r})"
+    yield File(f"{NAME}.pth", f"{HERE}\n{names_it}\n".encode())
+
+
+def beside() -> Iterator[File]:
+    """The program, the manual pages and the completion."""
+    yield File(f"{BASE}.data/scripts/dummynet", released("dummynet", "sources", "dummynet").read_bytes(), 0o755)
+    share = f"{BASE}.data/data/share"
+    for name in ("dummynet", "hinge"):
+        yield File(f"{share}/man/man1/{name}.1", manual(f"{name}.1"))
+        yield File(f"{share}/bash-completion/completions/{name}", (TOP / "tools" / f"{name}-completion.bash").read_bytes())
+
+
+def information() -> Iterator[File]:
+    """What pip reads of a wheel."""
+    page = (HERE / "README.md").read_text(encoding="utf-8")
+    for name, data in (("LICENSE", (TOP / "LICENSE").read_bytes()), ("METADATA", f"{METADATA}\n{page}".encode()),
+                       ("WHEEL", WHEEL.encode()), ("entry_points.txt", ENTRY_POINTS.encode())):
+        yield File(f"{BASE}.dist-info/{name}", data)
+
+
+def recorded(file: File) -> str:
+    """The line of RECORD about a file."""
+    digest = base64.urlsafe_b64encode(hashlib.sha256(file.data).digest()).rstrip(b"=").decode()
+    return f"{file.name},sha256={digest},{len(file.data)}\n"
+
+
+def write(path: Path, files: list[File]) -> None:
+    date = time.gmtime(max(int(os.environ.get("SOURCE_DATE_EPOCH", FIRST_DATE)), FIRST_DATE))[:6]
+    with zipfile.ZipFile(path, "w", zipfile.ZIP_STORED) as wheel:
+        for file in files:
+            entry = zipfile.ZipInfo(file.name, date)
+            entry.external_attr, entry.create_system = (0o100000 | file.mode) << 16, 3
+            wheel.writestr(entry, file.data)
 
 
 def built(folder: str, editable: bool = False) -> str:
-    base = f"{NAME}-{VERSION}"
-    name, record = f"{base}-{TAG}.whl", f"{base}.dist-info/RECORD"
-    date = time.gmtime(max(int(os.environ.get("SOURCE_DATE_EPOCH", FIRST_DATE)), FIRST_DATE))[:6]
-    lines = []
-    with zipfile.ZipFile(Path(folder) / name, "w", zipfile.ZIP_STORED) as wheel:
-        def put(file: str, data: bytes, mode: int) -> None:
-            info = zipfile.ZipInfo(file, date)
-            info.external_attr, info.create_system = (0o100000 | mode) << 16, 3
-            wheel.writestr(info, data)
-
-        for file, data, mode in files(editable):
-            put(file, data, mode)
-            digest = base64.urlsafe_b64encode(hashlib.sha256(data).digest()).rstrip(b"=").decode()
-            lines.append(f"{file},sha256={digest},{len(data)}\n")
-        put(record, "".join([*lines, f"{record},,\n"]).encode(), 0o644)
+    """Writes the wheel into the folder, and returns its name."""
+    files = [*(links_to_clone() if editable else packages()), *beside(), *information()]
+    record = f"{BASE}.dist-info/RECORD"
+    lines = "".join(map(recorded, files)) + f"{record},,\n"
+    name = f"{BASE}-{TAG}.whl"
+    write(Path(folder) / name, [*files, File(record, lines.encode())])
     return name
 
 
@@ -100,7 +144,7 @@ def write_information(folder: str) -> str:
     """What pip and pytest read of an installation that ./install makes, and the name of the folder where they look for it."""
     (Path(folder) / "METADATA").write_text(METADATA)
     (Path(folder) / "entry_points.txt").write_text(ENTRY_POINTS)
-    return f"{NAME}-{VERSION}.dist-info"
+    return f"{BASE}.dist-info"
 
 
 def build_wheel(wheel_directory: str, config_settings: Optional[dict[str, str]] = None, metadata_directory: Optional[str] = None) -> str:
