@@ -1,4 +1,4 @@
-"""Compares release/ with the program and the C library that were built, byte for byte, and the sources of both with the present ones.
+"""Compares release/ with the program and the C library that were built, and the sources of both with the present ones.
 
     python3 tools/gate/release.py PROGRAM
 
@@ -15,6 +15,7 @@ import subprocess
 import sys
 from hashlib import sha256
 from pathlib import Path
+from tempfile import TemporaryDirectory
 
 from tally import Tally
 
@@ -46,6 +47,16 @@ def built_library(sum: str) -> Path | None:
     return folder if (folder / STATIC).is_file() else None
 
 
+def stripped(built: Path) -> bytes:
+    """The program or the shared library without the names that only a debugger needs, as the release has it."""
+    if built.name == STATIC:
+        return built.read_bytes()
+    with TemporaryDirectory() as folder:
+        made = Path(folder) / built.name
+        subprocess.run(["strip", "-o", made, built], check=True)
+        return made.read_bytes()
+
+
 def compare_library(tally: Tally, sum: str, anew: str) -> None:
     """The shared library is linked by the system's compiler, so its bytes are compared where that is the one of the release."""
     folder = built_library(sum)
@@ -53,7 +64,7 @@ def compare_library(tally: Tally, sum: str, anew: str) -> None:
         print("the C library wasn't built here, so its bytes aren't compared; ./build --lib builds it")
         return
     for name in (STATIC, SHARED):
-        built, released = (folder / name).read_bytes(), (RELEASE / name).read_bytes()
+        built, released = stripped(folder / name), stripped(RELEASE / name)
         if name == SHARED and set(COMPILER.findall(built)) != set(COMPILER.findall(released)):
             print(f"{name} was linked by another compiler, so its bytes aren't compared")
         else:
@@ -66,7 +77,6 @@ def main(program: str) -> int:
         tally.note("release", "there is none; tools/release makes it from what ./check or ./build has built")
         return tally.end()
     sources = said(TOP / "tools" / "program_sources")
-    released = (RELEASE / "dummynet").read_bytes()
     names = ["dummynet", *(name for name in (STATIC, SHARED) if (RELEASE / name).is_file())]
     anew = "tools/release makes it anew from what ./check or ./build has built"
     tally.note("sources", "" if (RELEASE / "sources").read_text() == sources else f"the release was built from other sources; {anew}")
@@ -80,8 +90,9 @@ def main(program: str) -> int:
         print(f"the release was built by another kit than {kit}, so its bytes aren't compared")
         return tally.end()
     version = subprocess.run([program, "--version"], capture_output=True, text=True).stdout
-    tally.note("version", "" if kit in version else f"{version.strip()} doesn't name {kit}: crates/dummynet/src/command.rt")
-    tally.note("bytes", "" if released == Path(program).read_bytes() else f"the release isn't what was built here; {anew}")
+    tally.note("version", "" if kit in version else f"{version.strip()} doesn't name {kit}: crates/dn_command/src/form.rt")
+    same = stripped(RELEASE / "dummynet") == stripped(Path(program))
+    tally.note("bytes", "" if same else f"the release isn't what was built here; {anew}")
     if is_same:
         compare_library(tally, library.strip(), f"{anew}, with ./build --lib before it")
     return tally.end()

@@ -44,6 +44,7 @@ for below in ../*; do [ -d "$below/out/rlib" ] || { echo "$below isn't built"; e
 [ "$crate" != hingetulip_c ] || { echo 'int dn_version(void) { return 1; }' | cc -xc -fPIC -c -o out/it.o - && ar rc out/libhingetulip_c.a out/it.o; }
 [ "$1" = lib ] || { printf '#!/bin/sh\\necho built "$@"\\n' >out/dummynet; chmod 755 out/dummynet; }
 """
+STRIP = '#!/bin/sh\n[ "$1" = -o ] && cp "$3" "$2"\n'  # as what is pretended to be built is no executable of the system's
 RELEASE = "#!/bin/sh\necho release \"$@\"\n"
 
 
@@ -68,8 +69,9 @@ class Copy:
         (self.kit / "c").mkdir(parents=True)
         (self.kit / "c" / "liblibc_c.a").write_bytes(b"!<arch>\n")
         self.tools.mkdir()
-        (self.tools / "rt").write_text(PRETENDED)
-        (self.tools / "rt").chmod(0o755)
+        for name, text in (("rt", PRETENDED), ("strip", STRIP)):
+            (self.tools / name).write_text(text)
+            (self.tools / name).chmod(0o755)
 
     def run(self, *words: str, fails: str = "", has_rt: bool = True, script: str = "dummynet") -> subprocess.CompletedProcess[str]:
         """Runs a script from another folder. The path has no folder in which the real `rt` lies, and Python all the same."""
