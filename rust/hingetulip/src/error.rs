@@ -1,4 +1,4 @@
-//! What a call answers where it isn't obeyed.
+//! Why calls are not obeyed.
 use core::fmt;
 
 /// What is wrong with a line.
@@ -41,7 +41,7 @@ pub enum Error {
     Length,
     /// Memory was refused; the same call may be made again.
     Memory,
-    /// The shaper answered 2^62 calls before.
+    /// The shaper has replied to 2^62 calls.
     Exhausted,
     /// A status that this crate doesn't know.
     Status(u32),

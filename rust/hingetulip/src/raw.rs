@@ -1,6 +1,10 @@
 //! `hingetulip.h`, by hand: its structs have no gaps.
-#![allow(missing_docs)]
 use core::ffi::c_void;
+
+pub const OK: u32 = 0;
+pub const ROOM: u32 = 7;
+pub const LINE: u32 = 8;
+pub const NEVER: u64 = u64::MAX;
 
 #[repr(C)]
 pub struct Handle {
@@ -80,12 +84,22 @@ extern "C" {
     pub fn dn_close(handle: *mut Handle) -> u32;
     pub fn dn_configure(handle: *mut Handle, line: *const u8, length: usize, fault: *mut Fault) -> u32;
     pub fn dn_submit(handle: *mut Handle, packet: *const Packet, fate: *mut Fate) -> u32;
+    pub fn dn_submit_many(handle: *mut Handle, packets: *const Packet, count: usize, fates: *mut Fate, room: usize, done: *mut u64) -> u32;
     pub fn dn_advance(handle: *mut Handle, moment: u64, at: *mut u64) -> u32;
     pub fn dn_collect(handle: *mut Handle, moment: u64, list: *mut Delivery, room: usize, count: *mut u64) -> u32;
     pub fn dn_show(handle: *mut Handle, list: *mut Flow, room: usize, count: *mut u64) -> u32;
     pub fn dn_wake(handle: *mut Handle, moment: *mut u64) -> u32;
 }
 
-pub const ROOM: u32 = 7;
-pub const LINE: u32 = 8;
-pub const NEVER: u64 = u64::MAX;
+#[cfg(test)]
+mod tests {
+    use super::*;
+    use core::mem::size_of;
+
+    /// The sums of the fields' bytes in hingetulip.h.
+    #[test]
+    fn sizes_are_those_of_the_header() {
+        let sizes = [size_of::<Handle>(), size_of::<Fault>(), size_of::<Packet>(), size_of::<Fate>(), size_of::<Delivery>(), size_of::<Flow>()];
+        assert_eq!(sizes, [16, 16, 32, 32, 40, 80]);
+    }
+}

@@ -1,12 +1,12 @@
-//! Each call, each error that can be had, and the sizes of the structs.
+//! Each call, and each error that can be had.
 use hingetulip::{version, Error, FaultKind, Outcome, Packet, Rule, Shaper, Target, LAST_MOMENT};
 
 fn thousand(moment: u64, pipe: u16) -> Packet {
-    Packet { length: 1000, ..Packet::new(moment, Target::Pipe(pipe)) }
+    Packet::new(moment, Target::Pipe(pipe), 1000)
 }
 
 #[test]
-fn the_readme() {
+fn four_packets_and_room_for_one() {
     let mut it = Shaper::new().unwrap();
     it.configure("pipe 1 config bw 8Mbit/s queue 1").unwrap();
     let fates: Vec<_> = [0, 0, 0, 1_000_000].iter().map(|at| it.submit(&thousand(*at, 1)).unwrap().outcome).collect();
@@ -49,4 +49,45 @@ fn many_flows_and_packets() {
     assert_eq!(it.deliveries(1_000_000).take(10).count(), 10);
     assert_eq!(it.collect(LAST_MOMENT).unwrap().len(), 990, "those that weren't asked for");
     assert!(version().starts_with("1."));
+}
+
+#[test]
+fn many_packets_at_once_are_those_one_by_one() {
+    let packets: Vec<_> = (0..500u64).map(|at| Packet { sport: at as u16 % 7, ..thousand(at * 700_000, 1) }).collect();
+    let [mut one, mut other] = [(); 2].map(|_| {
+        let mut it = Shaper::new().unwrap();
+        it.configure("pipe 1 config bw 8Mbit/s queue 5 mask src-port 3").unwrap();
+        it
+    });
+    let singly: Vec<_> = packets.iter().map(|it| one.submit(it).unwrap()).collect();
+    let mut fates = Vec::new();
+    other.submit_many(&packets[..200], &mut fates).unwrap();
+    other.submit_many(&packets[200..], &mut fates).unwrap();
+    assert_eq!(fates, singly);
+    assert_eq!(other.collect(LAST_MOMENT).unwrap(), one.collect(LAST_MOMENT).unwrap());
+    other.submit_many(&[], &mut fates).unwrap();
+    assert_eq!(fates.len(), 500);
+}
+
+#[test]
+fn a_refused_packet_stops_those_behind_it() {
+    let mut it = Shaper::new().unwrap();
+    it.configure("pipe 1 config bw 8Mbit/s").unwrap();
+    let mut fates = Vec::new();
+    assert_eq!(it.submit_many(&[thousand(5, 1), thousand(6, 0), thousand(7, 1)], &mut fates), Err(Error::Number));
+    assert_eq!(fates.iter().map(|it| (it.at, it.outcome)).collect::<Vec<_>>(), [(5, Outcome::Queued(0))]);
+    assert_eq!(it.submit(&thousand(7, 1)).unwrap().outcome, Outcome::Queued(1));
+}
+
+#[test]
+fn lost_held_and_discarded() {
+    let mut it = Shaper::new().unwrap();
+    it.configure("pipe 1 config bw 8Mbit/s plr 0.5").unwrap();
+    let fates: Vec<_> = [0, u32::MAX, u32::MAX].iter().map(|word| it.submit(&Packet { word: *word, ..thousand(0, 1) }).unwrap()).collect();
+    assert_eq!(fates.iter().map(|it| it.outcome).collect::<Vec<_>>(), [Outcome::Lost, Outcome::Queued(0), Outcome::Queued(1)]);
+    assert_eq!(it.wake().unwrap(), Some(1_000_000));
+    it.configure("pipe delete 1").unwrap();
+    let flow = it.flows().unwrap()[0];
+    assert_eq!((flow.target, flow.lost, flow.started, flow.discarded), (Target::Pipe(1), 1, 1, 1));
+    assert_eq!(it.collect(LAST_MOMENT).unwrap().len(), 1);
 }
