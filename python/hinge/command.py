@@ -85,7 +85,7 @@ def module(name: str, package: str) -> ModuleType:
 @contextmanager
 def writing(path: str | None) -> Iterator[TextIO]:
     """The file that is written, or standard output where none is named or its name is `-`."""
-    if path in (None, "-"):
+    if path is None or path == "-":
         yield sys.stdout
         return
     with open(path, "w", encoding="utf-8", newline="\n") as file:

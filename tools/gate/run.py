@@ -124,6 +124,7 @@ def parts(cases: str, seed: int) -> list[Part]:
         Part("hosts of a live session", [python, "tools/gate/hosts.py", program]),
         Part("examples", [python, "tools/gate/examples.py", program]),
         Part("the release", [python, "tools/gate/release.py", program]),
+        Part("what a team installs", [python, "tools/gate/installs.py", program]),
         Part("the crate for cargo", [python, "tools/gate/crate.py"], "cargo"),
         Part("the version", [python, "tools/gate/version.py", program]),
         Part("the manual pages", [python, "tools/gate/manual.py", program], "mandoc"),

@@ -1,0 +1,252 @@
+"""What a team installs, tried where it is installed: the wheel by pip, a prefix by ./install, CMake and pkg-config, and Debian's packages.
+
+    python3 tools/gate/installs.py PROGRAM
+
+All of it is made from a copy of the repository whose release/ has this program and the C library of the present sources. The commands that
+the pages show are run from the installed place, in a folder that has the examples and captures, and the clone's files stay as they are.
+What needs numpy, cmake, pkg-config, dpkg-deb or lintian is skipped, and told, where they aren't there.
+"""
+
+from __future__ import annotations
+
+import itertools
+import os
+import re
+import shlex
+import shutil
+import subprocess
+import sys
+from hashlib import sha256
+from pathlib import Path
+from tempfile import TemporaryDirectory
+from typing import Iterator
+
+from tally import Tally
+
+TOP = Path(__file__).resolve().parent.parent.parent
+VERSION = (TOP / "VERSION").read_text().strip()
+PAGES = ("docs/CAPTURE.md", "README.md", "examples/README.md")
+LEAST = {"docs/CAPTURE.md": 8, "README.md": 5, "examples/README.md": 1}  # commands that are found on a page, at the least
+RUN = ("hinge", "dummynet", "echo", "printf")
+NEEDS_MORE = ("hinge udp", "hinge trace", "hinge run")  # another program, or rights: tools/gate/hosts.py tries these
+STATUSES = {"hinge ipfw ": 3}  # other than 0: the page's file has lines that are left out
+MULTIARCH = "lib/x86_64-linux-gnu"
+CMAKE = """\
+cmake_minimum_required(VERSION 3.13)
+project(first C)
+find_package(Hingetulip {} REQUIRED)
+add_executable(shared first.c)
+target_link_libraries(shared Hingetulip::Hingetulip)
+add_executable(static first.c)
+target_link_libraries(static Hingetulip::static)
+"""
+Done = subprocess.CompletedProcess
+
+
+def run(*words: object, cwd: Path = TOP, **more: str) -> Done[str]:
+    env = {**os.environ, **more}
+    for name in ("DUMMYNET", "PYTHONPATH", "HINGETULIP_LIBRARY"):
+        if name not in more:
+            env.pop(name, None)
+    return subprocess.run(list(map(str, words)), cwd=cwd, env=env, stdin=subprocess.DEVNULL, stdout=subprocess.PIPE, stderr=subprocess.STDOUT, text=True)
+
+
+def done(tally: Tally, name: str, *words: object, cwd: Path = TOP, wanted: int = 0, **more: str) -> str:
+    """What a command prints, which has to end with the wanted status."""
+    it = run(*words, cwd=cwd, **more)
+    tally.note(name, "" if it.returncode == wanted else f"status {it.returncode}: {it.stdout[-2000:]}")
+    return it.stdout
+
+
+def status() -> str:
+    return run("git", "status", "--porcelain").stdout
+
+
+def copied(place: Path, program: str) -> Path:
+    """A copy of the repository, with a release of this program and of the library that tools/library finds."""
+    copy = place / "repository"
+    names = run("git", "ls-files", "-co", "--exclude-standard").stdout.splitlines()
+    for name in names:
+        if (TOP / name).is_file():
+            (copy / name).parent.mkdir(parents=True, exist_ok=True)
+            shutil.copy2(TOP / name, copy / name)
+    library = Path(run(TOP / "tools" / "library").stdout.strip())
+    for file in (Path(program), library / "libhingetulip.a", library / "libhingetulip.so.1"):
+        shutil.copy2(file, copy / "release" / ("dummynet" if file == Path(program) else file.name))
+    (copy / "release" / "sources").write_text(run(copy / "tools" / "program_sources").stdout)
+    (copy / "release" / "library-sources").write_text(run(copy / "tools" / "program_sources", "hingetulip_c").stdout)
+    return copy
+
+
+def python() -> str:
+    """A Python that can make a virtual environment, with numpy and matplotlib where there is one."""
+    asked = [word for word in ("/usr/bin/python3", sys.executable) if shutil.which(word)]
+    for modules in ("ensurepip, numpy, matplotlib", "ensurepip"):
+        for word in asked:
+            if run(word, "-c", f"import {modules}").returncode == 0:
+                return word
+    return sys.executable
+
+
+def joined(block: str) -> Iterator[str]:
+    """The commands of a block: its lines after `$ `, or all of them where none has that, with the lines that go on."""
+    lines = re.sub(r"\\\n *", "", block).splitlines()
+    prompts = [line[2:] for line in lines if line.startswith("$ ")]
+    yield from prompts or lines
+
+
+def is_tried(line: str) -> bool:
+    return line.split(" ")[0] in RUN and not line.startswith(NEEDS_MORE) and not any(mark in line for mark in ("..", "<<", "$"))
+
+
+def commands(page: str) -> list[str]:
+    """The commands of a page that are tried, as they are called where hinge and dummynet are installed: those of a block up to the first
+    that isn't tried, since what comes behind it may need it."""
+    found: list[str] = []
+    for block in re.findall(r"^```\w*\n(.*?)^```$", (TOP / page).read_text(), re.M | re.S):
+        lines = [re.sub(r"(^|[ (|])\./(hinge|dummynet)\b", r"\1\2", line.partition("    #")[0]) for line in joined(block)]
+        found += itertools.takewhile(is_tried, lines)
+    return found
+
+
+def pages(tally: Tally, place: Path, folder: Path) -> None:
+    """The pages' commands, one after the other, with the installed programs first on the path."""
+    folder.mkdir()
+    for name in ("examples", "python"):
+        (folder / name).symlink_to(TOP / name)
+    for page in PAGES:
+        found = commands(page)
+        tally.note(f"commands of {page}", "" if len(found) >= LEAST[page] else f"only {found}")
+        for line in found:
+            wanted = next((status for begin, status in STATUSES.items() if line.startswith(begin)), 0)
+            done(tally, f"{page}: {line}", "sh", "-c", line, cwd=folder, wanted=wanted, PATH=f"{place}/bin:{os.environ['PATH']}")
+
+
+def leftover(folder: Path) -> list[str]:
+    return sorted(str(it.relative_to(folder)) for it in folder.rglob("*") if re.search("hinge|dummynet", it.name, re.I))
+
+
+def wheel(tally: Tally, copy: Path, place: Path) -> None:
+    """The same bytes twice, and none of a release of other sources."""
+    sums = []
+    for name in ("one", "other"):
+        (place / name).mkdir()
+        code = f"import sys; sys.path.insert(0, {str(copy / 'python')!r}); import build_wheel; print(build_wheel.build_wheel({str(place / name)!r}))"
+        built = done(tally, "a wheel", sys.executable, "-c", code, cwd=place).strip()
+        tally.equal("its name", f"hingetulip-{VERSION}-py3-none-manylinux_2_34_x86_64.whl", built)
+        sums.append(sha256((place / name / built).read_bytes()).hexdigest())
+    tally.equal("two wheels", sums[0], sums[1])
+    for name in ("sources", "library-sources"):
+        file = copy / "release" / name
+        kept = file.read_text()
+        file.write_text("of others\n")
+        refused = run(sys.executable, "-c", code, cwd=place)
+        tally.note(f"a wheel of other {name}", "" if refused.returncode and "isn't of these sources" in refused.stdout else refused.stdout)
+        file.write_text(kept)
+
+
+def by_pip(tally: Tally, copy: Path, place: Path) -> None:
+    """An installation in a virtual environment, the pages from there, and an uninstall; then one that leads to the clone."""
+    venv = place / "venv"
+    interpreter = python()
+    done(tally, "a virtual environment", interpreter, "-m", "venv", "--system-site-packages", venv)
+    own, pip = venv / "bin" / "python", [venv / "bin" / "pip", "--disable-pip-version-check", "-q"]
+    done(tally, "pip install ./python", *pip, "install", "--no-index", copy / "python")
+    where = "import hingetulip, hinge; print(hingetulip.LIBRARY, hinge.__file__)"
+    tally.note("where the modules are", "" if done(tally, "import", own, "-c", where, cwd=place).count(f"{venv}/") == 2 else "elsewhere")
+    tally.equal("hinge --version", f"hinge {VERSION}\n", done(tally, "hinge", venv / "bin" / "hinge", "--version", cwd=place))
+    name = "from hinge.program import dummynet; print(dummynet())"
+    tally.equal("the program that hinge takes", f"{venv}/bin/dummynet\n", done(tally, "its place", own, "-c", name, cwd=place))
+    if run(own, "-c", "import numpy, matplotlib").returncode:
+        print("the pages' commands: skipped, since no Python has numpy and matplotlib")
+    else:
+        pages(tally, venv, place / "pages")
+    done(tally, "pip uninstall", *pip, "uninstall", "-y", "hingetulip")
+    tally.equal("what pip leaves", [], leftover(venv))
+    done(tally, "pip install -e ./python", *pip, "install", "--no-index", "-e", copy / "python")
+    told = done(tally, "import from the clone", own, "-c", where, cwd=place)
+    tally.equal("modules of the clone", f"{copy}/release/libhingetulip.so.1 {copy}/python/hinge/__init__.py\n", told)
+    done(tally, "pip uninstall of it", *pip, "uninstall", "-y", "hingetulip")
+    tally.equal("what pip leaves of it", [], leftover(venv))
+
+
+def with_cmake(tally: Tally, prefix: Path, place: Path) -> None:
+    if shutil.which("cmake") is None or shutil.which("cc") is None:
+        print("CMake: skipped, since there is no cmake or cc on the path")
+        return
+    for version, is_taken in ((VERSION, True), ("1.0", True), ("2.0", False)):
+        source = place / f"cmake-{version}"
+        source.mkdir()
+        shutil.copy(TOP / "examples" / "embed" / "first.c", source)
+        (source / "CMakeLists.txt").write_text(CMAKE.format(version))
+        made = run("cmake", "-S", source, "-B", source / "made", f"-DCMAKE_PREFIX_PATH={prefix}")
+        tally.equal(f"find_package(Hingetulip {version})", is_taken, made.returncode == 0)
+        if made.returncode == 0:
+            done(tally, "cmake --build", "cmake", "--build", source / "made")
+            told = [done(tally, kind, source / "made" / kind, LD_LIBRARY_PATH="") for kind in ("shared", "static")]
+            tally.note("first.c by CMake", "" if told[0] == told[1] and told[0].count("\n") == 7 else f"got {told}")
+
+
+def with_pkg_config(tally: Tally, prefix: Path, lib: str, place: Path) -> None:
+    if shutil.which("pkg-config") is None or shutil.which("cc") is None:
+        print("pkg-config: skipped, since there is no pkg-config or cc on the path")
+        return
+    path = f"{prefix}/{lib}/pkgconfig"
+    flags = done(tally, "pkg-config", "pkg-config", "--cflags", "--libs", "hingetulip", PKG_CONFIG_PATH=path)
+    program = place / "first"
+    done(tally, "cc", "cc", TOP / "examples" / "embed" / "first.c", *shlex.split(flags), "-o", program)
+    told = done(tally, "first", program, LD_LIBRARY_PATH=f"{prefix}/{lib}")
+    tally.equal(f"first.c by pkg-config from {lib}", 7, told.count("\n"))
+    tally.equal("the version by pkg-config", f"{VERSION}\n", done(tally, "pkg-config", "pkg-config", "--modversion", "hingetulip", PKG_CONFIG_PATH=path))
+
+
+def in_prefix(tally: Tally, copy: Path, place: Path) -> None:
+    """./install --all, as it is and as a package of Debian has it, and --uninstall."""
+    prefix, root = place / "a prefix", place / "root"
+    done(tally, "./install --all", copy / "install", "--all", prefix)
+    tally.equal("hinge in a prefix", f"hinge {VERSION}\n", done(tally, "hinge", prefix / "bin" / "hinge", "--version", cwd=place))
+    module = done(tally, "the module", sys.executable, "-B", "-c", "import hingetulip; print(hingetulip.LIBRARY)", cwd=place, PYTHONPATH=f"{prefix}/lib/python")
+    tally.equal("its library", f"{prefix}/lib/libhingetulip.so.1\n", module)
+    tally.equal("the program", f"dummynet {VERSION}", " ".join(done(tally, "dummynet", prefix / "bin" / "dummynet", "--version").split()[:2]))
+    with_cmake(tally, prefix, place)
+    done(tally, "./install --uninstall", copy / "install", "--uninstall", prefix)
+    tally.equal("what it leaves", [], sorted(prefix.rglob("*")))
+    done(tally, "./install below DESTDIR", copy / "install", "--all", "/usr", DESTDIR=str(root), LIBDIR=MULTIARCH, PYTHONDIR="lib/python3/dist-packages")
+    with_pkg_config(tally, root / "usr", MULTIARCH, place)
+    tally.equal("a list of what is installed below DESTDIR", False, (root / "usr" / "share" / "hingetulip" / "installed").exists())
+
+
+def as_packages(tally: Tally, copy: Path, place: Path) -> None:
+    """Debian's packages and the tarball: the same bytes twice, and nothing that lintian calls an error."""
+    if shutil.which("dpkg-deb") is None:
+        print("Debian's packages: skipped, since there is no dpkg-deb on the path")
+        return
+    sums = []
+    for name in ("debs", "debs again"):
+        done(tally, "tools/deb", copy / "tools" / "deb", place / name)
+        sums.append({it.name: sha256(it.read_bytes()).hexdigest() for it in (place / name).iterdir()})
+    names = [f"hingetulip-{VERSION}-x86_64.tar.gz", *(f"{name}_{VERSION}-1_amd64.deb" for name in ("hingetulip", "libhingetulip-dev", "libhingetulip1",
+                                                                                                 "python3-hingetulip"))]
+    tally.equal("the packages", sorted(names), sorted(sums[0]))
+    tally.equal("packages made twice", sums[0], sums[1])
+    if shutil.which("lintian") is None:
+        print("lintian: skipped, since it isn't on the path")
+        return
+    told = run("lintian", "--allow-root", *sorted((place / "debs").glob("*.deb"))).stdout
+    tally.equal("errors of lintian", [], re.findall(r"^E: .*", told, re.M))
+
+
+def main(program: str) -> int:
+    tally = Tally()
+    before = status()
+    with TemporaryDirectory() as folder:
+        place = Path(folder)
+        copy = copied(place, str(Path(program).resolve()))
+        for part in (wheel, by_pip, in_prefix, as_packages):
+            part(tally, copy, place)
+    tally.equal("git status of the clone", before, status())
+    return tally.end()
+
+
+if __name__ == "__main__":
+    sys.exit(main(sys.argv[1]))
