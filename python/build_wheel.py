@@ -25,7 +25,7 @@ BASE = f"{NAME}-{VERSION}"
 PACKAGES = ("hingetulip", "hinge")
 TAG = "py3-none-manylinux_2_34_x86_64"
 LIBRARY = "libhingetulip.so.1"
-HOST = "hinge-link"  # the host of live links, in C, where the release has it
+HOSTS = {"hinge-link": "hinge/run/hinge-link", "hinge-shard": "hinge/hinge-shard"}  # programs in C, where the release has them
 FIRST_DATE = 315532800  # 1980-01-01, the first that a zip file can have
 METADATA = f"""\
 Metadata-Version: 2.1
@@ -88,8 +88,9 @@ def packages() -> Iterator[File]:
                 yield File(str(path.relative_to(HERE)), path.read_bytes())
     yield File(f"hingetulip/{LIBRARY}", library().read_bytes(), 0o755)
     yield File("hinge/VERSION", f"{VERSION}\n".encode())
-    if (RELEASE / HOST).is_file():
-        yield File(f"hinge/{HOST}", (RELEASE / HOST).read_bytes(), 0o755)
+    for name, place in HOSTS.items():
+        if (RELEASE / name).is_file():
+            yield File(place, (RELEASE / name).read_bytes(), 0o755)
 
 
 def links_to_clone() -> Iterator[File]:

@@ -1,4 +1,4 @@
-"""Where the program dummynet lies."""
+"""Where the programs lie that the kit runs."""
 
 from __future__ import annotations
 
@@ -10,21 +10,29 @@ from typing import Iterator, Optional
 from hinge.command import MISSING, Fault
 
 PACKAGE = Path(__file__).resolve().parent
+REPOSITORY = PACKAGE.parents[1]
 
 
-def places() -> Iterator[Optional[str]]:
-    """Where it is looked for, in this order: the clone in which this package lies, `bin` of each folder in which it lies, so that it is
-    the one that was installed with it, and the path."""
-    yield str(PACKAGE.parents[1] / "dummynet")
+def places(name: str, *in_repository: str) -> Iterator[Optional[str]]:
+    """Where a program is looked for, in this order: the clone in which this package lies, the package and `bin` of each folder in which it
+    lies, so that it is the one that was installed with it, and the path."""
+    for place in in_repository:
+        yield str(REPOSITORY / place)
+    yield str(PACKAGE / name)
     for folder in PACKAGE.parents:
-        yield str(folder / "bin" / "dummynet")
-    yield shutil.which("dummynet")
+        yield str(folder / "bin" / name)
+    yield shutil.which(name)
+
+
+def found(variable: str, name: str, *in_repository: str) -> str:
+    """The program that a variable names, else the first of these places that has it."""
+    named = os.environ.get(variable)
+    for place in [named] if named else places(name, *in_repository):
+        if place and os.path.isfile(place) and os.access(place, os.X_OK):
+            return place
+    raise Fault(f"{variable} names {named}, which is no program" if named else f"there is no program {name}: the variable {variable} can name it", MISSING)
 
 
 def dummynet() -> str:
-    """The program that the variable DUMMYNET names, else the first of these places that has one."""
-    named = os.environ.get("DUMMYNET")
-    for place in [named] if named else places():
-        if place and os.path.isfile(place) and os.access(place, os.X_OK):
-            return place
-    raise Fault(f"DUMMYNET names {named}, which is no program" if named else "there is no program dummynet: the variable DUMMYNET can name it", MISSING)
+    """The program that replays and audits."""
+    return found("DUMMYNET", "dummynet", "dummynet")

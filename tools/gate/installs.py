@@ -170,6 +170,31 @@ def by_pip(tally: Tally, copy: Path, place: Path) -> None:
     tally.equal("what pip leaves of it", [], leftover(venv))
 
 
+def by_each_python(tally: Tally, copy: Path, place: Path) -> None:
+    """The same of each Python that the package promises, as far as this machine has it."""
+    for minor in range(9, 14):
+        own = [f"python3.{minor}", *map(str, Path.home().glob(f".pyenv/versions/3.{minor}.*/bin/python3"))]
+        interpreter = next((it for it in own if shutil.which(it) and run(it, "-c", "import ensurepip").returncode == 0), None)
+        venv = place / f"venv-{minor}"
+        if interpreter is None:
+            print(f"Python 3.{minor}: skipped, since it isn't there, or has no pip")
+            continue
+        done(tally, f"an environment of {interpreter}", interpreter, "-m", "venv", venv)
+        done(tally, f"pip install by {interpreter}", venv / "bin" / "pip", "-q", "--disable-pip-version-check", "install", "--no-index", copy / "python")
+        told = done(tally, f"import by {interpreter}", venv / "bin" / "python", "-c", "import hingetulip.aio as it; print(it.__file__)", cwd=place)
+        tally.note(f"the module by {interpreter}", "" if told.startswith(f"{venv}/") else told)
+        tally.equal(f"hinge by {interpreter}", f"hinge {VERSION}\n", done(tally, "hinge", venv / "bin" / "hinge", "--version", cwd=place))
+
+
+def glibc(tally: Tally, copy: Path, place: Path) -> None:
+    """What is released needs no later glibc than the wheel's tag and the packages say: 2.34."""
+    for name in ("dummynet", "libhingetulip.so.1", "hinge-link", "hinge-shard"):
+        file = copy / "release" / name
+        if file.is_file():
+            asked = {tuple(map(int, it.split(b"."))) for it in re.findall(rb"GLIBC_(\d+\.\d+)", file.read_bytes())}
+            tally.note(f"glibc that {name} needs", "" if max(asked, default=(0, 0)) <= (2, 34) else f"{max(asked)}")
+
+
 def with_cmake(tally: Tally, prefix: Path, place: Path) -> None:
     if shutil.which("cmake") is None or shutil.which("cc") is None:
         print("CMake: skipped, since there is no cmake or cc on the path")
@@ -242,7 +267,7 @@ def main(program: str) -> int:
     with TemporaryDirectory() as folder:
         place = Path(folder)
         copy = copied(place, str(Path(program).resolve()))
-        for part in (wheel, by_pip, in_prefix, as_packages):
+        for part in (glibc, wheel, by_pip, by_each_python, in_prefix, as_packages):
             part(tally, copy, place)
     tally.equal("git status of the clone", before, status())
     return tally.end()

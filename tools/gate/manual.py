@@ -57,12 +57,12 @@ def of_hinge(tally: Tally) -> None:
     named(tally, text, "hinge", commands)
     for command in commands:
         told = printed(*hinge, command, "--help")
-        example = told.partition("\nexample:\n")[2]
+        example = re.split(r"\nexamples?:\n", told)[-1]
         tally.note(f"the example of hinge {command}", "" if re.search(rf"^  hinge {command} ", example, re.M) else f"got {example!r}")
         tally.equal(f"hinge help {command}", told, printed(*hinge, "help", command))
         steps = re.findall(r"^    ([a-z]+) ", told.partition("positional arguments:")[2].partition("options:")[0], re.M)
         for words in [[command], *([command, step] for step in steps)]:
-            named(tally, text, f"hinge {' '.join(words)}", options(printed(*hinge, *words, "--help").partition("\nexample:")[0]))
+            named(tally, text, f"hinge {' '.join(words)}", options(re.split(r"\nexamples?:\n", printed(*hinge, *words, "--help"))[0]))
 
 
 def main(program: str) -> int:

@@ -27,6 +27,7 @@ from link_library import SHARED, STATIC  # noqa: E402
 RELEASE = TOP / "release"
 LIBRARY = "hingetulip_c"
 COMPILER = re.compile(rb"GCC: \([^)]*\) [\d.]+")
+HOSTS = ["hinge-link", "hinge-shard"]
 
 
 def said(*words: str | Path) -> str:
@@ -77,7 +78,7 @@ def main(program: str) -> int:
         tally.note("release", "there is none; tools/release makes it from what ./check or ./build has built")
         return tally.end()
     sources = said(TOP / "tools" / "program_sources")
-    names = ["dummynet", *(name for name in (STATIC, SHARED) if (RELEASE / name).is_file())]
+    names = ["dummynet", *(name for name in (STATIC, SHARED, *HOSTS) if (RELEASE / name).is_file())]
     anew = "tools/release makes it anew from what ./check or ./build has built"
     tally.note("sources", "" if (RELEASE / "sources").read_text() == sources else f"the release was built from other sources; {anew}")
     sums = "".join(f"{sha256((RELEASE / name).read_bytes()).hexdigest()}  {name}\n" for name in names)
