@@ -78,6 +78,16 @@ def copied(place: Path, program: str) -> Path:
     return copy
 
 
+def with_hosts(tally: Tally, copy: Path) -> None:
+    """The programs in C that hinge runs, in the copy's release, where there is a compiler."""
+    if shutil.which("cc") is None:
+        print("hinge-link and hinge-shard: skipped, since there is no cc on the path")
+        return
+    done(tally, "tools/hosts release", copy / "tools" / "hosts", "release")
+    done(tally, "hosts/shard/build", copy / "hosts" / "shard" / "build", copy / "release" / "hinge-shard",
+         HINGETULIP_STATIC=str(copy / "release" / "libhingetulip.a"))
+
+
 def python() -> str:
     """A Python that can make a virtual environment, with numpy and matplotlib where there is one."""
     asked = [word for word in ("/usr/bin/python3", sys.executable) if shutil.which(word)]
@@ -153,10 +163,13 @@ def by_pip(tally: Tally, copy: Path, place: Path) -> None:
     own, pip = venv / "bin" / "python", [venv / "bin" / "pip", "--disable-pip-version-check", "-q"]
     done(tally, "pip install ./python", *pip, "install", "--no-index", copy / "python")
     where = "import hingetulip, hinge; print(hingetulip.LIBRARY, hinge.__file__)"
-    tally.note("where the modules are", "" if done(tally, "import", own, "-c", where, cwd=place).count(f"{venv}/") == 2 else "elsewhere")
+    library, modules = done(tally, "import", own, "-c", where, cwd=place).split()
+    tally.equal("where the modules are", 2, f"{library} {modules}".count(f"{venv}/"))
     tally.equal("hinge --version", f"hinge {VERSION}\n", done(tally, "hinge", venv / "bin" / "hinge", "--version", cwd=place))
-    name = "from hinge.program import dummynet; print(dummynet())"
-    tally.equal("the program that hinge takes", f"{venv}/bin/dummynet\n", done(tally, "its place", own, "-c", name, cwd=place))
+    for module, name, where_it_is in (("program", "dummynet", "bin/dummynet"), ("program", "shard", f"{Path(modules).parent}/hinge-shard"),
+                                      ("run.host", "program", f"{Path(modules).parent}/run/hinge-link")):
+        told = done(tally, f"hinge.{module}", own, "-c", f"from hinge.{module} import {name}; print({name}())", cwd=place)
+        tally.equal("a program that hinge takes", f"{venv / where_it_is}\n", told)
     if run(own, "-c", "import numpy, matplotlib").returncode:
         print("the pages' commands: skipped, since no Python has numpy and matplotlib")
     else:
@@ -267,6 +280,7 @@ def main(program: str) -> int:
     with TemporaryDirectory() as folder:
         place = Path(folder)
         copy = copied(place, str(Path(program).resolve()))
+        with_hosts(tally, copy)
         for part in (glibc, wheel, by_pip, by_each_python, in_prefix, as_packages):
             part(tally, copy, place)
     tally.equal("git status of the clone", before, status())
