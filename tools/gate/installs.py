@@ -19,7 +19,7 @@ import sys
 from hashlib import sha256
 from pathlib import Path
 from tempfile import TemporaryDirectory
-from typing import Iterator
+from typing import Iterator, Optional
 
 from tally import Tally
 
@@ -88,14 +88,14 @@ def with_hosts(tally: Tally, copy: Path) -> None:
          HINGETULIP_STATIC=str(copy / "release" / "libhingetulip.a"))
 
 
-def python() -> str:
+def python() -> Optional[str]:
     """A Python that can make a virtual environment, with numpy and matplotlib where there is one."""
     asked = [word for word in ("/usr/bin/python3", sys.executable) if shutil.which(word)]
     for modules in ("ensurepip, numpy, matplotlib", "ensurepip"):
         for word in asked:
             if run(word, "-c", f"import {modules}").returncode == 0:
                 return word
-    return sys.executable
+    return None
 
 
 def joined(block: str) -> Iterator[str]:
@@ -159,8 +159,10 @@ def wheel(tally: Tally, copy: Path, place: Path) -> None:
 
 def by_pip(tally: Tally, copy: Path, place: Path) -> None:
     """An installation in a virtual environment, the pages from there, and an uninstall; then one that leads to the clone."""
-    venv = place / "venv"
-    interpreter = python()
+    venv, interpreter = place / "venv", python()
+    if interpreter is None:
+        print("pip: skipped, since no Python can make a virtual environment")
+        return
     done(tally, "a virtual environment", interpreter, "-m", "venv", "--system-site-packages", venv)
     own, pip = venv / "bin" / "python", [venv / "bin" / "pip", "--disable-pip-version-check", "-q"]
     done(tally, "pip install ./python", *pip, "install", "--no-index", copy / "python")
