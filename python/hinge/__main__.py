@@ -18,6 +18,7 @@ COMMANDS = {
     "why": "what happened to a packet of a replay",
     "through": "a capture as the far end of the link sees it",
     "sweep": "many configurations and seeds over one packet file",
+    "check": "what is wrong with configurations, packet files and histories, and what to write",
     "look": "all of these of a live session's transcript",
     "udp": "a UDP path between two programs through emulated links",
     "trace": "such a path whose bandwidth follows a recorded trace",

@@ -15,6 +15,7 @@ from hinge.links import Parts, read_configuration
 from hinge.replay import read_packets, read_report
 from hinge.program import dummynet
 
+TOP = Path(__file__).resolve().parents[3]
 DATA = Path(__file__).resolve().parents[1] / "kit_data"
 MIXED = DATA / "mixed.pcap"
 needs_tshark = unittest.skipUnless(shutil.which("tshark") and shutil.which("mergecap"), "tshark isn't there")

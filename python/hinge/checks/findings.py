@@ -1,0 +1,25 @@
+"""What a check found, told line by line as it is found."""
+
+from __future__ import annotations
+
+from dataclasses import dataclass
+
+MOST_FAULTS = 20  # of one file that are told
+
+
+@dataclass
+class Findings:
+    """Counts faults and warnings. `status` is that of the first fault, 0 where there is none."""
+
+    faults: int = 0
+    warnings: int = 0
+    status: int = 0
+
+    def fault(self, where: str, what: str, status: int) -> None:
+        print(f"{where}: {what}")
+        self.faults += 1
+        self.status = self.status or status
+
+    def warn(self, where: str, what: str) -> None:
+        print(f"{where}: warning: {what}")
+        self.warnings += 1

@@ -1,0 +1,128 @@
+"""The lines of a configuration, each judged by the program: all that are wrong, and those that hardly anybody means."""
+
+from __future__ import annotations
+
+import re
+import subprocess
+from collections import Counter
+from dataclasses import dataclass, field
+from fractions import Fraction
+from typing import Iterator, NamedTuple
+
+from hinge.checks.findings import MOST_FAULTS, Findings
+from hinge.checks.values import FIELD_BITS
+from hinge.checks.words import OPTIONS, advice, words_of
+from hinge.command import CONFIGURATION
+from hinge.configured import InForce
+from hinge.program import dummynet
+
+MOST_LINE_BYTES = 65_000  # of a line that a live session takes
+LONG_DELAY_MS = 10_000
+
+
+class Verdict(NamedTuple):
+    """What the program says of a line. `name` is `ok`, `bad` or why the command was refused; `text` is the program's spelling of the
+    command, or of a bad line the cause."""
+
+    line: int
+    name: str
+    text: str
+
+
+def judged(lines: list[bytes]) -> Iterator[Verdict]:
+    """The verdict of each line that asks for something. All lines are of one session, in which each has its effect on the next."""
+    given = b"".join(b" " + line[:MOST_LINE_BYTES] + b"\n" for line in lines)  # with a blank before it no line is a call
+    answer = subprocess.run([dummynet(), "live"], input=given, stdout=subprocess.PIPE, stderr=subprocess.DEVNULL).stdout
+    records = answer.decode("utf-8", "replace").splitlines()
+    bad = {int(fields[2]): fields[4] for fields in (record.split(",", 4) for record in records) if fields[:2] == ["#", "bad"]}
+    calls = iter([record for record in records if record[:2] in ("c,", "r,")])
+    for number, line in enumerate(lines, 1):
+        if number in bad:
+            yield Verdict(number, "bad", bad[number])
+        elif words_of(line.decode("utf-8", "replace")):
+            text, reply = next(calls).split(",", 3)[3], next(calls).split(",")[1]
+            yield Verdict(number, "ok" if reply in ("configured", "deleted") else reply, text)
+
+
+@dataclass
+class LineCheck:
+    """Checks the lines of one file. `in_force` has what the good ones configure."""
+
+    name: str
+    lines: list[bytes]
+    found: Findings
+    in_force: InForce = field(default_factory=InForce)
+    spoilt: dict[str, int] = field(default_factory=dict)  # the line of each pipe and queue that has a fault
+    last: dict[str, tuple[int, list[str]]] = field(default_factory=dict)  # the line of each that has none, and its words
+
+    def check(self) -> None:
+        before = self.found.faults
+        for verdict in judged(self.lines):
+            if self.found.faults - before == MOST_FAULTS:
+                self.found.warn(f"{self.name}:{verdict.line}", f"{MOST_FAULTS} faults; the lines from here on weren't looked at")
+                return
+            self.one(verdict)
+
+    def one(self, verdict: Verdict) -> None:
+        where = f"{self.name}:{verdict.line}"
+        words = words_of(self.lines[verdict.line - 1].decode("utf-8", "replace"))
+        own = words[words[:1] == ["ipfw"]:]
+        if verdict.name == "bad":
+            self.found.fault(where, self.wrong(words, verdict.text), CONFIGURATION)
+            self.spoilt[" ".join(own[:2])] = verdict.line
+        elif verdict.name != "ok":
+            self.found.fault(where, self.refused(verdict), CONFIGURATION)
+        else:
+            self.in_force.obey(verdict.text)
+            self.warn_of_second(where, own)
+            self.warn_of_words(where, own)
+            self.last[" ".join(own[:2])] = verdict.line, own
+
+    def wrong(self, words: list[str], text: str) -> str:
+        """What is wrong with a line, and what to write, by the program's text `word W: X`."""
+        cause = re.fullmatch(r"word (\d+): (.+)", text)
+        if not cause or int(cause[1]) > len(words):
+            return "not UTF-8: a file of another kind, or of an older encoding" if text == "not UTF-8" else text
+        said = advice(words, int(cause[1]), cause[2])
+        return f"word {cause[1]} {words[int(cause[1]) - 1]!r}: {said.wrong}; {said.right}"
+
+    def refused(self, verdict: Verdict) -> str:
+        """Why a command that is well written has no effect."""
+        words = verdict.text.split()
+        if verdict.name == "pipe-has-queues":
+            return f"a queue still names pipe {words[-1]}; delete the queue first, or move it"
+        if verdict.name != "no-such-pipe":
+            return f"no such queue: queue {words[-1]} isn't configured here; leave this line out"
+        pipe = f"pipe {words[4] if words[1] != 'delete' and len(words) > 4 else words[-1]}"
+        because = f" (line {self.spoilt[pipe]}, which is of it, has a fault)" if pipe in self.spoilt else "; a pipe's line stands above those of its queues"
+        return f"no such pipe: {pipe} isn't configured here{because}"
+
+    def warn_of_second(self, where: str, words: list[str]) -> None:
+        """Of a line for what an earlier line configured, and of an option that stands twice."""
+        key = " ".join(words[:2])
+        if key in self.last and "config" in words[:3] and "config" in self.last[key][1][:3]:
+            line, earlier = self.last[key]
+            lost = [word for word in earlier[3:] if word in OPTIONS[words[0]] and word not in words[3:]]
+            also = f": {', '.join(lost)} of line {line} no longer hold{'s' * (len(lost) == 1)}" if lost else ""
+            self.found.warn(where, f"a second line for {key}, and each line is its whole configuration{also}")
+        if twice := [word for word, count in Counter(words[3:]).items() if count > 1 and word in OPTIONS[words[0]]]:
+            self.found.warn(where, f"{twice[0]} stands twice; the last one counts")
+
+    def warn_of_words(self, where: str, words: list[str]) -> None:
+        for name, word in zip(words[3:], words[4:]):
+            if (said := unlikely(name, word)) is not None:
+                self.found.warn(where, said)
+
+
+def unlikely(name: str, word: str) -> str | None:
+    """What to say of a value that the program takes and hardly anybody means."""
+    if name == "bw" and re.fullmatch(r"[1-9]\d{0,3}", word):
+        return f"bw {word} is {word} bit/s; write {word}Mbit/s or {word}Kbit/s if that is meant"
+    if name == "plr" and Fraction(word + "0" * word.endswith(".")) == 1:
+        return f"plr {word} loses every packet; 1 % is 0.01"
+    if name == "delay" and (ms := int(re.sub(r"\D", "", word) or 0)) > LONG_DELAY_MS:
+        return f"delay {word} is {ms / 1000:g} s; delays are in ms"
+    if name in FIELD_BITS and word.isdigit() and int(word) & (int(word) + 1):
+        whole = hex((1 << FIELD_BITS[name]) - 1)
+        return f"mask {name} {word} keeps the bits {int(word):#x}, and is neither a prefix length nor a value; all bits are {whole}"
+    return None

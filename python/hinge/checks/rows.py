@@ -1,0 +1,243 @@
+"""The rows of a packet file: each that the program doesn't take, and what hardly anybody means by those that it takes."""
+
+from __future__ import annotations
+
+import csv
+import io
+import re
+import subprocess
+from collections import Counter
+from dataclasses import dataclass, field
+from fractions import Fraction
+from typing import Iterator, NamedTuple, Optional
+
+from hinge.checks.findings import MOST_FAULTS, Findings
+from hinge.command import ROWS
+from hinge.configured import InForce
+from hinge.program import dummynet
+
+HEADER = ["moment", "target", "number", "src", "dst", "proto", "sport", "dport", "len", "word"]
+ADDRESS = "four numbers 0 to 255, as 10.0.0.1"
+RANGES = dict(zip(HEADER, [
+    "0 to 4611686018427387904", "pipe or queue", "1 to 65535", ADDRESS, ADDRESS, "0 to 255", "0 to 65535", "0 to 65535", "1 to 65535",
+    "0 to 4294967295"]))
+PROTOCOLS = {"icmp": 1, "igmp": 2, "tcp": 6, "udp": 17, "gre": 47, "esp": 50, "icmpv6": 58, "icmp6": 58, "sctp": 132}
+LAST_MOMENT = 2**62
+LOSS_PARTS = 2**31
+LONGEST_FRAME = 9216  # bytes of a packet that a card sends in one
+FAR = 10**14  # ns at which a first packet is hardly sent
+NS_PER_DAY = 86_400 * 10**9
+STRETCH = 10_000  # rows that are judged at once behind a bad one
+
+
+class Record(NamedTuple):
+    """A record of a file as the program counts them: the line where it begins, and its text."""
+
+    line: int
+    text: bytes
+
+    def fields(self) -> list[str]:
+        return next(csv.reader([self.text.decode("utf-8", "replace")]), [])
+
+
+def records(data: bytes, line: int) -> Iterator[Record]:
+    """The records of a text that begins in this line; a field in quotes may go over several."""
+    data = data.removeprefix(b"\xef\xbb\xbf") if line == 1 else data
+    lines = io.StringIO(data.decode("latin-1"), newline="").readlines()
+    kept: list[str] = []
+    is_open = False
+    for number, text in enumerate(lines, line):
+        kept.append(text)
+        is_open ^= text.count('"') % 2 == 1
+        if not is_open:
+            if whole := "".join(kept).rstrip("\r\n"):
+                yield Record(number - len(kept) + 1, whole.encode("latin-1"))
+            kept = []
+    if kept:
+        yield Record(line + len(lines) - len(kept), "".join(kept).encode("latin-1"))
+
+
+def of_moment(text: str) -> Optional[str]:
+    if re.fullmatch(r"\d+\.\d*", text):
+        return f"a moment is whole nanoseconds; write {int(Fraction(text) * 10**9)} if these are seconds"
+    if text.startswith("-"):
+        return "a moment can't be negative; count from the first packet"
+    if re.match(r"\d{4}-\d\d-\d\d|\d+:\d\d", text):
+        return "a date; write nanoseconds from the first packet"
+    if text.isdigit() and int(text) > LAST_MOMENT:
+        return f"beyond the last moment, {LAST_MOMENT}; count from the first packet"
+    return None
+
+
+def of_address(text: str) -> str:
+    if text.count(":") > 1:
+        return "IPv6, which packet files don't have; `hinge packets` writes an address of 240.0.0.0/4 for each"
+    if found := re.fullmatch(r"(\d+\.\d+\.\d+\.\d+)[:/](\d+)", text):
+        return f"an address alone; write {found[1]}"
+    return "not an IPv4 address, or with leading zeros; write it as 10.0.0.1"
+
+
+def of_number(name: str, text: str) -> Optional[str]:
+    if found := re.fullmatch(r"0+(\d+)", text):
+        return f"leading zeros aren't taken; write {found[1]}"
+    if re.fullmatch(r"0[xX][0-9a-fA-F]+", text):
+        return f"hexadecimal isn't taken; write {int(text, 16)}"
+    if name == "word" and re.fullmatch(r"0?\.\d+", text):
+        return f"a word is a whole number; write {int(Fraction(text) * 2**32)} for this fraction of 2^32"
+    return None
+
+
+def field_advice(name: str, text: str) -> str:
+    """What is wrong with a field, and what to write."""
+    bare = text.strip()
+    if bare and bare != text:
+        return f"blanks round a field aren't taken; write {bare}"
+    if text == "":
+        return "empty; write 0" if name in ("sport", "dport", "proto") else f"empty; write {RANGES[name]}"
+    if name == "target":
+        is_case = text.lower() in ("pipe", "queue")
+        return f"keywords are lower case; write {text.lower()}" if is_case else "write pipe or queue, and its number in the next field"
+    if name in ("src", "dst"):
+        return of_address(text)
+    if name == "proto" and text.lower() in PROTOCOLS:
+        return f"a protocol is its number; write {PROTOCOLS[text.lower()]}"
+    if name == "len" and text == "0":
+        return "a packet has 1 byte at least; write its IP length"
+    return (of_moment(text) if name == "moment" else None) or of_number(name, text) or f"write {RANGES[name]}"
+
+
+def separator(text: str) -> Optional[str]:
+    """What parts the fields of a record that has no commas."""
+    return next((mark for mark in ";\t|" if text.count(mark) >= len(HEADER) - 2), None)
+
+
+def wrong(record: Record, field_number: int) -> str:
+    """What is wrong with a row, by the field that the program names; 0 is the whole row."""
+    texts = record.fields()
+    if field_number:
+        name, text = HEADER[field_number - 1], texts[field_number - 1]
+        return f"field {field_number} ({name}) {text!r}: {field_advice(name, text)}"
+    other = separator(record.text.decode("utf-8", "replace"))
+    return f"{len(texts)} fields in place of {len(HEADER)}; write " + (f"commas for {other!r}" if other else ",".join(HEADER))
+
+
+def wrong_header(text: str) -> str:
+    other = separator(text)
+    what = f"fields are parted by commas, not by {other!r}" if other else "no header" if text[:1].isdigit() else f"another header, {text[:60]!r}"
+    return f"{what}; write {','.join(HEADER)}"
+
+
+def verdict(rows: list[Record]) -> tuple[int, str]:
+    """The program's status for these rows below a header, and its fault."""
+    text = b"\n".join([",".join(HEADER).encode(), *(row.text for row in rows)])
+    done = subprocess.run([dummynet(), "replay", "/dev/null", "/dev/stdin"], input=text, stdout=subprocess.DEVNULL, stderr=subprocess.PIPE)
+    return done.returncode, done.stderr.decode().strip()
+
+
+@dataclass
+class Sums:
+    """What the good rows of a file have in all."""
+
+    count: int = 0
+    late: list[int] = field(default_factory=list)  # lines whose moment is before that of a row above
+    clock: int = 0
+    first_moment: int = LAST_MOMENT
+    longest: int = 0
+    words: set[str] = field(default_factory=set)  # at most two
+    targets: Counter[str] = field(default_factory=Counter)
+    first_line: dict[str, int] = field(default_factory=dict)
+
+    def add(self, row: Record) -> None:
+        fields = row.text.decode().split(",") if b'"' not in row.text else row.fields()
+        moment, target = int(fields[0]), f"{fields[1]} {fields[2]}"
+        if moment < self.clock:
+            self.late.append(row.line)
+        self.clock, self.first_moment = max(self.clock, moment), min(self.first_moment, moment)
+        self.count, self.longest = self.count + 1, max(self.longest, int(fields[8]))
+        self.targets[target] += 1
+        self.first_line.setdefault(target, row.line)
+        if len(self.words) < 2:
+            self.words.add(fields[9])
+
+
+@dataclass
+class RowCheck:
+    """Checks one packet file, which begins in line `line` of the file `name`."""
+
+    name: str
+    data: bytes
+    found: Findings
+    config: str = ""
+    in_force: Optional[InForce] = None
+    line: int = 1
+
+    def check(self) -> None:
+        header, *rows = list(records(self.data, self.line)) or [None]
+        if header is None:
+            self.found.warn(self.name, "it has no rows")
+            return
+        if header.fields() != HEADER:
+            self.found.fault(f"{self.name}:{header.line}", wrong_header(header.text.decode("utf-8", "replace")), ROWS)
+            if separator(header.text.decode("utf-8", "replace")) is None:
+                self.judge(rows if header.text[:1].isalpha() else [header, *rows])
+        elif self.judge(rows):
+            self.warn(rows)
+
+    def judge(self, rows: list[Record]) -> bool:
+        """Whether the program takes all rows; those that it doesn't take are told."""
+        begin, told, step = 0, 0, len(rows)
+        while begin < len(rows) and told < MOST_FAULTS:
+            status, fault = verdict(rows[begin:begin + step])
+            if status == 0:
+                begin += step
+                continue
+            place = re.fullmatch(r"packet row (\d+), field (\d+): bad", fault)
+            if not place:
+                more = "; `hinge shard` replays packets of any length" if "too long" in fault else ""
+                self.found.fault(self.name, fault + more, status)
+                return False
+            begin, told, step = begin + int(place[1]), told + 1, STRETCH
+            self.found.fault(f"{self.name}:{rows[begin - 1].line}", wrong(rows[begin - 1], int(place[2])), ROWS)
+        if begin < len(rows):
+            self.found.warn(self.name, f"{MOST_FAULTS} faults; the rows behind them weren't looked at")
+        return told == 0
+
+    def warn(self, rows: list[Record]) -> None:
+        sums = Sums()
+        for row in rows:
+            sums.add(row)
+        if not sums.count:
+            self.found.warn(self.name, "it has no rows")
+            return
+        self.warn_of_moments(sums)
+        if sums.longest > LONGEST_FRAME:
+            self.found.warn(self.name, f"packets of up to {sums.longest} bytes: segments that a card was still to cut? (`hinge packets --mtu 1500`)")
+        if self.in_force is not None:
+            self.warn_of_targets(sums, self.in_force)
+            self.warn_of_words(sums, self.in_force)
+
+    def warn_of_moments(self, sums: Sums) -> None:
+        late, count, span = sums.late, sums.count, sums.clock - sums.first_moment
+        if late:
+            self.found.warn(f"{self.name}:{late[0]}", f"{len(late)} of {count} rows have a moment before that of a row above, and count as sent "
+                            "at that one's; sort the rows by moment")
+        if count >= 100 and span < 100 * count:
+            self.found.warn(self.name, f"{count} packets within {span} ns; moments are nanoseconds (1 s is 1000000000)")
+        if sums.first_moment > FAR:
+            self.found.warn(self.name, f"the first packet is sent at {sums.first_moment} ns, {sums.first_moment // NS_PER_DAY} days after the start; "
+                            "count from the first packet")
+
+    def warn_of_targets(self, sums: Sums, force: InForce) -> None:
+        numbers = {"pipe": set(force.pipes), "queue": set(force.queues)}
+        unknown = [target for target in sums.targets if int(target.split()[1]) not in numbers[target.split()[0]]]
+        none = "; NO row has a target" if len(unknown) == len(sums.targets) else ""
+        for target in unknown[:MOST_FAULTS]:
+            self.found.warn(f"{self.name}:{sums.first_line[target]}",
+                            f"{sums.targets[target]} of {sums.count} rows go to {target}, which {self.config} doesn't configure{none}")
+
+    def warn_of_words(self, sums: Sums, force: InForce) -> None:
+        rates = [entry.loss for entry in (*force.pipes.values(), *force.queues.values()) if entry.loss]
+        if rates and sums.count > 1 and len(sums.words) == 1:
+            word = int(next(iter(sums.words)))
+            fate = "lost" if word % LOSS_PARTS < max(rates) else "not lost"
+            self.found.warn(self.name, f"each word is {word}, so under a loss rate all packets have one fate ({fate}); draw each word anew")

@@ -1,0 +1,82 @@
+"""What is wrong with configurations, packet files and histories, and what to write."""
+
+from __future__ import annotations
+
+import sys
+from pathlib import Path
+from typing import Optional
+
+from hinge.checks.findings import Findings
+from hinge.checks.histories import check_history
+from hinge.checks.lines import LineCheck
+from hinge.checks.rows import RowCheck
+from hinge.command import ROWS, parser
+
+WHAT = """\
+Says what is wrong with configuration lines, packet files and histories, and what to write: the file, the line, the word or field as it
+stands there, and what would be right. The program dummynet is the judge: what it takes has warnings at most. Packet files are also held
+against the configuration that is named with them. The exit status is that of the first fault, 1 for a history that isn't lawful."""
+CAPTURES = (b"\xd4\xc3\xb2\xa1", b"\xa1\xb2\xc3\xd4", b"\x4d\x3c\xb2\xa1", b"\xa1\xb2\x3c\x4d", b"\x0a\x0d\x0d\x0a")
+ROW_MARKS = 8  # commas, semicolons or tabs that a header has at least
+
+
+def kind_of(path: str, data: bytes) -> str:
+    """What a file is, by how it begins."""
+    if data.startswith(CAPTURES):
+        return "capture"
+    head = data[:4096].removeprefix(b"\xef\xbb\xbf").lstrip(b"\r\n").split(b"\n")[0]
+    if head.startswith((b"dummynet-history", b"dummynet-live")):
+        return "history"
+    if head.startswith(b"event,row,flow"):
+        return "report"
+    if head.startswith(b"moment") or path.endswith(".csv") or sum(head.count(mark) for mark in (b",", b";", b"\t")) >= ROW_MARKS:
+        return "packets"
+    return "config"
+
+
+class Check:
+    """Checks files in their order; packet files come last, against the last configuration."""
+
+    def __init__(self) -> None:
+        self.found = Findings()
+        self.lines: Optional[LineCheck] = None
+        self.packets: list[tuple[str, bytes, int]] = []
+
+    def add(self, path: str, data: bytes) -> None:
+        kind = kind_of(path, data)
+        if kind == "capture":
+            self.found.fault(path, f"a capture, not a packet file; `hinge packets {path} -o packets.csv` writes one", ROWS)
+        elif kind == "report":
+            self.found.fault(path, "a report of a replay, not a packet file", ROWS)
+        elif kind == "history":
+            check_history(path, path, data, self.found)
+        elif kind == "packets":
+            self.packets.append((path, data, 1))
+        else:
+            self.add_configuration(path, data.split(b"\n"))
+
+    def add_configuration(self, path: str, lines: list[bytes]) -> None:
+        """A configuration, or a joined input, which has packets behind a line `--`."""
+        cut = next((place for place, text in enumerate(lines) if text.rstrip(b"\r") == b"--"), len(lines))
+        self.lines = LineCheck(path, lines[:cut], self.found)
+        self.lines.check()
+        if cut < len(lines):
+            self.packets.append((path, b"\n".join(lines[cut + 1:]), cut + 2))
+
+    def finish(self) -> None:
+        for path, data, line in self.packets:
+            in_force, config = (self.lines.in_force, self.lines.name) if self.lines else (None, "")
+            RowCheck(path, data, self.found, config, in_force, line).check()
+
+
+def main() -> None:
+    line = parser(WHAT, "hinge check link.config packets.csv")
+    line.add_argument("files", metavar="FILE", nargs="+", help="configurations, packet files, joined inputs, histories")
+    check = Check()
+    for path in line.parse_args().files:
+        check.add(path, Path(path).read_bytes())
+    check.finish()
+    found = check.found
+    print(f"{found.faults} faults, {found.warnings} warnings" if found.faults or found.warnings else "nothing to say", file=sys.stderr)
+    sys.stdout.flush()
+    sys.exit(found.status)

@@ -1,0 +1,227 @@
+"""`hinge check`: lines, rows and histories that people get wrong; what is advised is taken by the program."""
+
+from __future__ import annotations
+
+import re
+import subprocess
+import unittest
+from pathlib import Path
+
+from fuzz_check import compare
+from kit import TOP, folder, run
+
+from hinge.checks.rows import HEADER
+from hinge.checks.words import advice, words_of
+from hinge.program import dummynet
+
+HEAD = ",".join(HEADER) + "\n"
+GOOD = "0,pipe,1,10.0.0.1,10.0.0.2,17,1000,2000,1000,"
+REPLACED = {  # a line, what is said of it; the word that is advised makes it good
+    "pipe 1 config bw 8Mbps": "word 5 '8Mbps': not a bandwidth; write 8Mbit/s",
+    "pipe 1 config bw 8mbit": "write 8Mbit/s",
+    "pipe 1 config bw 1.5Mbit/s": "write 1500Kbit/s",
+    "pipe 1 config bw 8MBps": "write 8MByte/s (8Mbit/s if bits are meant)",
+    "pipe 1 config bw 8Mb/s": "write 8Mbit/s",
+    "pipe 1 config bw 1Gbps": "write 1Gbit/s",
+    "pipe 1 config bw 100kb": "write 100Kbit/s",
+    "pipe 1 bw 8Mbit/s": "`config` is missing",
+    "pipe 1 config loss 0.01": "word 4 'loss': no option; write plr",
+    "pipe 1 config plr 1%": "write 0.01",
+    "pipe 1 config plr 5": "write 0.05 for 5 %",
+    "pipe 1 config plr 1e-3": "write 0.001",
+    "pipe 1 config plr 0.5%": "write 0.005",
+    "pipe 1 config mask src-ip 255.255.255.0": "write 0xffffff00",
+    "pipe 1 config mask src-ip /24": "write 0xffffff00",
+    "pipe 1 config delay 20us": "write 0 or 1",
+    "pipe 1 config delay 0.5": "write 0 or 1",
+    "pipe 1 config delay 2s": "write 2000ms",
+    "pipe 1 config delay 20msec": "write 20ms",
+    "pipe 1 config queue 2MB": "more than the 1024 Kbytes",
+    "pipe 1 config queue 1MB": "write 1024Kbytes",
+    "pipe 1 config queue 50pkts": "write 50",
+    "pipe 1 config queue 64KiB": "write 64Kbytes",
+    "pipe 1 config queue 1500bytes": "write 2Kbytes",
+    "pipe 1 config bw 8Mbit/s, delay 20": "write 8Mbit/s",
+    "pipe 1 config bw=8Mbit/s": "write bw 8Mbit/s",
+    "Pipe 1 config": "write pipe",
+    "pipe1 config": "write pipe 1",
+    "pipe 1config": "write 1 config",
+    "pipe 1 config latency 20": "write delay",
+    "pipe 1 config dely 20": "write delay",
+}
+TOLD = {  # a line, and what is said of it, where no one word makes it good
+    "pipe 1 config bw 8 Mbit/s": "a number and its unit are one word; write 8Mbit/s",
+    "pipe 1 config mask 255.255.255.0": "write mask src-ip 0xffffff00",
+    "pipe 1 config delay -5": "can't be negative",
+    "pipe 1 config delay 20 ms": "write 20ms",
+    "pipe 1 config queue 0": "write packets",
+    "pipe 1 config bw 8Mbit/s; pipe 2 config": "ends in ';'",
+    "pipe 0 config": "write 1 to 65535",
+    "queue 1 config weight 3": "names no pipe",
+    "pipe 1 config weight 4": "an option of queues",
+    "queue 1 config pipe 1 bw 3Mbit/s": "an option of pipes",
+    "pipe 1 config jitter 3": "no such option",
+    "pipe 1 config red 1/2/3/4": "leaves it out",
+    "pipe 1 config bw eth0": "name of a device",
+    "pipe 1 config bw": "ends before its value",
+    "ipfw add 100 pipe 1 ip from any to any": "word 2 'add': a rule of the firewall",
+    "sched 1 config type fifo": "schedulers",
+    "pipe 1 show": "shows nothing",
+    "pipe 1 config mask src-ip6 0xff": "IPv6 is left out",
+    "pipe delete 1 2": "own",
+    "pipe 1 config bw 8Mbit/s delay 20 \xe9": "not UTF-8",
+    "pipe": "word 1 'pipe': ",
+    "pipe 1": "word 2 '1': ",
+    "queue 3 config pipe 9": "pipe 9 isn't configured",
+    "pipe delete 9": "pipe 9 isn't configured",
+    "queue delete 9": "queue 9 isn't configured",
+}
+ROWS = {
+    GOOD.replace("0,pipe", "1.5,pipe", 1) + "1": "field 1 (moment) '1.5': a moment is whole nanoseconds; write 1500000000",
+    GOOD.replace("0,pipe", "-1,pipe", 1) + "1": "can't be negative",
+    GOOD.replace("pipe", "Pipe") + "1": "field 2 (target) 'Pipe': keywords are lower case; write pipe",
+    GOOD.replace("17", "udp") + "1": "field 6 (proto) 'udp': a protocol is its number; write 17",
+    GOOD.replace("10.0.0.1", "fe80::1") + "1": "IPv6",
+    GOOD.replace("10.0.0.1", "10.0.0.1:80") + "1": "write 10.0.0.1",
+    GOOD.replace("10.0.0.1", "10.0.0.01") + "1": "leading zeros",
+    GOOD.replace("1000,2000", "1000,") + "1": "empty; write 0",
+    GOOD.replace(",1000,2000,1000", ",1000,2000,0") + "1": "1 byte at least",
+    GOOD + "0x1f": "write 31",
+    GOOD + "0.5": "write 2147483648",
+    GOOD + "": "empty",
+    GOOD.replace(",", ", ") + "1": "blanks round",
+    GOOD.replace(",", ";") + "1": "write commas for ';'",
+    GOOD + "1,2": "11 fields in place of 10",
+    GOOD + "01": "write 1",
+    "2026-01-01 10:00:00" + GOOD[1:] + "1": "a date",
+    "9223372036854775807" + GOOD[1:] + "1": "beyond the last",
+}
+
+
+def file(name: str, text: str | bytes) -> Path:
+    path = folder() / name
+    path.write_bytes(text if isinstance(text, bytes) else text.encode("latin-1"))
+    return path
+
+
+def check(*paths: Path) -> tuple[int, str]:
+    done = run("check", *paths)
+    assert "Traceback" not in done.stderr, done.stderr
+    return done.returncode, done.stdout
+
+
+def verdict(line: str) -> subprocess.CompletedProcess[str]:
+    """What the program says of a line, below that of pipe 1 where the line is a queue's."""
+    path = file("one", "pipe 1 config\n" * line.startswith("queue") + line + "\n")
+    return subprocess.run([dummynet(), "replay", path, "/dev/null"], capture_output=True, text=True)
+
+
+class Lines(unittest.TestCase):
+    def test_each_wrong_line_is_told_where_the_program_has_it(self) -> None:
+        for line, said in {**REPLACED, **TOLD}.items():
+            with self.subTest(line):
+                path = file("link.config", "pipe 1 config\n" * line.startswith("queue") + line + "\n")
+                (status, out), program = check(path), verdict(line)
+                self.assertEqual((status, program.returncode), (3, 3))
+                number = re.search(r"line (\d+)(?:, word (\d+))?", program.stderr)
+                self.assertTrue(out.startswith(f"{path}:{number[1]}: " + (f"word {number[2]} " if number[2] else "")), (out, program.stderr))
+                self.assertIn(said, out)
+
+    def test_the_word_that_is_advised_is_taken(self) -> None:
+        for line in REPLACED:
+            with self.subTest(line):
+                found = re.search(r"word (\d+): (.*)", verdict(line).stderr)
+                words = words_of(line)
+                words[int(found[1]) - 1] = advice(words, int(found[1]), found[2]).word or ""
+                self.assertEqual(verdict(" ".join(words)).returncode, 0, words)
+
+    def test_every_bad_line_is_told(self) -> None:
+        path = file("many.config", "pipe 1 config bw 8Mbps\n\nqueue 1 config pipe 1\npipe 2 config delay 1s # late\npipe 3 config\n")
+        status, out = check(path)
+        self.assertEqual(status, 3)
+        self.assertEqual([line.split(": ", 1)[0] for line in out.splitlines()], [f"{path}:{number}" for number in (1, 3, 4)])
+        self.assertIn("pipe 1 isn't configured here (line 1, which is of it, has a fault)", out)
+
+    def test_random_lines_as_the_program_has_them(self) -> None:
+        self.assertGreater(compare(0, 60), 200)
+
+    def test_the_examples_have_no_findings(self) -> None:
+        files = [path for path in sorted((TOP / "examples").glob("*")) if path.suffix in (".config", ".csv") and "report" not in path.name]
+        configs = [path for path in files if path.suffix == ".config"]
+        self.assertGreater(len(configs), 5)
+        for config in configs:
+            packets = [path for path in files if path == config.with_suffix(".csv")]
+            self.assertEqual(check(config, *packets), (0, ""), config)
+
+
+class Rows(unittest.TestCase):
+    def test_each_wrong_row(self) -> None:
+        config = file("c.config", "pipe 1 config\n")
+        for row, said in ROWS.items():
+            with self.subTest(row):
+                path = file("p.csv", HEAD + "\n" + GOOD + "7\n" + row + "\n")
+                status, out = check(config, path)
+                program = subprocess.run([dummynet(), "replay", config, path], capture_output=True, text=True)
+                self.assertEqual((status, program.returncode), (4, 4))
+                self.assertIn("row 2, field", program.stderr)
+                self.assertTrue(out.startswith(f"{path}:4: ") and said in out, out)
+
+    def test_every_bad_row_is_told(self) -> None:
+        rows = [GOOD + "1", GOOD.replace("17", "tcp") + "1", "", GOOD + "2", GOOD + "x", '"' + GOOD.replace(",", '","') + '3"', GOOD + "1,2"]
+        path = file("p.csv", HEAD + "\n".join(rows) + "\n")
+        status, out = check(path)
+        self.assertEqual((status, [line.split(": ", 1)[0] for line in out.splitlines()]), (4, [f"{path}:{number}" for number in (3, 6, 8)]))
+
+    def test_headers(self) -> None:
+        for head, said in ((GOOD + "1\n", "no header"), (HEAD.replace(",", ";"), "parted by commas"), (HEAD.replace("moment", "time"), "another header")):
+            status, out = check(file("p.csv", head))
+            self.assertEqual((status, out.count("\n")), (4, 1))
+            self.assertIn(said, out)
+
+    def test_a_joined_input_has_the_lines_of_the_whole(self) -> None:
+        path = file("joined", "pipe 1 config\n--\n" + HEAD + GOOD.replace("17", "tcp") + "1\n")
+        self.assertEqual(check(path), (4, f"{path}:4: field 6 (proto) 'tcp': a protocol is its number; write 6\n"))
+
+
+class Warnings(unittest.TestCase):
+    def test_they_leave_the_status(self) -> None:
+        config = file("c.config", "pipe 1 config bw 8 plr 0.1 delay 30000\npipe 1 config bw 8Mbit/s plr 0.1 plr 0.2 mask src-ip 24\npipe 2 config plr 1\n")
+        rows = GOOD.replace("0,pipe", "5,pipe", 1) + "0\n" + GOOD + "0\n" + GOOD.replace("pipe,1,", "queue,4,") + "0\n"
+        status, out = check(config, file("p.csv", HEAD + rows))
+        self.assertEqual(status, 0)
+        for said in ("bw 8 is 8 bit/s", "delay 30000 is 30 s", "a second line for pipe 1", "delay of line 1 no longer holds", "plr stands twice",
+                     "mask src-ip 24 keeps the bits 0x18", "plr 1 loses every packet", "p.csv:3: warning: 2 of 3 rows have a moment before",
+                     "p.csv:4: warning: 1 of 3 rows go to queue 4", "all packets have one fate (lost)"):
+            self.assertIn(said, out)
+
+    def test_nanoseconds_and_targets(self) -> None:
+        many = file("q.csv", HEAD + "".join(f"{moment},pipe,2{GOOD[8:]}{moment}\n" for moment in range(200)))
+        status, out = check(file("d.config", "pipe 1 config\n"), many)
+        self.assertEqual(status, 0)
+        self.assertIn("200 packets within 199 ns", out)
+        self.assertIn("NO row has a target", out)
+
+    def test_other_files(self) -> None:
+        self.assertIn("hinge packets", check(file("a.csv", b"\xd4\xc3\xb2\xa1" + bytes(20)))[1])
+        self.assertEqual(check(file("good.config", "# a comment\n\nipfw pipe 1 config bw 8Mbit/s\r\n")), (0, ""))
+        self.assertEqual(run("check", "nowhere").returncode, 6)
+
+
+class Histories(unittest.TestCase):
+    def test_where_a_history_is_wrong(self) -> None:
+        config, packets, path = file("c", "pipe 1 config bw 8Mbit/s\n"), file("p", HEAD + (GOOD + "1\n") * 3), folder() / "h"
+        subprocess.run([dummynet(), "replay", config, packets, "--history", path], stdout=subprocess.DEVNULL, check=True)
+        text = path.read_text()
+        lines = text.splitlines(True)
+        self.assertEqual(check(path), (0, ""))
+        cases = {
+            "".join(lines[:-1]): "was cut", "".join(lines[:6]): "was cut", text[:len(text) - len(lines[-1]) - 8]: "cut within this record",
+            text.replace("r,queued,0,0,1", "r,queued,0,0,7"): ":7: 'r,queued,0,0,7' isn't the emulator's reply",
+            text.replace("r,queued,0,0,2", "r,full,0,0"): "(entry 3); that is 'r,queued,0,0,2'",
+            text + "x\n": "stands behind the end", text.replace("end,5", "end,6"): "there are 5 entries",
+            "# remark\n".join(lines).replace("r,configured", "r,confgured"): "not a record here",
+        }
+        for changed, said in cases.items():
+            status, out = check(file("h2", changed))
+            self.assertIn(said, out)
+            self.assertIn(status, (1, 4))
