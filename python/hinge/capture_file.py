@@ -9,7 +9,7 @@ import tempfile
 from contextlib import contextmanager
 from dataclasses import dataclass
 from pathlib import Path
-from typing import BinaryIO, Iterator
+from typing import BinaryIO, Iterator, NamedTuple
 
 from hinge.command import ROWS, Fault, program
 
@@ -18,8 +18,7 @@ NANOSECONDS = 0xA1B23C4D
 NS_PER_S, SECONDS_END = 10**9, 2**32
 
 
-@dataclass(frozen=True, slots=True)
-class Record:
+class Record(NamedTuple):
     """A frame: its time in ns since 1970, the length that it had, and where its bytes stand in the file."""
 
     time: int
@@ -57,7 +56,8 @@ def capture_file(path: str) -> Iterator[CaptureFile]:
         plain = Path(folder, "capture.pcap")
         done = subprocess.run([program("editcap", "wireshark-common"), "-F", "nsecpcap", path, str(plain)],
                               capture_output=True, text=True)
-        if done.returncode != 0 and "cut short" not in done.stderr:
+        is_there = plain.exists() and plain.stat().st_size >= FILE_HEADER.size
+        if not is_there or (done.returncode != 0 and "cut short" not in done.stderr):
             raise Fault(f"{path}: {' '.join(done.stderr.split())[:300]}", ROWS)
         yield read_records(plain)
 

@@ -5,8 +5,7 @@ The outermost IP header counts. Fragments aren't put together again, since a lin
 
 from __future__ import annotations
 
-from dataclasses import dataclass
-from typing import Optional
+from typing import NamedTuple, Optional
 
 from hinge.command import ROWS, Fault
 
@@ -24,8 +23,7 @@ FIELDS = (
 ).split()
 
 
-@dataclass(frozen=True, slots=True)
-class Frame:
+class Frame(NamedTuple):
     """An IP packet of a capture. `time` is in ns since 1970, `length` that of the IP packet, `headers` of IP and transport."""
 
     number: int

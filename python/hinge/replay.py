@@ -7,9 +7,11 @@ from __future__ import annotations
 
 from dataclasses import dataclass
 from functools import cached_property
+from typing import Iterable
 
 import numpy as np
 
+from hinge.addresses import read_addresses
 from hinge.columns import Address, Number, OneOf, numbered
 from hinge.command import ROWS, Fault
 from hinge.tables import read_table
@@ -40,7 +42,10 @@ class Packets:
         """A five-tuple as people write it."""
         src, dst, proto, sport, dport = self.tuples[number]
         name = PROTOCOLS.get(proto, f"proto {proto}")
-        return f"{name} {src}:{sport} > {dst}:{dport}" if sport or dport else f"{name} {src} > {dst}"
+        if not (sport or dport):
+            return f"{name} {src} > {dst}"
+        first, second = (f"[{address}]" if ":" in address else address for address in (src, dst))
+        return f"{name} {first}:{sport} > {second}:{dport}"
 
 
 @dataclass(frozen=True)
@@ -73,6 +78,12 @@ def dotted(address: int) -> str:
     return ".".join(str(address >> shift & 255) for shift in (24, 16, 8, 0))
 
 
+def named_tuples(rows: Iterable[tuple[int, ...]], addresses: dict[str, str]) -> list[tuple[str, str, int, int, int]]:
+    """Five-tuples with their addresses as text, those that stand for IPv6 addresses under these."""
+    dotted_rows = ((dotted(src), dotted(dst), proto, sport, dport) for src, dst, proto, sport, dport in rows)
+    return [(addresses.get(src, src), addresses.get(dst, dst), *rest) for src, dst, *rest in dotted_rows]
+
+
 def read_packets(path: str) -> Packets:
     found = read_table(path, {
         "moment": Number(), "target": OneOf(KINDS), "number": Number(), "src": Address(), "dst": Address(), "proto": Number(),
@@ -83,7 +94,7 @@ def read_packets(path: str) -> Packets:
     five_tuple, first_of_tuple = numbered(*five)
     targets = [(KINDS[found["target"][row]], int(found["number"][row])) for row in first_of_target]
     rows = zip(*(column[first_of_tuple].tolist() for column in five))
-    tuples = [(dotted(src), dotted(dst), proto, sport, dport) for src, dst, proto, sport, dport in rows]
+    tuples = named_tuples(rows, read_addresses(path))
     return Packets(path, found["moment"], target, five_tuple, found["len"], found["word"], targets, tuples)
 
 

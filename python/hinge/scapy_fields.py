@@ -5,8 +5,7 @@ from __future__ import annotations
 import gzip
 import logging
 from contextlib import ExitStack
-from dataclasses import dataclass
-from typing import BinaryIO, Iterator, Optional
+from typing import BinaryIO, Iterator, NamedTuple, Optional
 
 logging.getLogger("scapy").setLevel(logging.CRITICAL + 1)  # this machine's network doesn't matter, and captures have faults
 
@@ -59,8 +58,7 @@ class Source:
         return data
 
 
-@dataclass(frozen=True, slots=True)
-class Record:
+class Record(NamedTuple):
     """A frame as it stands in the capture: its time in ns since 1970 if it has one, the length that it had, its link type, its bytes."""
 
     time: Optional[int]

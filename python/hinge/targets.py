@@ -53,6 +53,12 @@ def has_port(name: str, port: int) -> Test:
     return lambda frame: frame.proto in PORTED and getattr(frame, name) == port
 
 
+def first_of_two() -> Test:
+    """Whether the sender is the one of two hosts that sent the first packet between them; frames are asked about in order of time."""
+    firsts: dict[tuple[str, str], str] = {}
+    return lambda frame: firsts.setdefault((min(frame.src, frame.dst), max(frame.src, frame.dst)), frame.src) == frame.src
+
+
 def short_words(words: list[str]) -> Optional[tuple[Test, ...]]:
     """The tests of short words as `src 10.0.0.0/8 udp`, None where they are no short words."""
     tests: list[Test] = []
@@ -81,6 +87,23 @@ def read_rule(text: str) -> Rule:
         raise BadRule(f"{text!r} isn't of the form 'FILTER => pipe N' or 'FILTER => queue N', N from 1 to 65535")
     tests, to = short_words(filter_text.split()), f"{found[1]},{found[2]}"
     return Rule(to, filter=filter_text.strip()) if tests is None else Rule(to, tests)
+
+
+def directions(text: str) -> list[Rule]:
+    """The two rules of `--from`: one direction goes to pipe 1, and the other to pipe 2.
+
+    `text` is an address or a network of the senders, `first` for whoever sends first, or `if:` and the number or the name of the
+    interface at which that direction was captured.
+    """
+    kind, colon, name = text.partition(":")
+    if kind == "if" and colon and name:
+        quoted = name.replace("\\", "\\\\").replace('"', '\\"')
+        one = Rule("pipe,1", filter=f"frame.interface_id == {name}" if name.isdigit() else f'frame.interface_name == "{quoted}"')
+    elif text == "first":
+        one = Rule("pipe,1", (first_of_two(),))
+    else:
+        one = Rule("pipe,1", (is_within("src", text),))
+    return [one, Rule("pipe,2")]
 
 
 class Targets:

@@ -12,7 +12,7 @@ from hinge.tables import read_table
 
 
 def frames_of_rows(path: str, replay: Replay) -> np.ndarray:
-    """The frame of each row, by the index that pcap2packets wrote."""
+    """The frame of each row, by the index that hinge packets wrote."""
     table = read_table(path, {"row": Number(), "frame": Number()})
     if not np.array_equal(table["row"], np.arange(1, len(replay.packets) + 1)):
         raise Fault(f"{path}: its rows aren't those of {replay.packets.path}", ROWS)

@@ -15,7 +15,7 @@ the exit status is 3 where that was a pipe or queue."""
 
 
 def main() -> None:
-    line = parser(WHAT, "ipfw2config rc.firewall > link.config")
+    line = parser(WHAT, "hinge ipfw rc.firewall > link.config")
     line.add_argument("files", nargs="*", default=["-"], metavar="file", help="files in the order in which they are run (default: standard input)")
     line.add_argument("-o", metavar="FILE", help="the configuration (default: standard output)")
     asked = line.parse_args()

@@ -4,18 +4,23 @@ from __future__ import annotations
 
 import argparse
 import contextlib
+import re
+from typing import Callable
 
+from hinge.addresses import write_addresses
 from hinge.arguments import bounded
 from hinge.command import parser, say, writing
 from hinge.dissect import frames
-from hinge.packet_rows import PacketRows
-from hinge.targets import BadRule, Rule, Targets, read_rule
+from hinge.packet_rows import Card, Packet, PacketRows
+from hinge.targets import BadRule, Rule, Targets, directions, read_rule
+from hinge.words import word
 
 MOST_BYTES = 67_108_864  # of a packet file that the program reads
 WHAT = """\
 Writes the IP packets of a capture (pcap or pcapng, dissected by tshark, or by scapy where tshark isn't there) as a packet file, in order of
-time. Moments are ns from the first IP packet. What isn't IP is left out and counted; IPv6 addresses get addresses of 240.0.0.0/4, told on standard error."""
-EXAMPLE = "pcap2packets capture.pcap -o packets.csv --map 'src 10.0.0.0/8 udp => queue 2' --map '=> queue 1' --mtu 1500 --l2 22"
+time. Moments are ns from the first IP packet. What isn't IP is left out and counted; IPv6 addresses get addresses of 240.0.0.0/4, told on standard
+error and in FILE.addresses, by which the other commands name the flows."""
+EXAMPLE = "hinge packets capture.pcap -o packets.csv --from 10.0.0.0/8 --mtu 1500 --l2 22\n  hinge packets capture.pcap -o packets.csv --map 'src 10.0.0.0/8 udp => queue 2' --map '=> queue 1'"
 
 
 def rule(text: str) -> Rule:
@@ -25,11 +30,32 @@ def rule(text: str) -> Rule:
         raise argparse.ArgumentTypeError(str(error)) from None
 
 
+def two_directions(text: str) -> list[Rule]:
+    try:
+        return directions(text)
+    except BadRule as error:
+        raise argparse.ArgumentTypeError(f"{text!r} is no address, no network, not `first` and no `if:NAME` ({error})") from None
+
+
+def bit_rate(text: str) -> int:
+    """bit/s of `1Gbit/s` and the like."""
+    found = re.fullmatch(r"(\d+)([KMG]?)bit/s", text)
+    if not found or not int(found[1]):
+        raise argparse.ArgumentTypeError(f"{text!r} is no rate: write it as 1Gbit/s")
+    return int(found[1]) * 1000 ** " KMG".index(found[2] or " ")
+
+
 def command_line() -> argparse.Namespace:
     line = parser(WHAT, EXAMPLE)
     line.add_argument("capture")
     line.add_argument("-o", metavar="FILE", help="the packet file (default: standard output)")
-    line.add_argument(
+    ways = line.add_mutually_exclusive_group()
+    ways.add_argument(
+        "--from", metavar="WHO", type=two_directions, dest="sender",
+        help="send one direction to pipe 1 and the other to pipe 2. WHO sends the first: an address or a network, `first` for the one of two "
+        "hosts that sends first, or if:N or if:NAME for what was captured at an interface (by tshark alone)",
+    )
+    ways.add_argument(
         "--map", metavar="RULE", type=rule, action="append", default=[],
         help="'FILTER => pipe N' or 'FILTER => queue N'; the first rule that matches counts, and a frame that none matches is left out. "
         "FILTER is a display filter of Wireshark (by tshark alone), or words that must all hold: src A/n, dst A/n, host A/n, tcp, udp, icmp, "
@@ -37,24 +63,38 @@ def command_line() -> argparse.Namespace:
     )
     line.add_argument("--mtu", metavar="N", type=bounded(256, 65535), default=0,
                       help="split larger segments, which the card was still to cut, into packets of at most N bytes")
+    line.add_argument("--rate", metavar="RATE", type=bit_rate, default=0,
+                      help="with --mtu, the rate at which the card sends the packets of a segment, as 1Gbit/s (default: all at once)")
     line.add_argument("--l2", metavar="N", type=bounded(0, 1000), default=0,
                       help="bytes that the link adds to each packet; PPPoE over Ethernet has 22")
     line.add_argument("--seed", metavar="S", type=bounded(0, 2**64 - 1), default=1, help="of the random words (default: 1)")
-    line.add_argument("--index", metavar="FILE", help="write the frame number of each row, for pcap_through")
-    return line.parse_args()
+    line.add_argument("--index", metavar="FILE", help="write the frame number of each row, for `hinge through`")
+    asked = line.parse_args()
+    if asked.rate and not asked.mtu:
+        line.error("--rate is of segments that --mtu splits")
+    return asked
+
+
+def words(seed: int) -> Callable[[int, Packet, str], int]:
+    return lambda row, packet, target: word(seed, row)
 
 
 def main() -> None:
     asked = command_line()
-    targets = Targets(asked.capture, asked.map)
+    targets = Targets(asked.capture, asked.sender or asked.map)
     found = list(frames(asked.capture))
     targets.resolve()
     packets = [frame for _, frame in found if frame is not None]
-    rows = PacketRows(targets, asked.mtu, asked.l2, asked.seed)
+    rows = PacketRows(targets, Card(asked.mtu, asked.rate), asked.l2, words(asked.seed))
+    sent = rows.packets(packets)
     with writing(asked.o) as out, writing(asked.index) if asked.index else contextlib.nullcontext() as index:
-        rows.write(packets, out, index)
+        rows.write(sent, out, index)
+    if asked.o not in (None, "-"):
+        write_addresses(asked.o, rows.addresses)
     for address, stand_in in rows.addresses.stand_ins.items():
         say(f"{stand_in} stands for {address}")
+    for told in rows.meetings.lines():
+        say(told)
     counts = rows.counts
     say(f"{len(found)} frames, {rows.row} rows, seed {asked.seed}; {len(found) - len(packets)} not IP, "
         f"{counts['unmapped']} without a target, {counts['split']} split at the MTU, {counts['cut']} longer than 65535 bytes")

@@ -53,7 +53,7 @@ def tell_untargeted(replay: Replay) -> None:
 
 
 def command_line() -> argparse.Namespace:
-    line = parser(WHAT, "stats packets.csv report.csv --config dsl.config")
+    line = parser(WHAT, "hinge stats packets.csv report.csv --config dsl.config")
     add_inputs(line, "packets", "report")
     line.add_argument("--config", metavar="FILE", help="the configuration of the replay, for the parts of the delay")
     line.add_argument("--by", choices=WAYS, default="tuple", help="what a flow is: packets of a five-tuple (the default), a flow of "

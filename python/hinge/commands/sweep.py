@@ -16,9 +16,9 @@ WHAT = """\
 Replays a packet file by many configurations and seeds. The configuration has names in braces, as `bw {bw}`; --set gives their values. A run
 is a pure function of the folder that `plan` writes, so runs may be made anywhere and in any order. The variable DUMMYNET names the program."""
 EXAMPLE = """\
-sweep plan study packets.csv link.config --set bw=1Mbit/s,2Mbit/s --set queue=10,50 --seeds 1-5
-  sweep run study
-  sweep gather study -o table.csv --plot p95_ns --against bw --picture p95.png"""
+hinge sweep plan study packets.csv link.config --set bw=1Mbit/s,2Mbit/s --set queue=10,50 --seeds 1-5
+  hinge sweep run study
+  hinge sweep gather study -o table.csv --plot p95_ns --against bw --picture p95.png"""
 
 
 def setting(text: str) -> tuple[str, list[str]]:

@@ -10,14 +10,14 @@ from hinge.through import frames_of_rows, write_arrivals
 
 WHAT = """\
 Writes the frames of a capture that come through the link, each at the moment at which it arrives and with its bytes as they were, in a pcap
-file with nanoseconds. Frames that were dropped are gone, and so are those that pcap2packets left out. The index is of pcap2packets --index."""
+file with nanoseconds. Frames that were dropped are gone, and so are those that hinge packets left out. The index is of hinge packets --index."""
 
 
 def main() -> None:
-    line = parser(WHAT, "pcap2packets capture.pcap -o packets.csv --index index.csv\n"
-                  "  pcap_through capture.pcap index.csv packets.csv report.csv -o through.pcap")
+    line = parser(WHAT, "hinge packets capture.pcap -o packets.csv --index index.csv\n"
+                  "  hinge through capture.pcap index.csv packets.csv report.csv -o through.pcap")
     line.add_argument("capture")
-    line.add_argument("index", help="the frame of each row, which pcap2packets --index wrote")
+    line.add_argument("index", help="the frame of each row, which hinge packets --index wrote")
     add_inputs(line, "packets", "report")
     line.add_argument("-o", metavar="FILE", required=True, help="the capture to write")
     asked = line.parse_args()

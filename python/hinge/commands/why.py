@@ -12,7 +12,7 @@ which add up exactly to what it took; or how full its queue was, and of which pa
 
 
 def main() -> None:
-    line = parser(WHAT, "why 17 dsl.config packets.csv report.csv")
+    line = parser(WHAT, "hinge why 17 dsl.config packets.csv report.csv")
     line.add_argument("row", type=bounded(1, 2**62), nargs="+", help="rows of the packet file, from 1; the header isn't counted")
     add_inputs(line, "config", "packets", "report")
     asked = line.parse_args()

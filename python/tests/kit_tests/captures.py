@@ -80,6 +80,13 @@ def without_times(path: Path) -> None:
     path.write_bytes(block(0x0A0D0D0A, section) + block(1, interface) + block(3, struct.pack("<I", len(frame)) + frame))
 
 
+def timed_in_ns(path: Path, frames: list[tuple[int, bytes]]) -> None:
+    """A pcapng whose times are ns in 64 bits."""
+    section, interface = struct.pack("<IHHq", 0x1A2B3C4D, 1, 0, -1), struct.pack("<HHIHHI", ETHERNET, 0, 65535, 9, 1, 9) + bytes(4)
+    packets = [block(6, struct.pack("<IIIII", 0, time >> 32, time & 0xFFFFFFFF, len(frame), len(frame)) + frame) for time, frame in frames]
+    path.write_bytes(block(0x0A0D0D0A, section) + block(1, interface) + b"".join(packets))
+
+
 def odd_ethernet(path: Path) -> list[Expected]:
     """Ethernet with tags, PPPoE, IPv6 with an extension header, fragments, segments of length 0, and frames that aren't IP."""
     first, second = "192.0.2.1", "198.51.100.2"

@@ -47,7 +47,7 @@ def replay(name: str, config: Path, packets: Path) -> Path:
 def mixed(name: str) -> tuple[Path, Path, Path]:
     """Configuration, packets and report of mixed.pcap through one of the configurations."""
     packets, config = folder() / f"{name}.csv", DATA / f"{name}.config"
-    maps = ["--map", "udp => queue 1", "--map", "icmp => queue 7", "--map", "=> queue 2"] if name == "shared" else []
+    maps = ["--map", "udp => queue 1", "--map", "icmp => queue 7", "--map", "=> queue 2"] if name == "shared" else ["--from", "10.9.0.1"]
     done = run("packets", MIXED, "-o", packets, "--mtu", 1500, "--index", folder() / f"{name}.index", *maps)
     assert done.returncode == 0, done.stderr
     return config, packets, replay(name, config, packets)

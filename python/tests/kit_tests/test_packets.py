@@ -12,7 +12,7 @@ import unittest
 from pathlib import Path
 from unittest import mock
 
-from captures import ETHERNET, Expected, ethernet, ip4, nested, odd_ethernet, other_links, udp, without_times, write
+from captures import ETHERNET, Expected, ethernet, ip4, ip6, nested, odd_ethernet, other_links, tcp, timed_in_ns, udp, without_times, write
 from kit import MIXED, folder, needs_tshark, rows_of, run
 
 from hinge import tshark
@@ -28,6 +28,11 @@ def packets_of(capture: Path, *words: object) -> list[dict[str, str]]:
     done = run("packets", capture, "-o", "packets.csv", *words)
     assert done.returncode == 0, done.stderr
     return rows_of(folder() / "packets.csv")
+
+
+def packets_of_file(name: str) -> list[str]:
+    """The moments of a packet file."""
+    return [row["moment"] for row in rows_of(folder() / name)]
 
 
 def tshark_totals(capture: Path) -> tuple[int, int]:
@@ -154,6 +159,52 @@ class Packets(unittest.TestCase):
         self.assertEqual([int(row["len"]) for row in rows[:-3]], [row.length + 22 for row in expected[:-1]])
         self.assertEqual([int(row["len"]) for row in rows[-3:]], [1522, 1522, 4000 - 2 * 1460 + 40 + 22])
 
+    def test_a_card_sends_the_packets_of_a_segment_one_after_the_other(self) -> None:
+        """At 1 Gbit/s a packet of 1,500 bytes takes 12,304 ns, with the 38 that Ethernet adds; of two segments the later one waits."""
+        segment = ethernet(0x0800, ip4("10.0.0.1", "10.0.0.2", 6, tcp(1, 2, 3000), length=0))
+        ack = ethernet(0x0800, ip4("10.0.0.2", "10.0.0.1", 6, tcp(2, 1, 0)))
+        write(folder() / "burst.pcap", ETHERNET, [(0, segment), (5_000, ack), (20_000, segment)])
+        rows = packets_of(folder() / "burst.pcap", "--mtu", 1500, "--rate", "1Gbit/s", "--index", "burst.index")
+        self.assertEqual([(int(row["moment"]), int(row["len"])) for row in rows],
+                         [(0, 1500), (5_000, 40), (12_304, 1500), (24_608, 120), (25_872, 1500), (38_176, 1500), (50_480, 120)])
+        self.assertEqual([row["frame"] for row in rows_of(folder() / "burst.index")], ["1", "2", "1", "1", "3", "3", "3"])
+        at_once = packets_of(folder() / "burst.pcap", "--mtu", 1500)
+        self.assertEqual([row["moment"] for row in at_once], ["0", "0", "0", "5000", "20000", "20000", "20000"])
+
+    def test_each_direction_has_a_pipe(self) -> None:
+        for who in ("10.9.0.1", "10.9.0.0/31", "first", "if:0"):
+            capture = edited("mixed.pcapng", MIXED, "-F", "pcapng") if who == "if:0" else MIXED
+            rows = packets_of(capture, "--from", who)
+            for row in rows:
+                to = "1" if row["src"] == "10.9.0.1" or who == "if:0" else "2"
+                self.assertEqual((row["target"], row["number"]), ("pipe", to))
+            self.assertGreater(len(rows), 9000)
+
+    def test_who_sends_first(self) -> None:
+        """Of two hosts, the one whose packet comes first, in whatever order the frames stand."""
+        sent = [(2, "10.0.0.2", "10.0.0.1"), (1, "10.0.0.1", "10.0.0.2"), (3, "2001:db8::2", "2001:db8::1"), (4, "2001:db8::1", "2001:db8::2")]
+        kinds = [(0x86DD, ip6) if ":" in src else (0x0800, ip4) for _, src, _ in sent]
+        frames_of_two = [(at, ethernet(kind, make(src, dst, 17, udp(1, 2, 3)))) for (at, src, dst), (kind, make) in zip(sent, kinds)]
+        write(folder() / "first.pcap", ETHERNET, frames_of_two)
+        self.assertEqual([row["number"] for row in packets_of(folder() / "first.pcap", "--from", "first")], ["1", "2", "1", "2"])
+
+    def test_directions_that_meet_in_a_pipe_are_told(self) -> None:
+        told = "both directions of 10.9.0.1 and 10.9.0.2 go to "
+        for words, targets in (((), ["pipe 1"]), (("--from", "10.9.0.1"), []), (("--map", "udp => pipe 3", "--map", "=> queue 2"), ["pipe 3", "queue 2"])):
+            done = run("packets", MIXED, "-o", "packets.csv", *words)
+            found = [line.partition(told)[2].partition(",")[0] for line in done.stderr.splitlines() if told in line]
+            self.assertEqual(sorted(found), targets)
+
+    def test_no_moment_is_beyond_the_last(self) -> None:
+        """A pcapng counts ns in 64 bits, and a packet file ends at 2^62."""
+        frame = ethernet(0x0800, ip4("10.0.0.1", "10.0.0.2", 17, udp(1, 2, 3)))
+        for span, status in ((2**62, 0), (2**62 + 1, 4)):
+            timed_in_ns(folder() / "far.pcapng", [(1, frame), (1 + span, frame)])
+            done = run("packets", "far.pcapng", "-o", "far.csv")
+            self.assertEqual(done.returncode, status, done.stderr)
+        self.assertIn("frame 2 of the capture comes 4,611,686,018,427,387,905 ns after the first packet", done.stderr)
+        self.assertEqual(packets_of_file("far.csv"), ["0", str(2**62)])
+
     def test_maps_by_short_words_and_display_filters(self) -> None:
         rows = packets_of(MIXED, "--map", "src 10.9.0.1/32 udp dport 5202 => queue 2", "--map", "tcp.flags.syn == 1 => pipe 9",
                           "--map", "icmp => queue 3", "--map", "=> pipe 4")
@@ -183,7 +234,8 @@ class Packets(unittest.TestCase):
         for words, status in (
             (["missing.pcap"], 6), (["text.pcap"], 4), (["timeless.pcapng"], 4),
             ([MIXED, "--map", "a b c => pipe 1"], 4), ([MIXED, "--map", "=> pipe 0"], 2), ([MIXED, "--map", "src 10.0.0.0/33 => pipe 1"], 2),
-            ([MIXED, "--mtu", "10"], 2), ([MIXED, "-o", "nowhere/packets.csv"], 6),
+            ([MIXED, "--mtu", "10"], 2), ([MIXED, "--rate", "1Gbit/s"], 2),
+            ([MIXED, "--mtu", "1500", "--rate", "1Gbps"], 2), ([MIXED, "--from", "nobody"], 2), ([MIXED, "--from", "first", "--map", "=> pipe 1"], 2), ([MIXED, "-o", "nowhere/packets.csv"], 6),
         ):
             done = run("packets", *words)
             self.assertEqual(done.returncode, status, done.stderr)

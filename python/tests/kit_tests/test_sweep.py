@@ -42,7 +42,7 @@ class Sweep(unittest.TestCase):
         alone = rows_of(folder() / "run4.table")
         self.assertEqual([{name: row[name] for name in alone[0]} for row in rows if row["run"] == "4"], alone)
 
-    def test_the_words_of_a_seed_are_those_of_pcap2packets(self) -> None:
+    def test_the_words_of_a_seed_are_those_of_hinge_packets(self) -> None:
         _, packets, _ = mixed("dsl")
         self.assertEqual("".join(reseeded(packets, 1)), packets.read_text())
 

@@ -62,6 +62,14 @@ class Through(unittest.TestCase):
         self.assertEqual(arrived, [(began + moment, *sent[frame - 1][1:]) for moment, frame in whole])
         self.assertTrue(gone & set(due), "some frame lost a part")
 
+    def test_a_cut_header_is_told_of_the_capture(self) -> None:
+        through(MIXED, "pipe 1 config\n")
+        (folder() / "header.pcap").write_bytes(MIXED.read_bytes()[:10])
+        done = run("through", "header.pcap", "t.index", "t.csv", "t.report", "-o", "x.pcap")
+        self.assertEqual(done.returncode, 4)
+        self.assertIn("hinge through: header.pcap: ", done.stderr)
+        self.assertIn("cut short", done.stderr)
+
     def test_an_index_of_other_packets_is_noticed(self) -> None:
         through(MIXED, "pipe 1 config\n")
         index = (folder() / "t.index").read_text().splitlines()
