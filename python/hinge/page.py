@@ -2,22 +2,33 @@
 
 from __future__ import annotations
 
+import html
 import textwrap
 from typing import Callable
 
 import numpy as np
 
-from hinge.chart import CAUSE_COLORS, color, milliseconds, order_of_drawing
+from hinge.chart import (
+    CAUSE_COLORS, COLORS, SHADES, capacities_to_draw, capacity_name, color, greatest, order_of_drawing, time_of, title_lines,
+)
 from hinge.command import Progress, module
 from hinge.explain import Explainer
 from hinge.replay import EVENT_NAMES, HELD
-from hinge.series import CAUSES, Series, spread, thinned
+from hinge.series import CAUSES, Flow, Series, spread, thinned
 from hinge.units import ms
 
 MOST_TOLD = 6_000  # packets that left and are told of on a page
 MOST_DROPS_TOLD = 2_000
-TEXT_WIDTH = 90
-CELLS = {"rates": (1, 1), "delays": (1, 2), "distribution": (2, 1), "drops": (2, 2)}
+MOST_COUNTS = 20_000  # of a queue's lengths that are drawn
+TEXT_WIDTH, TITLE_WIDTH = 90, 140
+CELLS = {"carried": (1, 1), "offered": (1, 2), "delays": (2, 1), "distribution": (2, 2), "waiting": (3, 1), "drops": (3, 2), "by flow": (4, 1)}
+AXES = {"carried": ("s", "Mbit/s"), "offered": ("s", "Mbit/s"), "delays": ("sent at, s", "ms"), "distribution": ("ms", "part of what arrived"),
+        "waiting": ("s", "packets"), "drops": ("s", "packets"), "by flow": ("s", "packets")}
+
+
+def written(text: str) -> str:
+    """A text as a page shows it, letter by letter."""
+    return html.escape(text, quote=False)
 
 
 def teller(found: Series, explainer: Explainer | None) -> Callable[[int], str]:
@@ -36,7 +47,7 @@ def teller(found: Series, explainer: Explainer | None) -> Callable[[int], str]:
 
 
 def wrapped(text: str) -> str:
-    return "<br>".join(textwrap.wrap(text, TEXT_WIDTH))
+    return "<br>".join(written(line) for line in textwrap.wrap(text, TEXT_WIDTH))
 
 
 class Page:
@@ -45,18 +56,20 @@ class Page:
     def __init__(self, found: Series, explainer: Explainer | None) -> None:
         self.found, self.tell = found, teller(found, explainer)
         self.graphs = module("plotly.graph_objects", "python3-plotly")
-        step = milliseconds(found.step_ns)
-        titles = (f"Throughput (dotted: offered), per {step}", "One-way delay: over a packet, why",
-                  "Distribution of the delay", f"Drops by cause, packets per {step}")
+        step = time_of(found.steps.length)
+        titles = (f"Throughput, per {step}", f"Offered load, per {step}", "One-way delay: over a packet, why", "Distribution of the delay",
+                  "Packets that wait", f"Drops by cause, packets per {step}", f"Drops by flow, packets per {step}")
         make = module("plotly.subplots", "python3-plotly").make_subplots
-        self.figure = make(rows=2, cols=2, subplot_titles=titles, horizontal_spacing=0.07, vertical_spacing=0.13)
+        self.figure = make(rows=4, cols=2, subplot_titles=titles, horizontal_spacing=0.07, vertical_spacing=0.07)
         self.progress, self.told = Progress("packets told of"), 0
 
-    def line(self, cell: str, number: int, x: np.ndarray, y: np.ndarray, **more: object) -> None:
+    def line(self, cell: str, name: str, x: np.ndarray, y: np.ndarray, style: dict[str, object], **more: object) -> None:
+        self.figure.add_trace(self.graphs.Scatter(x=x, y=y, name=written(name), mode="lines", line=style, **more), *CELLS[cell])
+
+    def flow_line(self, cell: str, number: int, x: np.ndarray, y: np.ndarray, **more: object) -> None:
         flow = self.found.flows[number]
-        trace = self.graphs.Scatter(x=x, y=y, name=flow.name, legendgroup=str(number), legendrank=number, mode="lines",
-                                    line={"color": color(number, flow), **more.pop("line", {})}, **more)
-        self.figure.add_trace(trace, *CELLS[cell])
+        style = {"color": color(number, flow), "shape": "hv", "width": 2}
+        self.line(cell, flow.name, x, y, style, legendgroup=str(number), legendrank=number, showlegend=cell == "carried", **more)
 
     def texts(self, places: np.ndarray) -> list[str]:
         self.told += len(places)
@@ -65,15 +78,38 @@ class Page:
 
     def draw_flow(self, number: int, most: int) -> None:
         found, flow = self.found, self.found.flows[number]
-        step = {"shape": "hv", "width": 2}
-        self.line("rates", number, found.steps, flow.carried, line=step)
-        self.line("rates", number, found.steps, flow.offered, line={"shape": "hv", "width": 1, "dash": "dot"}, showlegend=False)
-        self.line("distribution", number, flow.delays, flow.ranks, line=step, showlegend=False)
+        edges = found.steps.edges
+        self.flow_line("carried", number, edges, np.append(flow.carried, flow.carried[-1]))
+        self.flow_line("offered", number, edges, np.append(flow.offered, flow.offered[-1]))
+        self.flow_line("distribution", number, flow.delays, flow.ranks)
         places = thinned(flow.delay_places, found.replay, most)
         self.figure.add_trace(self.graphs.Scattergl(
             x=found.sent_at(places), y=found.took_ms(places), text=self.texts(places), hoverinfo="text", mode="markers",
-            marker={"size": 4, "color": color(number, flow)}, name=flow.name, legendgroup=str(number), showlegend=False,
+            marker={"size": 4, "color": color(number, flow)}, name=written(flow.name), legendgroup=str(number), showlegend=False,
         ), *CELLS["delays"])
+        if flow.drops.any():
+            self.bars("by flow", flow.name, flow.drops, color(number, flow), legendgroup=str(number), showlegend=False)
+
+    def bars(self, cell: str, name: str, counts: np.ndarray, filled: str, **more: object) -> None:
+        steps = self.found.steps
+        self.figure.add_trace(self.graphs.Bar(x=steps.begins + steps.length / 2e9, y=counts, name=written(name), width=steps.length / 1e9,
+                                              marker={"color": filled, "line": {"width": 0}}, **more), *CELLS[cell])
+
+    def draw_links(self) -> None:
+        """What each pipe carries in all and what it could, and the packets that wait for it."""
+        found = self.found
+        for cell in ("carried", "offered"):
+            for shade, (name, total) in zip(SHADES, getattr(found, cell).items()):
+                self.line(cell, f"all of {name}", found.steps.edges, np.append(total, total[-1]), {"color": shade, "shape": "hv", "width": 1.5},
+                          legendgroup=f"all of {name}", showlegend=cell == "carried")
+            drawn, _ = capacities_to_draw(found, greatest(found, cell))
+            for shade, name in zip(SHADES, drawn):
+                moments, rates = found.capacities[name]
+                style = {"color": shade, "shape": "hv", "width": 1.5, "dash": "dash"}
+                self.line(cell, capacity_name(name, rates), moments, rates, style, legendgroup=name, showlegend=cell == "carried")
+        for shade, (name, (moments, lengths)) in zip(COLORS, found.waiting.items()):
+            kept = spread(np.arange(len(moments)), MOST_COUNTS)
+            self.line("waiting", f"{name} waits", moments[kept], lengths[kept], {"color": shade, "shape": "hv", "width": 1}, showlegend=False)
 
     def draw_drops(self) -> None:
         """The counts by cause, and below the delays a mark for each packet."""
@@ -82,10 +118,7 @@ class Page:
             name = EVENT_NAMES[cause]
             if not (counts := found.drops[name]).any():
                 continue
-            self.figure.add_trace(self.graphs.Bar(
-                x=found.steps + found.step_ns / 2e9, y=counts, name=f"{name} {int(counts.sum()):,}",
-                marker={"color": CAUSE_COLORS[name], "line": {"width": 0}}, width=found.step_ns / 1e9,
-            ), *CELLS["drops"])
+            self.bars("drops", f"{name} {int(counts.sum()):,}", counts, CAUSE_COLORS[name])
             places = spread(np.flatnonzero(replay.event == cause), MOST_DROPS_TOLD)
             self.figure.add_trace(self.graphs.Scattergl(
                 x=found.sent_at(places), y=np.zeros(len(places)), text=self.texts(places), hoverinfo="text", mode="markers",
@@ -95,25 +128,26 @@ class Page:
     def lay_out(self, title: str) -> None:
         fig = self.figure
         fig.update_layout(
-            template="plotly_white", title={"text": title, "y": 0.98, "yanchor": "top"}, barmode="stack", bargap=0,
-            hovermode="closest", hoverlabel={"align": "left"},
-            legend={"orientation": "h", "y": -0.08, "font": {"size": 11}}, margin={"t": 100, "l": 60, "r": 30},
+            template="plotly_white", title={"text": title, "y": 0.99, "yanchor": "top"}, barmode="stack", bargap=0, height=1500,
+            hovermode="closest", hoverlabel={"align": "left"}, margin={"t": 130, "l": 60, "r": 30},
+            legend={"x": 0.54, "y": 0.2, "yanchor": "top", "font": {"size": 11}, "title": {"text": "Flows, the largest first; click to hide one"}},
         )
-        for row, column, text in ((1, 1, "s"), (1, 2, "sent at, s"), (2, 1, "ms"), (2, 2, "s")):
-            fig.update_xaxes(title_text=text, title_standoff=4, row=row, col=column)
-        for row, column, text in ((1, 1, "Mbit/s"), (1, 2, "ms"), (2, 1, "part of what arrived"), (2, 2, "packets")):
-            fig.update_yaxes(title_text=text, title_standoff=4, row=row, col=column)
-        fig.update_xaxes(matches="x", row=1, col=2)
-        fig.update_xaxes(matches="x", row=2, col=2)
+        for cell, (across, up) in AXES.items():
+            row, column = CELLS[cell]
+            fig.update_xaxes(title_text=across, title_standoff=4, row=row, col=column)
+            fig.update_yaxes(title_text=up, title_standoff=4, rangemode="normal" if cell == "delays" else "tozero", row=row, col=column)
+            if across != "ms":
+                fig.update_xaxes(matches="x", row=row, col=column)
 
     def draw(self, title: str) -> None:
-        flows = self.found.flows
+        flows: list[Flow] = self.found.flows
         drawn = sum(len(flow.delay_places) for flow in flows) or 1
         for number, flow in order_of_drawing(self.found):
             self.draw_flow(number, max(MOST_TOLD * len(flow.delay_places) // drawn, 100))
+        self.draw_links()
         self.draw_drops()
         self.progress.done()
-        self.lay_out(title + notes(self.found, self.told))
+        self.lay_out("<br>".join(map(written, title_lines(title, TITLE_WIDTH))) + notes(self.found, self.told))
 
 
 def notes(found: Series, told: int) -> str:
@@ -129,5 +163,5 @@ def notes(found: Series, told: int) -> str:
 def save_page(found: Series, explainer: Explainer | None, path: str, title: str) -> None:
     page = Page(found, explainer)
     page.draw(title)
-    page.figure.write_html(path, include_plotlyjs=True, full_html=True, default_height="96vh",
+    page.figure.write_html(path, include_plotlyjs=True, full_html=True, default_height="1500px",
                            config={"scrollZoom": True, "displaylogo": False})

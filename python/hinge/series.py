@@ -7,15 +7,60 @@ from typing import Iterable
 
 import numpy as np
 
-from hinge.configured import Pipe, setting
+from hinge.configured import Pipe, Queue, setting
 from hinge.groups import Groups, group
 from hinge.replay import EVENT_NAMES, FULL, HELD, LOST, NONE, OUT, Replay
 
 NS_PER_S, NS_PER_MS = 10**9, 10**6
 STEPS_WANTED = 200  # of a rate over a replay
+FEWEST_STEPS = 20
+PACKETS_A_STEP = 40  # so that one packet more or less in a step doesn't show
+PACKETS_OF_LARGEST = 10  # of them those of the largest flow
 MOST_POINTS = 20_000  # of a flow's delays that are drawn
 MOST_RANKS = 2_000  # of a distribution
 CAUSES = (LOST, FULL, NONE)
+
+
+@dataclass(frozen=True)
+class Steps:
+    """The steps of a time of `span` ns, each of `length` ns."""
+
+    length: int
+    span: int
+
+    @property
+    def count(self) -> int:
+        return self.span // self.length + 1
+
+    @property
+    def begins(self) -> np.ndarray:
+        """Where each begins, in s."""
+        return np.arange(self.count) * self.length / NS_PER_S
+
+    @property
+    def rated(self) -> int:
+        """How many have a rate: the last one, which ends with the span, has none where less than half of it is there."""
+        return max((self.span + self.length // 2) // self.length, 1)
+
+    @property
+    def widths(self) -> np.ndarray:
+        """The ns of each that has a rate."""
+        widths = np.full(self.rated, self.length)
+        widths[-1] = min(self.length, max(self.span - (self.rated - 1) * self.length, 1))
+        return widths
+
+    @property
+    def edges(self) -> np.ndarray:
+        """Where each that has a rate begins, and where the last one ends, in s."""
+        return np.concatenate(([0], np.cumsum(self.widths))) / NS_PER_S
+
+    def counts(self, moments: np.ndarray) -> np.ndarray:
+        return np.bincount(moments // self.length, minlength=self.count)[:self.count]
+
+    def rates(self, moments: np.ndarray, lengths: np.ndarray) -> np.ndarray:
+        """Mbit/s of each step that has a rate, of packets with these moments and lengths."""
+        bits = np.bincount(moments // self.length, weights=lengths * 8, minlength=self.count)[:self.rated]
+        return bits * 1000 / self.widths
 
 
 @dataclass(frozen=True)
@@ -24,6 +69,7 @@ class Flow:
 
     name: str
     is_rest: bool
+    packets: int
     offered: np.ndarray
     carried: np.ndarray
     delay_places: np.ndarray
@@ -34,15 +80,15 @@ class Flow:
 
 @dataclass(frozen=True)
 class Series:
-    """What is drawn of a replay. Steps begin at `steps`, in s; rates are in Mbit/s, delays in ms."""
+    """What is drawn of a replay. Rates are in Mbit/s, delays in ms."""
 
     replay: Replay
-    step_ns: int
-    steps: np.ndarray
+    steps: Steps
     flows: list[Flow]
     drops: dict[str, np.ndarray]
     waiting: dict[str, tuple[np.ndarray, np.ndarray]]  # of each link's queue: moments in s, and the packets that wait from there on
-    totals: dict[str, np.ndarray]  # Mbit/s carried by each pipe or queue that several flows share
+    carried: dict[str, np.ndarray]  # by each pipe that several flows share, in all
+    offered: dict[str, np.ndarray]  # to each of them
     capacities: dict[str, tuple[np.ndarray, np.ndarray]]  # of each pipe: moments in s, and Mbit/s from there on
 
     def sent_at(self, places: np.ndarray) -> np.ndarray:
@@ -52,21 +98,33 @@ class Series:
         return self.replay.took[places] / NS_PER_MS
 
 
-def round_step(span: int) -> int:
-    """A step of 1, 2 or 5 times a power of ten ns, so that about as many as wanted make the span."""
-    least = max(span // STEPS_WANTED, 1)
-    power = 10 ** (len(str(least)) - 1)
+def rounded_up(least: int) -> int:
+    """1, 2 or 5 times a power of ten, at least so much and 1."""
+    power = 10 ** (len(str(max(least, 1))) - 1)
     return next(power * factor for factor in (1, 2, 5, 10) if power * factor >= least)
+
+
+def round_step(span: int) -> int:
+    """A round step, in ns, so that about as many as wanted make the span."""
+    return rounded_up(span // STEPS_WANTED)
+
+
+def fitting_step(replays: list[Replay], span: int) -> int:
+    """A round step that is long enough for the rates of these replays: a step in which something leaves has as many packets as are wanted
+    in the mean, and of the largest flow as many as are wanted of it, where so many are there at all."""
+    step = round_step(span)
+    dues = [replay.due[replay.is_out] // step for replay in replays]
+    busy = sum(len(np.unique(due)) for due in dues)
+    largest = sum(int(np.bincount(replay.packets.tuple[replay.is_out], minlength=1).max()) for replay in replays)
+    if not busy:
+        return step
+    wanted = max(step * PACKETS_A_STEP * busy // sum(map(len, dues)), step * PACKETS_OF_LARGEST * busy // largest)
+    return max(step, min(rounded_up(wanted), rounded_up(span // FEWEST_STEPS)))
 
 
 def span_of(replays: list[Replay]) -> int:
     """The ns until the last packet was sent or had left."""
     return max((int(max(replay.at.max(), replay.due.max())) for replay in replays if len(replay.at)), default=0)
-
-
-def rates(moments: np.ndarray, lengths: np.ndarray, step_ns: int, count: int) -> np.ndarray:
-    """Mbit/s of each step."""
-    return np.bincount(moments // step_ns, weights=lengths * 8, minlength=count)[:count] * 1000 / step_ns
 
 
 def spread(places: np.ndarray, most: int) -> np.ndarray:
@@ -106,36 +164,55 @@ def waiting(replay: Replay, places: np.ndarray) -> tuple[np.ndarray, np.ndarray]
 
 
 def capacities(changes: Iterable[tuple[int, str]], span: int) -> dict[str, tuple[np.ndarray, np.ndarray]]:
-    """The bandwidth of each pipe that has one, as the commands with their moments set it."""
+    """The bandwidth of each pipe that has one, as the commands with their moments set it. A pipe with a mask gives it to each flow."""
     found: dict[str, list[tuple[int, float]]] = {}
     for moment, text in changes:
         kind, number, asked = setting(text)
         if kind == "pipe":
-            found.setdefault(f"pipe {number}", []).append((moment, asked.bw / 10**6 if isinstance(asked, Pipe) and asked.bw else np.nan))
+            rate = asked.bw / 10**6 if isinstance(asked, Pipe) and asked.bw else np.nan
+            found.setdefault(f"pipe {number}{', a flow' * ('mask' in text.split())}", []).append((moment, rate))
     steps = {name: [*points, (max(span, points[-1][0]), points[-1][1])] for name, points in found.items()}
     return {name: (np.array([at for at, _ in points]) / NS_PER_S, np.array([rate for _, rate in points]))
             for name, points in steps.items() if not np.isnan([rate for _, rate in points]).all()}
 
 
+def pipe_names(changes: Iterable[tuple[int, str]]) -> dict[str, str]:
+    """The pipe of each queue, by their names, where the commands name it."""
+    settings = (setting(text) for _, text in changes)
+    return {f"queue {number}": f"pipe {asked.pipe}" for _, number, asked in settings if isinstance(asked, Queue)}
+
+
+def shared_pipes(replay: Replay, groups: Groups, pipes: dict[str, str]) -> dict[str, np.ndarray]:
+    """The places of the packets to each pipe, or queue whose pipe isn't known, that more than one flow shares."""
+    by_name: dict[str, list[np.ndarray]] = {}
+    for name, places in group(replay, "target").places():
+        by_name.setdefault(pipes.get(name, name), []).append(places)
+    joined = {name: np.concatenate(several) for name, several in by_name.items()}
+    return {name: places for name, places in joined.items() if len(np.unique(groups.of[places])) > 1}
+
+
+def offered(replay: Replay, places: np.ndarray, steps: Steps) -> np.ndarray:
+    return steps.rates(replay.at[places], replay.packets.length[places])
+
+
+def carried(replay: Replay, places: np.ndarray, steps: Steps) -> np.ndarray:
+    out = places[replay.is_out[places]]
+    return steps.rates(replay.due[out], replay.packets.length[out])
+
+
+def flow_series(replay: Replay, name: str, places: np.ndarray, is_rest: bool, steps: Steps) -> Flow:
+    out = places[replay.is_out[places]]
+    dropped = places[np.isin(replay.event[places], CAUSES)]
+    return Flow(name, is_rest, len(places), offered(replay, places, steps), carried(replay, places, steps), thinned(out, replay, MOST_POINTS),
+                *distribution(replay.took[out]), steps.counts(replay.at[dropped]))
+
+
 def series(replay: Replay, groups: Groups, step_ns: int, span: int, changes: Iterable[tuple[int, str]] = ()) -> Series:
-    count, length = span // step_ns + 1, replay.packets.length
-    flows = []
-    for name, places in groups.places():
-        out = places[replay.is_out[places]]
-        dropped = places[np.isin(replay.event[places], CAUSES)]
-        offered = rates(replay.at[places], length[places], step_ns, count)
-        carried = rates(replay.due[out], length[out], step_ns, count)
-        is_rest = groups.has_rest and len(flows) == len(groups.names) - 1
-        flows.append(Flow(name, is_rest, offered, carried, thinned(out, replay, MOST_POINTS), *distribution(replay.took[out]),
-                          np.bincount(replay.at[dropped] // step_ns, minlength=count)[:count]))
-    drops = {}
-    for cause in CAUSES:
-        found = replay.at[replay.event == cause]
-        drops[EVENT_NAMES[cause]] = np.bincount(found // step_ns, minlength=count)[:count]
-    queues, totals, shared = {}, {}, group(replay, "target")
-    for name, places in shared.places():
-        queues[name] = waiting(replay, places)
-        if len(np.unique(groups.of[places])) > 1:
-            out = places[replay.is_out[places]]
-            totals[name] = rates(replay.due[out], length[out], step_ns, count)
-    return Series(replay, step_ns, np.arange(count) * step_ns / NS_PER_S, flows, drops, queues, totals, capacities(changes, span))
+    steps, changes, last = Steps(step_ns, span), list(changes), len(groups.names) - 1
+    flows = [flow_series(replay, name, places, groups.has_rest and number == last, steps)
+             for number, (name, places) in enumerate(groups.places())]
+    drops = {EVENT_NAMES[cause]: steps.counts(replay.at[replay.event == cause]) for cause in CAUSES}
+    queues = {name: waiting(replay, places) for name, places in group(replay, "target").places()}
+    shared = shared_pipes(replay, groups, pipe_names(changes))
+    return Series(replay, steps, flows, drops, queues, {name: carried(replay, places, steps) for name, places in shared.items()},
+                  {name: offered(replay, places, steps) for name, places in shared.items()}, capacities(changes, span))

@@ -18,7 +18,7 @@ from hinge.history import Told, read_history
 from hinge.links import Parts
 from hinge.page import save_page
 from hinge.program import dummynet
-from hinge.series import NS_PER_MS, round_step, series, span_of
+from hinge.series import NS_PER_MS, fitting_step, series, span_of
 
 MOST_ROWS = 40
 WHAT = """\
@@ -44,7 +44,7 @@ def draw(told: Told, parts: Parts | None, asked: argparse.Namespace) -> None:
     replay = told.replay
     span = span_of([replay])
     flows = group(replay, asked.by).largest(replay.packets.length, min(asked.top or MOST_FLOWS, MOST_FLOWS))
-    found = series(replay, flows, asked.step * NS_PER_MS if asked.step else round_step(span), span, told.changes)
+    found = series(replay, flows, asked.step * NS_PER_MS if asked.step else fitting_step([replay], span), span, told.changes)
     if asked.o.lower().endswith(".html"):
         save_page(found, Explainer(parts) if parts else None, asked.o, asked.title)
     else:

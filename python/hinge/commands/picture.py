@@ -14,12 +14,13 @@ from hinge.groups import WAYS, Groups, group
 from hinge.links import Parts, read_configuration
 from hinge.page import save_page
 from hinge.replay import Replay, read_packets, read_report
-from hinge.series import NS_PER_MS, Series, round_step, series, span_of
+from hinge.series import NS_PER_MS, Series, fitting_step, series, span_of
 
 WHAT = """\
-Draws throughput and offered load by flow, one-way delay over time and its distribution, and drops by cause. The ending of the file says
-how: .png, .svg or .pdf, or .html for a page of one file in which one zooms and reads over a packet why it took so long. The largest
-flows have a color each, the others one together. Of several reports of the same packets, the panels stand side by side."""
+Draws throughput and offered load by flow, one-way delay over time and its distribution, the packets that wait, and drops by cause and by
+flow. The ending of the file says how: .png, .svg or .pdf, or .html for a page of one file in which one zooms and reads over a packet why
+it took so long. The largest flows have a color each, the others one together. With --config the capacity of each pipe is a line. Of
+several reports of the same packets, the panels stand side by side."""
 ENDINGS = (".png", ".svg", ".pdf", ".html")
 
 
@@ -30,11 +31,11 @@ def picture_file(text: str) -> str:
 
 
 def command_line() -> argparse.Namespace:
-    line = parser(WHAT, "picture packets.csv report.csv -o dsl.png\n  picture packets.csv report.csv --config dsl.config -o dsl.html")
+    line = parser(WHAT, "hinge picture packets.csv report.csv -o dsl.png\n  hinge picture packets.csv report.csv --config dsl.config -o dsl.html")
     add_inputs(line, "packets")
     line.add_argument("reports", nargs="+", metavar="report", help="reports of the packets, up to four")
     line.add_argument("-o", metavar="FILE", type=picture_file, required=True, help="the picture")
-    line.add_argument("--config", metavar="FILE", help="the configuration, with which a page tells of each packet what `why` tells")
+    line.add_argument("--config", metavar="FILE", help="the configuration: the capacity of each pipe is drawn, and a page tells of each packet what `why` tells")
     line.add_argument("--by", choices=WAYS, default="tuple", help="what a flow is (default: tuple), as for stats")
     line.add_argument("--top", metavar="N", type=bounded(1, MOST_FLOWS), default=MOST_FLOWS,
                       help=f"flows with a color (default: {MOST_FLOWS})")
@@ -49,7 +50,7 @@ def command_line() -> argparse.Namespace:
 def drawn(replays: list[Replay], asked: argparse.Namespace) -> list[Series]:
     """The series of all replays, with the same flows and steps."""
     span = span_of(replays)
-    step_ns = asked.step * NS_PER_MS if asked.step else round_step(span)
+    step_ns = asked.step * NS_PER_MS if asked.step else fitting_step(replays, span)
     length = replays[0].packets.length
     shared = group(replays[0], asked.by).largest(length, asked.top)
     flows: list[Groups] = [shared if asked.by != "flow" else group(replay, asked.by).largest(length, asked.top) for replay in replays]

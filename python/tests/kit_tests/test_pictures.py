@@ -2,19 +2,25 @@
 
 from __future__ import annotations
 
+import html
 import json
 import re
 import unittest
+from functools import lru_cache
 from pathlib import Path
 
 import numpy as np
-from kit import folder, mixed, needs_tshark, parts_of, rows_of, run, write
+from captures import ETHERNET, ethernet, ip6, udp
+from captures import write as write_capture
+from kit import MIXED, folder, mixed, needs_tshark, parts_of, rows_of, run, write
 
 from hinge.chart import MOST_FLOWS, figure
 from hinge.command import Fault, module
+from hinge.configured import spelled
 from hinge.groups import group
 from hinge.packet_rows import HEADER
-from hinge.series import NS_PER_MS, NS_PER_S, Series, round_step, series, span_of, thinned
+from hinge.replay import OUT, Packets, Replay, read_packets, read_report
+from hinge.series import NS_PER_MS, NS_PER_S, Series, Steps, fitting_step, round_step, series, span_of, thinned, waiting
 
 
 def matplotlib_there() -> bool:
@@ -40,6 +46,26 @@ def forty() -> tuple[Path, Path]:
     return write("forty.csv", f"{HEADER}\n{packets}"), write("forty.report", f"event,row,flow,packet,at,start,due\n{report}")
 
 
+@lru_cache(maxsize=None)
+def rows_of_one(packets: Path) -> list[str]:
+    """The number of each row's target."""
+    return [row["number"] for row in rows_of(packets)]
+
+
+def full_link(flows: int) -> Replay:
+    """A thousand packets of 1,000 bytes, one that leaves each ms, of so many flows in turn."""
+    due = np.arange(1, 1001) * NS_PER_MS
+    zero, one = np.zeros(1000, np.int64), np.ones(1000, np.int64)
+    names = [("10.0.0.1", "10.0.0.2", 17, number, 2) for number in range(flows)]
+    packets = Packets("full", due - NS_PER_MS, zero, np.arange(1000) % flows, 1000 * one, zero, [("pipe", 1)], names)
+    return Replay("full", packets, OUT * one, zero, np.arange(1000), due - NS_PER_MS, due - NS_PER_MS, due)
+
+
+def series_of_forty() -> Series:
+    replay = read_report(*(lambda packets, report: (str(report), read_packets(str(packets))))(*forty()))
+    return series(replay, group(replay, "tuple").largest(replay.packets.length, 3), 1000, span_of([replay]))
+
+
 def series_of(name: str, step_ns: int = NS_PER_S) -> Series:
     replay = parts_of(*mixed(name)).replay
     return series(replay, group(replay, "tuple").largest(replay.packets.length, 3), step_ns, span_of([replay]))
@@ -50,13 +76,14 @@ class Figures(unittest.TestCase):
     @unittest.skipUnless(matplotlib_there(), "matplotlib isn't there")
     def test_rates_delays_and_drops_are_those_of_the_report(self) -> None:
         found = series_of("shared")
-        rates, delays, waiting, distribution, drops, by_flow = figure([found], "").axes
+        carried, offered, delays, distribution, waiting, drops, by_flow, names = figure([found], "").axes
         config, packets, report = mixed("shared")
         sent, events = rows_of(packets), rows_of(report)
-        lines = {line.get_label(): line for line in rates.get_lines()}
-        for flow in found.flows:
-            self.assertIn(flow.name, lines)
-            self.assertEqual(lines[flow.name].get_ydata().tolist(), flow.carried.tolist())
+        for axes, which in ((carried, "carried"), (offered, "offered")):
+            lines = {line.get_label(): line for line in axes.get_lines()}
+            for flow in found.flows:
+                self.assertIn(flow.name, lines)
+                self.assertEqual(lines[flow.name].get_ydata().tolist()[:-1], getattr(flow, which).tolist())
         out = [line for line in events if line["event"] == "out"]
         bits = sum(8 * int(sent[int(line["row"]) - 1]["len"]) for line in out if int(line["due"]) < 3 * NS_PER_S <= int(line["due"]) + NS_PER_S)
         self.assertAlmostEqual(sum(flow.carried[2] for flow in found.flows), bits / 1e6, places=9)
@@ -71,7 +98,7 @@ class Figures(unittest.TestCase):
     def test_reports_side_by_side_have_the_same_flows_and_axes(self) -> None:
         found = series_of("dsl")
         fig = figure([found, found], "Both")
-        self.assertEqual(len(fig.axes), 12)
+        self.assertEqual(len(fig.axes), 14)
         first, second = fig.axes[:2]
         self.assertEqual(first.get_ylim(), second.get_ylim())
         self.assertEqual([line.get_label() for line in first.get_lines()], [line.get_label() for line in second.get_lines()])
@@ -86,7 +113,82 @@ class Figures(unittest.TestCase):
         row = int(re.search(r"Row (\d+) \(tcp", page)[1])
         paragraph = run("why", row, config, packets, report).stdout
         whole = json.loads('"' + re.search(rf'"(Row {row} \(.*?)"', page)[1] + '"').replace("<br>", " ")
-        self.assertEqual(whole, paragraph.strip())
+        self.assertEqual(html.unescape(whole), paragraph.strip())
+
+
+@needs_tshark
+@unittest.skipUnless(matplotlib_there(), "matplotlib isn't there")
+class Panels(unittest.TestCase):
+    """What the panels beyond the report's own figures tell, by hand or by a count that is made anew."""
+
+    def test_the_capacity_is_a_line_and_all_flows_are_one(self) -> None:
+        config, packets, report = mixed("shared")
+        replay = parts_of(config, packets, report).replay
+        changes = [(0, text) for text in spelled(config.read_bytes())]
+        span = span_of([replay])
+        found = series(replay, group(replay, "tuple").largest(replay.packets.length, 3), NS_PER_S, span, changes)
+        carried = figure([found], "").axes[0]
+        lines = {line.get_label(): line.get_ydata().tolist() for line in carried.get_lines()}
+        self.assertEqual(lines["pipe 1: 6 Mbit/s"], [6, 6])
+        self.assertEqual(set(found.carried), {"pipe 1"}, "queue 7 has no pipe")
+        sent, events = rows_of(packets), rows_of(report)
+        bits = sum(8 * int(sent[int(line["row"]) - 1]["len"]) for line in events
+                   if line["event"] == "out" and 7 * NS_PER_S <= int(line["due"]) < 8 * NS_PER_S)
+        self.assertAlmostEqual(lines["all of pipe 1"][7], bits / 1e6, places=9)
+        self.assertLessEqual(max(lines["all of pipe 1"]), 6.02)
+
+    def test_a_capacity_far_above_is_told_and_not_drawn(self) -> None:
+        replay = parts_of(*mixed("dsl")).replay
+        found = series(replay, group(replay, "tuple"), NS_PER_S, span_of([replay]), [(0, "pipe 1 config bw 1000000000bit/s mask src-ip 0xff")])
+        carried = figure([found.__class__(**{**vars(found), "flows": found.flows[:8]})], "").axes[0]
+        self.assertIn("above: pipe 1, a flow: 1000 Mbit/s", [text.get_text() for text in carried.texts])
+        self.assertLess(carried.get_ylim()[1], 20)
+
+    def test_the_packets_that_wait(self) -> None:
+        """At each moment, those that came and didn't begin to be sent."""
+        config, packets, report = mixed("dsl")
+        replay = parts_of(config, packets, report).replay
+        moments, lengths = waiting(replay, np.flatnonzero(np.array(replay.packets.targets)[replay.packets.target][:, 1] == "1"))
+        events = [line for line in rows_of(report) if line["event"] == "out" and rows_of_one(packets)[int(line["row"]) - 1] == "1"]
+        for moment in (3, 6, 9.5, 12.25):
+            there = sum(int(line["at"]) <= moment * NS_PER_S < int(line["start"]) for line in events)
+            self.assertEqual(lengths[np.searchsorted(moments, moment, side="right") - 1], there)
+        self.assertEqual(lengths.max(), 50)
+
+    def test_drops_by_flow_are_those_of_the_report(self) -> None:
+        found = series_of("dsl")
+        whole = sum(line["event"] in ("lost", "full", "none") for line in rows_of(mixed("dsl")[2]))
+        self.assertEqual(sum(int(flow.drops.sum()) for flow in found.flows), whole)
+        told = [text.get_text() for text in figure([found], "").axes[-1].get_legend().get_texts()]
+        self.assertEqual(told, [f"{flow.name}: {int(flow.drops.sum()):,} of {flow.packets:,} dropped" for flow in found.flows])
+
+    def test_ipv6_flows_have_their_own_addresses(self) -> None:
+        frames = [ethernet(0x86DD, ip6("2001:db8::1", "2001:db8::2", 17, udp(1, 2, 300))), ethernet(0x86DD, ip6("2001:db8::2", "2001:db8::1", 58, bytes(8)))]
+        write_capture(folder() / "six.pcap", ETHERNET, [(number, frame) for number, frame in enumerate(frames)])
+        self.assertEqual(run("packets", "six.pcap", "-o", "six.csv").returncode, 0)
+        names = [read_packets(str(folder() / "six.csv")).tuple_name(number) for number in (0, 1)]
+        self.assertEqual(names, ["udp [2001:db8::1]:1 > [2001:db8::2]:2", "icmpv6 2001:db8::2 > 2001:db8::1"])
+        self.assertEqual(run("packets", MIXED, "-o", "six.csv").returncode, 0)
+        self.assertFalse((folder() / "six.csv.addresses").exists(), "that of the earlier capture")
+
+
+class Titles(unittest.TestCase):
+    @unittest.skipUnless(matplotlib_there(), "matplotlib isn't there")
+    def test_every_title_is_shown_letter_by_letter(self) -> None:
+        packets, report = forty()
+        for title in ("$\\foo$", "</script><b>", "x " * 1500, "y" * 3000, "a % of \\$5, $6 and \\alpha^{"):
+            for ending in ("png", "svg"):
+                done = run("picture", packets, report, "-o", f"title.{ending}", "--title", title)
+                self.assertEqual((done.returncode, done.stderr), (0, ""), title)
+        shown = figure([series_of_forty()], "a $\\foo$ b")._suptitle
+        self.assertEqual(shown.get_text(), "a \\$\\foo\\$ b")
+
+    @unittest.skipUnless(plotly_there(), "plotly isn't there")
+    def test_a_title_of_a_page_is_text(self) -> None:
+        packets, report = forty()
+        done = run("picture", packets, report, "-o", "title.html", "--title", "</script><script>alert(1)</script>")
+        self.assertEqual(done.returncode, 0, done.stderr)
+        self.assertNotIn("<script>alert", (folder() / "title.html").read_text())
 
 
 class Endings(unittest.TestCase):
@@ -119,3 +221,20 @@ class Thinning(unittest.TestCase):
 
     def test_steps_are_round(self) -> None:
         self.assertEqual([round_step(span) for span in (0, 199, 25 * NS_PER_S, 3600 * NS_PER_S)], [1, 1, NS_PER_S // 5, 20 * NS_PER_S])
+
+    def test_a_step_has_packets_enough(self) -> None:
+        """A packet each ms for a second: 40 of them are 40 ms, and 5 ms would have 5; of the 40 flows 10 each want 50 ms, the most."""
+        one = full_link(1)
+        self.assertEqual(fitting_step([one], span_of([one])), 50 * NS_PER_MS)
+        self.assertEqual(fitting_step([full_link(40)], NS_PER_S), 50 * NS_PER_MS)
+
+    def test_a_full_link_has_no_sawtooth(self) -> None:
+        replay = full_link(1)
+        found = series(replay, group(replay, "tuple"), fitting_step([replay], span_of([replay])), span_of([replay]))
+        self.assertTrue((abs(found.flows[0].carried[1:] - 8) < 0.2).all(), found.flows[0].carried)
+
+    def test_steps_end_with_the_span(self) -> None:
+        for span, rated, width in ((10, 1, 10), (14, 1, 10), (15, 2, 5), (19, 2, 9), (20, 2, 10), (3, 1, 3), (0, 1, 1)):
+            steps = Steps(10, span)
+            self.assertEqual((steps.rated, int(steps.widths[-1])), (rated, width), span)
+            self.assertEqual(len(steps.edges), rated + 1)
