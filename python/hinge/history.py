@@ -2,76 +2,181 @@
 
 from __future__ import annotations
 
-import csv
 from dataclasses import dataclass
-from ipaddress import IPv4Address
+from typing import Optional
 
 import numpy as np
 
-from hinge.columns import numbered
+from hinge.addresses import read_addresses
+from hinge.columns import Address, Bad, Fields, Number, OneOf, numbered
 from hinge.command import ROWS, Fault, working
 from hinge.configured import InForce
 from hinge.links import Configuration
-from hinge.replay import FULL, HELD, KINDS, LOST, NONE, OUT, Packets, Replay, dotted
+from hinge.record_lines import Records, is_history, read_records
+from hinge.replay import FULL, HELD, KINDS, LOST, NONE, OUT, Packets, Replay, named_tuples
 
-FATES = {"queued": HELD, "lost": LOST, "full": FULL, "no-target": NONE}
+FATES = {b"r,queued,": HELD, b"r,lost,": LOST, b"r,full,": FULL, b"r,no-target,": NONE}
+MOVING = (*FATES, b"r,advanced,", b"r,delivered,")  # the replies whose second number is the clock
+REPLY_FIELDS = {HELD: 5, LOST: 4, FULL: 4, NONE: 3}
 
 
 @dataclass(frozen=True)
 class Told:
-    """What a history tells. `changes` are the commands that were obeyed, each with the clock's moment, in ns."""
+    """What a history tells. `changes` are the commands that were obeyed, each with the clock's moment, in ns. `cut` is the last line
+    of one that has no end, None where it has one."""
 
     replay: Replay
     changes: list[tuple[int, str]]
     steady: bool  # nothing was configured once a packet had come
+    cut: Optional[int]
 
     def configuration(self) -> Configuration:
         found = InForce(text for _, text in self.changes)
         return Configuration(self.replay.path, found.pipes, found.queues)
 
 
-def read_history(path: str) -> Told:
-    """Each submit is a row, in the order of the calls. Its moment is the one that counted."""
-    rows: list[tuple[int, ...]] = []
-    fates: list[list[int]] = []  # event, flow, packet, start, due
-    place_of: dict[str, int] = {}
-    changes: list[tuple[int, str]] = []
-    clock, steady, call = 0, True, [""]
-    with working(f"reading {path}"), open(path, newline="") as file:
-        reader = csv.reader(file)
-        if not next(reader, [""])[0].startswith("dummynet-history"):
-            raise Fault(f"{path} line 1: no history of dummynet", ROWS)
-        try:
-            for record in reader:
-                mark = record[0][:1] if record else "#"
-                if mark == "c":
-                    call = record
-                elif mark == "d":
-                    fates[place_of[record[1]]][:1], fates[place_of.pop(record[1])][3:] = [OUT], [int(record[3]), int(record[4])]
-                elif mark == "r":
-                    _, outcome, *numbers = record
-                    if call[2] == "configure":
-                        if outcome in ("configured", "deleted"):
-                            changes.append((clock, call[3]))
-                            steady = steady and not rows
-                        continue
-                    clock = int(numbers[0]) if outcome != "status" else clock
-                    if call[2] == "submit":
-                        src, dst = int(IPv4Address(call[5])), int(IPv4Address(call[6]))
-                        rows.append((clock, KINDS.index(call[3]), int(call[4]), src, dst, *map(int, call[7:12])))
-                        fates.append([FATES[outcome], int(numbers[1]) if len(numbers) > 1 else -1, -1, -1, -1])
-                        if outcome == "queued":
-                            fates[-1][2] = int(numbers[2])
-                            place_of[numbers[2]] = len(rows) - 1
-        except (ValueError, IndexError, KeyError):
-            raise Fault(f"{path} line {reader.line_num}: not as a history has it", ROWS) from None
-    columns = np.array(rows, np.int64).reshape(-1, 10).T.copy()
-    moment, kind, number, *five, length, word = columns
+def one_number(fields: Fields) -> np.ndarray:
+    return Number().read(fields)
+
+
+@dataclass(frozen=True)
+class Entries:
+    """The calls of a history with their replies, and the deliveries. A call is at the place before that of its reply."""
+
+    path: str
+    records: Records
+
+    @staticmethod
+    def of(path: str, records: Records) -> Entries:
+        """Refuses a call without a reply, but for a last one, which is left out."""
+        is_call, is_reply = records.starts(b"c,"), records.starts(b"r,")
+        if len(records) and is_call[-1]:
+            records, is_call, is_reply = records.of(np.arange(len(records) - 1)), is_call[:-1], is_reply[:-1]
+        wrong = is_reply[1:] != is_call[:-1]
+        if wrong.any():
+            raise Fault(f"{path} line {records.line[int(np.argmax(wrong)) + 1]}: not as a history has it", ROWS)
+        return Entries(path, records)
+
+    def bad(self, records: Records) -> Fault:
+        """The fault of the first of these records that can't be read."""
+        for place in range(len(records)):
+            one = records.of(np.array([place]))
+            try:
+                self.columns(one)
+            except Bad:
+                return Fault(f"{self.path} line {one.line[0]}: not as a history has it", ROWS)
+        return Fault(f"{self.path}: not as a history has it", ROWS)
+
+    def columns(self, records: Records) -> None:
+        """Reads records of one kind, for their faults."""
+        if len(records) and records.starts(b"d,")[0]:
+            self.deliveries_of(records)
+        elif len(records) and records.starts(b"c,")[0]:
+            self.submits_of(records)
+        else:
+            for begin, fate in FATES.items():
+                if records.starts(begin).all():
+                    [one_number(field) for field in records.fields(REPLY_FIELDS[fate])[2:]]
+                    return
+            raise Bad
+
+    @staticmethod
+    def submits_of(records: Records) -> np.ndarray:
+        """A row for each submit: the number of its kind of target, that of the target, the five-tuple, length and word."""
+        _, _, _, kind, number, src, dst, *rest, _ = records.fields(13)
+        return np.stack([OneOf(KINDS).read(kind), one_number(number), Address().read(src), Address().read(dst), *map(one_number, rest)])
+
+    @staticmethod
+    def deliveries_of(records: Records) -> list[np.ndarray]:
+        """Packet, start and due moment of each delivery."""
+        _, packet, _, start, due = records.fields(5)
+        return [one_number(field) for field in (packet, start, due)]
+
+    def submits(self) -> np.ndarray:
+        """The places of the submits."""
+        return np.flatnonzero(self.records.starts(b"c,") & self.records.starts(b"submit,", 2))
+
+    def replies(self, places: np.ndarray) -> np.ndarray:
+        """Event, moment, flow and packet of the replies to these submits, -1 for what a reply doesn't have."""
+        replies = self.records.of(places + 1)
+        found = np.full((4, len(places)), -1, np.int64)
+        for begin, fate in FATES.items():
+            chosen = np.flatnonzero(replies.starts(begin))
+            numbers = [one_number(field) for field in replies.of(chosen).fields(REPLY_FIELDS[fate])[2:]]
+            found[0, chosen] = fate
+            found[1:1 + len(numbers), chosen] = numbers
+        if (found[0] < 0).any():
+            raise Bad
+        return found
+
+    def clock_before(self, places: np.ndarray) -> list[int]:
+        """The clock's moment before each of these places, in ns."""
+        front = self.records.of(np.arange(int(places.max(initial=0))))
+        tells = np.zeros(len(front), bool)
+        for begin in MOVING:
+            tells |= front.starts(begin)
+        told = np.flatnonzero(tells)
+        last = np.searchsorted(told, places) - 1
+        chosen = front.of(told[last[last >= 0]])
+        begin, following = chosen.field_begin(2), chosen.field_begin(3)
+        end = np.where(following < chosen.end, following - 1, chosen.end)
+        moments = np.zeros(len(places), np.int64)
+        moments[last >= 0] = one_number(Fields(chosen.data, begin, end - begin))
+        return moments.tolist()
+
+    def changes(self) -> list[tuple[int, int, str]]:
+        """The commands that were obeyed: each with its place and the clock's moment."""
+        asked = np.flatnonzero(self.records.starts(b"c,") & self.records.starts(b"configure,", 2))
+        replies = self.records.of(asked + 1)
+        obeyed = asked[replies.starts(b"r,configured") | replies.starts(b"r,deleted")]
+        texts = (self.records.text(place).split(",", 3)[3] for place in obeyed.tolist())
+        return list(zip(obeyed.tolist(), self.clock_before(obeyed), texts))
+
+
+def with_fates(entries: Entries, replies: np.ndarray) -> np.ndarray:
+    """Event, flow, packet, start and due of each submit, by the replies and the deliveries."""
+    event, _, flow, packet = replies
+    start, due = np.full(len(event), -1, np.int64), np.full(len(event), -1, np.int64)
+    deliveries = entries.records.of(entries.records.starts(b"d,"))
+    gone, began, left = entries.deliveries_of(deliveries)
+    order = np.argsort(packet, kind="stable")
+    found = np.searchsorted(packet[order], gone)
+    rows = order[np.minimum(found, max(len(order) - 1, 0))] if len(order) else found
+    unknown = (packet[rows] != gone) if len(order) else np.ones(len(gone), bool)
+    if unknown.any():
+        raise Fault(f"{entries.path} line {deliveries.line[int(np.argmax(unknown))]}: no packet {gone[int(np.argmax(unknown))]} was queued", ROWS)
+    event[rows], start[rows], due[rows] = OUT, began, left
+    return np.stack([event, flow, packet, start, due])
+
+
+def packets_of(path: str, rows: np.ndarray, moments: np.ndarray) -> Packets:
+    """The submits as a packet file has them."""
+    kind, number, *five, length, word = rows
     target, first_of_target = numbered(kind, number)
     five_tuple, first_of_tuple = numbered(*five)
-    packets = Packets(path, moment, target, five_tuple, length, word,
-                      [(KINDS[kind[row]], int(number[row])) for row in first_of_target],
-                      [(dotted(src), dotted(dst), proto, sport, dport)
-                       for src, dst, proto, sport, dport in zip(*(column[first_of_tuple].tolist() for column in five))])
-    event, flow, packet, start, due = np.array(fates, np.int64).reshape(-1, 5).T.copy()
-    return Told(Replay(path, packets, event, flow, packet, moment, start, due), changes, steady)
+    tuples = zip(*(column[first_of_tuple].tolist() for column in five))
+    targets = [(KINDS[kind[row]], int(number[row])) for row in first_of_target]
+    return Packets(path, moments, target, five_tuple, length, word, targets, named_tuples(tuples, read_addresses(path)))
+
+
+def read_history(path: str) -> Told:
+    """Each submit is a row, in the order of the calls. Its moment is the one that counted."""
+    with working(f"reading {path}"):
+        records, is_whole = read_records(path)
+        if not is_history(records):
+            raise Fault(f"{path} line 1: no history of dummynet, and no live session", ROWS)
+        has_end = bool(records.of(np.array([len(records) - 1])).starts(b"end,")[0]) and is_whole
+        entries = Entries.of(path, records)
+        places = entries.submits()
+        try:
+            rows, replies = entries.submits_of(entries.records.of(places)), entries.replies(places)
+            fates = with_fates(entries, replies.copy())
+            changes = entries.changes()
+        except Bad:
+            every = entries.records
+            raise entries.bad(every.of(np.union1d(np.union1d(places, places + 1), np.flatnonzero(every.starts(b"d,"))))) from None
+        event, flow, packet, start, due = fates
+        replay = Replay(path, packets_of(path, rows, replies[1]), event, flow, packet, replies[1], start, due)
+    first = int(places[0]) if len(places) else len(records)
+    steady = all(place < first for place, _, _ in changes)
+    return Told(replay, [(moment, text) for _, moment, text in changes], steady, None if has_end else int(records.line[-1]))

@@ -15,13 +15,16 @@ BYTE_ORDER_MARK = b"\xef\xbb\xbf"
 COMMA, LINE_FEED = 44, 10
 
 
-def plain(path: str) -> bytes:
-    """The bytes of a file whose lines end in line feeds, without quotes, empty lines and a byte order mark."""
+def plain(path: str, keeps_lines: bool = False) -> bytes:
+    """The bytes of a file whose lines end in line feeds, without quotes, empty lines and a byte order mark. `keeps_lines` leaves the
+    empty lines, so that lines keep their numbers, and a last line that has no end."""
     data = Path(path).read_bytes()
-    if data.startswith(BYTE_ORDER_MARK) or b'"' in data or b"\r" in data or b"\n\n" in data:
+    is_odd = data.startswith(BYTE_ORDER_MARK) or b'"' in data or b"\r" in data
+    if is_odd or (b"\n\n" in data and not keeps_lines):
+        ended = data.endswith((b"\n", b"\r"))
         records = csv.reader(io.StringIO(data.decode("utf-8-sig"), newline=""))
-        data = "\n".join(",".join(record) for record in records if record).encode()
-    return data if data.endswith(b"\n") or not data else data + b"\n"
+        data = "\n".join(",".join(record) for record in records if record or keeps_lines).encode() + b"\n" * ended
+    return data if data.endswith(b"\n") or not data or keeps_lines else data + b"\n"
 
 
 def fields_of(data: np.ndarray, count: int) -> list[Fields]:

@@ -8,7 +8,7 @@ import sys
 
 from hinge.arguments import bounded
 from hinge.chart import MOST_FLOWS, save
-from hinge.command import parser, say
+from hinge.command import ROWS, Fault, parser, say
 from hinge.commands.picture import picture_file
 from hinge.commands.stats import write_text
 from hinge.explain import Explainer
@@ -24,7 +24,8 @@ MOST_ROWS = 40
 WHAT = """\
 Reads a history, or the transcript of a live session, and writes the table of `hinge stats` to standard output. -o draws the picture of
 `hinge picture`, --why tells of packets what `hinge why` does, and --audit asks dummynet whether it is lawful. Packets are numbered
-as rows: the first that was submitted is 1. Where the links were changed under way, no parts of the delay are told, nor --why."""
+as rows: the first that was submitted is 1. Where the links were changed under way, no parts of the delay are told, nor --why. The
+transcript of a session that was killed is looked at up to where it was cut, and a line says so."""
 
 
 def command_line() -> argparse.Namespace:
@@ -58,7 +59,11 @@ def main() -> None:
         say(done.stdout.strip() or done.stderr.strip())
     told = read_history(asked.history)
     replay = told.replay
+    if told.cut is not None:
+        say(f"{asked.history} has no end behind line {told.cut}: the session was killed, or still goes on; it is looked at up to there")
     parts = Parts(replay, told.configuration()).check() if told.steady else None
+    if asked.why and not parts:
+        raise Fault(f"{asked.history}: the links were changed while packets came, and --why is of links that stay as they are", ROWS)
     if asked.why and parts:
         explainer = Explainer(parts)
         print("\n\n".join(explainer.paragraph(row) for row in asked.why))

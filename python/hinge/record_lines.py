@@ -1,0 +1,79 @@
+"""The records of a history as lines whose fields are read over the whole file at once."""
+
+from __future__ import annotations
+
+from dataclasses import dataclass
+
+import numpy as np
+
+from hinge.columns import Bad, Fields
+from hinge.tables import COMMA, LINE_FEED, plain
+
+REMARK = ord("#")
+BEGINNINGS = (b"dummynet-history,", b"dummynet-live,")
+
+
+@dataclass(frozen=True)
+class Records:
+    """Some records of a file: where each begins and ends, its line, and all commas of the file."""
+
+    data: np.ndarray
+    begin: np.ndarray
+    end: np.ndarray
+    line: np.ndarray
+    commas: np.ndarray
+
+    def __len__(self) -> int:
+        return len(self.begin)
+
+    def of(self, chosen: np.ndarray) -> Records:
+        """Those that a mask or places choose."""
+        return Records(self.data, self.begin[chosen], self.end[chosen], self.line[chosen], self.commas)
+
+    def text(self, place: int) -> str:
+        return self.data[self.begin[place]:self.end[place]].tobytes().decode("utf-8", "replace")
+
+    def starts(self, word: bytes, field: int = 0) -> np.ndarray:
+        """Whether each has a field, from 0, that begins with this word; the word may go on over commas."""
+        begin = self.field_begin(field)
+        left = np.flatnonzero(begin + len(word) <= self.end)
+        for place, letter in enumerate(word):
+            left = left[self.data[begin[left] + place] == letter]
+        found = np.zeros(len(self), bool)
+        found[left] = True
+        return found
+
+    def field_begin(self, field: int) -> np.ndarray:
+        """Where the field begins; the end of a record that has no such field."""
+        if field == 0:
+            return self.begin
+        comma = np.searchsorted(self.commas, self.begin) + field - 1
+        found = self.commas[np.minimum(comma, len(self.commas) - 1)] if len(self.commas) else self.end
+        return np.where((comma < len(self.commas)) & (found < self.end), found + 1, self.end)
+
+    def fields(self, count: int) -> list[Fields]:
+        """The fields of each; Bad is raised where one has another count."""
+        first = np.searchsorted(self.commas, self.begin)
+        if (np.searchsorted(self.commas, self.end) - first != count - 1).any():
+            raise Bad
+        begins = [self.begin, *(self.commas[first + place] + 1 for place in range(count - 1))]
+        ends = [*(begin - 1 for begin in begins[1:]), self.end]
+        return [Fields(self.data, begin, end - begin) for begin, end in zip(begins, ends)]
+
+
+def read_records(path: str) -> tuple[Records, bool]:
+    """The records of a file, without remarks and empty lines, and whether its last line is whole."""
+    data = plain(path, keeps_lines=True)
+    is_whole = data.endswith(b"\n")
+    array = np.frombuffer(data, np.uint8)
+    end = np.flatnonzero(array == LINE_FEED)
+    begin = np.concatenate(([0], end[:-1] + 1)) if len(end) else end
+    first = array[np.minimum(begin, max(len(array) - 1, 0))] if len(array) else begin
+    is_record = (begin < end) & (first != REMARK)
+    line = np.arange(1, len(end) + 1)
+    return Records(array, begin[is_record], end[is_record], line[is_record], np.flatnonzero(array == COMMA)), is_whole
+
+
+def is_history(records: Records) -> bool:
+    """Whether the first record is that of a history or of a live session."""
+    return len(records) > 0 and records.text(0).encode().startswith(BEGINNINGS)
