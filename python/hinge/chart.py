@@ -9,7 +9,7 @@ from typing import TYPE_CHECKING
 import numpy as np
 
 from hinge.command import module, working
-from hinge.series import Flow, Series
+from hinge.series import NS_PER_S, Flow, Series
 
 if TYPE_CHECKING:
     from matplotlib.axes import Axes
@@ -22,6 +22,7 @@ CAUSE_COLORS = {"lost": "#cc79a7", "full": "#d55e00", "none": "#444444"}
 MOST_FLOWS = len(COLORS)  # with a color of their own
 MOST_ABOVE = 2  # a capacity of more than so many times the greatest rate is told, not drawn
 TITLE_WIDTH, TITLE_LINES = 110, 3
+BEHIND = 1.5  # matplotlib's order of a line that those of flows cover
 
 
 def color(number: int, flow: Flow) -> str:
@@ -81,7 +82,8 @@ def draw_rates(axes: Axes, found: Series, which: str) -> None:
         rates = getattr(flow, which)
         axes.step(found.steps.edges, np.append(rates, rates[-1]), color=color(number, flow), lw=1.5, where="post", label=flow.name)
     for shade, (name, total) in zip(SHADES, getattr(found, which).items()):
-        axes.step(found.steps.edges, np.append(total, total[-1]), color=shade, lw=1.2, where="post", label=f"all of {name}")
+        axes.step(found.steps.edges, np.append(total, total[-1]), color=shade, lw=2.2, where="post", label=f"all of {name}",
+                  zorder=BEHIND)
     draw_capacities(axes, found, greatest(found, which))
 
 
@@ -144,7 +146,7 @@ def draw_drops_by_flow(axes: Axes, found: Series) -> None:
 
 
 PANELS = (draw_carried, draw_offered, draw_delays, draw_distributions, draw_waiting, draw_drops, draw_drops_by_flow)
-CARRIED, OFFERED, _, _, WAITING, DROPS, DROPS_BY_FLOW = range(len(PANELS))
+CARRIED, OFFERED, _, DISTRIBUTION, WAITING, DROPS, DROPS_BY_FLOW = range(len(PANELS))
 FROM_ZERO = (CARRIED, OFFERED, WAITING, DROPS, DROPS_BY_FLOW)
 WHOLE_NUMBERS = (WAITING, DROPS, DROPS_BY_FLOW)
 
@@ -154,6 +156,9 @@ def finish_panel(axes: Axes, place: int, found: Series) -> None:
     axes.grid(alpha=0.3)
     if place in FROM_ZERO:
         axes.set_ylim(bottom=0)
+    if place != DISTRIBUTION and found.steps.span:
+        margin = 0.02 * found.steps.span / NS_PER_S
+        axes.set_xlim(-margin, found.steps.span / NS_PER_S + margin)
     if place in WHOLE_NUMBERS:
         axes.yaxis.get_major_locator().set_params(integer=True)
     flows = {flow.name for flow in found.flows}
@@ -196,7 +201,8 @@ def figure(replays: list[Series], title: str) -> Figure:
     below = name_flows(fig, None if several else cells[0][len(PANELS)], cells[0][CARRIED], replays[0])
     lines = title_lines(title)
     fig.suptitle(as_written("\n".join(lines)))
-    fig.tight_layout(rect=(0, below / fig.get_figheight(), 1, 1))
+    height = fig.get_figheight()
+    fig.tight_layout(rect=(0, below / height, 1, 1 - 0.25 * len(lines) / height))
     return fig
 
 

@@ -24,8 +24,11 @@ class Fault(Exception):
     """Why a command can't go on, as one line, and its exit status."""
 
     def __init__(self, line: str, status: int) -> None:
-        super().__init__(line)
+        super().__init__(line, status)  # both, so that it can come from another process
         self.status = status
+
+    def __str__(self) -> str:
+        return str(self.args[0])
 
 
 def parser(what: str, example: str) -> argparse.ArgumentParser:
@@ -125,3 +128,27 @@ class Progress:
     def done(self) -> None:
         if self.shown:
             print("\r\x1b[K", end="", file=sys.stderr, flush=True)
+
+
+class Bar:
+    """Tells how far a command of so many steps is, and when it will be done, on standard error, where that is a terminal, after two
+    seconds."""
+
+    def __init__(self, what: str, total: int) -> None:
+        self.what, self.total, self.done, self.failed = what, total, 0, 0
+        self.began, self.told, self.shown = time.monotonic(), 0.0, False
+
+    def step(self, failed: bool = False) -> None:
+        self.done, self.failed, now = self.done + 1, self.failed + failed, time.monotonic()
+        if now - self.began < PROGRESS_AFTER or now - self.told < 0.5 or not sys.stderr.isatty():
+            return
+        left = (now - self.began) / self.done * (self.total - self.done)
+        bad = f", {self.failed:,} failed" if self.failed else ""
+        print(f"\r\x1b[K{self.done:,} of {self.total:,} {self.what}{bad}, {left:.0f} s left", end="", file=sys.stderr, flush=True)
+        self.told, self.shown = now, True
+
+    def clear(self) -> None:
+        """Takes the line away, so that another one can be told."""
+        if self.shown:
+            print("\r\x1b[K", end="", file=sys.stderr, flush=True)
+            self.shown = False

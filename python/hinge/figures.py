@@ -2,15 +2,18 @@
 
 from __future__ import annotations
 
+import csv
 from dataclasses import dataclass
-from typing import Optional
+from typing import Optional, TextIO
 
 import numpy as np
 
+from hinge.groups import group
 from hinge.links import Parts
 from hinge.replay import EVENT_NAMES, FULL, HELD, LOST, NONE, OUT, Replay
 
 PERCENTILES = (50, 95, 99)
+MOST_FLOWS = 40  # of a table
 LOW = (1 << 32) - 1
 
 
@@ -88,3 +91,17 @@ def untargeted(replay: Replay) -> dict[str, int]:
     targets = replay.packets.targets
     counts = np.bincount(replay.packets.target[replay.event == NONE], minlength=len(targets)).tolist()
     return {f"{kind} {number}": count for (kind, number), count in zip(targets, counts) if count}
+
+
+def table_of(replay: Replay, parts: Optional[Parts], by: str = "tuple", top: int = MOST_FLOWS) -> list[Figures]:
+    """The figures of the largest flows, of the rest as one, and of all rows."""
+    flows = group(replay, by).largest(replay.packets.length, top)
+    return [*(figures(name, replay, parts, places) for name, places in flows.places()), figures_of_all(replay, parts)]
+
+
+def write_csv(table: list[Figures], out: TextIO) -> None:
+    writer = csv.writer(out, lineterminator="\n")
+    writer.writerow(["flow", *table[0].value])
+    for row in table:
+        values = (f"{value:.6f}" if isinstance(value, float) else value for value in row.value.values())
+        writer.writerow([row.name, *("" if value is None else value for value in values)])

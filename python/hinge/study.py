@@ -7,18 +7,24 @@ import itertools
 import json
 import os
 import re
+import shutil
 import subprocess
-import sys
 import tempfile
+from concurrent.futures import ProcessPoolExecutor, as_completed
+from concurrent.futures.process import BrokenProcessPool
 from dataclasses import dataclass
 from pathlib import Path
-from typing import Iterator
+from typing import Iterator, Optional
 
-from hinge.command import CONFIGURATION, FILES, ROWS, Fault
+from hinge.addresses import addresses_file
+from hinge.command import CONFIGURATION, FILES, ROWS, Bar, Fault, say
+from hinge.figures import Figures, table_of, write_csv
+from hinge.links import Parts, read_configuration
 from hinge.program import dummynet
+from hinge.replay import read_packets, read_report
 from hinge.words import word
 
-START = str(Path(__file__).with_name("start.py"))
+PACKETS = "packets.csv"  # the copy in the folder
 PLACE = re.compile(r"\{(\w+)\}")
 SEED = "seed"
 
@@ -29,6 +35,22 @@ def reseeded(packets: Path, seed: int) -> Iterator[str]:
         yield next(file, "")
         for row, line in enumerate((line for line in file if line.strip()), 1):
             yield f"{line.rstrip().rpartition(',')[0]},{word(seed, row)}\n"
+
+
+def copy_addresses(packets: Path, copy: Path) -> None:
+    """Copies the file with the IPv6 addresses of a packet file, where there is one."""
+    if addresses_file(str(packets)).exists():
+        shutil.copyfile(addresses_file(str(packets)), addresses_file(str(copy)))
+
+
+def tell_run(fault: Optional[BaseException], bar: Bar) -> None:
+    """Tells of a run that has come to its end, and why it failed, if it did."""
+    if isinstance(fault, BrokenProcessPool):
+        raise Fault("a process that made runs was killed; `sweep run` makes what is missing", ROWS)
+    bar.step(failed=fault is not None)
+    if fault is not None:
+        bar.clear()
+        say(str(fault))
 
 
 @dataclass(frozen=True)
@@ -47,20 +69,22 @@ class Study:
         if places != set(values):
             odd = ", ".join(sorted(places ^ set(values)))
             raise Fault(f"{template}: {odd} must stand in braces in the configuration and in --set alike", CONFIGURATION)
-        with open(packets, "rb"):
-            pass  # so that a missing file is told now
         names = [*values, SEED]
         runs = [dict(zip(names, run)) for run in itertools.product(*values.values(), map(str, seeds))]
         folder.mkdir(parents=True, exist_ok=True)
         (folder / "link.config").write_text(text, encoding="utf-8")
-        (folder / "study.json").write_text(json.dumps({"packets": str(packets.resolve()), "runs": runs}, indent=1) + "\n")
-        return Study(folder, packets, runs)
+        own = folder / PACKETS
+        if not (own.exists() and own.samefile(packets)):
+            shutil.copyfile(packets, own)
+            copy_addresses(packets, own)
+        (folder / "study.json").write_text(json.dumps({"packets": PACKETS, "runs": runs}, indent=1) + "\n")
+        return Study(folder, own, runs)
 
     @staticmethod
     def load(folder: Path) -> Study:
         try:
             plan = json.loads((folder / "study.json").read_text())
-            return Study(folder, Path(plan["packets"]), plan["runs"])
+            return Study(folder, folder / plan["packets"], plan["runs"])
         except (ValueError, KeyError, TypeError):
             raise Fault(f"{folder / 'study.json'}: it isn't the plan of a sweep", ROWS) from None
 
@@ -76,15 +100,23 @@ class Study:
             raise Fault(f"{self.folder} has runs 1 to {len(self.runs)}, and no run {number}", ROWS)
         values = self.runs[number - 1]
         text = PLACE.sub(lambda found: values[found[1]], (self.folder / "link.config").read_text(encoding="utf-8"))
-        with tempfile.TemporaryDirectory(dir=self.folder) as work:
-            config, packets, report, table = (Path(work, name) for name in ("config", "packets", "report", "table"))
+        with tempfile.TemporaryDirectory() as work:
+            config, packets, report = (Path(work, name) for name in ("config", "packets", "report"))
             config.write_text(text, encoding="utf-8")
             with open(packets, "w", encoding="utf-8") as out:
                 out.writelines(reseeded(self.packets, int(values[SEED])))
+            copy_addresses(self.packets, packets)
             with open(report, "wb") as out:
                 self.call([dummynet(), "replay", str(config), str(packets)], number, out)
-            self.call([sys.executable, START, "stats", str(packets), str(report), "--config", str(config), "--csv", "-o", str(table)], number)
-            table.replace(self.table_of(number))
+            replay = read_report(str(report), read_packets(str(packets)))
+            self.keep(number, table_of(replay, Parts(replay, read_configuration(str(config))).check()))
+
+    def keep(self, number: int, table: list[Figures]) -> None:
+        """Puts the table of a run in its place, whole or not at all."""
+        with tempfile.NamedTemporaryFile("w", encoding="utf-8", newline="", dir=self.folder, prefix=f".run-{number}-", delete=False) as out:
+            write_csv(table, out)
+        os.chmod(out.name, 0o644)
+        os.replace(out.name, self.table_of(number))
 
     def call(self, words: list[str], number: int, out: object = None) -> None:
         """Runs a program of a run; its fault is told with the values of the run."""
@@ -97,10 +129,19 @@ class Study:
             raise Fault(f"run {number} ({values}): {' '.join(done.stderr.split())[:300]}", done.returncode)
 
     def run_all(self, processes: int) -> None:
-        """Makes the runs that are missing, so many at a time, by xargs."""
-        numbers = "\n".join(map(str, self.missing()))
-        words = ["xargs", "-r", "-n", "1", "-P", str(processes), sys.executable, START, "sweep", "run", str(self.folder)]
-        subprocess.run(words, input=numbers, text=True)
+        """Makes the runs that are missing, so many at a time. A run that fails is told, and the others go on."""
+        todo = self.missing()
+        bar = Bar("runs", len(todo))
+        with ProcessPoolExecutor(processes) as pool:
+            tasks = [pool.submit(self.run, number) for number in todo]
+            try:
+                for task in as_completed(tasks):
+                    tell_run(task.exception(), bar)
+            except BaseException:
+                pool.shutdown(wait=False, cancel_futures=True)
+                raise
+            finally:
+                bar.clear()
         if left := self.missing():
             raise Fault(f"{len(left)} of {len(self.runs)} runs are missing, run {left[0]} first", ROWS)
 

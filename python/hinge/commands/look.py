@@ -12,7 +12,8 @@ from hinge.command import ROWS, Fault, parser, say
 from hinge.commands.picture import picture_file
 from hinge.commands.stats import write_text
 from hinge.explain import Explainer
-from hinge.figures import figures, figures_of_all
+from hinge.figures import MOST_FLOWS as MOST_ROWS
+from hinge.figures import table_of
 from hinge.groups import WAYS, group
 from hinge.history import Told, read_history
 from hinge.links import Parts
@@ -20,7 +21,6 @@ from hinge.page import save_page
 from hinge.program import dummynet
 from hinge.series import NS_PER_MS, fitting_step, series, span_of
 
-MOST_ROWS = 40
 WHAT = """\
 Reads a history, or the transcript of a live session, and writes the table of `hinge stats` to standard output. -o draws the picture of
 `hinge picture`, --why tells of packets what `hinge why` does, and --audit asks dummynet whether it is lawful. Packets are numbered
@@ -68,9 +68,7 @@ def main() -> None:
         explainer = Explainer(parts)
         print("\n\n".join(explainer.paragraph(row) for row in asked.why))
     else:
-        flows = group(replay, asked.by).largest(replay.packets.length, asked.top or MOST_ROWS)
-        table = [figures(name, replay, parts, places) for name, places in flows.places()]
-        write_text([*table, figures_of_all(replay, parts)], sys.stdout)
+        write_text(table_of(replay, parts, asked.by, asked.top or MOST_ROWS), sys.stdout)
         if not told.steady:
             say("the links were changed while packets came: no parts of the delay")
     if asked.o:

@@ -3,13 +3,12 @@
 from __future__ import annotations
 
 import argparse
-import csv
 from typing import Optional, TextIO
 
 from hinge.arguments import add_inputs, bounded
 from hinge.command import parser, say, writing
-from hinge.figures import Figures, figures, figures_of_all, untargeted
-from hinge.groups import WAYS, group
+from hinge.figures import MOST_FLOWS, Figures, table_of, untargeted, write_csv
+from hinge.groups import WAYS
 from hinge.links import Parts, read_configuration
 from hinge.replay import Replay, read_packets, read_report
 
@@ -38,14 +37,6 @@ def write_text(table: list[Figures], out: TextIO) -> None:
         out.write("  ".join([first.ljust(widths[0]), *(text.rjust(width) for text, width in zip(rest, widths[1:]))]) + "\n")
 
 
-def write_csv(table: list[Figures], out: TextIO) -> None:
-    writer = csv.writer(out, lineterminator="\n")
-    writer.writerow(["flow", *table[0].value])
-    for row in table:
-        values = (f"{value:.6f}" if isinstance(value, float) else value for value in row.value.values())
-        writer.writerow([row.name, *("" if value is None else value for value in values)])
-
-
 def tell_untargeted(replay: Replay) -> None:
     """A line for each target that isn't configured, so that a wrong number is noticed."""
     for target, count in untargeted(replay).items():
@@ -58,7 +49,8 @@ def command_line() -> argparse.Namespace:
     line.add_argument("--config", metavar="FILE", help="the configuration of the replay, for the parts of the delay")
     line.add_argument("--by", choices=WAYS, default="tuple", help="what a flow is: packets of a five-tuple (the default), a flow of "
                       "dummynet, or all packets to a pipe or queue")
-    line.add_argument("--top", metavar="N", type=bounded(1, 10**6), default=40, help="the N largest flows, the rest as one (default: 40)")
+    line.add_argument("--top", metavar="N", type=bounded(1, 10**6), default=MOST_FLOWS,
+                      help=f"the N largest flows, the rest as one (default: {MOST_FLOWS})")
     line.add_argument("--csv", action="store_true", help="write CSV, with times in whole ns")
     line.add_argument("-o", metavar="FILE", help="the file to write (default: standard output)")
     return line.parse_args()
@@ -68,9 +60,7 @@ def main() -> None:
     asked = command_line()
     replay = read_report(asked.report, read_packets(asked.packets))
     parts = Parts(replay, read_configuration(asked.config)).check() if asked.config else None
-    flows = group(replay, asked.by).largest(replay.packets.length, asked.top)
-    table = [figures(name, replay, parts, places) for name, places in flows.places()]
-    table.append(figures_of_all(replay, parts))
+    table = table_of(replay, parts, asked.by, asked.top)
     with writing(asked.o) as out:
         (write_csv if asked.csv else write_text)(table, out)
     tell_untargeted(replay)

@@ -5,6 +5,7 @@ from __future__ import annotations
 import argparse
 import csv
 import os
+import sys
 from pathlib import Path
 
 from hinge.arguments import bounded
@@ -14,10 +15,12 @@ from hinge.study_chart import lines_of, study_figure
 
 WHAT = """\
 Replays a packet file by many configurations and seeds. The configuration has names in braces, as `bw {bw}`; --set gives their values. A run
-is a pure function of the folder that `plan` writes, so runs may be made anywhere and in any order. The variable DUMMYNET names the program."""
+is a pure function of the folder that `plan` writes, which has a copy of the packet file, so runs may be made anywhere and in any order, and
+the folder may be moved. `missing` gives their numbers to any engine of jobs. The variable DUMMYNET names the program."""
 EXAMPLE = """\
 hinge sweep plan study packets.csv link.config --set bw=1Mbit/s,2Mbit/s --set queue=10,50 --seeds 1-5
-  hinge sweep run study
+  hinge sweep run study                                          # or, ten runs a job of GNU parallel:
+  hinge sweep missing study | parallel -n 10 hinge sweep run study
   hinge sweep gather study -o table.csv --plot p95_ns --against bw --picture p95.png"""
 
 
@@ -42,7 +45,7 @@ def seeds(text: str) -> list[int]:
 
 def command_line() -> argparse.Namespace:
     line = parser(WHAT, EXAMPLE)
-    steps = line.add_subparsers(dest="step", required=True, metavar="plan | run | gather")
+    steps = line.add_subparsers(dest="step", required=True, metavar="plan | run | missing | gather")
     plan = steps.add_parser("plan", help="write the folder of a sweep")
     plan.add_argument("folder", type=Path)
     plan.add_argument("packets", type=Path)
@@ -53,6 +56,8 @@ def command_line() -> argparse.Namespace:
     runs.add_argument("folder", type=Path)
     runs.add_argument("number", type=bounded(1, 10**9), nargs="*")
     runs.add_argument("-P", metavar="N", type=bounded(1, 1024), default=os.cpu_count() or 1, help="runs at a time (default: processors)")
+    lacking = steps.add_parser("missing", help="write the numbers of the runs that are missing, a line each")
+    lacking.add_argument("folder", type=Path)
     gather = steps.add_parser("gather", help="write the figures of all runs as one table, and draw one of them")
     gather.add_argument("folder", type=Path)
     gather.add_argument("-o", metavar="FILE", help="the table (default: standard output)")
@@ -84,7 +89,9 @@ def main() -> None:
         say(f"{len(study.runs)} runs in {asked.folder}")
         return
     study = Study.load(asked.folder)
-    if asked.step == "gather":
+    if asked.step == "missing":
+        sys.stdout.writelines(f"{number}\n" for number in study.missing())
+    elif asked.step == "gather":
         gather(study, asked)
     elif asked.number:
         for number in asked.number:

@@ -2,13 +2,23 @@
 
 from __future__ import annotations
 
+import io
 import os
+import subprocess
+import sys
 import unittest
+from unittest import mock
 
 from kit import folder, mixed, needs_tshark, replay, rows_of, run, write
 
+from hinge.command import Bar
 from hinge.study import reseeded
 from hinge.study_chart import lines_of, magnitude
+
+
+class Terminal(io.StringIO):
+    def isatty(self) -> bool:
+        return True
 
 
 @needs_tshark
@@ -41,6 +51,46 @@ class Sweep(unittest.TestCase):
         self.assertEqual(done.returncode, 0, done.stderr)
         alone = rows_of(folder() / "run4.table")
         self.assertEqual([{name: row[name] for name in alone[0]} for row in rows if row["run"] == "4"], alone)
+
+    def test_a_study_is_moved_and_made_by_several(self) -> None:
+        """Its folder has all that a run needs; a run that is made twice is the same file."""
+        _, packets, _ = mixed("dsl")
+        copy = folder() / "copy.csv"
+        copy.write_bytes(packets.read_bytes())
+        template = write("moved.config", "pipe 1 config bw {bw}\npipe 2 config\n")
+        self.assertEqual(run("sweep", "plan", "here", copy, template, "--set", "bw=3Mbit/s,8Mbit/s", "--seeds", "1-2").returncode, 0)
+        self.assertEqual(run("sweep", "missing", "here").stdout, "1\n2\n3\n4\n")
+        self.assertEqual(run("sweep", "run", "here", 2, 3).returncode, 0)
+        self.assertEqual(run("sweep", "missing", "here").stdout, "1\n4\n")
+        before = (folder() / "here" / "run-2.csv").read_bytes()
+        copy.unlink()
+        (folder() / "here").rename(folder() / "there")
+        several = [subprocess.Popen([sys.executable, "-m", "hinge", "sweep", "run", "there", "2", "1"], cwd=folder()) for _ in range(3)]
+        self.assertEqual([process.wait() for process in several], [0, 0, 0])
+        self.assertEqual((folder() / "there" / "run-2.csv").read_bytes(), before)
+        self.assertEqual(run("sweep", "run", "there").returncode, 0)
+        self.assertEqual(run("sweep", "missing", "there").stdout, "")
+        names = {path.name for path in (folder() / "there").iterdir()}
+        self.assertEqual(names, {"study.json", "link.config", "packets.csv", *(f"run-{number}.csv" for number in (1, 2, 3, 4))})
+
+    def test_a_run_that_fails_leaves_the_others(self) -> None:
+        _, packets, _ = mixed("dsl")
+        template = write("half.config", "pipe 1 config bw {bw}\npipe 2 config\n")
+        run("sweep", "plan", "half", packets, template, "--set", "bw=1q,8Mbit/s", "--seeds", "1-2")
+        done = run("sweep", "run", "half", "-P", 2)
+        self.assertEqual(done.returncode, 4)
+        self.assertIn("run 1 (bw 1q, seed 1): config line 1, word 5: bad number", done.stderr)
+        self.assertIn("2 of 4 runs are missing, run 1 first", done.stderr)
+        self.assertEqual(run("sweep", "missing", "half").stdout, "1\n2\n")
+
+    def test_progress_after_two_seconds_on_a_terminal(self) -> None:
+        times, told = iter([0, 1, 2.5, 2.6, 4]), Terminal()
+        with mock.patch("time.monotonic", lambda: next(times)), mock.patch("sys.stderr", told):
+            bar = Bar("runs", 8)
+            for failed in (False, True, False, False):
+                bar.step(failed)
+            bar.clear()
+        self.assertEqual(told.getvalue(), "\r\x1b[K2 of 8 runs, 1 failed, 8 s left\r\x1b[K4 of 8 runs, 1 failed, 4 s left\r\x1b[K")
 
     def test_the_words_of_a_seed_are_those_of_hinge_packets(self) -> None:
         _, packets, _ = mixed("dsl")
