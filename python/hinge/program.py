@@ -36,3 +36,8 @@ def found(variable: str, name: str, *in_repository: str) -> str:
 def dummynet() -> str:
     """The program that replays and audits."""
     return found("DUMMYNET", "dummynet", "dummynet")
+
+
+def shard() -> str:
+    """The program that replays on all processors; hosts/shard/build builds it."""
+    return found("HINGE_SHARD", "hinge-shard", "built/hinge-shard", "release/hinge-shard")

@@ -1,0 +1,72 @@
+"""`hinge shard` writes what `dummynet replay` writes."""
+
+from __future__ import annotations
+
+import os
+import shutil
+import subprocess
+import unittest
+from functools import lru_cache
+from typing import Optional
+
+from kit import TOP, folder, mixed, needs_tshark, run, write
+from random_shard import HEADER, compare
+
+ROW = "{moment},pipe,1,10.0.0.{host},10.0.0.9,17,1,2,1000,0\n"
+
+
+@lru_cache(maxsize=None)
+def program() -> Optional[str]:
+    """The program that HINGE_SHARD names, else one that is built here over the release's library."""
+    if "HINGE_SHARD" in os.environ:
+        return os.environ["HINGE_SHARD"]
+    library = TOP / "release" / "libhingetulip.a"
+    if shutil.which("cc") is None or not library.exists():
+        return None
+    path = str(folder() / "hinge-shard")
+    environment = {**os.environ, "HINGETULIP_STATIC": os.environ.get("HINGETULIP_STATIC", str(library))}
+    subprocess.run([TOP / "hosts" / "shard" / "build", path], check=True, env=environment)
+    os.environ["HINGE_SHARD"] = path
+    return path
+
+
+@unittest.skipUnless(program(), "there is no hinge-shard, and no cc")
+class Shard(unittest.TestCase):
+    def test_random_replays_are_the_same_bytes(self) -> None:
+        counts = compare(program(), 0, 60)
+        self.assertTrue({"status 0", "status 3", "status 4", "out", "lost", "full", "none", "held"} <= set(counts), counts)
+
+    def test_many_pieces_and_parts(self) -> None:
+        """More rows than a piece of the report has, in a file, in a pipe and behind what a file has, of one masked pipe."""
+        rows = "".join(ROW.format(moment=row // 3 * 1000, host=row % 251) for row in range(150_000))
+        packets, config = write("many.csv", HEADER + rows), write("many.config", "pipe 1 config bw 1Gbit/s delay 3 mask src-ip 0xff\n")
+        report = subprocess.run([os.environ.get("DUMMYNET", "dummynet"), "replay", config, packets], capture_output=True, check=True).stdout
+        for threads in (1, 3, 63):
+            done = run("shard", config, packets, "-j", threads, "-o", "many.report")
+            self.assertEqual((done.returncode, done.stderr), (0, ""))
+            self.assertEqual((folder() / "many.report").read_bytes(), report)
+        self.assertEqual(subprocess.run([program(), config, "-"], input=packets.read_bytes(), capture_output=True).stdout, report)
+        with open(folder() / "appended", "wb") as out:
+            out.write(b"before\n")
+            out.flush()
+            subprocess.run([program(), config, packets], stdout=out, check=True)
+            os.write(out.fileno(), b"behind\n")
+        self.assertEqual((folder() / "appended").read_bytes(), b"before\n" + report + b"behind\n")
+
+    def test_files_that_cannot_be_read_or_written(self) -> None:
+        config = write("one.config", "pipe 1 config\n")
+        for words, status, told in (([config, "nowhere"], 6, "cannot read packets"), (["nowhere", config], 6, "cannot read config"),
+                                    ([config, folder()], 6, "cannot read packets"), ([config], 2, "usage"), (["-j", 64, config, config], 2, "usage")):
+            done = subprocess.run([program(), *map(str, words)], capture_output=True, text=True, cwd=folder())
+            self.assertEqual((done.returncode, done.stderr.splitlines()[0].startswith(told)), (status, True), done.stderr)
+        packets = write("one.csv", HEADER + ROW.format(moment=0, host=1))
+        with open("/dev/full", "wb") as full:
+            done = subprocess.run([program(), config, packets], stdout=full, stderr=subprocess.PIPE, text=True)
+        self.assertEqual((done.returncode, done.stderr), (6, "cannot write report\n"))
+
+    @needs_tshark
+    def test_it_is_a_command_of_the_kit(self) -> None:
+        config, packets, report = mixed("shared")
+        self.assertEqual(run("shard", config, packets).stdout, report.read_text())
+        quoted = write("quoted.csv", packets.read_text().replace("queue", '"queue"'))
+        self.assertEqual(run("shard", config, quoted).stdout, report.read_text())
