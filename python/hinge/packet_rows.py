@@ -4,12 +4,14 @@ from __future__ import annotations
 
 from collections import Counter
 from dataclasses import dataclass, field
-from typing import Callable, Iterator, NamedTuple, TextIO
+from typing import Iterator, NamedTuple, TextIO
 
 from hinge.addresses import Addresses
 from hinge.command import ROWS, Fault, Progress
 from hinge.frames import Frame
+from hinge.loss import Bernoulli, Maker, Words
 from hinge.targets import Targets
+from hinge.words import direction
 
 HEADER = "moment,target,number,src,dst,proto,sport,dport,len,word"
 MAX_LEN = 65535
@@ -87,7 +89,21 @@ class Meetings:
                    f"--from {first} gives each direction a pipe")
 
 
-Words = Callable[[int, Packet, str], int]  # of a row with its packet and target
+class TargetWords:
+    """The words of each target's packets, by a model of its own."""
+
+    def __init__(self, seed: int, models: dict[str, Maker]) -> None:
+        """`models` has those of some targets, as `pipe,1`, or of all others, under an empty name. Else words are random."""
+        self.seed, self.models = seed, models
+        self.words: dict[str, Words] = {}
+
+    def next(self, target: str) -> int:
+        """The word of the next packet to a target."""
+        if target not in self.words:
+            kind, _, number = target.partition(",")
+            make = self.models.get(target) or self.models.get("") or Bernoulli
+            self.words[target] = make(self.seed, direction(kind, int(number)))
+        return self.words[target].next()
 
 
 @dataclass
@@ -97,7 +113,7 @@ class PacketRows:
     targets: Targets
     card: Card
     link_bytes: int
-    words: Words
+    words: TargetWords
     addresses: Addresses = field(default_factory=Addresses)
     meetings: Meetings = field(default_factory=Meetings)
     counts: Counter[str] = field(default_factory=Counter)
@@ -129,7 +145,7 @@ class PacketRows:
         src, dst = self.addresses.of(frame.src), self.addresses.of(frame.dst)
         self.row += 1
         self.counts["cut"] += on_link > MAX_LEN
-        word = self.words(self.row, packet, target)
+        word = self.words.next(target)
         return f"{packet.moment},{target},{src},{dst},{frame.proto},{frame.sport},{frame.dport},{min(on_link, MAX_LEN)},{word}\n"
 
     def write(self, found: list[tuple[Packet, str]], out: TextIO, index: TextIO | None) -> None:

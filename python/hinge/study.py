@@ -20,9 +20,10 @@ from hinge.addresses import addresses_file
 from hinge.command import CONFIGURATION, FILES, ROWS, Bar, Fault, say
 from hinge.figures import Figures, table_of, write_csv
 from hinge.links import Parts, read_configuration
+from hinge.loss import Bernoulli
 from hinge.program import dummynet
 from hinge.replay import read_packets, read_report
-from hinge.words import word
+from hinge.words import direction
 
 PACKETS = "packets.csv"  # the copy in the folder
 PLACE = re.compile(r"\{(\w+)\}")
@@ -31,10 +32,14 @@ SEED = "seed"
 
 def reseeded(packets: Path, seed: int) -> Iterator[str]:
     """The lines of a packet file with the random words of a seed."""
+    models: dict[str, Bernoulli] = {}
     with open(packets, encoding="utf-8-sig") as file:
         yield next(file, "")
-        for row, line in enumerate((line for line in file if line.strip()), 1):
-            yield f"{line.rstrip().rpartition(',')[0]},{word(seed, row)}\n"
+        for line in (line for line in file if line.strip()):
+            _, kind, number, _ = line.split(",", 3)
+            if (target := f"{kind},{number}") not in models:
+                models[target] = Bernoulli(seed, direction(kind, int(number)))
+            yield f"{line.rstrip().rpartition(',')[0]},{models[target].next()}\n"
 
 
 def copy_addresses(packets: Path, copy: Path) -> None:

@@ -5,15 +5,14 @@ from __future__ import annotations
 import argparse
 import contextlib
 import re
-from typing import Callable
 
 from hinge.addresses import write_addresses
 from hinge.arguments import bounded
 from hinge.command import parser, say, writing
 from hinge.dissect import frames
-from hinge.packet_rows import Card, Packet, PacketRows
-from hinge.targets import BadRule, Rule, Targets, directions, read_rule
-from hinge.words import word
+from hinge.loss import Maker, read_model
+from hinge.packet_rows import Card, PacketRows, TargetWords
+from hinge.targets import TARGET, BadRule, Rule, Targets, directions, read_rule
 
 MOST_BYTES = 67_108_864  # of a packet file that the program reads
 WHAT = """\
@@ -45,6 +44,18 @@ def bit_rate(text: str) -> int:
     return int(found[1]) * 1000 ** " KMG".index(found[2] or " ")
 
 
+def loss(text: str) -> tuple[str, Maker]:
+    """A model and the target that it is for, as `pipe,1`; an empty one where it is for all."""
+    target, equals, model = text.rpartition("=")
+    found = TARGET.match(target.strip())
+    try:
+        if equals and found is None:
+            raise ValueError(f"{target!r} isn't of the form pipe N or queue N")
+        return (f"{found[1]},{found[2]}" if found else ""), read_model(model)
+    except ValueError as error:
+        raise argparse.ArgumentTypeError(str(error)) from None
+
+
 def command_line() -> argparse.Namespace:
     line = parser(WHAT, EXAMPLE)
     line.add_argument("capture")
@@ -68,15 +79,17 @@ def command_line() -> argparse.Namespace:
     line.add_argument("--l2", metavar="N", type=bounded(0, 1000), default=0,
                       help="bytes that the link adds to each packet; PPPoE over Ethernet has 22")
     line.add_argument("--seed", metavar="S", type=bounded(0, 2**64 - 1), default=1, help="of the random words (default: 1)")
+    line.add_argument(
+        "--loss", metavar="MODEL", type=loss, action="append", default=[],
+        help="which packets are lost where the pipe or queue has `plr 0.5`, of each by itself: gilbert:TO_BAD,TO_GOOD[,IN_BAD[,IN_GOOD]], a link "
+        "with a good and a bad state, the rates at which they change, and those of losses in the bad one (1) and the good one (0); or "
+        "list:3,17-20, by the packets' numbers. 'pipe 1=MODEL' is for one pipe or queue. Default: random words, which its own plr judges",
+    )
     line.add_argument("--index", metavar="FILE", help="write the frame number of each row, for `hinge through`")
     asked = line.parse_args()
     if asked.rate and not asked.mtu:
         line.error("--rate is of segments that --mtu splits")
     return asked
-
-
-def words(seed: int) -> Callable[[int, Packet, str], int]:
-    return lambda row, packet, target: word(seed, row)
 
 
 def main() -> None:
@@ -85,7 +98,7 @@ def main() -> None:
     found = list(frames(asked.capture))
     targets.resolve()
     packets = [frame for _, frame in found if frame is not None]
-    rows = PacketRows(targets, Card(asked.mtu, asked.rate), asked.l2, words(asked.seed))
+    rows = PacketRows(targets, Card(asked.mtu, asked.rate), asked.l2, TargetWords(asked.seed, dict(asked.loss)))
     sent = rows.packets(packets)
     with writing(asked.o) as out, writing(asked.index) if asked.index else contextlib.nullcontext() as index:
         rows.write(sent, out, index)

@@ -1,0 +1,129 @@
+"""Which packets of a direction a link loses: models that give each packet its word.
+
+A packet is lost where the low 31 bits of its word are below the loss rate of its pipe or queue. Under `plr 0.5` the words LOST and KEPT
+lose exactly those packets that a model says. Each direction has a model of its own, so that its words never depend on the other one.
+
+    words = GilbertElliott(to_bad=0.01, to_good=0.3, seed=7, direction=1)
+    first, second = words.next(), words.next()
+"""
+
+from __future__ import annotations
+
+import re
+from dataclasses import dataclass, field
+from fractions import Fraction
+from typing import Callable, Collection, Protocol, Union
+
+from hinge.words import word
+
+LOST, KEPT = 0, (1 << 31) - 1
+PARTS = 1 << 31  # of a rate, as the program has it
+Rate = Union[float, Fraction]
+
+
+class Words(Protocol):
+    """The words of the packets of one direction, in their order."""
+
+    def next(self) -> int:
+        """The word of the next packet, 0 to 2^31 - 1."""
+
+
+@dataclass
+class Bernoulli:
+    """Each packet by itself: random words, of which a link loses the part that its own loss rate names."""
+
+    seed: int = 1
+    direction: int = 1
+    drawn: int = 0
+
+    def next(self) -> int:
+        self.drawn += 1
+        return word(self.seed, self.drawn, self.direction)
+
+
+def parts(rate: Rate) -> int:
+    """A rate from 0 to 1 as a count of 2^31, to the nearest one; ValueError is raised where it is none."""
+    if not 0 <= rate <= 1:
+        raise ValueError(f"{rate} is no rate from 0 to 1")
+    return int(Fraction(rate) * PARTS + Fraction(1, 2))
+
+
+@dataclass
+class GilbertElliott:
+    """Losses that come together: the link is in a good or in a bad state, at first in the good one. A packet is lost at the rate of the
+    state in which it finds the link, `in_good` or `in_bad`; then the state changes, at the rate `to_bad` or `to_good`."""
+
+    to_bad: Rate
+    to_good: Rate
+    in_bad: Rate = 1
+    in_good: Rate = 0
+    seed: int = 1
+    direction: int = 1
+    is_bad: bool = False
+
+    def __post_init__(self) -> None:
+        self.losses = {True: parts(self.in_bad), False: parts(self.in_good)}
+        self.changes = {True: parts(self.to_good), False: parts(self.to_bad)}
+        self.random = Bernoulli(self.seed, self.direction)
+
+    def next(self) -> int:
+        is_lost = self.random.next() < self.losses[self.is_bad]
+        self.is_bad ^= self.random.next() < self.changes[self.is_bad]
+        return LOST if is_lost else KEPT
+
+
+@dataclass
+class Chosen:
+    """The packets that a function says, by their numbers from 1."""
+
+    is_lost: Callable[[int], bool]
+    number: int = field(default=0, init=False)
+
+    def next(self) -> int:
+        self.number += 1
+        return LOST if self.is_lost(self.number) else KEPT
+
+
+class Listed(Chosen):
+    """The packets with these numbers, from 1."""
+
+    def __init__(self, numbers: Collection[int]) -> None:
+        super().__init__(frozenset(numbers).__contains__)
+
+
+def read_numbers(text: str) -> list[int]:
+    """The numbers of `3,17-20`."""
+    found: list[int] = []
+    for part in text.split(","):
+        ends = re.fullmatch(r"(\d{1,9})(?:-(\d{1,9}))?", part)
+        low, high = (int(ends[1]), int(ends[2] or ends[1])) if ends else (0, 0)
+        if not 1 <= low <= high:
+            raise ValueError(f"{part!r} is no packet number and no range of them, from 1")
+        found.extend(range(low, high + 1))
+    return found
+
+
+def read_rates(text: str) -> list[Fraction]:
+    """The two to four rates of a Gilbert-Elliott model."""
+    texts = text.split(",")
+    if not 2 <= len(texts) <= 4 or not all(re.fullmatch(r"\d+(\.\d+)?|\.\d+", rate) for rate in texts):
+        raise ValueError(f"{text!r} isn't of the form TO_BAD,TO_GOOD[,IN_BAD[,IN_GOOD]], rates from 0 to 1")
+    rates = [Fraction(rate) for rate in texts]
+    for rate in rates:
+        parts(rate)
+    return rates
+
+
+Maker = Callable[[int, int], Words]  # of a seed and a direction
+
+
+def read_model(text: str) -> Maker:
+    """What makes the model of a direction, by `gilbert:0.01,0.3` or `list:3,17-20`; ValueError is raised where the text is neither."""
+    kind, _, rest = text.partition(":")
+    if kind == "gilbert":
+        rates = read_rates(rest)
+        return lambda seed, direction: GilbertElliott(*rates, seed=seed, direction=direction)
+    if kind == "list":
+        numbers = read_numbers(rest)
+        return lambda seed, direction: Listed(numbers)
+    raise ValueError(f"{text!r} begins with neither gilbert: nor list:")

@@ -1,0 +1,89 @@
+"""Models of loss: their figures by theory, and that a link loses exactly the packets that they say."""
+
+from __future__ import annotations
+
+import itertools
+import unittest
+
+from kit import MIXED, folder, needs_tshark, replay, rows_of, run, write
+
+from hinge.loss import KEPT, LOST, Bernoulli, Chosen, GilbertElliott, Listed, Words, read_model
+from hinge.packet_rows import HEADER
+
+MANY = 100_000
+
+
+def drawn(words: Words, count: int = MANY) -> list[int]:
+    return [words.next() for _ in range(count)]
+
+
+def runs(lost: list[bool]) -> list[int]:
+    """The lengths of the runs of lost packets."""
+    return [len(list(group)) for is_lost, group in itertools.groupby(lost) if is_lost]
+
+
+class Models(unittest.TestCase):
+    def test_gilbert_has_the_losses_of_theory(self) -> None:
+        """In the long run it is bad for p / (p + r) of the packets, and 1 / r of them in a row."""
+        lost = [word == LOST for word in drawn(GilbertElliott(0.01, 0.25, seed=3))]
+        self.assertAlmostEqual(sum(lost) / MANY, 0.01 / 0.26, delta=0.004)
+        lengths = runs(lost)
+        self.assertAlmostEqual(sum(lengths) / len(lengths), 4, delta=0.4)
+
+    def test_gilbert_elliott_loses_in_both_states(self) -> None:
+        lost = sum(word == LOST for word in drawn(GilbertElliott(0.1, 0.3, 0.5, 0.02, seed=5)))
+        self.assertAlmostEqual(lost / MANY, (0.1 * 0.5 + 0.3 * 0.02) / 0.4, delta=0.006)
+
+    def test_rates_of_zero_and_one(self) -> None:
+        self.assertEqual(set(drawn(GilbertElliott(0, 1), 1000)), {KEPT})
+        self.assertEqual(drawn(GilbertElliott(1, 1), 6), [KEPT, LOST, KEPT, LOST, KEPT, LOST])
+        self.assertEqual(drawn(GilbertElliott(1, 0), 4), [KEPT, LOST, LOST, LOST])
+
+    def test_words_by_seed_are_even(self) -> None:
+        words = drawn(Bernoulli(9, 2))
+        self.assertAlmostEqual(sum(word < 2**31 // 20 for word in words) / MANY, 0.05, delta=0.003)
+        self.assertEqual(words, drawn(Bernoulli(9, 2)))
+        for other in (Bernoulli(9, 1), Bernoulli(8, 2)):
+            self.assertLess(len(set(words) & set(drawn(other))), 20)
+
+    def test_lists_and_functions(self) -> None:
+        self.assertEqual([number for number, word in enumerate(drawn(Listed([2, 5]), 9), 1) if word == LOST], [2, 5])
+        self.assertEqual([number for number, word in enumerate(drawn(Chosen(lambda number: number % 4 == 0), 9), 1) if word == LOST], [4, 8])
+        self.assertEqual([number for number, word in enumerate(drawn(read_model("list:1,3-5")(1, 1), 9), 1) if word == LOST], [1, 3, 4, 5])
+
+    def test_what_is_no_model(self) -> None:
+        for text in ("", "gilbert", "gilbert:0.1", "gilbert:0.1,2", "gilbert:a,b", "gilbert:1,1,1,1,1", "list:", "list:0", "list:5-3", "list:a", "plr:1"):
+            with self.assertRaises(ValueError, msg=text):
+                read_model(text)
+
+    def test_a_link_loses_exactly_what_the_model_says(self) -> None:
+        words = drawn(GilbertElliott(0.02, 0.3, seed=11))
+        rows = "".join(f"{number},pipe,1,10.0.0.1,10.0.0.2,17,1,2,100,{word}\n" for number, word in enumerate(words))
+        report = replay("model", write("model.config", "pipe 1 config plr 0.5\n"), write("model.csv", f"{HEADER}\n{rows}"))
+        lost = {int(row["row"]) for row in rows_of(report) if row["event"] == "lost"}
+        self.assertEqual(lost, {number for number, word in enumerate(words, 1) if word == LOST})
+
+
+@needs_tshark
+class Packets(unittest.TestCase):
+    def written(self, *words: object) -> list[dict[str, str]]:
+        done = run("packets", MIXED, "-o", "loss.csv", *words)
+        self.assertEqual(done.returncode, 0, done.stderr)
+        return rows_of(folder() / "loss.csv")
+
+    def test_each_direction_has_a_model_of_its_own(self) -> None:
+        rows = self.written("--from", "10.9.0.1", "--loss", "pipe 1=gilbert:0.01,0.3", "--loss", "pipe 2=list:1,7-9")
+        ways = {number: [int(row["word"]) for row in rows if row["number"] == number] for number in "12"}
+        self.assertEqual(ways["1"], drawn(GilbertElliott(0.01, 0.3, seed=1, direction=1), len(ways["1"])))
+        self.assertEqual([number for number, word in enumerate(ways["2"], 1) if word == LOST], [1, 7, 8, 9])
+
+    def test_words_do_not_depend_on_the_other_direction(self) -> None:
+        for words in ((), ("--loss", "gilbert:0.05,0.5")):
+            both = [row["word"] for row in self.written("--from", "10.9.0.1", *words) if row["number"] == "1"]
+            alone = [row["word"] for row in self.written("--map", "src 10.9.0.1 => pipe 1", *words)]
+            self.assertEqual(both, alone)
+
+    def test_faults_are_one_line(self) -> None:
+        for model in ("plr:1", "pipe=list:1", "pipe 1=list:0", "gilbert:1"):
+            done = run("packets", MIXED, "--loss", model)
+            self.assertEqual((done.returncode, "Traceback" in done.stderr), (2, False))
