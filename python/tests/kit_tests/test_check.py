@@ -163,7 +163,7 @@ class Rows(unittest.TestCase):
                 status, out = check(config, path)
                 program = subprocess.run([dummynet(), "replay", config, path], capture_output=True, text=True)
                 self.assertEqual((status, program.returncode), (4, 4))
-                self.assertIn("row 2, field", program.stderr)
+                self.assertIn("packet row 2, field", program.stderr)
                 self.assertTrue(out.startswith(f"{path}:4: ") and said in out, out)
 
     def test_every_bad_row_is_told(self) -> None:
