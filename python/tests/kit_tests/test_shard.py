@@ -5,12 +5,15 @@ from __future__ import annotations
 import os
 import shutil
 import subprocess
+import sys
 import unittest
 from functools import lru_cache
 from typing import Optional
 
 from kit import TOP, folder, mixed, needs_tshark, run, write
 from random_shard import HEADER, compare
+
+from hinge.program import dummynet
 
 ROW = "{moment},pipe,1,10.0.0.{host},10.0.0.9,17,1,2,1000,0\n"
 
@@ -40,7 +43,7 @@ class Shard(unittest.TestCase):
         """More rows than a piece of the report has, in a file, in a pipe and behind what a file has, of one masked pipe."""
         rows = "".join(ROW.format(moment=row // 3 * 1000, host=row % 251) for row in range(150_000))
         packets, config = write("many.csv", HEADER + rows), write("many.config", "pipe 1 config bw 1Gbit/s delay 3 mask src-ip 0xff\n")
-        report = subprocess.run([os.environ.get("DUMMYNET", "dummynet"), "replay", config, packets], capture_output=True, check=True).stdout
+        report = subprocess.run([dummynet(), "replay", config, packets], capture_output=True, check=True).stdout
         for threads in (1, 3, 63):
             done = run("shard", config, packets, "-j", threads, "-o", "many.report")
             self.assertEqual((done.returncode, done.stderr), (0, ""))
@@ -70,3 +73,20 @@ class Shard(unittest.TestCase):
         self.assertEqual(run("shard", config, packets).stdout, report.read_text())
         quoted = write("quoted.csv", packets.read_text().replace("queue", '"queue"'))
         self.assertEqual(run("shard", config, quoted).stdout, report.read_text())
+
+
+@needs_tshark
+class OnePipe(unittest.TestCase):
+    def test_the_report_of_a_live_session_is_that_of_the_replay(self) -> None:
+        """By the calls that docs/LONG.md has, for losses, full queues and targets that aren't configured."""
+        for name in ("dsl", "shared"):
+            config, packets, report = mixed(name)
+            calls = [line for line in config.read_text().splitlines() if not line.startswith("#")]
+            for row, line in enumerate(packets.read_text().splitlines()[1:], 1):
+                moment, *rest = line.split(",")
+                calls += [f"c,0,submit,{','.join(rest)},{moment}", *[f"c,0,collect,{moment}"][:row % 1000 == 0]]
+            calls.append(f"c,0,collect,{2**62}")
+            session = subprocess.run([dummynet(), "live"], input="\n".join(calls) + "\n", capture_output=True, text=True, check=True)
+            script = TOP / "examples" / "live" / "live_report.py"
+            done = subprocess.run([sys.executable, script], input=session.stdout, capture_output=True, text=True)
+            self.assertEqual((done.stdout, done.stderr), (report.read_text(), ""))
