@@ -4,7 +4,7 @@ from __future__ import annotations
 
 import textwrap
 from pathlib import Path
-from typing import TYPE_CHECKING
+from typing import TYPE_CHECKING, Sequence
 
 import numpy as np
 
@@ -70,7 +70,7 @@ def draw_capacities(axes: Axes, found: Series, most: float) -> None:
     drawn, above = capacities_to_draw(found, most)
     for shade, name in zip(SHADES, drawn):
         moments, rates = found.capacities[name]
-        axes.step(moments, rates, color=shade, lw=1.2, ls="--", where="post", label=capacity_name(name, rates))
+        axes.step(moments, rates, color=shade, lw=1.2, ls="--", where="post", label=capacity_name(name, rates), zorder=BEHIND)
     if above:
         told = "\n".join(f"above: {capacity_name(name, found.capacities[name][1])}" for name in above[:len(SHADES)])
         axes.text(0.99, 0.97, told, transform=axes.transAxes, ha="right", va="top", fontsize=8, color="#444444")
@@ -155,6 +155,8 @@ def finish_panel(axes: Axes, place: int, found: Series) -> None:
     """The limits, the grid and the names of a panel that are its own; the flows' names stand beside the panels."""
     axes.grid(alpha=0.3)
     if place in FROM_ZERO:
+        axes.update_datalim([(0, 0)], updatex=False)  # so that the room above a line is a part of its height
+        axes.autoscale_view(scalex=False)
         axes.set_ylim(bottom=0)
     if place != DISTRIBUTION and found.steps.span:
         margin = 0.02 * found.steps.span / NS_PER_S
@@ -182,6 +184,15 @@ def name_flows(fig: Figure, cell: Axes | None, axes: Axes, found: Series) -> flo
     return 0.2 * -(-len(names) // 3) + 0.1
 
 
+def draw_columns(replays: list[Series], cells: list[Sequence[Axes]]) -> None:
+    """A column of panels for each replay. The limits come when all are drawn, since panels of a row share them."""
+    panels = [(place, axis, found) for found, column in zip(replays, cells) for place, axis in zip(range(len(PANELS)), column)]
+    for place, axis, found in panels:
+        PANELS[place](axis, found)
+    for place, axis, found in panels:
+        finish_panel(axis, place, found)
+
+
 def figure(replays: list[Series], title: str) -> Figure:
     """The figure: two columns of panels of one replay, or a column for each of several, with the same axes in a row."""
     pyplot = module("matplotlib.pyplot", "python3-matplotlib")
@@ -192,10 +203,8 @@ def figure(replays: list[Series], title: str) -> Figure:
     else:
         fig, axes = pyplot.subplots(4, 2, figsize=(13, 15))
         cells = [axes.flat]
+    draw_columns(replays, cells)
     for found, column in zip(replays, cells):
-        for place, (draw, axis) in enumerate(zip(PANELS, column)):
-            draw(axis, found)
-            finish_panel(axis, place, found)
         if several:
             column[0].set_title(f"{as_written(Path(found.replay.path).name)}\n{column[0].get_title()}")
     below = name_flows(fig, None if several else cells[0][len(PANELS)], cells[0][CARRIED], replays[0])

@@ -104,6 +104,12 @@ def rounded_up(least: int) -> int:
     return next(power * factor for factor in (1, 2, 5, 10) if power * factor >= least)
 
 
+def rounded_down(most: int) -> int:
+    """1, 2 or 5 times a power of ten, at most so much, and at least 1."""
+    power = 10 ** (len(str(max(most, 1))) - 1)
+    return next((power * factor for factor in (5, 2) if power * factor <= most), power)
+
+
 def round_step(span: int) -> int:
     """A round step, in ns, so that about as many as wanted make the span."""
     return rounded_up(span // STEPS_WANTED)
@@ -119,7 +125,7 @@ def fitting_step(replays: list[Replay], span: int) -> int:
     if not busy:
         return step
     wanted = max(step * PACKETS_A_STEP * busy // sum(map(len, dues)), step * PACKETS_OF_LARGEST * busy // largest)
-    return max(step, min(rounded_up(wanted), rounded_up(span // FEWEST_STEPS)))
+    return max(step, min(rounded_up(wanted), rounded_down(span // FEWEST_STEPS)))
 
 
 def span_of(replays: list[Replay]) -> int:

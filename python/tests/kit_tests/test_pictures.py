@@ -101,7 +101,21 @@ class Figures(unittest.TestCase):
         self.assertEqual(len(fig.axes), 14)
         first, second = fig.axes[:2]
         self.assertEqual(first.get_ylim(), second.get_ylim())
+        highest = max(line.get_ydata().max() for line in first.get_lines())
+        self.assertTrue(1.02 * highest < first.get_ylim()[1] < 1.15 * highest, "room above the highest line")
         self.assertEqual([line.get_label() for line in first.get_lines()], [line.get_label() for line in second.get_lines()])
+
+    @unittest.skipUnless(matplotlib_there(), "matplotlib isn't there")
+    def test_reports_side_by_side_show_the_whole_of_each(self) -> None:
+        quiet, full = series_of("dsl"), series_of("shared")
+        for replays in ([quiet, full], [full, quiet]):
+            axes = figure(replays, "").axes
+            for row in range(7):
+                for axis in axes[2 * row:2 * row + 2]:
+                    highest = max((line.get_ydata().max(initial=0) for line in axis.get_lines()), default=0)
+                    self.assertLessEqual(highest, axis.get_ylim()[1], axis.get_title())
+            highest = max(int(sum(found.drops.values()).max()) for found in replays)
+            self.assertGreaterEqual(axes[10].get_ylim()[1], highest)
 
     @unittest.skipUnless(plotly_there(), "plotly isn't there")
     def test_a_page_tells_of_its_packets_without_network(self) -> None:
@@ -227,6 +241,7 @@ class Thinning(unittest.TestCase):
         one = full_link(1)
         self.assertEqual(fitting_step([one], span_of([one])), 50 * NS_PER_MS)
         self.assertEqual(fitting_step([full_link(40)], NS_PER_S), 50 * NS_PER_MS)
+        self.assertEqual(fitting_step([full_link(40)], 1021 * NS_PER_MS), 50 * NS_PER_MS, "twenty steps at the least")
 
     def test_a_full_link_has_no_sawtooth(self) -> None:
         replay = full_link(1)
