@@ -20,6 +20,7 @@ COMMANDS = {
     "sweep": "many configurations and seeds over one packet file",
     "check": "what is wrong with configurations, packet files and histories, and what to write",
     "shard": "a replay of any length on all processors",
+    "run": "a command behind an emulated link, in real time",
     "look": "all of these of a live session's transcript",
     "udp": "a UDP path between two programs through emulated links",
     "trace": "such a path whose bandwidth follows a recorded trace",

@@ -1,0 +1,17 @@
+/* What happens to the links while packets pass: lines of the timeline, and the beginnings of outages. */
+#ifndef CHANGES_H
+#define CHANGES_H
+#include <stdint.h>
+
+/* A line that is obeyed at a moment. Moments don't fall from one of these calls to the next. */
+void add_line(uint64_t moment, const char *line);
+
+/* An outage of a pipe, 1 or 2, that begins at a moment, with the length of the longest packet; a line before it has lowered the rate. */
+void add_outage(uint64_t moment, int pipe, uint16_t length);
+
+/* The moment of the next change, or DN_NEVER. */
+uint64_t next_change(void);
+
+/* Makes the changes whose moments have come. */
+void make_changes(void);
+#endif

@@ -1,0 +1,17 @@
+/* What the link and the rules look at in a packet's bytes. */
+#ifndef DISSECT_H
+#define DISSECT_H
+#include <hingetulip.h>
+#include <stdbool.h>
+
+/* An address of IPv6, or one of IPv4 as ::ffff:a.b.c.d, so that one comparison does for both. */
+struct address { uint64_t high, low; };
+
+struct headers {
+    struct address src, dst;
+    int dscp;
+};
+
+/* Reads addresses, protocol and ports into both; false where it is no IP packet. A later fragment has no ports. */
+bool dissect(const unsigned char *bytes, size_t len, struct dn_packet *packet, struct headers *headers);
+#endif

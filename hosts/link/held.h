@@ -1,0 +1,22 @@
+/* The packets that are in the link, by the number that the library told. */
+#ifndef HELD_H
+#define HELD_H
+#include <stddef.h>
+#include <stdint.h>
+
+struct packet {
+    struct packet *next; /* in its bucket */
+    uint64_t number;
+    int way;
+    size_t len; /* 0 for the packet of an outage, which nobody sent */
+    unsigned char bytes[];
+};
+
+void hold(uint64_t number, int way, const unsigned char *bytes, size_t len);
+
+/* Takes a packet out; the caller frees it. */
+struct packet *taken(uint64_t number);
+
+/* Lets go all that is still there, and counts it as discarded by a delete. */
+void let_go_of_discarded(void);
+#endif

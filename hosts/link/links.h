@@ -1,0 +1,29 @@
+/* The emulated links: a shaper of libhingetulip, whose calls and replies go to the transcript. */
+#ifndef LINKS_H
+#define LINKS_H
+#include <hingetulip.h>
+#include <stdbool.h>
+
+void open_links(void);
+
+/* What is wrong with a line where all lines that were tried before were obeyed, or NULL. Nothing else changes. */
+const char *wrong_with(const char *line);
+
+/* Obeys a line at the moment of the last call, and answers NULL or why it is refused. */
+const char *obey(const char *line);
+
+void advance(uint64_t moment);
+void submit(const struct dn_packet *packet, struct dn_fate *fate);
+
+/* The packets that are due at a moment; the list is good until the next call. */
+uint64_t collect(uint64_t moment, const struct dn_delivery **list);
+
+/* The first moment at which a packet is due or begins, or DN_NEVER. */
+uint64_t wake(void);
+
+/* Whether a packet waits for a pipe. */
+bool has_waiting(int pipe);
+
+/* Goes on in another part of the transcript, with new links of the same configuration. To be called where `wake` told DN_NEVER. */
+void begin_next_part(void);
+#endif

@@ -1,0 +1,20 @@
+/* Which packets of a way are lost: by words for the link's loss rate, by Gilbert's and Elliott's two states, or by a list. */
+#ifndef LOSSES_H
+#define LOSSES_H
+#include <stdint.h>
+
+/* What a word decides: the first is lost by any loss rate above 0, and the other by none below 1. */
+enum { WORD_OF_A_LOSS = 0, WORD_OF_NONE = 0x7fffffff };
+
+/* Draws from now on as the seed says, each way by itself. */
+void set_seed(int way, uint64_t seed);
+
+/* Chances of 2^31: to turn bad, to turn good, to lose a packet in the good state, to lose one in the bad. */
+void set_gilbert(int way, const uint32_t chances[4]);
+
+/* Adds a packet to those that are lost, by its number on the way from 1; the numbers ascend. */
+void add_to_list(int way, uint64_t number);
+
+/* The random word of the next packet of a way, of 31 bits. */
+uint32_t next_word(int way);
+#endif

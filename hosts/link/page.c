@@ -1,0 +1,22 @@
+#include "page.h"
+
+#include <errno.h>
+#include <string.h>
+#include <sys/mman.h>
+
+#include "basics.h"
+
+struct page *page;
+
+void open_page(int descriptor) {
+    page = mmap(NULL, sizeof *page, PROT_READ | PROT_WRITE, MAP_SHARED, descriptor, 0);
+    if (page == MAP_FAILED) fail("the page of counts", strerror(errno));
+}
+
+void count_time(uint64_t bins[BINS], uint64_t *most, uint64_t ns) {
+    uint64_t us = ns / 1000;
+    if (us > UINT32_MAX) us = UINT32_MAX;
+    unsigned power = us < 16 ? 0 : 59u - (unsigned)__builtin_clzll(us);
+    bins[us < 16 ? us : (power << 4) + 16 + (us >> power & 15)]++;
+    if (ns > *most) *most = ns;
+}

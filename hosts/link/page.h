@@ -1,0 +1,36 @@
+/* The page of counts: memory that `hinge run` shares, and reads while the link runs and after it. hinge/run/page.py has the same order. */
+#ifndef PAGE_H
+#define PAGE_H
+#include <stdint.h>
+
+enum {
+    BINS = 480, /* of times in us: 16 for each power of two */
+};
+
+enum state { STARTING, RUNNING, ENDED_WELL };
+enum realtime { NOT_ASKED, HAS_IT, NOT_ALLOWED };
+
+/* One direction: way 0 is up, from the client to the server, and way 1 is down. */
+struct way {
+    uint64_t came, came_bytes, sent, sent_bytes;
+    uint64_t lost, full, no_target; /* by the link */
+    uint64_t refused;               /* by the system, behind the link */
+    uint64_t not_ip, turned_away;   /* of more clients than there can be */
+    uint64_t dropped;               /* by the system, before the link, as far as this program can see */
+    uint64_t held, discarded;       /* packets in the link; those that a delete took out of it */
+    uint64_t late_most, unread_most;
+    uint64_t late[BINS], unread[BINS];
+};
+
+struct page {
+    uint64_t state, moment, wakes, turns, underway, realtime, parts; /* parts: files of the transcript */
+    struct way ways[2];
+};
+
+extern struct page *page;
+
+void open_page(int descriptor);
+
+/* Counts a time in its bin. */
+void count_time(uint64_t bins[BINS], uint64_t *most, uint64_t ns);
+#endif

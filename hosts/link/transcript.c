@@ -1,0 +1,144 @@
+#define _GNU_SOURCE
+#include "transcript.h"
+
+#include <errno.h>
+#include <fcntl.h>
+#include <inttypes.h>
+#include <signal.h>
+#include <stdio.h>
+#include <stdlib.h>
+#include <string.h>
+#include <sys/wait.h>
+#include <unistd.h>
+
+#include "basics.h"
+#include "page.h"
+
+/* The record with which a transcript begins: the form and its version, of links whose packets keep their order. */
+#define FIRST_RECORD "dummynet-history,3\n"
+
+enum { BUFFER = 1 << 16 };
+
+static FILE *file; /* the pipe to the process that writes the present part */
+static pid_t writer;
+static const char *name;
+static uint64_t longest, entries, submits, bytes; /* the last three of the present part */
+static bool failed; /* an earlier part couldn't be written */
+
+/* Copies a pipe into a file until the pipe ends: the whole life of the writing process. */
+_Noreturn static void write_file(int from, int to, const char *path) {
+    static char text[BUFFER];
+    for (ssize_t len, done; (len = read(from, text, sizeof text)) > 0;)
+        for (ssize_t at = 0; at < len; at += done)
+            if ((done = write(to, text + at, (size_t)(len - at))) < 0) fail(path, strerror(errno));
+    _exit(0);
+}
+
+/* Begins a part. A process of its own writes it, so that a slow disk keeps no packet waiting. */
+static void begin(const char *path) {
+    int made = open(path, O_WRONLY | O_CREAT | O_TRUNC | O_CLOEXEC, 0666), ends[2];
+    if (made < 0) fail(path, strerror(errno));
+    if (pipe2(ends, O_CLOEXEC) < 0 || (writer = fork()) < 0) fail("the transcript", strerror(errno));
+    if (writer == 0) {
+        close(ends[1]);
+        write_file(ends[0], made, path);
+    }
+    close(ends[0]), close(made);
+    fcntl(ends[1], F_SETPIPE_SZ, (int)MEGABYTE);
+    if (!(file = fdopen(ends[1], "w"))) fail("the transcript", strerror(errno));
+    setvbuf(file, NULL, _IOFBF, BUFFER);
+    fputs(FIRST_RECORD, file);
+    entries = submits = bytes = 0;
+    page->parts++;
+}
+
+void open_transcript(const char *path, uint64_t most) {
+    name = strdup(path), longest = most;
+    begin(path);
+}
+
+bool transcript_is_long(void) { return file && submits && bytes > longest; }
+
+static void end(void) {
+    fprintf(file, "end,%" PRIu64 "\n", entries);
+    if (fclose(file)) failed = true;
+    file = NULL;
+}
+
+void next_part(void) {
+    char path[4096];
+    end();
+    snprintf(path, sizeof path, "%s.%" PRIu64, name, page->parts);
+    begin(path);
+}
+
+bool close_transcript(void) {
+    if (!file) return true;
+    end();
+    for (int status; wait(&status) > 0;) failed |= status != 0;
+    return !failed;
+}
+
+static void put(const char *text) {
+    bytes += strlen(text);
+    fputs_unlocked(text, file);
+}
+
+static void put_number(char before, uint64_t number) {
+    char text[24], *at = text + sizeof text;
+    do *--at = (char)('0' + number % 10);
+    while (number /= 10);
+    *--at = before;
+    size_t len = (size_t)(text + sizeof text - at);
+    bytes += len;
+    fwrite_unlocked(at, 1, len, file);
+}
+
+static void put_address(uint32_t address) {
+    for (int byte = 3; byte >= 0; byte--) put_number(byte == 3 ? ',' : '.', address >> 8 * byte & 255);
+}
+
+void keep_submit(const struct dn_packet *packet, const struct dn_fate *fate) {
+    static const char *const outcomes[] = {"\nr,queued", "\nr,lost", "\nr,full", "\nr,no-target"};
+    if (!file) return;
+    entries++, submits++;
+    put(packet->kind == DN_PIPE ? "c,0,submit,pipe" : "c,0,submit,queue");
+    put_number(',', packet->number), put_address(packet->src), put_address(packet->dst), put_number(',', packet->proto);
+    put_number(',', packet->sport), put_number(',', packet->dport), put_number(',', packet->length);
+    put_number(',', packet->word), put_number(',', packet->moment);
+    put(outcomes[fate->outcome]);
+    put_number(',', fate->at);
+    if (fate->outcome != DN_NO_TARGET) put_number(',', fate->flow);
+    if (fate->outcome == DN_QUEUED) put_number(',', fate->packet);
+    put("\n");
+}
+
+void keep_collect(uint64_t moment, const struct dn_delivery *list, uint64_t count) {
+    if (!file) return;
+    entries++;
+    put("c,0,collect"), put_number(',', moment), put("\nr,delivered"), put_number(',', moment), put_number(',', count), put("\n");
+    for (uint64_t i = 0; i < count; i++) {
+        put("d"), put_number(',', list[i].packet), put_number(',', list[i].flow), put_number(',', list[i].start);
+        put_number(',', list[i].due), put("\n");
+    }
+}
+
+void keep_advance(uint64_t moment, uint64_t at) {
+    if (!file) return;
+    entries++;
+    put("c,0,advance"), put_number(',', moment), put("\nr,advanced"), put_number(',', at), put("\n");
+}
+
+void keep_configure(const char *line, const char *reply) {
+    if (!file) return;
+    entries++;
+    put("c,0,configure,"), put(line), put("\nr,"), put(reply), put("\n");
+}
+
+void remark_address(uint32_t stand_in, const unsigned char address[16]) {
+    char text[8];
+    if (!file) return;
+    put("#,address"), put_address(stand_in), put(",");
+    for (int i = 0; i < 16; i++) snprintf(text, sizeof text, i % 2 || !i ? "%02x" : ":%02x", address[i]), put(text);
+    put("\n");
+}

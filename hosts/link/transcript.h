@@ -1,0 +1,27 @@
+/* The transcript: a file of the calls that the link gets and of its replies, for `dummynet audit`. Each function does nothing where
+   no transcript is open. */
+#ifndef TRANSCRIPT_H
+#define TRANSCRIPT_H
+#include <hingetulip.h>
+#include <stdbool.h>
+
+/* Opens a transcript of that name, whose parts are not much longer than `most` bytes where the link is ever idle. */
+void open_transcript(const char *path, uint64_t most);
+
+/* Whether the present part is longer than a part should be, and has a packet. */
+bool transcript_is_long(void);
+
+/* Ends the present part and begins the next one, in a file with a number behind the name. */
+void next_part(void);
+
+/* Ends the transcript; false where it couldn't be written, which was told. */
+bool close_transcript(void);
+
+void keep_submit(const struct dn_packet *packet, const struct dn_fate *fate);
+void keep_collect(uint64_t moment, const struct dn_delivery *list, uint64_t count);
+void keep_advance(uint64_t moment, uint64_t at);
+void keep_configure(const char *line, const char *reply);
+
+/* A remark: which IPv6 address one of IPv4 stands for. */
+void remark_address(uint32_t stand_in, const unsigned char address[16]);
+#endif

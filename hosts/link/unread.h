@@ -1,0 +1,24 @@
+/* How long a packet can have lain before it was read: since the last moment at which its interface is known to have been empty, or at
+   which the packet that was QUEUE before it was taken, since the system keeps no more for this program. */
+#ifndef UNREAD_H
+#define UNREAD_H
+#include <stdbool.h>
+#include <stdint.h>
+
+enum { QUEUE = 10000 }; /* packets that the system keeps, as rooms.py asks for */
+
+void begin_unread(void);
+
+/* A packet of a way was taken at a moment. */
+void note_taken(int way, uint64_t moment);
+
+/* The interface of a way had nothing more at a moment. */
+void note_empty(int way, uint64_t moment);
+
+/* This program takes from the interface of a way, and may leave something there. */
+void note_unemptied(int way);
+
+/* A wait has ended at a moment: what each interface had then. `slept` where it was a wait at all: what woke it then came when this
+   program was put into the queue for a processor, and not before. */
+void note_wait(uint64_t moment, bool slept, const bool ready[2]);
+#endif

@@ -1,0 +1,95 @@
+"""Interfaces of the present network namespace: what ip(8) would do with them, by rtnetlink(7), and what they count."""
+
+from __future__ import annotations
+
+import errno
+import fcntl
+import os
+import socket
+import struct
+
+from hinge.run.system import Missing, try_to_write
+
+NAME = "link"  # of the tun interface in each namespace
+QUEUE = 10000  # packets that wait for the host; unread.h has the same
+SETLINK, NEWADDR, NEWROUTE = 16, 20, 24  # RTM_NEWLINK, RTM_NEWADDR, RTM_NEWROUTE
+REQUEST = 0x405  # NLM_F_REQUEST, ACK and CREATE
+MTU, QUEUE_LENGTH = 4, 13  # IFLA_MTU, IFLA_TXQLEN
+UP, MULTICAST = 1, 0x1000  # IFF_UP, IFF_MULTICAST
+NODAD = 2  # IFA_F_NODAD
+LOCAL, ADDRESS = 1, 2  # IFA_ADDRESS, IFA_LOCAL
+MAIN_TABLE, BY_BOOT, UNICAST, GATEWAY = 254, 3, 1, 5  # RT_TABLE_MAIN, RTPROT_BOOT, RTN_UNICAST, RTA_GATEWAY
+TUNSETIFF, TUN_WITHOUT_HEADER = 0x400454CA, 0x1001  # IFF_TUN | IFF_NO_PI
+DROPPED_OUT = 11  # the column of /proc/net/dev
+LISTENS = (("tcp", "0A"), ("tcp6", "0A"), ("udp", "07"), ("udp6", "07"))  # in /proc/net, and the state there
+QUIET = (("accept_dad", "0"), ("accept_ra", "0"), ("router_solicitations", "0"), ("addr_gen_mode", "1"))  # of IPv6
+TUN_ADVICE = {errno.ENOENT: "in a container give it --device /dev/net/tun; elsewhere sudo modprobe tun",
+              errno.EACCES: "let users open it, as most systems do: sudo chmod 666 /dev/net/tun"}
+
+
+def ask(kind: int, body: bytes, attributes: list[tuple[int, bytes]]) -> None:
+    """Asks the kernel for a change. An ioctl would take root for some."""
+    for number, data in attributes:
+        body += struct.pack("HH", 4 + len(data), number) + data + bytes(-len(data) % 4)
+    with socket.socket(socket.AF_NETLINK, socket.SOCK_RAW, 0) as asked:
+        asked.send(struct.pack("IHHII", 16 + len(body), kind, REQUEST, 1, 0) + body)
+        error = -struct.unpack_from("i", asked.recv(4096), 16)[0]
+    if error:
+        raise OSError(error, os.strerror(error))
+
+
+def set_up(name: str, change: int = UP, attributes: tuple[tuple[int, int], ...] = ()) -> None:
+    ask(SETLINK, struct.pack("BxHiII", 0, 0, socket.if_nametoindex(name), UP, change), [(key, struct.pack("I", value)) for key, value in attributes])
+
+
+def add_address(name: str, text: str, bits: int) -> None:
+    family = socket.AF_INET6 if ":" in text else socket.AF_INET
+    data = socket.inet_pton(family, text)
+    ask(NEWADDR, struct.pack("BBBBi", family, bits, NODAD, 0, socket.if_nametoindex(name)), [(LOCAL, data), (ADDRESS, data)])
+
+
+def add_route(gateway: str) -> None:
+    """The way to all other networks of IPv4."""
+    ask(NEWROUTE, struct.pack("BBBBBBBBI", socket.AF_INET, 0, 0, 0, MAIN_TABLE, BY_BOOT, 0, UNICAST, 0), [(GATEWAY, socket.inet_aton(gateway))])
+
+
+def add_tun(address: str, address6: str, mtu: int) -> int:
+    """Makes the interface of this namespace, and returns its descriptor. It has no multicast, so the kernel says nothing by itself on it,
+    and packet 1 is the command's."""
+    try:
+        made = os.open("/dev/net/tun", os.O_RDWR | os.O_CLOEXEC)
+    except OSError as error:
+        advice = TUN_ADVICE.get(error.errno or 0, "the container or the system keeps this user from it")
+        raise Missing(f"/dev/net/tun: {error.strerror}: {advice}") from None
+    fcntl.ioctl(made, TUNSETIFF, struct.pack("16sH22x", NAME.encode(), TUN_WITHOUT_HEADER))
+    for name, value in QUIET:
+        try_to_write(f"/proc/sys/net/ipv6/conf/{NAME}/{name}", value)
+    set_up(NAME, UP | MULTICAST, ((MTU, mtu), (QUEUE_LENGTH, QUEUE)))
+    add_address(NAME, address, 24)
+    try:
+        add_address(NAME, address6, 64)
+    except OSError:
+        pass  # a system without IPv6
+    return made
+
+
+def dropped() -> int:
+    """Packets that the system dropped on the way into the host, since its queue was full."""
+    with open("/proc/thread-self/net/dev") as file:
+        for line in file:
+            name, _, counts = line.partition(":")
+            if name.strip() == NAME:
+                return int(counts.split()[DROPPED_OUT])
+    return 0
+
+
+def something_listens() -> bool:
+    """Whether a socket in this namespace waits for a connection or a datagram."""
+    for name, state in LISTENS:
+        try:
+            with open("/proc/thread-self/net/" + name) as file:
+                if any(line.split()[3] == state for line in list(file)[1:]):
+                    return True
+        except OSError:
+            pass
+    return False

@@ -1,0 +1,45 @@
+"""Which packets are lost, where the loss rate of the link doesn't decide: by Gilbert's and Elliott's two states, or by a list."""
+
+from __future__ import annotations
+
+from hinge.run.words import WAYS, Wrong
+
+CHANCE = 2**31  # of a chance of 1
+MOST_LISTED = 10**6
+
+
+def gilbert(text: str) -> str:
+    """`P,R[,B[,G]]`: the chances to turn bad, to turn good, and to lose a packet in the bad state and in the good one."""
+    given = [float(word) for word in text.split(",")]
+    if not 2 <= len(given) <= 4 or not all(0 <= chance <= 1 for chance in given):
+        raise ValueError
+    to_bad, to_good, in_bad, in_good = [*given, *[1.0, 0.0][len(given) - 2:]]
+    return " ".join(str(round(chance * CHANCE)) for chance in (to_bad, to_good, in_good, in_bad))
+
+
+def listed(text: str) -> str:
+    """`3,10-20`: the numbers of packets, from 1."""
+    numbers: set[int] = set()
+    for part in text.split(","):
+        low, _, high = part.partition("-")
+        span = range(int(low), int(high or low) + 1)
+        if not 1 <= int(low) <= int(high or low) or len(span) > MOST_LISTED:
+            raise ValueError
+        numbers |= set(span)
+    return " ".join(map(str, sorted(numbers)))
+
+
+MODELS = {"gilbert": gilbert, "list": listed}
+
+
+def loss_lines(text: str) -> dict[int, str]:
+    """The line of a plan for each way that a model is for: `[up:|down:]gilbert:P,R[,B[,G]]` or `[up:|down:]list:N,N-M`."""
+    first, _, more = text.partition(":")
+    ways, model = ([WAYS[first]], more) if first in WAYS else ([0, 1], text)
+    kind, _, value = model.partition(":")
+    try:
+        if kind not in MODELS:
+            raise ValueError
+        return {way: f"{kind} {way} {MODELS[kind](value)}" for way in ways}
+    except ValueError:
+        raise Wrong(f"--loss {text}: none of gilbert:P,R[,B[,G]] and list:N,N-M") from None

@@ -1,0 +1,94 @@
+"""The options that `hinge run` and `hinge udp` share, and the plan that they make."""
+
+from __future__ import annotations
+
+import argparse
+import random
+from typing import Iterable, Optional
+
+from hinge.run.plan import MOST, Plan
+from hinge.run.transcripts import refuse_own_input
+from hinge.run.words import Target, duration, link_line, read_lines
+
+BIN_LEAST = 10**6  # ns
+MTU_LEAST, MTU_MOST = 576, 65535
+
+
+def mtu(text: str) -> int:
+    if not (text.isascii() and text.isdecimal() and MTU_LEAST <= int(text) <= MTU_MOST):
+        raise argparse.ArgumentTypeError(f"{text!r} is no number from {MTU_LEAST} to {MTU_MOST}")
+    return int(text)
+
+
+def seed(text: str) -> int:
+    if not (text.isascii() and text.isdecimal() and int(text) < 2**62):
+        raise argparse.ArgumentTypeError(f"{text!r} is no number below 2^62")
+    return int(text)
+
+
+def add_link(parser: argparse.ArgumentParser) -> None:
+    link = parser.add_argument_group("the link")
+    link.add_argument("--up", metavar="LINK", help="towards the server, as '2Mbit/s 20ms queue 100 loss 1%%': pipe 1")
+    link.add_argument("--down", metavar="LINK", help="from the server: pipe 2")
+    link.add_argument("--config", metavar="FILE", help="configuration lines, of any pipes and queues (docs/CONFIG.md)")
+    link.add_argument("--line", metavar="LINE", action="append", default=[], help="one more configuration line; may be repeated")
+    link.add_argument("--map", metavar="RULE", action="append", default=[],
+                      help="'[up|down] [tcp|udp|icmp|icmp6|proto N] [src|dst NET] [port|src-port|dst-port N[-M]] [dscp N] => queue N' or '=> pipe N': "
+                           "where a packet goes, by the first rule that fits; else pipe 1 up, pipe 2 down")
+    changes = parser.add_argument_group("changes")
+    changes.add_argument("--timeline", metavar="FILE", help="lines as '5s pipe 1 config bw 1Mbit/s' and '8s [up|down] outage 600ms [lossy]'")
+    changes.add_argument("--up-trace", metavar="FILE", help="bandwidth by time: seconds,bit/s or mahimahi's milliseconds")
+    changes.add_argument("--down-trace", metavar="FILE")
+    changes.add_argument("--bin", metavar="TIME", default="100ms", help="over which mahimahi's milliseconds are counted (100ms)")
+    changes.add_argument("--trace-for", metavar="TIME", default="1h", help="how long mahimahi's traces are begun anew (1h)")
+    changes.add_argument("--loss", metavar="MODEL", action="append", default=[],
+                         help="[up:|down:]gilbert:P,R[,B[,G]] (to bad, to good, lost in bad 1, in good 0) or list:3,10-20 (packets, from 1)")
+    changes.add_argument("--seed", metavar="N", type=seed, help="of what is drawn, for each direction by itself (drawn, and told)")
+
+
+def add_run(group: argparse._ArgumentGroup) -> None:
+    group.add_argument("--transcript", metavar="FILE", help="the link's history, for `dummynet audit`; FILE.1 and so on where it is long")
+    group.add_argument("--most", metavar="BYTES", type=seed, default=MOST, help=argparse.SUPPRESS)
+    group.add_argument("--late", metavar="TIME", help="status 75 where more than 1 of 100 packets was late or unread by more, or the system dropped any")
+    group.add_argument("--json", metavar="FILE", help="the summary for a program")
+    group.add_argument("--watch", action="store_true", help="rates, queues and losses each second, on standard error")
+    group.add_argument("--quiet", action="store_true", help="no summary")
+    group.add_argument("--realtime", action="store_true", help="the link before all other programs, where the system allows")
+
+
+def inputs(asked: argparse.Namespace) -> Iterable[Optional[str]]:
+    return asked.config, asked.timeline, asked.up_trace, asked.down_trace
+
+
+def plan_of(asked: argparse.Namespace, longest: int) -> Plan:
+    """What the link shall do, for packets of at most so many bytes."""
+    refuse_own_input(asked.transcript, inputs(asked))
+    refuse_own_input(asked.json, [*inputs(asked), asked.transcript])
+    plan = Plan(longest)
+    for line in [*(read_lines(asked.config) if asked.config else []), *(part for text in asked.line for part in text.splitlines())]:
+        plan.link(line)
+    for number, text in ((1, asked.up), (2, asked.down)):
+        if text is not None:
+            plan.link(link_line(number, text))
+        elif Target("pipe", number) not in plan.current:
+            plan.link(f"pipe {number} config")  # a direction of which nothing is said is open
+    for rule in asked.map:
+        plan.rule(rule)
+    for model in asked.loss:
+        plan.loss(model)
+    if asked.timeline:
+        plan.timeline(asked.timeline)
+    for way, path in enumerate((asked.up_trace, asked.down_trace)):
+        if path:
+            plan.trace(way, path, max(BIN_LEAST, duration(asked.bin)), duration(asked.trace_for))
+    return plan
+
+
+def drawn_seed(asked: argparse.Namespace) -> int:
+    return random.SystemRandom().getrandbits(32) if asked.seed is None else asked.seed
+
+
+def draws(plan: Plan) -> bool:
+    """Whether the seed decides anything."""
+    lines = [*plan.configured, *(change.line for change in plan.changes.all())]
+    return bool(plan.decided) or any("plr" in line.split() for line in lines)

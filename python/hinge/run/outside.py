@@ -1,0 +1,77 @@
+"""The rest of the network behind the link, by pasta or slirp4netns: it stays in the system's network and joins the server's room to it."""
+
+from __future__ import annotations
+
+import os
+import shutil
+import socket
+import time
+
+from hinge.run.rooms import Rooms
+from hinge.run.system import Missing, die_with_parent, enter, write
+
+NET, OWN, GATEWAY, RESOLVER = "10.9.0.0/24", "10.9.0.100", "10.9.0.2", "10.9.0.3"  # slirp4netns takes these of a network by itself
+INTERFACE = "outside"
+PATIENCE = 5  # s
+
+
+def words_for(process: str, own_users: bool) -> list[str]:
+    """The command that joins the network of a process to this one's: slirp4netns where it is there, else pasta."""
+    network, users = f"/proc/{process}/ns/net", f"/proc/{process}/ns/user"
+    if shutil.which("slirp4netns"):
+        return ["slirp4netns", "--configure", "--mtu=1500", f"--cidr={NET}", "--netns-type=path", *[f"--userns-path={users}"] * own_users, network, INTERFACE]
+    return ["pasta", "--foreground", "--quiet", "--config-net", "--ns-ifname", INTERFACE, "--ipv4-only", "--mtu", "1500", "--address", OWN, "--netmask", "24",
+            "--gateway", GATEWAY, "--dns-forward", RESOLVER, "-t", "none", "-u", "none", "-T", "none", "-U", "none",
+            *(["--userns", users] if own_users else ["--runas", "0"]), "--netns", network]
+
+
+class Outside:
+    """Made before this process leaves the system's network; waits until it is told whose room to join."""
+
+    def __init__(self) -> None:
+        if not shutil.which("slirp4netns") and not shutil.which("pasta"):
+            raise Missing("--outside: there is neither slirp4netns nor pasta: sudo apt install slirp4netns")
+        read_end, self.write_end = os.pipe()
+        if os.fork() == 0:
+            die_with_parent()
+            os.close(self.write_end)
+            self.join_what_is_told(read_end)
+        os.close(read_end)
+
+    def join_what_is_told(self, read_end: int) -> None:
+        """`PROCESS OWN!`: that of the first process of the rooms, once it is in the server's."""
+        told = b""
+        while not told.endswith(b"!"):
+            more = os.read(read_end, 100)
+            if not more:
+                os._exit(0)
+            told += more
+        process, own_users = told[:-1].decode().split()
+        words = words_for(process, own_users == "True")
+        os.dup2(os.open(os.devnull, os.O_WRONLY), 1)
+        os.execvp(words[0], words)
+
+    def tell(self, first: int, own_users: bool) -> None:
+        os.write(self.write_end, f"{first} {own_users}".encode())
+
+    def joined(self) -> bool:
+        """Whether the present room has a way out."""
+        try:
+            socket.if_nametoindex(INTERFACE)
+            with open("/proc/thread-self/net/route") as file:
+                return any(line.split()[:2] == [INTERFACE, "00000000"] for line in file)
+        except OSError:
+            return False
+
+    def join(self, rooms: Rooms) -> None:
+        """In the first process: waits for the interface and lets the server's room hand packets on."""
+        enter(rooms.server)
+        os.write(self.write_end, b"!")
+        until = time.monotonic() + PATIENCE
+        while not self.joined():
+            if time.monotonic() > until:
+                raise Missing("--outside: the server's room gets no way out; what was said of it stands above")
+            time.sleep(0.01)
+        write("/proc/sys/net/ipv4/ip_forward", "1")
+        write(f"/proc/sys/net/ipv4/conf/{INTERFACE}/proxy_arp", "1")
+        rooms.lead_out(RESOLVER)

@@ -1,0 +1,73 @@
+"""The page of counts that the host writes while it runs: memory that both share, so that reading it costs the host nothing."""
+
+from __future__ import annotations
+
+import mmap
+import os
+import struct
+
+BINS = 480  # of times in us: 16 for each power of two; page.h has the same
+HEAD = ("state", "moment", "wakes", "turns", "underway", "realtime", "parts")
+COUNTS = ("came", "came_bytes", "sent", "sent_bytes", "lost", "full", "no_target", "refused", "not_ip", "turned_away", "dropped", "held", "discarded",
+          "late_most", "unread_most")
+WAY = len(COUNTS) + 2 * BINS
+SIZE = 8 * (len(HEAD) + 2 * WAY)
+STARTING, RUNNING, ENDED_WELL = range(3)  # the states
+NOT_ALLOWED = 2  # of `realtime`
+
+
+class Times:
+    """How many packets had which time, and the longest."""
+
+    def __init__(self, bins: tuple[int, ...], most: int) -> None:
+        self.bins, self.most = bins, most
+
+    def within(self, share: float) -> float:
+        """The ms within which that share of the packets came: the upper end of its bin, and at most what was seen."""
+        total, below = sum(self.bins), 0
+        for index, count in enumerate(self.bins):
+            below += count
+            if total and below >= share * total:
+                power, us = (0, index) if index < 32 else ((index - 16) // 16, 16 + index % 16)
+                return min(((us + 1) << power) / 1e3, self.most / 1e6)
+        return 0.0
+
+
+class Way:
+    """The counts of a direction."""
+
+    def __init__(self, numbers: tuple[int, ...]) -> None:
+        self.counts = dict(zip(COUNTS, numbers))
+        bins = numbers[len(COUNTS):]
+        self.late, self.unread = Times(bins[:BINS], self.counts["late_most"]), Times(bins[BINS:], self.counts["unread_most"])
+
+    def __getitem__(self, name: str) -> int:
+        return self.counts[name]
+
+    @property
+    def underway(self) -> int:
+        return self["came"] - sum(self[name] for name in ("sent", "refused", "lost", "full", "no_target", "discarded"))
+
+
+class Counts:
+    """What the page told at a moment."""
+
+    def __init__(self, numbers: tuple[int, ...]) -> None:
+        self.head = dict(zip(HEAD, numbers))
+        self.ways = [Way(numbers[len(HEAD) + WAY * i:len(HEAD) + WAY * (i + 1)]) for i in (0, 1)]
+
+    def __getitem__(self, name: str) -> int:
+        return self.head[name]
+
+
+class Page:
+    def __init__(self) -> None:
+        self.descriptor = os.memfd_create("hinge-run")
+        os.ftruncate(self.descriptor, SIZE)
+        self.memory = mmap.mmap(self.descriptor, SIZE)
+
+    def read(self) -> Counts:
+        return Counts(struct.unpack(f"{SIZE // 8}Q", self.memory[:SIZE]))
+
+    def state(self) -> int:
+        return int(struct.unpack_from("Q", self.memory)[0])

@@ -1,0 +1,74 @@
+"""The calls of Linux that Python's standard library lacks before 3.12: namespaces, mounts, and the rights that a command keeps."""
+
+from __future__ import annotations
+
+import ctypes
+import os
+import platform
+import struct
+
+NEWNS, NEWUSER, NEWPID, NEWNET = 0x00020000, 0x10000000, 0x20000000, 0x40000000  # of unshare(2)
+BIND, REC, PRIVATE = 0x1000, 0x4000, 0x40000  # of mount(2)
+SET_PDEATHSIG, AMBIENT, AMBIENT_RAISE = 1, 47, 2  # of prctl(2)
+KILL = 9
+NET_ADMIN, NET_RAW = 12, 13  # of capabilities(7)
+CAPABILITY_VERSION = 0x20080522
+CAPSET = {"x86_64": 126}.get(platform.machine(), 91)  # 91 on aarch64 and riscv64
+libc = ctypes.CDLL(None, use_errno=True)
+
+
+class Missing(Exception):
+    """Something that the system doesn't have or doesn't allow, told with what to do about it."""
+
+
+def must(result: int) -> None:
+    if result < 0:
+        number = ctypes.get_errno()
+        raise OSError(number, os.strerror(number))
+
+
+def unshare(flags: int) -> None:
+    must(libc.unshare(flags))
+
+
+def enter(network: int) -> None:
+    """Enters the network namespace of a descriptor."""
+    must(libc.setns(network, NEWNET))
+
+
+def mount(source: str, target: str, kind: str, flags: int) -> None:
+    must(libc.mount(source.encode(), target.encode(), kind.encode(), ctypes.c_ulong(flags), None))
+
+
+def die_with_parent() -> None:
+    libc.prctl(SET_PDEATHSIG, KILL)
+
+
+def keep_network_rights() -> None:
+    """Lets what this process executes use raw sockets and the interfaces of its namespace, though it isn't root."""
+    kept = 1 << NET_ADMIN | 1 << NET_RAW
+    libc.syscall(CAPSET, struct.pack("Ii", CAPABILITY_VERSION, 0), struct.pack("6I", kept, kept, kept, 0, 0, 0))
+    for capability in (NET_ADMIN, NET_RAW):
+        libc.prctl(AMBIENT, AMBIENT_RAISE, capability, 0, 0)
+
+
+def write(path: str, text: str) -> None:
+    with open(path, "w") as file:
+        file.write(text)
+
+
+def try_to_write(path: str, text: str) -> None:
+    """Where the system has no such setting, or keeps it, it stays as it is."""
+    try:
+        write(path, text)
+    except OSError:
+        pass
+
+
+def setting(name: str) -> str:
+    """A setting of the kernel, or nothing where it has none of that name."""
+    try:
+        with open("/proc/sys/" + name) as file:
+            return file.read().strip()
+    except OSError:
+        return ""

@@ -1,0 +1,110 @@
+"""Recorded bandwidth: files of `seconds,bit/s`, or of mahimahi's milliseconds, each of which lets 1,500 bytes leave."""
+
+from __future__ import annotations
+
+import math
+from typing import Iterator, NamedTuple, Optional
+
+from hinge.run.words import LAST_MOMENT, SECOND, Wrong, bare, read_lines
+
+MAHIMAHI_BYTES = 1500
+MOST = 10**12  # bit/s of a pipe
+MS = 10**6  # ns
+
+
+class Rate(NamedTuple):
+    moment: int  # ns from the trace's beginning
+    rate: int  # bit/s
+
+
+class Trace(NamedTuple):
+    rates: list[Rate]
+    period: Optional[int]  # ns after which it begins anew; None where its last rate stays
+
+
+def outage_rate(length: int, longest: int) -> int:
+    """The rate at which the longest packet takes an outage's length, in ns: a packet keeps the rate at which it began, so with a lower
+    one the first packet of the outage would go on behind its end."""
+    return max(1, longest * 8 * SECOND // max(1, length))
+
+
+def number(text: str) -> Optional[float]:
+    try:
+        return float(text)
+    except ValueError:
+        return None
+
+
+def rows_of(path: str) -> Iterator[tuple[int, list[str]]]:
+    """The numbers of the lines that say something, and their fields, without a header."""
+    first = True
+    for at, line in enumerate(read_lines(path), 1):
+        fields = [field.strip() for field in bare(line).split(",")]
+        if fields == [""]:
+            continue
+        if not first or any(number(field) is not None for field in fields):
+            yield at, fields
+        first = False
+
+
+def rate_of(fields: list[str]) -> Rate:
+    seconds, rate = (float(field) for field in fields)
+    if not (math.isfinite(seconds) and 0 <= seconds * SECOND <= LAST_MOMENT and 0 <= rate <= MOST):
+        raise ValueError
+    return Rate(round(seconds * SECOND), round(rate))
+
+
+def read_rates(path: str, rows: list[tuple[int, list[str]]], longest: int) -> list[Rate]:
+    found: list[Rate] = []
+    for at, fields in rows:
+        try:
+            found.append(rate_of(fields))
+        except ValueError:
+            raise Wrong(f"{path} line {at}: not of the form seconds,bit/s, from 0 to 10^12") from None
+        if len(found) > 1 and found[-1].moment < found[-2].moment:
+            raise Wrong(f"{path} line {at}: earlier than the line before it")
+    ends = [*(rate.moment for rate in found[1:]), LAST_MOMENT]
+    return [rate if rate.rate else Rate(rate.moment, outage_rate(end - rate.moment, longest)) for rate, end in zip(found, ends)]
+
+
+def read_moments(path: str, rows: list[tuple[int, list[str]]]) -> list[int]:
+    """mahimahi's moments, in ns."""
+    found: list[int] = []
+    for at, [text] in rows:
+        if not (text.isascii() and text.isdecimal() and int(text) * MS <= LAST_MOMENT):
+            raise Wrong(f"{path} line {at}: not a number of milliseconds")
+        found.append(int(text) * MS)
+        if len(found) > 1 and found[-1] < found[-2]:
+            raise Wrong(f"{path} line {at}: earlier than the line before it")
+    return found
+
+
+def counted(moments: list[int], period: int, bin_ns: int, longest: int) -> list[Rate]:
+    """The rate of each bin of moments, those of equal bins as one."""
+    counts = [0] * -(-period // bin_ns)
+    for moment in moments:
+        counts[min(moment // bin_ns, len(counts) - 1)] += 1
+    found, at = [], 0
+    while at < len(counts):
+        end = at + 1
+        while end < len(counts) and counts[end] == counts[at]:
+            end += 1
+        length = (end - at) * bin_ns
+        rate = counts[at] * MAHIMAHI_BYTES * 8 * SECOND // bin_ns if counts[at] else outage_rate(length, longest)
+        found.append(Rate(at * bin_ns, rate))
+        at = end
+    return found
+
+
+def read_trace(path: str, bin_ns: int, longest: int = MAHIMAHI_BYTES) -> Trace:
+    """The trace of a file. A rate of 0 becomes that at which the longest packet takes as long as the 0 lasts."""
+    rows = list(rows_of(path))
+    if not rows:
+        raise Wrong(f"{path}: it has no moments")
+    if len(rows[0][1]) > 1:
+        return Trace(read_rates(path, rows, longest), None)
+    if any(len(fields) > 1 for _, fields in rows):
+        raise Wrong(f"{path}: lines of seconds,bit/s and of milliseconds")
+    moments = read_moments(path, rows)
+    period = max(moments[-1], MS)
+    return Trace(counted(moments, period, bin_ns, longest), period)

@@ -1,0 +1,139 @@
+"""What the tests share: the host between two sockets, which takes no privilege; packets; and `hinge` itself."""
+
+from __future__ import annotations
+
+import os
+import re
+import shutil
+import signal
+import socket
+import struct
+import subprocess
+import sys
+import tempfile
+import time
+import unittest
+from functools import lru_cache
+from pathlib import Path
+from typing import Callable, Optional, Union
+
+from hinge.program import dummynet
+from hinge.run.host import program
+from hinge.run.page import STARTING, Counts, Page
+from hinge.run.system import Missing
+
+HINGE = [sys.executable, "-m", "hinge"]
+SEEDS = "seed 0 1\nseed 1 1\n"
+Done = subprocess.CompletedProcess
+Word = Union[str, Path]
+
+
+@lru_cache(maxsize=None)
+def no_host() -> str:
+    try:
+        program()
+        return ""
+    except Missing as missing:
+        return str(missing)
+
+
+needs_host = unittest.skipIf(bool(no_host()), no_host())
+
+
+def hinge(command: str, *words: Word, seconds: float = 60, folder: Optional[Word] = None) -> Done[str]:
+    return subprocess.run([*HINGE, command, *map(str, words)], capture_output=True, text=True, timeout=seconds, stdin=subprocess.DEVNULL, cwd=folder)
+
+
+def run(*words: Word, seconds: float = 60) -> Done[str]:
+    """`hinge run`."""
+    return hinge("run", *words, seconds=seconds)
+
+
+@lru_cache(maxsize=None)
+def no_rooms() -> str:
+    """Why this machine or this user can't have namespaces, or nothing."""
+    if no_host():
+        return no_host()
+    tried = run("--quiet", "--", "true")
+    return "" if tried.returncode == 0 else tried.stderr.strip() or f"status {tried.returncode}"
+
+
+needs_rooms = unittest.skipIf(bool(no_rooms()), no_rooms())
+only_long = unittest.skipUnless(os.environ.get("HINGE_LONG"), "takes long: --long")
+
+
+def needs(*programs: str) -> Callable[[type], type]:
+    """Skips a test where a program isn't there."""
+    lacking = [name for name in programs if shutil.which(name) is None]
+    return unittest.skipIf(bool(lacking), f"there is no {', '.join(lacking)}")
+
+
+def audited(path: Word) -> str:
+    return subprocess.run([dummynet(), "audit", str(path)], capture_output=True, text=True).stdout.strip()
+
+
+def ip4(src: str, dst: str, proto: int, sport: int, dport: int, length: int, tos: int = 0, fragment: int = 0) -> bytes:
+    head = struct.pack("!BBHHHBBH4s4s", 0x45, tos, length, 0, fragment, 64, proto, 0, socket.inet_aton(src), socket.inet_aton(dst))
+    return (head + struct.pack("!HH", sport, dport)).ljust(length, b"\0")
+
+
+def ip6(src: str, dst: str, proto: int, body: bytes) -> bytes:
+    ends = socket.inet_pton(socket.AF_INET6, src) + socket.inet_pton(socket.AF_INET6, dst)
+    return struct.pack("!IHBB", 0x6 << 28, len(body), proto, 64) + ends + body
+
+
+def until(holds: Callable[[], object], seconds: float = 5) -> None:
+    end = time.monotonic() + seconds
+    while not holds():
+        if time.monotonic() > end:
+            raise AssertionError(f"not so after {seconds} s")
+        time.sleep(0.005)
+
+
+class Ended:
+    """How a link ended: its status, what it counted, its transcript, and what it said."""
+
+    def __init__(self, status: int, counts: Counts, history: str, said: str) -> None:
+        self.status, self.counts, self.history, self.said = status, counts, history, said
+
+
+class Linked:
+    """The host between two sockets, which runs until `end`."""
+
+    def __init__(self, plan: str, most: int = 10**9) -> None:
+        self.folder = tempfile.TemporaryDirectory()
+        self.transcript = f"{self.folder.name}/session.history"
+        self.near, near = socket.socketpair(socket.AF_UNIX, socket.SOCK_SEQPACKET)
+        self.far, far = socket.socketpair(socket.AF_UNIX, socket.SOCK_SEQPACKET)
+        self.page = Page()
+        passed = [near.fileno(), far.fileno(), self.page.descriptor]
+        self.process = subprocess.Popen([program(), *map(str, passed)], pass_fds=passed, stdin=subprocess.PIPE, stderr=subprocess.PIPE)
+        assert self.process.stdin
+        self.process.stdin.write(f"transcript {most} {self.transcript}\n{plan}".encode())
+        self.process.stdin.close()
+        near.close(), far.close()
+        until(lambda: self.page.state() != STARTING or self.process.poll() is not None)
+        self.near.settimeout(3)
+        self.far.settimeout(3)
+
+    def came(self) -> int:
+        return self.page.read().ways[0]["came"]
+
+    def ended(self) -> Ended:
+        """Waits for an end that comes by itself."""
+        status = self.process.wait(5)
+        assert self.process.stderr
+        with self.process.stderr as said, open(self.transcript) as history:
+            return Ended(status, self.page.read(), history.read(), said.read().decode())
+
+    def end(self) -> Ended:
+        self.process.send_signal(signal.SIGTERM)
+        return self.ended()
+
+
+def audited_as_lawful(case: unittest.TestCase, path: Word) -> None:
+    case.assertRegex(audited(path), r"^lawful \d+$")
+
+
+def found(pattern: str, text: str) -> list[str]:
+    return re.findall(pattern, text, re.M)

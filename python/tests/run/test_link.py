@@ -1,0 +1,214 @@
+"""The host between two sockets: packets, the map, losses, changes, outages and its end."""
+
+from __future__ import annotations
+
+import os
+import select
+import struct
+import subprocess
+import sys
+import tempfile
+import time
+import unittest
+
+from linked import SEEDS, Ended, Linked, audited, audited_as_lawful, found, ip4, ip6, needs_host, until
+from hinge.run.page import ENDED_WELL
+from hinge.run.plan import Plan
+
+CLIENT, SERVER = "10.8.0.1", "10.8.0.2"
+FLOOD = "import socket,sys\ns=socket.socket(fileno=int(sys.argv[1]))\ns.setblocking(True)\nwhile 1: s.send(bytes([0x45]) + bytes(39))"
+DRAIN = "import socket,sys\ns=socket.socket(fileno=int(sys.argv[1]))\ns.setblocking(True)\nwhile s.recv(99): pass"
+
+
+def udp(number: int, length: int = 40) -> bytes:
+    return ip4(CLIENT, SERVER, 17, 1, number, length)
+
+
+def plan_of(*lines: str) -> Plan:
+    plan = Plan()
+    for line in lines:
+        plan.link(line)
+    return plan
+
+
+@needs_host
+class OfPackets(unittest.TestCase):
+    def run_link(self, plan: str, packets: list[bytes], expected: int) -> tuple[list[bytes], Ended]:
+        """Sends packets up and takes those that come; the transcript is lawful."""
+        link = Linked(SEEDS + plan)
+        for packet in packets:
+            link.near.send(packet)
+        got = [link.far.recv(65535) for _ in range(expected)]
+        until(lambda: link.came() + link.page.read().ways[0]["not_ip"] == len(packets))
+        ended = link.end()
+        self.assertEqual(ended.status, 0)
+        audited_as_lawful(self, link.transcript)
+        return got, ended
+
+    def test_packets_come_whole_in_order_and_not_early(self) -> None:
+        sent = [udp(number, 100 + number) for number in range(50)]
+        begun = time.monotonic()
+        got, ended = self.run_link("line pipe 1 config delay 100\n", sent, 50)
+        self.assertGreaterEqual(time.monotonic() - begun, 0.1)
+        self.assertEqual(got, sent)
+        up = ended.counts.ways[0]
+        self.assertEqual((up["came"], up["sent"], up["came_bytes"], ended.counts["state"]), (50, 50, sum(range(100, 150)), ENDED_WELL))
+        self.assertEqual((sum(up.late.bins), sum(up.unread.bins), up.underway), (50, 50, 0))
+
+    def test_the_way_back(self) -> None:
+        link = Linked(SEEDS + "line pipe 2 config delay 1\n")
+        link.far.send(ip4(SERVER, CLIENT, 6, 80, 9, 40))
+        self.assertEqual(len(link.near.recv(100)), 40)
+        self.assertIn("c,0,submit,pipe,2,10.8.0.2,10.8.0.1,6,80,9,40,", link.end().history)
+
+    def test_ipv6_has_stand_ins_and_ports_behind_headers(self) -> None:
+        ports = struct.pack("!HHHH", 7, 8, 8, 0)
+        options, later = struct.pack("!BB6x", 17, 0) + ports, struct.pack("!BBHI", 17, 0, 8, 0) + ports
+        packets = [ip6("fd08::1", "fd08::2", 17, ports), ip6("fd08::1", "fd08::2", 0, options), ip6("fd08::1", "fd08::3", 44, later), b"\x15odd"]
+        _, ended = self.run_link("line pipe 1 config\n", packets, 3)
+        self.assertEqual(found(r"pipe,1,(.*?,\d+,\d+,\d+,\d+),", ended.history), [
+            "240.0.0.1,240.0.0.2,17,7,8,48", "240.0.0.1,240.0.0.2,17,7,8,56", "240.0.0.1,240.0.0.3,17,0,0,56"])
+        self.assertIn("#,address,240.0.0.2,fd08:0000:0000:0000:0000:0000:0000:0002\n", ended.history)
+        self.assertEqual(ended.counts.ways[0]["not_ip"], 1)
+
+    def test_the_map(self) -> None:
+        plan = plan_of("pipe 1 config", "pipe 2 config", "queue 3 config pipe 1 weight 9", "queue 4 config pipe 1")
+        for rule in ("tcp port 443 => queue 3", "dscp ef => queue 4", "udp dst 10.8.0.0/30 dst-port 5-7 => queue 3"):
+            plan.rule(rule)
+        sent = [ip4(CLIENT, SERVER, 6, 443, 9, 40), ip4(CLIENT, SERVER, 6, 9, 443, 40), ip4(CLIENT, SERVER, 6, 9, 9, 40),
+                ip4(CLIENT, SERVER, 1, 9, 9, 40, tos=46 << 2), ip4(CLIENT, SERVER, 17, 9, 7, 40), ip4(CLIENT, "10.8.0.9", 17, 9, 7, 40),
+                ip4(CLIENT, SERVER, 6, 443, 9, 40, fragment=1)]
+        _, ended = self.run_link(plan.text(1), sent, 7)
+        self.assertEqual(found(r"submit,(\w+,\d+)", ended.history), ["queue,3", "queue,3", "pipe,1", "queue,4", "queue,3", "pipe,1", "pipe,1"])
+
+    def test_networks_of_ipv6_in_the_map(self) -> None:
+        plan = plan_of("pipe 1 config", "queue 1 config pipe 1", "queue 2 config pipe 1")
+        for rule in ("dst fd08:1::/33 => queue 1", "src 10.8.0.1 => queue 2", "dst ::/0 => queue 2"):
+            plan.rule(rule)
+        far, near = "fd08:1:7fff::9", "fd08:1:8000::9"
+        sent = [ip6("fd08::1", far, 17, bytes(8)), ip6("fd08::1", near, 17, bytes(8)), udp(1), ip4("10.8.0.3", SERVER, 17, 1, 1, 40)]
+        _, ended = self.run_link(plan.text(1), sent, 4)
+        self.assertEqual(found(r"submit,(\w+,\d+)", ended.history), ["queue,1", "queue,2", "queue,2", "queue,2"])
+
+
+@needs_host
+class OfLosses(unittest.TestCase):
+    def fates(self, seed: int, back: int = 0) -> list[str]:
+        """What becomes of 200 packets up, with so many down beside them."""
+        plan = plan_of("pipe 1 config")
+        plan.loss("gilbert:0.1,0.3")
+        link = Linked(plan.text(seed))
+        for number in range(200):
+            link.near.send(udp(1))
+            if number < back:
+                link.far.send(ip4(SERVER, CLIENT, 17, 1, 1, 40))
+        until(lambda: link.came() == 200)
+        return found(r"submit,pipe,1.*\nr,(queued|lost)", link.end().history)
+
+    def test_a_list(self) -> None:
+        plan = plan_of("pipe 1 config")
+        plan.loss("up:list:2,4-5")
+        link = Linked(plan.text(1))
+        for number in range(8):
+            link.near.send(udp(number))
+        got = [struct.unpack("!H", link.far.recv(100)[22:24])[0] for _ in range(5)]
+        self.assertEqual((got, link.end().counts.ways[0]["lost"]), ([0, 2, 5, 6, 7], 3))
+
+    def test_a_seed_decides_by_directions(self) -> None:
+        first = self.fates(5)
+        self.assertEqual(first, self.fates(5, back=70))
+        self.assertNotEqual(first, self.fates(6))
+
+    def test_the_share_of_losses_is_that_of_the_model(self) -> None:
+        """To bad 0.25, to good 0.75: a quarter of all packets; five standard deviations of 4,000 that are drawn one by one are 0.034."""
+        plan = plan_of("pipe 1 config")
+        plan.loss("gilbert:0.25,0.75")
+        link = Linked(plan.text(3))
+        for sent in range(50, 4050, 50):
+            for _ in range(50):
+                link.near.send(udp(1))
+            until(lambda: link.came() == sent and link.page.read().ways[0].underway == 0)
+            while select.select([link.far], [], [], 0)[0]:
+                link.far.recv(100)
+        self.assertAlmostEqual(link.end().counts.ways[0]["lost"] / 4000, 0.25, delta=0.034)
+
+
+@needs_host
+class OfTime(unittest.TestCase):
+    def timeline(self, plan: Plan, text: str) -> str:
+        with tempfile.NamedTemporaryFile("w") as file:
+            file.write(text)
+            file.flush()
+            plan.timeline(file.name)
+        return plan.text(1)
+
+    def test_a_change_and_an_outage(self) -> None:
+        link = Linked(self.timeline(plan_of("pipe 1 config delay 0"), "0.2s up outage 300ms\n1s pipe delete 1\n"))
+        until(lambda: link.page.read().ways[0]["held"] == 1)  # the packet of the outage
+        link.near.send(udp(1))
+        link.far.recv(100)
+        until(lambda: link.page.read()["moment"] >= 10**9)  # it has made the delete
+        link.near.send(udp(1))
+        until(lambda: link.came() == 2)
+        ended = link.end()
+        self.assertEqual((ended.status, ended.counts.ways[0]["no_target"], ended.counts.ways[0]["sent"]), (0, 1, 1))
+        self.assertIn("c,0,advance,500000000\nr,advanced,500000000\n", ended.history)
+        self.assertGreaterEqual(int(found(r"^d,1,.*,(\d+)$", ended.history)[0]), 500_000_000)
+        audited_as_lawful(self, link.transcript)
+
+    def test_a_delete_discards(self) -> None:
+        link = Linked(SEEDS + "line pipe 1 config bw 8kbit/s\nat 300000000 pipe delete 1\n")
+        for _ in range(5):
+            link.near.send(udp(1, 1000))
+        until(lambda: link.page.read()["moment"] >= 300_000_000)
+        up = link.end().counts.ways[0]
+        self.assertEqual((up["came"], up["sent"], up["discarded"]), (5, 0, 4))  # one is on its way
+
+    def test_a_long_transcript_goes_on_in_parts(self) -> None:
+        plan = plan_of("pipe 1 config delay 5", "queue 2 config pipe 1 weight 7")
+        plan.rule("=> queue 2")
+        link = Linked(plan.text(1), most=1)
+        for number in range(3):
+            link.near.send(udp(number))
+            link.far.recv(100)
+        until(lambda: link.page.read()["parts"] == 4)
+        ended = link.end()
+        parts = [link.transcript, *(f"{link.transcript}.{number}" for number in (1, 2, 3))]
+        self.assertEqual([audited(part).split()[0] for part in parts], ["lawful"] * 4)
+        texts = [open(part).read() for part in parts]
+        self.assertEqual([text.count("submit") for text in texts], [1, 1, 1, 0])
+        self.assertEqual([found("c,0,configure,(.*)", text) for text in texts], [["pipe 1 config delay 5", "queue 2 config pipe 1 weight 7"]] * 4)
+        self.assertEqual((ended.status, ended.counts.ways[0]["sent"], sorted(os.listdir(link.folder.name))), (0, 3, sorted(map(os.path.basename, parts))))
+
+
+@needs_host
+class OfTheEnd(unittest.TestCase):
+    def test_it_ends_within_100_ms_while_packets_keep_coming(self) -> None:
+        link = Linked(SEEDS + "line pipe 1 config\n")
+        helpers = [subprocess.Popen([sys.executable, "-c", what, str(end.fileno())], pass_fds=[end.fileno()], stderr=subprocess.DEVNULL)
+                   for what, end in ((FLOOD, link.near), (DRAIN, link.far))]
+        until(lambda: link.came() > 1000)
+        begun = time.monotonic()
+        link.process.terminate()
+        status = link.process.wait(5)
+        took = time.monotonic() - begun
+        for helper in helpers:
+            helper.kill(), helper.wait()
+        self.assertEqual((status, link.page.state()), (0, ENDED_WELL))
+        self.assertLess(took, 0.1)
+
+    def test_an_interface_that_goes_away_ends_it_with_a_whole_transcript(self) -> None:
+        link = Linked(SEEDS + "line pipe 1 config delay 1\n")
+        link.near.send(udp(1))
+        link.far.recv(100)
+        link.far.close()
+        ended = link.ended()
+        self.assertEqual((ended.status, ended.said), (6, "hinge: an interface: is gone\n"))
+        audited_as_lawful(self, link.transcript)
+
+    def test_a_wrong_line_is_told_before_the_first_packet(self) -> None:
+        for text, told in (("line pipe 1 config bw 8Mbps\n", "word 5: bad number"), ("at 5 queue 1 config weight 2\n", "needs a pipe"),
+                           ("at 5 pipe delete 7\n", "no-such-pipe"), ("nonsense\n", "no line of a plan")):
+            link = Linked(text)
+            self.assertEqual((link.process.wait(5), told in link.process.stderr.read().decode()), (3, True))
+            link.process.stderr.close()

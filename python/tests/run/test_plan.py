@@ -1,0 +1,95 @@
+"""Words and files as a plan: no privilege, no host."""
+
+from __future__ import annotations
+
+import tempfile
+import unittest
+
+from hinge.run.page import BINS, Times
+from hinge.run.plan import Plan
+from hinge.run.traces import Rate, Trace, outage_rate, read_trace
+from hinge.run.words import Wrong, duration, link_line
+
+BIN = 100_000_000  # ns
+
+
+class OfFiles(unittest.TestCase):
+    def file(self, data: "str | bytes") -> str:
+        file = tempfile.NamedTemporaryFile()
+        self.addCleanup(file.close)
+        file.write(data if isinstance(data, bytes) else data.encode())
+        file.flush()
+        return file.name
+
+
+class Words(unittest.TestCase):
+    def test_links(self) -> None:
+        self.assertEqual(link_line(2, "10Mbit/s 20ms queue 100 loss 1%"), "pipe 2 config bw 10Mbit/s delay 20ms queue 100 plr 0.010000000")
+
+    def test_times(self) -> None:
+        self.assertEqual([duration(text) for text in ("5s", "600ms", "0.5", "2min")], [5 * 10**9, 6 * 10**8, 5 * 10**8, 120 * 10**9])
+        for text in ("x", "5 s", "-1s", "1e3s", "9999999h", ""):
+            self.assertRaises(Wrong, duration, text)
+
+    def test_rules_that_are_wrong(self) -> None:
+        plan = Plan()
+        plan.link("pipe 1 config")
+        for rule in ("tcp", "=> queue x", "tcp => queue 1", "tcp port => pipe 1", "foo => pipe 1", "port 9-1 => pipe 1", "dst 10.0.0.0/33 => pipe 1"):
+            self.assertRaises(Wrong, plan.rule, rule)
+
+    def test_losses_that_are_wrong(self) -> None:
+        for text in ("gilbert:1", "gilbert:0.1,2", "list:", "list:0", "list:5-3", "list:1-99999999", "random:1", "gilbert:nan,1"):
+            self.assertRaises(Wrong, Plan().loss, text)
+
+    def test_shares_of_times(self) -> None:
+        bins = [0] * BINS
+        bins[3], bins[20], bins[40] = 98, 1, 1  # 3 us, 20 us, 48 to 49 us
+        self.assertEqual([Times(tuple(bins), 10**9).within(share) for share in (0.5, 0.99, 1)], [0.004, 0.021, 0.05])
+
+
+class Traces(OfFiles):
+    def rates(self, data: "str | bytes") -> Trace:
+        return read_trace(self.file(data), BIN)
+
+    def test_seconds_with_and_without_a_header(self) -> None:
+        found = Trace([Rate(0, 100), Rate(1_500_000_000, 200)], None)
+        for text in ("seconds,bit/s\n0,100\n1.5,200\n", "0,100\n1.5,200\n", " 0 , 100\n\n# a comment\n1.5,200 # another\n", "\ufeff0,100\r\n1.5,200\r\n"):
+            self.assertEqual(self.rates(text), found)
+
+    def test_what_is_no_trace_is_told_by_its_line(self) -> None:
+        for text in ("-,5\n", "inf,5\n", "-1,5\n", "0,inf\n", "0,nan\n", "0,1e300\n", "1e300,5\n", "0,-1\n", "0,5,6\n", "0,5\nx,y\n", "2,1\n1,1\n", "1\n2,3\n", "a\nb\n"):
+            self.assertRaises(Wrong, self.rates, text)
+        self.assertRaisesRegex(Wrong, "line 2: not of the form", self.rates, "0,5\nx,y\n")
+        self.assertRaisesRegex(Wrong, "isn't UTF-8", self.rates, b"0,5\n\xff,5\n")
+        self.assertRaisesRegex(Wrong, "no moments", self.rates, "# nothing\n")
+
+    def test_a_rate_of_0_is_one_longest_packet_over_its_length(self) -> None:
+        """1,500 bytes in 2 s are 6,000 bit/s."""
+        self.assertEqual(self.rates("0,1000000\n10,0\n12,1000000\n").rates[1], Rate(10 * 10**9, 6000))
+        self.assertEqual(outage_rate(2 * 10**9, 1500), 6000)
+
+    def test_mahimahi(self) -> None:
+        self.assertEqual(self.rates("1\n1\n2\n350\n"), Trace([Rate(0, 360_000), Rate(BIN, 60_000), Rate(3 * BIN, 120_000)], 350_000_000))
+
+
+class Timelines(OfFiles):
+    def lines(self, text: str, *links: str) -> list[str]:
+        plan = Plan()
+        for line in links:
+            plan.link(line)
+        plan.timeline(self.file(text))
+        return [change.line for change in plan.changes.all()]
+
+    def test_an_outage_ends_with_what_was_asked_meanwhile(self) -> None:
+        self.assertEqual(self.lines("1s up outage 2s\n2s pipe 1 config bw 5Mbit/s\n", "pipe 1 config bw 1Mbit/s"),
+                         ["pipe 1 config bw 6000bit/s", "outage 1 1500", "pipe 1 config bw 5Mbit/s", "pipe 1 config bw 5Mbit/s"])
+
+    def test_an_outage_of_a_pipe_that_is_deleted_meanwhile(self) -> None:
+        self.assertEqual(self.lines("1s up outage 2s\n2s pipe delete 1\n", "pipe 1 config")[-1], "pipe delete 1")
+
+    def test_a_lossy_outage(self) -> None:
+        self.assertEqual(self.lines("1s down outage 2s lossy\n", "pipe 2 config delay 3"), ["pipe 2 config delay 3 plr 1", "pipe 2 config delay 3"])
+
+    def test_lines_that_are_wrong(self) -> None:
+        for text in ("soon pipe 1 config\n", "1s outage\n", "1s outage 2s gently\n", "1s up outage 2s\n"):
+            self.assertRaisesRegex(Wrong, "line 1: ", self.lines, text)

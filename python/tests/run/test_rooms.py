@@ -1,0 +1,107 @@
+"""`hinge run` in namespaces, where this machine and this user may have them."""
+
+from __future__ import annotations
+
+import json
+import os
+import signal
+import subprocess
+import sys
+import tempfile
+import time
+import unittest
+
+from linked import HINGE, audited_as_lawful, found, needs, needs_rooms, run
+
+
+@needs_rooms
+class OfCommands(unittest.TestCase):
+    def test_status_and_user(self) -> None:
+        got = run("--", "sh", "-c", "id -u; exit 7")
+        self.assertEqual((got.returncode, got.stdout.strip()), (7, str(os.getuid())))
+        self.assertEqual(got.stderr.count("; late p50 "), 2)
+        self.assertEqual(run("--", "/nix").returncode, 127)
+        self.assertEqual(run("--", "/").returncode, 126)
+        self.assertEqual(run("--", "sh", "-c", "kill -9 $$").returncode, 137)
+
+    def test_what_is_wrong_is_told_before_anything_starts(self) -> None:
+        for words, status, told in ((["--up", "10Mbps"], 3, "hinge: pipe 1 config 10Mbps: word 4: unknown word\n"),
+                                    (["--line", "queue 1 config pipe 9"], 3, "hinge: queue 1 config pipe 9: no-such-pipe\n"),
+                                    (["--late", "soon"], 2, "hinge run: soon: no time, as 5s or 600ms\n"),
+                                    (["--config", "/none"], 2, "hinge run: /none: No such file or directory\n"),
+                                    (["--map", "tcp"], 2, "hinge run: --map tcp: it doesn't end in `=> pipe N` or `=> queue N`\n")):
+            got = run(*words, "--", "echo", "started")
+            self.assertEqual((got.returncode, got.stdout, got.stderr), (status, "", told))
+        self.assertEqual(run().returncode, 2)
+
+    def test_a_transcript_that_is_a_file_to_be_read_is_refused(self) -> None:
+        with tempfile.TemporaryDirectory() as folder:
+            link, alias = f"{folder}/link", f"{folder}/alias"
+            with open(link, "w") as file:
+                file.write("pipe 1 config delay 1\n")
+            os.symlink(link, alias)
+            got = run("--config", link, "--transcript", alias, "--", "true")
+            self.assertEqual((got.returncode, open(link).read()), (2, "pipe 1 config delay 1\n"), got.stderr)
+
+    def test_the_summary_for_a_program(self) -> None:
+        with tempfile.NamedTemporaryFile() as file:
+            run("--json", file.name, "--quiet", "--seed", "5", "--", "sh", "-c", "exit 3")
+            with open(file.name) as written:
+                got = json.load(written)
+        self.assertEqual((got["status"], got["seed"], got["void"], got["up"]["came"]), (3, 5, [], 0))
+
+    def test_nothing_but_the_command_speaks(self) -> None:
+        with tempfile.TemporaryDirectory() as folder:
+            run("--transcript", f"{folder}/h", "--", "sleep", "2")
+            with open(f"{folder}/h") as file:
+                self.assertNotIn("submit", file.read())
+
+    def test_a_server(self) -> None:
+        serve = f"{sys.executable} -c \"import socket; s=socket.create_server(('',8080)); c=s.accept()[0]; c.send(b'hello'); c.close()\""
+        ask = "import socket; print(socket.create_connection(('server',8080)).recv(9))"
+        got = run("--up", "10ms", "--server", serve, "--", sys.executable, "-c", ask)
+        self.assertEqual((got.returncode, got.stdout.strip()), (0, "b'hello'"), got.stderr)
+
+
+@needs_rooms
+@needs("ping")
+class OfPings(unittest.TestCase):
+    def test_round_trips_and_an_audit(self) -> None:
+        for name in ("server", "server6"):
+            with tempfile.TemporaryDirectory() as folder:
+                got = run("--up", "30ms", "--down", "40ms", "--transcript", f"{folder}/h", "--", "ping", "-c", "3", "-i", "0.2", name)
+                times = [float(text) for text in found(r"time=([0-9.]+)", got.stdout)]
+                self.assertEqual((got.returncode, len(times)), (0, 3), got.stderr)
+                self.assertGreaterEqual(min(times), 70)
+                audited_as_lawful(self, f"{folder}/h")
+
+    def test_late_makes_a_run_void(self) -> None:
+        got = run("--late", "1ns", "--up", "1ms", "--", "ping", "-c", "2", "-i", "0.2", "server")
+        self.assertEqual((got.returncode, "hinge run: void: up: of 100 packets more than one was late by over 1e-06 ms" in got.stderr), (75, True))
+
+    def test_many_at_once_and_one_in_another(self) -> None:
+        words = ["run", "--quiet", "--up", "5ms", "--", "ping", "-q", "-c", "2", "-i", "0.2", "server"]
+        many = [subprocess.Popen([*HINGE, *words], stdout=subprocess.DEVNULL) for _ in range(6)]
+        self.assertEqual([one.wait(30) for one in many], [0] * 6)
+        self.assertEqual(run("--quiet", "--", *HINGE, *words).returncode, 0)
+
+
+@needs_rooms
+@needs("pgrep")
+class OfTheEnd(unittest.TestCase):
+    def left(self, mark: str) -> list[str]:
+        return subprocess.run(["pgrep", "-f", mark], capture_output=True, text=True).stdout.split()
+
+    def test_signals_leave_nothing(self) -> None:
+        for number, status in ((signal.SIGTERM, 143), (signal.SIGINT, 130), (signal.SIGKILL, -9)):
+            mark = f"{7000 + os.getpid() % 1000}.{int(number)}"
+            begun = subprocess.Popen([*HINGE, "run", "--quiet", "--server", f"sleep {mark}", "--server-wait", "50ms", "--",
+                                      "sh", "-c", f"setsid sleep {mark} & sleep {mark}"], stderr=subprocess.DEVNULL)
+            time.sleep(1.5)
+            self.assertGreaterEqual(len(self.left(mark)), 3)
+            sent = time.monotonic()
+            begun.send_signal(number)
+            self.assertEqual(begun.wait(10), status)
+            self.assertLess(time.monotonic() - sent, 2.5)
+            time.sleep(0.5)
+            self.assertEqual(self.left(mark), [])
