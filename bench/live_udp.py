@@ -1,10 +1,10 @@
 #!/usr/bin/env python3
-"""Datagrams at a steady rate through examples/live/udp_proxy.py over loopback, and what of them arrived.
+"""Datagrams at a steady rate through `hinge udp` over loopback, and what of them arrived.
 
 usage: bench/live_udp.py RATE SECONDS [SIZE] [LINK]     (datagrams a second; bytes of one, 200; 'pipe 1 config delay 5')
 
-It tells how many arrived, how many the host lost, their delay, the memory of the session and of the proxy a second after the
-start and at the end, and the audit of the transcript. DUMMYNET names the program.
+It tells how many arrived, how many the host lost, their delay, the memory of the host a second after the start
+and at the end, and the audit of the transcript. DUMMYNET names the program.
 """
 import os
 import re
@@ -80,30 +80,30 @@ def main(rate, seconds, size=200, link="pipe 1 config delay 5"):
     sink = Sink()
     with tempfile.TemporaryDirectory() as folder:
         transcript = os.path.join(folder, "session.history")
-        host = [sys.executable, os.path.join(TOP, "examples", "live", "udp_proxy.py")]
+        host = [sys.executable, os.path.join(TOP, "hinge"), "udp"]
         proxy = subprocess.Popen([*host, "0", str(sink.socket.getsockname()[1]), link, "--transcript", transcript], text=True,
                                  stdout=subprocess.PIPE, stderr=subprocess.PIPE)
         port = int(proxy.stdout.readline().rpartition(":")[2])
         sink.start()
-        first = threading.Timer(1, lambda: before.extend([memory(child(proxy.pid)), memory(proxy.pid)]))
+        first = threading.Timer(1, lambda: before.append(memory(child(proxy.pid))))
         before = []
         first.start()
         sent = blast(port, rate, seconds, size)
         sink.sent_all = True
         sink.join()
-        after = [memory(child(proxy.pid)), memory(proxy.pid)]
+        after = memory(child(proxy.pid))
         proxy.terminate()
         told = proxy.communicate()[1]
         size = os.path.getsize(transcript)
         begun = time.monotonic()
         audit = subprocess.run([os.environ["DUMMYNET"], "audit", transcript], capture_output=True, text=True)
         spent = time.monotonic() - begun
-    fates = re.match(r"to the server: (\d+) came, (\d+) sent on, (\d+) lost, (\d+) met", told)
-    came, sent_on, lost, full = map(int, fates.groups())
-    print(f"{sent} sent in {seconds:g} s, {came} came to the proxy, {lost} lost and {full} refused by the link, {sent_on} sent on, "
+    up = re.search(r"up: (\d+) came, (\d+) delivered, (\d+) lost, (\d+) met.*?(late .*?); (unread .*?); (.*)", told)
+    came, sent_on, lost, full = map(int, up.groups()[:4])
+    print(f"{sent} sent in {seconds:g} s, {came} came to the host, {lost} lost and {full} refused by the link, {sent_on} sent on, "
           f"{sink.arrived} arrived: {sent - lost - full - sink.arrived} lost by the host")
-    print(f"delay: median {sink.within(0.5):.3f} ms, p99 {sink.within(0.99):.3f} ms; the proxy's own {told.splitlines()[-1]}")
-    print(f"memory: the session {before[0]} KiB after a second, {after[0]} at the end; the proxy {before[1]} and {after[1]} KiB")
+    print(f"delay: median {sink.within(0.5):.3f} ms, p99 {sink.within(0.99):.3f} ms; {up[5]}; {up[6]}; {up[7]}")
+    print(f"memory: the host {before[0]} KiB after a second, {after} at the end")
     print(f"transcript: {size} bytes, {size / sent:.0f} a datagram; audit in {spent:.1f} s: {(audit.stdout or audit.stderr).strip()}")
 
 

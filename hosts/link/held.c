@@ -9,12 +9,13 @@
 enum { BUCKETS = 65536 };
 static struct packet *held[BUCKETS];
 
-void hold(uint64_t number, int way, const unsigned char *bytes, size_t len) {
-    struct packet *packet = grown(NULL, sizeof *packet + len), **bucket = &held[number % BUCKETS];
-    *packet = (struct packet){.next = *bucket, .number = number, .way = way, .len = len};
-    if (len) memcpy(packet->bytes, bytes, len);
-    *bucket = packet;
-    page->ways[way].held++;
+void hold(const struct packet *packet, const unsigned char *bytes) {
+    struct packet *made = grown(NULL, sizeof *made + packet->len), **bucket = &held[packet->number % BUCKETS];
+    *made = *packet;
+    made->next = *bucket;
+    if (packet->len) memcpy(made->bytes, bytes, packet->len);
+    *bucket = made;
+    page->ways[packet->way].held++;
 }
 
 struct packet *taken(uint64_t number) {

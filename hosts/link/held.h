@@ -8,11 +8,13 @@ struct packet {
     struct packet *next; /* in its bucket */
     uint64_t number;
     int way;
+    uint64_t came; /* the moment */
     size_t len; /* 0 for the packet of an outage, which nobody sent */
     unsigned char bytes[];
 };
 
-void hold(uint64_t number, int way, const unsigned char *bytes, size_t len);
+/* Keeps a packet of `len` bytes. */
+void hold(const struct packet *packet, const unsigned char *bytes);
 
 /* Takes a packet out; the caller frees it. */
 struct packet *taken(uint64_t number);

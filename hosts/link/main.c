@@ -1,14 +1,14 @@
-/* hinge-link: two tun interfaces that are joined by emulated links, in the process of `hinge run`'s choosing.
+/* hinge-link: emulated links between two ends, in the process of `hinge run`'s or `hinge udp`'s choosing.
 
      hinge-link UP DOWN PAGE < PLAN
+     hinge-link udp FRONT ADDRESS PORT PAGE < PLAN
 
-   UP, DOWN and PAGE are descriptors: the client's interface, the server's, and the page of counts that `hinge run` reads. What comes
-   out of UP is on way 0, towards the server, and goes to pipe 1 where no rule says otherwise; way 1 comes back through pipe 2. The
-   links are libhingetulip's; each call and its reply go to the transcript, which `dummynet audit` judges. Any descriptors that keep
-   packets whole do: tests take sockets. It ends by SIGTERM. tools/hosts builds it. */
+   UP, DOWN, FRONT and PAGE are descriptors: the client's interface and the server's, or a bound socket of UDP, for a server at ADDRESS
+   and PORT; and the page of counts. What comes from the client is on way 0 and goes to pipe 1 where no rule says otherwise; way 1
+   comes back through pipe 2. The links are libhingetulip's; each call and its reply go to the transcript, which `dummynet audit`
+   judges. Any descriptors that keep packets whole do for UP and DOWN: tests take sockets. It ends by SIGTERM. tools/hosts builds it. */
 #define _GNU_SOURCE
 #include <errno.h>
-#include <fcntl.h>
 #include <hingetulip.h>
 #include <poll.h>
 #include <signal.h>
@@ -21,6 +21,7 @@
 #include <unistd.h>
 
 #include "basics.h"
+#include "carrier.h"
 #include "changes.h"
 #include "links.h"
 #include "page.h"
@@ -59,12 +60,13 @@ static void turn(const struct pollfd polled[3], bool slept, uint64_t woken) {
     for (int way = 0; way < 2; way++)
         if (ready[way]) come(way);
     if (woken <= now()) leave();
+    carrier.look_after(moment);
     page->moment = moment;
 }
 
 /* Goes from moment to moment until the signal comes; false where an interface went away. */
 static bool run(int ended) {
-    struct pollfd polled[3] = {{interfaces[0], POLLIN, 0}, {interfaces[1], POLLIN, 0}, {ended, POLLIN, 0}};
+    struct pollfd polled[3] = {{carrier.polled[0], POLLIN, 0}, {carrier.polled[1], POLLIN, 0}, {ended, POLLIN, 0}};
     while (true) {
         uint64_t woken = wake(), changes = next_change();
         if (woken == DN_NEVER && transcript_is_long()) begin_next_part();
@@ -76,9 +78,10 @@ static bool run(int ended) {
 }
 
 int main(int count, char **words) {
-    if (count != 4) fail("usage", "hinge-link UP DOWN PAGE < PLAN");
-    for (int way = 0; way < 2; way++) fcntl(interfaces[way] = atoi(words[1 + way]), F_SETFL, O_NONBLOCK);
-    open_page(atoi(words[3]));
+    bool udp = count == 6 && strcmp(words[1], "udp") == 0;
+    if (!udp && count != 4) fail("usage", "hinge-link UP DOWN PAGE < PLAN, or hinge-link udp FRONT ADDRESS PORT PAGE < PLAN");
+    open_page(atoi(words[count - 1]));
+    carrier = udp ? udp_carrier(atoi(words[2]), words[3], words[4]) : tun_carrier(atoi(words[1]), atoi(words[2]));
     int ended = signal_descriptor();
     prctl(PR_SET_PDEATHSIG, SIGTERM);
     prctl(PR_SET_TIMERSLACK, 1); /* else the system wakes it up to 50 us after the moment */
@@ -88,6 +91,7 @@ int main(int count, char **words) {
     page->state = RUNNING;
     bool whole = run(ended);
     count_the_rest();
+    carrier.end();
     bool kept = close_transcript();
     if (!whole) fail("an interface", "is gone");
     if (!kept) return REFUSED;

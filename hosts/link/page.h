@@ -15,9 +15,10 @@ struct way {
     uint64_t came, came_bytes, sent, sent_bytes;
     uint64_t lost, full, no_target; /* by the link */
     uint64_t refused;               /* by the system, behind the link */
-    uint64_t not_ip, turned_away;   /* of more clients than there can be */
+    uint64_t not_ip, turned_away;   /* turned away: of more clients than there can be */
     uint64_t dropped;               /* by the system, before the link, as far as this program can see */
     uint64_t held, discarded;       /* packets in the link; those that a delete took out of it */
+    uint64_t stayed;                /* ns: the sum of the times that the packets that were sent were in the link */
     uint64_t late_most, unread_most;
     uint64_t late[BINS], unread[BINS];
 };

@@ -2,7 +2,6 @@
 
 #include <hingetulip.h>
 #include <stdlib.h>
-#include <unistd.h>
 
 #include "basics.h"
 #include "dissect.h"
@@ -13,12 +12,9 @@
 #include "rules.h"
 #include "unread.h"
 
-enum {
-    LONGEST = 65535, /* bytes of a packet */
-    AT_ONCE = 32,    /* packets that are taken from an interface before the other has its turn */
-};
+enum { AT_ONCE = 32 }; /* packets that are taken of a way before the other has its turn */
 
-int interfaces[2];
+struct carrier carrier;
 
 /* Gives a packet to the link. */
 static void take(int way, const unsigned char *bytes, size_t len, uint64_t moment) {
@@ -36,7 +32,7 @@ static void take(int way, const unsigned char *bytes, size_t len, uint64_t momen
     packet.word = next_word(way);
     submit(&packet, &fate);
     switch (fate.outcome) {
-    case DN_QUEUED: hold(fate.packet, way, bytes, len); break;
+    case DN_QUEUED: hold(&(struct packet){.number = fate.packet, .way = way, .came = moment, .len = len}, bytes); break;
     case DN_LOST: counts->lost++; break;
     case DN_FULL: counts->full++; break;
     default: counts->no_target++;
@@ -47,21 +43,23 @@ void come(int way) {
     static unsigned char bytes[LONGEST];
     note_unemptied(way);
     for (int i = 0; i < AT_ONCE; i++) {
-        ssize_t len = read(interfaces[way], bytes, sizeof bytes);
+        ssize_t len = carrier.receive(way, bytes);
         uint64_t moment = now();
-        if (len <= 0) {
+        if (len < 0) {
             note_empty(way, moment);
             return;
         }
-        take(way, bytes, (size_t)len, moment);
+        if (len > 0) take(way, bytes, (size_t)len, moment);
     }
 }
 
 static void send_on(struct packet *packet, uint64_t due) {
     struct way *counts = &page->ways[packet->way];
-    if (write(interfaces[!packet->way], packet->bytes, packet->len) < 0) counts->refused++;
-    else counts->sent++, counts->sent_bytes += packet->len;
-    count_time(counts->late, &counts->late_most, now() - due);
+    if (carrier.transmit(packet->way, packet->bytes, packet->len)) counts->sent++, counts->sent_bytes += packet->len;
+    else counts->refused++;
+    uint64_t moment = now();
+    counts->stayed += moment - packet->came;
+    count_time(counts->late, &counts->late_most, moment - due);
 }
 
 void leave(void) {

@@ -1,11 +1,11 @@
-/* The two interfaces and what passes between them: way 0 is from the first to the second. */
+/* What passes through the link: way 0 is from the client to the server. */
 #ifndef WAYS_H
 #define WAYS_H
-#include <stdint.h>
+#include "carrier.h"
 
-extern int interfaces[2];
+extern struct carrier carrier;
 
-/* Takes what an interface has, some packets at most. */
+/* Takes what has come of a way, some packets at most. */
 void come(int way);
 
 /* Sends on what is due. */

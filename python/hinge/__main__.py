@@ -23,7 +23,6 @@ COMMANDS = {
     "run": "a command behind an emulated link, in real time",
     "look": "all of these of a live session's transcript",
     "udp": "a UDP path between two programs through emulated links",
-    "trace": "such a path whose bandwidth follows a recorded trace",
 }
 USAGE = 2  # the exit status
 HELP, VERSION = ("help", "-h", "--help"), ("--version", "-V")

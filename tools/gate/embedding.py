@@ -23,7 +23,7 @@ TOP = Path(__file__).resolve().parent.parent.parent
 PAGE = (TOP / "docs" / "EMBEDDING.md").read_text()
 MANUAL = TOP / "docs" / "hingetulip.3"
 EXAMPLES = TOP / "examples" / "embed"
-FIRST, LINK, SIMULATION = EXAMPLES / "first.c", EXAMPLES / "tun_link.c", EXAMPLES / "aimd.py"
+FIRST, SIMULATION = EXAMPLES / "first.c", EXAMPLES / "aimd.py"
 WARNINGS = ["-Wall", "-Wextra", "-Werror"]
 INSTALLED = ["include/hingetulip.h", "lib/cmake/Hingetulip/HingetulipConfig.cmake", "lib/cmake/Hingetulip/HingetulipConfigVersion.cmake",
              "lib/libhingetulip.a", "lib/libhingetulip.so", "lib/libhingetulip.so.1", "lib/pkgconfig/hingetulip.pc",
@@ -66,8 +66,6 @@ def from_c(tally: Tally, prefix: Prefix) -> None:
     tally.equal("the page's C program is examples/embed/first.c", [FIRST.read_text()], blocks("c"))
     done = prefix.built(FIRST, *WARNINGS)
     tally.equal("examples/embed/first.c", (0, printed_after("./first")), (done.returncode, done.stdout))
-    done = prefix.built(LINK, *WARNINGS)
-    tally.equal("examples/embed/tun_link.c without arguments", (1, "tun_link: usage: tun_link LEFT RIGHT CONFIG\n"), (done.returncode, done.stdout))
     example = re.search(r"^\.Bd -literal[^\n]*\n(.*?)^\.Ed", MANUAL.read_text(), re.M | re.S)
     source = prefix.place / "example.c"
     source.write_text(AROUND % (example[1] if example else "").replace("\\e", "\\"))

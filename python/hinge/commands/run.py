@@ -8,10 +8,11 @@ import signal
 import sys
 from typing import NoReturn, Optional
 
-from hinge.command import Fault
+from hinge.command import Fault, say
 from hinge.run.host import program
-from hinge.run.inside import Inside, Order, say
-from hinge.run.options import add_link, add_run, draws, drawn_seed, mtu, plan_of
+from hinge.run.inside import Inside
+from hinge.run.options import add_link, add_run, mtu
+from hinge.run.order import Order, order_of
 from hinge.run.outside import Outside
 from hinge.run.rooms import leave_the_system
 from hinge.run.system import Missing, die_with_parent
@@ -58,19 +59,12 @@ def read_words() -> argparse.Namespace:
     return asked
 
 
-def order_of(asked: argparse.Namespace, mask: set[signal.Signals]) -> Order:
-    plan, seed = plan_of(asked, asked.mtu), drawn_seed(asked)
-    text = plan.text(seed, os.path.abspath(asked.transcript) if asked.transcript else None, asked.realtime, asked.most)
-    return Order(asked, text, [(change.moment, change.line) for change in plan.changes.all()], duration(asked.late) / 1e6 if asked.late else None,
-                 duration(asked.server_wait) / 1e9, seed, draws(plan), mask)
-
-
-def run_inside(order: Order, own_users: bool, outside: Optional[Outside]) -> NoReturn:
+def run_inside(order: Order, server_wait: float, own_users: bool, outside: Optional[Outside]) -> NoReturn:
     """The whole life of the first process."""
     status = REFUSED
     try:
         die_with_parent()
-        status = Inside(order, own_users, outside).run()
+        status = Inside(order, server_wait, own_users, outside).run()
     except Missing as missing:
         say(str(missing))
     except OSError as error:
@@ -100,7 +94,7 @@ def main() -> None:
     mask = signal.pthread_sigmask(signal.SIG_BLOCK, BLOCKED)
     try:
         program()
-        order = order_of(asked, mask)
+        order, server_wait = order_of(asked, asked.mtu, mask), duration(asked.server_wait) / 1e9
         sys.stdout.flush()
         outside = Outside() if asked.outside else None  # before this process leaves the network that it joins
         own_users = leave_the_system()
@@ -110,7 +104,7 @@ def main() -> None:
         raise Fault(str(missing), REFUSED) from None
     first = os.fork()
     if first == 0:
-        run_inside(order, own_users, outside)
+        run_inside(order, server_wait, own_users, outside)
     if outside:
         outside.tell(first, own_users)
     sys.exit(status_of(first))

@@ -9,7 +9,7 @@ from pathlib import Path
 from typing import Iterable, Optional, Sequence
 
 from hinge.run.page import STARTING, Page
-from hinge.run.processes import Processes
+from hinge.run.processes import Mask, Processes
 from hinge.run.system import Missing
 
 NAME = "hinge-link"
@@ -39,7 +39,7 @@ def plan_file(text: str) -> int:
 class Link:
     """The host, which runs from when this is made, and its page of counts."""
 
-    def __init__(self, processes: Processes, page: Page, words: Sequence[str], descriptors: Iterable[int], plan: int, mask: set[signal.Signals]) -> None:
+    def __init__(self, processes: Processes, page: Page, words: Sequence[str], descriptors: Iterable[int], plan: int, mask: Mask) -> None:
         self.processes, self.page = processes, page
         passed = [*descriptors, page.descriptor]
         words = [program(), *words, str(page.descriptor)]

@@ -2,23 +2,19 @@
 
 from __future__ import annotations
 
-import argparse
-import json
-import os
 import signal
-import sys
 import time
-from typing import NamedTuple, Optional
+from typing import Optional
 
+from hinge.command import say
 from hinge.run.host import Link, plan_file
 from hinge.run.interfaces import something_listens
+from hinge.run.order import Order, note_realtime, report
 from hinge.run.outside import Outside
-from hinge.run.page import NOT_ALLOWED, Page
+from hinge.run.page import Page
 from hinge.run.processes import SIGNALLED, Processes, Ticker
 from hinge.run.rooms import Rooms
-from hinge.run.summary import VOID, lines, record, void
 from hinge.run.system import enter
-from hinge.run.transcripts import told
 from hinge.run.watch import Watch
 
 WATCHED = {signal.SIGCHLD, signal.SIGTERM, signal.SIGHUP}
@@ -26,46 +22,10 @@ LAST_PACKETS, SERVER_PATIENCE, COMMAND_PATIENCE = 1.0, 0.5, 1.0  # s
 LISTEN_POLL = 0.01  # s
 
 
-class Order(NamedTuple):
-    """What is to be run, as the process outside has read it."""
-
-    asked: argparse.Namespace
-    plan: str
-    changes: list[tuple[int, str]]  # for --watch: moments in ns, and what happens then
-    limit: Optional[float]  # ms
-    server_wait: float  # s
-    seed: int
-    draws: bool
-    mask: set[signal.Signals]  # of the command
-
-
-def say(text: str) -> None:
-    print(f"hinge run: {text}", file=sys.stderr, flush=True)
-
-
-def report(order: Order, page: Page, drops: list[int], status: int) -> int:
-    """Tells how a run went, on standard error and in the file that --json names; its status."""
-    asked, counts = order.asked, page.read()
-    faults = void(counts, drops, order.limit)
-    if not asked.quiet:
-        for line in [*lines(counts, drops), *[f"seed {order.seed}"] * order.draws]:
-            say(line)
-    for line in [*(told(asked.transcript, counts["parts"]) if asked.transcript else []), *(f"void: {fault}" for fault in faults)]:
-        say(line)
-    if asked.json:
-        with open(asked.json, "w") as file:
-            json.dump(record(counts, drops, status, order.seed, faults), file, indent=1)
-            file.write("\n")
-    return VOID if faults else status
-
-
-def note_realtime(page: Page) -> None:
-    if page.read()["realtime"] == NOT_ALLOWED:
-        say("--realtime: the system doesn't allow it (as root, or with `ulimit -r 10`)")
-
-
 class Inside:
-    def __init__(self, order: Order, own_users: bool, outside: Optional[Outside]) -> None:
+    def __init__(self, order: Order, server_wait: float, own_users: bool, outside: Optional[Outside]) -> None:
+        """The command waits for its server at most so many seconds."""
+        self.server_wait = server_wait
         self.order, self.outside, self.page = order, outside, Page()
         self.processes = Processes(WATCHED)
         self.rooms = Rooms(order.asked.mtu, own_users)
@@ -75,7 +35,7 @@ class Inside:
         if not self.order.asked.server:
             return None
         server = self.rooms.start(self.rooms.server, ["sh", "-c", self.order.asked.server], self.order.mask)
-        until = time.monotonic() + self.order.server_wait
+        until = time.monotonic() + self.server_wait
         enter(self.rooms.server)
         while not something_listens() and server not in self.processes.ended and time.monotonic() < until:
             time.sleep(LISTEN_POLL)
@@ -83,7 +43,7 @@ class Inside:
         if server in self.processes.ended:
             say(f"the server ended with {self.processes.ended[server]} before it listened")
         elif not something_listens():
-            say(f"the server doesn't listen after {self.order.server_wait:g} s; the command begins")
+            say(f"the server doesn't listen after {self.server_wait:g} s; the command begins")
         return server
 
     def commanded(self) -> tuple[int, bool]:

@@ -57,7 +57,8 @@ def add_run(group: argparse._ArgumentGroup) -> None:
 
 
 def inputs(asked: argparse.Namespace) -> Iterable[Optional[str]]:
-    return asked.config, asked.timeline, asked.up_trace, asked.down_trace
+    """The files that are read."""
+    return asked.config, asked.timeline, asked.up_trace, asked.down_trace, *getattr(asked, "inputs", [])
 
 
 def plan_of(asked: argparse.Namespace, longest: int) -> Plan:
@@ -85,7 +86,7 @@ def plan_of(asked: argparse.Namespace, longest: int) -> Plan:
 
 
 def drawn_seed(asked: argparse.Namespace) -> int:
-    return random.SystemRandom().getrandbits(32) if asked.seed is None else asked.seed
+    return random.SystemRandom().getrandbits(32) if asked.seed is None else int(asked.seed)
 
 
 def draws(plan: Plan) -> bool:

@@ -8,7 +8,7 @@ import struct
 
 BINS = 480  # of times in us: 16 for each power of two; page.h has the same
 HEAD = ("state", "moment", "wakes", "turns", "underway", "realtime", "parts")
-COUNTS = ("came", "came_bytes", "sent", "sent_bytes", "lost", "full", "no_target", "refused", "not_ip", "turned_away", "dropped", "held", "discarded",
+COUNTS = ("came", "came_bytes", "sent", "sent_bytes", "lost", "full", "no_target", "refused", "not_ip", "turned_away", "dropped", "held", "discarded", "stayed",
           "late_most", "unread_most")
 WAY = len(COUNTS) + 2 * BINS
 SIZE = 8 * (len(HEAD) + 2 * WAY)

@@ -5,7 +5,9 @@ from __future__ import annotations
 import os
 import signal
 import time
-from typing import Callable, Optional
+from typing import Callable, Optional, Set, Union
+
+Mask = Set[Union[int, signal.Signals]]  # of signals that are blocked
 
 SIGNALLED = 128  # and the signal: the status of a command that one ended
 

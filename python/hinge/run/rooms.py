@@ -14,6 +14,7 @@ import tempfile
 from typing import Optional, Sequence
 
 from hinge.run.interfaces import add_route, add_tun, dropped, set_up
+from hinge.run.processes import Mask
 from hinge.run.system import (BIND, NEWNET, NEWNS, NEWPID, NEWUSER, PRIVATE, REC, Missing, enter, keep_network_rights, mount, setting, try_to_write,
                               unshare, write)
 
@@ -123,7 +124,7 @@ class Rooms:
             found.append(dropped())
         return found
 
-    def start(self, room: int, words: Sequence[str], mask: set[signal.Signals]) -> int:
+    def start(self, room: int, words: Sequence[str], mask: Mask) -> int:
         """Starts a command in a room, and returns its process. The command has what signals `mask` blocks, and no others."""
         process = os.fork()
         if process:
@@ -135,7 +136,7 @@ class Rooms:
             signal.signal(signal.SIGPIPE, signal.SIG_DFL)
             signal.signal(signal.SIGINT, signal.SIG_DFL)
             signal.pthread_sigmask(signal.SIG_SETMASK, mask)
-            os.execvp(words[0], words)
+            os.execvp(words[0], list(words))
         except OSError as error:
             print(f"hinge run: {words[0]}: {error.strerror}", file=sys.stderr, flush=True)
             os._exit(NOT_FOUND if error.errno == errno.ENOENT else CANNOT_EXECUTE)

@@ -29,7 +29,7 @@ def judged(name: str, way: Way, drops: int, limit: float) -> Iterator[str]:
 
 def void(counts: Counts, drops: Sequence[int], limit: Optional[float]) -> list[str]:
     """Why a run can't be relied on: nothing where it can. Without a limit that is where the host broke off alone."""
-    found = []
+    found: list[str] = []
     for name, way, dropped in zip(NAMES, counts.ways, drops):
         found += [] if limit is None else judged(name, way, dropped, limit)
     return found + ["the link broke off before the end"] * (counts["state"] != ENDED_WELL)

@@ -40,10 +40,9 @@ class Answer(NamedTuple):
     items: list[list[str]]
 
 
-def cause(fault: Exception) -> str:
-    """Why a host ends, in a line for its user."""
-    name = f"{fault.filename}: " if isinstance(fault, OSError) and fault.filename else ""
-    return f"{name}{fault.strerror}" if isinstance(fault, OSError) and fault.strerror else str(fault)
+def program() -> str:
+    """DUMMYNET where it is set, the program on the path, or the one of this repository."""
+    return os.environ.get("DUMMYNET") or shutil.which("dummynet") or str(Path(__file__).resolve().parents[2] / "dummynet")
 
 
 def pieces(lines: Iterable[str]) -> Iterator[list[bytes]]:

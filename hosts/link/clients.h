@@ -1,0 +1,38 @@
+/* The clients of a UDP path, each with a socket of its own towards the server. One that was quiet for a minute is let go. */
+#ifndef CLIENTS_H
+#define CLIENTS_H
+#include <stdint.h>
+
+#include "datagram.h"
+
+struct client {
+    union end end;
+    int socket;
+    uint64_t active; /* the moment at which something last passed */
+    struct client *in_bucket, *older, *newer;
+};
+
+/* Allows as many clients as the system lets this program have sockets, and tells where datagrams of the server can be waited for. */
+int prepare_clients(const union end *server);
+
+/* The client of an end, or NULL. */
+struct client *known_client(const union end *end);
+
+/* The client of an end, which is made where it is new; NULL where there can be no more. */
+struct client *client_of(const union end *end);
+
+/* A client for which the server's datagrams have come, another one at each call, or NULL. */
+struct client *ready_client(void);
+
+void note_active(struct client *client, uint64_t moment);
+void let_go_of_quiet_clients(uint64_t moment);
+
+/* The packets that the system dropped at a socket. */
+uint64_t dropped_at(int socket);
+
+/* Counts what the system dropped at the sockets of all clients. */
+void count_dropped_of_clients(void);
+
+/* Gives a socket the room that unread.h reckons with, as far as the system lets it. */
+void give_room(int socket);
+#endif

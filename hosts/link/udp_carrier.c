@@ -1,0 +1,85 @@
+#define _GNU_SOURCE
+#include <arpa/inet.h>
+#include <errno.h>
+#include <stdlib.h>
+#include <string.h>
+#include <sys/socket.h>
+
+#include "basics.h"
+#include "carrier.h"
+#include "clients.h"
+#include "datagram.h"
+#include "page.h"
+
+static int front;
+static union end server;
+
+/* A datagram of a client. Those of clients that there can't be are turned away. */
+static ssize_t receive_from_client(unsigned char *bytes) {
+    size_t headers = headers_length(server.any.sa_family);
+    union end from;
+    socklen_t length = sizeof from;
+    ssize_t data = recvfrom(front, bytes + headers, LONGEST - headers, MSG_DONTWAIT, &from.any, &length);
+    if (data < 0) return -1;
+    struct client *client = client_of(&from);
+    if (!client) {
+        page->ways[0].turned_away++;
+        return 0;
+    }
+    note_active(client, now());
+    write_headers(bytes, (size_t)data, &from, &server);
+    return (ssize_t)headers + data;
+}
+
+/* A datagram that was sent found no server. */
+static void note_refused(void) {
+    if (page->ways[0].sent > 0) page->ways[0].sent--, page->ways[0].refused++;
+}
+
+static ssize_t receive_from_server(unsigned char *bytes) {
+    size_t headers = headers_length(server.any.sa_family);
+    for (struct client *client; (client = ready_client());) {
+        ssize_t data = recv(client->socket, bytes + headers, LONGEST - headers, MSG_DONTWAIT);
+        if (data >= 0) {
+            note_active(client, now());
+            write_headers(bytes, (size_t)data, &server, &client->end);
+            return (ssize_t)headers + data;
+        }
+        if (errno == ECONNREFUSED) note_refused();
+    }
+    return -1;
+}
+
+static ssize_t receive(int way, unsigned char *bytes) { return way == 0 ? receive_from_client(bytes) : receive_from_server(bytes); }
+
+/* Sends to the server by a client's socket; once more where the first try was told of an earlier datagram's refusal. */
+static bool to_server(int socket, const unsigned char *data, size_t len) {
+    if (send(socket, data, len, MSG_DONTWAIT) >= 0) return true;
+    if (errno != ECONNREFUSED) return false;
+    note_refused();
+    return send(socket, data, len, MSG_DONTWAIT) >= 0;
+}
+
+static bool transmit(int way, const unsigned char *bytes, size_t len) {
+    union end end = client_end(way, bytes);
+    size_t headers = headers_length(end.any.sa_family);
+    struct client *client = known_client(&end);
+    if (!client) return false; /* it was let go */
+    note_active(client, now());
+    if (way == 0) return to_server(client->socket, bytes + headers, len - headers);
+    return sendto(front, bytes + headers, len - headers, MSG_DONTWAIT, &client->end.any, end_length(end.any.sa_family)) >= 0;
+}
+
+static void end(void) {
+    page->ways[0].dropped = dropped_at(front);
+    count_dropped_of_clients();
+}
+
+struct carrier udp_carrier(int descriptor, const char *address, const char *port) {
+    front = descriptor;
+    if (inet_pton(AF_INET, address, &server.four.sin_addr) == 1) server.four.sin_family = AF_INET, server.four.sin_port = htons((uint16_t)atoi(port));
+    else if (inet_pton(AF_INET6, address, &server.six.sin6_addr) == 1) server.six.sin6_family = AF_INET6, server.six.sin6_port = htons((uint16_t)atoi(port));
+    else fail(address, "no address");
+    give_room(front);
+    return (struct carrier){{front, prepare_clients(&server)}, receive, transmit, let_go_of_quiet_clients, end};
+}

@@ -1,1 +1,0 @@
-"""Live sessions of the program, for hosts in Python."""

@@ -1,0 +1,265 @@
+"""`hinge udp`: real clients and servers over loopback, without any privilege."""
+
+from __future__ import annotations
+
+import contextlib
+import os
+import re
+import resource
+import signal
+import socket
+import struct
+import subprocess
+import tempfile
+import time
+import unittest
+from typing import Iterator, Optional
+
+from linked import HINGE, audited_as_lawful, found, hinge, needs_host, only_long
+
+SIZE, ROUND = 972, 0.041  # bytes of a datagram, 1,000 with its headers; the seconds that it takes there and back at 8 Mbit/s and 2 x 20 ms
+LINKS = ["pipe 1 config bw 8Mbit/s delay 20", "pipe 2 config delay 20"]
+LOOPBACK = {socket.AF_INET: "127.0.0.1", socket.AF_INET6: "::1"}
+
+
+class Path:
+    """`hinge udp` that runs: where it listens, and in the end its status and what it said."""
+
+    def __init__(self, *words: object, files: Optional[int] = None) -> None:
+        """With `files`, so many descriptors at most."""
+        limit = (lambda: resource.setrlimit(resource.RLIMIT_NOFILE, (files, files))) if files else None
+        self.process = subprocess.Popen([*HINGE, "udp", *map(str, words)], text=True, stdin=subprocess.DEVNULL, stdout=subprocess.PIPE,
+                                        stderr=subprocess.PIPE, preexec_fn=limit)
+        assert self.process.stdout
+        self.port = int(self.process.stdout.readline().rpartition(":")[2] or 0)
+
+    def end(self, number: int = signal.SIGTERM) -> tuple[int, str]:
+        self.process.send_signal(number)
+        said = self.process.communicate(timeout=30)[1]
+        return self.process.returncode, said
+
+
+@contextlib.contextmanager
+def sockets(count: int, family: int = socket.AF_INET) -> Iterator[list[socket.socket]]:
+    """UDP sockets at free ports of this machine; what they wait for comes within five seconds."""
+    with contextlib.ExitStack() as stack:
+        made = [stack.enter_context(socket.socket(family, socket.SOCK_DGRAM)) for _ in range(count)]
+        for one in made:
+            one.bind((LOOPBACK[family], 0))
+            one.settimeout(5)
+        yield made
+
+
+def port_of(one: socket.socket) -> int:
+    return int(one.getsockname()[1])
+
+
+def rounds(client: socket.socket, server: socket.socket, path: Path, count: int) -> list[float]:
+    """Seconds of so many rounds, one after the other, through the path and back; 0 where another datagram came."""
+    took = []
+    for number in range(count):
+        sent, begun = number.to_bytes(4, "big") + bytes(SIZE - 4), time.monotonic()
+        client.sendto(sent, (LOOPBACK[client.family], path.port))
+        came, source = server.recvfrom(65536)
+        server.sendto(came, source)
+        back = client.recv(65536)
+        took.append(time.monotonic() - begun if sent == came == back else 0.0)
+    return took
+
+
+def counts(said: str, way: str) -> dict[str, int]:
+    line = found(rf"hinge udp: {way}: (.*?);", said)[0]
+    return {words: int(number) for number, words in re.findall(r"(\d+) ([a-zA-Z ]+)", line)}
+
+
+class InAFolder(unittest.TestCase):
+    def setUp(self) -> None:
+        folder = tempfile.TemporaryDirectory()
+        self.addCleanup(folder.cleanup)
+        self.folder = folder.name
+
+    def written(self, name: str, text: str) -> str:
+        with open(f"{self.folder}/{name}", "w") as file:
+            file.write(text)
+        return file.name
+
+
+@needs_host
+class OfDatagrams(InAFolder):
+    def test_two_clients_and_a_burst_that_is_not_early(self) -> None:
+        kept = f"{self.folder}/history"
+        with sockets(3) as [server, *clients]:
+            path = Path(0, port_of(server), *LINKS, "--transcript", kept)
+            took = [second for client in clients for second in rounds(client, server, path, 12)]
+            begun, came = time.monotonic(), []
+            for _ in range(20):
+                clients[0].sendto(bytes(SIZE), ("127.0.0.1", path.port))
+            for _ in range(20):
+                server.recvfrom(65536)
+                came.append(time.monotonic() - begun)
+            status, said = path.end()
+        self.assertGreaterEqual(min(took), ROUND)
+        self.assertEqual([at for i, at in enumerate(came) if at < 0.021 + i / 1000], [])
+        self.assertEqual((status, counts(said, "up")["came"], counts(said, "up")["delivered"], counts(said, "down")["delivered"]), (0, 44, 44, 24))
+        with open(kept) as file:
+            history = file.read()
+        self.assertEqual(len(found(r"^c,0,submit,pipe,[12],127.0.0.1,127.0.0.1,17,\d+,\d+,1000,", history)), 68)
+        audited_as_lawful(self, kept)
+
+    def test_ipv6(self) -> None:
+        kept = f"{self.folder}/history"
+        with sockets(2, socket.AF_INET6) as [server, client]:
+            path = Path("[::1]:0", f"[::1]:{port_of(server)}", "--up", "20ms", "--down", "20ms", "--transcript", kept)
+            took = rounds(client, server, path, 3)
+            status, _ = path.end()
+        self.assertEqual((status, min(took) >= 0.04), (0, True))
+        with open(kept) as file:
+            self.assertEqual(len(found(rf"submit,pipe,1,240.0.0.1,240.0.0.1,17,\d+,\d+,{SIZE + 48},", file.read())), 3)
+
+    def test_losses_and_the_seed(self) -> None:
+        with sockets(2) as [server, client]:
+            path = Path(0, port_of(server), "--loss", "up:list:1-10", "--seed", "7")
+            for _ in range(12):
+                client.sendto(b"some", ("127.0.0.1", path.port))
+            server.recv(9), server.recv(9)
+            _, said = path.end()
+        self.assertEqual((counts(said, "up")["lost"], "hinge udp: seed 7\n" in said), (10, True))
+
+    def test_a_trace(self) -> None:
+        """From 8 Mbit/s to 80 kbit/s: 1 ms before, 100 ms behind."""
+        trace = self.written("trace", "seconds,bit/s\n0,8000000\n1,80000\n")
+        with sockets(2) as [server, client]:
+            path = Path(0, port_of(server), "--up-trace", trace)
+            before = rounds(client, server, path, 4)
+            time.sleep(1)
+            behind = rounds(client, server, path, 2)
+            path.end()
+        self.assertTrue(max(before) < 0.1 <= min(behind), (before, behind))
+
+    def test_an_end_by_kill_leaves_a_whole_transcript(self) -> None:
+        kept = f"{self.folder}/history"
+        with sockets(2) as [server, client]:
+            path = Path(0, port_of(server), "--transcript", kept)
+            rounds(client, server, path, 2)
+            path.process.kill()
+            path.process.communicate()
+            time.sleep(0.3)
+        audited_as_lawful(self, kept)
+
+
+@needs_host
+class OfManyClients(InAFolder):
+    def test_1500_clients(self) -> None:
+        most = resource.getrlimit(resource.RLIMIT_NOFILE)[1]
+        if most < 2000:
+            self.skipTest(f"the system allows {most} descriptors")
+        resource.setrlimit(resource.RLIMIT_NOFILE, (most, most))
+        with sockets(1501) as [server, *clients]:
+            path = Path(0, port_of(server), "--up", "1ms", "--down", "1ms")
+            for client in clients:
+                self.assertLess(0, min(rounds(client, server, path, 1)))
+            self.assertLess(0, min(rounds(clients[0], server, path, 1)))
+            status, said = path.end()
+        self.assertEqual((status, counts(said, "down")["delivered"]), (0, 1501))
+
+    def test_a_full_table_turns_new_clients_away(self) -> None:
+        with sockets(101) as [server, *clients]:
+            path = Path(0, port_of(server), files=64)  # 32 clients
+            for client in clients:
+                client.sendto(b"some", ("127.0.0.1", path.port))
+            got = [server.recvfrom(9)[1] for _ in range(32)]
+            self.assertLess(0, min(rounds(clients[0], server, path, 3)))
+            status, said = path.end()
+        self.assertEqual((status, len(set(got)), counts(said, "up")["of clients too many"]), (0, 32, 68))
+        self.assertEqual(said.count("there are as many clients as the system allows"), 1)
+
+    @only_long
+    def test_a_client_that_was_quiet_for_a_minute_is_let_go(self) -> None:
+        with sockets(34) as [server, *clients]:
+            path = Path(0, port_of(server), files=64)
+            for client in clients[:32]:
+                client.sendto(b"some", ("127.0.0.1", path.port))
+            time.sleep(62)
+            self.assertLess(0, min(rounds(clients[32], server, path, 1)))
+            status, said = path.end()
+        self.assertEqual((status, "too many" in said), (0, False))
+
+
+@needs_host
+class OfHostileEnds(InAFolder):
+    def test_a_server_that_is_not_there_is_counted(self) -> None:
+        with sockets(2) as [server, client]:
+            port = port_of(server)
+            server.close()
+            path = Path(0, port)
+            for _ in range(5):
+                client.sendto(b"some", ("127.0.0.1", path.port))
+                time.sleep(0.05)
+            with socket.socket(socket.AF_INET, socket.SOCK_DGRAM) as late:
+                late.bind(("127.0.0.1", port))
+                late.settimeout(5)
+                client.sendto(b"last", ("127.0.0.1", path.port))
+                self.assertEqual(late.recv(9), b"last")
+                status, said = path.end()
+        self.assertEqual((status, counts(said, "up")["came"], "system drops 0 before, 5 behind" in said), (0, 6, True), said)
+
+    def test_a_client_at_port_0_is_counted(self) -> None:
+        try:
+            raw = socket.socket(socket.AF_INET, socket.SOCK_RAW, socket.IPPROTO_UDP)
+        except PermissionError:
+            self.skipTest("this user has no raw sockets")
+        with raw, sockets(2) as [server, client]:
+            path = Path(0, port_of(server))
+            raw.sendto(struct.pack("!HHHH", 0, path.port, 12, 0) + b"none", ("127.0.0.1", 0))
+            data, source = server.recvfrom(9)
+            server.sendto(b"back", source)
+            self.assertLess(0, min(rounds(client, server, path, 2)))
+            status, said = path.end()
+        self.assertEqual((status, data, "system drops 0 before, 1 behind" in said), (0, b"none", True), said)
+
+    def test_a_flood_does_not_put_off_the_end(self) -> None:
+        with sockets(2) as [server, client]:
+            path = Path(0, port_of(server))
+            flood = subprocess.Popen(["sh", "-c", 'exec "$0" -c "$1" "$2"', "python3",
+                                      "import socket,sys\ns=socket.socket(socket.AF_INET, socket.SOCK_DGRAM)\nwhile 1: s.sendto(b'x', ('127.0.0.1', int(sys.argv[1])))",
+                                      str(path.port)])
+            server.recv(9)
+            time.sleep(0.3)
+            begun = time.monotonic()
+            status, _ = path.end()
+            took = time.monotonic() - begun
+            flood.kill(), flood.wait()
+        self.assertEqual(status, 0)
+        self.assertLess(took, 0.5)  # with the interpreter's own end
+
+
+@needs_host
+class OfWords(InAFolder):
+    def refused(self, *words: str) -> tuple[int, str]:
+        done = hinge("udp", "0", "1", *words)
+        self.assertEqual(done.stdout, "")
+        return done.returncode, done.stderr
+
+    def test_a_link_of_two_lines(self) -> None:
+        with sockets(2) as [server, client]:
+            path = Path(0, port_of(server), "\n".join(LINKS) + "\n")
+            self.assertGreaterEqual(min(rounds(client, server, path, 2)), ROUND)
+            self.assertEqual(path.end()[0], 0)
+
+    def test_a_transcript_that_is_the_link_file(self) -> None:
+        link = self.written("link", "pipe 1 config delay 20\n")
+        os.link(link, f"{self.folder}/alias")
+        self.assertEqual(self.refused(link, "--transcript", f"{self.folder}/alias"),
+                         (2, f"hinge udp: --transcript {self.folder}/alias: the same file as {link}, which is to be read\n"))
+        with open(link) as file:
+            self.assertEqual(file.read(), "pipe 1 config delay 20\n")
+
+    def test_what_is_wrong_is_told_before_it_listens(self) -> None:
+        self.assertEqual(self.refused("pipe 1 config dely 20"), (3, "hinge: pipe 1 config dely 20: word 4: unknown word\n"))
+        self.assertEqual(self.refused("queue 1 config pipe 9"), (3, "hinge: queue 1 config pipe 9: no-such-pipe\n"))
+        self.assertEqual(self.refused(f"{self.folder}/none"), (2, f"hinge udp: {self.folder}/none: No such file or directory\n"))
+
+    def test_a_port_that_is_taken(self) -> None:
+        with sockets(1) as [taken]:
+            done = hinge("udp", str(port_of(taken)), "1")
+            self.assertEqual((done.returncode, done.stderr), (6, f"hinge udp: 127.0.0.1:{port_of(taken)}: Address already in use\n"))
