@@ -14,6 +14,7 @@ import unittest
 from linked import SEEDS, Ended, Linked, audited, audited_as_lawful, found, ip4, ip6, needs_host, until
 from hinge.run.page import ENDED_WELL
 from hinge.run.plan import Plan
+from hinge.run.summary import void
 
 CLIENT, SERVER = "10.8.0.1", "10.8.0.2"
 FLOOD = "import socket,sys\ns=socket.socket(fileno=int(sys.argv[1]))\ns.setblocking(True)\nwhile 1: s.send(bytes([0x45]) + bytes(39))"
@@ -179,6 +180,28 @@ class OfTime(unittest.TestCase):
         self.assertEqual([text.count("submit") for text in texts], [1, 1, 1, 0])
         self.assertEqual([found("c,0,configure,(.*)", text) for text in texts], [["pipe 1 config delay 5", "queue 2 config pipe 1 weight 7"]] * 4)
         self.assertEqual((ended.status, ended.counts.ways[0]["sent"], sorted(os.listdir(link.folder.name))), (0, 3, sorted(map(os.path.basename, parts))))
+
+
+@needs_host
+class OfALoadedMachine(unittest.TestCase):
+    def test_it_tells_that_it_had_no_processor(self) -> None:
+        """Four programs that do nothing but reckon share a processor with the host, which is the least of them."""
+        link = Linked(SEEDS + "line pipe 1 config delay 1\n")
+        one = min(os.sched_getaffinity(0))
+        os.sched_setaffinity(link.process.pid, {one})
+        os.setpriority(os.PRIO_PROCESS, link.process.pid, 19)
+        loads = [subprocess.Popen([sys.executable, "-c", "while 1: pass"], preexec_fn=lambda: os.sched_setaffinity(0, {one})) for _ in range(4)]
+        try:
+            for number in range(40):
+                link.near.send(udp(number))
+                time.sleep(0.03)
+            until(lambda: link.page.read().ways[0]["sent"] == 40, 30)
+        finally:
+            for load in loads:
+                load.kill(), load.wait()
+        counts = link.end().counts
+        self.assertRegex("\n".join(void(counts, [0, 0], 1.0)), r"up: of 100 packets more than one was (late|unread) by over 1 ms")
+        self.assertGreater(max(counts.ways[0].unread.most, counts.ways[0].late.most), 1_000_000)
 
 
 @needs_host

@@ -1,0 +1,134 @@
+"""Real programs behind `hinge run`, against what theory says of the link. Each is skipped where its program isn't there."""
+
+from __future__ import annotations
+
+import json
+import os
+import re
+import subprocess
+import sys
+import tempfile
+import unittest
+from typing import Any
+
+from linked import Done, found, needs, needs_rooms, run
+
+PAYLOAD = 1448 / 1500  # of a TCP packet's bytes, with time stamps
+TOLERANCE = 0.05
+CERTIFICATE = ["openssl", "req", "-x509", "-newkey", "rsa:2048", "-nodes", "-subj", "/CN=server", "-days", "2"]
+
+
+class Behind(unittest.TestCase):
+    def setUp(self) -> None:
+        folder = tempfile.TemporaryDirectory()
+        self.addCleanup(folder.cleanup)
+        self.folder = folder.name
+
+    def summary(self, *words: str, seconds: float = 60) -> "tuple[Done[str], dict[str, Any]]":
+        """Runs a command, and reads the summary too."""
+        done = run("--json", f"{self.folder}/json", *words, seconds=seconds)
+        with open(f"{self.folder}/json") as file:
+            return done, json.load(file)
+
+    def certificate(self) -> "tuple[str, str]":
+        key, certificate = f"{self.folder}/key", f"{self.folder}/certificate"
+        subprocess.run([*CERTIFICATE, "-keyout", key, "-out", certificate], check=True, capture_output=True)
+        return key, certificate
+
+
+def megabits(text: str) -> float:
+    """Mbit/s at the receiver, of iperf3's JSON."""
+    return float(json.loads(text)["end"]["sum_received"]["bits_per_second"]) / 1e6
+
+
+@needs_rooms
+@needs("iperf3")
+class OfTcp(Behind):
+    def rate(self, control: str) -> float:
+        """Through 10 Mbit/s and 2 x 20 ms: 34 packets are under way, and 100 may wait, so that the link is never idle."""
+        done = run("--up", "10Mbit/s 20ms queue 100", "--down", "20ms", "--server", "iperf3 -s -1 >/dev/null", "--",
+                   "iperf3", "-c", "server", "-t", "4", "-O", "1", "-J", "-C", control)
+        if "congestion control" in done.stdout or "Congestion" in done.stdout and "error" in done.stdout:
+            self.skipTest(f"the system has no {control} for this user")
+        self.assertEqual(done.returncode, 0, done.stdout + done.stderr)
+        return megabits(done.stdout)
+
+    def test_reno_fills_the_link(self) -> None:
+        self.assertAlmostEqual(self.rate("reno") / (10 * PAYLOAD), 1, delta=TOLERANCE)
+
+    def test_cubic_fills_the_link(self) -> None:
+        self.assertAlmostEqual(self.rate("cubic") / (10 * PAYLOAD), 1, delta=TOLERANCE)
+
+    def test_two_flows_have_their_weights(self) -> None:
+        """Queues of weight 3 and 1 on 20 Mbit/s with 2 ms, which 4 packets fill: the windows hold more, so both queues always have packets,
+        and less than 300, so none is dropped."""
+        both = " ".join(f"iperf3 -c server -p {port} -t 5 -O 1 -w 200K -J > {self.folder}/{port} &" for port in (5201, 5202))
+        done = run("--line", "pipe 1 config bw 20Mbit/s delay 1", "--line", "queue 1 config pipe 1 weight 3 queue 300",
+                   "--line", "queue 2 config pipe 1 weight 1 queue 300", "--map", "tcp port 5201 => queue 1", "--map", "tcp port 5202 => queue 2",
+                   "--down", "1ms", "--server", "iperf3 -s -1 -p 5201 >/dev/null & iperf3 -s -1 -p 5202 >/dev/null; wait", "--",
+                   "sh", "-c", f"sleep 0.3; {both} wait")
+        self.assertEqual(done.returncode, 0, done.stderr)
+        rates = []
+        for port in (5201, 5202):
+            with open(f"{self.folder}/{port}") as file:
+                rates.append(megabits(file.read()))
+        self.assertAlmostEqual(rates[0] / rates[1] / 3, 1, delta=0.03, msg=str(rates))
+        self.assertAlmostEqual(sum(rates) / (20 * PAYLOAD), 1, delta=TOLERANCE)
+
+
+@needs_rooms
+class OfDownloads(Behind):
+    @needs("curl")
+    def test_a_download_from_a_server_beside_it(self) -> None:
+        """1,000,000 bytes at 8 Mbit/s take 1.036 s with their headers, after two round trips of 40 ms."""
+        with open(f"{self.folder}/data", "wb") as file:
+            file.write(bytes(10**6))
+        serve = f"cd {self.folder} && exec {sys.executable} -m http.server 8080 2>/dev/null >&2"
+        done = run("--up", "20ms", "--down", "8Mbit/s 20ms queue 100", "--server", serve, "--",
+                   "curl", "-s", "-o", "/dev/null", "-w", "%{size_download} %{time_total}", "http://server:8080/data")
+        size, seconds = done.stdout.split()
+        self.assertEqual((done.returncode, size), (0, "1000000"), done.stderr)
+        self.assertGreaterEqual(float(seconds), 1.036 + 0.08)
+        self.assertLess(float(seconds), 1.6)
+
+    @needs("dnsmasq", "dig")
+    def test_a_name_is_asked_for(self) -> None:
+        """dig's clock goes by steps of 4 ms."""
+        serve = "exec dnsmasq -k --port=5353 --no-resolv --no-hosts --conf-file=/dev/null --pid-file= --user= --address=/here.test/10.1.2.3"
+        done = run("--up", "30ms", "--down", "40ms", "--server", serve, "--", "dig", "+tries=1", "-p", "5353", "@server", "here.test")
+        self.assertIn("10.1.2.3", done.stdout, done.stderr)
+        self.assertGreaterEqual(int(found(r"Query time: (\d+) msec", done.stdout)[0]), 70 - 4)
+
+    @needs("openssl")
+    def test_tls_handshakes_under_losses(self) -> None:
+        """Twenty handshakes, in which each packet is lost with 5 of 100; those that lose none take two round trips."""
+        key, certificate = self.certificate()
+        serve = f"exec openssl s_server -quiet -accept 4433 -key {key} -cert {certificate}"
+        ask = "for i in 1 2 3 4 5 6 7 8 9 10 11 12 13 14 15 16 17 18 19 20; do openssl s_client -connect server:4433 </dev/null 2>/dev/null | grep -c '^New, TLSv1.3'; done"
+        done, told = self.summary("--up", "10ms loss 5%", "--down", "10ms loss 5%", "--seed", "3", "--server", serve, "--", "sh", "-c", ask, seconds=120)
+        self.assertEqual(done.stdout.split(), ["1"] * 20, done.stderr)
+        self.assertGreater(told["up"]["lost"] + told["down"]["lost"], 0)
+
+    @needs("gtlsserver", "gtlsclient", "openssl")
+    def test_quic(self) -> None:
+        key, certificate = self.certificate()
+        os.mkdir(f"{self.folder}/got")
+        with open(f"{self.folder}/data", "wb") as file:
+            file.write(bytes(10**5))
+        serve = f"exec gtlsserver -q -d {self.folder} 10.8.0.2 4433 {key} {certificate}"
+        done, told = self.summary("--up", "20ms", "--down", "8Mbit/s 20ms loss 2%", "--seed", "1", "--server", serve, "--",
+                                  "gtlsclient", "-q", "--exit-on-all-streams-close", f"--download={self.folder}/got", "10.8.0.2", "4433", "https://server/data")
+        self.assertEqual(done.returncode, 0, done.stdout + done.stderr)
+        self.assertEqual(os.path.getsize(f"{self.folder}/got/data"), 10**5)
+        self.assertGreater(told["down"]["lost"], 0)
+
+    @needs("mosh-server", "mosh-client", "script")
+    def test_mosh(self) -> None:
+        """A line typed through the link comes back: the server's shell prints what no client knows."""
+        inside = f"{self.folder}/inside"
+        serve = f"LC_ALL=C.UTF-8 mosh-server new -i 10.8.0.2 -p 60001 -- sh -c 'echo $((6 * 7))-there; sleep 3' > {inside} 2>&1; sleep 20"
+        ask = (f"until grep -q '^MOSH CONNECT' {inside}; do sleep 0.05; done; "
+               f"MOSH_KEY=$(sed -n 's/^MOSH CONNECT 60001 //p' {inside} | tr -d '\\r') LC_ALL=C.UTF-8 TERM=xterm timeout 6 script -qec 'stty rows 24 cols 80; mosh-client 10.8.0.2 60001' /dev/null </dev/null")
+        done, told = self.summary("--up", "30ms", "--down", "30ms", "--server", serve, "--", "sh", "-c", ask)
+        self.assertIn("42-there", done.stdout, re.sub(r"[^ -~]", "", done.stdout + done.stderr))
+        self.assertGreater(told["down"]["sent"], 2)
