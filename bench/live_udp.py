@@ -98,11 +98,11 @@ def main(rate, seconds, size=200, link="pipe 1 config delay 5"):
         begun = time.monotonic()
         audit = subprocess.run([os.environ["DUMMYNET"], "audit", transcript], capture_output=True, text=True)
         spent = time.monotonic() - begun
-    up = re.search(r"up: (\d+) came, (\d+) delivered, (\d+) lost, (\d+) met.*?(late .*?); (unread .*?); (.*)", told)
+    up = re.search(r"up: (\d+) came, (\d+) delivered, (\d+) lost, (\d+) met.*\n.*up: (.*)", told)
     came, sent_on, lost, full = map(int, up.groups()[:4])
     print(f"{sent} sent in {seconds:g} s, {came} came to the host, {lost} lost and {full} refused by the link, {sent_on} sent on, "
           f"{sink.arrived} arrived: {sent - lost - full - sink.arrived} lost by the host")
-    print(f"delay: median {sink.within(0.5):.3f} ms, p99 {sink.within(0.99):.3f} ms; {up[5]}; {up[6]}; {up[7]}")
+    print(f"delay: median {sink.within(0.5):.3f} ms, p99 {sink.within(0.99):.3f} ms; the host {up[5]}")
     print(f"memory: the host {before[0]} KiB after a second, {after} at the end")
     print(f"transcript: {size} bytes, {size / sent:.0f} a datagram; audit in {spent:.1f} s: {(audit.stdout or audit.stderr).strip()}")
 

@@ -35,16 +35,20 @@ def void(counts: Counts, drops: Sequence[int], limit: Optional[float]) -> list[s
     return found + ["the link broke off before the end"] * (counts["state"] != ENDED_WELL)
 
 
-def direction(name: str, way: Way, drops: int) -> str:
+SELDOM = (("discarded", "discarded"), ("no_target", "had no pipe"), ("not_ip", "not IP"), ("turned_away", "of clients too many"))
+
+
+def direction(name: str, way: Way, drops: int) -> list[str]:
+    """What became of the packets of a direction, and how good the host was to them."""
     told = times(way)
-    more = "".join(f", {way[key]} {words}" for key, words in (("no_target", "had no pipe"), ("not_ip", "not IP"), ("turned_away", "of clients too many")) if way[key])
-    late, unread = ("{} p50 {:.3f} p99 {:.3f} max {:.3f} ms".format(kind, *(told[f"{kind}_{label}_ms"] for label, _ in SHARES)) for kind in ("late", "unread"))
-    return (f"{name}: {way['came']} came, {way['sent']} delivered, {way['lost']} lost, {way['full']} met a full queue, {way['discarded']} discarded, "
-            f"{way.underway} under way{more}; {late}; {unread}; system drops {drops} before, {way['refused']} behind")
+    seldom = "".join(f", {way[key]} {words}" for key, words in SELDOM if way[key])
+    late, unread = ("{} p99 {:.3f} max {:.3f} ms".format(kind, told[f"{kind}_p99_ms"], told[f"{kind}_max_ms"]) for kind in ("late", "unread"))
+    return [f"{name}: {way['came']} came, {way['sent']} delivered, {way['lost']} lost, {way['full']} met a full queue, {way.underway} under way{seldom}",
+            f"{name}: {late}, {unread}, system drops {drops} before, {way['refused']} behind"]
 
 
 def lines(counts: Counts, drops: Sequence[int]) -> list[str]:
-    return [direction(name, way, dropped) for name, way, dropped in zip(NAMES, counts.ways, drops)]
+    return [line for name, way, dropped in zip(NAMES, counts.ways, drops) for line in direction(name, way, dropped)]
 
 
 def record(counts: Counts, drops: Sequence[int], status: int, seed: int, faults: list[str]) -> dict[str, object]:

@@ -1,25 +1,125 @@
-"""`--watch`: what passes, each second: a line each where standard error is no terminal."""
+"""`--watch`: what passes, each second: small graphs at the foot of a terminal, else a line each second."""
 
 from __future__ import annotations
 
+import curses
+import os
 import sys
+from collections import deque
+from typing import Callable, NamedTuple, Optional
 
-from hinge.run.page import Page
+from hinge.run.page import Counts, Page, Way
 from hinge.run.summary import NAMES
+
+BARS = " ▁▂▃▄▅▆▇█"
+HEIGHT = 6  # lines of the graphs
+LEAST_LINES, LEAST_COLUMNS = 12, 60  # of a terminal with graphs
+LABEL, VALUE = 8, 16  # columns beside a graph
+
+
+class Second(NamedTuple):
+    """What passed in a direction in a second."""
+
+    rate: float  # Mbit/s
+    held: int  # packets in the link
+    delay: float  # ms in the link, in the mean of those that left
+    dropped: int  # by the link
+
+    @classmethod
+    def between(cls, before: Way, now: Way) -> Second:
+        more = {name: now[name] - before[name] for name in ("sent", "sent_bytes", "stayed", "lost", "full")}
+        delay = more["stayed"] / more["sent"] / 1e6 if more["sent"] else 0.0
+        return cls(more["sent_bytes"] * 8 / 1e6, now["held"], delay, more["lost"] + more["full"])
+
+
+ROWS: tuple[tuple[str, Callable[[Second], float], str], ...] = (
+    ("rate", lambda one: one.rate, "{:9.3f} Mbit/s"),
+    ("in link", lambda one: one.held, "{:9.0f}"),
+    ("delay", lambda one: one.delay, "{:9.3f} ms"),
+    ("drops", lambda one: one.dropped, "{:9.0f}"),
+)
+
+
+def graph(values: list[float], columns: int) -> str:
+    """The last values as bars, of which the highest fills its line."""
+    shown = values[-columns:]
+    most = max(shown, default=0.0)
+    return "".join(BARS[round(value / most * 8) if most else 0] for value in shown).rjust(columns)
+
+
+class Terminal:
+    """Standard error, whose last lines are kept from what the command prints."""
+
+    def __init__(self) -> None:
+        """curses.error where it is none, or has no region that scrolls by itself."""
+        curses.setupterm(fd=2)
+        self.size = os.get_terminal_size(2)
+        if curses.tigetstr("csr") is None or self.size.lines < LEAST_LINES or self.size.columns < LEAST_COLUMNS:
+            raise curses.error
+        self.write("\n" * HEIGHT + self.code("csr", 0, self.size.lines - HEIGHT - 1) + self.code("cup", self.size.lines - HEIGHT - 1, 0))
+
+    @staticmethod
+    def code(name: str, *numbers: int) -> str:
+        return curses.tparm(curses.tigetstr(name) or b"", *numbers).decode()
+
+    @staticmethod
+    def write(text: str) -> None:
+        sys.stderr.write(text)
+        sys.stderr.flush()
+
+    def show(self, lines: list[str]) -> None:
+        rows = "".join(self.code("cup", self.size.lines - HEIGHT + row, 0) + line[:self.size.columns] + self.code("el") for row, line in enumerate(lines))
+        self.write(self.code("sc") + rows + self.code("rc"))
+
+    def end(self) -> None:
+        """Gives the whole terminal back."""
+        self.write(self.code("sc") + self.code("csr", 0, self.size.lines - 1) + self.code("cup", self.size.lines - HEIGHT, 0) + self.code("ed") + self.code("rc"))
+
+
+def terminal() -> Optional[Terminal]:
+    try:
+        return Terminal() if os.isatty(2) else None
+    except (curses.error, OSError):
+        return None
 
 
 class Watch:
     def __init__(self, page: Page, changes: list[tuple[int, str]]) -> None:
-        self.page, self.before = page, page.read()
+        """`changes` has the moments in ns and the lines of what will happen."""
+        self.page, self.changes, self.before = page, changes, page.read()
+        self.seconds: tuple[deque[Second], ...] = tuple(deque(maxlen=200) for _ in NAMES)
+        self.terminal = terminal()
 
     def tick(self, at: float) -> None:
+        """Shows the last second, so many seconds from the beginning."""
         counts = self.page.read()
-        text = f"{at:6.1f} s"
-        for name, way, before in zip(NAMES, counts.ways, self.before.ways):
-            rate = (way["sent_bytes"] - before["sent_bytes"]) * 8 / 1e6
-            text += f"  | {name:4} {rate:9.3f} Mbit/s {way['held']:6} in link {way['lost'] - before['lost']:5} lost {way['full'] - before['full']:5} full"
+        for seconds, before, now in zip(self.seconds, self.before.ways, counts.ways):
+            seconds.append(Second.between(before, now))
         self.before = counts
-        print(text, file=sys.stderr, flush=True)
+        if self.terminal and os.get_terminal_size(2) != self.terminal.size:
+            self.terminal.end()
+            self.terminal = terminal()
+        if self.terminal:
+            self.terminal.show(self.lines(at, counts, self.terminal.size.columns))
+        else:
+            print(self.line(at), file=sys.stderr, flush=True)
+
+    def line(self, at: float) -> str:
+        told = (f"{name:4} {last.rate:9.3f} Mbit/s {last.held:6} in link {last.delay:9.3f} ms {last.dropped:5} dropped"
+                for name, last in zip(NAMES, (seconds[-1] for seconds in self.seconds)))
+        return "  | ".join([f"{at:6.1f} s", *told])
+
+    def lines(self, at: float, counts: Counts, columns: int) -> list[str]:
+        """The lines of the graphs, both directions beside each other."""
+        following = next((f", at {moment / 1e9:.1f} s: {line}" for moment, line in self.changes if moment > counts["moment"]), "")
+        half = columns // 2 - 1
+        room = half - LABEL - VALUE - 1
+        rows = [f"{at:.0f} s{following} ".ljust(columns, "─"), "  ".join(f"{name:<{half}}" for name in NAMES)]
+        for label, of, form in ROWS:
+            halves = (f"{label:<{LABEL}}{graph([of(one) for one in seconds], room)} {form.format(of(seconds[-1])):<{VALUE}}" for seconds in self.seconds)
+            rows.append("  ".join(halves))
+        return rows
 
     def end(self) -> None:
-        pass
+        if self.terminal:
+            self.terminal.end()

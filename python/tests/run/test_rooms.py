@@ -19,7 +19,7 @@ class OfCommands(unittest.TestCase):
     def test_status_and_user(self) -> None:
         got = run("--", "sh", "-c", "id -u; exit 7")
         self.assertEqual((got.returncode, got.stdout.strip()), (7, str(os.getuid())))
-        self.assertEqual(got.stderr.count("; late p50 "), 2)
+        self.assertEqual(got.stderr.count(": late p99 "), 2)
         self.assertEqual(run("--", "/nix").returncode, 127)
         self.assertEqual(run("--", "/").returncode, 126)
         self.assertEqual(run("--", "sh", "-c", "kill -9 $$").returncode, 137)

@@ -68,7 +68,7 @@ def rounds(client: socket.socket, server: socket.socket, path: Path, count: int)
 
 
 def counts(said: str, way: str) -> dict[str, int]:
-    line = found(rf"hinge udp: {way}: (.*?);", said)[0]
+    line = found(rf"hinge udp: {way}: (\d+ came.*)", said)[0]
     return {words: int(number) for number, words in re.findall(r"(\d+) ([a-zA-Z ]+)", line)}
 
 
