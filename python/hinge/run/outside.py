@@ -4,6 +4,7 @@ from __future__ import annotations
 
 import os
 import shutil
+import signal
 import socket
 import time
 
@@ -16,21 +17,21 @@ PATIENCE = 5  # s
 
 
 def words_for(process: str, own_users: bool) -> list[str]:
-    """The command that joins the network of a process to this one's: slirp4netns where it is there, else pasta."""
+    """The command that joins the network of a process to this one's: slirp4netns where it is there, else pasta, which serves no root."""
     network, users = f"/proc/{process}/ns/net", f"/proc/{process}/ns/user"
     if shutil.which("slirp4netns"):
         return ["slirp4netns", "--configure", "--mtu=1500", f"--cidr={NET}", "--netns-type=path", *[f"--userns-path={users}"] * own_users, network, INTERFACE]
     return ["pasta", "--foreground", "--quiet", "--config-net", "--ns-ifname", INTERFACE, "--ipv4-only", "--mtu", "1500", "--address", OWN, "--netmask", "24",
             "--gateway", GATEWAY, "--dns-forward", RESOLVER, "-t", "none", "-u", "none", "-T", "none", "-U", "none",
-            *(["--userns", users] if own_users else ["--runas", "0"]), "--netns", network]
+            "--userns", users, "--netns", network]
 
 
 class Outside:
     """Made before this process leaves the system's network; waits until it is told whose room to join."""
 
     def __init__(self) -> None:
-        if not shutil.which("slirp4netns") and not shutil.which("pasta"):
-            raise Missing("--outside: there is neither slirp4netns nor pasta: sudo apt install slirp4netns")
+        if not shutil.which("slirp4netns") and (os.geteuid() == 0 or not shutil.which("pasta")):
+            raise Missing("--outside: slirp4netns isn't there, nor pasta, which serves users but root: sudo apt install slirp4netns")
         read_end, self.write_end = os.pipe()
         if os.fork() == 0:
             die_with_parent()
@@ -49,6 +50,7 @@ class Outside:
         process, own_users = told[:-1].decode().split()
         words = words_for(process, own_users == "True")
         os.dup2(os.open(os.devnull, os.O_WRONLY), 1)
+        signal.signal(signal.SIGPIPE, signal.SIG_DFL)  # pasta refuses to begin where it is ignored
         os.execvp(words[0], words)
 
     def tell(self, first: int, own_users: bool) -> None:

@@ -5,13 +5,14 @@ from __future__ import annotations
 import json
 import os
 import re
+import shutil
 import subprocess
 import sys
 import tempfile
 import unittest
 from typing import Any
 
-from linked import Done, found, needs, needs_rooms, run
+from linked import HINGE, Done, found, needs, needs_rooms, run
 
 PAYLOAD = 1448 / 1500  # of a TCP packet's bytes, with time stamps
 TOLERANCE = 0.05
@@ -132,3 +133,35 @@ class OfDownloads(Behind):
         done, told = self.summary("--up", "30ms", "--down", "30ms", "--server", serve, "--", "sh", "-c", ask)
         self.assertIn("42-there", done.stdout, re.sub(r"[^ -~]", "", done.stdout + done.stderr))
         self.assertGreater(told["down"]["sent"], 2)
+
+
+@needs_rooms
+@needs("curl")
+class OfOutside(Behind):
+    GATEWAY = "10.9.0.2"  # both of them lead it to the loopback interface of the system
+
+    def asked(self, path: str) -> None:
+        with open(f"{self.folder}/data", "w") as file:
+            file.write("from outside")
+        with subprocess.Popen([sys.executable, "-u", "-m", "http.server", "0", "--bind", "127.0.0.1"], cwd=self.folder, stdout=subprocess.PIPE,
+                              stderr=subprocess.DEVNULL, text=True) as server:
+            assert server.stdout
+            port = found(r"port (\d+)", server.stdout.readline())[0]
+            ask = ["curl", "-s", "-m", "9", "-w", " %{time_total}", f"http://{self.GATEWAY}:{port}/data"]
+            done = subprocess.run([*HINGE, "run", "--quiet", "--outside", "--up", "30ms", "--down", "30ms", "--", *ask], capture_output=True, text=True,
+                                  timeout=30, stdin=subprocess.DEVNULL, env={**os.environ, "PATH": path})
+            server.terminate()
+        self.assertRegex(done.stdout, r"^from outside 0\.\d+$", done.stderr)
+        self.assertGreaterEqual(float(done.stdout.split()[-1]), 0.12)  # two round trips
+
+    @needs("slirp4netns")
+    def test_by_slirp4netns(self) -> None:
+        self.asked(os.environ["PATH"])
+
+    @needs("pasta")
+    @unittest.skipIf(os.geteuid() == 0, "pasta doesn't serve root")
+    def test_by_pasta(self) -> None:
+        with tempfile.TemporaryDirectory() as alone:
+            for name in ("pasta", "curl"):
+                os.symlink(str(shutil.which(name)), f"{alone}/{name}")
+            self.asked(alone)
