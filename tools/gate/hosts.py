@@ -85,6 +85,27 @@ def page(tally: Tally, program: str, folder: Path) -> None:
     tally.equal("the session without a clock", (0, printed, ""), (done.returncode, done.stdout, done.stderr))
 
 
+CUT = """dummynet-history,3
+c,0,configure,pipe 1 config delay 1
+r,configured
+c,0,submit,pipe,1,10.0.0.1,10.0.0.2,17,1000,2000,1000,0,0
+r,queued,0,0,0
+#,next,1000000
+c,0,collect,1000000
+r,delivered,1000000,1
+d,0,0,0,10000"""
+
+
+def cut(tally: Tally, program: str, folder: Path) -> None:
+    """The page's command keeps the whole entries of a transcript that was cut."""
+    [command] = re.findall(r"^\$ (awk .*?) session\.history > front", (TOP / "docs" / "LIVE.md").read_text(), re.M | re.S)
+    (folder / "session.history").write_text(CUT)
+    done = subprocess.run(["sh", "-c", f"{command} session.history > front.history"], cwd=folder, capture_output=True, text=True)
+    tally.equal("the page's command for a cut transcript", (0, ""), (done.returncode, done.stderr))
+    done = subprocess.run([program, "audit", folder / "front.history"], capture_output=True, text=True)
+    tally.equal("the audit of its whole entries", (0, "lawful 2\n"), (done.returncode, done.stdout))
+
+
 def in_c(tally: Tally, program: str, folder: Path) -> None:
     """bench/live.c, a session by session.h: of 1,000 packets at 0, 0.1 .. 99.9 ms, each of which takes 5.08 ms, the last 51 aren't there."""
     if shutil.which("cc") is None:
@@ -99,7 +120,7 @@ def in_c(tally: Tally, program: str, folder: Path) -> None:
 def main(program: str) -> int:
     tally = Tally()
     with TemporaryDirectory() as folder:
-        for part in (page, example, in_c, tests):
+        for part in (page, cut, example, in_c, tests):
             part(tally, program, Path(folder))
     return tally.end()
 
