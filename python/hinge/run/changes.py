@@ -2,16 +2,16 @@
 
 from __future__ import annotations
 
-from typing import NamedTuple, Optional
+from bisect import bisect_right
+from typing import Iterator, NamedTuple
 
 from hinge.run.traces import outage_rate
-from hinge.run.words import Target, Wrong, configures, target_of, with_bandwidth
+from hinge.run.words import Target, configures, target_of, with_bandwidth
 
 
 class Change(NamedTuple):
     moment: int  # ns
-    line: str  # a configuration line, or `outage PIPE LENGTH` as it begins
-    own: bool = False  # whether it is an outage's
+    line: str  # a configuration line, or `outage PIPE LENGTH` as an outage begins
 
 
 class Outage(NamedTuple):
@@ -30,26 +30,31 @@ class Changes:
         self.lines: list[Change] = []
         self.outages: list[Outage] = []
 
-    def line_at(self, pipe: int, moment: int) -> str:
-        """The line of a pipe that holds at a moment, as if there were no outages."""
+    def lines_of(self, pipe: int) -> list[Change]:
+        """The lines of a pipe by their moments, as if there were no outages; the first holds from the beginning."""
         target = Target("pipe", pipe)
-        held = [change.line for change in sorted(self.lines, key=lambda one: one.moment) if change.moment <= moment and target_of(change.line) == target]
-        line: Optional[str] = held[-1] if held else self.begun.get(target)
-        if line is None:
-            raise Wrong(f"an outage of pipe {pipe}, which isn't configured")
-        return line
+        first = [Change(0, self.begun[target])] if target in self.begun else []
+        return first + sorted((one for one in self.lines if target_of(one.line) == target), key=lambda one: one.moment)
 
-    def of_outage(self, outage: Outage) -> list[Change]:
-        before, after = self.line_at(outage.pipe, outage.moment), self.line_at(outage.pipe, outage.moment + outage.length)
+    def of_outage(self, outage: Outage, lines: list[Change], moments: list[int]) -> list[Change]:
+        """What an outage does to a pipe of these lines, which have these moments."""
+        before, after = (lines[bisect_right(moments, moment) - 1].line for moment in (outage.moment, outage.moment + outage.length))
         if not configures(before):
             return []  # it was deleted before
-        end = [Change(outage.moment + outage.length, after, True)] * configures(after)
+        end = [Change(outage.moment + outage.length, after)] * configures(after)
         if outage.lossy:
-            return [Change(outage.moment, before + " plr 1", True), *end]
+            return [Change(outage.moment, before + " plr 1"), *end]
         slow = with_bandwidth(before, outage_rate(outage.length, self.longest))
-        return [Change(outage.moment, slow, True), Change(outage.moment, f"outage {outage.pipe} {self.longest}", True), *end]
+        return [Change(outage.moment, slow), Change(outage.moment, f"outage {outage.pipe} {self.longest}"), *end]
+
+    def of_outages(self) -> Iterator[Change]:
+        for pipe in sorted({outage.pipe for outage in self.outages}):
+            lines = self.lines_of(pipe)
+            moments = [line.moment for line in lines]
+            for outage in self.outages:
+                if outage.pipe == pipe:
+                    yield from self.of_outage(outage, lines, moments)
 
     def all(self) -> list[Change]:
         """All changes by their moments; at one moment an outage's come last."""
-        own = [change for outage in self.outages for change in self.of_outage(outage)]
-        return sorted([*self.lines, *own], key=lambda change: change.moment)
+        return sorted([*self.lines, *self.of_outages()], key=lambda change: change.moment)

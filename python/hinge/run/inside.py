@@ -46,17 +46,17 @@ class Inside:
             say(f"the server doesn't listen after {self.server_wait:g} s; the command begins")
         return server
 
-    def commanded(self) -> tuple[int, bool]:
-        """Runs the command; its status, and whether a signal ended it from outside."""
+    def commanded(self, link: Link) -> tuple[int, bool]:
+        """Runs the command, as long as the link is there; its status, and whether it was ended from outside."""
         watch = Watch(self.page, self.order.changes) if self.order.asked.watch else None
         command = self.rooms.start(self.rooms.client, self.order.asked.command, self.order.mask)
-        came = self.processes.wait(command, ticker=Ticker(watch.tick) if watch else None)
+        came = self.processes.wait(command, ticker=Ticker(watch.tick) if watch else None, needed=link.process)
         if watch:
             watch.end()
-        if came is None:
+        if command in self.processes.ended:
             return self.processes.ended[command], False
         self.processes.end(command, COMMAND_PATIENCE)
-        return SIGNALLED + came, True
+        return SIGNALLED + (came or signal.SIGTERM), True
 
     def run(self) -> int:
         server = self.started_server()
@@ -67,7 +67,7 @@ class Inside:
         if failed is not None:
             return failed
         note_realtime(self.page)
-        status, ended = self.commanded()
+        status, ended = self.commanded(link)
         if server is not None:
             if not ended:
                 self.processes.wait(server, LAST_PACKETS)  # the last packets, and what it prints

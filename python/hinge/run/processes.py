@@ -46,11 +46,11 @@ class Processes:
         except ChildProcessError:
             pass
 
-    def wait(self, process: int, lasting: Optional[float] = None, ticker: Optional[Ticker] = None) -> Optional[int]:
-        """Waits until a process has ended, or so many seconds; a signal that came before."""
+    def wait(self, process: int, lasting: Optional[float] = None, ticker: Optional[Ticker] = None, needed: Optional[int] = None) -> Optional[int]:
+        """Waits until a process has ended, or one that it needs, or so many seconds; a signal that came before."""
         until = None if lasting is None else time.monotonic() + lasting
         self.reap()
-        while process not in self.ended:
+        while process not in self.ended and needed not in self.ended:
             now = time.monotonic()
             if until is not None and now >= until:
                 return None

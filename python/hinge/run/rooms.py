@@ -88,6 +88,7 @@ class Rooms:
         """Furnishes the present namespace; its descriptor and that of its interface."""
         set_up("lo")
         try_to_write("/proc/sys/net/ipv4/ping_group_range", f"{os.getegid()} {os.getegid()}")
+        try_to_write("/proc/sys/net/ipv4/ip_unprivileged_port_start", "0")
         return this_network(), add_tun(address, address6, mtu)
 
     def add_names(self) -> None:

@@ -3,6 +3,7 @@
 from __future__ import annotations
 
 import tempfile
+import time
 import unittest
 
 from hinge.run.page import BINS, Times
@@ -83,6 +84,13 @@ class Timelines(OfFiles):
     def test_an_outage_ends_with_what_was_asked_meanwhile(self) -> None:
         self.assertEqual(self.lines("1s up outage 2s\n2s pipe 1 config bw 5Mbit/s\n", "pipe 1 config bw 1Mbit/s"),
                          ["pipe 1 config bw 6000bit/s", "outage 1 1500", "pipe 1 config bw 5Mbit/s", "pipe 1 config bw 5Mbit/s"])
+
+    def test_many_outages_in_a_long_trace(self) -> None:
+        """36,000 lines and 2,000 outages take a second, and not their product."""
+        text = "".join(f"{n / 10} pipe 1 config bw {n + 1}\n" for n in range(36000)) + "".join(f"{n} up outage 200ms\n" for n in range(2000))
+        begun = time.monotonic()
+        self.assertEqual(len(self.lines(text, "pipe 1 config")), 36000 + 3 * 2000)
+        self.assertLess(time.monotonic() - begun, 10)
 
     def test_an_outage_of_a_pipe_that_is_deleted_meanwhile(self) -> None:
         self.assertEqual(self.lines("1s up outage 2s\n2s pipe delete 1\n", "pipe 1 config")[-1], "pipe delete 1")

@@ -56,9 +56,16 @@ class OfCommands(unittest.TestCase):
             with open(f"{folder}/h") as file:
                 self.assertNotIn("submit", file.read())
 
+    @needs("ip")
+    def test_an_interface_that_goes_away_ends_the_run(self) -> None:
+        begun = time.monotonic()
+        got = run("--", "sh", "-c", "sleep 0.2; ip link del dev link; sleep 30")
+        self.assertEqual((got.returncode, "void: the link broke off before the end" in got.stderr), (75, True), got.stderr)
+        self.assertLess(time.monotonic() - begun, 10)
+
     def test_a_server(self) -> None:
-        serve = f"{sys.executable} -c \"import socket; s=socket.create_server(('',8080)); c=s.accept()[0]; c.send(b'hello'); c.close()\""
-        ask = "import socket; print(socket.create_connection(('server',8080)).recv(9))"
+        serve = f"{sys.executable} -c \"import socket; s=socket.create_server(('',80)); c=s.accept()[0]; c.send(b'hello'); c.close()\""
+        ask = "import socket; print(socket.create_connection(('server',80)).recv(9))"
         got = run("--up", "10ms", "--server", serve, "--", sys.executable, "-c", ask)
         self.assertEqual((got.returncode, got.stdout.strip()), (0, "b'hello'"), got.stderr)
 
