@@ -4,6 +4,7 @@ from __future__ import annotations
 
 import os
 import signal
+import sys
 import time
 from pathlib import Path
 from typing import Iterable, Optional, Sequence
@@ -20,6 +21,8 @@ POLL = 0.0005  # s between looks at the page
 def program() -> str:
     """What the variable HINGE_LINK names, else the host beside this module, as it is installed, else that of the repository in which
     this module lies: the released one, or the one that tools/hosts has built."""
+    if sys.platform != "linux":
+        raise Missing("the host is a program of Linux")
     repository = HERE.parents[2]
     for place in (os.environ.get("HINGE_LINK"), HERE / NAME, repository / "release" / NAME, repository / "built" / NAME):
         if place and os.access(place, os.X_OK):

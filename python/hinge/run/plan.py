@@ -18,6 +18,7 @@ from typing import Optional
 from hinge.run.changes import Change, Changes, Outage
 from hinge.run.losses import loss_lines
 from hinge.run.rules import Rule
+from hinge.run.spelling import spelled
 from hinge.run.traces import MAHIMAHI_BYTES, read_trace
 from hinge.run.words import WAYS, Target, Wrong, bare, configures, duration, read_lines, target_of, with_bandwidth
 
@@ -107,8 +108,8 @@ class Plan:
     def text(self, seed: int, transcript: Optional[str] = None, realtime: bool = False, most: int = MOST) -> str:
         out = [f"transcript {most} {transcript}"] if transcript else []
         out += [f"seed {way} {seed}" for way in (0, 1)] + self.rest
-        out += [f"line {self.lossy(line)}" for line in self.configured]
+        out += [f"line {spelled(self.lossy(line))}" for line in self.configured]
         for change in self.changes.all():
             kind, _, rest = change.line.partition(" ")
-            out.append(f"outage {change.moment} {rest}" if kind == "outage" else f"at {change.moment} {self.lossy(change.line)}")
+            out.append(f"outage {change.moment} {rest}" if kind == "outage" else f"at {change.moment} {spelled(self.lossy(change.line))}")
         return "\n".join([*out, *["realtime"] * realtime, ""])

@@ -2,18 +2,19 @@
 
 from __future__ import annotations
 
-import curses
 import os
 import sys
 from collections import deque
-from typing import Callable, NamedTuple, Optional
+from typing import TYPE_CHECKING, Callable, NamedTuple, Optional
 
 from hinge.run.page import Counts, Page, Way
 from hinge.run.summary import NAMES
 
+if TYPE_CHECKING:
+    from hinge.run.terminal import Terminal
+
 BARS = " ▁▂▃▄▅▆▇█"
 HEIGHT = 6  # lines of the graphs
-LEAST_LINES, LEAST_COLUMNS = 12, 60  # of a terminal with graphs
 LABEL, VALUE = 8, 16  # columns beside a graph
 
 
@@ -47,40 +48,13 @@ def graph(values: list[float], columns: int) -> str:
     return "".join(BARS[round(value / most * 8) if most else 0] for value in shown).rjust(columns)
 
 
-class Terminal:
-    """Standard error, whose last lines are kept from what the command prints."""
-
-    def __init__(self) -> None:
-        """curses.error where it is none, or has no region that scrolls by itself."""
-        curses.setupterm(fd=2)
-        self.size = os.get_terminal_size(2)
-        if curses.tigetstr("csr") is None or self.size.lines < LEAST_LINES or self.size.columns < LEAST_COLUMNS:
-            raise curses.error
-        self.write("\n" * HEIGHT + self.code("csr", 0, self.size.lines - HEIGHT - 1) + self.code("cup", self.size.lines - HEIGHT - 1, 0))
-
-    @staticmethod
-    def code(name: str, *numbers: int) -> str:
-        return curses.tparm(curses.tigetstr(name) or b"", *numbers).decode()
-
-    @staticmethod
-    def write(text: str) -> None:
-        sys.stderr.write(text)
-        sys.stderr.flush()
-
-    def show(self, lines: list[str]) -> None:
-        rows = "".join(self.code("cup", self.size.lines - HEIGHT + row, 0) + line[:self.size.columns] + self.code("el") for row, line in enumerate(lines))
-        self.write(self.code("sc") + rows + self.code("rc"))
-
-    def end(self) -> None:
-        """Gives the whole terminal back."""
-        self.write(self.code("sc") + self.code("csr", 0, self.size.lines - 1) + self.code("cup", self.size.lines - HEIGHT, 0) + self.code("ed") + self.code("rc"))
-
-
 def terminal() -> Optional[Terminal]:
+    """The terminal, where standard error is one that has graphs, and this Python has its curses."""
     try:
-        return Terminal() if os.isatty(2) else None
-    except (curses.error, OSError):
+        from hinge.run.terminal import opened
+    except ImportError:
         return None
+    return opened(HEIGHT)
 
 
 class Watch:

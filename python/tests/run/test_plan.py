@@ -5,9 +5,11 @@ from __future__ import annotations
 import tempfile
 import time
 import unittest
+from fractions import Fraction
 
 from hinge.run.page import BINS, Times
 from hinge.run.plan import Plan
+from hinge.run.spelling import spelled
 from hinge.run.traces import Rate, Trace, outage_rate, read_trace
 from hinge.run.words import Wrong, duration, link_line
 
@@ -26,6 +28,19 @@ class OfFiles(unittest.TestCase):
 class Words(unittest.TestCase):
     def test_links(self) -> None:
         self.assertEqual(link_line(2, "10Mbit/s 20ms queue 100 loss 1%"), "pipe 2 config bw 10Mbit/s delay 20ms queue 100 plr 0.010000000")
+
+    def test_the_spelling_of_the_program(self) -> None:
+        for line, wanted in (("ipfw pipe 1 config bw 5Mbit/s delay 5ms", "pipe 1 config bw 5000000bit/s delay 5"),
+                             ("pipe 1 config bw 1KByte/s queue 64K", "pipe 1 config bw 8000bit/s queue 64Kbytes"),
+                             ("queue 2 config pipe 1 weight 3 queue 7", "queue 2 config pipe 1 weight 3 queue 7"),
+                             ("pipe 1 delete", "pipe delete 1"), ("pipe 1 config bw fast plr x", "pipe 1 config bw fast plr x"),
+                             ("pipe 1 config plr 0.5", "pipe 1 config plr 0.5"), ("pipe 1 config plr 1.", "pipe 1 config plr 1")):
+            self.assertEqual(spelled(line), wanted)
+
+    def test_a_loss_rate_keeps_its_whole_part(self) -> None:
+        """0.01 of 2^31 is 21474836.48."""
+        kept = Fraction(spelled("pipe 1 config plr 0.01").split()[-1]) * 2**31
+        self.assertTrue(21474836 <= kept < 21474836.001, kept)
 
     def test_times(self) -> None:
         self.assertEqual([duration(text) for text in ("5s", "600ms", "0.5", "2min")], [5 * 10**9, 6 * 10**8, 5 * 10**8, 120 * 10**9])

@@ -10,6 +10,7 @@ import signal
 import socket
 import struct
 import subprocess
+import sys
 import tempfile
 import time
 import unittest
@@ -115,6 +116,28 @@ class OfDatagrams(InAFolder):
         self.assertEqual((status, min(took) >= 0.04), (0, True))
         with open(kept) as file:
             self.assertEqual(len(found(rf"submit,pipe,1,240.0.0.1,240.0.0.1,17,\d+,\d+,{SIZE + 48},", file.read())), 3)
+
+    def test_a_path_without_a_processor_is_void(self) -> None:
+        """Four programs that do nothing but reckon share a processor with the host, which is the least of them."""
+        with sockets(2) as [server, client]:
+            path = Path(0, port_of(server), "--up", "1ms", "--late", "1ms")
+            with open(f"/proc/{path.process.pid}/task/{path.process.pid}/children") as children:
+                host = int(children.read().split()[0])
+            one = min(os.sched_getaffinity(0))
+            os.sched_setaffinity(host, {one})
+            os.setpriority(os.PRIO_PROCESS, host, 19)
+            loads = [subprocess.Popen([sys.executable, "-c", "while 1: pass"], preexec_fn=lambda: os.sched_setaffinity(0, {one})) for _ in range(4)]
+            try:
+                for _ in range(40):
+                    client.sendto(b"some", ("127.0.0.1", path.port))
+                    time.sleep(0.03)
+            finally:
+                for load in loads:
+                    load.kill(), load.wait()
+            for _ in range(40):
+                server.recv(9)
+            status, said = path.end()
+        self.assertEqual((status, "hinge udp: void: up: of 100 packets more than one was " in said), (75, True), said)
 
     def test_losses_and_the_seed(self) -> None:
         with sockets(2) as [server, client]:
