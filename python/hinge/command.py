@@ -10,7 +10,6 @@ import sys
 import threading
 import time
 from contextlib import contextmanager
-from pathlib import Path
 from types import ModuleType
 from typing import Callable, Iterator, NoReturn, TextIO
 

@@ -34,7 +34,7 @@ class Bernoulli:
 
     seed: int = 1
     direction: int = 1
-    drawn: int = 0
+    drawn: int = field(default=0, init=False)
 
     def next(self) -> int:
         self.drawn += 1
@@ -59,7 +59,7 @@ class GilbertElliott:
     in_good: Rate = 0
     seed: int = 1
     direction: int = 1
-    is_bad: bool = False
+    is_bad: bool = field(default=False, init=False)
 
     def __post_init__(self) -> None:
         self.losses = {True: parts(self.in_bad), False: parts(self.in_good)}
@@ -104,14 +104,14 @@ def read_numbers(text: str) -> list[int]:
 
 
 def read_rates(text: str) -> list[Fraction]:
-    """The two to four rates of a Gilbert-Elliott model."""
+    """The four rates of a Gilbert-Elliott model, of which two need not stand in the text."""
     texts = text.split(",")
     if not 2 <= len(texts) <= 4 or not all(re.fullmatch(r"\d+(\.\d+)?|\.\d+", rate) for rate in texts):
         raise ValueError(f"{text!r} isn't of the form TO_BAD,TO_GOOD[,IN_BAD[,IN_GOOD]], rates from 0 to 1")
     rates = [Fraction(rate) for rate in texts]
     for rate in rates:
         parts(rate)
-    return rates
+    return rates + [Fraction(1), Fraction(0)][len(rates) - 2:]
 
 
 Maker = Callable[[int, int], Words]  # of a seed and a direction
@@ -121,8 +121,8 @@ def read_model(text: str) -> Maker:
     """What makes the model of a direction, by `gilbert:0.01,0.3` or `list:3,17-20`; ValueError is raised where the text is neither."""
     kind, _, rest = text.partition(":")
     if kind == "gilbert":
-        rates = read_rates(rest)
-        return lambda seed, direction: GilbertElliott(*rates, seed=seed, direction=direction)
+        to_bad, to_good, in_bad, in_good = read_rates(rest)
+        return lambda seed, direction: GilbertElliott(to_bad, to_good, in_bad, in_good, seed, direction)
     if kind == "list":
         numbers = read_numbers(rest)
         return lambda seed, direction: Listed(numbers)

@@ -13,7 +13,7 @@ from typing import Iterator, NamedTuple, Optional
 
 from hinge.checks.findings import MOST_FAULTS, Findings
 from hinge.command import ROWS
-from hinge.configured import InForce
+from hinge.configured import InForce, Setting
 from hinge.program import dummynet
 
 HEADER = ["moment", "target", "number", "src", "dst", "proto", "sport", "dport", "len", "word"]
@@ -172,10 +172,11 @@ class RowCheck:
     line: int = 1
 
     def check(self) -> None:
-        header, *rows = list(records(self.data, self.line)) or [None]
-        if header is None:
+        found = list(records(self.data, self.line))
+        if not found:
             self.found.warn(self.name, "it has no rows")
             return
+        header, *rows = found
         if header.fields() != HEADER:
             self.found.fault(f"{self.name}:{header.line}", wrong_header(header.text.decode("utf-8", "replace")), ROWS)
             if separator(header.text.decode("utf-8", "replace")) is None:
@@ -236,7 +237,8 @@ class RowCheck:
                             f"{sums.targets[target]} of {sums.count} rows go to {target}, which {self.config} doesn't configure{none}")
 
     def warn_of_words(self, sums: Sums, force: InForce) -> None:
-        rates = [entry.loss for entry in (*force.pipes.values(), *force.queues.values()) if entry.loss]
+        settings: list[Setting] = [*force.pipes.values(), *force.queues.values()]
+        rates = [setting.loss for setting in settings if setting.loss]
         if rates and sums.count > 1 and len(sums.words) == 1:
             word = int(next(iter(sums.words)))
             fate = "lost" if word % LOSS_PARTS < max(rates) else "not lost"

@@ -6,7 +6,6 @@ import gzip
 import importlib.util
 import os
 import re
-import shutil
 import subprocess
 import unittest
 from pathlib import Path
