@@ -1,17 +1,19 @@
 ghost use Rattle.std.specs.Prelude.{◌≡◌, ◌≢◌, ◌<◌, ◌≤◌, ◌+◌, ◌^◌, [], length, IfOk, IfErr, OnErr};
 
-use crate::lasting::{Lasting, Segment};
+use crate::desk::Desk;
+use crate::lasting::Lasting;
 use crate::lock::{enter, give_back, publish};
+use crate::patience::Patience;
 use crate::placed::{AfterFault, Placed};
-use crate::rule::{BookSeat, BookTable};
+use crate::rule::BookSeat;
 use crate::seen::Seen;
+use crate::segment::Segment;
 use crate::steps::{Learn, Tell, Witness};
 use crate::try_fault::TryFault;
 use dn_types::{Call, Reply};
 use std::alloc::AllocError;
 use std::marker::Model;
 use std::sync::{Arc, Wait};
-use std::thread;
 
 /// One of the callers that a service handed out. It can be sent to a thread of its own.
 ///
@@ -19,7 +21,7 @@ use std::thread;
 /// answered, and the caller's *own* entries, one for each of its answered calls.
 #[derive(Drop)]
 pub struct Caller {
-    table: Arc<BookTable>,
+    desk: Arc<Desk>,
     seat: BookSeat,
     number: usize,
 }
@@ -38,7 +40,7 @@ impl Model for Caller {
       own = own_in c.seat.me.0.accounts;
     } };
 
-    ghost invariant = { λ c. IsCallerSeat (arc_value c.table).shared.table_id c.number c.seat.table_id c.seat.me };
+    ghost invariant = { λ c. IsCallerSeat (arc_value c.desk).table.shared.table_id c.number c.seat.table_id c.seat.me };
 }
 
 impl Caller {
@@ -48,17 +50,13 @@ impl Caller {
     ghost use Rattle.dn_service.specs.Seats.{sitting};
 
     /// The caller of this number, who sits at the seat.
-    pub(crate) fn new(table: Arc<BookTable>, seat: BookSeat, number: usize) -> Caller
-        requires table { (seat.table_id ≡ (arc_value table).shared.table_id) × (seat.table_id.words ≡ 1) }
+    pub(crate) fn new(desk: Arc<Desk>, seat: BookSeat, number: usize) -> Caller
+        requires table { (seat.table_id ≡ (arc_value desk).table.shared.table_id) × (seat.table_id.words ≡ 1) }
         requires number { (number < seat.me.0.count) × (seat.me.0.count ≤ 16) }
         requires seat { seat.me ≡ (sitting seat.me.0.count number [] [], []) }
         ensures { result ≡ new_caller (record { table = seat.table_id; callers = seat.me.0.count }) number }
     {
-        Caller {
-            table,
-            seat,
-            number,
-        }
+        Caller { desk, seat, number }
     }
 
     pub(crate) fn into_seat(self) -> BookSeat
@@ -66,7 +64,7 @@ impl Caller {
         ensures seat { result.me ≡ (sitting self.service.callers self.number self.front self.own, []) }
     {
         let Caller {
-            table: _table,
+            desk: _desk,
             seat,
             number: _,
         } = self;
@@ -99,18 +97,18 @@ impl Caller {
         ensures busy { IfErr result (λ fault. NamesAnother self.old fault) }
     {
         let number = self.number;
-        let table: &BookTable = &self.table;
-        let mut book = match enter(table, &mut self.seat, number) {
+        let desk: &Desk = &self.desk;
+        let mut book = match enter(desk, &mut self.seat, number) {
             Ok(book) => book,
             Err(holder) => return Err(TryFault::Busy(holder)),
         };
         match book.apply(number, call) {
             Ok(reply) => {
-                publish(table, &mut self.seat, book);
+                publish(desk, &mut self.seat, book);
                 Ok(reply)
             }
             Err(_) => {
-                give_back(table, &mut self.seat, book);
+                give_back(desk, &mut self.seat, book);
                 Err(TryFault::OutOfMemory)
             }
         }
@@ -137,30 +135,30 @@ impl Caller {
         ensures err { OnErr result (self.new ≡ self.old) }
     {
         let caller = self.number;
-        let table: &BookTable = &self.table;
-        let mut book = match enter(table, &mut self.seat, caller) {
+        let desk: &Desk = &self.desk;
+        let mut book = match enter(desk, &mut self.seat, caller) {
             Ok(book) => book,
             Err(holder) => return Err(AfterFault::Busy(holder)),
         };
         let place = book.place();
         if place < after {
-            give_back(table, &mut self.seat, book);
+            give_back(desk, &mut self.seat, book);
             return Err(AfterFault::Ahead);
         }
         match book.apply(caller, call) {
             Ok(reply) => {
-                publish(table, &mut self.seat, book);
+                publish(desk, &mut self.seat, book);
                 Ok(Placed { place, reply })
             }
             Err(_) => {
-                give_back(table, &mut self.seat, book);
+                give_back(desk, &mut self.seat, book);
                 Err(AfterFault::OutOfMemory)
             }
         }
     }
 
-    /// Makes a call, and waits while other callers are in one: it yields its processor between two tries. Where memory is
-    /// refused, for the call or for its place in the history, nothing has changed.
+    /// Makes a call, and waits while other callers are in one: it spins between its first tries, and then sleeps until a call
+    /// has ended. Where memory is refused, for the call or for its place in the history, nothing has changed.
     pub fn call<R: Wait>(&mut self, rt: &R, call: Call) -> Result<Reply, AllocError>
         ensures ok { IfOk result (λ reply. Answered self.old call reply self.new) }
         ensures same_caller { IsSameCaller self.old self.new }
@@ -174,11 +172,12 @@ impl Caller {
         ensures same_caller { IsSameCaller self.old self.new }
         ensures err { OnErr result (self.new ≡ self.old) }
     {
+        let mut patience = Patience::new();
         for _ in rt.forever() {
             match self.try_once(call) {
                 Ok(reply) => return Ok(reply),
                 Err(TryFault::OutOfMemory) => return Err(AllocError),
-                Err(TryFault::Busy(_)) => thread::yield_now(),
+                Err(TryFault::Busy(_)) => patience.wait(rt, &self.desk.bell),
             }
         }
         unreachable!()
@@ -204,11 +203,12 @@ impl Caller {
         ensures same_caller { IsSameCaller self.old self.new }
         ensures same_service { lasting.new.service ≡ lasting.old.service }
     {
+        let mut patience = Patience::new();
         for _ in rt.forever() {
             if let Ok(segment) = self.try_take(lasting) {
                 return segment;
             }
-            thread::yield_now();
+            patience.wait(rt, &self.desk.bell);
         }
         unreachable!()
     }
@@ -218,7 +218,7 @@ impl Caller {
         ensures seen { (result.service ≡ self.old.service) × (result.front ≡ self.old.front) }
         ensures same { self.new ≡ self.old }
     {
-        let seat = self.table.shared.split_seat::<Witness>(&mut self.seat);
+        let seat = self.desk.table.shared.split_seat::<Witness>(&mut self.seat);
         Seen::new(seat)
     }
 
@@ -229,10 +229,10 @@ impl Caller {
         ensures learns { Learns self.old seen self.new }
         ensures same_caller { IsSameCaller self.old self.new }
     {
-        let table: &BookTable = &self.table;
-        table
+        let desk: &Desk = &self.desk;
+        desk.table
             .shared
             .join_seat::<Tell>(&mut self.seat, seen.into_seat());
-        let _ = table.shared.load::<Learn>(&mut self.seat, 0);
+        let _ = desk.table.shared.load::<Learn>(&mut self.seat, 0);
     }
 }

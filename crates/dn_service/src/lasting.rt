@@ -5,30 +5,24 @@ ghost use Rattle.dn_service.specs.Steps.{Emptied};
 use crate::caller::Caller;
 use crate::close_fault::CloseFault;
 use crate::closed::Closed;
+use crate::desk::Desk;
 use crate::lock::{enter, give_empty};
-use crate::rule::{BookSeat, BookTable};
+use crate::rule::BookSeat;
+use crate::segment::Segment;
 use crate::steps::{FirstAlone, Together, Vacate};
 use crate::take_in::{first_missing, leave};
+use crate::unlasting::Unlasting;
 use dn_types::Entry;
 use std::marker::Model;
 use std::mem;
 use std::sync::Arc;
-
-/// Entries that were taken out of a service.
-#[derive(Debug, Drop)]
-pub struct Segment {
-    /// How many entries were taken out before these.
-    pub start: u64,
-    /// The entries, oldest first.
-    pub entries: Vec<Entry>,
-}
 
 /// A service that lasts: its entries can be taken out while it goes on.
 ///
 /// Contracts see the service, and all entries that were *taken* so far.
 #[derive(Drop)]
 pub struct Lasting {
-    table: Arc<BookTable>,
+    desk: Arc<Desk>,
     seat: BookSeat,
     count: usize,
     start: u64,
@@ -47,25 +41,14 @@ impl Model for Lasting {
       taken = shed_in s.seat.me.0.shed;
     } };
 
-    ghost invariant = { λ s. IsLastingSeat (arc_value s.table).shared.table_id s.count s.seat.table_id s.seat.me
+    ghost invariant = { λ s. IsLastingSeat (arc_value s.desk).table.shared.table_id s.count s.seat.table_id s.seat.me
         × (length (shed_in s.seat.me.0.shed) < 2 ^ 64 → s.start ≡ length (shed_in s.seat.me.0.shed)) };
-}
-
-/// What was handed to `close`, with the reason why it was not closed. The service goes on as before.
-#[derive(Drop)]
-pub struct Unlasting {
-    /// Why the service was not closed.
-    pub fault: CloseFault,
-    /// The service, with all that it has answered.
-    pub service: Lasting,
-    /// The callers that were handed in, in the same order.
-    pub callers: Vec<Caller>,
 }
 
 /// Takes all entries out of the book, by a seat that stands for the caller `number` alone and has all that was taken out
 /// before. `Err` names the caller that has the book.
-fn empty(table: &BookTable, seat: &mut BookSeat, number: usize) -> Result<Vec<Entry>, usize>
-    requires table { (seat.old.table_id ≡ table.now.shared.table_id) × (seat.old.table_id.words ≡ 1) }
+fn empty(desk: &Desk, seat: &mut BookSeat, number: usize) -> Result<Vec<Entry>, usize>
+    requires table { (seat.old.table_id ≡ desk.now.table.shared.table_id) × (seat.old.table_id.words ≡ 1) }
     requires number { number + 1 < 2 ^ 64 }
     requires seat { IsKeeperOf number seat.old.me }
     ensures table { (seat.new.table_id ≡ seat.old.table_id) × (seat.new.id ≡ seat.old.id) }
@@ -75,10 +58,10 @@ fn empty(table: &BookTable, seat: &mut BookSeat, number: usize) -> Result<Vec<En
     ensures err { OnErr result (seat.new.me ≡ seat.old.me) }
     ensures busy { IfErr result (λ k. (k < seat.old.me.0.count) × (k ≢ number)) }
 {
-    match enter(table, seat, number) {
+    match enter(desk, seat, number) {
         Ok(mut book) => {
             let entries = book.take();
-            give_empty(table, seat, book);
+            give_empty(desk, seat, book);
             Ok(entries)
         }
         Err(holder) => Err(holder),
@@ -91,12 +74,12 @@ impl Lasting {
     ghost use Rattle.dn_service.specs.Seats.{IsCallerSeat, IsServiceSeat};
     ghost use Rattle.std.specs.Arc.{arc_value};
 
-    pub(crate) fn new(table: Arc<BookTable>, seat: BookSeat, count: usize) -> Lasting
-        requires { IsServiceSeat (arc_value table).shared.table_id count seat.table_id seat.me }
+    pub(crate) fn new(desk: Arc<Desk>, seat: BookSeat, count: usize) -> Lasting
+        requires { IsServiceSeat (arc_value desk).table.shared.table_id count seat.table_id seat.me }
         ensures { result ≡ record { service = record { table = seat.table_id; callers = count }; taken = [] } }
     {
         Lasting {
-            table,
+            desk,
             seat,
             count,
             start: 0,
@@ -115,13 +98,13 @@ impl Lasting {
         ensures err { OnErr result ((seat.new.me ≡ seat.old.me) × (self.new ≡ self.old)) }
         ensures busy { IfErr result (λ k. (k < seat.old.me.0.count) × (k ≢ number)) }
     {
-        let table: &BookTable = &self.table;
-        let (_, vacant) = table.shared.load_new_seat::<Vacate>(0);
-        table
+        let desk: &Desk = &self.desk;
+        let (_, vacant) = desk.table.shared.load_new_seat::<Vacate>(0);
+        desk.table
             .shared
             .join_seat::<Together>(&mut self.seat, mem::replace(seat, vacant));
-        let taken = empty(table, &mut self.seat, number);
-        *seat = table.shared.split_seat::<FirstAlone>(&mut self.seat);
+        let taken = empty(desk, &mut self.seat, number);
+        *seat = desk.table.shared.split_seat::<FirstAlone>(&mut self.seat);
         match taken {
             Ok(entries) => {
                 let start = self.start;
@@ -147,13 +130,13 @@ impl Lasting {
             });
         }
         let Lasting {
-            table,
+            desk,
             mut seat,
             count: _,
             start: _,
         } = self;
         Ok(Closed {
-            history: leave(&table, &mut seat, callers),
+            history: leave(&desk, &mut seat, callers),
         })
     }
 }

@@ -1,33 +1,40 @@
 //! Many callers of one dummynet, whose calls become one lawful history.
 #![tactic(auto)]
 
+mod bell;
 mod book;
 mod caller;
 mod close_fault;
 mod closed;
+mod desk;
 mod hand_out;
 mod lasting;
 mod lock;
 mod open_fault;
+mod patience;
 mod placed;
 mod room;
 mod rule;
 mod seen;
+mod segment;
 mod service;
 mod steps;
 mod take_in;
 mod try_fault;
 mod unclosed;
+mod unlasting;
 mod view;
 
 pub use caller::Caller;
 pub use close_fault::CloseFault;
 pub use closed::Closed;
 pub use dn_shaper::HashKey;
-pub use lasting::{Lasting, Segment, Unlasting};
+pub use lasting::Lasting;
 pub use open_fault::OpenFault;
 pub use placed::{AfterFault, Placed};
 pub use seen::Seen;
+pub use segment::Segment;
 pub use service::Service;
 pub use try_fault::TryFault;
 pub use unclosed::Unclosed;
+pub use unlasting::Unlasting;

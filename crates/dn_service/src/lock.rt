@@ -6,6 +6,7 @@ ghost use Rattle.dn_service.specs.Seats.{Has, with_taken, with_history, with_she
 ghost use Rattle.dn_service.specs.Steps.{Won};
 
 use crate::book::Book;
+use crate::desk::Desk;
 use crate::rule::{BookSeat, BookTable};
 use crate::steps::{Empty, Publish, Return, Try};
 
@@ -31,8 +32,8 @@ fn put_in(table: &BookTable, seat: &mut BookSeat, book: Book)
 }
 
 /// Tries once to take the word and the book for the caller `number`. `Err` names the caller that has them.
-pub(crate) fn enter(table: &BookTable, seat: &mut BookSeat, number: usize) -> Result<Book, usize>
-    requires table { (seat.old.table_id ≡ table.now.shared.table_id) × (seat.old.table_id.words ≡ 1) }
+pub(crate) fn enter(desk: &Desk, seat: &mut BookSeat, number: usize) -> Result<Book, usize>
+    requires table { (seat.old.table_id ≡ desk.now.table.shared.table_id) × (seat.old.table_id.words ≡ 1) }
     requires number { number + 1 < 2 ^ 64 }
     requires seat { (seat.old.me.0.taken ≡ None) × (seat.old.me.1 ≡ []) × Has number seat.old.me.0.accounts }
     ensures table { (seat.new.table_id ≡ seat.old.table_id) × (seat.new.id ≡ seat.old.id) }
@@ -40,30 +41,32 @@ pub(crate) fn enter(table: &BookTable, seat: &mut BookSeat, number: usize) -> Re
         (λ book. Won seat.old.me seat.new.me book)
         (λ holder. (seat.new.me ≡ seat.old.me) × (holder < seat.old.me.0.count) × (¬ Has holder seat.old.me.0.accounts)) }
 {
-    let found = table
+    let found = desk
+        .table
         .shared
         .compare_exchange::<Try>(seat, 0, 0, number as u64 + 1);
     if found != 0 {
         return Err((found - 1) as usize);
     }
-    Ok(take_out(table, seat))
+    Ok(take_out(&desk.table, seat))
 }
 
 /// Gives the book back as it was taken.
-pub(crate) fn give_back(table: &BookTable, seat: &mut BookSeat, book: Book)
-    requires table { (seat.old.table_id ≡ table.now.shared.table_id) × (seat.old.table_id.words ≡ 1) }
+pub(crate) fn give_back(desk: &Desk, seat: &mut BookSeat, book: Book)
+    requires table { (seat.old.table_id ≡ desk.now.table.shared.table_id) × (seat.old.table_id.words ≡ 1) }
     requires seat { seat.old.me.1 ≡ (0, None) ∷ [] }
     requires book { (was : Past) × (seat.old.me.0.taken ≡ Some was) × Keeps was book }
     ensures table { (seat.new.table_id ≡ seat.old.table_id) × (seat.new.id ≡ seat.old.id) }
     ensures seat { seat.new.me ≡ (with_taken seat.old.me.0 None, []) }
 {
-    put_in(table, seat, book);
-    table.shared.store::<Return>(seat, 0, 0);
+    put_in(&desk.table, seat, book);
+    desk.table.shared.store::<Return>(seat, 0, 0);
+    desk.bell.ring();
 }
 
 /// Gives the book back with one entry more, of a caller of this seat. Here the call happens, for all callers.
-pub(crate) fn publish(table: &BookTable, seat: &mut BookSeat, book: Book)
-    requires table { (seat.old.table_id ≡ table.now.shared.table_id) × (seat.old.table_id.words ≡ 1) }
+pub(crate) fn publish(desk: &Desk, seat: &mut BookSeat, book: Book)
+    requires table { (seat.old.table_id ≡ desk.now.table.shared.table_id) × (seat.old.table_id.words ≡ 1) }
     requires seat { seat.old.me.1 ≡ (0, None) ∷ [] }
     requires book { (was : Past) × (e : Entry) × (seat.old.me.0.taken ≡ Some was)
         × Keeps (with_entry was e) book × Has e.caller seat.old.me.0.accounts }
@@ -71,19 +74,21 @@ pub(crate) fn publish(table: &BookTable, seat: &mut BookSeat, book: Book)
     ensures seat { (was : Past) → seat.old.me.0.taken ≡ Some was
         → seat.new.me ≡ (with_history seat.old.me.0 (was.shed ++ book.kept), []) }
 {
-    put_in(table, seat, book);
-    table.shared.store::<Publish>(seat, 0, 0);
+    put_in(&desk.table, seat, book);
+    desk.table.shared.store::<Publish>(seat, 0, 0);
+    desk.bell.ring();
 }
 
 /// Gives the book back without its entries, which were taken out. The seat is the one that has all that was taken out before.
-pub(crate) fn give_empty(table: &BookTable, seat: &mut BookSeat, book: Book)
-    requires table { (seat.old.table_id ≡ table.now.shared.table_id) × (seat.old.table_id.words ≡ 1) }
+pub(crate) fn give_empty(desk: &Desk, seat: &mut BookSeat, book: Book)
+    requires table { (seat.old.table_id ≡ desk.now.table.shared.table_id) × (seat.old.table_id.words ≡ 1) }
     requires seat { seat.old.me.1 ≡ (0, None) ∷ [] }
     requires shed { (shed : List Entry) × (seat.old.me.0.shed ≡ Some shed) }
     requires book { (was : Past) × (seat.old.me.0.taken ≡ Some was) × Keeps (all_shed was) book }
     ensures table { (seat.new.table_id ≡ seat.old.table_id) × (seat.new.id ≡ seat.old.id) }
     ensures seat { (was : Past) → seat.old.me.0.taken ≡ Some was → seat.new.me ≡ (with_shed seat.old.me.0 was.history, []) }
 {
-    put_in(table, seat, book);
-    table.shared.store::<Empty>(seat, 0, 0);
+    put_in(&desk.table, seat, book);
+    desk.table.shared.store::<Empty>(seat, 0, 0);
+    desk.bell.ring();
 }

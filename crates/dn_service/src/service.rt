@@ -1,10 +1,12 @@
 ghost use Rattle.std.specs.Prelude.{◌≡◌, ◌<◌, ◌≤◌, [], All, IfOk, IfErr};
 ghost use Rattle.dn_service.specs.Seats.{first_seat};
 
+use crate::bell::Bell;
 use crate::book::Book;
 use crate::caller::Caller;
 use crate::close_fault::CloseFault;
 use crate::closed::Closed;
+use crate::desk::Desk;
 use crate::hand_out::hand_out;
 use crate::lasting::Lasting;
 use crate::open_fault::OpenFault;
@@ -25,7 +27,7 @@ const MOST_CALLERS: usize = 16;
 /// Contracts see which service it is, and the number of its callers.
 #[derive(Drop)]
 pub struct Service {
-    table: Arc<BookTable>,
+    desk: Arc<Desk>,
     seat: BookSeat,
     count: usize,
 }
@@ -39,7 +41,7 @@ impl Model for Service {
 
     ghost view = { λ s. record { table = s.seat.table_id; callers = s.count } };
 
-    ghost invariant = { λ s. IsServiceSeat (arc_value s.table).shared.table_id s.count s.seat.table_id s.seat.me };
+    ghost invariant = { λ s. IsServiceSeat (arc_value s.desk).table.shared.table_id s.count s.seat.table_id s.seat.me };
 }
 
 /// The table with a new book, and its first seat.
@@ -87,15 +89,19 @@ impl Service {
         let Ok((table, mut seat)) = new_table(alloc, n, key) else {
             return Err(OpenFault::OutOfMemory);
         };
-        let Ok(table) = Arc::new(alloc, table) else {
+        let desk = Desk {
+            table,
+            bell: Bell::new(),
+        };
+        let Ok(desk) = Arc::new(alloc, desk) else {
             return Err(OpenFault::OutOfMemory);
         };
-        let Ok(callers) = hand_out(alloc, &table, &mut seat, n) else {
+        let Ok(callers) = hand_out(alloc, &desk, &mut seat, n) else {
             return Err(OpenFault::OutOfMemory);
         };
         Ok((
             Service {
-                table,
+                desk,
                 seat,
                 count: n,
             },
@@ -119,12 +125,12 @@ impl Service {
             });
         }
         let Service {
-            table,
+            desk,
             mut seat,
             count: _,
         } = self;
         Ok(Closed {
-            history: leave(&table, &mut seat, callers),
+            history: leave(&desk, &mut seat, callers),
         })
     }
 
@@ -132,7 +138,7 @@ impl Service {
     pub fn lasting(self) -> Lasting
         ensures { result ≡ record { service = self; taken = [] } }
     {
-        let Service { table, seat, count } = self;
-        Lasting::new(table, seat, count)
+        let Service { desk, seat, count } = self;
+        Lasting::new(desk, seat, count)
     }
 }

@@ -3,6 +3,7 @@ ghost use Rattle.dn_service.specs.Callers.{ServiceView, has_number, IsLeastMissi
 ghost use Rattle.dn_service.specs.Seats.{keeping, shed_in};
 
 use crate::caller::Caller;
+use crate::desk::Desk;
 use crate::lock::enter;
 use crate::rule::{BookSeat, BookTable};
 use crate::steps::Together;
@@ -40,17 +41,17 @@ pub(crate) fn first_missing(callers: &[Caller], count: usize) -> Option<usize>
 }
 
 /// The entries that are left, once all callers have come back. With those that the seat has taken out they are the history.
-pub(crate) fn leave(table: &BookTable, seat: &mut BookSeat, callers: Vec<Caller>) -> Vec<Entry>
-    requires table { (seat.old.table_id ≡ table.now.shared.table_id) × (seat.old.table_id.words ≡ 1) }
+pub(crate) fn leave(desk: &Desk, seat: &mut BookSeat, callers: Vec<Caller>) -> Vec<Entry>
+    requires table { (seat.old.table_id ≡ desk.now.table.shared.table_id) × (seat.old.table_id.words ≡ 1) }
     requires callers { (service : ServiceView) × (service.table ≡ seat.old.table_id)
         × (seat.old.me ≡ (keeping service.callers (shed_in seat.old.me.0.shed) [], [])) × All (IsOf service) callers.items }
     requires whole { (0 < seat.old.me.0.count) × ((k : ℕ) → k < seat.old.me.0.count → has_number k callers.items ≡ true) }
     ensures { (service : ServiceView) → service.callers ≡ seat.old.me.0.count
         → Closes service callers.items (shed_in seat.old.me.0.shed ++ result.items) }
 {
-    take_in(table, seat, callers);
+    take_in(&desk.table, seat, callers);
     // With all callers' seats joined, no other caller can be in a call.
-    let Ok(book) = enter(table, seat, 0) else {
+    let Ok(book) = enter(desk, seat, 0) else {
         unreachable!()
     };
     book.into_history()

@@ -5,7 +5,7 @@ use Rattle.dn_service.proofs.Taking.{tries}
 use Rattle.dn_service.proofs.lock.enter.Goals as goal
 
 pub compare_exchange-found-requires : goal.compare_exchange-found-requires
-compare_exchange-found-requires c = (search rules, search rules, tries c.args.table.now.shared.key _ _ _ c.args.number c.requires.seat.0 c.requires.seat.2)
+compare_exchange-found-requires c = (search rules, search rules, tries c.args.desk.now.table.shared.key _ _ _ c.args.number c.requires.seat.0 c.requires.seat.2)
 
 pub take_out-requires-clause-book : goal.take_out-requires-clause-book
 take_out-requires-clause-book c =

@@ -7,5 +7,5 @@ store-requires c =
     let put = c.put_in.ensures.seat in let b = c.requires.book in (
       search rules,
       search rules,
-      gives_back c.args.table.now.shared.key _ _ _ b.0 c.args.book (ap (λ x. x.0.taken) put ∙ b.1) (ap (λ x. x.1) put) b.2,
+      gives_back c.args.desk.now.table.shared.key _ _ _ b.0 c.args.book (ap (λ x. x.0.taken) put ∙ b.1) (ap (λ x. x.1) put) b.2,
     )

@@ -7,7 +7,7 @@ pub store-requires : goal.store-requires
 store-requires c = let put = c.put_in.ensures.seat in let b = c.requires.book in (
   search rules,
   search rules,
-  empties c.args.table.now.shared.key _ _ _ b.0 c.args.book c.requires.shed.0 (ap (λ x. x.0.taken) put ∙ b.1) (ap (λ x. x.1) put) b.2
+  empties c.args.desk.now.table.shared.key _ _ _ b.0 c.args.book c.requires.shed.0 (ap (λ x. x.0.taken) put ∙ b.1) (ap (λ x. x.1) put) b.2
       (ap (λ x. x.0.shed) put ∙ c.requires.shed.1),
 )
 

@@ -7,7 +7,7 @@ pub store-requires : goal.store-requires
 store-requires c = let put = c.put_in.ensures.seat in let b = c.requires.book in (
   search rules,
   search rules,
-  publishes c.args.table.now.shared.key _ _ _ b.0 b.1 c.args.book (ap (λ x. x.0.taken) put ∙ b.2) (ap (λ x. x.1) put) b.3
+  publishes c.args.desk.now.table.shared.key _ _ _ b.0 b.1 c.args.book (ap (λ x. x.0.taken) put ∙ b.2) (ap (λ x. x.1) put) b.3
       (subst (λ (v : SeatView). Has b.1.caller v.accounts) (sym (ap (λ x. x.0) put)) b.4),
 )
 
