@@ -12,6 +12,7 @@ import subprocess
 import sys
 from pathlib import Path
 from tempfile import TemporaryDirectory
+from typing import Callable
 
 from tally import Tally
 
@@ -19,16 +20,20 @@ HOSTILE = Path(__file__).resolve().parent.parent / "hostile"
 COUNTED = ["valgrind", "--tool=cachegrind", "--cache-sim=no", "--cachegrind-out-file=/dev/null"]
 FEWER = 4_000
 MOST = 2.3
+KIB = 1024
+Cost = Callable[[str, int, str], int]
 
 
 def written(generator: str, count: int, to: str) -> None:
     subprocess.run([sys.executable, HOSTILE / generator, str(count), to], check=True)
 
 
-def counted(words: list[str], given: str) -> int:
-    """How many instructions the program takes."""
+def counted(words: list[str], given: str, status: int = 0) -> int:
+    """How many instructions the program takes. It ends with this status."""
     with open(given, "rb") as stdin:
-        done = subprocess.run([*COUNTED, *words], stdin=stdin, stdout=subprocess.DEVNULL, stderr=subprocess.PIPE, check=True)
+        done = subprocess.run([*COUNTED, *words], stdin=stdin, stdout=subprocess.DEVNULL, stderr=subprocess.PIPE)
+    if done.returncode != status:
+        raise subprocess.CalledProcessError(done.returncode, words, None, done.stderr)
     return int(re.search(rb"I +refs: +([\d,]+)", done.stderr)[1].replace(b",", b""))
 
 
@@ -53,7 +58,18 @@ def idle_deletes(program: str, count: int, folder: str) -> int:
     return session("idle_deletes.py", program, count, folder)
 
 
-CASES = {"flows with chosen keys": chosen_keys, "flows of one deleted queue": queue_delete, "deletes that reach no flow": idle_deletes}
+def digits(field: str) -> Cost:
+    """A replay of a row that is a run of digits from a field on, and is refused."""
+    def cost(program: str, count: int, folder: str) -> int:
+        subprocess.run([sys.executable, HOSTILE / "digits.py", str(KIB * count), folder, field], check=True)
+        return counted([program, "replay", f"{folder}/digits.config", f"{folder}/digits.packets"], "/dev/null", 4)
+    return cost
+
+
+CASES: dict[str, Cost] = {
+    "flows with chosen keys": chosen_keys, "flows of one deleted queue": queue_delete, "deletes that reach no flow": idle_deletes,
+    "KiB of digits as a moment": digits("moment"), "KiB of digits as an address": digits("address"),
+}
 
 
 def main(program: str) -> int:

@@ -4,7 +4,8 @@ pub mod Prefixes
 pub mod WordCuts
 pub mod LineCuts
 pub mod Points
-pub mod Marks
+pub mod LongDigits
+mod Marks
 pub mod Shorts
 pub mod UntilBack
 pub mod UntilParts

@@ -9,6 +9,9 @@ ghost use Rattle.dn_text.specs.Until.{address_until, behind_byte, number_until};
 use crate::digits::split_digits;
 use crate::numbers::read_number;
 
+// No u64 has more digits.
+const MOST_DIGITS: usize = 20;
+
 /// One digit more than the numbers up to `greatest` have, but no more digits than fit into a u64.
 #[inline(always)]
 fn one_digit_more(greatest: u64) -> usize
@@ -87,7 +90,19 @@ fn behind_byte(text: &[u8], byte: u8) -> Option<&[u8]>
     }
 }
 
-/// As `number_until`, in two passes over the digits.
+/// Whether a text begins with more digits than a u64 has.
+fn has_too_many_digits(text: &[u8]) -> bool
+    ensures { result ≡ true → 20 < prefix_len is_ascii_digit text.now }
+{
+    if text.len() <= MOST_DIGITS {
+        return false;
+    }
+    let (digits, _) = split_digits(&text[..MOST_DIGITS + 1]);
+    digits.len() > MOST_DIGITS
+}
+
+/// As `number_until`, in passes over at most the digits of a u64 and one more. So a text that is digits alone
+/// costs no more than they do.
 #[cold]
 #[inline(never)]
 #[tactic(auto, unfolding(crate::specs::Until::number_until))]
@@ -95,6 +110,9 @@ fn long_number_until(text: &[u8], end: u8, least: u64, greatest: u64) -> Option<
     ensures value { option_map (λ p. (p.0, p.1.now)) result ≡ number_until end least greatest text.now }
     ensures in_range { IfSome result (λ p. (least ≤ p.0) × (p.0 ≤ greatest)) }
 {
+    if has_too_many_digits(text) {
+        return None;
+    }
     let (digits, behind) = split_digits(text);
     let number = read_number(digits, least, greatest).ok()?;
     let rest = behind_byte(behind, end)?;

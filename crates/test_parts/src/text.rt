@@ -1,5 +1,6 @@
 use dn_text::{
-    Lines, NumberFault, Words, read_address, read_number, read_numeral, split_digits, split_joined,
+    Lines, NumberFault, Words, address_until, number_until, read_address, read_number,
+    read_numeral, split_digits, split_joined,
 };
 
 // The columns are a text, the least and the greatest value, and the answer of the reference, a Python program that
@@ -42,6 +43,31 @@ fn numerals_of_any_radix(rt: HostRuntime) {
     assert!(rt; read_numeral(b"100", 16, 255) == Err(NumberFault::Range));
     assert!(rt; read_numeral(b"g", 16, 255) == Err(NumberFault::Shape));
     assert!(rt; split_digits(b"20KB") == (b"20".as_slice(), b"KB".as_slice()));
+}
+
+// A text, the greatest value, and what is read up to a comma, with what follows it. Worked out by hand: 2^64 - 1 has 20
+// digits.
+static UNTIL: [(&[u8], u64, Option<(u64, &[u8])>); 10] = [
+    (b"7,8,", 9, Some((7, b"8,"))),
+    (b"0,", 9, Some((0, b""))),
+    (b"10,", 9, None),
+    (b"7;", 9, None),
+    (b"7", 9, None),
+    (b",", 9, None),
+    (b"18446744073709551615,", u64::MAX, Some((u64::MAX, b""))),
+    (b"18446744073709551616,", u64::MAX, None),
+    (b"111111111111111111111,", u64::MAX, None),
+    (b"000000000000000000001,", u64::MAX, None),
+];
+
+#[test]
+fn numbers_up_to_a_byte(rt: HostRuntime) {
+    for (text, greatest, answer) in UNTIL.iter() {
+        assert!(rt; number_until(text, b',', 0, *greatest) == *answer);
+    }
+    assert!(rt; number_until(b"7,", b',', 8, 9).is_none());
+    assert!(rt; address_until(b"10.0.0.1,7", b',') == Some((0x0a00_0001, b"7".as_slice())));
+    assert!(rt; address_until(b"10.0.0.1111111111111111111111,", b',').is_none());
 }
 
 static ADDRESSES: [(&[u8], Option<u32>); 8] = [
