@@ -84,7 +84,7 @@ static inline struct session session_start(FILE *transcript) {
     close(in[0]);
     close(out[1]);
     signal(SIGPIPE, SIG_IGN); /* a session that has ended is told by a failed write */
-    if (strcmp(session_record(&made), "dummynet-history,3") != 0) fail("the program begins no session");
+    if (strcmp(session_record(&made), "dummynet-live,1") != 0) fail("the program begins no session");
     return made;
 }
 

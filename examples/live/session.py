@@ -18,7 +18,7 @@ from pathlib import Path
 from types import TracebackType
 from typing import Iterable, Iterator, NamedTuple, Optional
 
-BEGUN = b"dummynet-history,3\n"
+BEGUN = b"dummynet-live,1\n"
 MOST = 250_000_000  # bytes of a transcript; an audit reads at most 268,435,456
 LISTS = ("delivered", "status")  # the replies that end in a count of items
 

@@ -80,7 +80,7 @@ FORMS = [
     Case("lawful history", ["audit", "h"], 0, "lawful 3\n"),
     Case("changed history", ["audit", "h"], 1, "differs 1\n", files={"h": CHANGED}),
     Case("a live session", ["live"], 0, HISTORY, stdin=SESSION),
-    Case("a live session without lines", ["live"], 0, "dummynet-history,3\nend,0\n"),
+    Case("a live session without lines", ["live"], 0, "dummynet-live,1\nend,0\n"),
     Case("a bad line of a live session", ["live"], 4, HISTORY.replace("end,3\n", f"{BAD_LINE}end,3\n"), stdin=f"{SESSION}hello\n"),
     Case("CR LF in a joined input", [], 0, REPORT, stdin=f"{CONFIG}--\n{PACKETS}".replace("\n", "\r\n")),
     Case("CR LF in two files", replay(), 0, REPORT, files={"c": CONFIG.replace("\n", "\r\n"), "p": PACKETS.replace("\n", "\r\n")}),
@@ -214,7 +214,7 @@ def devices(tally: Tally, program: str) -> None:
         with open(Path(folder) / "both", "wb") as both:
             run(program, replay("--history", "both"), folder, "", stdout=both)
         tally.equal("a history over the report", HISTORY, (Path(folder) / "both").read_text())
-        for name, form, begun in (("", "", b""), (" of a live session", "live", b"dummynet-history,3\n")):
+        for name, form, begun in (("", "", b""), (" of a live session", "live", b"dummynet-live,1\n")):
             done = subprocess.run(["sh", "-c", f'exec "$0" {form} <&-', program], cwd=folder, capture_output=True)
             tally.equal(f"standard input{name} closed", (6, begun, b"cannot read input\n"), (done.returncode, done.stdout, done.stderr))
 

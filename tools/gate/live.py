@@ -126,7 +126,7 @@ def bad_lines(tally: Tally, program: str) -> None:
 def limits(tally: Tally, program: str) -> None:
     for line in (b"#" + b"x" * (LINE_LIMIT - 1), b"pipe 1 config" + b" " * (LINE_LIMIT - 13)):
         tally.equal(f"a line of {len(line)} bytes", wanted(line + b"\n"), told(program, line + b"\n"))
-        begun = b"dummynet-history,3\n"
+        begun = b"dummynet-live,1\n"
         tally.equal("one byte more", (begun, b"input too long\n", 6), told(program, line + b"x\n"))
         tally.equal("one byte more, without a line feed", (begun, b"input too long\n", 6), told(program, line + b"x"))
 
@@ -135,7 +135,7 @@ def devices(tally: Tally, program: str) -> None:
     with open("/dev/full", "wb") as full:
         tally.equal("a full device", (None, b"cannot write history\n", 6), told(program, b"", stdout=full))
     done = subprocess.run(["sh", "-c", 'exec "$0" live <&-', program], capture_output=True)
-    tally.equal("standard input closed", (b"dummynet-history,3\n", b"cannot read input\n", 6), (done.stdout, done.stderr, done.returncode))
+    tally.equal("standard input closed", (b"dummynet-live,1\n", b"cannot read input\n", 6), (done.stdout, done.stderr, done.returncode))
     done = subprocess.run([program, "live", "more"], capture_output=True, input=b"")
     tally.equal("a word too many", (b"", 2), (done.stdout, done.returncode))
 

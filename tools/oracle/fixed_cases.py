@@ -139,6 +139,8 @@ STATUS = "c,0,show\nr,status,1\nf,0,pipe,1,1,0.0.0.0,0.0.0.0,0,0,0,0.0.0.0,0.0.0
 ONE_CALLER = ("dummynet-history,3\n" + configured("pipe 1 config bw 8000000bit/s") + queued(0, 0)
               + delivered(1_000_000, "0,0,0,1000000") + STATUS + "end,4\n")
 
+TRANSCRIPT = ONE_CALLER.replace("dummynet-history,3", "dummynet-live,1")
+
 # The packets of a link overtake each other, as in histories of versions 1 and 2 alone.
 OVERTAKING = (configured("pipe 1 config bw 8Mbit/s delay 50") + queued(0, 0) + configured("pipe 1 config bw 8Mbit/s")
               + queued(2_000_000, 1) + delivered(3_000_000, "1,0,2000000,3000000") + "end,5\n")
@@ -164,6 +166,15 @@ AUDITS = {
     "long-count": ONE_CALLER.replace("end,4", "end," + "4" * 5000),
     "no-entries": "dummynet-history,3\nend,0\n",
     "no-record": "",
+    "transcript": TRANSCRIPT.replace("c,0,show", "#,next\n\n#\nc,0,show").replace("end,4", "#,bad,1,1,x\nend,4"),
+    "transcript-without-remarks": TRANSCRIPT,
+    "transcript-remark-before-a-reply": TRANSCRIPT.replace("r,configured", "#\nr,configured"),
+    "transcript-remark-before-an-item": TRANSCRIPT.replace("\nd,0,0", "\n#\nd,0,0"),
+    "transcript-remark-after-end": TRANSCRIPT + "#\n",
+    "transcript-remark-first": "#\n" + TRANSCRIPT,
+    "transcript-of-version-2": TRANSCRIPT.replace("live,1", "live,2"),
+    **{f"remark-in-version-{v}": f"dummynet-history,{v}\n#\nend,0\n" for v in (1, 2, 3)},
+    "remark-after-end": ONE_CALLER + "#\n",
 }
 
 # Command lines that give nothing to do.

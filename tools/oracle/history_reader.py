@@ -1,4 +1,4 @@
-"""Reading of history files, of versions 1 to 3, as docs/FORMATS.md says, and their audit."""
+"""Reading of history files, of versions 1 to 3, and of transcripts of live sessions, as docs/FORMATS.md says, and their audit."""
 
 from __future__ import annotations
 
@@ -16,6 +16,7 @@ from model import (
 )
 
 VERSIONS = {(b"dummynet-history", b"1"): 1, (b"dummynet-history", b"2"): 2, (b"dummynet-history", b"3"): 3}
+TRANSCRIPT = (b"dummynet-live", b"1")  # as version 3, with remarks between its entries
 SINCE_VERSION_2 = (Deleted, PipeHasQueues, NoSuchQueue)
 WIDTHS = {"queued": 3, "lost": 2, "full": 2, "no-target": 1, "advanced": 1}
 ITEM = TypeVar("ITEM")
@@ -25,8 +26,9 @@ class HistoryReader:
     """Reads one record after the other. A fault has the number of the record at hand."""
 
     def __init__(self, data: bytes) -> None:
-        self.records = [record for record in read_records(data) if not record[0].startswith(b"#")]  # without remarks
-        self.taken = 0
+        self.records = read_records(data)
+        self.taken = 0  # without remarks
+        self.remarks = 0
         self.version = 0
 
     def bad(self) -> ReplayFault:
@@ -35,9 +37,17 @@ class HistoryReader:
     def take(self) -> list[bytes]:
         """The next record; a missing one has the number that it would have."""
         self.taken += 1
-        if self.taken > len(self.records):
+        if self.is_at_end(self.taken - 1):
             raise self.bad()
-        return self.records[self.taken - 1]
+        return self.records[self.taken + self.remarks - 1]
+
+    def is_at_end(self, taken: int) -> bool:
+        return taken + self.remarks >= len(self.records)
+
+    def pass_remarks(self) -> None:
+        """In a transcript, between two entries."""
+        while not self.is_at_end(self.taken) and self.records[self.taken + self.remarks][0].startswith(b"#"):
+            self.remarks += 1
 
     def known(self, value: Optional[ITEM]) -> ITEM:
         if value is None:
@@ -57,16 +67,20 @@ class HistoryReader:
 
     def read(self) -> tuple[str, list[Entry]]:
         """The rule of the file's version, and the entries."""
-        self.version = self.known(VERSIONS.get(tuple(self.take())))
+        first = tuple(self.take())
+        self.version = 3 if first == TRANSCRIPT else self.known(VERSIONS.get(first))
+        pass_remarks = self.pass_remarks if first == TRANSCRIPT else lambda: None
         entries: list[Entry] = []
+        pass_remarks()
         record = self.take()
         while record[0] != b"end":
             caller, call = self.call(record)
             entries.append(Entry(caller, call, self.reply(self.take())))
+            pass_remarks()
             record = self.take()
         if len(record) != 2 or self.number(record[1]) != len(entries):
             raise self.bad()
-        if self.taken < len(self.records):
+        if not self.is_at_end(self.taken):
             self.taken += 1
             raise self.bad()
         return (ORDERED if self.version == 3 else FREE), entries

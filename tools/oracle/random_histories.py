@@ -17,8 +17,9 @@ from scenarios import Style, random_calls
 from spelling import spell
 
 FIRST_RECORDS = (b"dummynet-history,1", b"dummynet-history,2", b"dummynet-history,3", b"dummynet-history,4",
-                 b"dummynet-history,03", b"dummynet-history", b"dummynet-history,3,", b"Dummynet-history,3", b"")
-FURTHER_RECORDS = (b"", b"c,0,show", b"r,configured", b"d,0,0,0,0", b"x", b'""', b"end,0", b" ")
+                 b"dummynet-history,03", b"dummynet-history", b"dummynet-live,1", b"dummynet-live,2", b"dummynet-live", b"dummynet-history,3,", b"Dummynet-history,3", b"")
+FURTHER_RECORDS = (b"#", b"#,next,7", b"", b"c,0,show", b"r,configured", b"d,0,0,0,0", b"x", b'""', b"end,0", b" ")
+REMARKS = ("#", "#,next,7", "#,bad,3,1,word 1: unknown word", "\"#\",x")
 OTHER_NAMES = {
     b"configured": (b"no-such-pipe", b"deleted", b"exhausted"),
     b"no-such-pipe": (b"configured", b"no-such-queue"),
@@ -47,8 +48,13 @@ def call_record(rng: Random, caller: int, c: Call, plain: bool) -> str:
     return call_text(caller, c)
 
 
+def remarks(rng: Random) -> list[str]:
+    """What may come between two entries of a transcript."""
+    return [rng.choice(REMARKS) for _ in range(rng.choice((0, 0, 0, 1, 1, 3)))]
+
+
 def lawful_history(rng: Random, style: Style) -> list[bytes]:
-    """The records of a lawful history."""
+    """The records of a lawful history, or of a live session's transcript of one."""
     version = rng.choice((1, 2, 3, 3))
     count = rng.choice((3, 20, 40, 40, 80))
     calls = random_calls(rng, style, count, rng.randint(1, 16), version > 1 and rng.random() < 0.7)
@@ -57,10 +63,11 @@ def lawful_history(rng: Random, style: Style) -> list[bytes]:
     if replies != [second.apply(c) for _, c in calls]:
         sys.exit("the two programs of the reference differ")
     plain = rng.random() < 0.6
-    lines = [f"dummynet-history,{version}"]
+    live = version == 3 and rng.random() < 0.3
+    lines = ["dummynet-live,1" if live else f"dummynet-history,{version}"]
     for (caller, call), reply in zip(calls, replies):
-        lines += [call_record(rng, caller, call, plain), *reply_lines(reply, version)]
-    return [line.encode() for line in [*lines, f"end,{len(calls)}"]]
+        lines += [*(remarks(rng) if live else ()), call_record(rng, caller, call, plain), *reply_lines(reply, version)]
+    return [line.encode() for line in [*lines, *(remarks(rng) if live else ()), f"end,{len(calls)}"]]
 
 
 def other_number(rng: Random, value: int) -> int:

@@ -1,5 +1,5 @@
 -- The record of a call, read back.
-use Rattle.std.proofs.Common.{◌≡◌, refl, ℕ, ◌^◌, ◌<◌, ◌≤◌, arith}
+use Rattle.std.proofs.Common.{◌≡◌, refl, ℕ, ◌^◌, ◌<◌, ◌≤◌, true, arith}
 use Rattle.std.specs.Prelude.{Some, Ok}
 use Rattle.csv.specs.Records.{field_at}
 use Rattle.dn_types.specs.declared.call.Call.{Call}
@@ -15,9 +15,9 @@ use Rattle.dn_config.proofs.TextBytes.{text_utf8}
 use Rattle.dn_files.specs.ConfigFile.{command_at}
 use Rattle.dn_history.specs.EntryRecords.{call_record}
 use Rattle.dn_history.specs.HistoryFile.{call_of, command_by}
-use Rattle.dn_history.specs.HistoryRecords.{caller_of, plain_call, submit_of}
+use Rattle.dn_history.specs.HistoryRecords.{caller_of, has_deletes, plain_call, submit_of}
 use Rattle.dn_history.specs.Ranges.{IsCall, IsPacket, IsTarget}
-use Rattle.dn_history.specs.declared.history_version.HistoryVersion.TheVariants.{Third}
+use Rattle.dn_history.specs.declared.history_version.HistoryVersion.{HistoryVersion}
 use Rattle.dn_files.proofs.Commands.{said}
 use Rattle.dn_history.proofs.FieldsBack.{HasTuple, number_back, packet_back, target_back}
 
@@ -29,12 +29,12 @@ caller_back caller call l = number_back 2 0 15 caller (call_record caller call) 
 line_back : (command : Command) → IsTyped command → command_at 1 (text command) ≡ Ok (Some command)
 line_back command h = said 1 (text command) (Ok (Some command)) (text_utf8 command h) (text_back command h)
 
--- Version 3 has deletes, so each command may stand in it.
-allowed : (number : ℕ) (command : Command) → command_by Third number (Ok (Some command)) ≡ Ok command
-allowed number (Pipe n bw delay limit loss buckets mask) = refl
-allowed number (Queue n pipe weight limit loss buckets mask) = refl
-allowed number (DeletePipe n) = refl
-allowed number (DeleteQueue n) = refl
+-- In a version that has deletes there may be each command.
+allowed : (version : HistoryVersion) (number : ℕ) (command : Command) → has_deletes version ≡ true → command_by version number (Ok (Some command)) ≡ Ok command
+allowed version number (Pipe n bw delay limit loss buckets mask) has = refl
+allowed version number (Queue n pipe weight limit loss buckets mask) has = refl
+allowed version number (DeletePipe n) has = rw has refl
+allowed version number (DeleteQueue n) has = rw has refl
 
 submit_back : (caller : ℕ) (target : Target) (packet : Packet) (moment : ℕ) → IsTarget target → IsPacket packet → moment ≤ 2 ^ 62
     → submit_of (call_record caller (c.Submit target packet moment)) ≡ Ok (c.Submit target packet moment)
@@ -44,10 +44,10 @@ submit_back caller target packet moment h k l =
     let tuple : HasTuple 6 fields packet.tuple = record { src_at = refl; dst_at = refl; proto_at = refl; sport_at = refl; dport_at = refl } in
     rw (target_back 4 fields target h refl refl, packet_back 6 fields packet k tuple refl refl, number_back 13 0 (2 ^ 62) moment fields refl (omega (arith, l)) (omega arith) l) refl
 
-pub call_back : (number caller : ℕ) (call : Call) → IsCall call → call_of Third number (call_record caller call) ≡ Ok call
+pub call_back : (version : HistoryVersion) (number caller : ℕ) (call : Call) → has_deletes version ≡ true → IsCall call → call_of version number (call_record caller call) ≡ Ok call
 unfolding call_of plain_call field_at
-call_back number caller (c.Configure command) h = rw (line_back command h, allowed number command) refl
-call_back number caller (c.Submit target packet moment) h = rw (submit_back caller target packet moment h.0 h.1 h.2) refl
-call_back number caller (c.Advance moment) h = rw (number_back 4 0 (2 ^ 62) moment (call_record caller (c.Advance moment)) refl (omega (arith, h)) (omega arith) h) refl
-call_back number caller (c.Collect moment) h = rw (number_back 4 0 (2 ^ 62) moment (call_record caller (c.Collect moment)) refl (omega (arith, h)) (omega arith) h) refl
-call_back number caller c.Show h = refl
+call_back version number caller (c.Configure command) has h = rw (line_back command h, allowed version number command has) refl
+call_back version number caller (c.Submit target packet moment) has h = rw (submit_back caller target packet moment h.0 h.1 h.2) refl
+call_back version number caller (c.Advance moment) has h = rw (number_back 4 0 (2 ^ 62) moment (call_record caller (c.Advance moment)) refl (omega (arith, h)) (omega arith) h) refl
+call_back version number caller (c.Collect moment) has h = rw (number_back 4 0 (2 ^ 62) moment (call_record caller (c.Collect moment)) refl (omega (arith, h)) (omega arith) h) refl
+call_back version number caller c.Show has h = refl

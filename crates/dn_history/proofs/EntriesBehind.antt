@@ -7,9 +7,10 @@ use Rattle.dn_types.specs.declared.reply.Reply.{Reply}
 use Rattle.dn_records.specs.Records.{Fields}
 use Rattle.dn_files.specs.Reading.{◌>>=◌}
 use Rattle.dn_files.specs.declared.replay_fault.ReplayFault.{ReplayFault}
-use Rattle.dn_history.specs.HistoryFile.{call_of, delivered_from, end_by, entry_by, entry_from, nothing_in, reply_by, reply_from, status_from}
-use Rattle.dn_history.specs.HistoryRecords.{caller_of, is_end, is_reply, plain_reply, told_count}
+use Rattle.dn_history.specs.HistoryFile.{between, call_of, delivered_from, end_by, entry_by, entry_from, nothing_in, reply_by, reply_from, status_from}
+use Rattle.dn_history.specs.HistoryRecords.{caller_of, has_remarks, is_end, is_reply, plain_reply, told_count}
 use Rattle.dn_history.specs.RecordsLeft.{Read, Rest, first_record, in_record, item_from, items_from, next_record}
+use Rattle.dn_history.specs.Remarks.{ahead, is_remark, past_remarks}
 use Rattle.dn_history.specs.declared.history_version.HistoryVersion.{HistoryVersion}
 
 -- More records behind those that are left.
@@ -44,6 +45,23 @@ first_reads more number (fields ∷ records) = record { same = refl }
 next_reads : (more : List Fields) (rest : Rest) → Reads more (next_record rest) (next_record (behind rest more))
 unfolding next_record
 next_reads more rest = first_reads more rest.number rest.records
+
+past_reads : (more : List Fields) (number : ℕ) (records : List Fields) → Reads more (first_record number (past_remarks records)) (first_record number (past_remarks (records ++ more)))
+past_reads more number [] = record { same = tt }
+past_reads more number (fields ∷ records) = by_test (is_remark fields) (past_reads more number records)
+  where
+    by_test : (b : Bool) → Reads more (first_record number (past_remarks records)) (first_record number (past_remarks (records ++ more)))
+        → Reads more (first_record number (cond b (past_remarks records) (fields ∷ records))) (first_record number (cond b (past_remarks (records ++ more)) (fields ∷ (records ++ more))))
+    by_test true h = h
+    by_test false h = record { same = refl }
+
+ahead_reads : (more : List Fields) (remarks : Bool) (number : ℕ) (records : List Fields) → Reads more (first_record number (ahead remarks records)) (first_record number (ahead remarks (records ++ more)))
+ahead_reads more true number records = past_reads more number records
+ahead_reads more false number records = first_reads more number records
+
+between_reads : (more : List Fields) (version : HistoryVersion) (rest : Rest) → Reads more (next_record (between version rest)) (next_record (between version (behind rest more)))
+unfolding next_record
+between_reads more version rest = ahead_reads more (has_remarks version) rest.number rest.records
 
 item_reads : {A : Type 0} (more : List Fields) (item : Fields → Result A ℕ) (rest : Rest) → Reads more (item_from item rest) (item_from item (behind rest more))
 unfolding item_from
@@ -99,7 +117,7 @@ end_ends count number fields rest = go (in_record number (told_count count field
 pub entry_reads : (more : List Fields) (version : HistoryVersion) (count : ℕ) (rest new : Rest) (entry : Entry) → entry_from version count rest ≡ Ok (Some entry, new)
     → entry_from version count (behind rest more) ≡ Ok (Some entry, behind new more)
 unfolding entry_from
-entry_reads more version count rest new entry = go (next_record rest) (next_record (behind rest more)) (next_reads more rest)
+entry_reads more version count rest new entry = go (next_record (between version rest)) (next_record (between version (behind rest more))) (between_reads more version rest)
   where
     chosen_by : (last : Bool) (first : Fields) (left : Rest) → cond last (end_by count rest.number first left) (entry_by version rest.number first left) ≡ Ok (Some entry, new)
         → cond last (end_by count rest.number first (behind left more)) (entry_by version rest.number first (behind left more)) ≡ Ok (Some entry, behind new more)

@@ -1,5 +1,5 @@
 -- An entry takes a record at least, so more turns than there are records are enough for all entries.
-use Rattle.std.proofs.Common.{◌≡◌, ℕ, zero, suc, ◌+◌, ◌<◌, Bool, true, false, List, [], ◌∷◌, length, Option, Some, None, Result, Ok, Err, refl, ap, arith}
+use Rattle.std.proofs.Common.{◌≡◌, ℕ, zero, suc, ◌+◌, ◌<◌, ◌≤◌, Bool, true, false, List, [], ◌∷◌, length, Option, Some, None, Result, Ok, Err, refl, ap, arith}
 use Rattle.std.specs.Prelude.{cond, ⊤}
 use Rattle.dn_types.specs.declared.call.Call.{Call}
 use Rattle.dn_types.specs.declared.entry.Entry.{Entry}
@@ -8,10 +8,11 @@ use Rattle.dn_files.specs.Reading.{◌>>=◌, IsFaultOf}
 use Rattle.dn_files.specs.declared.replay_fault.ReplayFault.{ReplayFault}
 use Rattle.dn_files.specs.declared.replay_fault.ReplayFault.TheVariants.{BadRow, Read as ReadFailed, Write, TooLong, OutOfMemory, Config, ConfigText, NoSuchPipe, BadRecord, BadCount, PipeHasQueues, NoSuchQueue}
 use Rattle.dn_files.proofs.Inputs.{carried}
-use Rattle.dn_history.specs.HistoryFile.{before, call_of, delivered_from, end_by, entries_from, entry_by, entry_from, nothing_in, reply_by, reply_from, status_from}
-use Rattle.dn_history.specs.HistoryRecords.{caller_of}
+use Rattle.dn_history.specs.HistoryFile.{before, between, call_of, delivered_from, end_by, entries_from, entry_by, entry_from, nothing_in, reply_by, reply_from, status_from}
+use Rattle.dn_history.specs.HistoryRecords.{caller_of, has_remarks}
 use Rattle.dn_history.specs.RecordsLeft.{Read, Rest, first_record, in_record, item_from, items_from, next_record}
 use Rattle.dn_history.specs.declared.history_version.HistoryVersion.{HistoryVersion}
+use Rattle.dn_history.proofs.Remarks.{ahead_le}
 
 abbrev AreBelow : {A : Type 0} → ℕ → Read A → Type 0
 AreBelow n (Ok read) = length read.1.records < n
@@ -81,9 +82,16 @@ end_leaves : (count number : ℕ) (fields : Fields) (n : ℕ) (rest : Rest) → 
 unfolding end_by
 end_leaves count number fields n rest few = after_value n _ _ (λ told. nothing_leaves n rest rest.records few)
 
+weaker : {A : Type 0} (m n : ℕ) (r : Read A) → m ≤ n → Leaves m r → Leaves n r
+weaker m n (Ok read) le h = record { fits = omega (arith, h.fits) }
+weaker m n (Err fault) le h = record { fits = tt }
+
+next_between : (version : HistoryVersion) (rest : Rest) → Leaves (length rest.records) (next_record (between version rest))
+next_between version rest = weaker _ _ _ (ahead_le (has_remarks version) rest.records) (next_leaves (between version rest))
+
 entry_leaves : (version : HistoryVersion) (count : ℕ) (rest : Rest) → Leaves (length rest.records) (entry_from version count rest)
 unfolding entry_from
-entry_leaves version count rest = bound (length rest.records) (length rest.records) _ _ (next_leaves rest) (λ first fewer.
+entry_leaves version count rest = bound (length rest.records) (length rest.records) _ _ (next_between version rest) (λ first fewer.
     chosen (length rest.records) _ _ _ (end_leaves count rest.number first.0 (length rest.records) first.1 fewer) (entry_by_leaves version rest.number first.0 (length rest.records) first.1 fewer))
 
 -- The entries don't depend on the count of turns, where that is above the count of records.

@@ -1,7 +1,6 @@
 -- The records of a written history file are those that were written.
-use Rattle.std.proofs.Common.{◌≡◌, ◌∙◌, refl, ap, ℕ, List, [], ◌∷◌, ◌++◌, length}
-use Rattle.std.specs.Prelude.{flat_map, map, not}
-use Rattle.std.proofs.lemmas.List.Elements.{filter-append}
+use Rattle.std.proofs.Common.{◌≡◌, refl, ap, List, [], ◌∷◌, ◌++◌, length}
+use Rattle.std.specs.Prelude.{flat_map, map}
 use Rattle.csv.specs.Records.{field_at}
 use Rattle.csv.specs.Reading.{strip_bom}
 use Rattle.csv.specs.Writing.{escaped, fields_text, is_blank}
@@ -13,8 +12,8 @@ use Rattle.dn_types.specs.declared.reply.Reply.TheVariants as r
 use Rattle.dn_records.specs.Records.{AllFilled, Fields, HasNoMark, records_of, text_of}
 use Rattle.dn_records.proofs.ReadBack.{read-back}
 use Rattle.dn_history.specs.EntryRecords.{call_record, delivery_record, item_records, reply_record, status_record}
-use Rattle.dn_history.specs.HistoryText.{end_record, entry_records, history_header, history_records, history_text}
-use Rattle.dn_history.specs.Remarks.{is_remark, without_remarks}
+use Rattle.dn_history.specs.HistoryText.{end_record, entry_records, history_records, history_text}
+use Rattle.dn_history.specs.Remarks.{without_remarks}
 
 pub filled-append : (front back : List Fields) → AllFilled front → AllFilled back → AllFilled (front ++ back)
 filled-append [] back f b = b
@@ -46,16 +45,13 @@ no-mark : (entries : List Entry) → HasNoMark (history_text entries)
 unfolding history_text text_of fields_text is_blank escaped strip_bom
 no-mark entries = refl
 
-records-back : (entries : List Entry) → records_of (history_text entries) ≡ history_records entries
+pub records-back : (entries : List Entry) → records_of (history_text entries) ≡ history_records entries
 unfolding history_text
 records-back entries =
     let filled = filled-append (flat_map entry_records entries) (end_record (length entries) ∷ []) (entries-filled entries) tt in
     read-back (history_records entries) filled (no-mark entries)
 
 -- No written record is a remark.
-plain-append : (front back : List Fields) → without_remarks front ≡ front → without_remarks back ≡ back → without_remarks (front ++ back) ≡ front ++ back
-plain-append front back f b = rw (filter-append (λ fields. not (is_remark fields)) front back, f, b) refl
-
 deliveries-plain : (list : List Delivery) → without_remarks (map delivery_record list) ≡ map delivery_record list
 unfolding field_at
 deliveries-plain [] = refl
@@ -74,20 +70,3 @@ items-plain _ = refl
 pub entry-plain : (e : Entry) → without_remarks (entry_records e) ≡ entry_records e
 unfolding field_at
 entry-plain e = ap (λ (rs : List Fields). call_record e.caller e.call ∷ reply_record e.reply ∷ rs) (items-plain e.reply)
-
-entries-plain : (entries : List Entry) → without_remarks (flat_map entry_records entries) ≡ flat_map entry_records entries
-entries-plain [] = refl
-entries-plain (e ∷ rest) = plain-append (entry_records e) (flat_map entry_records rest) (entry-plain e) (entries-plain rest)
-
-end-plain : (count : ℕ) → without_remarks (end_record count ∷ []) ≡ end_record count ∷ []
-unfolding field_at
-end-plain count = refl
-
-history-plain : (entries : List Entry) → without_remarks (history_records entries) ≡ history_records entries
-unfolding field_at
-history-plain entries =
-    ap (λ (rs : List Fields). history_header ∷ rs)
-    (plain-append (flat_map entry_records entries) (end_record (length entries) ∷ []) (entries-plain entries) (end-plain (length entries)))
-
-pub history-back : (entries : List Entry) → without_remarks (records_of (history_text entries)) ≡ history_records entries
-history-back entries = ap without_remarks (records-back entries) ∙ history-plain entries

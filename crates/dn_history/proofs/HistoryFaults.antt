@@ -5,7 +5,7 @@ use Rattle.dn_types.specs.declared.command.Command.{Command}
 use Rattle.dn_types.specs.declared.entry.Entry.{Entry}
 use Rattle.dn_types.specs.declared.rule.Rule.{Rule}
 use Rattle.dn_records.specs.Records.{Fields}
-use Rattle.dn_history.specs.HistoryFile.{before, call_of, command_by, delivered_from, end_by, entries_from, entry_by}
+use Rattle.dn_history.specs.HistoryFile.{before, between, call_of, command_by, delivered_from, end_by, entries_from, entry_by}
 use Rattle.dn_history.specs.HistoryFile.{entry_from, history_file, history_from, history_in, history_limit, nothing_in, reply_by, reply_from, status_from}
 use Rattle.dn_history.specs.HistoryFaults.{IsHistoryFault}
 use Rattle.dn_files.specs.Reading.{◌>>=◌, IsRefusal, within_limit}
@@ -105,7 +105,7 @@ end_good count number fields rest = bound _ _ (in_one number _) (λ told. nothin
 
 next_entry_good : (version : HistoryVersion) (count : ℕ) (rest : Rest) → IsGood (entry_from version count rest)
 unfolding entry_from
-next_entry_good version count rest = bound _ _ (next_good rest) (λ first. chosen _ _ _ (end_good count rest.number first.0 first.1) (entry_good version rest.number first.0 first.1))
+next_entry_good version count rest = bound _ _ (next_good (between version rest)) (λ first. chosen _ _ _ (end_good count rest.number first.0 first.1) (entry_good version rest.number first.0 first.1))
 
 before_good : (entry : Option Entry) (entries : Result (List Entry) ReplayFault) → IsGood entries → IsGood (before entry entries)
 before_good None entries good = record { fits = tt }

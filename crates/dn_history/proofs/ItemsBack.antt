@@ -1,5 +1,5 @@
 -- The records of what a reply lists, read back.
-use Rattle.std.proofs.Common.{◌≡◌, refl, ℕ, ◌+◌, List, [], ◌∷◌, ◌++◌, length, arith}
+use Rattle.std.proofs.Common.{◌≡◌, refl, ℕ, ◌+◌, true, List, [], ◌∷◌, ◌++◌, length, arith}
 use Rattle.std.specs.Prelude.{Result, Ok, decimal, map}
 use Rattle.std.specs.List.{All}
 use Rattle.std.proofs.lemmas.List.Elements.{All-head, All-tail}
@@ -14,9 +14,9 @@ use Rattle.dn_history.specs.EntryRecords.{delivery_record, status_record}
 use Rattle.dn_files.specs.Fields.{column}
 use Rattle.dn_history.specs.RecordsLeft.{Read, item_from, items_from, next_record}
 use Rattle.dn_history.specs.HistoryItems.{delivery_item, key_item, mask_item, status_item}
-use Rattle.dn_history.specs.HistoryRecords.{long_at}
+use Rattle.dn_history.specs.HistoryRecords.{has_deletes, long_at}
 use Rattle.dn_history.specs.Ranges.{IsDelivery, IsLong, IsStatus, IsTuple}
-use Rattle.dn_history.specs.declared.history_version.HistoryVersion.TheVariants.{Third}
+use Rattle.dn_history.specs.declared.history_version.HistoryVersion.{HistoryVersion}
 use Rattle.dn_history.proofs.FieldsBack.{HasTuple, number_back, target_back, tuple_back}
 
 -- A value is read, and these records are left.
@@ -51,9 +51,9 @@ key_back s h =
     let pipe = number_back 5 1 65535 s.key.pipe fields refl (omega (arith, h.key.pipe)) h.key.pipe.0 h.key.pipe.1 in
     rw (target_back 3 fields s.key.target h.key.target refl refl, pipe, mask_back 6 fields s.key.mask h.key.mask at_six, tuple_back 11 fields s.key.tuple h.key.tuple at_eleven) refl
 
-status_back : (s : FlowStatus) → IsStatus s → status_item Third (status_record s) ≡ Ok s
+status_back : (version : HistoryVersion) (s : FlowStatus) → has_deletes version ≡ true → IsStatus s → status_item version (status_record s) ≡ Ok s
 unfolding status_item field_at
-status_back s h =
+status_back version s has h =
     let fields = status_record s in
     let flow = long_back 2 s.flow fields refl h.flow in
     let queued = long_back 16 s.queued fields refl h.queued in
@@ -62,7 +62,7 @@ status_back s h =
     let full = long_back 19 s.full fields refl h.full in
     let started = long_back 20 s.started fields refl h.started in
     let discarded = long_back 21 s.discarded fields refl h.discarded in
-    rw (flow, key_back s h, queued, bytes, lost, full, started, discarded) refl
+    rw (has, flow, key_back s h, queued, bytes, lost, full, started, discarded) refl
 
 -- As many items as were written, where each is read back.
 listed : {A : Type 0} (P : A → Type 0) (item : Fields → Result A ℕ) (fields_of : A → Fields) → ((x : A) → P x → item (fields_of x) ≡ Ok x)
@@ -77,6 +77,6 @@ pub deliveries_back : (list : List Delivery) → All IsDelivery list → (number
     → Reads (items_from delivery_item (length list) (record { number = number; records = map delivery_record list ++ left })) list left
 deliveries_back = listed IsDelivery delivery_item delivery_record delivery_back
 
-pub statuses_back : (list : List FlowStatus) → All IsStatus list → (number : ℕ) (left : List Fields)
-    → Reads (items_from (status_item Third) (length list) (record { number = number; records = map status_record list ++ left })) list left
-statuses_back = listed IsStatus (status_item Third) status_record status_back
+pub statuses_back : (version : HistoryVersion) (list : List FlowStatus) → has_deletes version ≡ true → All IsStatus list → (number : ℕ) (left : List Fields)
+    → Reads (items_from (status_item version) (length list) (record { number = number; records = map status_record list ++ left })) list left
+statuses_back version list has = listed IsStatus (status_item version) status_record (λ s h. status_back version s has h) list

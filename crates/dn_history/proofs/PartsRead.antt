@@ -5,7 +5,6 @@ use Rattle.std.proofs.lemmas.Bool.{false≢true}
 use Rattle.std.proofs.lemmas.Bool.Decides.{nat_tests}
 use Rattle.std.proofs.lemmas.List.{append-nil}
 use Rattle.std.proofs.Math.Seq.{drop-append_seam, take-append_seam}
-use Rattle.std.proofs.lemmas.List.Elements.{filter-append}
 use Rattle.csv.specs.Records.{field_at}
 use Rattle.csv.specs.declared.parser.State.TheVariants as st
 use Rattle.dn_types.specs.declared.entry.Entry.{Entry}
@@ -17,21 +16,16 @@ use Rattle.dn_files.specs.Reading.{◌>>=◌}
 use Rattle.dn_files.specs.declared.replay_fault.ReplayFault.{ReplayFault}
 use Rattle.dn_history.specs.EntriesLeft.{entries_left}
 use Rattle.dn_history.specs.HistoryFile.{before, entry_from, history_from, history_in}
-use Rattle.dn_history.specs.HistoryParts.{AreRead, BeginsHistory, BeginsRecords, HasRead, IsWhole, Unread, after_entries, entries_with, with_rule}
-use Rattle.dn_history.specs.HistoryRecords.{rule_of}
+use Rattle.dn_history.specs.HistoryParts.{AreRead, BeginsHistory, BeginsRecords, HasRead, IsWhole, Unread, after_entries, entries_with, version_record, with_rule}
+use Rattle.dn_history.specs.HistoryRecords.{live_of, rule_of, version_of}
 use Rattle.dn_history.specs.RecordsLeft.{Rest, next_record}
-use Rattle.dn_history.specs.Remarks.{is_remark, without_remarks}
 use Rattle.dn_history.specs.declared.history_version.HistoryVersion.{HistoryVersion}
+use Rattle.dn_history.specs.declared.history_version.HistoryVersion.TheVariants.{First, Second, Third, Live}
 use Rattle.dn_history.specs.declared.read.progress.Progress.TheVariants.{Reading}
 use Rattle.dn_history.proofs.EntriesBehind.{behind, entry_reads}
 use Rattle.dn_history.proofs.EntryTurns.{entries_step}
 use Rattle.dn_history.proofs.PlainRecords.{at-front}
 use Rattle.dn_history.proofs.WholeRecords.{records-then}
-
--- The records of a text that is whole, and then those of what follows, both without remarks.
-rest-then : (front rest : List ℕ) → IsWhole front
-    → without_remarks (records_after st.StartRecord (front ++ rest)) ≡ without_remarks (records_after st.StartRecord front) ++ without_remarks (records_after st.StartRecord rest)
-rest-then front rest whole = ap without_remarks (records-then front rest whole) ∙ filter-append _ (records_after st.StartRecord front) (records_after st.StartRecord rest)
 
 -- Nothing read.
 starts : (left : Result (List Entry) ReplayFault) → left ≡ after_entries [] left
@@ -64,22 +58,22 @@ grouped rule front middle (Err fault) = refl
 -- The entries of whole lines were read, and what is left are whole lines too.
 pub parts-read : (version : HistoryVersion) (given number count next : ℕ) (lines behind_lines left text : List ℕ) (front entries : List Entry)
     → IsWhole lines → IsWhole left
-    → AreRead version given (record { number = number; records = without_remarks (records_after st.StartRecord lines) }) entries count
-    (record { number = next; records = without_remarks (records_after st.StartRecord left) })
+    → AreRead version given (record { number = number; records = records_after st.StartRecord lines }) entries count
+    (record { number = next; records = records_after st.StartRecord left })
     → HasRead (record { version = version; given = given; number = number; text = lines ++ behind_lines }) text front
     → HasRead (record { version = version; given = count; number = next; text = left ++ behind_lines }) text (front ++ entries)
 parts-read version given number count next lines behind_lines left text front entries whole left_whole read so_far = record {
   count = omega (arith, read.counted, so_far.count, length-append front entries);
   goes_on = λ more.
-      let after = without_remarks (records_after st.StartRecord (behind_lines ++ more)) in
+      let after = records_after st.StartRecord (behind_lines ++ more) in
       let old : entries_with (record { version = version; given = given; number = number; text = lines ++ behind_lines }) more
-      ≡ entries_left Reading version given (record { number = number; records = without_remarks (records_after st.StartRecord lines) ++ after }) =
+      ≡ entries_left Reading version given (record { number = number; records = records_after st.StartRecord lines ++ after }) =
       ap (λ (rs : List Fields). entries_left Reading version given (record { number = number; records = rs }))
-      (ap (λ (t : List ℕ). without_remarks (records_after st.StartRecord t)) (append_assoc lines behind_lines more) ∙ rest-then lines (behind_lines ++ more) whole) in
+      (ap (λ (t : List ℕ). records_after st.StartRecord t) (append_assoc lines behind_lines more) ∙ records-then lines (behind_lines ++ more) whole) in
       let new : entries_with (record { version = version; given = count; number = next; text = left ++ behind_lines }) more
-      ≡ entries_left Reading version count (record { number = next; records = without_remarks (records_after st.StartRecord left) ++ after }) =
+      ≡ entries_left Reading version count (record { number = next; records = records_after st.StartRecord left ++ after }) =
       ap (λ (rs : List Fields). entries_left Reading version count (record { number = next; records = rs }))
-      (ap (λ (t : List ℕ). without_remarks (records_after st.StartRecord t)) (append_assoc left behind_lines more) ∙ rest-then left (behind_lines ++ more) left_whole) in
+      (ap (λ (t : List ℕ). records_after st.StartRecord t) (append_assoc left behind_lines more) ∙ records-then left (behind_lines ++ more) left_whole) in
       so_far.goes_on more
       ∙ ap (λ (r : Result (List Entry) ReplayFault). r >>= λ last. with_rule (rule_of version) (front ++ last)) (old ∙ read.goes_on after ∙ ap (after_entries entries) (sym new))
       ∙ grouped (rule_of version) front entries _;
@@ -92,19 +86,23 @@ part-fed left text part entries read = record {
   count = read.count;
   goes_on = λ more.
       ap history_in (append_assoc text part more) ∙ read.goes_on (part ++ more)
-      ∙ ap (λ (t : List ℕ). entries_left Reading left.version left.given (record { number = left.number; records = without_remarks (records_after st.StartRecord t) })
+      ∙ ap (λ (t : List ℕ). entries_left Reading left.version left.given (record { number = left.number; records = records_after st.StartRecord t })
       >>= λ last. with_rule (rule_of left.version) (entries ++ last)) (sym (append_assoc left.text part more));
 }
 
--- The record of the header is the first, and no remark.
-header-first : (digit rest : List ℕ) → records_of (line_of (codes "dummynet-history" ∷ digit ∷ []) ++ rest) ≡ (codes "dummynet-history" ∷ digit ∷ []) ∷ records_after st.StartRecord rest
-header-first digit rest =
-    at-front (line_of (codes "dummynet-history" ∷ digit ∷ []) ++ rest) (omega arith) (λ e. omega (arith, e))
-    ∙ line-first (codes "dummynet-history") (digit ∷ []) rest
+-- The record of the header is the first.
+header-first : (version : HistoryVersion) (rest : List ℕ) → records_of (line_of (version_record version) ++ rest) ≡ version_record version ∷ records_after st.StartRecord rest
+header-first First rest = at-front (line_of (version_record First) ++ rest) (omega arith) (λ e. omega (arith, e)) ∙ line-first (codes "dummynet-history") (codes "1" ∷ []) rest
+header-first Second rest = at-front (line_of (version_record Second) ++ rest) (omega arith) (λ e. omega (arith, e)) ∙ line-first (codes "dummynet-history") (codes "2" ∷ []) rest
+header-first Third rest = at-front (line_of (version_record Third) ++ rest) (omega arith) (λ e. omega (arith, e)) ∙ line-first (codes "dummynet-history") (codes "3" ∷ []) rest
+header-first Live rest = at-front (line_of (version_record Live) ++ rest) (omega arith) (λ e. omega (arith, e)) ∙ line-first (codes "dummynet-live") (codes "1" ∷ []) rest
 
-header-unremarked : (digit : List ℕ) → is_remark (codes "dummynet-history" ∷ digit ∷ []) ≡ false
-unfolding field_at
-header-unremarked digit = refl
+pub header-tells : (version : HistoryVersion) → version_of (version_record version) ≡ Ok version
+unfolding version_of live_of field_at
+header-tells First = refl
+header-tells Second = refl
+header-tells Third = refl
+header-tells Live = refl
 
 started : (rule : Rule) (left : Result (List Entry) ReplayFault) → (left >>= λ entries. with_rule rule entries) ≡ (left >>= λ last. with_rule rule ([] ++ last))
 started rule (Ok entries) = refl
@@ -116,22 +114,18 @@ unfolding history_from next_record
 begun text rest version begins = record {
   count = refl;
   goes_on = λ more.
-      let stands : text ++ more ≡ line_of (codes "dummynet-history" ∷ begins.digit ∷ []) ++ (rest ++ more) =
-      ap (λ (t : List ℕ). t ++ more) begins.stands ∙ append_assoc (line_of (codes "dummynet-history" ∷ begins.digit ∷ [])) rest more in
-      let first : records_of (text ++ more) ≡ (codes "dummynet-history" ∷ begins.digit ∷ []) ∷ records_after st.StartRecord (rest ++ more) =
-      ap records_of stands ∙ header-first begins.digit (rest ++ more) in
-      let plain : without_remarks (records_of (text ++ more)) ≡ (codes "dummynet-history" ∷ begins.digit ∷ []) ∷ without_remarks (records_after st.StartRecord (rest ++ more)) =
-      ap without_remarks first ∙ rw (header-unremarked begins.digit) refl in
-      rw (plain, begins.tells) (started (rule_of version) _);
+      let stands : text ++ more ≡ line_of (version_record version) ++ (rest ++ more) =
+      ap (λ (t : List ℕ). t ++ more) begins.stands ∙ append_assoc (line_of (version_record version)) rest more in
+      rw (ap records_of stands ∙ header-first version (rest ++ more), header-tells version) (started (rule_of version) _);
 }
 
 -- The entries that are left, where the text has ended.
 pub all-read : (left : Unread) (text : List ℕ) (entries : List Entry) → HasRead left text entries
-    → history_in text ≡ (entries_left Reading left.version left.given (record { number = left.number; records = without_remarks (records_after st.StartRecord left.text) })
+    → history_in text ≡ (entries_left Reading left.version left.given (record { number = left.number; records = records_after st.StartRecord left.text })
     >>= λ last. with_rule (rule_of left.version) (entries ++ last))
 all-read left text entries read =
     ap history_in (sym (append-nil text)) ∙ read.goes_on []
-    ∙ ap (λ (t : List ℕ). entries_left Reading left.version left.given (record { number = left.number; records = without_remarks (records_after st.StartRecord t) })
+    ∙ ap (λ (t : List ℕ). entries_left Reading left.version left.given (record { number = left.number; records = records_after st.StartRecord t })
     >>= λ last. with_rule (rule_of left.version) (entries ++ last)) (append-nil left.text)
 
 -- Where nothing stands behind whole records, they are the text.
@@ -143,8 +137,8 @@ only-whole text (byte ∷ rest) begins none = let some : (length (byte ∷ rest)
 pub taken : (version : HistoryVersion) (given number count next : ℕ) (items rest lines back left new text : List ℕ) (front entries : List Entry)
     → items ≡ 10 ∷ drop 1 items → BeginsRecords (drop 1 items) rest → lines ≡ take (length items - length rest) items → back ≡ drop (length items - length rest) items
     → IsWhole left
-    → AreRead version given (record { number = number; records = without_remarks (records_of lines) }) entries count
-    (record { number = next; records = without_remarks (records_after st.StartRecord left) })
+    → AreRead version given (record { number = number; records = records_of lines }) entries count
+    (record { number = next; records = records_after st.StartRecord left })
     → new ≡ 10 ∷ (left ++ back)
     → HasRead (record { version = version; given = given; number = number; text = drop 1 items }) text front
     → HasRead (record { version = version; given = count; number = next; text = drop 1 new }) text (front ++ entries)

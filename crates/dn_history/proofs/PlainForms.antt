@@ -27,12 +27,13 @@ use Rattle.dn_files.proofs.PlainLines.{fields-then, plain-line}
 use Rattle.dn_files.proofs.PlainRows.{digits-plain, number-field}
 use Rattle.dn_history.specs.HistoryFile.{call_of, entry_by, entry_from, reply_by, reply_from}
 use Rattle.dn_history.specs.HistoryItems.{delivery_item}
-use Rattle.dn_history.specs.HistoryRecords.{plain_call, plain_reply, queued_of, submit_of, timed_reply}
+use Rattle.dn_history.specs.HistoryRecords.{has_remarks, plain_call, plain_reply, queued_of, submit_of, timed_reply}
 use Rattle.dn_history.specs.PlainRecords.{BeginsCall, BeginsDelivery, BeginsReply, answered}
 use Rattle.dn_history.specs.RecordsLeft.{Rest, item_from, next_record}
-use Rattle.dn_history.specs.Remarks.{is_remark, without_remarks}
+use Rattle.dn_history.specs.Remarks.{is_remark}
 use Rattle.dn_history.specs.declared.history_version.HistoryVersion.{HistoryVersion}
-use Rattle.dn_history.specs.declared.history_version.HistoryVersion.TheVariants.{First, Second, Third}
+use Rattle.dn_history.specs.declared.history_version.HistoryVersion.TheVariants.{First, Second, Third, Live}
+use Rattle.dn_history.proofs.Remarks.{ahead_plain}
 
 -- What is read of a field is the same at another place, where there is no fault.
 moved : {A B : Type 0} (p q : ℕ) (o : Option A) (f g : A → Result B ℕ) (v : B) → (or_place p o >>= f) ≡ Ok v → ((x : A) → f x ≡ Ok v → g x ≡ Ok v) → (or_place q o >>= g) ≡ Ok v
@@ -116,6 +117,7 @@ queued_begins text t1 t2 t3 rest at flow packet e0 e1 e2 e3 =
     says is1 is2 is3 First number left = rw (is1, is2, is3) refl
     says is1 is2 is3 Second number left = rw (is1, is2, is3) refl
     says is1 is2 is3 Third number left = rw (is1, is2, is3) refl
+    says is1 is2 is3 Live number left = rw (is1, is2, is3) refl
 
 pub delivery_begins : (text t1 t2 t3 t4 rest : List ℕ) (packet flow start due : ℕ) → text ≡ codes "d," ++ t1 → number_until 44 0 18446744073709551615 t1 ≡ Some (packet, t2)
     → number_until 44 0 18446744073709551615 t2 ≡ Some (flow, t3) → number_until 44 0 18446744073709551615 t3 ≡ Some (start, t4) → number_until 10 0 18446744073709551615 t4 ≡ Some (due, rest)
@@ -145,44 +147,34 @@ module _ (records new : List Fields) (text rest field : List ℕ) (others : Fiel
   pub one-counted : length records ≡ length new + 1
   one-counted = rw one-record (omega arith)
 
-  pub one-unremarked : is_remark (field ∷ others) ≡ false → without_remarks records ≡ (field ∷ others) ∷ without_remarks new
-  one-unremarked plain = ap without_remarks one-record ∙ rw plain refl
+  pub one-fewer : length new < length records
+  one-fewer = omega (arith, one-counted)
 
-  pub one-fewer : is_remark (field ∷ others) ≡ false → length (without_remarks new) < length (without_remarks records)
-  one-fewer plain = rw (one-unremarked plain) (omega arith)
-
--- A record with one of these names is no remark.
-pub call-unremarked : (others : Fields) → is_remark (codes "c" ∷ others) ≡ false
+-- The record of a call is no remark.
+call-unremarked : (others : Fields) → is_remark (codes "c" ∷ others) ≡ false
 unfolding field_at
 call-unremarked others = refl
-
-pub reply-unremarked : (others : Fields) → is_remark (codes "r" ∷ others) ≡ false
-unfolding field_at
-reply-unremarked others = refl
-
-pub delivery-unremarked : (others : Fields) → is_remark (codes "d" ∷ others) ≡ false
-unfolding field_at
-delivery-unremarked others = refl
 
 -- What is read of the records that are left, where the first is that of a call, of a reply, or of a delivery.
 pub call-taken : (records new : List Fields) (text rest : List ℕ) (caller : ℕ) (call : Call) → records ≡ records_after st.StartRecord text → BeginsCall text caller call rest
     → new ≡ records_after st.StartRecord rest → (number count : ℕ) (version : HistoryVersion)
-    → entry_from version count (record { number = number; records = without_remarks records }) ≡ answered version caller call (record { number = number + 1; records = without_remarks new })
+    → entry_from version count (record { number = number; records = records }) ≡ answered version caller call (record { number = number + 1; records = new })
 unfolding entry_from entry_by next_record field_at
 call-taken records new text rest caller call is asked goes number count version =
-    rw (one-unremarked records new text rest (codes "c") asked.others is asked.stands goes (call-unremarked asked.others)) (rw (asked.says_caller, asked.says_call version number) refl)
+    let plain = ahead_plain (has_remarks version) (codes "c" ∷ asked.others) new (call-unremarked asked.others) in
+    rw (one-record records new text rest (codes "c") asked.others is asked.stands goes, plain) (rw (asked.says_caller, asked.says_call version number) refl)
 
 pub reply-taken : (records new : List Fields) (text rest : List ℕ) (reply : Reply) → records ≡ records_after st.StartRecord text → BeginsReply text reply rest
     → new ≡ records_after st.StartRecord rest → (number : ℕ) (version : HistoryVersion)
-    → reply_from version (record { number = number; records = without_remarks records }) ≡ Ok (reply, record { number = number + 1; records = without_remarks new })
+    → reply_from version (record { number = number; records = records }) ≡ Ok (reply, record { number = number + 1; records = new })
 unfolding reply_from next_record
 reply-taken records new text rest reply is answers goes number version =
-    rw (one-unremarked records new text rest (codes "r") answers.others is answers.stands goes (reply-unremarked answers.others))
-    (rw (answers.says version number (record { number = number + 1; records = without_remarks new })) refl)
+    rw (one-record records new text rest (codes "r") answers.others is answers.stands goes)
+    (rw (answers.says version number (record { number = number + 1; records = new })) refl)
 
 pub delivery-taken : (records new : List Fields) (text rest : List ℕ) (delivery : Delivery) → records ≡ records_after st.StartRecord text → BeginsDelivery text delivery rest
     → new ≡ records_after st.StartRecord rest → (number : ℕ)
-    → item_from delivery_item (record { number = number; records = without_remarks records }) ≡ Ok (delivery, record { number = number + 1; records = without_remarks new })
+    → item_from delivery_item (record { number = number; records = records }) ≡ Ok (delivery, record { number = number + 1; records = new })
 unfolding item_from next_record
 delivery-taken records new text rest delivery is listed goes number =
-    rw (one-unremarked records new text rest (codes "d") listed.others is listed.stands goes (delivery-unremarked listed.others)) (rw listed.says refl)
+    rw (one-record records new text rest (codes "d") listed.others is listed.stands goes) (rw listed.says refl)

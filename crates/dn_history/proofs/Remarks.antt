@@ -1,33 +1,47 @@
--- Records are taken one by one, and remarks are passed over.
-use Rattle.std.proofs.Common.{◌≡◌, ◌∙◌, refl, ap, ◌≤◌, true, false, inl, inr, List, [], ◌∷◌, length, arith}
+-- Records are taken one by one, and remarks are passed over where they may be.
+use Rattle.std.proofs.Common.{◌≡◌, ◌∙◌, refl, ◌≤◌, Bool, true, false, inl, inr, List, [], ◌∷◌, length, arith}
+use Rattle.std.specs.Prelude.{◌&&◌}
 use Rattle.std.proofs.lemmas.Bool.{cases_Bool}
 use Rattle.dn_records.specs.Records.{Fields, Takes}
-use Rattle.dn_history.specs.Remarks.{is_remark, without_remarks}
+use Rattle.dn_history.specs.Remarks.{ahead, is_remark, past_remarks}
 
--- A record that is a remark.
-pub passed_over : (old new whole : List Fields) (fields : Fields) → Takes old new true fields → is_remark fields ≡ true → without_remarks whole ≡ without_remarks old → without_remarks whole ≡ without_remarks new
-passed_over [] new whole fields takes remark same = let no = takes.0 in cc
-passed_over (first ∷ rest) new whole fields takes remark same =
-    let is : is_remark first ≡ true = rw takes.1 at remark in
+-- A record that is passed over.
+pub passed_over : (remarks : Bool) (old new whole : List Fields) (fields : Fields) → Takes old new true fields → (remarks && is_remark fields) ≡ true → ahead remarks whole ≡ ahead remarks old
+    → ahead remarks whole ≡ ahead remarks new
+passed_over remarks [] new whole fields takes over same = let no = takes.0 in cc
+passed_over false (first ∷ rest) new whole fields takes over same = cc over
+passed_over true (first ∷ rest) new whole fields takes over same =
+    let is : is_remark first ≡ true = rw takes.1 at over in
     same ∙ (rw (is, takes.2) refl)
 
--- A record that is none.
-pub found_plain : (old new whole : List Fields) (fields : Fields) → Takes old new true fields → is_remark fields ≡ false → without_remarks whole ≡ without_remarks old
-    → Takes (without_remarks whole) (without_remarks new) true fields
-found_plain [] new whole fields takes plain same = let no = takes.0 in cc
-found_plain (first ∷ rest) new whole fields takes plain same =
+-- A record that counts.
+pub found_plain : (remarks : Bool) (old new whole : List Fields) (fields : Fields) → Takes old new true fields → (remarks && is_remark fields) ≡ false → ahead remarks whole ≡ ahead remarks old
+    → Takes (ahead remarks whole) new true fields
+found_plain remarks [] new whole fields takes plain same = let no = takes.0 in cc
+found_plain false (first ∷ rest) new whole fields takes plain same = rw same (refl, takes.1, takes.2)
+found_plain true (first ∷ rest) new whole fields takes plain same =
     let is : is_remark first ≡ false = rw takes.1 at plain in
-    let first_is : without_remarks (first ∷ rest) ≡ first ∷ without_remarks rest = rw is refl in
-    rw (same ∙ first_is) (refl, takes.1, ap without_remarks takes.2)
+    let first_is : past_remarks (first ∷ rest) ≡ first ∷ rest = rw is refl in
+    rw (same ∙ first_is) (refl, takes.1, takes.2)
 
 -- No record is left.
-pub none_left : (old new whole : List Fields) (fields : Fields) → Takes old new false fields → without_remarks whole ≡ without_remarks old → Takes (without_remarks whole) (without_remarks new) false fields
-none_left [] new whole fields takes same = rw same (refl, ap without_remarks takes.1)
-none_left (first ∷ rest) new whole fields takes same = let no = takes.0 in cc
+pub none_left : (remarks : Bool) (old new whole : List Fields) (fields : Fields) → Takes old new false fields → ahead remarks whole ≡ ahead remarks old → Takes (ahead remarks whole) new false fields
+none_left remarks (first ∷ rest) new whole fields takes same = let no = takes.0 in cc
+none_left true [] new whole fields takes same = rw same (refl, takes.1)
+none_left false [] new whole fields takes same = rw same (refl, takes.1)
 
 -- They are no more than all records.
-pub plain_le : (records : List Fields) → length (without_remarks records) ≤ length records
-plain_le [] = omega arith
-plain_le (first ∷ rest) =
-    let le = plain_le rest in
-    elim (cases_Bool (is_remark first)) [ inl remark ↦ rw remark (omega (arith, le)) | inr plain ↦ rw plain (omega (arith, le)) ]
+past_le : (records : List Fields) → length (past_remarks records) ≤ length records
+past_le [] = omega arith
+past_le (first ∷ rest) =
+    let le = past_le rest in
+    elim (cases_Bool (is_remark first)) [ inl remark ↦ rw remark (omega (arith, le)) | inr plain ↦ rw plain (omega arith) ]
+
+pub ahead_le : (remarks : Bool) (records : List Fields) → length (ahead remarks records) ≤ length records
+ahead_le true records = past_le records
+ahead_le false records = omega arith
+
+-- A record that is no remark is the next one, whether remarks may come before it or not.
+pub ahead_plain : (remarks : Bool) (first : Fields) (rest : List Fields) → is_remark first ≡ false → ahead remarks (first ∷ rest) ≡ first ∷ rest
+ahead_plain true first rest plain = rw plain refl
+ahead_plain false first rest plain = refl

@@ -1,5 +1,5 @@
 -- The records of a reply, read back.
-use Rattle.std.proofs.Common.{◌≡◌, refl, ℕ, List, ◌++◌, length}
+use Rattle.std.proofs.Common.{◌≡◌, refl, ℕ, true, List, ◌++◌, length}
 use Rattle.std.specs.Prelude.{Ok, decimal}
 use Rattle.csv.specs.Records.{field_at}
 use Rattle.dn_types.specs.declared.reply.Reply.{Reply}
@@ -8,9 +8,9 @@ use Rattle.dn_records.specs.Records.{Fields}
 use Rattle.dn_history.specs.EntryRecords.{item_records, reply_record}
 use Rattle.dn_files.specs.Fields.{column}
 use Rattle.dn_history.specs.HistoryFile.{delivered_from, reply_by, status_from}
-use Rattle.dn_history.specs.HistoryRecords.{plain_reply, queued_of, timed_reply, two_of}
+use Rattle.dn_history.specs.HistoryRecords.{has_deletes, plain_reply, queued_of, timed_reply, two_of}
 use Rattle.dn_history.specs.Ranges.{IsLong, IsReply}
-use Rattle.dn_history.specs.declared.history_version.HistoryVersion.TheVariants.{Third}
+use Rattle.dn_history.specs.declared.history_version.HistoryVersion.{HistoryVersion}
 use Rattle.dn_history.proofs.ItemsBack.{Reads, deliveries_back, long_back, statuses_back}
 
 two_back : (first second : ℕ) (fields : Fields) → column 3 fields ≡ decimal first → column 4 fields ≡ decimal second → IsLong first → IsLong second → two_of fields ≡ Ok (first, second)
@@ -24,23 +24,23 @@ queued_back at flow packet h k l =
     rw (long_back 3 at fields refl h, long_back 4 flow fields refl k, long_back 5 packet fields refl l) refl
 
 -- The record of a reply, and those of its list behind it.
-pub reply_back : (reply : Reply) → IsReply reply → (number start : ℕ) (left : List Fields)
-    → Reads (reply_by Third number (reply_record reply) (record { number = start; records = item_records reply ++ left })) reply left
+pub reply_back : (version : HistoryVersion) (reply : Reply) → has_deletes version ≡ true → IsReply reply → (number start : ℕ) (left : List Fields)
+    → Reads (reply_by version number (reply_record reply) (record { number = start; records = item_records reply ++ left })) reply left
 unfolding reply_by plain_reply timed_reply delivered_from status_from field_at
-reply_back r.Configured h number start left = (start, refl)
-reply_back r.NoSuchPipe h number start left = (start, refl)
-reply_back r.Exhausted h number start left = (start, refl)
-reply_back r.Deleted h number start left = (start, refl)
-reply_back r.PipeHasQueues h number start left = (start, refl)
-reply_back r.NoSuchQueue h number start left = (start, refl)
-reply_back (r.Queued at flow packet) h number start left = (start, rw (queued_back at flow packet h.0 h.1 h.2) refl)
-reply_back (r.Lost at flow) h number start left = (start, rw (two_back at flow (reply_record (r.Lost at flow)) refl refl h.0 h.1) refl)
-reply_back (r.Full at flow) h number start left = (start, rw (two_back at flow (reply_record (r.Full at flow)) refl refl h.0 h.1) refl)
-reply_back (r.NoTarget at) h number start left = (start, rw (long_back 3 at (reply_record (r.NoTarget at)) refl h) refl)
-reply_back (r.Advanced at) h number start left = (start, rw (long_back 3 at (reply_record (r.Advanced at)) refl h) refl)
-reply_back (r.Delivered at list) h number start left =
+reply_back version r.Configured has h number start left = (start, refl)
+reply_back version r.NoSuchPipe has h number start left = (start, refl)
+reply_back version r.Exhausted has h number start left = (start, refl)
+reply_back version r.Deleted has h number start left = (start, rw has refl)
+reply_back version r.PipeHasQueues has h number start left = (start, rw has refl)
+reply_back version r.NoSuchQueue has h number start left = (start, rw has refl)
+reply_back version (r.Queued at flow packet) has h number start left = (start, rw (has, queued_back at flow packet h.0 h.1 h.2) refl)
+reply_back version (r.Lost at flow) has h number start left = (start, rw (has, two_back at flow (reply_record (r.Lost at flow)) refl refl h.0 h.1) refl)
+reply_back version (r.Full at flow) has h number start left = (start, rw (has, two_back at flow (reply_record (r.Full at flow)) refl refl h.0 h.1) refl)
+reply_back version (r.NoTarget at) has h number start left = (start, rw (has, long_back 3 at (reply_record (r.NoTarget at)) refl h) refl)
+reply_back version (r.Advanced at) has h number start left = (start, rw (has, long_back 3 at (reply_record (r.Advanced at)) refl h) refl)
+reply_back version (r.Delivered at list) has h number start left =
     let items = deliveries_back list h.2 start left in
     (items.0, rw (two_back at (length list) (reply_record (r.Delivered at list)) refl refl h.0 h.1, items.1) refl)
-reply_back (r.Status list) h number start left =
-    let items = statuses_back list h.1 start left in
+reply_back version (r.Status list) has h number start left =
+    let items = statuses_back version list has h.1 start left in
     (items.0, rw (long_back 3 (length list) (reply_record (r.Status list)) refl h.0, items.1) refl)

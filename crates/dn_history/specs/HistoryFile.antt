@@ -11,10 +11,10 @@ use Rattle.dn_records.specs.Records.{Fields, records_of}
 use Rattle.dn_files.specs.ConfigFile.{command_at}
 use Rattle.dn_files.specs.Fields.{column}
 use Rattle.dn_history.specs.HistoryItems.{delivery_item, status_item}
-use Rattle.dn_history.specs.HistoryRecords.{caller_of, has_deletes, is_call, is_delete, is_end, is_reply, long_at, plain_call, plain_reply, rule_of, told_count, two_of, version_of}
+use Rattle.dn_history.specs.HistoryRecords.{caller_of, has_deletes, has_remarks, is_call, is_delete, is_end, is_reply, long_at, plain_call, plain_reply, rule_of, told_count, two_of, version_of}
 use Rattle.dn_files.specs.Reading.{◌>>=◌, within_limit}
 use Rattle.dn_history.specs.RecordsLeft.{Read, Rest, in_record, items_from, next_record}
-use Rattle.dn_history.specs.Remarks.{without_remarks}
+use Rattle.dn_history.specs.Remarks.{ahead}
 use Rattle.dn_history.specs.declared.history_version.HistoryVersion.{HistoryVersion}
 use Rattle.dn_files.specs.declared.replay_fault.ReplayFault.{ReplayFault}
 use Rattle.dn_files.specs.declared.replay_fault.ReplayFault.TheVariants.{BadRecord, OutOfMemory}
@@ -79,10 +79,14 @@ end_by count number fields rest = do
   told ← in_record number (told_count count fields)
   nothing_in rest rest.records
 
+-- What is left between two entries, from the next record on that is no remark, where the version has remarks.
+abbrev pub between : HistoryVersion → Rest → Rest
+between version rest = record { number = rest.number; records = ahead (has_remarks version) rest.records }
+
 -- The next entry after this many, or none at the end.
 unfoldable pub entry_from : HistoryVersion → ℕ → Rest → Read (Option Entry)
 entry_from version count rest = do
-  first ← next_record rest
+  first ← next_record (between version rest)
   cond (is_end first.0) (end_by count rest.number first.0 first.1) (entry_by version rest.number first.0 first.1)
 
 abbrev pub before : Option Entry → Result (List Entry) ReplayFault → Result (List Entry) ReplayFault
@@ -108,9 +112,9 @@ history_from rest = do
   entries ← entries_of version first.1
   Ok (rule_of version, entries)
 
--- The rule and the entries of a history's text. Remarks are passed over, and have no number.
+-- The rule and the entries of a history's text, or of a live session's transcript. Remarks have no number.
 abbrev pub history_in : List ℕ → Result (Rule × List Entry) ReplayFault
-history_in text = history_from (record { number = 1; records = without_remarks (records_of text) })
+history_in text = history_from (record { number = 1; records = records_of text })
 
 -- The greatest length of a history file in bytes.
 abbrev pub history_limit : ℕ

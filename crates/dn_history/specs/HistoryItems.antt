@@ -6,10 +6,9 @@ use Rattle.dn_types.specs.declared.flow_status.FlowStatus.{FlowStatus}
 use Rattle.dn_types.specs.declared.mask.Mask.{Mask}
 use Rattle.dn_records.specs.Records.{Fields}
 use Rattle.dn_files.specs.Fields.{is_form, number_at, target_at, tuple_at}
-use Rattle.dn_history.specs.HistoryRecords.{long_at}
+use Rattle.dn_history.specs.HistoryRecords.{has_deletes, long_at}
 use Rattle.dn_files.specs.Reading.{◌>>=◌}
 use Rattle.dn_history.specs.declared.history_version.HistoryVersion.{HistoryVersion}
-use Rattle.dn_history.specs.declared.history_version.HistoryVersion.TheVariants.{First, Second, Third}
 
 -- `d,packet,flow,start,due`
 unfoldable pub delivery_item : Fields → Result Delivery ℕ
@@ -38,15 +37,11 @@ key_item fields = do
 
 -- How many fields a status has: in version 1 that of the discarded packets is missing.
 abbrev pub status_width : HistoryVersion → ℕ
-status_width First = 20
-status_width Second = 21
-status_width Third = 21
+status_width version = cond (has_deletes version) 21 20
 
 -- The count of discarded packets of a status.
 abbrev pub discarded_item : HistoryVersion → Fields → Result ℕ ℕ
-discarded_item First fields = Ok 0
-discarded_item Second fields = long_at 21 fields
-discarded_item Third fields = long_at 21 fields
+discarded_item version fields = cond (has_deletes version) (long_at 21 fields) (Ok 0)
 
 -- `f,flow,TARGET,number,pipe,` mask, tuple, `queued,bytes,lost,full,started,discarded`
 unfoldable pub status_item : HistoryVersion → Fields → Result FlowStatus ℕ

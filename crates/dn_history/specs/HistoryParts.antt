@@ -12,10 +12,11 @@ use Rattle.dn_files.specs.Reading.{◌>>=◌}
 use Rattle.dn_files.specs.declared.replay_fault.ReplayFault.{ReplayFault}
 use Rattle.dn_history.specs.EntriesLeft.{EntriesLeft, entries_left}
 use Rattle.dn_history.specs.HistoryFile.{history_in}
-use Rattle.dn_history.specs.HistoryRecords.{rule_of, version_of}
+use Rattle.dn_history.specs.HistoryRecords.{rule_of}
+use Rattle.dn_history.specs.HistoryText.{history_header, live_header}
 use Rattle.dn_history.specs.RecordsLeft.{Rest}
-use Rattle.dn_history.specs.Remarks.{without_remarks}
 use Rattle.dn_history.specs.declared.history_version.HistoryVersion.{HistoryVersion}
+use Rattle.dn_history.specs.declared.history_version.HistoryVersion.TheVariants.{First, Second, Third, Live}
 use Rattle.dn_history.specs.declared.read.progress.Progress.TheVariants.{Reading}
 
 -- The version of the history, how many entries were given, the number of the next record, and the text that has come and
@@ -28,7 +29,7 @@ pub record Unread : Type 0 where
 
 -- The records that are left where this text follows.
 abbrev pub rest_with : Unread → List ℕ → Rest
-rest_with left more = record { number = left.number; records = without_remarks (records_after st.StartRecord (left.text ++ more)) }
+rest_with left more = record { number = left.number; records = records_after st.StartRecord (left.text ++ more) }
 
 -- The entries that are left where this text follows.
 abbrev pub entries_with : Unread → List ℕ → Result (List Entry) ReplayFault
@@ -47,11 +48,16 @@ pub record HasRead (left : Unread) (text : List ℕ) (entries : List Entry) : Ty
   pub count : left.given ≡ length entries
   pub goes_on : (more : List ℕ) → history_in (text ++ more) ≡ (entries_with left more >>= λ last. with_rule (rule_of left.version) (entries ++ last))
 
+-- The first record of a history of this version.
+abbrev pub version_record : HistoryVersion → Fields
+version_record First = codes "dummynet-history" ∷ codes "1" ∷ []
+version_record Second = codes "dummynet-history" ∷ codes "2" ∷ []
+version_record Third = history_header
+version_record Live = live_header
+
 -- A text begins with the line that tells this version, and then the rest follows.
 pub record BeginsHistory (text : List ℕ) (version : HistoryVersion) (rest : List ℕ) : Type 0 where
-  pub digit : List ℕ
-  pub tells : version_of (codes "dummynet-history" ∷ digit ∷ []) ≡ Ok version
-  pub stands : text ≡ line_of (codes "dummynet-history" ∷ digit ∷ []) ++ rest
+  pub stands : text ≡ line_of (version_record version) ++ rest
 
 -- A text begins with no line that tells a version.
 abbrev pub BeginsNoHistory : List ℕ → Type 0

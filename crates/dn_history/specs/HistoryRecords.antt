@@ -13,30 +13,43 @@ use Rattle.dn_records.specs.Records.{Fields}
 use Rattle.dn_files.specs.Fields.{is_form, is_name, number_at, packet_at, target_at}
 use Rattle.dn_files.specs.Reading.{◌>>=◌}
 use Rattle.dn_history.specs.declared.history_version.HistoryVersion.{HistoryVersion}
-use Rattle.dn_history.specs.declared.history_version.HistoryVersion.TheVariants.{First, Second, Third}
+use Rattle.dn_history.specs.declared.history_version.HistoryVersion.TheVariants.{First, Second, Third, Live}
 
 -- A number below 2^64, or the place.
 abbrev pub long_at : ℕ → Fields → Result ℕ ℕ
 long_at place fields = number_at place 0 18446744073709551615 fields
 
--- The first record: `dummynet-history` and a version.
+-- The version of a live session's transcript: `dummynet-live,1`.
+unfoldable pub live_of : Fields → Result HistoryVersion ℕ
+live_of fields = cond (is_form 1 (codes "dummynet-live") 2 fields) (cond (is_name 2 fields (codes "1")) (Ok Live) (Err 2)) (Err 1)
+
+-- The first record: `dummynet-history` and a version, or that of a live session's transcript.
 unfoldable pub version_of : Fields → Result HistoryVersion ℕ
 version_of fields =
     cond (is_form 1 (codes "dummynet-history") 2 fields)
     (cond (is_name 2 fields (codes "1")) (Ok First) (cond (is_name 2 fields (codes "2")) (Ok Second) (cond (is_name 2 fields (codes "3")) (Ok Third) (Err 2))))
-    (Err 1)
+    (live_of fields)
 
 -- The rule of a version's histories.
 abbrev pub rule_of : HistoryVersion → Rule
 rule_of First = Free
 rule_of Second = Free
 rule_of Third = Ordered
+rule_of Live = Ordered
 
 -- Whether a version has deletes: their lines, their replies, and the count of discarded packets in a status.
 abbrev pub has_deletes : HistoryVersion → Bool
 has_deletes First = false
 has_deletes Second = true
 has_deletes Third = true
+has_deletes Live = true
+
+-- Whether remarks may come between entries: in a live session's transcript alone.
+abbrev pub has_remarks : HistoryVersion → Bool
+has_remarks First = false
+has_remarks Second = false
+has_remarks Third = false
+has_remarks Live = true
 
 -- Whether a record is the last one: `end,E`.
 abbrev pub is_end : Fields → Bool

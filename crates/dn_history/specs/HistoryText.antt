@@ -8,6 +8,10 @@ use Rattle.dn_history.specs.EntryRecords.{call_record, item_records, reply_recor
 abbrev pub history_header : Fields
 history_header = codes "dummynet-history" ∷ codes "3" ∷ []
 
+-- The first record of a live session's transcript.
+abbrev pub live_header : Fields
+live_header = codes "dummynet-live" ∷ codes "1" ∷ []
+
 -- The records of an entry: its call, its reply, and what the reply lists.
 abbrev pub entry_records : Entry → List Fields
 entry_records e = call_record e.caller e.call ∷ reply_record e.reply ∷ item_records e.reply

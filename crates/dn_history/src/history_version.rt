@@ -1,17 +1,32 @@
 ghost use Rattle.std.specs.Prelude.{◌≡◌};
 ghost use Rattle.csv.specs.Records.{fields_of};
-ghost use Rattle.dn_history.specs.HistoryRecords.{has_deletes, rule_of, version_of};
+ghost use Rattle.dn_history.specs.HistoryRecords.{has_deletes, has_remarks, live_of, rule_of, version_of};
 
 use csv::ByteRecord;
 use dn_files::{is_form, is_name};
 use dn_types::Rule;
 
-/// The version of a history file, which its first record tells.
+/// The version of a history file, which its first record tells. A live session's transcript is one of its own.
 #[derive(Clone, Copy, Debug, PartialEq, Eq)]
 pub(crate) enum HistoryVersion {
     First,
     Second,
     Third,
+    Live,
+}
+
+/// The version of a transcript's first record, or the place of its first bad field.
+#[tactic(auto, unfolding(crate::specs::HistoryRecords::live_of))]
+fn read_live(fields: &ByteRecord) -> Result<HistoryVersion, u64>
+    ensures { result ≡ live_of (fields_of fields.now) }
+{
+    if !is_form(fields, 1, b"dummynet-live", 2) {
+        Err(1)
+    } else if is_name(fields, 2, b"1") {
+        Ok(HistoryVersion::Live)
+    } else {
+        Err(2)
+    }
 }
 
 impl HistoryVersion {
@@ -21,7 +36,7 @@ impl HistoryVersion {
         ensures { result ≡ version_of (fields_of fields.now) }
     {
         if !is_form(fields, 1, b"dummynet-history", 2) {
-            Err(1)
+            read_live(fields)
         } else if is_name(fields, 2, b"1") {
             Ok(HistoryVersion::First)
         } else if is_name(fields, 2, b"2") {
@@ -39,7 +54,7 @@ impl HistoryVersion {
     {
         match self {
             HistoryVersion::First | HistoryVersion::Second => Rule::Free,
-            HistoryVersion::Third => Rule::Ordered,
+            HistoryVersion::Third | HistoryVersion::Live => Rule::Ordered,
         }
     }
 
@@ -49,7 +64,17 @@ impl HistoryVersion {
     {
         match self {
             HistoryVersion::First => false,
-            HistoryVersion::Second | HistoryVersion::Third => true,
+            HistoryVersion::Second | HistoryVersion::Third | HistoryVersion::Live => true,
+        }
+    }
+
+    /// Whether remarks may come between the entries of this version.
+    pub(crate) fn has_remarks(self) -> bool
+        ensures { result ≡ has_remarks self }
+    {
+        match self {
+            HistoryVersion::First | HistoryVersion::Second | HistoryVersion::Third => false,
+            HistoryVersion::Live => true,
         }
     }
 }

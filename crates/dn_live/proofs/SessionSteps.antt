@@ -12,7 +12,7 @@ use Rattle.dn_types.specs.declared.call.Call.{Call}
 use Rattle.dn_types.specs.declared.rule.Rule.TheVariants.{Ordered}
 use Rattle.dn_shaper.specs.Shaper.{StandsAfter}
 use Rattle.dn_shaper.specs.declared.state.State.{State}
-use Rattle.dn_history.specs.HistoryText.{end_record, history_header}
+use Rattle.dn_history.specs.HistoryText.{end_record, live_header}
 use Rattle.dn_records.specs.Devices.{AppendsPart}
 use Rattle.dn_records.specs.Records.{text_of}
 use Rattle.dn_records.proofs.TextSteps.{text-append}
@@ -48,14 +48,14 @@ one-bad-at-most Next = omega arith
 one-bad-at-most (Calls caller call) = omega arith
 one-bad-at-most (Bad bad) = omega arith
 
-pub header-is : begun [] ≡ codes "dummynet-history,3\n"
+pub header-is : begun [] ≡ codes "dummynet-live,1\n"
 unfolding answers text_of fields_text is_blank
 header-is = refl
 
 -- One line more.
 pub begun-more : (lines : List (List ℕ)) (line : List ℕ) → begun (line ∷ lines) ≡ begun lines ++ text_of (answer (length lines + 1) (calls_of lines) (asked line))
 unfolding answers
-begun-more lines line = text-append (history_header ∷ answers lines) (answer (length lines + 1) (calls_of lines) (asked line))
+begun-more lines line = text-append (live_header ∷ answers lines) (answer (length lines + 1) (calls_of lines) (asked line))
 
 pub calls-more : (lines : List (List ℕ)) (line : List ℕ) → calls_of (line ∷ lines) ≡ calls_after (calls_of lines) (asked line)
 unfolding calls_of

@@ -1,7 +1,7 @@
--- What is written of a session is the history of its calls, but for remarks.
-use Rattle.std.proofs.Common.{◌≡◌, ◌∙◌, refl, sym, ap, subst, ℕ, ◌+◌, ◌<◌, ◌≤◌, ◌^◌, not, List, [], ◌∷◌, ◌++◌, Option, Some, None, length, length-append, append-nil, arith}
+-- What is written of a session is read as the history of its calls.
+use Rattle.std.proofs.Common.{◌≡◌, ◌∙◌, refl, sym, ap, subst, ℕ, ◌+◌, ◌<◌, ◌≤◌, ◌^◌, not, List, [], ◌∷◌, ◌++◌, Option, Some, None, length, true, length-append, append-nil, append_assoc, arith}
 use Rattle.std.specs.List.{All}
-use Rattle.std.specs.Prelude.{Ok, flat_map}
+use Rattle.std.specs.Prelude.{Ok, Err, flat_map}
 use Rattle.std.specs.Io.KnownBytes.{Appends}
 use Rattle.std.proofs.lemmas.List.Concat.{flat_map-append}
 use Rattle.std.proofs.lemmas.List.Elements.{All-append, All-cons, All-nil, filter-append}
@@ -20,17 +20,19 @@ use Rattle.dn_records.specs.Records.{AllFilled, Fields, HasNoMark, text_of}
 use Rattle.dn_records.proofs.ReadBack.{read-back}
 use Rattle.dn_records.proofs.TextSteps.{text-append}
 use Rattle.dn_shaper.specs.Waking.{wake_of}
-use Rattle.dn_history.specs.HistoryText.{end_record, entry_records, history_header, history_records}
+use Rattle.dn_history.specs.HistoryText.{end_record, entry_records, history_header, history_records, live_header}
 use Rattle.dn_history.specs.HistoryFile.{history_in}
-use Rattle.dn_history.specs.Ranges.{AreEntries, IsEntry}
 use Rattle.dn_history.specs.Remarks.{is_remark, without_remarks}
-use Rattle.dn_history.proofs.EntriesBack.{read_as}
+use Rattle.dn_history.specs.declared.history_version.HistoryVersion.TheVariants.{Live}
+use Rattle.dn_history.proofs.EntriesBack.{IsPiece, Piece, piece_entries, piece_records, read_as}
 use Rattle.dn_history.proofs.HistoryBack.{entry-filled, entry-plain, filled-append}
 use Rattle.dn_live.specs.Asked.{asked}
-use Rattle.dn_live.specs.Session.{answer, answers, calls_after, calls_of, IsServed, next_record, tail_answer}
+use Rattle.dn_live.specs.Session.{answer, answers, bad_record, calls_after, calls_of, IsServed, next_record, tail_answer}
 use Rattle.dn_live.specs.Transcripts.{AreTyped, IsServedTyped, IsTranscript, IsTyped}
 use Rattle.dn_live.specs.declared.asked.Asked.{Asked}
 use Rattle.dn_live.specs.declared.asked.Asked.TheVariants.{Nothing, Next, Calls, Bad}
+use Rattle.dn_live.specs.declared.bad_line.BadLine.{BadLine}
+use Rattle.dn_live.specs.declared.cause.Cause.TheVariants.{NoLineFeed}
 use Rattle.dn_live.specs.declared.served.Served.{Served}
 use Rattle.dn_live.proofs.Callers.{IsByFew, asked-few}
 use Rattle.dn_live.proofs.SessionSteps.{counts, one-at-most}
@@ -72,21 +74,99 @@ unfolding entries_of calls_of
 history [] = (tt, refl, refl)
 history (line ∷ lines) = one-more (calls_of lines) (entries_of lines) (asked line) (history lines)
 
+-- What a line writes, as pieces of a transcript: an entry, a remark, or nothing.
+abbrev pieces_after : ℕ → List Call → Asked → List Piece
+pieces_after number calls Nothing = []
+pieces_after number calls Next = Err (next_record (wake_of Ordered (trace_of (counted calls)))) ∷ []
+pieces_after number calls (Calls caller call) = Ok (entry_after calls caller call) ∷ []
+pieces_after number calls (Bad bad) = Err (bad_record number bad) ∷ []
+
+abbrev tail_pieces : ℕ → List ℕ → List Piece
+tail_pieces number [] = []
+tail_pieces number (b ∷ tail) = Err (bad_record number (record { field = 0; cause = NoLineFeed })) ∷ []
+
+unfoldable pieces_of : List (List ℕ) → List Piece
+pieces_of [] = []
+pieces_of (line ∷ lines) = pieces_of lines ++ pieces_after (length lines + 1) (calls_of lines) (asked line)
+
+-- The pieces of a session, up to its end.
+abbrev all_pieces : List (List ℕ) → List ℕ → List Piece
+all_pieces lines tail = pieces_of lines ++ tail_pieces (length lines + 1) tail
+
+-- They are what is written.
+answer-records : (number : ℕ) (calls : List Call) (what : Asked) → flat_map piece_records (pieces_after number calls what) ≡ answer number calls what
+answer-records number calls Nothing = refl
+answer-records number calls Next = refl
+answer-records number calls (Bad bad) = refl
+answer-records number calls (Calls caller call) = append-nil (entry_records (entry_after calls caller call))
+
+tail-records : (number : ℕ) (tail : List ℕ) → flat_map piece_records (tail_pieces number tail) ≡ tail_answer number tail
+tail-records number [] = refl
+tail-records number (b ∷ tail) = refl
+
+answers-records : (lines : List (List ℕ)) → flat_map piece_records (pieces_of lines) ≡ answers lines
+unfolding answers pieces_of
+answers-records [] = refl
+answers-records (line ∷ lines) =
+    flat_map-append piece_records (pieces_of lines) (pieces_after (length lines + 1) (calls_of lines) (asked line))
+    ∙ ap (λ (rs : List Fields). rs ++ flat_map piece_records (pieces_after (length lines + 1) (calls_of lines) (asked line))) (answers-records lines)
+    ∙ ap (λ (rs : List Fields). answers lines ++ rs) (answer-records (length lines + 1) (calls_of lines) (asked line))
+
+all-records : (lines : List (List ℕ)) (tail : List ℕ) → flat_map piece_records (all_pieces lines tail) ≡ answers lines ++ tail_answer (length lines + 1) tail
+all-records lines tail =
+    flat_map-append piece_records (pieces_of lines) (tail_pieces (length lines + 1) tail)
+    ∙ ap (λ (rs : List Fields). rs ++ flat_map piece_records (tail_pieces (length lines + 1) tail)) (answers-records lines)
+    ∙ ap (λ (rs : List Fields). answers lines ++ rs) (tail-records (length lines + 1) tail)
+
+-- Their entries are those of the lines.
+answer-entries : (number : ℕ) (calls : List Call) (what : Asked) → flat_map piece_entries (pieces_after number calls what) ≡ entry_of calls what
+answer-entries number calls Nothing = refl
+answer-entries number calls Next = refl
+answer-entries number calls (Bad bad) = refl
+answer-entries number calls (Calls caller call) = refl
+
+tail-entries : (number : ℕ) (tail : List ℕ) → flat_map piece_entries (tail_pieces number tail) ≡ []
+tail-entries number [] = refl
+tail-entries number (b ∷ tail) = refl
+
+pieces-entries : (lines : List (List ℕ)) → flat_map piece_entries (pieces_of lines) ≡ entries_of lines
+unfolding entries_of pieces_of
+pieces-entries [] = refl
+pieces-entries (line ∷ lines) =
+    flat_map-append piece_entries (pieces_of lines) (pieces_after (length lines + 1) (calls_of lines) (asked line))
+    ∙ ap (λ (es : List Entry). es ++ flat_map piece_entries (pieces_after (length lines + 1) (calls_of lines) (asked line))) (pieces-entries lines)
+    ∙ ap (λ (es : List Entry). entries_of lines ++ es) (answer-entries (length lines + 1) (calls_of lines) (asked line))
+
+all-entries : (lines : List (List ℕ)) (tail : List ℕ) → flat_map piece_entries (all_pieces lines tail) ≡ entries_of lines
+all-entries lines tail =
+    flat_map-append piece_entries (pieces_of lines) (tail_pieces (length lines + 1) tail)
+    ∙ ap (λ (es : List Entry). flat_map piece_entries (pieces_of lines) ++ es) (tail-entries (length lines + 1) tail)
+    ∙ append-nil (flat_map piece_entries (pieces_of lines)) ∙ pieces-entries lines
+
+-- Without remarks they are the records of the entries.
+next-remark : (moment : Option ℕ) → is_remark (next_record moment) ≡ true
+unfolding field_at
+next-remark None = refl
+next-remark (Some moment) = refl
+
+bad-remark : (number : ℕ) (bad : BadLine) → is_remark (bad_record number bad) ≡ true
+unfolding field_at
+bad-remark number bad = refl
+
+plain-append : (front back : List Fields) → without_remarks (front ++ back) ≡ without_remarks front ++ without_remarks back
+plain-append front back = filter-append (λ fields. not (is_remark fields)) front back
+
 next-plain : (moment : Option ℕ) → without_remarks (next_record moment ∷ []) ≡ []
 unfolding field_at
 next-plain None = refl
 next-plain (Some moment) = refl
 
--- Without its remarks an answer is the records of an entry.
 answer-plain : (number : ℕ) (calls : List Call) (what : Asked) → without_remarks (answer number calls what) ≡ flat_map entry_records (entry_of calls what)
 unfolding field_at
 answer-plain number calls Nothing = refl
 answer-plain number calls Next = next-plain (wake_of Ordered (trace_of (counted calls)))
 answer-plain number calls (Bad bad) = refl
 answer-plain number calls (Calls caller call) = entry-plain (entry_after calls caller call) ∙ sym (append-nil (entry_records (entry_after calls caller call)))
-
-plain-append : (front back : List Fields) → without_remarks (front ++ back) ≡ without_remarks front ++ without_remarks back
-plain-append front back = filter-append (λ fields. not (is_remark fields)) front back
 
 answers-plain : (lines : List (List ℕ)) → without_remarks (answers lines) ≡ flat_map entry_records (entries_of lines)
 unfolding answers entries_of
@@ -107,12 +187,11 @@ end-plain : (count : ℕ) → without_remarks (end_record count ∷ []) ≡ end_
 unfolding field_at
 end-plain count = refl
 
--- The records of a session.
+-- The records of a session behind the first.
 abbrev session : List (List ℕ) → List ℕ → List Fields
-session lines tail = history_header ∷ (answers lines ++ (tail_answer (length lines + 1) tail ++ end_record (length (calls_of lines)) ∷ []))
+session lines tail = answers lines ++ (tail_answer (length lines + 1) tail ++ end_record (length (calls_of lines)) ∷ [])
 
-session-plain : (lines : List (List ℕ)) (tail : List ℕ) → without_remarks (session lines tail) ≡ history_records (entries_of lines)
-unfolding field_at
+session-plain : (lines : List (List ℕ)) (tail : List ℕ) → history_header ∷ without_remarks (session lines tail) ≡ history_records (entries_of lines)
 session-plain lines tail =
     let count = length (calls_of lines) in
     let last = tail_answer (length lines + 1) tail ++ end_record count ∷ [] in
@@ -126,25 +205,27 @@ unfolding calls_of
 calls-few [] = omega arith
 calls-few (line ∷ lines) = omega (arith, calls-few lines, counts (calls_of lines) (asked line), one-at-most (asked line))
 
-each-of : (P : Entry → Type 0) (calls : List Call) (what : Asked) → ((caller : ℕ) (call : Call) → what ≡ Calls caller call → P (entry_after calls caller call)) → All P (entry_of calls what)
-each-of P calls (Calls caller call) h = All-cons P (entry_after calls caller call) [] (h caller call refl) (All-nil P)
-each-of P calls Nothing h = All-nil P
-each-of P calls Next h = All-nil P
-each-of P calls (Bad bad) h = All-nil P
+-- Each piece can be in a transcript.
+after-held : (number : ℕ) (calls : List Call) (what : Asked) → IsTyped calls what → IsByFew what → All (IsPiece Live) (pieces_after number calls what)
+after-held number calls Nothing typed few = All-nil (IsPiece Live)
+after-held number calls Next typed few =
+    let moment = wake_of Ordered (trace_of (counted calls)) in
+    All-cons (IsPiece Live) (Err (next_record moment)) [] (refl, next-remark moment) (All-nil (IsPiece Live))
+after-held number calls (Bad bad) typed few = All-cons (IsPiece Live) (Err (bad_record number bad)) [] (refl, bad-remark number bad) (All-nil (IsPiece Live))
+after-held number calls (Calls caller call) typed few = All-cons (IsPiece Live) (Ok (entry_after calls caller call)) [] (few, typed) (All-nil (IsPiece Live))
 
-each-typed : (lines : List (List ℕ)) → AreTyped lines → All IsEntry (entries_of lines)
-unfolding AreTyped entries_of
-each-typed [] h = All-nil IsEntry
-each-typed (line ∷ lines) h =
-    All-append IsEntry (entries_of lines) (entry_of (calls_of lines) (asked line)) (each-typed lines h.1)
-    (each-of IsEntry (calls_of lines) (asked line) (λ caller call is. subst (IsTyped (calls_of lines)) is h.0))
+tail-held : (number : ℕ) (tail : List ℕ) → All (IsPiece Live) (tail_pieces number tail)
+tail-held number [] = All-nil (IsPiece Live)
+tail-held number (b ∷ tail) =
+    let bad : BadLine = record { field = 0; cause = NoLineFeed } in
+    All-cons (IsPiece Live) (Err (bad_record number bad)) [] (refl, bad-remark number bad) (All-nil (IsPiece Live))
 
-few-callers : (lines : List (List ℕ)) → All (λ e. e.caller < 16) (entries_of lines)
-unfolding entries_of
-few-callers [] = All-nil (λ (e : Entry). e.caller < 16)
-few-callers (line ∷ lines) =
-    All-append (λ (e : Entry). e.caller < 16) (entries_of lines) (entry_of (calls_of lines) (asked line)) (few-callers lines)
-    (each-of (λ (e : Entry). e.caller < 16) (calls_of lines) (asked line) (λ caller call is. subst IsByFew is (asked-few line)))
+pieces-held : (lines : List (List ℕ)) → AreTyped lines → All (IsPiece Live) (pieces_of lines)
+unfolding AreTyped pieces_of
+pieces-held [] typed = All-nil (IsPiece Live)
+pieces-held (line ∷ lines) typed =
+    All-append (IsPiece Live) (pieces_of lines) (pieces_after (length lines + 1) (calls_of lines) (asked line)) (pieces-held lines typed.1)
+    (after-held (length lines + 1) (calls_of lines) (asked line) typed.0 (asked-few line))
 
 -- The records of a session are read as they were written.
 next-filled : (moment : Option ℕ) → AllFilled (next_record moment ∷ [])
@@ -167,20 +248,30 @@ closing-filled : (number count : ℕ) (tail : List ℕ) → AllFilled (tail_answ
 closing-filled number count [] = tt
 closing-filled number count (b ∷ tail) = tt
 
-session-filled : (lines : List (List ℕ)) (tail : List ℕ) → AllFilled (session lines tail)
+session-filled : (lines : List (List ℕ)) (tail : List ℕ) → AllFilled (live_header ∷ session lines tail)
 session-filled lines tail =
     let count = length (calls_of lines) in
     filled-append (answers lines) (tail_answer (length lines + 1) tail ++ end_record count ∷ []) (answers-filled lines) (closing-filled (length lines + 1) count tail)
 
 -- A session's text begins with a letter.
-no-mark : (lines : List (List ℕ)) (tail : List ℕ) → HasNoMark (text_of (session lines tail))
+no-mark : (lines : List (List ℕ)) (tail : List ℕ) → HasNoMark (text_of (live_header ∷ session lines tail))
 unfolding text_of fields_text is_blank escaped strip_bom
 no-mark lines tail = refl
 
-session-back : (lines : List (List ℕ)) (tail : List ℕ) → AreTyped lines → length lines < 2 ^ 64 → history_in (text_of (session lines tail)) ≡ Ok (Ordered, entries_of lines)
+session-back : (lines : List (List ℕ)) (tail : List ℕ) → AreTyped lines → length lines < 2 ^ 64 → history_in (text_of (live_header ∷ session lines tail)) ≡ Ok (Ordered, entries_of lines)
 session-back lines tail typed few =
-    let held : AreEntries (entries_of lines) = record { count = omega (arith, few, calls-few lines, (history lines).2); each = each-typed lines typed } in
-    read_as (text_of (session lines tail)) (entries_of lines) (ap without_remarks (read-back (session lines tail) (session-filled lines tail) (no-mark lines tail)) ∙ session-plain lines tail) held (few-callers lines)
+    let pieces = all_pieces lines tail in
+    let entries_are = all-entries lines tail in
+    let last = end_record (length (calls_of lines)) in
+    let body : flat_map piece_records pieces ++ end_record (length (flat_map piece_entries pieces)) ∷ [] ≡ session lines tail =
+    ap (λ (rs : List Fields). rs ++ end_record (length (flat_map piece_entries pieces)) ∷ []) (all-records lines tail)
+    ∙ ap (λ (n : ℕ). (answers lines ++ tail_answer (length lines + 1) tail) ++ end_record n ∷ []) (ap (length {A = Entry}) entries_are ∙ (history lines).2)
+    ∙ append_assoc (answers lines) (tail_answer (length lines + 1) tail) (last ∷ []) in
+    let records_are = read-back (live_header ∷ session lines tail) (session-filled lines tail) (no-mark lines tail) ∙ ap (λ (rs : List Fields). live_header ∷ rs) (sym body) in
+    let count : length (flat_map piece_entries pieces) < 2 ^ 64 = omega (arith, few, calls-few lines, (history lines).2, ap (length {A = Entry}) entries_are) in
+    read_as Live (text_of (live_header ∷ session lines tail)) pieces refl records_are
+    (All-append (IsPiece Live) (pieces_of lines) (tail_pieces (length lines + 1) tail) (pieces-held lines typed) (tail-held (length lines + 1) tail)) count
+    ∙ ap (λ (es : List Entry). Ok (Ordered, es)) entries_are
 
 pub transcript : (known old new : Option (List ℕ)) (served : Served) → IsServedTyped known old new served → IsTranscript old new
 transcript known old new served (lines, tail, (typed, few), (text, all, app, is)) = (
@@ -188,7 +279,7 @@ transcript known old new served (lines, tail, (typed, few), (text, all, app, is)
   (history lines).0,
   (
     session lines tail,
-    subst (Appends old new) (sym (text-append (history_header ∷ answers lines) (tail_answer (length lines + 1) tail ++ end_record (length (calls_of lines)) ∷ []))) app,
+    subst (Appends old new) (sym (text-append (live_header ∷ answers lines) (tail_answer (length lines + 1) tail ++ end_record (length (calls_of lines)) ∷ []))) app,
     session-plain lines tail,
     session-back lines tail typed few,
   ),

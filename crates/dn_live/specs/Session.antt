@@ -11,7 +11,7 @@ use Rattle.dn_types.specs.declared.rule.Rule.TheVariants.{Ordered}
 use Rattle.dn_shaper.specs.Waking.{wake_of}
 use Rattle.dn_records.specs.Devices.{AppendsPart}
 use Rattle.dn_records.specs.Records.{Fields, text_of}
-use Rattle.dn_history.specs.HistoryText.{end_record, entry_records, history_header}
+use Rattle.dn_history.specs.HistoryText.{end_record, entry_records, live_header}
 use Rattle.dn_files.specs.Reading.{IsTextOf}
 use Rattle.dn_files.specs.declared.replay_fault.ReplayFault.{ReplayFault}
 use Rattle.dn_files.specs.declared.replay_fault.ReplayFault.TheVariants.{Write, TooLong}
@@ -94,7 +94,7 @@ bad_tail (b ∷ tail) = 1
 
 -- What is written of lines.
 abbrev pub begun : List (List ℕ) → List ℕ
-begun lines = text_of (history_header ∷ answers lines)
+begun lines = text_of (live_header ∷ answers lines)
 
 -- What is written at the end of the input.
 abbrev pub closing : List (List ℕ) → List ℕ → List ℕ

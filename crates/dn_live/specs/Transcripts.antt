@@ -8,7 +8,7 @@ use Rattle.dn_types.specs.declared.entry.Entry.{Entry}
 use Rattle.dn_types.specs.declared.rule.Rule.TheVariants.{Ordered}
 use Rattle.dn_records.specs.Records.{Fields, text_of}
 use Rattle.dn_history.specs.HistoryFile.{history_in}
-use Rattle.dn_history.specs.HistoryText.{history_records}
+use Rattle.dn_history.specs.HistoryText.{history_header, history_records, live_header}
 use Rattle.dn_history.specs.Ranges.{IsEntry}
 use Rattle.dn_history.specs.Remarks.{without_remarks}
 use Rattle.dn_live.specs.Asked.{asked}
@@ -17,11 +17,12 @@ use Rattle.dn_live.specs.declared.asked.Asked.{Asked}
 use Rattle.dn_live.specs.declared.asked.Asked.TheVariants.{Nothing, Next, Calls, Bad}
 use Rattle.dn_live.specs.declared.served.Served.{Served}
 
--- What was written is a history file but for its remarks, the history in it is lawful, and it is read as that history.
+-- What was written is the first record of a transcript, and the records of a history behind its first one, with remarks among
+-- them. The history is lawful, and what was written is read as that history.
 abbrev pub IsTranscript : Option (List ℕ) → Option (List ℕ) → Type 0
 IsTranscript old new = (entries : List Entry) × IsLawful Ordered entries
-    × ((records : List Fields) × Appends old new (text_of records) × (without_remarks records ≡ history_records entries)
-    × (history_in (text_of records) ≡ Ok (Ordered, entries)))
+    × ((records : List Fields) × Appends old new (text_of (live_header ∷ records)) × (history_header ∷ without_remarks records ≡ history_records entries)
+    × (history_in (text_of (live_header ∷ records)) ≡ Ok (Ordered, entries)))
 
 -- The entry of what a line asks for after the calls, if that is a call, holds numbers in the ranges of their types.
 abbrev pub IsTyped : List Call → Asked → Type 0

@@ -32,7 +32,7 @@ fn write_head<O: Outlet>(out: &mut O) -> Result<(), ReplayFault>
     ensures err { IfErr result (λ fault. (fault ≡ Write History) × (O.has_failed out.new ≡ true)
         × AppendsPart (O.contents out.old) (O.contents out.new) (begun [])) }
 {
-    match write_whole(out, b"dummynet-history,3\n") {
+    match write_whole(out, b"dummynet-live,1\n") {
         Ok(()) => Ok(()),
         Err(_) => Err(ReplayFault::Write(Source::History)),
     }
@@ -153,8 +153,8 @@ fn serve<I: Inlet, O: Outlet>(
 /// Serves a live session. Each line of the input is a call, as the record that history files have
 /// (`c,CALLER,..`) or as a configuration line (`pipe 1 config ..`), which is taken as a Configure of caller 0,
 /// and is answered before the next one is read: the records of its entry are written in one write. What is
-/// written begins with the record that names the format of history files, and ends with the count of the
-/// calls, so without its remarks it is the history file of the session. A line that is none is answered by a
+/// written begins with the record `dummynet-live,1`, and ends with the count of the calls. It is read as the
+/// history of the session, by the rule Ordered: `read_history`, `audit` and `audit_file` pass over its remarks. A line that is none is answered by a
 /// remark, `#,bad,LINE,FIELD,CAUSE`, and changes nothing. Empty lines and those that begin with `#` get no
 /// answer. What stands behind the last line feed is no line, and gets a remark.
 ///
@@ -172,7 +172,7 @@ pub fn live<I: Inlet, O: Outlet>(
     requires out { O.has_failed out.old ≡ false }
     ensures ok { IfOk result (λ served. IsServed (I.remaining input.old) (O.contents out.old) (O.contents out.new) served) }
 
-    // What was written is the history file of a lawful history, but for its remarks, and is read as that.
+    // What was written is the transcript of a lawful history, and is read as that.
     ensures lawful { IfOk result (λ _. IsTranscript (O.contents out.old) (O.contents out.new)) }
 
     // No read and no write failed.

@@ -1,7 +1,7 @@
 -- More digits than a number of 64 bits has are no such number.
-use Rattle.std.proofs.Common.{◌≡◌, ◌∙◌, refl, sym, ap, ℕ, zero, suc, ◌+◌, ◌-◌, ◌*◌, ◌^◌, ◌<◌, ◌≤◌, ◌==◌, Bool, true, false, cond, List, [], ◌∷◌, length, take, arith, add-one, one-add, length-take, get_or}
-use Rattle.std.specs.Prelude.{Some, None, Ok, Err, ◌&&◌, nat_lt, nat_le, slice_index, Option, Result}
-use Rattle.std.specs.List.{list_all, prefix_len}
+use Rattle.std.proofs.Common.{◌≡◌, refl, ℕ, zero, suc, ◌+◌, ◌-◌, ◌^◌, ◌<◌, ◌≤◌, ◌==◌, Bool, true, false, cond, List, [], ◌∷◌, length, take, arith, add-one, length-take}
+use Rattle.std.specs.Prelude.{Some, None, Ok, Err, ◌&&◌, nat_lt, nat_le, Result}
+use Rattle.std.specs.List.{prefix_len}
 use Rattle.std.specs.Result.{result_ok}
 use Rattle.std.specs.Char.{digit_value, is_ascii_digit}
 use Rattle.std.specs.Str.Parse.{digits_value}

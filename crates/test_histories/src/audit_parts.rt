@@ -50,7 +50,7 @@ fn audits_in_steps(
 }
 
 // Files, the answers to their audits, and the lines of these.
-static FILES: [(&str, Result<Verdict, ReplayFault>, &str); 14] = [
+static FILES: [(&str, Result<Verdict, ReplayFault>, &str); 23] = [
     (ONE_CALLER, Ok(Verdict::Lawful), "lawful 4\n"),
     // A call in quotes.
     (
@@ -60,15 +60,62 @@ static FILES: [(&str, Result<Verdict, ReplayFault>, &str); 14] = [
     ),
     // The lines of an entry within the quotes of a remark.
     (
-        "dummynet-history,3\nc,0,advance,1\nr,advanced,1\n#,\"\nc,0,advance,2\nr,advanced,9\n\"\nc,0,advance,3\nr,advanced,3\nend,2\n",
+        "dummynet-live,1\nc,0,advance,1\nr,advanced,1\n#,\"\nc,0,advance,2\nr,advanced,9\n\"\nc,0,advance,3\nr,advanced,3\nend,2\n",
         Ok(Verdict::Lawful),
         "lawful 2\n",
     ),
-    // A remark and an empty line between a call and its reply, and before the end.
+    // Remarks and an empty line before a call and before the end, and a quoted field behind them.
     (
-        "dummynet-history,3\nc,0,advance,1\n#,next\n\nr,advanced,1\n#,next\nend,1\n",
+        "dummynet-live,1\n#,next\n\n#,bad\nc,0,advance,1\nr,advanced,1\n#,next\nend,1\n",
         Ok(Verdict::Lawful),
         "lawful 1\n",
+    ),
+    (
+        "dummynet-live,1\r\n#\r\nc,0,\"advance\",1\r\nr,advanced,1\r\n#\r\nend,1\r\n",
+        Ok(Verdict::Lawful),
+        "lawful 1\n",
+    ),
+    // Remarks within an entry, behind the end and before the first record of a transcript.
+    (
+        "dummynet-live,1\nc,0,advance,1\n#,next\nr,advanced,1\nend,1\n",
+        Err(ReplayFault::BadRecord(3)),
+        "",
+    ),
+    (
+        "dummynet-live,1\n#\nc,0,collect,1\nr,delivered,1,1\n#\nd,0,0,0,1\nend,1\n",
+        Err(ReplayFault::BadRecord(4)),
+        "",
+    ),
+    (
+        "dummynet-live,1\nend,0\n#,next\n",
+        Err(ReplayFault::BadRecord(3)),
+        "",
+    ),
+    (
+        "#,next\ndummynet-live,1\nend,0\n",
+        Err(ReplayFault::BadRecord(1)),
+        "",
+    ),
+    (
+        "dummynet-live,2\nend,0\n",
+        Err(ReplayFault::BadRecord(1)),
+        "",
+    ),
+    // A history has no remarks.
+    (
+        "dummynet-history,1\n#\nend,0\n",
+        Err(ReplayFault::BadRecord(2)),
+        "",
+    ),
+    (
+        "dummynet-history,2\n#\nend,0\n",
+        Err(ReplayFault::BadRecord(2)),
+        "",
+    ),
+    (
+        "dummynet-history,3\n#\nend,0\n",
+        Err(ReplayFault::BadRecord(2)),
+        "",
     ),
     (
         "dummynet-history,3\r\nc,0,advance,1\r\nr,advanced,1\r\nend,1\r\n",

@@ -39,6 +39,7 @@ fn the_plain_line_of_a_version_begins_parts(rt: HostRuntime) -> Result<(), Fail>
         ("dummynet-history,1\n", Rule::Free),
         ("dummynet-history,2\nend,0\n", Rule::Free),
         ("dummynet-history,3\n", Rule::Ordered),
+        ("dummynet-live,1\n", Rule::Ordered),
     ] {
         let parts = HistoryParts::new(alloc, text.as_bytes())?.ok_or("the line of a version")?;
         assert!(rt; parts.rule() == rule);
@@ -57,6 +58,8 @@ fn another_first_line_begins_no_parts(rt: HostRuntime) -> Result<(), Fail> {
         "\"dummynet-history\",3\n",
         "dummynet-history,\"3\"\n",
         "dummynet-history,4\n",
+        "dummynet-live,2\n",
+        "dummynet-live,1\r\n",
         "dummynet-history,03\n",
         "dummynet-history, 3\n",
         "dummynet-history,3 \n",

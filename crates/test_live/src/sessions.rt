@@ -11,7 +11,7 @@ pub struct Line {
 }
 
 /// What is written before the first line.
-pub const HEADER: &str = "dummynet-history,3\n";
+pub const HEADER: &str = "dummynet-live,1\n";
 
 /// Calls in each form, and between them each kind of line that is none.
 pub static LINES: [Line; 11] = [
@@ -122,6 +122,6 @@ fn a_session_is_written(rt: HostRuntime) -> Result<(), Fail> {
 #[test]
 fn an_empty_session_is_written(rt: HostRuntime) {
     let served = Served { calls: 0, bad: 0 };
-    assert!(rt; serves(rt.alloc(), "", served, "dummynet-history,3\nend,0\n"));
+    assert!(rt; serves(rt.alloc(), "", served, "dummynet-live,1\nend,0\n"));
     assert!(rt; served.status() == 0);
 }

@@ -36,13 +36,22 @@ fn read(
     Ok(found)
 }
 
-// The last record has no line feed, and a remark stands between two entries.
+// The last record has no line feed.
 #[test]
 fn entries_are_read_one_after_another(rt: HostRuntime) -> Result<(), Fail> {
-    let text =
-        b"dummynet-history,2\nc,0,advance,9\nr,advanced,9\n# a remark\nc,15,show\nr,exhausted\nend,2";
+    let text = b"dummynet-history,2\nc,0,advance,9\nr,advanced,9\nc,15,show\nr,exhausted\nend,2";
     let (rule, answers, given) = read(rt.alloc(), text)?;
     assert!(rt; rule == Rule::Free && given == 2);
+    assert!(rt; answers == [Ok(Some(0)), Ok(Some(15)), Ok(None), Ok(None)]);
+    Ok(())
+}
+
+#[test]
+fn a_transcript_has_remarks_between_its_entries(rt: HostRuntime) -> Result<(), Fail> {
+    let text =
+        b"dummynet-live,1\n#\nc,0,advance,9\nr,advanced,9\n# a remark\nc,15,show\nr,exhausted\n#\nend,2\n";
+    let (rule, answers, given) = read(rt.alloc(), text)?;
+    assert!(rt; rule == Rule::Ordered && given == 2);
     assert!(rt; answers == [Ok(Some(0)), Ok(Some(15)), Ok(None), Ok(None)]);
     Ok(())
 }

@@ -3,7 +3,6 @@ ghost use Rattle.csv.specs.declared.parser.State.TheVariants as st;
 ghost use Rattle.dn_records.specs.Reading.{records_after};
 ghost use Rattle.dn_records.specs.Records.{records_of};
 ghost use Rattle.dn_history.specs.HistoryParts.{AreRead};
-ghost use Rattle.dn_history.specs.Remarks.{without_remarks};
 
 use crate::history_version::HistoryVersion;
 use crate::read::entries::next_entry;
@@ -42,9 +41,9 @@ pub(crate) fn read_batch<'a>(
     requires few { (given < 2 ^ 62) × (number < 2 ^ 62) }
     requires feed { text.now ≡ 10 ∷ drop 1 text.now }
     ensures read { IfOk result (λ batch.
-        AreRead version given (record { number = number; records = without_remarks (records_of text.now) })
+        AreRead version given (record { number = number; records = records_of text.now })
         batch.entries.items batch.given
-        (record { number = batch.number; records = without_remarks (records_after st.StartRecord batch.left.now) })) }
+        (record { number = batch.number; records = records_after st.StartRecord batch.left.now })) }
     ensures few { IfOk result (λ batch. (batch.given < 2 ^ 62) × (batch.number < 2 ^ 62)) }
 {
     let mut records = NumberedRecords::from(alloc, text, number);

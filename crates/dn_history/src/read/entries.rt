@@ -95,7 +95,7 @@ fn read_entry(
     ensures err { IfErr result (λ fault. IsFaultOf (entry_from version count records.old) fault) }
 {
     let number = records.number();
-    match records.next(fields) {
+    match records.next_past_remarks(version, fields) {
         Ok(()) => {}
         Err(fault) => return Err(fault),
     }

@@ -4,7 +4,6 @@ ghost use Rattle.dn_files.specs.Reading.{IsFaultOf};
 ghost use Rattle.dn_history.specs.EntriesLeft.{IsAfter, entries_left, history_left};
 ghost use Rattle.dn_history.specs.HistoryFile.{before, history_in};
 ghost use Rattle.dn_history.specs.HistoryRecords.{rule_of};
-ghost use Rattle.dn_history.specs.Remarks.{without_remarks};
 ghost use Rattle.dn_history.specs.declared.read.progress.Progress.TheVariants.{Reading};
 
 use crate::history_version::HistoryVersion;
@@ -86,7 +85,7 @@ impl<'a> EntryReader<'a> {
     ) -> EntryReader<'a>
         requires { (given < 2 ^ 62) × (number < 2 ^ 62) }
         ensures left { result.entries ≡ entries_left Reading version given
-            (record { number = number; records = without_remarks (records_of text.now) }) }
+            (record { number = number; records = records_of text.now }) }
         ensures rule { result.rule ≡ rule_of version }
         ensures given { result.given ≡ given }
     {
@@ -100,7 +99,8 @@ impl<'a> EntryReader<'a> {
         }
     }
 
-    /// The rule of the history: Free in files of versions 1 and 2, and Ordered in those of version 3.
+    /// The rule of the history: Free in files of versions 1 and 2, and Ordered in those of version 3 and in the
+    /// transcripts of live sessions.
     pub fn rule(&self) -> Rule
         ensures { result ≡ self.now.rule }
     {

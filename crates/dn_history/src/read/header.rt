@@ -17,5 +17,8 @@ pub(crate) fn header_at_front(text: &[u8]) -> Option<(HistoryVersion, &[u8])>
     if let Some(rest) = text.strip_prefix(b"dummynet-history,1\n") {
         return Some((HistoryVersion::First, rest));
     }
+    if let Some(rest) = text.strip_prefix(b"dummynet-live,1\n") {
+        return Some((HistoryVersion::Live, rest));
+    }
     None
 }

@@ -74,7 +74,8 @@ impl HistoryParts {
         }))
     }
 
-    /// The rule of the history: Free in files of versions 1 and 2, and Ordered in those of version 3.
+    /// The rule of the history: Free in files of versions 1 and 2, and Ordered in those of version 3 and in the
+    /// transcripts of live sessions.
     pub fn rule(&self) -> Rule
         ensures { result ≡ rule_of self.now.version }
     {

@@ -61,19 +61,17 @@ fn read_key(fields: &ByteRecord) -> Result<FlowKey, u64>
 fn status_width(version: HistoryVersion) -> usize
     ensures { result ≡ status_width version }
 {
-    match version {
-        HistoryVersion::First => 20,
-        HistoryVersion::Second | HistoryVersion::Third => 21,
-    }
+    if version.has_deletes() { 21 } else { 20 }
 }
 
 /// The count of discarded packets of a status, 0 where the version has none, or the field's place.
 fn read_discarded(version: HistoryVersion, fields: &ByteRecord) -> Result<u64, u64>
     ensures { result ≡ discarded_item version (fields_of fields.now) }
 {
-    match version {
-        HistoryVersion::First => Ok(0),
-        HistoryVersion::Second | HistoryVersion::Third => long_at(fields, 21),
+    if version.has_deletes() {
+        long_at(fields, 21)
+    } else {
+        Ok(0)
     }
 }
 

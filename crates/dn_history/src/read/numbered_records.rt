@@ -3,25 +3,25 @@ ghost use Rattle.csv.specs.Records.{fields_of};
 ghost use Rattle.csv.specs.declared.parser.State.TheVariants as st;
 ghost use Rattle.dn_records.specs.Reading.{records_after};
 ghost use Rattle.dn_records.specs.Records.{records_of};
-ghost use Rattle.dn_history.specs.HistoryFile.{entry_from, nothing_in, reply_from};
+ghost use Rattle.dn_history.specs.HistoryFile.{between, entry_from, nothing_in, reply_from};
 ghost use Rattle.dn_history.specs.HistoryItems.{delivery_item};
 ghost use Rattle.dn_history.specs.PlainRecords.{answered};
 ghost use Rattle.dn_history.specs.RecordsLeft.{item_from, next_record};
-ghost use Rattle.dn_history.specs.Remarks.{without_remarks};
 ghost use Rattle.dn_history.specs.declared.history_version.HistoryVersion.{HistoryVersion as Version};
 ghost use Rattle.dn_files.specs.Reading.{IsFaultOf};
 
+use crate::history_version::HistoryVersion;
 use crate::read::line_records::LineRecords;
 use crate::read::plain_forms::{delivery_at_front, queued_at_front, submit_at_front};
-use crate::read::remarks::read_unremarked;
+use crate::read::remarks::read_past_remarks;
 use csv::ByteRecord;
 use dn_files::ReplayFault;
 use dn_types::{Call, Delivery, Reply};
 use std::alloc::Global;
 use std::marker::Model;
 
-/// The records of a text that are left, but for remarks, with the number of the next one. The first has
-/// number 1.
+/// The records of a text that are left, with the number of the next one. The first has number 1, and remarks
+/// have none.
 #[derive(Drop)]
 pub(crate) struct NumberedRecords<'a> {
     number: u64,
@@ -31,11 +31,10 @@ pub(crate) struct NumberedRecords<'a> {
 impl<'a> Model for NumberedRecords<'a> {
     ghost use Rattle.std.specs.Prelude.{◌+◌, ◌<◌, ◌^◌, length};
     ghost use Rattle.dn_history.specs.RecordsLeft.{Rest};
-    ghost use Rattle.dn_history.specs.Remarks.{without_remarks};
 
     ghost Value = { Rest };
 
-    ghost view = { λ s. record { number = s.number; records = without_remarks s.records } };
+    ghost view = { λ s. record { number = s.number; records = s.records } };
 
     ghost invariant = { λ s. s.number + length s.records < 2 ^ 64 };
 }
@@ -44,7 +43,7 @@ impl<'a> NumberedRecords<'a> {
     /// The records of a text, the first of which has this number.
     pub(crate) fn from(alloc: Global, text: &'a [u8], number: u64) -> NumberedRecords<'a>
         requires { number < 2 ^ 62 }
-        ensures { result ≡ record { number = number; records = without_remarks (records_of text.now) } }
+        ensures { result ≡ record { number = number; records = records_of text.now } }
     {
         NumberedRecords {
             number,
@@ -54,14 +53,14 @@ impl<'a> NumberedRecords<'a> {
 
     /// The text that is left, where all lines before it are plain.
     pub(crate) fn lines(&self) -> Option<&'a [u8]>
-        ensures { IfSome result (λ lines. self.now.records ≡ without_remarks (records_after st.StartRecord lines.now)) }
+        ensures { IfSome result (λ lines. self.now.records ≡ records_after st.StartRecord lines.now) }
     {
         self.records.lines()
     }
 
     /// The records of a text, from the first on.
     pub(crate) fn new(alloc: Global, text: &'a [u8]) -> NumberedRecords<'a>
-        ensures { result ≡ record { number = 1; records = without_remarks (records_of text.now) } }
+        ensures { result ≡ record { number = 1; records = records_of text.now } }
     {
         NumberedRecords {
             number: 1,
@@ -82,7 +81,27 @@ impl<'a> NumberedRecords<'a> {
         ensures fewer { OnOk result (length self.new.records < length self.old.records) }
         ensures err { IfErr result (λ fault. IsFaultOf (next_record self.old) fault) }
     {
-        let Ok(found) = read_unremarked(&mut self.records, fields) else {
+        let Ok(found) = self.records.read(fields) else {
+            return Err(ReplayFault::OutOfMemory);
+        };
+        if !found {
+            return Err(ReplayFault::BadRecord(self.number));
+        }
+        self.number += 1;
+        Ok(())
+    }
+
+    /// As `next`, past the remarks that the version may have between two entries.
+    pub(crate) fn next_past_remarks(
+        &mut self,
+        version: HistoryVersion,
+        fields: &mut ByteRecord,
+    ) -> Result<(), ReplayFault>
+        ensures ok { OnOk result (next_record (between version self.old) ≡ Ok (fields_of fields.new, self.new)) }
+        ensures fewer { OnOk result (length self.new.records < length self.old.records) }
+        ensures err { IfErr result (λ fault. IsFaultOf (next_record (between version self.old)) fault) }
+    {
+        let Ok(found) = read_past_remarks(version, &mut self.records, fields) else {
             return Err(ReplayFault::OutOfMemory);
         };
         if !found {
@@ -98,7 +117,7 @@ impl<'a> NumberedRecords<'a> {
         ensures fewer { OnOk result (length self.new.records ≤ length self.old.records) }
         ensures err { IfErr result (λ fault. IsFaultOf (nothing_in self.old self.old.records) fault) }
     {
-        let Ok(found) = read_unremarked(&mut self.records, fields) else {
+        let Ok(found) = self.records.read(fields) else {
             return Err(ReplayFault::OutOfMemory);
         };
         if found {

@@ -1,8 +1,10 @@
-ghost use Rattle.std.specs.Prelude.{◌≡◌, ◌<◌, ◌≤◌, true, [], length, IfOk, OnErr};
+ghost use Rattle.std.specs.Prelude.{◌≡◌, ◌&&◌, ◌<◌, ◌≤◌, true, [], length, IfOk, OnErr};
 ghost use Rattle.csv.specs.Records.{fields_of};
 ghost use Rattle.dn_records.specs.Records.{Takes};
-ghost use Rattle.dn_history.specs.Remarks.{is_remark, without_remarks};
+ghost use Rattle.dn_history.specs.HistoryRecords.{has_remarks};
+ghost use Rattle.dn_history.specs.Remarks.{ahead, is_remark};
 
+use crate::history_version::HistoryVersion;
 use crate::read::line_records::LineRecords;
 use csv::ByteRecord;
 use dn_files::column;
@@ -18,22 +20,29 @@ fn is_remark(fields: &ByteRecord) -> bool
     }
 }
 
-/// Reads the next record that is no remark into `fields`, and answers whether there was one. After an
-/// error no record is left.
+/// Whether a record between two entries is passed over.
+fn is_passed_over(version: HistoryVersion, fields: &ByteRecord) -> bool
+    ensures { result ≡ (has_remarks version && is_remark (fields_of fields.now)) }
+{
+    version.has_remarks() && is_remark(fields)
+}
+
+/// Reads the next record between two entries into `fields`, past the remarks that the version may have
+/// there, and returns whether there was one. After an error no record is left.
 #[tactic(auto, using(crate::proofs::Remarks::passed_over, crate::proofs::Remarks::found_plain, crate::proofs::Remarks::none_left, crate::proofs::HistoryReading::emptied))]
-pub(crate) fn read_unremarked(
+pub(crate) fn read_past_remarks(
+    version: HistoryVersion,
     records: &mut LineRecords<'_>,
     fields: &mut ByteRecord,
 ) -> Result<bool, AllocError>
-    ensures ok { IfOk result (λ found. Takes (without_remarks records.old) (without_remarks records.new) found (fields_of fields.new)) }
+    ensures ok { IfOk result (λ found. Takes (ahead (has_remarks version) records.old) records.new found (fields_of fields.new)) }
     ensures fewer { IfOk result (λ found. found ≡ true → length records.new < length records.old) }
-    ensures shorter { IfOk result (λ _. length records.new ≤ length records.old) }
     ensures err { OnErr result (records.new ≡ []) }
 {
     loop {
         match records.read(fields) {
             Ok(true) => {
-                if !is_remark(fields) {
+                if !is_passed_over(version, fields) {
                     return Ok(true);
                 }
             }

@@ -5,7 +5,6 @@ use Rattle.csv.specs.declared.parser.State.TheVariants as st
 use Rattle.dn_records.specs.Reading.{records_after}
 use Rattle.dn_records.specs.Records.{Fields, records_of}
 use Rattle.dn_records.proofs.FirstLine.{behind-feed}
-use Rattle.dn_history.specs.Remarks.{without_remarks}
 use Rattle.dn_history.proofs.PartsRead.{none-read, one-read}
 use Rattle.dn_history.proofs.read.batch.read_batch.Goals as goal
 
@@ -16,7 +15,7 @@ loop-entry-init c =
     ap records_of c.requires.feed ∙ behind-feed (drop 1 text) ∙ ap (records_after st.StartRecord) (sym (take_rest text 1)) in
     record {
       read = rw c.in_ok-with_capacity.ensures.items (none-read c.args.version c.args.given _ c.from-records.result c.from-records.ensures);
-      left = c.from-records.ensures ∙ ap (λ (rs : List Fields). record { number = c.args.number; records = without_remarks rs }) front;
+      left = c.from-records.ensures ∙ ap (λ (rs : List Fields). record { number = c.args.number; records = rs }) front;
       few = c.requires.few;
     }
 

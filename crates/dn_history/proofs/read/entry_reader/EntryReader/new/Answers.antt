@@ -1,14 +1,11 @@
 use Rattle.std.proofs.Common.{arith, ap, length}
-use Rattle.dn_records.specs.Records.{records_of}
 use Rattle.dn_history.specs.RecordsLeft.{Rest}
 use Rattle.dn_history.proofs.HistoryReading.{numbered}
-use Rattle.dn_history.proofs.Remarks.{plain_le}
 use Rattle.dn_history.proofs.read.entry_reader.EntryReader.new.Goals as goal
 
 pub invariant_of-result : goal.invariant_of-result
 invariant_of-result c =
     let few = numbered c.args.text.now in
-    let plain = plain_le (records_of c.args.text.now) in
     let first = ap (λ (rest : Rest). length rest.records) c.new-records.ensures in
     let fewer = c.in-Ok.ensures.fewer in
-    omega (arith, few, plain, first, fewer)
+    omega (arith, few, first, fewer)

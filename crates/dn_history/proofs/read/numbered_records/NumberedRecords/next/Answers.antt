@@ -1,12 +1,11 @@
 use Rattle.csv.specs.Records.{fields_of}
-use Rattle.dn_history.specs.Remarks.{without_remarks}
 use Rattle.dn_history.proofs.HistoryReading.{missing, took}
 use Rattle.dn_history.proofs.read.numbered_records.NumberedRecords.next.Goals as goal
 
 pub returns-then-not-found-clause-err : goal.returns-then-not-found-clause-err
 returns-then-not-found-clause-err c =
-    rw (← c.self.view_is) (missing c.self.inside.number (without_remarks c.self.inside.records) (without_remarks c.read_unremarked.new.records) (fields_of c.read_unremarked.new.fields) (rw c.if-not-found.true at c.in-Ok.ensures.ok))
+    rw (← c.self.view_is) (missing c.self.inside.number c.self.inside.records c.read.new.self (fields_of c.read.new.fields) (rw c.if-not-found.true at c.in-Ok.ensures.ok))
 
 pub returns-clause-ok : goal.returns-clause-ok
 returns-clause-ok c =
-    rw (← c.self.view_is) (took c.self.inside.number (without_remarks c.self.inside.records) (without_remarks c.read_unremarked.new.records) (fields_of c.read_unremarked.new.fields) (rw c.if-not-found.false at c.in-Ok.ensures.ok))
+    rw (← c.self.view_is) (took c.self.inside.number c.self.inside.records c.read.new.self (fields_of c.read.new.fields) (rw c.if-not-found.false at c.in-Ok.ensures.ok))

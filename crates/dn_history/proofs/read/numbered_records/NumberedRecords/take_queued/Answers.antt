@@ -1,6 +1,6 @@
 use Rattle.std.proofs.Common.{arith, ◌∷◌}
 use Rattle.std.specs.Prelude.{codes}
-use Rattle.dn_history.proofs.PlainForms.{reply-taken, reply-unremarked, one-counted, one-fewer}
+use Rattle.dn_history.proofs.PlainForms.{reply-taken, one-counted, one-fewer}
 use Rattle.dn_history.proofs.PlainRecords.{behind-line}
 use Rattle.dn_history.proofs.read.numbered_records.NumberedRecords.take_queued.Goals as goal
 
@@ -23,4 +23,4 @@ returns-clause-reply c =
 
 pub returns-clause-fewer : goal.returns-clause-fewer
 returns-clause-fewer c =
-    rw (← c.self.view_is) (one-fewer c.self.inside.records c.go_on.new.self c.in_ok-text.text.now c.in-Some.rest.now (codes "r") c.in-Some.ensures.others c.in_ok-text.ensures c.in-Some.ensures.stands c.go_on.ensures (reply-unremarked c.in-Some.ensures.others))
+    rw (← c.self.view_is) (one-fewer c.self.inside.records c.go_on.new.self c.in_ok-text.text.now c.in-Some.rest.now (codes "r") c.in-Some.ensures.others c.in_ok-text.ensures c.in-Some.ensures.stands c.go_on.ensures)

@@ -1,10 +1,11 @@
 use Rattle.std.proofs.Common.{◌≡◌, ◌≤◌, length}
-use Rattle.dn_history.specs.Remarks.{without_remarks}
-use Rattle.dn_history.proofs.read.remarks.read_unremarked.Given as goal
+use Rattle.dn_history.specs.HistoryRecords.{has_remarks}
+use Rattle.dn_history.specs.Remarks.{ahead}
+use Rattle.dn_history.proofs.read.remarks.read_past_remarks.Given as goal
 
 abbrev pub invariant-loop-fields : goal.invariant-loop-fields
 invariant-loop-fields l = record {
-  same : without_remarks l.fn.records ≡ without_remarks l.records;
+  same : ahead (has_remarks l.version) l.fn.records ≡ ahead (has_remarks l.version) l.records;
   fewer : length l.records ≤ length l.fn.records;
 }
 
