@@ -42,7 +42,7 @@ BAD = [
     (SUBMIT.replace(b",17,", b",256,") % 0, "8,bad field"), (SUBMIT.replace(b",1000,2", b",65536,2") % 0, "9,bad field"),
     (SUBMIT.replace(b",2000,", b",+2,") % 0, "10,bad field"), (SUBMIT.replace(b"2000,1000", b"2000,0") % 0, "11,bad field"),
     (SUBMIT.replace(b"1000,0,", b"1000,4294967296,") % 0, "12,bad field"), (SUBMIT % 2**63, "13,bad field"),
-    (b"c,0,show\rc,0,show", "0,not one record"),
+    (b"c,0,show\rc,0,show", "0,not one record"), (b"next\rc,0,show", "0,not one record"), (b"\"next\"\rnext", "0,not one record"),
 ]
 
 
@@ -61,7 +61,7 @@ def random_session(rng: Random, number: int) -> bytes:
     lines: list[bytes] = []
     for caller, call in random_calls(rng, STYLES[number % len(STYLES)], rng.randint(10, 120), 16, rng.random() < 0.6):
         while rng.random() < 0.3:
-            lines.append(rng.choice([b"", b"# a note", b"next", b"next", rng.choice(BAD)[0]]))
+            lines.append(rng.choice([b"", b"# a note", b"next", b"next", b"next\r", b"\rnext", b'"next"', rng.choice(BAD)[0]]))
         text = call_text(caller, call).encode()
         if isinstance(call, Configure) and rng.random() < 0.5:
             text = spell(rng, call.command).encode()

@@ -80,25 +80,34 @@ def command_of(line: bytes, field: int) -> Optional[Command]:
         raise BadLine(field, f"word {fault.word}: {fault.kind}") from None
 
 
-def call_in(line: bytes) -> Optional[tuple[int, Call]]:
-    """The call that a line asks for, with its caller."""
-    if line.startswith(b"#"):
-        return None
+def asked_in(line: bytes) -> list[bytes]:
+    """The fields of the record by which a line asks for a call or for the next moment. A configuration line has none: a carriage
+    return is a blank there, and else it ends a record."""
     records = read_records(line) if b'"' in line or b"\r" in line else [line.split(b",")]
-    if records and records[0][0] == b"c":
-        if len(records) > 1:
-            raise BadLine(0, "not one record")
-        return Record(records[0]).call()
+    if not records or (records[0][0] != b"c" and records[0] != [b"next"]):
+        return []
+    if len(records) > 1:
+        raise BadLine(0, "not one record")
+    return records[0]
+
+
+def call_in(line: bytes, record: list[bytes]) -> Optional[tuple[int, Call]]:
+    """The call that a line asks for, with its caller."""
+    if record:
+        return Record(record).call()
     command = command_of(line, 1)
     return None if command is None else (0, Configure(command))
 
 
 def answer(net: FastDummynet, line: bytes) -> list[str]:
     """The records that answer a line."""
-    if line == b"next":
+    if line.startswith(b"#"):
+        return []
+    record = asked_in(line)
+    if record == [b"next"]:
         moment = net.next_moment()
         return ["#,next" if moment is None else f"#,next,{moment}"]
-    asked = call_in(line)
+    asked = call_in(line, record)
     return [] if asked is None else [call_text(*asked), *reply_lines(net.apply(asked[1]), 3)]
 
 

@@ -11,7 +11,7 @@ use Rattle.dn_text.specs.declared.number_fault.NumberFault.{NumberFault}
 use Rattle.dn_records.specs.Records.{Fields}
 use Rattle.dn_files.specs.Fields.{column, is_form, is_name, or_place}
 use Rattle.dn_history.specs.HistoryRecords.{caller_of, is_call, plain_call}
-use Rattle.dn_live.specs.Asked.{asked, asked_by, asked_by_first, asked_of, call_asked, command_in, configure_asked, is_comment, plain_asked, records_in, typed_asked}
+use Rattle.dn_live.specs.Asked.{asked, asked_by, asked_by_first, asked_of, call_asked, command_in, configure_asked, is_asking, is_comment, plain_asked, records_in, typed_asked}
 use Rattle.dn_live.specs.declared.asked.Asked.{Asked}
 use Rattle.dn_live.specs.declared.asked.Asked.TheVariants.{Nothing, Next, Calls, Bad}
 use Rattle.dn_live.specs.declared.cause.Cause.{Cause}
@@ -71,7 +71,7 @@ by-few line fields =
     (either (is_form 1 (codes "next") 1 fields) Next (typed_asked (command_in line)) tt (typed-few (command_in line)))
 
 first-few : (line : List ℕ) (one : Bool) (fields : Fields) → IsByFew (asked_by_first line one fields)
-first-few line one fields = either (not one && is_name 1 fields (codes "c")) _ (asked_by line fields) tt (by-few line fields)
+first-few line one fields = either (not one && is_asking fields) _ (asked_by line fields) tt (by-few line fields)
 
 of-few : (line : List ℕ) (records : List Fields) → IsByFew (asked_of line records)
 of-few line [] = by-few line []

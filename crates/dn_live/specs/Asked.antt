@@ -67,9 +67,13 @@ has_quotes line = list_any (λ b. b == 34) line || list_any (λ b. b == 13) line
 unfoldable pub records_in : List ℕ → List Fields
 records_in line = cond (has_quotes line) (records_of line) (slice_split (λ b. b == 44) line ∷ [])
 
--- What a line asks for by the fields of its first record, which may be its only one. The record of a call stands alone.
+-- Whether a record asks for something by itself: a call, or when to ask next. A configuration line isn't split into records.
+abbrev pub is_asking : Fields → Bool
+is_asking fields = is_name 1 fields (codes "c") || is_form 1 (codes "next") 1 fields
+
+-- What a line asks for by the fields of its first record, which may be its only one. A record that asks for something has to be.
 abbrev pub asked_by_first : List ℕ → Bool → Fields → Asked
-asked_by_first line one fields = cond (not one && is_name 1 fields (codes "c")) (bad 0 NotOneRecord) (asked_by line fields)
+asked_by_first line one fields = cond (not one && is_asking fields) (bad 0 NotOneRecord) (asked_by line fields)
 
 -- What a line with these records asks for.
 abbrev pub asked_of : List ℕ → List Fields → Asked

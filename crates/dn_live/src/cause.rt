@@ -16,7 +16,7 @@ pub enum Cause {
     NotText,
     /// The line of a configuration has this fault.
     Faulty(LineFault),
-    /// Carriage returns make the line more than one record.
+    /// Carriage returns make more than one record of a line that begins with a call or with `next`.
     NotOneRecord,
     /// The input ends before the line does.
     NoLineFeed,

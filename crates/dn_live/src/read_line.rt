@@ -2,7 +2,7 @@ ghost use Rattle.std.specs.Prelude.{◌≡◌, codes, cond, IfOk};
 ghost use Rattle.csv.specs.Records.{fields_of};
 ghost use Rattle.dn_files.specs.Fields.{column, is_form};
 ghost use Rattle.dn_history.specs.HistoryRecords.{plain_call};
-ghost use Rattle.dn_live.specs.Asked.{asked, asked_by, asked_by_first, bad, command_in, configure_asked, is_comment, plain_asked, typed_asked};
+ghost use Rattle.dn_live.specs.Asked.{asked, asked_by, asked_by_first, bad, command_in, configure_asked, is_asking, is_comment, plain_asked, typed_asked};
 ghost use Rattle.dn_live.specs.declared.asked.Asked.TheVariants.{Next};
 
 use crate::asked::Asked;
@@ -100,11 +100,18 @@ fn asked_by(line: &[u8], fields: &ByteRecord) -> Asked
     }
 }
 
+/// Whether a record asks for something by itself: a call, or when to ask next.
+fn is_asking(fields: &ByteRecord) -> bool
+    ensures { result ≡ is_asking (fields_of fields.now) }
+{
+    is_name(fields, 1, b"c") || is_form(fields, 1, b"next", 1)
+}
+
 /// What a line asks for whose first record has these fields, and is its only one or isn't.
 fn asked_by_first(line: &[u8], one: bool, fields: &ByteRecord) -> Asked
     ensures { result ≡ asked_by_first line.now one (fields_of fields.now) }
 {
-    if !one && is_name(fields, 1, b"c") {
+    if !one && is_asking(fields) {
         bad(0, Cause::NotOneRecord)
     } else {
         asked_by(line, fields)

@@ -14,7 +14,7 @@ pub struct Line {
 pub const HEADER: &str = "dummynet-live,1\n";
 
 /// Calls in each form, and between them each kind of line that is none.
-pub static LINES: [Line; 11] = [
+pub static LINES: [Line; 13] = [
     Line {
         text: "# a note\n",
         answer: "",
@@ -59,16 +59,24 @@ pub static LINES: [Line; 11] = [
         text: "c,0,show\r\n",
         answer: "c,0,show\nr,status,1\nf,0,pipe,1,1,0.0.0.0,0.0.0.0,0,0,0,0.0.0.0,0.0.0.0,0,0,0,0,0,0,0,1,0\n",
     },
+    Line {
+        text: "next\rc,0,show\n",
+        answer: "#,bad,12,0,not one record\n",
+    },
+    Line {
+        text: "next\r\n",
+        answer: "#,next\n",
+    },
 ];
 
 /// What stands behind the last line feed.
 pub const TAIL: &str = "c,0,sho";
 
 /// What is written in the end.
-pub const END: &str = "#,bad,12,0,no line feed\nend,4\n";
+pub const END: &str = "#,bad,14,0,no line feed\nend,4\n";
 
 /// What such a session comes to.
-pub const SERVED: Served = Served { calls: 4, bad: 6 };
+pub const SERVED: Served = Served { calls: 4, bad: 7 };
 
 /// All lines and the tail.
 pub fn input(alloc: Global) -> Result<String, AllocError> {
