@@ -116,6 +116,25 @@ fn push(line: &mut DelayLine, due: u64, packet: u64) {
 }
 
 fn check_parts(rt: &impl Abort, line: &mut DelayLine) -> Result<(), AllocError> {
+    line.reserve(2)?;
+    push(line, 5, 1);
+    push(line, 5, 0);
+    assert!(rt; line.pushed() == 2);
+    check_due(rt, line, 4, None);
+    check_due(rt, line, 5, Some(delivery(5, 0)));
+    check_due(rt, line, 5, Some(delivery(5, 1)));
+    Ok(())
+}
+
+#[test]
+fn parts_by_themselves(rt: HostRuntime) -> Result<(), AllocError> {
+    let mut line = DelayLine::new(rt.alloc());
+    let outcome = check_parts(&rt, &mut line);
+    drop(line);
+    outcome
+}
+
+fn check_first_moments(rt: &impl Abort, line: &mut DelayLine) -> Result<(), AllocError> {
     line.reserve(3)?;
     check_first_due(rt, line, None);
     push(line, 7, 2);
@@ -135,9 +154,9 @@ fn check_parts(rt: &impl Abort, line: &mut DelayLine) -> Result<(), AllocError> 
 }
 
 #[test]
-fn parts_by_themselves(rt: HostRuntime) -> Result<(), AllocError> {
+fn the_first_moment_of_a_line(rt: HostRuntime) -> Result<(), AllocError> {
     let mut line = DelayLine::new(rt.alloc());
-    let outcome = check_parts(&rt, &mut line);
+    let outcome = check_first_moments(&rt, &mut line);
     drop(line);
     outcome
 }
