@@ -2,9 +2,11 @@
 
 from __future__ import annotations
 
+import re
 import subprocess
 from dataclasses import dataclass
 from fractions import Fraction
+from functools import lru_cache
 from tempfile import NamedTemporaryFile
 from typing import Iterable, Optional, Union
 
@@ -44,9 +46,25 @@ class Queue:
 Setting = Union[Pipe, Queue]
 
 
+# A command in the program's spelling, in which numbers have no units but these.
+SPELLED = re.compile(r"(pipe|queue) (delete \d+|\d+ config( (pipe|delay|weight|buckets) \d+| bw \d+bit/s| queue \d+(Kbytes)?| plr \d(\.\d+)?)*( mask .*)?)")
+RECORD = "c,0,configure,"
+
+
+@lru_cache(maxsize=4096)
+def respelled(text: str) -> str:
+    """A command in the program's spelling, whatever its own: a history may have any that the program reads. A text that is no command is a
+    LineFault."""
+    done = subprocess.run([dummynet(), "live"], input=f"{text}\n", capture_output=True, text=True)
+    records = [record for record in done.stdout.splitlines() if record.startswith(RECORD)]
+    if not records:
+        raise LineFault(f"{text!r} is no command")
+    return records[0][len(RECORD):]
+
+
 def setting(text: str) -> tuple[str, int, Optional[Setting]]:
-    """What a command in the program's spelling asks for: `pipe` or `queue`, its number, and what is configured; None is a delete."""
-    words = text.split()
+    """What a command asks for: `pipe` or `queue`, its number, and what is configured; None is a delete."""
+    words = (text if SPELLED.fullmatch(text) else respelled(text)).split()
     if words[1] == "delete":
         return words[0], int(words[2]), None
     number, value = int(words[1]), dict(zip(words[3:], words[4:]))
@@ -66,11 +84,11 @@ def spelled(data: bytes) -> list[str]:
         if done.returncode:
             raise LineFault(done.stderr.decode().strip())
         records = history.read().decode().splitlines()
-    return [record.split(",", 3)[3] for record in records if record.startswith("c,0,configure,")]
+    return [record[len(RECORD):] for record in records if record.startswith(RECORD)]
 
 
 class InForce:
-    """The pipes and queues that commands in the program's spelling leave in force, by number."""
+    """The pipes and queues that commands leave in force, by number."""
 
     def __init__(self, commands: Iterable[str] = ()) -> None:
         self.pipes: dict[int, Pipe] = {}
