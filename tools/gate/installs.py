@@ -25,8 +25,7 @@ from tally import Tally
 
 TOP = Path(__file__).resolve().parent.parent.parent
 VERSION = (TOP / "VERSION").read_text().strip()
-PAGES = ("docs/CAPTURE.md", "README.md", "examples/README.md")
-LEAST = {"docs/CAPTURE.md": 8, "README.md": 5, "examples/README.md": 1}  # commands that are found on a page, at the least
+LEAST = {"docs/CAPTURE.md": 20, "docs/LONG.md": 1, "docs/FORMATS.md": 1, "README.md": 1, "examples/README.md": 1}  # commands of a page
 RUN = ("hinge", "dummynet", "echo", "printf")
 NEEDS_MORE = ("hinge udp", "hinge trace", "hinge run")  # another program, or rights: tools/gate/hosts.py tries these
 STATUSES = {"hinge ipfw ": 3}  # other than 0: the page's file has lines that are left out
@@ -124,14 +123,24 @@ def pages(tally: Tally, place: Path, folder: Path) -> None:
     folder.mkdir()
     for name in ("examples", "python"):
         (folder / name).symlink_to(TOP / name)
-    for page in PAGES:
+    for page, least in LEAST.items():
         found = commands(page)
-        tally.note(f"commands of {page}", "" if len(found) >= LEAST[page] else f"only {found}")
+        tally.note(f"commands of {page}", "" if len(found) >= least else f"only {found}")
         for line in found:
             wanted = next((status for begin, status in STATUSES.items() if line.startswith(begin)), 0)
             done(tally, f"{page}: {line}", "sh", "-c", line, cwd=folder, wanted=wanted, PATH=f"{place}/bin:{os.environ['PATH']}")
     for left in sorted(it.name for it in folder.iterdir() if not it.is_symlink()):
         tally.note(f"git ignores {left}", "" if run("git", "check-ignore", "-q", left).returncode == 0 else "in a clone it would be a new file")
+
+
+def behind_a_link(tally: Tally, place: Path, folder: Path) -> None:
+    """The command of README that runs a ping behind a link, where the system lets a user make one."""
+    [line] = re.findall(r"^\$ (hinge run .* ping .*)$", (TOP / "README.md").read_text(), re.M)
+    it = run("sh", "-c", line, cwd=folder, PATH=f"{place}/bin:{os.environ['PATH']}")
+    if shutil.which("ping") is None or it.returncode == 6:
+        print(f"{line}: skipped, since there is no ping, or the system refuses: {it.stdout.strip()}")
+        return
+    tally.note(line, "" if it.returncode == 0 and it.stdout.count(" 3 came, 3 delivered") == 2 else it.stdout)
 
 
 def leftover(folder: Path) -> list[str]:
@@ -178,6 +187,7 @@ def by_pip(tally: Tally, copy: Path, place: Path) -> None:
         print("the pages' commands: skipped, since no Python has numpy and matplotlib")
     else:
         pages(tally, venv, place / "pages")
+        behind_a_link(tally, venv, place / "pages")
     done(tally, "pip uninstall", *pip, "uninstall", "-y", "hingetulip")
     tally.equal("what pip leaves", [], leftover(venv))
     done(tally, "pip install -e ./python", *pip, "install", "--no-index", "-e", copy / "python")
