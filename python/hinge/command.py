@@ -3,6 +3,7 @@
 from __future__ import annotations
 
 import argparse
+import errno
 import importlib
 import os
 import shutil
@@ -15,6 +16,7 @@ from typing import Callable, Iterator, NoReturn, TextIO
 
 CONFIGURATION, ROWS, FILES, MISSING = 3, 4, 6, 7
 STATUSES = "exit status: 0 done, 2 command line, 3 configuration, 4 packet file, report or capture, 6 files, 7 a package is missing"
+WRITING = (errno.ENOSPC, errno.EIO, errno.EBADF, errno.EFBIG, errno.EDQUOT)  # of a write, whose file has no name where it is standard output
 PROGRESS_AFTER = 2  # seconds
 NAME = ["hinge"]  # as the user typed it, with the command
 
@@ -56,7 +58,8 @@ def run(main: Callable[[], object]) -> NoReturn:
     except BrokenPipeError:
         os.dup2(os.open(os.devnull, os.O_WRONLY), sys.stdout.fileno())
     except OSError as error:
-        say(f"{error.filename or 'standard output'}: {error.strerror}")
+        what = error.filename or ("standard output" if error.errno in WRITING else "the system")
+        say(f"{what}: {error.strerror}")
         sys.exit(FILES)
     except KeyboardInterrupt:
         sys.exit(130)

@@ -129,7 +129,7 @@ def pages(tally: Tally, place: Path, folder: Path) -> None:
         for line in found:
             wanted = next((status for begin, status in STATUSES.items() if line.startswith(begin)), 0)
             done(tally, f"{page}: {line}", "sh", "-c", line, cwd=folder, wanted=wanted, PATH=f"{place}/bin:{os.environ['PATH']}")
-    for left in sorted(it.name for it in folder.iterdir() if not it.is_symlink()):
+    for left in sorted(it.name + "/" * it.is_dir() for it in folder.iterdir() if not it.is_symlink()):
         tally.note(f"git ignores {left}", "" if run("git", "check-ignore", "-q", left).returncode == 0 else "in a clone it would be a new file")
 
 
