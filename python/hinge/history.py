@@ -8,6 +8,7 @@ from typing import Optional
 import numpy as np
 
 from hinge.addresses import read_addresses
+from hinge.checks.lines import judged
 from hinge.columns import Address, Bad, Fields, Number, OneOf, numbered
 from hinge.command import ROWS, Fault, working
 from hinge.configured import InForce
@@ -149,23 +150,34 @@ def with_fates(entries: Entries, replies: np.ndarray) -> np.ndarray:
     return np.stack([event, flow, packet, start, due])
 
 
-def packets_of(path: str, rows: np.ndarray, moments: np.ndarray) -> Packets:
-    """The submits as a packet file has them."""
+def packets_of(path: str, rows: np.ndarray, moments: np.ndarray, addresses: dict[str, str]) -> Packets:
+    """The submits as a packet file has them, with these IPv6 addresses and those of a file beside it."""
     kind, number, *five, length, word = rows
     target, first_of_target = numbered(kind, number)
     five_tuple, first_of_tuple = numbered(*five)
     tuples = zip(*(column[first_of_tuple].tolist() for column in five))
     targets = [(KINDS[kind[row]], int(number[row])) for row in first_of_target]
-    return Packets(path, moments, target, five_tuple, length, word, targets, named_tuples(tuples, read_addresses(path)))
+    return Packets(path, moments, target, five_tuple, length, word, targets, named_tuples(tuples, {**read_addresses(path), **addresses}))
+
+
+def spelled_by_program(path: str, changes: list[tuple[int, int, str]]) -> list[tuple[int, int, str]]:
+    """The same commands in the program's spelling, since a history may have any line that asks for them."""
+    verdicts = list(judged([text.encode() for _, _, text in changes])) if changes else []
+    bad = next((verdict for verdict in verdicts if verdict.name == "bad"), None)
+    if bad is not None or len(verdicts) != len(changes):
+        text = changes[bad.line - 1][2] if bad is not None else ""
+        raise Fault(f"{path}: {text!r} is no command", ROWS)
+    return [(place, moment, verdict.text) for (place, moment, _), verdict in zip(changes, verdicts)]
 
 
 def read_history(path: str) -> Told:
     """Each submit is a row, in the order of the calls. Its moment is the one that counted."""
     with working(f"reading {path}"):
-        records, is_whole = read_records(path)
+        file = read_records(path)
+        records = file.records
         if not is_history(records):
             raise Fault(f"{path} line 1: no history of dummynet, and no live session", ROWS)
-        has_end = bool(records.of(np.array([len(records) - 1])).starts(b"end,")[0]) and is_whole
+        has_end = bool(records.of(np.array([len(records) - 1])).starts(b"end,")[0]) and file.is_whole
         entries = Entries.of(path, records)
         places = entries.submits()
         try:
@@ -176,7 +188,8 @@ def read_history(path: str) -> Told:
             every = entries.records
             raise entries.bad(every.of(np.union1d(np.union1d(places, places + 1), np.flatnonzero(every.starts(b"d,"))))) from None
         event, flow, packet, start, due = fates
-        replay = Replay(path, packets_of(path, rows, replies[1]), event, flow, packet, replies[1], start, due)
+        replay = Replay(path, packets_of(path, rows, replies[1], file.addresses), event, flow, packet, replies[1], start, due)
+    changes = spelled_by_program(path, changes)
     first = int(places[0]) if len(places) else len(records)
     steady = all(place < first for place, _, _ in changes)
     return Told(replay, [(moment, text) for _, moment, text in changes], steady, None if has_end else int(records.line[-1]))

@@ -2,7 +2,10 @@
 
 from __future__ import annotations
 
+import contextlib
+import ipaddress
 from dataclasses import dataclass
+from typing import NamedTuple
 
 import numpy as np
 
@@ -10,6 +13,7 @@ from hinge.columns import Bad, Fields
 from hinge.tables import COMMA, LINE_FEED, plain
 
 REMARK = ord("#")
+ADDRESS = b"\n#,address,"
 BEGINNINGS = (b"dummynet-history,", b"dummynet-live,")
 
 
@@ -61,17 +65,37 @@ class Records:
         return [Fields(self.data, begin, end - begin) for begin, end in zip(begins, ends)]
 
 
-def read_records(path: str) -> tuple[Records, bool]:
-    """The records of a file, without remarks and empty lines, and whether its last line is whole."""
+class HistoryFile(NamedTuple):
+    """A file's records, without remarks and empty lines, whether its last line is whole, and the IPv6 addresses that its remarks name."""
+
+    records: Records
+    is_whole: bool
+    addresses: dict[str, str]
+
+
+def addresses_in(data: bytes) -> dict[str, str]:
+    """The IPv6 address of each stand-in, by the remarks `#,address,STAND-IN,ADDRESS`."""
+    found: dict[str, str] = {}
+    at = data.find(ADDRESS)
+    while at >= 0:
+        end = data.find(b"\n", at + 1)
+        fields = data[at + len(ADDRESS):end if end >= 0 else len(data)].decode("ascii", "replace").split(",")
+        with contextlib.suppress(ValueError):
+            found[fields[0]] = str(ipaddress.IPv6Address(fields[-1]))
+        at = data.find(ADDRESS, at + 1)
+    return found
+
+
+def read_records(path: str) -> HistoryFile:
     data = plain(path, keeps_lines=True)
-    is_whole = data.endswith(b"\n")
     array = np.frombuffer(data, np.uint8)
     end = np.flatnonzero(array == LINE_FEED)
-    begin = np.concatenate(([0], end[:-1] + 1)) if len(end) else end
+    begin = np.concatenate((np.zeros(1, np.int64), end[:-1] + 1)) if len(end) else end
     first = array[np.minimum(begin, max(len(array) - 1, 0))] if len(array) else begin
     is_record = (begin < end) & (first != REMARK)
     line = np.arange(1, len(end) + 1)
-    return Records(array, begin[is_record], end[is_record], line[is_record], np.flatnonzero(array == COMMA)), is_whole
+    records = Records(array, begin[is_record], end[is_record], line[is_record], np.flatnonzero(array == COMMA))
+    return HistoryFile(records, data.endswith(b"\n"), addresses_in(data))
 
 
 def is_history(records: Records) -> bool:

@@ -83,6 +83,24 @@ class Look(unittest.TestCase):
                              ([OUT, NONE], [5, 6], [1_000_005, -1], True, None))
             self.assertEqual(replay.packets.targets, [("pipe", 1), ("queue", 9)])
 
+    def test_ipv6_addresses_that_the_host_names(self) -> None:
+        whole = live(["pipe 1 config", "c,0,submit,pipe,1,240.0.0.0,240.0.0.1,17,1,2,1000,0,0"])
+        remark = "#,address,240.0.0.{},2001:0db8:0000:0000:0000:0000:0000:000{}\n"
+        (folder() / "six.history").write_text(whole.replace("\nc,0,submit", "\n" + remark.format(0, 1) + remark.format(1, 2) + "c,0,submit"))
+        self.assertIn("udp [2001:db8::1]:1 > [2001:db8::2]:2 ", run("look", "six.history").stdout)
+
+    def test_commands_as_a_host_spells_them(self) -> None:
+        """Any line that asks for a command may stand in its place."""
+        whole = live(["pipe 1 config bw 8Mbit/s delay 20 queue 3", "c,0,submit,pipe,1,10.0.0.1,10.0.0.2,17,1,2,1000,0,0", "c,0,collect,21000000"])
+        canonical = "configure,pipe 1 config bw 8000000bit/s delay 20 queue 3"
+        self.assertIn(canonical, whole)
+        (folder() / "spelled.history").write_text(whole.replace(canonical, "configure,ipfw pipe 1 config bw 8Mbit/s delay 20ms queue 3 # slow"))
+        told = run("look", "spelled.history", "--why", 1)
+        self.assertEqual(told.returncode, 0, told.stderr)
+        self.assertIn("(1,000 bytes at 8,000,000 bit/s). The link's delay was 20.000000 ms.", told.stdout)
+        (folder() / "spelled.history").write_text(whole.replace(canonical, "configure,pipe 1 config bw 8Mbps"))
+        self.assertEqual(run("look", "spelled.history").returncode, 4)
+
     def test_why_of_a_link_that_was_changed_is_a_fault(self) -> None:
         (folder() / "changed.history").write_text(live(["pipe 1 config", "c,0,submit,pipe,1,10.0.0.1,10.0.0.2,17,1,2,1000,0,0", "pipe 1 config plr 1"]))
         done = run("look", "changed.history", "--why", 1)
