@@ -62,8 +62,8 @@ static void add_row(struct stretch *own, const struct dn_packet *row)
     own->rows[own->count++] = *row;
     if (row->moment > own->latest)
         own->latest = row->moment;
-    if (!seen[row->kind][row->number])
-        seen[row->kind][row->number] = 1;
+    if (!__atomic_load_n(&seen[row->kind][row->number], __ATOMIC_RELAXED))
+        __atomic_store_n(&seen[row->kind][row->number], 1, __ATOMIC_RELAXED);
     if (own->count % ROWS_A_STEP == 0)
         step(ROWS_A_STEP);
 }
