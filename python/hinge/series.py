@@ -115,16 +115,23 @@ def round_step(span: int) -> int:
     return rounded_up(span // STEPS_WANTED)
 
 
+def places_of_main_target(replay: Replay) -> np.ndarray:
+    """The places of the packets that left by the pipe or queue that carried the most bytes."""
+    out = np.flatnonzero(replay.is_out)
+    carried = np.bincount(replay.packets.target[out], weights=replay.packets.length[out], minlength=1)
+    return out[replay.packets.target[out] == int(np.argmax(carried))]
+
+
 def fitting_step(replays: list[Replay], span: int) -> int:
-    """A round step that is long enough for the rates of these replays: a step in which something leaves has as many packets as are wanted
-    in the mean, and of the largest flow as many as are wanted of it, where so many are there at all."""
+    """A round step that is long enough for the rates of these replays. A step in which something leaves has, in the mean, as many packets
+    of the main pipe or queue as are wanted, and of the largest flow as many as are wanted of it, where so many are there at all."""
     step = round_step(span)
-    dues = [replay.due[replay.is_out] // step for replay in replays]
-    busy = sum(len(np.unique(due)) for due in dues)
-    largest = sum(int(np.bincount(replay.packets.tuple[replay.is_out], minlength=1).max()) for replay in replays)
+    main = [places_of_main_target(replay) for replay in replays]
+    busy = sum(len(np.unique(replay.due[places] // step)) for replay, places in zip(replays, main))
+    largest = sum(int(np.bincount(replay.packets.tuple[places], minlength=1).max()) for replay, places in zip(replays, main))
     if not busy:
         return step
-    wanted = max(step * PACKETS_A_STEP * busy // sum(map(len, dues)), step * PACKETS_OF_LARGEST * busy // largest)
+    wanted = max(step * PACKETS_A_STEP * busy // sum(map(len, main)), step * PACKETS_OF_LARGEST * busy // largest)
     return max(step, min(rounded_up(wanted), rounded_down(span // FEWEST_STEPS)))
 
 
