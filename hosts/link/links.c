@@ -89,7 +89,7 @@ void submit(const struct dn_packet *packet, struct dn_fate *fate) {
     keep_submit(packet, fate);
 }
 
-uint64_t collect(uint64_t moment, const struct dn_delivery **list) {
+static uint64_t collected(uint64_t moment, const struct dn_delivery **list) {
     static uint64_t places = 1024;
     static struct dn_delivery *made;
     uint64_t count;
@@ -99,9 +99,16 @@ uint64_t collect(uint64_t moment, const struct dn_delivery **list) {
         made = grown(made, (places = count + count / 2) * sizeof *made);
     if (status != DN_OK) fail("the links", "out of memory");
     *list = made;
-    keep_collect(moment, made, count);
     return count;
 }
+
+uint64_t collect(uint64_t moment, const struct dn_delivery **list) {
+    uint64_t count = collected(moment, list);
+    keep_collect(moment, *list, count);
+    return count;
+}
+
+uint64_t collect_rest(const struct dn_delivery **list) { return collected(DN_LAST_MOMENT, list); }
 
 uint64_t wake(void) {
     uint64_t moment;

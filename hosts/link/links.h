@@ -18,6 +18,9 @@ void submit(const struct dn_packet *packet, struct dn_fate *fate);
 /* The packets that are due at a moment; the list is good until the next call. */
 uint64_t collect(uint64_t moment, const struct dn_delivery **list);
 
+/* All packets that are in the links, at the end: no call of the transcript. */
+uint64_t collect_rest(const struct dn_delivery **list);
+
 /* The first moment at which a packet is due or begins, or DN_NEVER. */
 uint64_t wake(void);
 

@@ -74,7 +74,7 @@ void leave(void) {
 
 void count_the_rest(void) {
     const struct dn_delivery *list;
-    uint64_t count = collect(DN_LAST_MOMENT, &list);
+    uint64_t count = collect_rest(&list);
     for (uint64_t i = 0; i < count; i++) {
         struct packet *packet = taken(list[i].packet);
         page->underway += packet->len > 0;

@@ -229,6 +229,16 @@ class OfTheEnd(unittest.TestCase):
         self.assertEqual((ended.status, ended.said), (6, "hinge: an interface: is gone\n"))
         audited_as_lawful(self, link.transcript)
 
+    def test_what_is_under_way_at_the_end_is_counted_and_not_delivered(self) -> None:
+        link = Linked(SEEDS + "line pipe 1 config delay 60000\n")
+        for number in range(3):
+            link.near.send(udp(number))
+        until(lambda: link.came() == 3)
+        ended = link.end()
+        self.assertEqual((ended.counts["underway"], ended.counts.ways[0].underway, ended.counts.ways[0]["discarded"]), (3, 3, 0))
+        self.assertNotIn("\nd,", ended.history)
+        audited_as_lawful(self, link.transcript)
+
     def test_a_wrong_line_is_told_before_the_first_packet(self) -> None:
         for text, told in (("line pipe 1 config bw 8Mbps\n", "word 5: bad number"), ("at 5 queue 1 config weight 2\n", "needs a pipe"),
                            ("at 5 pipe delete 7\n", "no-such-pipe"), ("nonsense\n", "no line of a plan")):

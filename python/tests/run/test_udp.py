@@ -170,6 +170,14 @@ class OfDatagrams(InAFolder):
         audited_as_lawful(self, kept)
 
 
+    def test_a_transcript_that_cannot_be_written(self) -> None:
+        with sockets(2) as [server, client]:
+            path = Path(0, port_of(server), "--transcript", "/dev/full")
+            self.assertLess(0, min(rounds(client, server, path, 2)))
+            status, said = path.end()
+        self.assertEqual((status, "hinge: /dev/full: No space left on device\n" in said, "broke off" in said), (75, True, True), said)
+
+
 @needs_host
 class OfManyClients(InAFolder):
     def test_1500_clients(self) -> None:
