@@ -2,7 +2,7 @@
 
     python3 host.py 7000 localhost:7001 'pipe 1 config bw 8Mbit/s delay 20' 'pipe 2 config delay 20'
 
-It serves the one client that sent last, until ^C. `hinge udp` does the same for many, and tells how late it was; this one is to be
+It serves the one client that sent last, until ^C. `hinge udp` does the same for many, and reports how late it was; this one is to be
 read, for a host of your own.
 """
 

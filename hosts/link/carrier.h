@@ -11,7 +11,7 @@ enum { LONGEST = 65535 }; /* bytes of a packet */
 struct carrier {
     int polled[2]; /* a descriptor for each way, which can be read where a packet has come */
 
-    /* Takes an IP packet of a way into LONGEST bytes, and answers its length: 0 for one that was turned away, -1 where none has come. */
+    /* Takes an IP packet of a way into LONGEST bytes, and returns its length: 0 for one that was turned away, -1 where none has come. */
     ssize_t (*receive)(int way, unsigned char *bytes);
 
     /* Sends one on; false where the system refuses it. */

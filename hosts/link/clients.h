@@ -12,7 +12,7 @@ struct client {
     struct client *in_bucket, *older, *newer;
 };
 
-/* Allows as many clients as the system lets this program have sockets, and tells where datagrams of the server can be waited for. */
+/* Allows as many clients as the system lets this program have sockets, and returns the descriptor on which the server's datagrams can be waited for. */
 int prepare_clients(const union end *server);
 
 /* The client of an end, or NULL. */

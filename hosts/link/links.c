@@ -51,7 +51,7 @@ static void note_line(const char *line, int kind, int number, bool deletes) {
     lines[at] = (struct held_line){kind, number, text};
 }
 
-/* Obeys a line, and answers NULL or what is wrong with it. */
+/* Obeys a line, and returns NULL or what is wrong with it. */
 static const char *configure(struct dn_handle *handle, const char *line) {
     static const char *const faults[] = {"not UTF-8", "unknown word", "missing value", "bad number", "out of range", "left out", "needs a pipe"};
     static const char *const refusals[] = {"exhausted", "no-such-pipe", "pipe-has-queues", "no-such-queue"};

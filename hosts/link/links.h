@@ -9,7 +9,7 @@ void open_links(void);
 /* What is wrong with a line where all lines that were tried before were obeyed, or NULL. Nothing else changes. */
 const char *wrong_with(const char *line);
 
-/* Obeys a line at the moment of the last call, and answers NULL or why it is refused. */
+/* Obeys a line at the moment of the last call, and returns NULL or why it is refused. */
 const char *obey(const char *line);
 
 void advance(uint64_t moment);

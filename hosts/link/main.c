@@ -30,7 +30,7 @@
 #include "unread.h"
 #include "ways.h"
 
-/* Blocks SIGTERM and answers a descriptor that can be read once it has come. It is polled as the interfaces are: a ppoll that lets
+/* Blocks SIGTERM and returns a descriptor that can be read once it has come. It is polled as the interfaces are: a ppoll that lets
    signals in doesn't do so while an interface has packets. */
 static int signal_descriptor(void) {
     sigset_t signals;

@@ -1,4 +1,4 @@
-"""The first process of the rooms: it starts the server, the link and the command, and tells how the run went."""
+"""The first process of the rooms: it starts the server, the link and the command, and reports how the run went."""
 
 from __future__ import annotations
 

@@ -72,7 +72,7 @@ class Outside:
         until = time.monotonic() + PATIENCE
         while not self.joined():
             if time.monotonic() > until:
-                raise Missing("--outside: the server's room gets no way out; what was said of it stands above")
+                raise Missing("--outside: the server's room gets no way out; the lines above say why")
             time.sleep(0.01)
         write("/proc/sys/net/ipv4/ip_forward", "1")
         write(f"/proc/sys/net/ipv4/conf/{INTERFACE}/proxy_arp", "1")

@@ -184,7 +184,7 @@ class OfTime(unittest.TestCase):
 
 @needs_host
 class OfALoadedMachine(unittest.TestCase):
-    def test_it_tells_that_it_had_no_processor(self) -> None:
+    def test_it_reports_that_it_had_no_processor(self) -> None:
         """Four programs that do nothing but reckon share a processor with the host, which is the least of them."""
         link = Linked(SEEDS + "line pipe 1 config delay 1\n")
         one = min(os.sched_getaffinity(0))
