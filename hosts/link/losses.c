@@ -9,21 +9,22 @@ enum { TO_BAD, TO_GOOD, LOST_IN_GOOD, LOST_IN_BAD };
 
 static struct model {
     enum { WORDS, GILBERT, LIST } kind;
-    uint64_t state, count; /* of the random numbers; the packets so far */
+    uint64_t seed, drawn; /* of the random words; how many were drawn */
+    uint64_t count;       /* the packets so far */
     uint32_t chances[4];
     bool bad;
     uint64_t *list, length, passed; /* of the list: its numbers, how many there are, and how many lie behind */
 } models[2];
 
-static uint32_t draw(struct model *model) { /* xorshift64 */
-    model->state ^= model->state << 13, model->state ^= model->state >> 7, model->state ^= model->state << 17;
-    return (uint32_t)(model->state >> 33);
+/* splitmix64 of the seed, the way and the number of the word, as hinge/words.py has it. */
+static uint32_t draw(struct model *model) {
+    uint64_t z = model->seed * 0x9e3779b97f4a7c15 + ++model->drawn * 0xd1b54a32d192ed03 + (uint64_t)(model - models) * 0x8cb92ba72f3d8dd7;
+    z = (z ^ z >> 30) * 0xbf58476d1ce4e5b9;
+    z = (z ^ z >> 27) * 0x94d049bb133111eb;
+    return (uint32_t)((z ^ z >> 31) & WORD_OF_NONE);
 }
 
-void set_seed(int way, uint64_t seed) {
-    models[way].state = (seed * 2 + (uint64_t)way + 1) * 0x9e3779b97f4a7c15 | 1;
-    for (int i = 0; i < 16; i++) draw(&models[way]);
-}
+void set_seed(int way, uint64_t seed) { models[way].seed = seed; }
 
 void set_gilbert(int way, const uint32_t chances[4]) {
     models[way].kind = GILBERT;
@@ -43,9 +44,11 @@ static bool listed(struct model *model) {
     return model->passed < model->length && model->list[model->passed] == model->count;
 }
 
+/* Whether a packet is lost in the state in which it finds the link, which then may change. */
 static bool lost_by_state(struct model *model) {
-    model->bad = model->bad ? draw(model) >= model->chances[TO_GOOD] : draw(model) < model->chances[TO_BAD];
-    return draw(model) < model->chances[model->bad ? LOST_IN_BAD : LOST_IN_GOOD];
+    bool lost = draw(model) < model->chances[model->bad ? LOST_IN_BAD : LOST_IN_GOOD];
+    model->bad ^= draw(model) < model->chances[model->bad ? TO_GOOD : TO_BAD];
+    return lost;
 }
 
 uint32_t next_word(int way) {

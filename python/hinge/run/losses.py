@@ -2,19 +2,16 @@
 
 from __future__ import annotations
 
+from hinge.loss import parts, read_rates
 from hinge.run.words import WAYS, Wrong
 
-CHANCE = 2**31  # of a chance of 1
 MOST_LISTED = 10**6
 
 
 def gilbert(text: str) -> str:
     """`P,R[,B[,G]]`: the chances to turn bad, to turn good, and to lose a packet in the bad state and in the good one."""
-    given = [float(word) for word in text.split(",")]
-    if not 2 <= len(given) <= 4 or not all(0 <= chance <= 1 for chance in given):
-        raise ValueError
-    to_bad, to_good, in_bad, in_good = [*given, *[1.0, 0.0][len(given) - 2:]]
-    return " ".join(str(round(chance * CHANCE)) for chance in (to_bad, to_good, in_good, in_bad))
+    to_bad, to_good, in_bad, in_good = (parts(rate) for rate in read_rates(text))
+    return f"{to_bad} {to_good} {in_good} {in_bad}"
 
 
 def listed(text: str) -> str:

@@ -12,9 +12,11 @@ import time
 import unittest
 
 from linked import SEEDS, Ended, Linked, audited, audited_as_lawful, found, ip4, ip6, needs_host, until
+from hinge.loss import LOST, GilbertElliott
 from hinge.run.page import ENDED_WELL
 from hinge.run.plan import Plan
 from hinge.run.summary import void
+from hinge.words import word
 
 CLIENT, SERVER = "10.8.0.1", "10.8.0.2"
 FLOOD = "import socket,sys\ns=socket.socket(fileno=int(sys.argv[1]))\ns.setblocking(True)\nwhile 1: s.send(bytes([0x45]) + bytes(39))"
@@ -114,6 +116,20 @@ class OfLosses(unittest.TestCase):
             link.near.send(udp(number))
         got = [struct.unpack("!H", link.far.recv(100)[22:24])[0] for _ in range(5)]
         self.assertEqual((got, link.end().counts.ways[0]["lost"]), ([0, 2, 5, 6, 7], 3))
+
+    def test_words_and_losses_are_those_of_the_models(self) -> None:
+        """hinge.words draws the words of a loss rate, and hinge.loss decides by the same seed what a burst loses."""
+        link = Linked("seed 0 9\nseed 1 9\nline pipe 1 config plr 0.3\nline pipe 2 config\n")
+        for number in range(30):
+            link.near.send(udp(1))
+            link.far.send(ip4(SERVER, CLIENT, 17, 1, 1, 40))
+        until(lambda: link.came() + link.page.read().ways[1]["came"] == 60)
+        history = link.end().history
+        for direction in (1, 2):
+            words = [int(text) for text in found(rf"submit,pipe,{direction},.*,40,(\d+),\d+$", history)]
+            self.assertEqual(words, [word(9, number, direction) for number in range(1, 31)])
+        model = GilbertElliott(0.1, 0.3, seed=5)
+        self.assertEqual([fate == "lost" for fate in self.fates(5)], [model.next() == LOST for _ in range(200)])
 
     def test_a_seed_decides_by_directions(self) -> None:
         first = self.fates(5)
