@@ -56,11 +56,11 @@ static void turn(const struct pollfd polled[3], bool slept, uint64_t woken) {
     uint64_t moment = now();
     page->turns++, page->wakes += slept;
     note_wait(moment, slept, ready);
+    carrier.look_after(moment);
     make_changes();
     for (int way = 0; way < 2; way++)
         if (ready[way]) come(way);
     if (woken <= now()) leave();
-    carrier.look_after(moment);
     page->moment = moment;
 }
 

@@ -117,11 +117,11 @@ class OfDownloads(Behind):
         with open(f"{self.folder}/data", "wb") as file:
             file.write(bytes(10**5))
         serve = f"exec gtlsserver -q -d {self.folder} 10.8.0.2 4433 {key} {certificate}"
-        done, told = self.summary("--up", "20ms", "--down", "8Mbit/s 20ms loss 2%", "--seed", "1", "--server", serve, "--",
+        done, told = self.summary("--up", "20ms", "--down", "8Mbit/s 20ms", "--loss", "down:list:20,40-42", "--server", serve, "--",
                                   "gtlsclient", "-q", "--exit-on-all-streams-close", f"--download={self.folder}/got", "10.8.0.2", "4433", "https://server/data")
         self.assertEqual(done.returncode, 0, done.stdout + done.stderr)
         self.assertEqual(os.path.getsize(f"{self.folder}/got/data"), 10**5)
-        self.assertGreater(told["down"]["lost"], 0)
+        self.assertEqual(told["down"]["lost"], 4)
 
     @needs("mosh-server", "mosh-client", "script")
     def test_mosh(self) -> None:
