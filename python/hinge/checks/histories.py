@@ -14,11 +14,12 @@ SHOWN = 80  # letters of a record
 
 
 class Records:
-    """The records of a history, each with the line where it stands; remarks and empty lines aren't counted."""
+    """The records of a history, each with its line. Empty lines aren't counted, nor the remarks of a live session's transcript."""
 
     def __init__(self, data: bytes) -> None:
         lines = data.decode("utf-8", "replace").splitlines()
-        self.list = [(number, line) for number, line in enumerate(lines, 1) if line and not line.startswith("#")]
+        is_live = data.startswith(b"dummynet-live,")
+        self.list = [(number, line) for number, line in enumerate(lines, 1) if line and not (is_live and line.startswith("#"))]
         self.is_whole = data.endswith((b"\n", b"\r"))
 
     def calls(self) -> list[int]:
@@ -49,6 +50,8 @@ def bad_record(name: str, records: Records, number: int) -> tuple[str, str]:
         return f"{name}:{line}", f"{shown}: there are {len(records.calls())} entries, or the last has no reply; records were taken away or added"
     if number == len(lines) and not records.is_whole:
         return f"{name}:{line}", f"{shown}: the history was cut within this record; the session was killed, or still goes on"
+    if text.startswith("#"):
+        return f"{name}:{line}", f"{shown}: a remark, which only the transcript of a live session has; leave it out, or begin the file with dummynet-live,1"
     return f"{name}:{line}", f"{shown}: not a record here; the file was edited"
 
 

@@ -10,6 +10,7 @@ from pathlib import Path
 from fuzz_check import compare
 from kit import TOP, folder, run
 
+from hinge.checks.histories import Records, bad_record
 from hinge.checks.rows import HEADER
 from hinge.checks.words import advice, words_of
 from hinge.program import dummynet
@@ -219,9 +220,15 @@ class Histories(unittest.TestCase):
             text.replace("r,queued,0,0,1", "r,queued,0,0,7"): ":7: 'r,queued,0,0,7' isn't the emulator's reply",
             text.replace("r,queued,0,0,2", "r,full,0,0"): "(entry 3); that is 'r,queued,0,0,2'",
             text + "x\n": "stands behind the end", text.replace("end,5", "end,6"): "there are 5 entries",
-            "# remark\n".join(lines).replace("r,configured", "r,confgured"): "not a record here",
+            text.replace("r,configured", "r,confgured"): ":3: record 3 'r,confgured': not a record here",
         }
         for changed, said in cases.items():
             status, out = check(file("h2", changed))
             self.assertIn(said, out)
             self.assertIn(status, (1, 4))
+
+    def test_remarks_are_records_of_a_history_and_not_of_a_transcript(self) -> None:
+        for first, number, where in (("dummynet-history,3", 2, "h:2"), ("dummynet-live,1", 2, "h:3")):
+            records = Records(f"{first}\n#,next\nx\nend,0\n".encode())
+            found, said = bad_record("h", records, number)
+            self.assertEqual((found, "a remark" in said), (where, first == "dummynet-history,3"))
