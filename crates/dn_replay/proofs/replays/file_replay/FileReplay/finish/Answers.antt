@@ -1,5 +1,5 @@
-use Rattle.std.proofs.Common.{◌≡◌, ◌∙◌, sym}
-use Rattle.dn_replay.specs.InParts.{calls_asked}
+use Rattle.std.proofs.Common.{◌≡◌, ◌∙◌, ap, sym}
+use Rattle.dn_replay.specs.InParts.{calls_asked, Coming}
 use Rattle.dn_replay.specs.OnePass.{NoneFailed}
 use Rattle.dn_replay.proofs.InputSteps.{answered_through, answered_without, asked_within, unanswered_through}
 use Rattle.dn_replay.proofs.PartsCome.{few-taken}
@@ -12,10 +12,11 @@ report-outcome-requires-clause-taken g c = let (records, config, text, come) = c
 pub returns-in-Ok-clause-ok : goal.returns-in-Ok-clause-ok
 returns-in-Ok-clause-ok g c = λ records config text has.
     let come = rw (← c.self.view_is) at has in
+    let within = ap (λ (replay : Coming). calls_asked replay.limit config text) (sym c.self.view_is) in
     let old = g.O.Outlet.contents c.args.out.now in
     let new = g.O.Outlet.contents c.report-outcome.new.out in
     let entries = c.report-outcome.new.self.pass.run.history.items in
-    let told = answered_through (λ r. come.asked text ≡ r) (λ r. calls_asked c.args.self.limit config text ≡ r) old new (λ r e. (rw c.self.view_is at (asked_within _ config come.asked text come.asks come.short)) ∙ e) records entries
+    let told = answered_through (λ r. come.asked text ≡ r) (λ r. calls_asked c.args.self.limit config text ≡ r) old new (λ r e. within ∙ (asked_within _ config come.asked text come.asks come.short ∙ e)) records entries
     (c.in-Ok.ensures.ok records come.asked text come.taken (few-taken records _ config text come)) in
     elim c.if-records.branch [
       | then-records w ↦ rw (w.history-is, w.take_history-history.ensures) told
@@ -25,6 +26,7 @@ returns-in-Ok-clause-ok g c = λ records config text has.
 pub returns-in-Err-clause-err : goal.returns-in-Err-clause-err
 returns-in-Err-clause-err g c = λ records config text has.
     let come = rw (← c.self.view_is) at has in
+    let within = ap (λ (replay : Coming). calls_asked replay.limit config text) (sym c.self.view_is) in
     unanswered_through (λ r. come.asked text ≡ r) (λ r. calls_asked c.args.self.limit config text ≡ r) (g.O.Outlet.contents c.args.out.now) (g.O.Outlet.contents c.report-outcome.new.out)
-    (λ r e. (rw c.self.view_is at (asked_within _ config come.asked text come.asks come.short)) ∙ e) NoneFailed NoneFailed (λ what none. none) (g.O.Outlet.has_failed c.report-outcome.new.out) c.in-Err.fault
+    (λ r e. within ∙ (asked_within _ config come.asked text come.asks come.short ∙ e)) NoneFailed NoneFailed (λ what none. none) (g.O.Outlet.has_failed c.report-outcome.new.out) c.in-Err.fault
     (c.in-Err.ensures.err records come.asked text come.taken (few-taken records _ config text come))
