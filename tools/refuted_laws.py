@@ -7,7 +7,8 @@
 
 wrong_definitions.py shows that the proof of a law doesn't go through under a wrong definition. That is weaker than that the law
 is false of it: a proof may only mirror the definition, and be repaired. Here the law is refuted. A file of tools/refuted has
-lemmas `NAME : LAW → ⊥`, each at an example, and a comment with the name of its row. Each is proved in a copy of dn_types that
+lemmas `NAME : LAW → ⊥`, each at an example, and a comment with the name of its row. They end in .proof, since `rt ci` wants each
+.antt file in a crate. Each is proved in a copy of dn_types that
 has the specs with the row's wrong definition, but no proof of the crate: so nothing in it mirrors a definition. Of the right
 definitions the same file must not be proved. A row passes where both hold and one of its lemmas is about the row's own law.
 A row without a file is told apart: of it only wrong_definitions.py speaks. The prover is called as RT, as there.
