@@ -1,4 +1,4 @@
-"""Reading of history files, of versions 1 to 3, and of transcripts of live sessions, as docs/FORMATS.md says, and their audit."""
+"""Reading of history files, of versions 1 to 3, and of transcripts of live sessions, as docs/HISTORIES.md says, and their audit."""
 
 from __future__ import annotations
 
