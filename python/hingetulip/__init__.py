@@ -18,11 +18,13 @@ if it is set, else beside the module, then in the `lib` of the prefix below whic
 from __future__ import annotations
 
 from hingetulip.batches import Deliveries, Fates, Packets
-from hingetulip.errors import ClosedError, ExhaustedError, HingetulipError, LineError, OutOfMemoryError, RangeError, RefusedError
+from hingetulip.errors import (
+    ClosedError, ExhaustedError, HingetulipError, InUseError, LineError, OutOfMemoryError, RangeError, RefusedError,
+)
 from hingetulip.library import LAST_MOMENT, LIBRARY, VERSION
 from hingetulip.records import Delivery, Fate, FlowStatus, Outcome, Rule
 from hingetulip.shaper import Shaper
 
 __all__ = ["LAST_MOMENT", "LIBRARY", "VERSION", "ClosedError", "Deliveries", "Delivery", "ExhaustedError", "Fate", "Fates", "FlowStatus",
-           "HingetulipError", "LineError", "OutOfMemoryError", "Outcome", "Packets", "RangeError", "RefusedError", "Rule", "Shaper"]
+           "HingetulipError", "InUseError", "LineError", "OutOfMemoryError", "Outcome", "Packets", "RangeError", "RefusedError", "Rule", "Shaper"]
 __version__ = VERSION

@@ -41,6 +41,13 @@ class RangeError(HingetulipError, ValueError):
     """A number is out of its range."""
 
 
+class InUseError(HingetulipError, RuntimeError):
+    """Another thread, or the code that a signal interrupted, is in a call of this shaper."""
+
+    def __init__(self) -> None:
+        super().__init__("another thread, or what a signal interrupted, is in a call of this shaper")
+
+
 class OutOfMemoryError(HingetulipError, MemoryError):
     """Memory was refused. The same call may be made again."""
 

@@ -20,7 +20,7 @@ class Rule(IntEnum):
 class Outcome(IntEnum):
     """What became of a packet that was submitted.
 
-    QUEUED: it was accepted, and a collect will give it. LOST: it was lost by the loss rate (`plr`). FULL: its queue was full.
+    QUEUED: it was accepted, and a collect gives it unless a delete discards it first. LOST: it was lost by the loss rate (`plr`). FULL: its queue was full.
     NO_TARGET: its pipe or queue isn't configured.
     """
 

@@ -8,11 +8,12 @@ from os import urandom
 from random import Random
 from struct import Struct
 from struct import error as StructError
+from threading import Lock
 from types import TracebackType
 from typing import Any, Callable, NoReturn, Optional, Union
 
 from hingetulip.batches import QUEUED, Deliveries, Fates, Packets, make_fate, read_fate
-from hingetulip.errors import LineError, RangeError
+from hingetulip.errors import InUseError, LineError, RangeError
 from hingetulip.layout import DELIVERY, FATE, FAULT, FLOW, PACKET, Layout
 from hingetulip.library import CALLS, FAULT_KINDS, LAST_MOMENT, LINE, NEVER, ROOM, Handle, failure
 from hingetulip.records import Delivery, Fate, FlowStatus, Rule
@@ -39,6 +40,20 @@ def unpackable(**fields: Any) -> Exception:
 def read_flow(flow: int, queued: int, size: int, lost: int, full: int, started: int, discarded: int, src: int, dst: int, sport: int,
               dport: int, number: int, pipe: int, kind: int, proto: int) -> FlowStatus:
     return FlowStatus(flow, number if kind else None, pipe, src, dst, proto, sport, dport, queued, size, lost, full, started, discarded)
+
+
+class Turn:
+    """A shaper's calls, one at a time. A call in the midst of another one raises, so that no answer mixes two calls."""
+
+    def __init__(self) -> None:
+        self.lock = Lock()
+
+    def __enter__(self) -> None:
+        if not self.lock.acquire(False):
+            raise InUseError
+
+    def __exit__(self, kind: Optional[type[BaseException]], error: Optional[BaseException], trace: Optional[TracebackType]) -> None:
+        self.lock.release()
 
 
 class Listing:
@@ -71,15 +86,21 @@ class Listing:
 class Shaper:
     """An emulator of its own, without any pipe at first.
 
-    One thread at a time uses a shaper. Its clock stands at 0 ns, and goes to the moment of each call that has a later one; a call
-    with an earlier moment counts as at the clock's. It is closed by `close`, at the end of a `with`, or when nothing refers to it.
+    Threads may use it one after another; a call in the midst of another one raises InUseError. Its clock is at 0 ns at first, and goes
+    to the moment of each call that has a later one. A call with an earlier moment counts as at the clock's. It is closed by `close`, at
+    the end of a `with`, or when no name refers to it.
     """
 
     def __init__(self, rule: Rule = Rule.ORDERED, seed: Optional[int] = None) -> None:
         """By `rule` the packets of a link follow one another. From `seed` follow the words of packets that are submitted without one.
 
         No answer depends on the secret that is drawn for the table of flows, without which nobody can choose packets that are slow.
+        RangeError: there is no such rule.
         """
+        if rule not in (Rule.ORDERED, Rule.FREE):
+            raise RangeError(f"rule {rule!r} is neither ORDERED nor FREE")
+        self.__del__()  # of an earlier call of __init__
+        self._turn = Turn()
         self._handle, self._moment, self._number, self._random = Handle(), c_uint64(), c_uint64(), Random(seed)
         self._packet, self._fate = (c_char * PACKET.size)(), (c_char * FATE.size)()
         # The arguments of calls are made once: to make them at each call would take longer than the call.
@@ -93,7 +114,8 @@ class Shaper:
 
     def close(self) -> None:
         """Lets go of all that it has. A second time does nothing."""
-        CALLS.dn_close(self._self)
+        with self._turn:
+            CALLS.dn_close(self._self)
 
     @property
     def closed(self) -> bool:
@@ -107,7 +129,7 @@ class Shaper:
 
     def __del__(self) -> None:
         if hasattr(self, "_self"):
-            self.close()
+            CALLS.dn_close(self._self)
 
     def __reduce__(self) -> NoReturn:
         raise TypeError("a shaper is neither copied nor pickled")
@@ -115,14 +137,15 @@ class Shaper:
     def __repr__(self) -> str:
         return f"<hingetulip.Shaper, {'closed' if self.closed else 'open'}>"
 
-    def configure(self, line: Union[str, bytes]) -> None:
+    def configure(self, line: Union[str, bytes, bytearray, memoryview]) -> None:
         """Obeys one line of a configuration, as `pipe 1 config bw 8Mbit/s delay 20ms`. A line without words changes nothing.
 
         LineError: the line is no command. RefusedError: there is no such pipe or queue, or a pipe that it deletes has queues.
         """
-        text = line if isinstance(line, bytes) else line.encode("utf-8", "surrogatepass")
+        text = bytes(line) if isinstance(line, (bytes, bytearray, memoryview)) else line.encode("utf-8", "surrogatepass")
         fault = (c_char * FAULT.size)()
-        status = CALLS.dn_configure(self._self, text, c_size_t(len(text)), byref(fault))
+        with self._turn:
+            status = CALLS.dn_configure(self._self, text, c_size_t(len(text)), byref(fault))
         if status == LINE:
             word, kind = FAULT.record.unpack(fault)
             raise LineError(FAULT_KINDS[kind], word)
@@ -143,15 +166,20 @@ class Shaper:
             raise TypeError(NEITHER_OR_BOTH)
         if word is None:
             word = self._random.getrandbits(32)
+        lock = self._turn.lock  # a `with` would take a tenth of the call
+        if not lock.acquire(False):
+            raise InUseError
         try:
             pack_packet(self._packet, 0, moment, src, dst, word, sport, dport, length, number, kind, proto)
+            status = CALLS.dn_submit(*self._submitted)
+            at, flow, packet, outcome = unpack_fate(self._fate)
         except StructError:
             raise unpackable(moment=moment, src=src, dst=dst, word=word, sport=sport, dport=dport, length=length, number=number,
                              proto=proto) from None
-        status = CALLS.dn_submit(*self._submitted)
+        finally:
+            lock.release()
         if status:
             raise failure(status)
-        at, flow, packet, outcome = unpack_fate(self._fate)
         return make_fate((QUEUED, at, flow, packet)) if outcome == 0 else read_fate(at, flow, packet, outcome)
 
     def submit_many(self, packets: Packets) -> Fates:
@@ -164,8 +192,9 @@ class Shaper:
             packets.word[:] = memoryview(self._random.randbytes(4 * count)).cast("I")
         fates = bytearray(FATE.size * count)
         given, written = (byref((c_char * len(records)).from_buffer(records)) for records in (packets.records, fates))
-        status = CALLS.dn_submit_many(self._self, given, c_size_t(count), written, c_size_t(count), byref(self._number))
-        answered = Fates(memoryview(fates)[:FATE.size * self._number.value])
+        with self._turn:
+            status = CALLS.dn_submit_many(self._self, given, c_size_t(count), written, c_size_t(count), byref(self._number))
+            answered = Fates(memoryview(fates)[:FATE.size * self._number.value])
         if status:
             error = failure(status)
             error.fates = answered
@@ -174,24 +203,28 @@ class Shaper:
 
     def advance(self, moment: int) -> int:
         """Moves the clock to `moment` ns, if it stands earlier, and tells where it stands, in ns. It takes no packet out."""
-        self._set_moment(moment)
-        self._succeed(CALLS.dn_advance(*self._advanced))
-        return self._number.value
+        with self._turn:
+            self._set_moment(moment)
+            self._succeed(CALLS.dn_advance(*self._advanced))
+            return self._number.value
 
     def collect(self, moment: int) -> list[Delivery]:
         """Moves the clock to `moment` ns, and takes the packets that are due, in the order in which they are due."""
-        self._set_moment(moment)
-        records = self._collected.listed()
-        return list(map(Delivery._make, iterate_deliveries(records))) if records else []
+        with self._turn:
+            self._set_moment(moment)
+            records = self._collected.listed()
+            return list(map(Delivery._make, iterate_deliveries(records))) if records else []
 
     def collect_many(self, moment: int) -> Deliveries:
         """As `collect`, but what is taken is kept as the library wrote it, to be read by columns."""
-        self._set_moment(moment)
-        return Deliveries(bytearray(self._collected.listed()))
+        with self._turn:
+            self._set_moment(moment)
+            return Deliveries(bytearray(self._collected.listed()))
 
     def show(self) -> list[FlowStatus]:
         """The state of all flows, in the order of their numbers."""
-        return [read_flow(*fields) for fields in FLOW.record.iter_unpack(self._shown.listed())]
+        with self._turn:
+            return [read_flow(*fields) for fields in FLOW.record.iter_unpack(self._shown.listed())]
 
     def wake(self) -> Optional[int]:
         """When to collect: the first moment, in ns, at which a packet is due or its transmission begins, if no other call comes.
@@ -199,8 +232,9 @@ class Shaper:
         Each collect before it gives nothing. One at it can give nothing too, where a transmission begins. It is above LAST_MOMENT where
         nothing can come any more, and None where no packet waits or is under way. The call changes nothing.
         """
-        self._succeed(CALLS.dn_wake(self._self, byref(self._number)))
-        return None if self._number.value == NEVER else self._number.value
+        with self._turn:
+            self._succeed(CALLS.dn_wake(self._self, byref(self._number)))
+            return None if self._number.value == NEVER else self._number.value
 
     def _set_moment(self, moment: int) -> None:
         """The moment of the next call. ctypes would cut one of more than 64 bits."""

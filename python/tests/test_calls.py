@@ -15,9 +15,10 @@ from array import array
 from concurrent.futures import ThreadPoolExecutor
 from pathlib import Path
 from tempfile import TemporaryDirectory
+from typing import Callable
 
 import hingetulip
-from hingetulip import Deliveries, Delivery, Fate, FlowStatus, LineError, Outcome, Packets, RangeError, Shaper
+from hingetulip import Deliveries, Delivery, Fate, FlowStatus, InUseError, LineError, Outcome, Packets, RangeError, Shaper
 
 MS = 1_000_000
 LINE = "pipe 1 config bw 8Mbit/s delay 20ms queue 1"
@@ -100,6 +101,57 @@ class Calls(unittest.TestCase):
 
         with ThreadPoolExecutor(4) as pool:
             self.assertEqual([told(number) for number in range(4)], list(pool.map(told, range(4))))
+
+    def test_a_call_in_the_midst_of_another_raises(self) -> None:
+        class Meddling:
+            """A number that makes a call of the shaper while another call reads it, as a signal handler may."""
+
+            def __init__(self, call: Callable[[], object]) -> None:
+                self.call = call
+
+            def __index__(self) -> int:
+                self.call()
+                return 7
+
+        shaper = self.shaper
+        for call in (shaper.wake, shaper.show, shaper.close, lambda: shaper.submit(0, 1000, pipe=1), lambda: shaper.configure("pipe 2 config"),
+                     lambda: shaper.collect(0), lambda: shaper.submit_many(Packets(1, moment=0, length=1, pipe=1))):
+            with self.assertRaises(InUseError):
+                shaper.submit(Meddling(call), 1000, pipe=1)  # type: ignore[arg-type]
+            with self.assertRaises(InUseError):
+                shaper.advance(Meddling(call))  # type: ignore[arg-type]
+        self.assertEqual(Fate(Outcome.QUEUED, 3, 0, 0), shaper.submit(3, 1000, pipe=1))
+
+    def test_threads_that_share_a_shaper_get_true_answers_or_an_error(self) -> None:
+        shaper, refused = self.shaper, []
+
+        def submitted(number: int) -> list[int]:
+            packets = []
+            for _ in range(2000):
+                try:
+                    packets.append(shaper.submit(0, 1000, pipe=number, word=1).packet)
+                except InUseError:
+                    refused.append(number)
+            return packets
+
+        for number in range(1, 5):
+            shaper.configure(f"pipe {number} config")
+        with ThreadPoolExecutor(4) as pool:
+            told = sorted(packet for packets in pool.map(submitted, range(1, 5)) for packet in packets)
+        self.assertEqual(list(range(8000 - len(refused))), told)
+
+    def test_no_rule_and_a_second_beginning(self) -> None:
+        for rule in (2, 2**32, -1):
+            with self.assertRaises(RangeError):
+                Shaper(rule=rule)  # type: ignore[arg-type]
+        self.shaper.submit(5, 1000, pipe=1)
+        self.shaper.__init__()  # type: ignore[misc]
+        self.assertEqual([], self.shaper.show())
+
+    def test_a_line_in_bytes_of_any_kind(self) -> None:
+        for line in (b"pipe 2 config", bytearray(b"pipe 3 config"), memoryview(b"pipe 4 config")):
+            self.shaper.configure(line)
+        self.assertEqual([Outcome.QUEUED] * 3, [self.shaper.submit(0, 1, pipe=pipe).outcome for pipe in (2, 3, 4)])
 
 
 class Batches(unittest.TestCase):
