@@ -9,7 +9,7 @@ use Rattle.atomic_table.specs.Table.{Splits, Joins}
 use Rattle.dn_types.specs.declared.entry.Entry.{Entry}
 use Rattle.dn_service.specs.Callers.{ServiceView, CallerView, new_caller, new_callers, has_number, accounts_of, IsAccountedFor, IsOf}
 use Rattle.dn_service.specs.Rule.{Follows, SeatRule}
-use Rattle.dn_service.specs.Seats.{Account, SeatState, SeatView, Has, Each, new_account, new_accounts, without_first, only_first, joined, spent, seat_with, keeping, sitting}
+use Rattle.dn_service.specs.Seats.{Account, SeatState, SeatView, Has, Each, new_account, new_accounts, without_first, only_first, joined, spent, keeping, sitting}
 use Rattle.dn_service.proofs.Accounts.{has_none_new}
 use Rattle.dn_service.proofs.Splitting.{splits, joins}
 

@@ -1,18 +1,17 @@
 -- What is taken out of a service that lasts, and what a caller learns from a token.
-use Rattle.std.proofs.Common.{◌≡◌, ℕ, ◌+◌, ◌<◌, ◌≤◌, ◌^◌, ◌⊎◌, inl, inr, Bool, true, false, cond, List, [], ◌∷◌, ◌++◌, length, length-append, sym, refl, ap, ◌∙◌, subst, arith, Some, None}
+use Rattle.std.proofs.Common.{◌≡◌, ℕ, ◌+◌, ◌<◌, ◌≤◌, ◌^◌, ◌⊎◌, inl, inr, Bool, true, false, cond, List, [], ◌∷◌, ◌++◌, length, length-append, sym, refl, ap, ◌∙◌, subst, arith}
 use Rattle.std.specs.Prelude.{nat_le}
 use Rattle.std.proofs.lemmas.Bool.Decides.{nat_tests}
 use Rattle.atomic_table.specs.Seated.{TableId}
 use Rattle.atomic_table.specs.Table.{Splits, Joins}
-use Rattle.dn_types.specs.History.{IsLawful, own_entries}
+use Rattle.dn_types.specs.History.{own_entries}
 use Rattle.dn_types.specs.declared.entry.Entry.{Entry}
-use Rattle.dn_types.specs.declared.rule.Rule.TheVariants.{Ordered}
-use Rattle.dn_service.specs.Callers.{ServiceView, CallerView}
-use Rattle.dn_service.specs.Histories.{StartsWith, AreBelow}
+use Rattle.dn_service.specs.Histories.{StartsWith}
 use Rattle.dn_service.specs.Lasting.{SeenView, Learns, caller_at}
+use Rattle.dn_service.specs.Pasts.{IsCount}
 use Rattle.dn_service.specs.Rule.{Follows, SeatRule}
-use Rattle.dn_service.specs.Seats.{Account, SeatState, SeatView, Each, keeping, sitting, witness, witness_of, as_it_was, told_of, learned, with_shed, without_first, only_first, joined, spent, longer, shed_in, front_in, own_in, IsKeeperOf}
-use Rattle.dn_service.specs.Steps.{Emptied}
+use Rattle.dn_service.specs.Seats.{Account, SeatState, SeatView, Each, keeping, sitting, with_shed, without_first, only_first, spent, shed_in, front_in, own_in, IsKeeperOf}
+use Rattle.dn_service.specs.Tokens.{witness, witness_of, as_it_was, told_of, learned, longer}
 use Rattle.dn_service.proofs.HistoryLaws.{starts_all, begins_longer}
 use Rattle.dn_service.proofs.Splitting.{splits}
 use Rattle.dn_service.proofs.Tokens.{witnesses, tells}
@@ -90,15 +89,36 @@ is_waiting n s m e = e ∙ (λ i. let z = sym e i in (keeping n (shed_in z.0.she
 pub empties_keeper : (k : ℕ) (m m' : SeatState) (h : List Entry) → IsKeeperOf k m → m' ≡ (with_shed m.0 h, []) → IsKeeperOf k m'
 empties_keeper k m m' h is e = is_keeper k m.0.count h h (own_entries k h) m' (e ∙ (λ i. (with_shed (is i).0 h, [])))
 
--- how many entries were taken out, once all were
-pub gone_all : (history shed kept : List Entry) (gone gone' : ℕ) → history ≡ shed ++ kept → (length shed < 2 ^ 64 → gone ≡ length shed)
-    → (gone + length kept < 2 ^ 64 → gone' ≡ gone + length kept) → length history < 2 ^ 64 → gone' ≡ length history
-gone_all history shed kept gone gone' whole before after few =
-    let size : length history ≡ length shed + length kept = ap length whole ∙ length-append shed kept in
-    let was : gone ≡ length shed = before (omega arith) in
-    let now : gone' ≡ gone + length kept = after (omega arith) in omega arith
+-- the greatest count stays the greatest
+counts_top : (k gone gone' : ℕ) → IsCount (gone + k) gone' → gone + 1 ≡ 2 ^ 64 → gone' + 1 ≡ 2 ^ 64
+counts_top k gone gone' after top = by (nat_le (2 ^ 64) (gone + k)) refl top
+  where
+    by : (b : Bool) → nat_le (2 ^ 64) (gone + k) ≡ b → gone + 1 ≡ 2 ^ 64 → gone' + 1 ≡ 2 ^ 64
+    by true e top = after.1 (grind (arith, nat_tests))
+    by false e top = let small : gone + k < 2 ^ 64 = grind (arith, nat_tests) in let now : gone' ≡ gone + k = after.0 small in omega (arith, top, small, now)
 
--- the place of the next entry
-pub placed : (history shed kept : List Entry) (gone place : ℕ) → history ≡ shed ++ kept → (length shed < 2 ^ 64 → gone ≡ length shed)
-    → (gone + length kept < 2 ^ 64 → place ≡ gone + length kept) → length history < 2 ^ 64 → place ≡ length history
-placed history shed kept gone place whole before after few = gone_all history shed kept gone place whole before after few
+-- a count goes on by so many
+pub counts_on : (s k gone gone' : ℕ) → IsCount s gone → IsCount (gone + k) gone' → IsCount (s + k) gone'
+counts_on s k gone gone' before after = (small, λ many. by (nat_le (2 ^ 64) s) refl many)
+  where
+    small : s + k < 2 ^ 64 → gone' ≡ s + k
+    small few = let was : gone ≡ s = before.0 (omega (arith, few)) in let now : gone' ≡ gone + k = after.0 (omega (arith, few, was)) in omega (arith, was, now)
+
+    by : (b : Bool) → nat_le (2 ^ 64) s ≡ b → 2 ^ 64 ≤ s + k → gone' + 1 ≡ 2 ^ 64
+    by true e many = let most : 2 ^ 64 ≤ s = grind (arith, nat_tests) in counts_top k gone gone' after (before.1 most)
+    by false e many = let few : s < 2 ^ 64 = grind (arith, nat_tests) in let was : gone ≡ s = before.0 few in after.1 (omega (arith, many, was))
+
+-- how many entries were taken out, once all were
+pub gone_all : (history shed kept : List Entry) (gone gone' : ℕ) → history ≡ shed ++ kept → IsCount (length shed) gone
+    → IsCount (gone + length kept) gone' → IsCount (length history) gone'
+gone_all history shed kept gone gone' whole before after =
+    subst (λ n. IsCount n gone') (sym (ap length whole ∙ length-append shed kept)) (counts_on (length shed) (length kept) gone gone' before after)
+
+-- who is ahead of what was called has seen less
+pub seen_less : (history front : List Entry) (place after : ℕ) → StartsWith history front → IsCount (length history) place → place < after → after < 2 ^ 64
+    → length front < after
+seen_less history front place after starts count less few = by (nat_le (2 ^ 64) (length history)) refl (ap length starts.1 ∙ length-append front starts.0) less few
+  where
+    by : (b : Bool) → nat_le (2 ^ 64) (length history) ≡ b → length history ≡ length front + length starts.0 → place < after → after < 2 ^ 64 → length front < after
+    by true e size less few = let most : 2 ^ 64 ≤ length history = grind (arith, nat_tests) in let top : place + 1 ≡ 2 ^ 64 = count.1 most in absurd (omega (arith, top, less, few))
+    by false e size less few = let small : length history < 2 ^ 64 = grind (arith, nat_tests) in let same : place ≡ length history = count.0 small in omega (arith, size, same, less)

@@ -8,7 +8,6 @@ use prog.Atomic.{either}
 use Rattle.atomic_table.specs.Table.{Splits, Joins, opening}
 use Rattle.atomic_table.proofs.Lists.{at_set, set_else, at_longer, at_last}
 use Rattle.dn_types.specs.declared.entry.Entry.{Entry}
-use Rattle.dn_service.specs.Histories.{StartsWith}
 use Rattle.dn_service.specs.Pasts.{Past, BookView, Keeps, no_past}
 use Rattle.dn_service.specs.Rule.{Sits, SeatFits, SeatRule}
 use Rattle.dn_service.specs.Seats.{Account, SeatView, Each, Has, new_accounts, first_seat, seat_with, keeping, spent}

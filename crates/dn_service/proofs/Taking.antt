@@ -13,7 +13,7 @@ use Rattle.dn_types.specs.History.{IsLawful}
 use Rattle.dn_types.specs.declared.entry.Entry.{Entry}
 use Rattle.dn_types.specs.declared.rule.Rule.TheVariants.{Ordered}
 use Rattle.dn_service.specs.Histories.{StartsWith, AreBelow}
-use Rattle.dn_service.specs.Pasts.{Past, BookView, Keeps, no_past, with_entry, all_shed}
+use Rattle.dn_service.specs.Pasts.{Past, BookView, Keeps, with_entry, all_shed}
 use Rattle.dn_service.specs.Rule.{Follows, Sits, SeatFits, IsHome, SeatRule}
 use Rattle.dn_service.specs.Seats.{Account, SeatState, SeatView, Slot, Each, Has, with_taken, with_history, with_shed, up_to_date}
 use Rattle.dn_service.specs.Steps.{tried, returned, published, emptied}

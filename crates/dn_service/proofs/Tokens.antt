@@ -1,5 +1,5 @@
 -- Seats that know of a history, and seats that are spent: each step with them keeps the rule.
-use Rattle.std.proofs.Common.{◌≡◌, ◌≢◌, ℕ, suc, ◌+◌, ◌<◌, ◌≤◌, List, [], ◌∷◌, ◌++◌, map, length, get_or, set, sym, refl, ap, ◌∙◌, subst, ⊎_elim, inl, inr, arith, Bool, true, false, cond}
+use Rattle.std.proofs.Common.{◌≡◌, ℕ, ◌<◌, List, [], ◌∷◌, ◌++◌, map, length, get_or, set, sym, refl, ap, ◌∙◌, subst, ⊎_elim, inl, inr, arith, Bool, true, false, cond}
 use Rattle.std.specs.Prelude.{nat_le}
 use mathlib.Core.Logic.{dite}
 use mathlib.Core.Option.{none, some, some-injective}
@@ -9,8 +9,9 @@ use Rattle.atomic_table.specs.Table.{step, keeps, Allows, Splits, Joins, Enters}
 use Rattle.atomic_table.proofs.Lists.{set_again, set_else, at_longer}
 use Rattle.dn_types.specs.declared.entry.Entry.{Entry}
 use Rattle.dn_service.specs.Histories.{StartsWith}
-use Rattle.dn_service.specs.Rule.{Follows, Sits, SeatFits, SeatRule}
-use Rattle.dn_service.specs.Seats.{Account, SeatState, SeatView, Each, Has, sitting, witness, told_of, having_seen, learned, spent, longer}
+use Rattle.dn_service.specs.Rule.{Sits, SeatFits, SeatRule}
+use Rattle.dn_service.specs.Seats.{Account, SeatState, SeatView, Each, Has, sitting, spent}
+use Rattle.dn_service.specs.Tokens.{witness, told_of, having_seen, learned, longer}
 use Rattle.dn_service.specs.Steps.{learnt, vacant}
 use Rattle.dn_service.proofs.Accounts.{each_map}
 use Rattle.dn_service.proofs.HistoryLaws.{starts_none}

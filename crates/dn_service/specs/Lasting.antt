@@ -1,9 +1,13 @@
 -- A service that lasts: entries are taken out of it while it goes on. And what one caller knows of and tells another.
-use Rattle.std.specs.Prelude.{◌≡◌, ◌⊎◌, ◌<◌, ◌^◌, ℕ, List, ◌++◌, length}
+use Rattle.std.specs.Prelude.{◌≡◌, ◌≢◌, ◌⊎◌, ⊤, ◌<◌, ◌^◌, ℕ, List, ◌++◌, length}
 use Rattle.atomic_table.specs.Seated.{TableId}
 use Rattle.dn_types.specs.History.{IsLawful, own_entries}
 use Rattle.dn_types.specs.declared.entry.Entry.{Entry}
 use Rattle.dn_types.specs.declared.rule.Rule.TheVariants.{Ordered}
+use Rattle.dn_service.specs.declared.after_fault.AfterFault.{AfterFault}
+use Rattle.dn_service.specs.declared.after_fault.AfterFault.TheVariants.{OutOfMemory as NoMemory, Ahead as TooFew}
+use Rattle.dn_service.specs.declared.try_after_fault.TryAfterFault.{TryAfterFault}
+use Rattle.dn_service.specs.declared.try_after_fault.TryAfterFault.TheVariants.{Busy, OutOfMemory, Ahead}
 use Rattle.dn_service.specs.Callers.{ServiceView, CallerView, Closes}
 use Rattle.dn_service.specs.Histories.{StartsWith, AreBelow}
 use Rattle.dn_service.specs.Seats.{SeatState, front_in, own_in}
@@ -30,6 +34,21 @@ pub record Takes (before : LastingView) (caller : CallerView) (place : ℕ) (ent
 -- What was taken out, and then what was left at the end, is the history that a service leaves.
 abbrev pub ClosesAfter : LastingView → List CallerView → List Entry → Type 0
 ClosesAfter lasting callers rest = Closes lasting.service callers (lasting.taken ++ rest)
+
+-- A service that lasts, with a caller by which entries are taken out of it.
+pub record TakerView : Type 0 where
+  pub lasting : LastingView
+  pub caller : CallerView
+
+-- A caller that is busy is another caller of the service, and fewer calls were answered only where the caller has seen fewer.
+abbrev pub IsTryAfterFault : CallerView → ℕ → TryAfterFault → Type 0
+IsTryAfterFault caller after (Busy holder) = (holder < caller.service.callers) × (holder ≢ caller.number)
+IsTryAfterFault caller after OutOfMemory = ⊤
+IsTryAfterFault caller after Ahead = length caller.front < after
+
+abbrev pub IsAfterFault : CallerView → ℕ → AfterFault → Type 0
+IsAfterFault caller after NoMemory = ⊤
+IsAfterFault caller after TooFew = length caller.front < after
 
 -- What is known of a service: a history that its own begins with.
 pub record SeenView : Type 0 where

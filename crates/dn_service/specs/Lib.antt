@@ -6,3 +6,4 @@ pub mod Rooms
 pub mod Rule
 pub mod Seats
 pub mod Steps
+pub mod Tokens

@@ -1,5 +1,5 @@
 -- What a seat at the table of the book knows: an account of each caller that it stands for, and the past that it took with the book.
-use Rattle.std.specs.Prelude.{◌≡◌, ⊤, ◌⊎◌, ℕ, zero, suc, ◌+◌, ◌<◌, ◌≤◌, List, [], ◌∷◌, ◌++◌, map, take, drop, length, nat_le, cond, Option, Some, None}
+use Rattle.std.specs.Prelude.{◌≡◌, ⊤, ◌⊎◌, ℕ, zero, suc, ◌+◌, ◌<◌, ◌≤◌, List, [], ◌∷◌, ◌++◌, map, take, drop, Option, Some, None}
 use Rattle.atomic_table.specs.Seated.{TableId}
 use Rattle.atomic_table.specs.Table.{Me}
 use Rattle.dn_types.specs.History.{own_entries}
@@ -101,33 +101,6 @@ abbrev pub own_in : List Account → List Entry
 own_in [] = []
 own_in (a ∷ accounts) = a.own
 
--- The longer of two lists.
-abbrev pub longer : List Entry → List Entry → List Entry
-longer xs ys = cond (nat_le (length xs) (length ys)) ys xs
-
--- A seat that stands for no caller, and knows of a history.
-abbrev pub witness : ℕ → List Entry → SeatView
-witness n seen = record { count = n; accounts = []; taken = None; seen = seen; shed = None }
-
--- A seat that knows of what the first of these has seen.
-abbrev pub witness_of : SeatView → SeatView
-witness_of v = witness v.count (front_in v.accounts)
-
-abbrev pub as_it_was : SeatView → SeatView
-as_it_was v = v
-
--- The seat, which was told of what the other knows of.
-abbrev pub told_of : SeatView → SeatView → SeatView
-told_of v w = record { count = v.count; accounts = v.accounts; taken = v.taken; seen = w.seen; shed = v.shed }
-
--- The account of a caller who has seen this history too.
-abbrev pub having_seen : List Entry → Account → Account
-having_seen seen a = record { number = a.number; front = longer a.front seen; own = a.own }
-
--- The seat after its callers have seen what it was told of.
-abbrev pub learned : SeatView → SeatView
-learned v = record { count = v.count; accounts = map (having_seen v.seen) v.accounts; taken = v.taken; seen = []; shed = v.shed }
-
 -- What the seat has taken out.
 abbrev pub shed_in : Option (List Entry) → List Entry
 shed_in (Some shed) = shed
@@ -160,11 +133,6 @@ pub record IsLastingSeat (table : TableId) (count : ℕ) (seat : TableId) (me : 
   pub some : 0 < count
   pub few : count ≤ 16
   pub waits : me ≡ (keeping count (shed_in me.0.shed) [], [])
-
--- The seat of a token, which knows of a history.
-pub record IsTokenSeat (seat : TableId) (me : SeatState) : Type 0 where
-  pub one_word : seat.words ≡ 1
-  pub knows : me ≡ (witness me.0.count me.0.seen, [])
 
 -- The seat stands for the caller of this number alone, and has entries taken out.
 abbrev pub IsKeeperOf : ℕ → SeatState → Type 0

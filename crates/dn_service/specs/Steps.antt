@@ -7,7 +7,8 @@ use Rattle.dn_types.specs.declared.rule.Rule.TheVariants.{Ordered}
 use Rattle.dn_service.specs.Histories.{StartsWith, AreBelow}
 use Rattle.dn_service.specs.Pasts.{Past, BookView, Keeps}
 use Rattle.dn_service.specs.Rule.{Follows}
-use Rattle.dn_service.specs.Seats.{SeatState, Slot, Each, Has, spent, with_taken, with_history, with_shed, learned, shed_in}
+use Rattle.dn_service.specs.Seats.{SeatState, Slot, Each, Has, spent, with_taken, with_history, with_shed, shed_in}
+use Rattle.dn_service.specs.Tokens.{learned}
 
 -- A try to take the word found 0, and the book came with a past that it keeps, which begins with all that the seat's callers
 -- have seen, and of which was taken out what the seat has taken out. Or it found j + 1, and nothing changed: the book is with caller j, who sits at another seat.

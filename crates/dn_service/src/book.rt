@@ -1,6 +1,6 @@
-ghost use Rattle.std.specs.Prelude.{◌≡◌, ◌+◌, ◌<◌, ◌^◌, [], length, IfOk, OnErr};
+ghost use Rattle.std.specs.Prelude.{◌≡◌, ◌+◌, [], length, IfOk, OnErr};
 ghost use Rattle.dn_service.specs.Histories.{entry_of};
-ghost use Rattle.dn_service.specs.Pasts.{Past, Keeps, no_past, with_entry};
+ghost use Rattle.dn_service.specs.Pasts.{Past, Keeps, IsCount, no_past, with_entry};
 
 use crate::room::Room;
 use dn_shaper::{HashKey, Shaper};
@@ -16,8 +16,15 @@ pub(crate) struct Pages {
     history: Vec<Entry>,
     /// For the copy of each reply that the history keeps.
     room: Room,
-    /// How many entries were taken out.
+    /// How many entries were taken out, up to 2^64 - 1.
     gone: u64,
+}
+
+/// The count with so many more.
+fn count_on(count: u64, more: usize) -> u64
+    ensures { IsCount (count + more) result }
+{
+    count.saturating_add(more as u64)
 }
 
 /// The shaper, with the history of all its calls but for the entries that were taken out. Contracts see the shaper and
@@ -71,25 +78,23 @@ impl Book {
         Ok(reply)
     }
 
-    /// Takes its entries out. It takes no memory.
-    pub(crate) fn take(&mut self) -> Vec<Entry>
-        ensures entries { result.items ≡ self.old.kept }
+    /// Takes its entries out, into an empty list, whose memory is for the entries that come. It takes no memory.
+    pub(crate) fn take(&mut self, list: &mut Vec<Entry>)
+        requires { list.old.items ≡ [] }
+        ensures entries { list.new.items ≡ self.old.kept }
         ensures book { (self.new.shaper ≡ self.old.shaper) × (self.new.kept ≡ []) }
-        ensures gone { self.old.gone + length self.old.kept < 2 ^ 64 → self.new.gone ≡ self.old.gone + length self.old.kept }
+        ensures gone { IsCount (self.old.gone + length self.old.kept) self.new.gone }
     {
         let pages = &mut *self.pages;
-        pages.gone = pages.gone.wrapping_add(pages.history.len() as u64);
-        let empty = Vec::new(*pages.history.allocator());
-        mem::replace(&mut pages.history, empty)
+        pages.gone = count_on(pages.gone, pages.history.len());
+        mem::swap(&mut pages.history, list);
     }
 
-    /// How many calls were answered, where those are not 2^64 or more.
+    /// How many calls were answered, up to 2^64 - 1.
     pub(crate) fn place(&self) -> u64
-        ensures { self.now.gone + length self.now.kept < 2 ^ 64 → result ≡ self.now.gone + length self.now.kept }
+        ensures { IsCount (self.now.gone + length self.now.kept) result }
     {
-        self.pages
-            .gone
-            .wrapping_add(self.pages.history.len() as u64)
+        count_on(self.pages.gone, self.pages.history.len())
     }
 
     pub(crate) fn into_history(self) -> Vec<Entry>

@@ -1,16 +1,18 @@
 ghost use Rattle.std.specs.Prelude.{◌≡◌, ◌≢◌, ◌<◌, ◌≤◌, ◌+◌, ◌^◌, [], length, IfOk, IfErr, OnErr};
 
+use crate::after_fault::AfterFault;
 use crate::desk::Desk;
 use crate::lasting::Lasting;
 use crate::lock::{enter, give_back, publish};
 use crate::patience::Patience;
-use crate::placed::{AfterFault, Placed};
+use crate::placed::Placed;
 use crate::rule::BookSeat;
 use crate::seen::Seen;
 use crate::segment::Segment;
 use crate::steps::{Learn, Tell, Witness};
+use crate::try_after_fault::TryAfterFault;
 use crate::try_fault::TryFault;
-use dn_types::{Call, Reply};
+use dn_types::{Call, Entry, Reply};
 use std::alloc::AllocError;
 use std::marker::Model;
 use std::sync::{Arc, Wait};
@@ -46,7 +48,7 @@ impl Model for Caller {
 impl Caller {
     ghost use Rattle.std.specs.Arc.{arc_value};
     ghost use Rattle.dn_service.specs.Callers.{new_caller, IsSameCaller, Answered, NamesAnother, IsOf};
-    ghost use Rattle.dn_service.specs.Lasting.{Takes, Learns};
+    ghost use Rattle.dn_service.specs.Lasting.{Takes, Learns, IsTryAfterFault, IsAfterFault};
     ghost use Rattle.dn_service.specs.Seats.{sitting};
 
     /// The caller of this number, who sits at the seat.
@@ -114,47 +116,67 @@ impl Caller {
         }
     }
 
-    /// Makes a call that comes after `after` others, if no other caller is in one, and tells its place in the history. The place
-    /// of an answer, and one more, is a number that another thread can hand in here, by whatever way it came: its call then comes
-    /// after that answer. `Ahead` says that fewer calls were answered, so that the number is of no answer of this service.
-    pub fn try_call_after(&mut self, after: u64, call: Call) -> Result<Placed, AfterFault>
+    /// Makes a call that comes after `after` others, if no other caller is in one, and reports its place in the history.
+    ///
+    /// The place of a reply, and one more, is a number that another thread can hand in here, by whatever way it came: its call then
+    /// comes after that reply. `Busy(k)` says that caller k was in a call, and `Ahead` that fewer than `after` calls were answered,
+    /// as comes to no number of calls that this caller has seen. `OutOfMemory` says that memory was refused.
+    pub fn try_call_after(&mut self, after: u64, call: Call) -> Result<Placed, TryAfterFault>
         ensures ok { IfOk result (λ placed. Answered self.old call placed.reply self.new) }
         ensures place { IfOk result (λ placed. length self.new.front < 2 ^ 64 → length self.new.front ≡ placed.place + 1) }
         ensures after { IfOk result (λ placed. after ≤ placed.place) }
         ensures same_caller { IsSameCaller self.old self.new }
         ensures err { OnErr result (self.new ≡ self.old) }
-    {
-        self.try_after(after, &call)
-    }
-
-    fn try_after(&mut self, after: u64, call: &Call) -> Result<Placed, AfterFault>
-        ensures ok { IfOk result (λ placed. Answered self.old call.now placed.reply self.new) }
-        ensures place { IfOk result (λ placed. length self.new.front < 2 ^ 64 → length self.new.front ≡ placed.place + 1) }
-        ensures after { IfOk result (λ placed. after ≤ placed.place) }
-        ensures same_caller { IsSameCaller self.old self.new }
-        ensures err { OnErr result (self.new ≡ self.old) }
+        ensures cause { IfErr result (λ fault. IsTryAfterFault self.old after fault) }
     {
         let caller = self.number;
         let desk: &Desk = &self.desk;
         let mut book = match enter(desk, &mut self.seat, caller) {
             Ok(book) => book,
-            Err(holder) => return Err(AfterFault::Busy(holder)),
+            Err(holder) => return Err(TryAfterFault::Busy(holder)),
         };
         let place = book.place();
         if place < after {
             give_back(desk, &mut self.seat, book);
-            return Err(AfterFault::Ahead);
+            return Err(TryAfterFault::Ahead);
         }
-        match book.apply(caller, call) {
+        match book.apply(caller, &call) {
             Ok(reply) => {
                 publish(desk, &mut self.seat, book);
                 Ok(Placed { place, reply })
             }
             Err(_) => {
                 give_back(desk, &mut self.seat, book);
-                Err(AfterFault::OutOfMemory)
+                Err(TryAfterFault::OutOfMemory)
             }
         }
+    }
+
+    /// Makes a call that comes after `after` others, as `try_call_after` does, and waits while other callers are in a call.
+    pub fn call_after<R: Wait>(
+        &mut self,
+        rt: &R,
+        after: u64,
+        call: Call,
+    ) -> Result<Placed, AfterFault>
+        ensures ok { IfOk result (λ placed. Answered self.old call placed.reply self.new) }
+        ensures place { IfOk result (λ placed. length self.new.front < 2 ^ 64 → length self.new.front ≡ placed.place + 1) }
+        ensures after { IfOk result (λ placed. after ≤ placed.place) }
+        ensures same_caller { IsSameCaller self.old self.new }
+        ensures err { OnErr result (self.new ≡ self.old) }
+        ensures cause { IfErr result (λ fault. IsAfterFault self.old after fault) }
+    {
+        let asked = &call;
+        let mut patience = Patience::new();
+        for _ in rt.forever() {
+            match self.try_call_after(after, *asked) {
+                Ok(placed) => return Ok(placed),
+                Err(TryAfterFault::OutOfMemory) => return Err(AfterFault::OutOfMemory),
+                Err(TryAfterFault::Ahead) => return Err(AfterFault::Ahead),
+                Err(TryAfterFault::Busy(_)) => patience.wait(rt, &self.desk.bell),
+            }
+        }
+        unreachable!()
     }
 
     /// Makes a call, and waits while other callers are in one: it spins between its first tries, and then sleeps until a call
@@ -164,17 +186,9 @@ impl Caller {
         ensures same_caller { IsSameCaller self.old self.new }
         ensures err { OnErr result (self.new ≡ self.old) }
     {
-        self.call_in_turn(rt, &call)
-    }
-
-    fn call_in_turn<R: Wait>(&mut self, rt: &R, call: &Call) -> Result<Reply, AllocError>
-        ensures ok { IfOk result (λ reply. Answered self.old call.now reply self.new) }
-        ensures same_caller { IsSameCaller self.old self.new }
-        ensures err { OnErr result (self.new ≡ self.old) }
-    {
         let mut patience = Patience::new();
         for _ in rt.forever() {
-            match self.try_once(call) {
+            match self.try_once(&call) {
                 Ok(reply) => return Ok(reply),
                 Err(TryFault::OutOfMemory) => return Err(AllocError),
                 Err(TryFault::Busy(_)) => patience.wait(rt, &self.desk.bell),
@@ -183,8 +197,9 @@ impl Caller {
         unreachable!()
     }
 
-    /// Takes all entries so far out of the service if no other caller is in a call. It tries once, waits for nobody, and takes
-    /// no memory. `Err(k)` says that caller k was in a call, and then nothing has changed.
+    /// Takes all entries so far out of the service if no other caller is in a call.
+    ///
+    /// It tries once, waits for nobody, and takes no memory. `Err(k)` says that caller k was in a call, and then nothing has changed.
     pub fn try_take(&mut self, lasting: &mut Lasting) -> Result<Segment, usize>
         requires { IsOf lasting.old.service self.old }
         ensures ok { IfOk result (λ s. Takes lasting.old self.old s.start s.entries.items lasting.new self.new) }
@@ -193,20 +208,63 @@ impl Caller {
         ensures same_service { lasting.new.service ≡ lasting.old.service }
         ensures busy { IfErr result (λ k. (k < self.old.service.callers) × (k ≢ self.old.number)) }
     {
-        lasting.take_by(&mut self.seat, self.number)
+        let mut entries = lasting.empty_list();
+        match self.try_take_into(lasting, &mut entries) {
+            Ok(start) => Ok(Segment { start, entries }),
+            Err(holder) => Err(holder),
+        }
     }
 
-    /// The same, and waits while other callers are in a call.
+    /// Takes as `try_take` does, into an empty list, whose memory the next entries take.
+    ///
+    /// It reports how many entries were taken out before.
+    pub fn try_take_into(
+        &mut self,
+        lasting: &mut Lasting,
+        list: &mut Vec<Entry>,
+    ) -> Result<u64, usize>
+        requires caller { IsOf lasting.old.service self.old }
+        requires list { list.old.items ≡ [] }
+        ensures ok { IfOk result (λ start. Takes lasting.old self.old start list.new.items lasting.new self.new) }
+        ensures same_caller { IsSameCaller self.old self.new }
+        ensures err { OnErr result ((self.new ≡ self.old) × (lasting.new ≡ lasting.old) × (list.new ≡ list.old)) }
+        ensures same_service { lasting.new.service ≡ lasting.old.service }
+        ensures busy { IfErr result (λ k. (k < self.old.service.callers) × (k ≢ self.old.number)) }
+    {
+        lasting.take_by(&mut self.seat, self.number, list)
+    }
+
+    /// Takes all entries so far out of the service, and waits while other callers are in a call. It takes no memory.
     pub fn take<R: Wait>(&mut self, rt: &R, lasting: &mut Lasting) -> Segment
         requires { IsOf lasting.old.service self.old }
         ensures taken { Takes lasting.old self.old result.start result.entries.items lasting.new self.new }
         ensures same_caller { IsSameCaller self.old self.new }
         ensures same_service { lasting.new.service ≡ lasting.old.service }
     {
+        let mut entries = lasting.empty_list();
+        let start = self.take_into(rt, lasting, &mut entries);
+        Segment { start, entries }
+    }
+
+    /// Takes as `take` does, into an empty list, whose memory the next entries take.
+    ///
+    /// It reports how many entries were taken out before.
+    pub fn take_into<R: Wait>(
+        &mut self,
+        rt: &R,
+        lasting: &mut Lasting,
+        list: &mut Vec<Entry>,
+    ) -> u64
+        requires caller { IsOf lasting.old.service self.old }
+        requires list { list.old.items ≡ [] }
+        ensures taken { Takes lasting.old self.old result list.new.items lasting.new self.new }
+        ensures same_caller { IsSameCaller self.old self.new }
+        ensures same_service { lasting.new.service ≡ lasting.old.service }
+    {
         let mut patience = Patience::new();
         for _ in rt.forever() {
-            if let Ok(segment) = self.try_take(lasting) {
-                return segment;
+            if let Ok(start) = self.try_take_into(lasting, list) {
+                return start;
             }
             patience.wait(rt, &self.desk.bell);
         }

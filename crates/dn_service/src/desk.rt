@@ -1,5 +1,6 @@
 use crate::bell::Bell;
 use crate::rule::BookTable;
+use std::alloc::Global;
 
 /// What the service and its callers share.
 #[derive(Drop)]
@@ -8,4 +9,6 @@ pub(crate) struct Desk {
     pub(crate) table: BookTable,
     /// Where callers sleep that wait for the book.
     pub(crate) bell: Bell,
+    /// Where the service has its memory from.
+    pub(crate) alloc: Global,
 }

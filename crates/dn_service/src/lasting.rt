@@ -1,4 +1,4 @@
-ghost use Rattle.std.specs.Prelude.{◌≡◌, ◌≢◌, ◌+◌, ◌^◌, ◌<◌, [], All, IfOk, OnErr, IfErr};
+ghost use Rattle.std.specs.Prelude.{◌≡◌, ◌≢◌, ◌+◌, ◌^◌, ◌<◌, [], All, IfOk, OnOk, OnErr, IfErr};
 ghost use Rattle.dn_service.specs.Seats.{IsKeeperOf};
 ghost use Rattle.dn_service.specs.Steps.{Emptied};
 
@@ -8,7 +8,6 @@ use crate::closed::Closed;
 use crate::desk::Desk;
 use crate::lock::{enter, give_empty};
 use crate::rule::BookSeat;
-use crate::segment::Segment;
 use crate::steps::{FirstAlone, Together, Vacate};
 use crate::take_in::{first_missing, leave};
 use crate::unlasting::Unlasting;
@@ -45,24 +44,30 @@ impl Model for Lasting {
         × (length (shed_in s.seat.me.0.shed) < 2 ^ 64 → s.start ≡ length (shed_in s.seat.me.0.shed)) };
 }
 
-/// Takes all entries out of the book, by a seat that stands for the caller `number` alone and has all that was taken out
-/// before. `Err` names the caller that has the book.
-fn empty(desk: &Desk, seat: &mut BookSeat, number: usize) -> Result<Vec<Entry>, usize>
+/// Takes all entries out of the book into an empty list, by a seat that stands for the caller `number` alone and has all that
+/// was taken out before. `Err` names the caller that has the book.
+fn empty(
+    desk: &Desk,
+    seat: &mut BookSeat,
+    number: usize,
+    list: &mut Vec<Entry>,
+) -> Result<(), usize>
     requires table { (seat.old.table_id ≡ desk.now.table.shared.table_id) × (seat.old.table_id.words ≡ 1) }
     requires number { number + 1 < 2 ^ 64 }
     requires seat { IsKeeperOf number seat.old.me }
+    requires list { list.old.items ≡ [] }
     ensures table { (seat.new.table_id ≡ seat.old.table_id) × (seat.new.id ≡ seat.old.id) }
     ensures count { seat.new.me.0.count ≡ seat.old.me.0.count }
     ensures seat { IsKeeperOf number seat.new.me }
-    ensures ok { IfOk result (λ entries. Emptied seat.old.me entries.items seat.new.me) }
-    ensures err { OnErr result (seat.new.me ≡ seat.old.me) }
+    ensures ok { OnOk result (Emptied seat.old.me list.new.items seat.new.me) }
+    ensures err { OnErr result ((seat.new.me ≡ seat.old.me) × (list.new ≡ list.old)) }
     ensures busy { IfErr result (λ k. (k < seat.old.me.0.count) × (k ≢ number)) }
 {
     match enter(desk, seat, number) {
         Ok(mut book) => {
-            let entries = book.take();
+            book.take(list);
             give_empty(desk, seat, book);
-            Ok(entries)
+            Ok(())
         }
         Err(holder) => Err(holder),
     }
@@ -86,16 +91,30 @@ impl Lasting {
         }
     }
 
-    /// Takes all entries out, by the seat of the caller `number`, which is then a seat of that caller again.
-    pub(crate) fn take_by(&mut self, seat: &mut BookSeat, number: usize) -> Result<Segment, usize>
+    /// A list with no entries. It takes no memory.
+    pub(crate) fn empty_list(&self) -> Vec<Entry>
+        ensures { result.items ≡ [] }
+    {
+        Vec::new(self.desk.alloc)
+    }
+
+    /// Takes all entries out into an empty list, by the seat of the caller `number`, which is then a seat of that caller
+    /// again. It reports how many were taken out before.
+    pub(crate) fn take_by(
+        &mut self,
+        seat: &mut BookSeat,
+        number: usize,
+        list: &mut Vec<Entry>,
+    ) -> Result<u64, usize>
         requires caller { IsCallerSeat self.old.service.table number seat.old.table_id seat.old.me }
         requires count { seat.old.me.0.count ≡ self.old.service.callers }
+        requires list { list.old.items ≡ [] }
         ensures table { seat.new.table_id ≡ seat.old.table_id }
         ensures caller { IsCallerSeat seat.old.table_id number seat.new.table_id seat.new.me }
         ensures count { seat.new.me.0.count ≡ seat.old.me.0.count }
-        ensures ok { IfOk result (λ s. Takes self.old (caller_at seat.old.table_id number seat.old.me) s.start s.entries.items
+        ensures ok { IfOk result (λ start. Takes self.old (caller_at seat.old.table_id number seat.old.me) start list.new.items
             self.new (caller_at seat.new.table_id number seat.new.me)) }
-        ensures err { OnErr result ((seat.new.me ≡ seat.old.me) × (self.new ≡ self.old)) }
+        ensures err { OnErr result ((seat.new.me ≡ seat.old.me) × (self.new ≡ self.old) × (list.new ≡ list.old)) }
         ensures busy { IfErr result (λ k. (k < seat.old.me.0.count) × (k ≢ number)) }
     {
         let desk: &Desk = &self.desk;
@@ -103,13 +122,13 @@ impl Lasting {
         desk.table
             .shared
             .join_seat::<Together>(&mut self.seat, mem::replace(seat, vacant));
-        let taken = empty(desk, &mut self.seat, number);
+        let taken = empty(desk, &mut self.seat, number, list);
         *seat = desk.table.shared.split_seat::<FirstAlone>(&mut self.seat);
         match taken {
-            Ok(entries) => {
+            Ok(()) => {
                 let start = self.start;
-                self.start = start.wrapping_add(entries.len() as u64);
-                Ok(Segment { start, entries })
+                self.start = start.wrapping_add(list.len() as u64);
+                Ok(start)
             }
             Err(holder) => Err(holder),
         }

@@ -13,7 +13,7 @@ pub struct Seen {
 
 impl Model for Seen {
     ghost use Rattle.dn_service.specs.Lasting.{SeenView};
-    ghost use Rattle.dn_service.specs.Seats.{IsTokenSeat};
+    ghost use Rattle.dn_service.specs.Tokens.{IsTokenSeat};
 
     ghost Value = { SeenView };
 
@@ -26,7 +26,7 @@ impl Model for Seen {
 }
 
 impl Seen {
-    ghost use Rattle.dn_service.specs.Seats.{IsTokenSeat, witness};
+    ghost use Rattle.dn_service.specs.Tokens.{IsTokenSeat, witness};
 
     pub(crate) fn new(seat: BookSeat) -> Seen
         requires { IsTokenSeat seat.table_id seat.me }

@@ -92,6 +92,7 @@ impl Service {
         let desk = Desk {
             table,
             bell: Bell::new(),
+            alloc,
         };
         let Ok(desk) = Arc::new(alloc, desk) else {
             return Err(OpenFault::OutOfMemory);

@@ -61,7 +61,7 @@ impl Play<Option<Book>, View> for Vacate {
 pub(crate) struct Witness;
 
 impl Split<View> for Witness {
-    ghost use Rattle.dn_service.specs.Seats.{as_it_was, witness_of};
+    ghost use Rattle.dn_service.specs.Tokens.{as_it_was, witness_of};
 
     ghost left = { as_it_was };
 
@@ -94,7 +94,8 @@ impl Join<View> for Together {
 pub(crate) struct Tell;
 
 impl Join<View> for Tell {
-    ghost use Rattle.dn_service.specs.Seats.{told_of, spent};
+    ghost use Rattle.dn_service.specs.Seats.{spent};
+    ghost use Rattle.dn_service.specs.Tokens.{told_of};
 
     ghost both = { told_of };
 

@@ -1,6 +1,5 @@
-use Rattle.std.proofs.Common.{◌≡◌, ◌++◌, [], List, sym, refl, inl, ap, ◌∙◌, subst, append-nil}
+use Rattle.std.proofs.Common.{◌≡◌, ◌++◌, [], sym, refl, inl, ap, ◌∙◌, subst, append-nil}
 use Rattle.dn_types.specs.History.{IsLawful, calls_of}
-use Rattle.dn_types.specs.declared.entry.Entry.{Entry}
 use Rattle.dn_types.specs.declared.rule.Rule.TheVariants.{Ordered}
 use Rattle.dn_shaper.specs.Shaper.{StandsAfter}
 use Rattle.dn_service.specs.Histories.{AreBelow}
@@ -18,14 +17,14 @@ give_empty-requires-clause-shed c = let won = c.in-Ok.ensures.taken in
     (shed_in c.args.seat.now.me.0.shed, ap (λ v. v.shed) won.view ∙ ap (λ x. x.0.shed) c.requires.seat)
 
 pub give_empty-requires-clause-book : goal.give_empty-requires-clause-book
-give_empty-requires-clause-book c = let won = c.in-Ok.ensures.taken in let did = c.take-entries.ensures in (
+give_empty-requires-clause-book c = let won = c.in-Ok.ensures.taken in let did = c.take.ensures in (
   won.past,
   ap (λ v. v.taken) won.view,
   record {
     lawful = won.keeps.lawful;
     stands = subst (λ s. StandsAfter Ordered s (calls_of won.past.history)) (sym did.book.0) won.keeps.stands;
     whole = sym (append-nil won.past.history) ∙ ap (λ h. won.past.history ++ h) (sym did.book.1);
-    gone = λ few. gone_all won.past.history won.past.shed c.in-Ok.book.kept c.in-Ok.book.gone _ won.keeps.whole won.keeps.gone did.gone few;
+    gone = gone_all won.past.history won.past.shed c.in-Ok.book.kept c.in-Ok.book.gone _ won.keeps.whole won.keeps.gone did.gone;
   },
 )
 
@@ -36,8 +35,8 @@ returns-in-Ok-clause-seat c = let won = c.in-Ok.ensures.taken in
 
 pub returns-in-Ok-clause-ok : goal.returns-in-Ok-clause-ok
 returns-in-Ok-clause-ok c = let won = c.in-Ok.ensures.taken in let m = c.args.seat.now.me in
-    let whole : won.past.history ≡ shed_in m.0.shed ++ c.take-entries.result.items =
-    won.keeps.whole ∙ (λ i. sym (won.shed (shed_in m.0.shed) (ap (λ x. x.0.shed) c.requires.seat)) i ++ sym c.take-entries.ensures.entries i) in record {
+    let whole : won.past.history ≡ shed_in m.0.shed ++ c.take.new.list.items =
+    won.keeps.whole ∙ (λ i. sym (won.shed (shed_in m.0.shed) (ap (λ x. x.0.shed) c.requires.seat)) i ++ sym c.take.ensures.entries i) in record {
       now = c.give_empty.ensures.seat won.past (ap (λ v. v.taken) won.view) ∙ ap (λ v. (with_shed v won.past.history, [])) won.view ∙ ap (λ h. (with_shed m.0 h, [])) whole;
       lawful = subst (IsLawful Ordered) whole won.keeps.lawful;
       below = subst (AreBelow m.0.count) whole won.below;

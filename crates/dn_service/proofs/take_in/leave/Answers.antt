@@ -1,10 +1,8 @@
-use Rattle.std.proofs.Common.{arith, ◌≡◌, ◌<◌, ◌++◌, true, [], sym, ap, ◌∙◌, subst, Some, refl}
-use Rattle.dn_types.specs.History.{IsLawful}
-use Rattle.dn_types.specs.declared.rule.Rule.TheVariants.{Ordered}
+use Rattle.std.proofs.Common.{arith, ◌≡◌, ◌<◌, ◌++◌, true, sym, ap, ◌∙◌, subst}
 use Rattle.dn_service.specs.Callers.{has_number, Closes}
 use Rattle.dn_service.specs.Histories.{AreBelow}
 use Rattle.dn_service.specs.Rule.{Follows}
-use Rattle.dn_service.specs.Seats.{keeping, Has, Each, shed_in}
+use Rattle.dn_service.specs.Seats.{Has, Each, shed_in}
 use Rattle.dn_service.proofs.Handing.{account_there, accounted}
 use Rattle.dn_service.proofs.take_in.leave.Goals as goal
 

@@ -2,7 +2,6 @@ use Rattle.std.proofs.Common.{◌≡◌, ◌++◌, ◌∷◌, [], ◌<◌, ◌�
 use Rattle.dn_types.specs.declared.entry.Entry.{Entry}
 use Rattle.dn_service.specs.Callers.{Answered, IsSameCaller}
 use Rattle.dn_service.specs.Histories.{entry_of}
-use Rattle.dn_service.specs.Pasts.{with_entry}
 use Rattle.dn_service.specs.Seats.{Has, with_history}
 use Rattle.dn_service.proofs.Calling.{now_sitting, seen_from, answers, stands_for}
 use Rattle.dn_service.proofs.Lastings.{is_sitting}

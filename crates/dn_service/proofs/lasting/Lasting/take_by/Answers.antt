@@ -1,4 +1,4 @@
-use Rattle.std.proofs.Common.{rules, ◌≡◌, [], ◌∷◌, sym, ap, ◌∙◌, subst}
+use Rattle.std.proofs.Common.{rules, ◌≡◌, [], sym, ap, ◌∙◌}
 use Rattle.dn_service.specs.Seats.{shed_in, spent}
 use Rattle.dn_service.proofs.Handing.{takes_in}
 use Rattle.dn_service.proofs.Lastings.{hands_back}

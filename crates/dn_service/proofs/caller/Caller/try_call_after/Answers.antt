@@ -2,11 +2,10 @@ use Rattle.std.proofs.Common.{length, length-append, arith, ◌+◌, ◌^◌, �
 use Rattle.dn_types.specs.declared.entry.Entry.{Entry}
 use Rattle.dn_service.specs.Callers.{Answered, IsSameCaller}
 use Rattle.dn_service.specs.Histories.{entry_of}
-use Rattle.dn_service.specs.Pasts.{with_entry}
 use Rattle.dn_service.specs.Seats.{Has, with_history, front_in}
-use Rattle.dn_service.proofs.Calling.{now_sitting, seen_from, answers, stands_for}
-use Rattle.dn_service.proofs.Lastings.{is_sitting, placed}
-use Rattle.dn_service.proofs.caller.Caller.try_after.Goals as goal
+use Rattle.dn_service.proofs.Calling.{now_sitting, seen_from, answers, stands_for, has_seen}
+use Rattle.dn_service.proofs.Lastings.{is_sitting, gone_all, seen_less}
+use Rattle.dn_service.proofs.caller.Caller.try_call_after.Goals as goal
 
 pub apply-requires : goal.apply-requires
 apply-requires c = let won = c.in-Ok.ensures.taken in (won.past, won.keeps)
@@ -15,7 +14,7 @@ pub publish-requires-clause-book : goal.publish-requires-clause-book
 publish-requires-clause-book c =
     let m = c.self.inside.seat.me in let k = c.self.inside.number in let is = c.self.invariant.sits in
     let won = c.in-Ok.ensures.taken in
-    let e : Entry = entry_of k c.args.call.now c.in-Ok-apply.reply in
+    let e : Entry = entry_of k c.args.call c.in-Ok-apply.reply in
     (won.past, e, ap (λ v. v.taken) won.view, c.in-Ok-apply.ensures.ok won.past won.keeps, subst (Has k) (sym (ap (λ v. v.accounts) won.view)) (stands_for k m is))
 
 pub give_back-requires-clause-book : goal.give_back-requires-clause-book
@@ -58,21 +57,21 @@ pub returns-in-Ok-apply-clause-ok : goal.returns-in-Ok-apply-clause-ok
 returns-in-Ok-apply-clause-ok c =
     let m = c.self.inside.seat.me in let k = c.self.inside.number in let is = c.self.invariant.sits in
     let won = c.in-Ok.ensures.taken in let history : List Entry = won.past.history in
-    let e : Entry = entry_of k c.args.call.now c.in-Ok-apply.reply in
+    let e : Entry = entry_of k c.args.call c.in-Ok-apply.reply in
     let kept = c.in-Ok-apply.ensures.ok won.past won.keeps in
     let later : history ++ e ∷ [] ≡ won.past.shed ++ c.apply.new.self.kept = kept.whole in
     let now =
     now_sitting k m c.publish.new.seat.me c.enter.new.seat.me.0 won.past (history ++ e ∷ []) is won.view
     (c.publish.ensures.seat won.past (ap (λ v. v.taken) won.view) ∙ ap (λ h. (with_history c.enter.new.seat.me.0 h, [])) (sym later)) in
-    subst (λ v. Answered v c.args.call.now c.in-Ok-apply.reply (seen_from c.publish.new.seat.table_id k c.publish.new.seat.me)) c.self.view_is
-    (answers c.self.inside.seat.table_id k m c.publish.new.seat.me c.publish.new.seat.table_id history c.args.call.now c.in-Ok-apply.reply is c.self.invariant.below
+    subst (λ v. Answered v c.args.call c.in-Ok-apply.reply (seen_from c.publish.new.seat.table_id k c.publish.new.seat.me)) c.self.view_is
+    (answers c.self.inside.seat.table_id k m c.publish.new.seat.me c.publish.new.seat.table_id history c.args.call c.in-Ok-apply.reply is c.self.invariant.below
     kept.lawful won.below won.follows now)
 
 pub returns-in-Ok-apply-clause-place : goal.returns-in-Ok-apply-clause-place
 returns-in-Ok-apply-clause-place c = λ few.
     let m = c.self.inside.seat.me in let k = c.self.inside.number in let is = c.self.invariant.sits in
     let won = c.in-Ok.ensures.taken in let history : List Entry = won.past.history in
-    let e : Entry = entry_of k c.args.call.now c.in-Ok-apply.reply in
+    let e : Entry = entry_of k c.args.call c.in-Ok-apply.reply in
     let kept = c.in-Ok-apply.ensures.ok won.past won.keeps in
     let now =
     now_sitting k m c.publish.new.seat.me c.enter.new.seat.me.0 won.past (won.past.shed ++ c.apply.new.self.kept) is won.view
@@ -80,5 +79,15 @@ returns-in-Ok-apply-clause-place c = λ few.
     let front : front_in c.publish.new.seat.me.0.accounts ≡ history ++ e ∷ [] = ap (λ x. front_in x.0.accounts) now ∙ sym kept.whole in
     let size : length (front_in c.publish.new.seat.me.0.accounts) ≡ length history + 1 = ap length front ∙ length-append history (e ∷ []) in
     let place : length history < 2 ^ 64 → c.place-place.result ≡ length history =
-    placed history won.past.shed c.in-Ok.book.kept c.in-Ok.book.gone c.place-place.result won.keeps.whole won.keeps.gone c.place-place.ensures in
+    (gone_all history won.past.shed c.in-Ok.book.kept c.in-Ok.book.gone c.place-place.result won.keeps.whole won.keeps.gone c.place-place.ensures).0 in
     let same = place (omega (arith, size, few)) in omega (arith, size, same)
+
+pub returns-then-place-after-clause-cause : goal.returns-then-place-after-clause-cause
+returns-then-place-after-clause-cause c =
+    let m = c.self.inside.seat.me in let k = c.self.inside.number in let is = c.self.invariant.sits in
+    let won = c.in-Ok.ensures.taken in
+    let front : front_in m.0.accounts ≡ c.args.self.now.front = ap (λ v. v.front) c.self.view_is in
+    subst (λ f. length f < c.args.after) front
+    (seen_less won.past.history (front_in m.0.accounts) c.place-place.result c.args.after (has_seen k m is won.past.history won.follows).front
+    (gone_all won.past.history won.past.shed c.in-Ok.book.kept c.in-Ok.book.gone c.place-place.result won.keeps.whole won.keeps.gone c.place-place.ensures)
+    (omega arith) (omega arith))
