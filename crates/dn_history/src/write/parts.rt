@@ -38,29 +38,22 @@ fn end_text(alloc: Global, count: usize) -> Result<Vec<u8>, AllocError>
     Ok(writer.into_text())
 }
 
-/// Writes a text that was made, if it was.
-fn write_made<O: Outlet>(out: &mut O, text: &[u8]) -> Result<(), ReplayFault>
-    requires { O.has_failed out.old ≡ false }
-    ensures ok { OnOk result (Appends (O.contents out.old) (O.contents out.new) text.now) }
-    ensures sound { OnOk result (O.has_failed out.new ≡ false) }
-    ensures err { IfErr result (λ fault. IsUnwritten History text.now (O.contents out.old) (O.contents out.new) (O.has_failed out.new) fault) }
-{
-    write_text(out, Source::History, text)
-}
-
-/// Writes the front of a history file.
+/// Writes the front of a history file. It reports `OutOfMemory` where memory was refused, and then has written nothing, and
+/// `Write(History)` where a write failed.
 pub fn write_history_front<O: Outlet>(alloc: Global, out: &mut O) -> Result<(), ReplayFault>
     requires { O.has_failed out.old ≡ false }
     ensures ok { OnOk result (Appends (O.contents out.old) (O.contents out.new) history_front) }
     ensures sound { OnOk result (O.has_failed out.new ≡ false) }
+    ensures err { IfErr result (λ fault. IsUnwritten History history_front (O.contents out.old) (O.contents out.new) (O.has_failed out.new) fault) }
 {
     match front_text(alloc) {
-        Ok(text) => write_made(out, text.as_slice()),
+        Ok(front) => write_text(out, Source::History, front.as_slice()),
         Err(_) => Err(ReplayFault::OutOfMemory),
     }
 }
 
-/// Writes the entries that come next. Memory is taken for their text alone.
+/// Writes the entries that come next in a history file. Memory is taken for their text alone. It reports `OutOfMemory` where
+/// memory was refused, and then has written nothing, and `Write(History)` where a write failed.
 pub fn write_history_part<O: Outlet>(
     alloc: Global,
     entries: &[Entry],
@@ -69,14 +62,16 @@ pub fn write_history_part<O: Outlet>(
     requires { O.has_failed out.old ≡ false }
     ensures ok { OnOk result (Appends (O.contents out.old) (O.contents out.new) (part_text entries.now)) }
     ensures sound { OnOk result (O.has_failed out.new ≡ false) }
+    ensures err { IfErr result (λ fault. IsUnwritten History (part_text entries.now) (O.contents out.old) (O.contents out.new) (O.has_failed out.new) fault) }
 {
     match part_text(alloc, entries) {
-        Ok(text) => write_made(out, text.as_slice()),
+        Ok(part) => write_text(out, Source::History, part.as_slice()),
         Err(_) => Err(ReplayFault::OutOfMemory),
     }
 }
 
-/// Writes the end of a history file of so many entries in all.
+/// Writes the end of a history file of so many entries in all. It reports `OutOfMemory` where memory was refused, and then has
+/// written nothing, and `Write(History)` where a write failed.
 pub fn write_history_end<O: Outlet>(
     alloc: Global,
     count: usize,
@@ -85,9 +80,10 @@ pub fn write_history_end<O: Outlet>(
     requires { O.has_failed out.old ≡ false }
     ensures ok { OnOk result (Appends (O.contents out.old) (O.contents out.new) (history_end count)) }
     ensures sound { OnOk result (O.has_failed out.new ≡ false) }
+    ensures err { IfErr result (λ fault. IsUnwritten History (history_end count) (O.contents out.old) (O.contents out.new) (O.has_failed out.new) fault) }
 {
     match end_text(alloc, count) {
-        Ok(text) => write_made(out, text.as_slice()),
+        Ok(end) => write_text(out, Source::History, end.as_slice()),
         Err(_) => Err(ReplayFault::OutOfMemory),
     }
 }
