@@ -1,11 +1,17 @@
+ghost use Rattle.std.specs.Prelude.{◌≡◌};
+ghost use Rattle.dn_service.specs.Callers.{IsSameCaller};
+
 use crate::kind::{Kind, before, count_before, measured};
-use dn_service::{Caller, Service};
+use dn_service::{Caller, Service, Taker};
 use dn_shaper::Shaper;
 use std::alloc::Global;
 use std::sync::Wait;
 use std::thread::Threads;
 use std::time::{Clock, Instant};
 use std::{io, thread};
+
+/// Entries are taken out behind so many calls.
+const SEGMENT: u64 = 10_000;
 
 /// Makes the calls before those that are measured.
 fn prepare_alone(shaper: &mut Shaper, kind: Kind) {
@@ -17,7 +23,9 @@ fn prepare_alone(shaper: &mut Shaper, kind: Kind) {
 }
 
 /// Makes the calls before those that are measured, by the first caller.
-fn prepare<R: Wait>(rt: &R, caller: &mut Caller, kind: Kind) {
+fn prepare<R: Wait>(rt: &R, caller: &mut Caller, kind: Kind)
+    ensures { IsSameCaller caller.old caller.new }
+{
     for place in 0..count_before(kind) {
         if let Some(call) = before(kind, place) {
             let _ = caller.call(rt, call);
@@ -46,6 +54,30 @@ fn answered_to<R: Wait>(rt: &R, mut caller: Caller, kind: Kind, calls: u64) -> u
             if caller.call(rt, call).is_ok() {
                 answered = answered.wrapping_add(1);
             }
+        }
+    }
+    answered
+}
+
+/// The same, and the entries are taken out behind each `SEGMENT` calls.
+fn answered_and_taken<R: Wait>(
+    rt: &R,
+    alloc: Global,
+    taker: &mut Taker,
+    kind: Kind,
+    calls: u64,
+) -> u64 {
+    let mut answered = 0u64;
+    let mut list = Vec::new(alloc);
+    for moment in 0..calls {
+        if let Some(call) = measured(kind, moment) {
+            if taker.call(rt, call).is_ok() {
+                answered = answered.wrapping_add(1);
+            }
+        }
+        if moment % SEGMENT == SEGMENT - 1 {
+            list.clear();
+            let _ = taker.take_into(rt, &mut list);
         }
     }
     answered
@@ -94,6 +126,29 @@ fn measure<R: Wait + Threads + Sync + Clock>(
     Ok(Tally { answered, nanos })
 }
 
+/// So many calls on a service that lasts, by one caller that takes the entries out.
+fn measure_taking<R: Wait + Clock>(
+    rt: &R,
+    alloc: Global,
+    kind: Kind,
+    calls: u64,
+) -> io::Result<Tally> {
+    let mut answered = 0u64;
+    let Ok((service, mut opened)) = Service::open(alloc, 1) else {
+        return Ok(Tally { answered, nanos: 0 });
+    };
+    let lasting = service.lasting();
+    let Some(mut caller) = opened.pop() else {
+        return Ok(Tally { answered, nanos: 0 });
+    };
+    prepare(rt, &mut caller, kind);
+    let mut taker = Taker::new(lasting, caller);
+    let start = Instant::now(rt)?;
+    answered = answered_and_taken(rt, alloc, &mut taker, kind, calls);
+    let nanos = start.elapsed(rt)?.as_nanos();
+    Ok(Tally { answered, nanos })
+}
+
 /// Measures so many calls of each kind, and tells what was answered and in what time.
 pub fn measure_all<R: Wait + Threads + Clock + Sync + AllocGlobal + Print + Eprint>(
     rt: &R,
@@ -114,6 +169,9 @@ fn measure_kind<R: Wait + Threads + Clock + Sync + AllocGlobal + Print + Eprint>
     let Tally { answered, nanos } = measure_alone(rt, kind, calls)?;
     println!(rt; "no service: {answered} {name}")?;
     eprintln!(rt; "no service: {nanos} ns for {answered} {name}")?;
+    let Tally { answered, nanos } = measure_taking(rt, rt.alloc(), kind, calls)?;
+    println!(rt; "1 caller that takes: {answered} {name}")?;
+    eprintln!(rt; "1 caller that takes: {nanos} ns for {answered} {name}")?;
     for callers in [1usize, 2, 4, 8, 16] {
         let Tally { answered, nanos } = measure(rt, rt.alloc(), callers, kind, calls)?;
         println!(rt; "{callers} callers: {answered} {name}")?;
