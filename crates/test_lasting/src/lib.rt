@@ -6,4 +6,8 @@ mod calls;
 #[cfg(test)]
 mod lasting;
 #[cfg(test)]
+mod order;
+#[cfg(test)]
+mod parts;
+#[cfg(test)]
 mod threads;
