@@ -1,67 +1,158 @@
-"""asyncio in simulated time: moments are exact, runs repeat, what can't go on is told, and the history is lawful."""
+"""asyncio in simulated time: moments worked out by hand, runs that repeat, what can't go on, and histories that are lawful.
+
+A packet of 1,000 bytes takes 1 ms at 8 Mbit/s; a datagram has 28 bytes more than its data.
+"""
 
 from __future__ import annotations
 
 import asyncio
+import os
+import random
 import subprocess
+import sys
 import tempfile
 import time
 import unittest
+import uuid
 from pathlib import Path
 
+from hingetulip import LineError, Outcome, aio
+from hingetulip.aio import private_names
+from simulated_hosts import PROGRAM, Ends, exchange, network, opened
+
+MS = 10**6  # ns
+RUN = """
+import sys
+sys.path[:0] = {path!r}
+import random
 from hingetulip import aio
+from simulated_hosts import exchange, network, opened
 
-PROGRAM = Path(__file__).resolve().parents[2] / "release" / "dummynet"
+async def bye(net, host, number):
+    ends = await opened(remote=("10.0.0.2", 7))
+    try:
+        await net.loop.create_future()
+    finally:
+        ends.transport.sendto(b"bye" * number)
 
+async def main(net):
+    hosts = {{f"10.0.0.{{n}}" for n in range(3, 20)}}
+    for number, name in enumerate(sorted(hosts)):
+        net.path(net.host(name), net.hosts["10.0.0.2"], "1Mbit/s 5ms")
+        net.hosts[name].create_task(bye(net, name, number + 1))
+    for _ in range(10):
+        await exchange(net, random.randrange(3, 9), random.random())
+        next(iter(net.hosts.values())).sockets.clear()
+        net.hosts["10.0.0.2"].sockets.clear()
 
-class Ends(asyncio.DatagramProtocol):
-    """Answers where it is told to, and keeps when what came."""
-
-    def __init__(self, answers: bool = False) -> None:
-        self.answers, self.got = answers, []
-
-    def connection_made(self, transport: aio.Transport) -> None:
-        self.transport = transport
-
-    def datagram_received(self, data: bytes, source: aio.Address) -> None:
-        self.got.append((data, source, self.transport.host.net.loop.clock.now))
-        if self.answers:
-            self.transport.sendto(data, source)
-
-
-async def exchange(net: aio.Network, count: int, pause: float) -> Ends:
-    loop, (one, other) = net.loop, list(net.hosts.values())[:2]
-
-    async def serve() -> None:
-        await loop.create_datagram_endpoint(lambda: Ends(True), ("0.0.0.0", 7))
-
-    async def ask() -> Ends:
-        transport, ends = await loop.create_datagram_endpoint(Ends, remote_addr=(other.name, 7))
-        for number in range(count):
-            transport.sendto(b"%d" % number)
-            await asyncio.sleep(pause)
-        return ends
-
-    await other.create_task(serve())
-    return await one.create_task(ask())
+with network("8Mbit/s 20ms plr 0.1", seed=5, history=sys.argv[1]) as net:
+    net.run(main(net))
+"""
 
 
-def network(options: str, **more: object) -> aio.Network:
-    net = aio.Network(**more)
-    net.path(net.host("10.0.0.1"), net.host("10.0.0.2"), options)
-    return net
+def text_of_run(folder: str, hash_seed: str) -> str:
+    """The history of a process of its own."""
+    history = Path(folder) / f"h{hash_seed}"
+    subprocess.run([sys.executable, "-c", RUN.format(path=sys.path), history], check=True, env={**os.environ, "PYTHONHASHSEED": hash_seed})
+    return history.read_text()
 
 
-class Simulated(unittest.TestCase):
-    def test_moments_are_exact_after_an_hour(self) -> None:
+class Moments(unittest.TestCase):
+    def test_after_an_hour(self) -> None:
         with network("bw 8Mbit/s delay 20ms") as net:
             async def main() -> Ends:
                 await asyncio.sleep(3600.000000123)
                 return await exchange(net, 1, 1)
 
-            ends = net.run(main())
-            self.assertEqual([it[2] for it in ends.got], [3_600_000_000_123 + 2 * (20_000_000 + 29_000)])
+            self.assertEqual([it[2] for it in net.run(main()).got], [3_600_000_000_123 + 2 * (20 * MS + 29_000)])
 
+    def test_timers_are_whole_ns(self) -> None:
+        net, found = aio.Network(), []
+
+        async def main() -> None:
+            for delay in (3e-9, 1e-9, 2e-9, 86_400.000000001, 4e-10):
+                net.loop.call_later(delay, lambda: found.append(net.loop.clock.now))
+            await asyncio.sleep(100_000)
+
+        net.run(main())
+        net.close()
+        self.assertEqual(found, [1, 1, 2, 3, 86_400_000_000_001])
+
+    def test_several_hops(self) -> None:
+        with aio.Network() as net:
+            one, middle, far = (net.host(f"10.0.{n}.1") for n in range(3))
+            net.path(one, middle, "8Mbit/s 1ms")
+            net.path(middle, far, "4Mbit/s 3ms")
+
+            async def main() -> tuple[Ends, Ends]:
+                there = await far.create_task(opened(True, ("0.0.0.0", 7)))
+                ends = await one.create_task(opened(remote=("10.0.2.1", 7)))
+                ends.transport.sendto(bytes(972))
+                await asyncio.sleep(1)
+                return there, ends
+
+            there, ends = net.run(main())
+            self.assertEqual([it[1:] for it in there.got], [(("10.0.0.1", 49152), 7 * MS)])
+            self.assertEqual([it[1:] for it in ends.got], [(("10.0.2.1", 7), 14 * MS)])
+
+    def test_a_route_of_choice(self) -> None:
+        with aio.Network() as net:
+            one, middle, far = (net.host(f"10.0.{n}.1") for n in range(3))
+            for near, other, delay in ((one, far, 50), (one, middle, 1), (middle, far, 1)):
+                net.path(near, other, f"{delay}ms")
+            net.route(one, far, via=middle)
+            net.host("10.0.0.1")
+
+            async def main() -> Ends:
+                there = await far.create_task(opened(True, ("0.0.0.0", 7)))
+                (await one.create_task(opened(remote=("10.0.2.1", 7)))).transport.sendto(b"x")
+                await asyncio.sleep(1)
+                return there
+
+            self.assertEqual([it[2] for it in net.run(main()).got], [2 * MS])
+
+    def test_change_keeps_the_other_options(self) -> None:
+        with network("bw 8Mbit/s delay 20ms plr 1 queue 5") as net:
+            link = net.links[tuple(net.hosts.values())]
+            link.change(plr=0)
+            self.assertEqual(link.line, "pipe 1 config bw 8Mbit/s delay 20ms plr 0 queue 5")
+            link.change(plr=0.000001, delay=None, mask="src-ip 0xff")
+            self.assertEqual(link.line, "pipe 1 config bw 8Mbit/s plr 0.000001 queue 5 mask src-ip 0xff")
+            link.configure("loss 0.5% 4ms 1MByte/s")
+            self.assertEqual(link.line, "pipe 1 config plr 0.005 delay 4ms bw 1MByte/s")
+            with self.assertRaises(LineError):
+                link.change(plr="a lot")
+
+    def test_a_change_under_way(self) -> None:
+        with network("delay 10ms") as net:
+            async def main() -> Ends:
+                net.loop.call_later(2.5, lambda: net.links[tuple(net.hosts.values())].change(delay=100))
+                return await exchange(net, 5, 1)
+
+            took = [at - second * 1000 * MS for second, (_, _, at) in enumerate(net.run(main()).got)]
+            self.assertEqual(took, [20 * MS] * 3 + [110 * MS] * 2)
+
+    def test_classes_share_a_link_by_weight(self) -> None:
+        with aio.Network() as net:
+            one, other = net.host("10.0.0.1"), net.host("10.0.0.2")
+            net.link(one, other, "8Mbit/s", classes={"heavy": "weight 3 queue 100", "light": "queue 100"},
+                     classify=lambda it: "heavy" if it.target[1] == 7 else "light")
+
+            async def main() -> list[Ends]:
+                found = [await other.create_task(opened(local=("0.0.0.0", port))) for port in (7, 8)]
+                ends = await one.create_task(opened())
+                for _ in range(80):
+                    for port in (7, 8):
+                        ends.transport.sendto(bytes(972), ("10.0.0.2", port))
+                await asyncio.sleep(0.0405)
+                return found
+
+            heavy, light = (len(ends.got) for ends in net.run(main()))
+            self.assertEqual(heavy + light, 40)
+            self.assertAlmostEqual(heavy, 30, delta=2)  # one packet of each class more, at the ends of a share
+
+
+class Repeats(unittest.TestCase):
     def test_an_hour_takes_no_time_and_repeats(self) -> None:
         began, found = time.monotonic(), []
         for seed in (1, 1, 2):
@@ -69,37 +160,199 @@ class Simulated(unittest.TestCase):
                 found.append((net.run(exchange(net, 3600, 1)).got, net.report()))
         self.assertEqual(found[0], found[1])
         self.assertNotEqual(found[0], found[2])
-        self.assertLess(time.monotonic() - began, 30)
+        self.assertLess(time.monotonic() - began, 60)
 
-    def test_the_history_is_lawful(self) -> None:
+    def test_histories_of_processes_are_equal_under_any_hash_seed(self) -> None:
+        with tempfile.TemporaryDirectory() as folder:
+            found = {text_of_run(folder, hash_seed) for hash_seed in ("0", "1", "2", "77")}
+        self.assertEqual(len(found), 1)
+
+    def test_sets_of_tasks_have_one_order(self) -> None:
+        async def main() -> list[str]:
+            tasks = [asyncio.get_running_loop().create_task(asyncio.sleep(1), name=str(n)) for n in range(60)]
+            done, _ = await asyncio.wait(tasks)
+            return [task.get_name() for task in done]
+
+        self.assertEqual(*(aio.run(main()) for _ in range(2)))
+
+    def test_one_direction_never_changes_the_losses_of_the_other(self) -> None:
+        lost = []
+        for back in ("plr 0", "plr 0.5"):
+            with aio.Network(seed=3) as net:
+                net.path(net.host("10.0.0.1"), net.host("10.0.0.2"), "plr 0.2", back)
+                net.run(exchange(net, 100, 1))
+                lost.append([it.moment for it in net.dropped if it.target[0] == "10.0.0.2"])
+        self.assertEqual(lost[0], lost[1])
+        self.assertGreater(len(lost[0]), 5)
+
+    def test_a_model_of_loss(self) -> None:
+        class Third:
+            count = 0
+
+            def next(self) -> int:
+                self.count += 1
+                return 0 if self.count % 3 == 0 else 2**31 - 1
+
+        with aio.Network() as net:
+            one, other = net.host("10.0.0.1"), net.host("10.0.0.2")
+            net.link(one, other, "1ms", loss=Third())
+            net.link(other, one)
+            net.run(exchange(net, 9, 1))
+            self.assertEqual([it.data for it in net.dropped], [b"2", b"5", b"8"])
+
+    def test_clock_and_random_numbers_of_python(self) -> None:
+        async def main() -> list[object]:
+            found = [time.time(), time.monotonic_ns(), random.random(), uuid.uuid4().hex, os.urandom(4)]
+            await asyncio.sleep(90)
+            return [*found, time.time(), time.monotonic(), time.perf_counter_ns()]
+
+        before = time.monotonic
+        first, again = (aio.run(main(), seed=9) for _ in range(2))
+        self.assertEqual(first, again)
+        self.assertEqual((first[5] - first[0], first[6], first[7]), (90, 90, 90 * 10**9))
+        self.assertIs(time.monotonic, before)
+
+
+class Histories(unittest.TestCase):
+    def test_a_history_is_lawful_and_plain(self) -> None:
         with tempfile.TemporaryDirectory() as folder:
             history = Path(folder) / "h"
             with network("bw 64Kbit/s plr 0.1 queue 2", history=history) as net:
-                net.run(exchange(net, 200, 0.002))
-                full = sum(it.outcome.name == "FULL" for it in net.log)
-            self.assertGreater(full, 0)
-            done = subprocess.run([PROGRAM, "audit", history], capture_output=True, text=True)
-            self.assertRegex(done.stdout, r"^lawful \d+\n$")
+                async def main() -> None:
+                    net.loop.call_later(0.1, lambda: net.links[tuple(net.hosts.values())].change(bw="32Kbit/s"))
+                    await exchange(net, 200, 0.002)
 
+                net.run(main())
+                dropped = list(net.dropped)
+            self.assertEqual({it.outcome for it in dropped}, {Outcome.LOST, Outcome.FULL})
+            lines = history.read_text().splitlines()
+            done = subprocess.run([PROGRAM, "audit", history], capture_output=True, text=True)
+        self.assertRegex(done.stdout, r"^lawful \d+\n$")
+        self.assertEqual(lines[0], "dummynet-history,3")
+        self.assertEqual([it for it in lines if it.startswith("#")], [])
+        replies = [reply for call, reply in zip(lines, lines[1:]) if call.startswith("c,0,submit")]
+        self.assertEqual([it.row for it in dropped], [row for row, reply in enumerate(replies, 1) if not reply.startswith("r,queued")])
+
+
+class Faults(unittest.TestCase):
     def test_what_cannot_go_on(self) -> None:
         with network("") as net:
             async def waits() -> None:
                 await net.loop.create_future()
 
-            with self.assertRaisesRegex(aio.Stuck, "nothing can happen any more"):
+            async def asks() -> None:
+                while True:
+                    await asyncio.sleep(0)
+
+            with self.assertRaisesRegex(aio.Stuck, r"(?s)at 0\.000000000 s nothing can happen any more.*waits in waits, .*test_aio.py:\d+: await"):
                 net.run(waits())
-            with self.assertRaises(asyncio.TimeoutError):
+            with self.assertRaisesRegex(asyncio.TimeoutError, "after 5 s of simulated time.*\n.*waits in waits"):
                 net.run(waits(), timeout=5)
+            with self.assertRaisesRegex(aio.Stuck, "a task asks again and again"):
+                net.run(asks())
+
+    def test_names_the_hosts_of_those_who_wait(self) -> None:
+        with network("") as net:
+            async def waits() -> None:
+                await asyncio.Queue().get()
+
+            async def main() -> None:
+                await net.hosts["10.0.0.2"].create_task(waits(), name="reader")
+
+            with self.assertRaisesRegex(aio.Stuck, r"reader on 10\.0\.0\.2 waits in waits, .*await asyncio.Queue\(\).get\(\)"):
+                net.run(main())
+
+    def test_what_is_left_out(self) -> None:
+        with network("") as net:
+            one = net.hosts["10.0.0.1"]
             with self.assertRaisesRegex(RuntimeError, "runs on no host"):
-                net.run(net.loop.create_datagram_endpoint(Ends, ("0.0.0.0", 7)))
-            with self.assertRaises(NotImplementedError):
+                net.run(opened(local=("0.0.0.0", 7)))
+            with self.assertRaisesRegex(NotImplementedError, "hinge run"):
                 net.run(asyncio.open_connection("10.0.0.2", 80))
+            with self.assertRaises(OSError):
+                net.run(one.net.loop.getaddrinfo("nobody", 1))
 
-    def test_a_link_that_changes(self) -> None:
-        with network("delay 10ms") as net:
-            async def main() -> Ends:
-                net.loop.call_later(2.5, net.links["10.0.0.1", "10.0.0.2"].configure, "delay 100ms")
-                return await exchange(net, 5, 1)
+            async def elsewhere() -> None:
+                with self.assertRaises(OSError):
+                    await one.create_task(opened(local=("10.0.0.2", 1)))
+                await one.create_task(opened(local=("10.0.0.1", 5)))
+                with self.assertRaises(OSError):
+                    await one.create_task(opened(local=("0.0.0.0", 5)))
 
-            took = [at - second * 10**9 for second, (_, _, at) in enumerate(net.run(main()).got)]
-            self.assertEqual(took, [20_000_000] * 3 + [110_000_000] * 2)
+            net.run(elsewhere())
+
+    def test_what_a_socket_refuses(self) -> None:
+        with network("") as net:
+            net.host("10.0.0.9")
+
+            async def main() -> list[Exception]:
+                ends = await opened()
+                with self.assertRaises(OSError):
+                    ends.transport.sendto(b"to nobody")
+                with self.assertRaises(TypeError):
+                    ends.transport.sendto("text", ("10.0.0.2", 1))
+                for data, host in ((bytes(65508), "10.0.0.2"), (b"x", "10.0.0.9"), (b"x", "10.9.9.9"), (bytes(65507), "10.0.0.2")):
+                    ends.transport.sendto(data, (host, 1))
+                await asyncio.sleep(1)
+                connected = await opened(remote=("10.0.0.2", 1))
+                with self.assertRaises(ValueError):
+                    connected.transport.sendto(b"x", ("10.0.0.9", 1))
+                return ends.faults
+
+            async def on_host() -> list[Exception]:
+                return await net.hosts["10.0.0.1"].create_task(main())
+
+            self.assertEqual([it.errno for it in net.run(on_host())], [90, 101, 101])  # EMSGSIZE, ENETUNREACH
+            self.assertEqual(dict(net.unrouted), {"10.0.0.1 > 10.0.0.9": 1, "10.0.0.1 > 10.9.9.9": 1})
+            self.assertEqual(dict(net.unheard), {"10.0.0.2:1": 1})
+
+    def test_another_asyncio(self) -> None:
+        self.assertEqual(private_names.changed(vars(asyncio.BaseEventLoop)), [])
+        without = {**vars(asyncio.BaseEventLoop), "run_forever": len}
+        self.assertEqual(private_names.changed(without), ["BaseEventLoop.run_forever without _run_once"])
+
+
+class Loops(unittest.TestCase):
+    def test_executor_names_and_own_datagrams(self) -> None:
+        async def on_host() -> object:
+            loop = asyncio.get_running_loop()
+            there = await opened(local=("127.0.0.1", 7))
+            ends = await opened(remote=("localhost", 7))
+            ends.transport.sendto(b"own")
+            server = (await loop.getaddrinfo("server", 5))[0][4]
+            await asyncio.sleep(0.001)
+            threaded = await loop.run_in_executor(None, lambda: 5)
+            return there.got[0][:2], server, threaded, aio.current_host().name
+
+        async def main() -> object:
+            net = aio.network()
+            net.host("10.0.0.2", "10.0.1.2", name="server")
+            return await net.host("10.0.0.1", name="client").create_task(on_host())
+
+        self.assertEqual(aio.run(main()), ((b"own", ("10.0.0.1", 49152)), ("10.0.0.2", 5), 5, "client"))
+
+    def test_no_simulated_loop(self) -> None:
+        async def main() -> aio.Network:
+            return aio.network()
+
+        with self.assertRaisesRegex(RuntimeError, "simulated time"):
+            asyncio.run(main())
+
+    def test_a_close_runs_the_ends_of_tasks_in_their_order(self) -> None:
+        ended = []
+
+        async def waits(number: int) -> None:
+            try:
+                await asyncio.get_running_loop().create_future()
+            finally:
+                ended.append(number)
+                await asyncio.sleep(1)
+
+        with aio.Network() as net:
+            async def main() -> None:
+                for number in range(50):
+                    net.loop.create_task(waits(number))
+                await asyncio.sleep(1)
+
+            net.run(main())
+        self.assertEqual(ended, list(range(50)))

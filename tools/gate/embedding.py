@@ -98,7 +98,7 @@ def manual(tally: Tally, prefix: Prefix) -> None:
 
 def tried(tally: Tally, folder: Path, place: Path) -> None:
     prefix = Prefix(folder, place)
-    module = [f"lib/{it.relative_to(TOP)}" for it in (TOP / "python" / "hingetulip").iterdir() if it.suffix in (".py", ".typed")]
+    module = [f"lib/{it.relative_to(TOP)}" for it in (TOP / "python" / "hingetulip").rglob("*") if it.suffix in (".py", ".typed")]
     tally.equal("what is installed", sorted(INSTALLED + module), sorted(str(it.relative_to(folder)) for it in folder.rglob("*") if not it.is_dir()))
     if shutil.which("pkg-config"):
         from_c(tally, prefix)

@@ -1,0 +1,62 @@
+"""What the loop waits on in place of sockets: it moves the clock to the next timer or to the next moment of a link."""
+
+from __future__ import annotations
+
+from typing import TYPE_CHECKING, Callable, Optional, Sequence
+
+from hingetulip.aio.datagram import NS
+from hingetulip.aio.waiting import waiting
+from hingetulip.library import LAST_MOMENT
+
+if TYPE_CHECKING:
+    from hingetulip.aio.loop import Loop
+
+MOST_STEPS = 100_000  # of the loop while the clock stays where it is
+
+
+class Stuck(RuntimeError):
+    """Nothing can happen any more. The text has the tasks that wait, and for what."""
+
+
+class Clock:
+    """A clock in whole ns, in the place of the loop's selector."""
+
+    def __init__(self, loop: Loop) -> None:
+        self.loop, self.net = loop, loop.net
+        self.now: int = 0
+        self.steps = 0
+        self.moved: list[Callable[[int], None]] = []
+        """What is called with each new moment."""
+
+    def select(self, timeout: Optional[float]) -> Sequence[object]:
+        """The loop has nothing to do for `timeout` seconds, or, where that is None, until something comes."""
+        net = self.net
+        wake = net.wake()
+        if timeout is None:
+            self._move(wake)
+        elif timeout > 0:
+            timer = self.now + max(1, round(timeout * NS))
+            self._move(timer if timer < wake else wake)
+        else:
+            self._count_step()
+        if wake <= self.now:
+            net.deliver()
+        return ()
+
+    def close(self) -> None:
+        """A selector has this too."""
+
+    def _move(self, moment: int) -> None:
+        if moment > LAST_MOMENT:
+            raise Stuck(f"at {self.now / NS:.9f} s nothing can happen any more: no timer runs, and no packet is under way.{waiting(self.loop)}")
+        if moment > self.now:
+            self.now, self.steps = moment, 0
+            for call in self.moved:
+                call(moment)
+
+    def _count_step(self) -> None:
+        """A loop that always has something to do at once never lets the time pass."""
+        self.steps += 1
+        if self.steps > MOST_STEPS:
+            self.steps = 0
+            raise Stuck(f"the loop made {MOST_STEPS} steps at {self.now / NS:.9f} s: a task asks again and again without a timer.{waiting(self.loop)}")

@@ -1,0 +1,89 @@
+"""The clock that C code asks, as OpenSSL does: simulated where `hinge with-clock` preloaded it, and else warned of."""
+
+from __future__ import annotations
+
+import ctypes
+import sys
+import sysconfig
+import warnings
+from contextlib import contextmanager
+from functools import partial
+from types import ModuleType
+from typing import TYPE_CHECKING, Callable, Iterator, Optional
+
+from hingetulip.aio.datagram import NS
+
+if TYPE_CHECKING:
+    from hingetulip.aio.clock import Clock
+
+LONG = 3600 * NS  # after which certificates and tickets look older or newer than they are
+SHORT = NS  # after which DTLS repeats what was lost
+FUNCTION = "hinge_clock_set"
+DTLS = "OpenSSL"  # the package that brings DTLS to Python
+
+
+SetClock = Callable[[int, int], None]
+
+
+class ClockWarning(UserWarning):
+    """C code may have asked the real clock in a run of simulated time."""
+
+
+def preloaded() -> Optional[SetClock]:
+    """The function that sets this thread's clock in C code: the simulated moment in ns, and the ns at which that clock began."""
+    try:
+        function = getattr(ctypes.PyDLL(None), FUNCTION)
+    except (AttributeError, OSError):
+        return None
+    function.argtypes, function.restype = [ctypes.c_int64, ctypes.c_int64], None
+    return function  # type: ignore[no-any-return]
+
+
+def is_pythons_own(module: ModuleType) -> bool:
+    """Whether a module comes with Python."""
+    file = getattr(module, "__file__", None) or ""
+    return not file or file.startswith(sysconfig.get_path("stdlib")) and "-packages" not in file
+
+
+def users_of_ssl() -> list[str]:
+    """The imported modules, except Python's own, that use ssl."""
+    ssl = sys.modules.get("ssl")
+    return sorted(name for name, module in list(sys.modules.items())
+                  if isinstance(module, ModuleType) and ssl is not None and vars(module).get("ssl") is ssl and not is_pythons_own(module))
+
+
+class Watch:
+    """Warns once, where a run without the preloaded clock has gone on for so long that code in C is misled."""
+
+    def __init__(self) -> None:
+        self.next: Optional[int] = SHORT
+
+    def moved(self, moment: int) -> None:
+        if self.next is None or moment < self.next:
+            return
+        users = [DTLS] if DTLS in sys.modules else users_of_ssl() if moment >= LONG else []
+        self.next = None if users or moment >= LONG else LONG
+        if users:
+            warnings.warn(f"{users[0]} is imported, and OpenSSL asks the real clock while {moment // NS} s of simulated time pass: "
+                          "run under `hinge with-clock`", ClockWarning, stacklevel=2)
+
+
+def _set(set_clock: SetClock, epoch: int, moment: int) -> None:
+    set_clock(moment, epoch)
+
+
+@contextmanager
+def clock_in_c(clock: Clock, epoch: int) -> Iterator[None]:
+    """While this lasts C code of this thread has the simulated time, or a watch warns that it hasn't."""
+    set_clock = preloaded()
+    moved: Callable[[int], None] = Watch().moved
+    if set_clock is not None:
+        moved = partial(_set, set_clock, epoch)
+    clock.moved.append(moved)
+    moved(clock.now)
+    try:
+        yield
+    finally:
+        clock.moved.remove(moved)
+        if set_clock is not None:
+            set_clock(-1, 0)

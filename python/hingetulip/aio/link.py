@@ -1,0 +1,109 @@
+"""One direction between two hosts: a pipe, and queues that share it if packets are of several classes."""
+
+from __future__ import annotations
+
+from collections import Counter
+from random import Random
+from typing import TYPE_CHECKING, Callable, Mapping, Optional, Protocol
+
+from hingetulip.aio.datagram import HEADERS, UDP, Datagram
+from hingetulip.aio.options import Options, Setting
+from hingetulip.records import Fate, Outcome
+
+if TYPE_CHECKING:
+    from hingetulip.aio.host import Host
+    from hingetulip.aio.network import Network
+
+Classifier = Callable[[Datagram], str]
+BY_MODEL = 0.5  # the loss rate under which a model's words 0 and 2^31 - 1 decide
+
+
+class Words(Protocol):
+    """The words of a direction's packets, in their order: a packet is lost where its word is below the loss rate times 2^31."""
+
+    def next(self) -> int:
+        """The word of the next packet, 0 to 2^31 - 1."""
+
+
+class Drawn:
+    """Random words of a seed and a direction."""
+
+    def __init__(self, seed: int, direction: int) -> None:
+        self.random = Random(f"{seed} {direction}")
+
+    def next(self) -> int:
+        return self.random.getrandbits(31)
+
+
+class Link:
+    """One direction between two hosts, which can be configured anew under way.
+
+    `counts` has how many packets met each `Outcome`. Each direction has words of its own, so that what one loses never depends on
+    what goes the other way.
+    """
+
+    def __init__(self, net: Network, near: Host, far: Host, options: str, *, classes: Optional[Mapping[str, str]] = None,
+                 classify: Optional[Classifier] = None, loss: Optional[Words] = None) -> None:
+        if (classes is None) != (classify is None):
+            raise TypeError("classes are given together with the function that classifies")
+        self.net, self.near, self.far, self.pipe, self.classify = net, near, far, net.number_of("pipe"), classify
+        self.counts: Counter[Outcome] = Counter()
+        self.queues = {name: net.number_of("queue") for name in classes or {}}
+        self.loss: Words = loss or Drawn(net.seed, self.pipe)
+        self.options = Options(options)
+        if loss is not None:
+            self.options.change({"plr": BY_MODEL})
+        self.class_options = {name: Options(text) for name, text in (classes or {}).items()}
+        self._configure_pipe()
+        for name in self.queues:
+            self._configure_queue(name)
+
+    def __repr__(self) -> str:
+        return f"<Link {self.near.name} > {self.far.name}: {self.line}>"
+
+    @property
+    def line(self) -> str:
+        """The configuration line of the pipe."""
+        return f"pipe {self.pipe} config {self.options}".strip()
+
+    def configure(self, options: str) -> None:
+        """Gives all options anew, as a `pipe config` line does: one that is left away has its default."""
+        self.options = Options(options)
+        self._configure_pipe()
+
+    def change(self, **settings: Setting) -> None:
+        """Sets some options of the pipe and keeps the others: `link.change(plr=0, bw="2Mbit/s")`. None sets the default.
+
+        `delay` is in ms, `bw` in bit/s where it has no unit, and `mask` takes the fields.
+        """
+        self.options.change(settings)
+        self._configure_pipe()
+
+    def change_class(self, name: str, **settings: Setting) -> None:
+        """As `change`, of the queue of a class: `link.change_class("video", weight=10)`."""
+        self.class_options[name].change(settings)
+        self._configure_queue(name)
+
+    def _configure_pipe(self) -> None:
+        self._obey(self.line)
+
+    def _configure_queue(self, name: str) -> None:
+        self._obey(f"queue {self.queues[name]} config pipe {self.pipe} {self.class_options[name]}".strip())
+
+    def _obey(self, line: str) -> None:
+        """The line counts from the moment of the loop's clock."""
+        moment = self.net.loop.clock.now
+        if moment:
+            self.net.shaper.advance(moment)
+        self.net.changed = True
+        self.net.shaper.configure(line)
+
+    def submit(self, moment: int, it: Datagram) -> Fate:
+        """A datagram arrives at the link."""
+        queue = None if self.classify is None else self.queues[self.classify(it)]
+        (source, sport), (target, dport), data = it
+        numbers = self.net.numbers
+        fate = self.net.shaper.submit(moment, len(data) + HEADERS, pipe=self.pipe if queue is None else None, queue=queue, src=numbers[source],
+                                      dst=numbers[target], proto=UDP, sport=sport, dport=dport, word=self.loss.next())
+        self.counts[fate.outcome] += 1
+        return fate

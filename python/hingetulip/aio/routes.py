@@ -1,0 +1,48 @@
+"""The way of a datagram over several links."""
+
+from __future__ import annotations
+
+from collections import deque
+from typing import TYPE_CHECKING, Optional
+
+if TYPE_CHECKING:
+    from hingetulip.aio.host import Host
+    from hingetulip.aio.link import Link
+
+
+class Routes:
+    """Which link a datagram takes next: the first of a way over the fewest links, of equals over those that were made first."""
+
+    def __init__(self) -> None:
+        self.out: dict[Host, list[Link]] = {}
+        self.chosen: dict[tuple[Host, Host], Optional[Link]] = {}
+        self.given: dict[tuple[Host, Host], Link] = {}
+
+    def add(self, link: Link) -> None:
+        self.out.setdefault(link.near, []).append(link)
+        self.chosen.clear()
+
+    def give(self, near: Host, target: Host, link: Link) -> None:
+        """What goes from a host to another takes this link."""
+        self.given[near, target] = link
+        self.chosen.clear()
+
+    def next(self, near: Host, target: Host) -> Optional[Link]:
+        """The link from one host on the way to another; None where there is no way."""
+        try:
+            return self.chosen[near, target]
+        except KeyError:
+            found = self.chosen[near, target] = self.given.get((near, target)) or self._search(near, target)
+            return found
+
+    def _search(self, near: Host, target: Host) -> Optional[Link]:
+        ways = deque((link, link.far) for link in self.out.get(near, ()))
+        seen = {near}
+        while ways:
+            first, host = ways.popleft()
+            if host is target:
+                return first
+            if host not in seen:
+                seen.add(host)
+                ways.extend((first, link.far) for link in self.out.get(host, ()))
+        return None

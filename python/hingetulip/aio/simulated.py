@@ -1,0 +1,40 @@
+"""Python's clock and random numbers during a run: the simulated time, and numbers of the seed."""
+
+from __future__ import annotations
+
+import os
+import random
+import time
+from contextlib import ExitStack, contextmanager
+from typing import TYPE_CHECKING, Iterator
+from unittest import mock
+
+from hingetulip.aio.clock_in_c import clock_in_c
+from hingetulip.aio.datagram import NS
+
+if TYPE_CHECKING:
+    from hingetulip.aio.loop import Loop
+
+EPOCH = 1_700_000_000  # s: what time.time() returns at the start
+
+
+@contextmanager
+def simulated(loop: Loop, source: random.Random) -> Iterator[None]:
+    """The module `time` returns the simulated time, and so does the clock in C code under `hinge with-clock`. Numbers of `random`,
+    `secrets` and `os.urandom` come from `source`."""
+    clock = loop.clock
+    told = {"time": lambda: EPOCH + loop.time(), "time_ns": lambda: EPOCH * NS + clock.now}
+    for name in ("monotonic", "perf_counter"):
+        told.update({name: loop.time, f"{name}_ns": lambda: clock.now})
+    state = random.getstate()
+    random.seed(source.getrandbits(64))
+    try:
+        with ExitStack() as stack:
+            stack.enter_context(mock.patch.multiple(time, **told))  # type: ignore[arg-type]
+            stack.enter_context(mock.patch.object(os, "urandom", source.randbytes))
+            if hasattr(random, "_urandom"):
+                stack.enter_context(mock.patch.object(random, "_urandom", source.randbytes))
+            stack.enter_context(clock_in_c(clock, EPOCH * NS))
+            yield
+    finally:
+        random.setstate(state)
