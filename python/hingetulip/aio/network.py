@@ -35,11 +35,11 @@ class Network:
     """Hosts and the links between them. With `history`, that file has the calls of the emulator when the network is closed.
 
     `dropped` has the datagrams that links lost or refused, `unrouted` counts those to hosts without a way to them, and `unheard` those to
-    ports without a socket.
+    ports without a socket. `options` are those of links for which none are given, and `back` those of the way back of a path.
     """
 
-    def __init__(self, *, seed: int = 1, history: Union[str, Path, None] = None) -> None:
-        self.seed, self.history = seed, history
+    def __init__(self, *, seed: int = 1, history: Union[str, Path, None] = None, options: str = "", back: Optional[str] = None) -> None:
+        self.seed, self.history, self.options, self.back = seed, history, options, back
         self.random = Random(seed)
         self.shaper = RecordedShaper(history, seed=seed) if history else Shaper(seed=seed)
         self.hosts: dict[str, Host] = {}
@@ -74,7 +74,7 @@ class Network:
         self.numbers.update({text: int(ipaddress.IPv4Address(text)) for text in texts})
         return made
 
-    def link(self, near: Host, far: Host, options: str = "", *, classes: Optional[Mapping[str, str]] = None,
+    def link(self, near: Host, far: Host, options: Optional[str] = None, *, classes: Optional[Mapping[str, str]] = None,
              classify: Optional[Classifier] = None, loss: Optional[Words] = None) -> Link:
         """One direction between two hosts: a pipe with these options, as `bw 8Mbit/s delay 20ms plr 0.05` or `8Mbit/s 20ms loss 5%`.
 
@@ -83,12 +83,14 @@ class Network:
         """
         if near is far or (near, far) in self.links:
             raise ValueError(f"there is a link from {near.name} to {far.name} already")
-        made = self.links[near, far] = Link(self, near, far, options, classes=classes, classify=classify, loss=loss)
+        made = self.links[near, far] = Link(self, near, far, self.options if options is None else options, classes=classes, classify=classify, loss=loss)
         self.routes.add(made)
         return made
 
-    def path(self, one: Host, other: Host, options: str = "", back: Optional[str] = None) -> tuple[Link, Link]:
+    def path(self, one: Host, other: Host, options: Optional[str] = None, back: Optional[str] = None) -> tuple[Link, Link]:
         """A link each way, alike if `back` isn't given."""
+        if options is None and back is None:
+            back = self.back
         return self.link(one, other, options), self.link(other, one, options if back is None else back)
 
     def route(self, near: Host, target: Host, via: Host) -> None:
