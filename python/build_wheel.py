@@ -25,7 +25,8 @@ BASE = f"{NAME}-{VERSION}"
 PACKAGES = ("hingetulip", "hinge")
 TAG = "py3-none-manylinux_2_34_x86_64"
 LIBRARY = "libhingetulip.so.1"
-HOSTS = {"hinge-link": "hinge/run/hinge-link", "hinge-shard": "hinge/hinge-shard"}  # programs in C, where the release has them
+HOSTS = {"hinge-link": "hinge/run/hinge-link", "hinge-shard": "hinge/hinge-shard",
+         "hinge-clock.so": "hinge/hinge-clock.so"}  # built from C, where the release has them
 FIRST_DATE = 315532800  # 1980-01-01, the first that a zip file can have
 METADATA = f"""\
 Metadata-Version: 2.1

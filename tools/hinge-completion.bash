@@ -3,7 +3,7 @@ _hinge() {
     local word=${COMP_WORDS[COMP_CWORD]} command=${COMP_WORDS[1]} hinge=${COMP_WORDS[0]} words=
     COMPREPLY=()
     if [ "$COMP_CWORD" = 1 ] || { [ "$COMP_CWORD" = 2 ] && [ "$command" = help ]; }; then
-        words=$("$hinge" help 2>/dev/null | sed -n 's/^  \([a-z]*\)  *.*/\1/p')
+        words=$("$hinge" help 2>/dev/null | sed -n 's/^  \([a-z-]*\)  *.*/\1/p')
         [ "$COMP_CWORD" != 1 ] || words="$words help --help --version"
     elif [ "$command" = sweep ] && [ "$COMP_CWORD" = 2 ] && [ "${word#-}" = "$word" ]; then
         words=$("$hinge" sweep --help 2>/dev/null | sed -n 's/^    \([a-z]*\)  .*/\1/p')

@@ -21,6 +21,7 @@ COMMANDS = {
     "check": "what is wrong with configurations, packet files and histories, and what to write",
     "shard": "a replay of any length on all processors",
     "run": "a command behind an emulated link, in real time",
+    "with-clock": "a command whose C code has the simulated clock",
     "look": "all of these of a live session's transcript",
     "udp": "a UDP path between two programs through emulated links",
 }
@@ -30,7 +31,7 @@ HELP, VERSION = ("help", "-h", "--help"), ("--version", "-V")
 
 def summary() -> str:
     """What `hinge help` prints: the commands, and where more is told."""
-    rows = "".join(f"  {name:<9}{what}\n" for name, what in COMMANDS.items())
+    rows = "".join(f"  {name:<12}{what}\n" for name, what in COMMANDS.items())
     return (f"usage: hinge COMMAND ..\n\nThe kit round dummynet: captures, pictures, tables and live links.\n\n{rows}"
             "\n`hinge help COMMAND` tells more, with an example; `hinge --version` prints the version.\n")
 
@@ -46,7 +47,7 @@ def refuse(word: str) -> NoReturn:
 def begin(word: str) -> None:
     """Runs a command over the words behind it."""
     try:
-        importlib.import_module(f"hinge.commands.{word}").main()
+        importlib.import_module(f"hinge.commands.{word.replace('-', '_')}").main()
     except ModuleNotFoundError as missing:
         if missing.name != "numpy":
             raise

@@ -38,6 +38,11 @@ def dummynet() -> str:
     return found("DUMMYNET", "dummynet", "dummynet")
 
 
+def clock() -> str:
+    """The library that gives C code the simulated clock; tools/hosts builds it."""
+    return found("HINGE_CLOCK", "hinge-clock.so", "built/hinge-clock.so", "release/hinge-clock.so")
+
+
 def shard() -> str:
     """The program that replays on all processors; hosts/shard/build builds it."""
     return found("HINGE_SHARD", "hinge-shard", "built/hinge-shard", "release/hinge-shard")

@@ -180,6 +180,7 @@ def by_pip(tally: Tally, copy: Path, place: Path) -> None:
     tally.equal("where the modules are", 2, f"{library} {modules}".count(f"{venv}/"))
     tally.equal("hinge --version", f"hinge {VERSION}\n", done(tally, "hinge", venv / "bin" / "hinge", "--version", cwd=place))
     for module, name, where_it_is in (("program", "dummynet", "bin/dummynet"), ("program", "shard", f"{Path(modules).parent}/hinge-shard"),
+                                      ("program", "clock", f"{Path(modules).parent}/hinge-clock.so"),
                                       ("run.host", "program", f"{Path(modules).parent}/run/hinge-link")):
         told = done(tally, f"hinge.{module}", own, "-c", f"from hinge.{module} import {name}; print({name}())", cwd=place)
         tally.equal("a program that hinge takes", f"{venv / where_it_is}\n", told)
@@ -215,7 +216,7 @@ def by_each_python(tally: Tally, copy: Path, place: Path) -> None:
 
 def glibc(tally: Tally, copy: Path, place: Path) -> None:
     """What is released needs no later glibc than the wheel's tag and the packages say: 2.34."""
-    for name in ("dummynet", "libhingetulip.so.1", "hinge-link", "hinge-shard"):
+    for name in ("dummynet", "libhingetulip.so.1", "hinge-link", "hinge-shard", "hinge-clock.so"):
         file = copy / "release" / name
         if file.is_file():
             asked = {tuple(map(int, it.split(b"."))) for it in re.findall(rb"GLIBC_(\d+\.\d+)", file.read_bytes())}

@@ -52,7 +52,7 @@ def of_dummynet(tally: Tally, program: str) -> None:
 def of_hinge(tally: Tally) -> None:
     hinge = (PYTHON, TOP / "hinge")
     text = page(tally, "hinge.1")
-    commands = re.findall(r"^  ([a-z]+) ", printed(*hinge, "help"), re.M)
+    commands = re.findall(r"^  ([a-z-]+) ", printed(*hinge, "help"), re.M)
     tally.note("the commands of hinge", "" if len(commands) >= 10 else f"got {commands}")
     named(tally, text, "hinge", commands)
     for command in commands:

@@ -64,7 +64,7 @@ class Watch:
         users = [DTLS] if DTLS in sys.modules else users_of_ssl() if moment >= LONG else []
         self.next = None if users or moment >= LONG else LONG
         if users:
-            warnings.warn(f"{users[0]} is imported, and OpenSSL asks the real clock while {moment // NS} s of simulated time pass: "
+            warnings.warn(f"OpenSSL asks the real clock while {moment // NS} s of simulated time pass, and {users[0]} may use it: "
                           "run under `hinge with-clock`", ClockWarning, stacklevel=2)
 
 

@@ -21,7 +21,7 @@ class Help(unittest.TestCase):
     def test_help_lists_the_commands(self) -> None:
         told = run("help")
         self.assertEqual((told.returncode, told.stderr), (0, ""))
-        self.assertIn("\n  packets  a capture as a packet file\n", told.stdout)
+        self.assertIn("\n  packets     a capture as a packet file\n", told.stdout)
         self.assertEqual(told.stdout, run("--help").stdout)
 
     def test_help_of_a_command_is_its_own(self) -> None:
