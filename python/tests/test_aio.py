@@ -152,6 +152,28 @@ class Moments(unittest.TestCase):
             self.assertAlmostEqual(heavy, 30, delta=2)  # one packet of each class more, at the ends of a share
 
 
+    def test_jitter_overtakes_and_copies_come_twice(self) -> None:
+        with tempfile.TemporaryDirectory() as folder:
+            history = Path(folder) / "h"
+            with aio.Network(history=history) as net:
+                one, other = net.host("10.0.0.1"), net.host("10.0.0.2")
+                net.link(one, other, "8Mbit/s 1ms", jitter=lambda it: {b"0": 10, b"1": 0, b"2": 5}[it.data[:1]],
+                         copies=lambda it: 2 if it.data[:1] == b"1" else 1)
+
+                async def main() -> Ends:
+                    _, there = await other.endpoint(Ends, 7)
+                    transport, _ = await one.endpoint(Ends, remote=("10.0.0.2", 7))
+                    for number in range(3):
+                        transport.sendto(b"%d" % number + bytes(971))
+                    await asyncio.sleep(1)
+                    return there
+
+                got = net.run(main()).got
+            done = subprocess.run([PROGRAM, "audit", history], capture_output=True, text=True)
+        self.assertEqual([(it[0][:1], it[2]) for it in got], [(b"1", 3 * MS), (b"1", 4 * MS), (b"2", 10 * MS), (b"0", 12 * MS)])
+        self.assertRegex(done.stdout, r"^lawful \d+\n$")
+
+
 class Repeats(unittest.TestCase):
     def test_an_hour_takes_no_time_and_repeats(self) -> None:
         began, found = time.monotonic(), []

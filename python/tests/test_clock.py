@@ -12,14 +12,19 @@ import types
 import unittest
 import warnings
 from pathlib import Path
+from ssl import RAND_bytes
 from unittest import mock
 
 from hingetulip import aio
+from hingetulip.aio import clock_in_c
+from hingetulip.aio.openssl import libcrypto
 from simulated_hosts import TOP
 
 ASKED = """
 import asyncio, ctypes, time
 from hingetulip import aio
+from hingetulip.aio import clock_in_c
+from hingetulip.aio.openssl import libcrypto
 
 libc = ctypes.CDLL(None)
 
@@ -72,9 +77,26 @@ class Warnings(unittest.TestCase):
         user.ssl, user.__file__ = sys.modules["ssl"], "/elsewhere/user_of_ssl.py"
         self.assertEqual(self.warned(3599, user_of_ssl=user), [])
         (told,) = self.warned(7200, user_of_ssl=user)
-        self.assertRegex(told, "7200 s of simulated time pass, and user_of_ssl may use it")
-        self.assertRegex(told, "hinge with-clock")
+        self.assertRegex(told, "user_of_ssl may use it: run under `hinge with-clock`")
 
-    def test_a_second_with_dtls(self) -> None:
-        self.assertEqual(self.warned(0.9, OpenSSL=types.ModuleType("OpenSSL")), [])
-        self.assertEqual(len(self.warned(1.5, OpenSSL=types.ModuleType("OpenSSL"))), 1)
+    def test_an_hour_without(self) -> None:
+        with mock.patch.object(clock_in_c, "users_of_ssl", list):
+            self.assertEqual(self.warned(7200), [])
+
+    def test_a_run_with_dtls_that_does_not_end(self) -> None:
+        with mock.patch.dict(sys.modules, OpenSSL=types.ModuleType("OpenSSL")), self.assertRaisesRegex(asyncio.TimeoutError, "hinge with-clock"):
+            aio.run(asyncio.sleep(10), timeout=5)
+
+
+class RandomOfOpenSSL(unittest.TestCase):
+    def test_numbers_follow_from_the_seed(self) -> None:
+        if libcrypto() is None:
+            self.skipTest("no shared libcrypto in this process")
+
+        async def main() -> bytes:
+            return RAND_bytes(16)
+
+        first, again, other = (aio.run(main(), seed=seed) for seed in (1, 1, 2))
+        self.assertEqual(first, again)
+        self.assertNotEqual(first, other)
+        self.assertNotEqual(RAND_bytes(16), RAND_bytes(16))

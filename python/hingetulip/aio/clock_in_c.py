@@ -16,10 +16,10 @@ from hingetulip.aio.datagram import NS
 if TYPE_CHECKING:
     from hingetulip.aio.clock import Clock
 
-LONG = 3600 * NS  # after which certificates and tickets look older or newer than they are
-SHORT = NS  # after which DTLS repeats what was lost
+LONG = 3600 * NS  # of simulated time, after which code that uses ssl is warned of
 FUNCTION = "hinge_clock_set"
 DTLS = "OpenSSL"  # the package that brings DTLS to Python
+ADVICE = "run under `hinge with-clock`"
 
 
 SetClock = Callable[[int, int], None]
@@ -53,19 +53,24 @@ def users_of_ssl() -> list[str]:
 
 
 class Watch:
-    """Warns once, where a run without the preloaded clock has gone on for so long that code in C is misled."""
+    """Warns once, where a run without the preloaded clock lasts an hour and a module uses ssl."""
 
     def __init__(self) -> None:
-        self.next: Optional[int] = SHORT
+        self.done = False
 
     def moved(self, moment: int) -> None:
-        if self.next is None or moment < self.next:
+        if moment < LONG or self.done:
             return
-        users = [DTLS] if DTLS in sys.modules else users_of_ssl() if moment >= LONG else []
-        self.next = None if users or moment >= LONG else LONG
+        self.done = True
+        users = [DTLS] if DTLS in sys.modules else users_of_ssl()
         if users:
-            warnings.warn(f"OpenSSL asks the real clock while {moment // NS} s of simulated time pass, and {users[0]} may use it: "
-                          "run under `hinge with-clock`", ClockWarning, stacklevel=2)
+            warnings.warn(f"OpenSSL asks the real clock while hours of simulated time pass, and {users[0]} may use it: {ADVICE}", ClockWarning,
+                          stacklevel=2)
+
+
+def hint() -> str:
+    """What may be why a run doesn't end: DTLS waits by the real clock."""
+    return f" {DTLS} is imported, and asks the real clock: {ADVICE}." if DTLS in sys.modules and preloaded() is None else ""
 
 
 def _set(set_clock: SetClock, epoch: int, moment: int) -> None:

@@ -46,6 +46,10 @@ class Host:
         context.run(here.set, self)
         return context.run(lambda: self.net.loop.create_task(coroutine, name=name))
 
+    async def endpoint(self, factory: Callable[[], Protocol], port: int = 0, remote: Optional[Address] = None) -> tuple[Transport, Protocol]:
+        """A datagram endpoint on this host, for a caller in any task: at a port, or at a free one, and connected where `remote` is given."""
+        return await self.create_task(self.net.loop.create_datagram_endpoint(factory, (ANY, port), remote))
+
     def free_port(self) -> int:
         """A port without a socket, as systems give them: the next one, and after the last the first."""
         used = {port for _, port in self.sockets}

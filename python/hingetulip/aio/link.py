@@ -7,6 +7,7 @@ from random import Random
 from typing import TYPE_CHECKING, Callable, Mapping, Optional, Protocol
 
 from hingetulip.aio.datagram import HEADERS, UDP, Datagram
+from hingetulip.aio.jitter import DelayOf, Jitter
 from hingetulip.aio.options import Options, Setting
 from hingetulip.records import Fate, Outcome
 
@@ -15,6 +16,7 @@ if TYPE_CHECKING:
     from hingetulip.aio.network import Network
 
 Classifier = Callable[[Datagram], str]
+LOSES_NONE = 2**31 - 1
 BY_MODEL = 0.5  # the loss rate under which a model's words 0 and 2^31 - 1 decide
 
 
@@ -39,16 +41,18 @@ class Link:
     """One direction between two hosts, which can be configured anew under way.
 
     `counts` has how many packets met each `Outcome`. Each direction has words of its own, so that what one loses never depends on
-    what goes the other way.
+    what goes the other way. `copies` returns how often a datagram enters the link, and `jitter` for how many ms more it is under way.
     """
 
     def __init__(self, net: Network, near: Host, far: Host, options: str, *, classes: Optional[Mapping[str, str]] = None,
-                 classify: Optional[Classifier] = None, loss: Optional[Words] = None) -> None:
+                 classify: Optional[Classifier] = None, loss: Optional[Words] = None, copies: Optional[Callable[[Datagram], int]] = None,
+                 jitter: Optional[DelayOf] = None) -> None:
         if (classes is None) != (classify is None):
             raise TypeError("classes are given together with the function that classifies")
         self.net, self.near, self.far, self.pipe, self.classify = net, near, far, net.number_of("pipe"), classify
         self.counts: Counter[Outcome] = Counter()
         self.queues = {name: net.number_of("queue") for name in classes or {}}
+        self.copies, self.jitter = copies, None if jitter is None else Jitter(net, jitter)
         self.loss: Words = loss or Drawn(net.seed, self.pipe)
         self.options = Options(options)
         if loss is not None:
@@ -85,25 +89,19 @@ class Link:
         self._configure_queue(name)
 
     def _configure_pipe(self) -> None:
-        self._obey(self.line)
+        self.net.obey(self.line)
 
     def _configure_queue(self, name: str) -> None:
-        self._obey(f"queue {self.queues[name]} config pipe {self.pipe} {self.class_options[name]}".strip())
+        self.net.obey(f"queue {self.queues[name]} config pipe {self.pipe} {self.class_options[name]}".strip())
 
-    def _obey(self, line: str) -> None:
-        """The line counts from the moment of the loop's clock."""
-        moment = self.net.loop.clock.now
-        if moment:
-            self.net.shaper.advance(moment)
-        self.net.changed = True
-        self.net.shaper.configure(line)
-
-    def submit(self, moment: int, it: Datagram) -> Fate:
-        """A datagram arrives at the link."""
-        queue = None if self.classify is None else self.queues[self.classify(it)]
+    def submit(self, moment: int, it: Datagram, second: int = 0) -> Fate:
+        """A datagram arrives at the link, or at the pipe of its second pass."""
+        queue = None if second or self.classify is None else self.queues[self.classify(it)]
+        pipe = second or (self.pipe if queue is None else None)
         (source, sport), (target, dport), data = it
         numbers = self.net.numbers
-        fate = self.net.shaper.submit(moment, len(data) + HEADERS, pipe=self.pipe if queue is None else None, queue=queue, src=numbers[source],
-                                      dst=numbers[target], proto=UDP, sport=sport, dport=dport, word=self.loss.next())
-        self.counts[fate.outcome] += 1
+        fate = self.net.shaper.submit(moment, len(data) + HEADERS, pipe=pipe, queue=queue, src=numbers[source], dst=numbers[target],
+                                      proto=UDP, sport=sport, dport=dport, word=LOSES_NONE if second else self.loss.next())
+        if not second:
+            self.counts[fate.outcome] += 1
         return fate

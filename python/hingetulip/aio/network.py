@@ -11,10 +11,12 @@ from collections import Counter
 from contextlib import nullcontext
 from pathlib import Path
 from random import Random
-from typing import Any, Coroutine, Mapping, Optional, TypeVar, Union
+from typing import Any, Callable, Coroutine, Mapping, Optional, TypeVar, Union
 
+from hingetulip.aio.clock_in_c import hint
 from hingetulip.aio.datagram import Datagram, Dropped
 from hingetulip.aio.host import ANY, Host, current_host, here
+from hingetulip.aio.jitter import DelayOf
 from hingetulip.aio.link import Classifier, Link, Words
 from hingetulip.aio.loop import Loop
 from hingetulip.aio.report import report
@@ -53,7 +55,7 @@ class Network:
         self.loop = Loop(self)
         self._made: Counter[str] = Counter()
         self.changed, self._wake = False, NEVER  # whether the shaper was called since it was asked for its next moment
-        self._held: dict[int, tuple[Link, Datagram]] = {}
+        self._held: dict[int, tuple[Link, Datagram, int]] = {}
 
     def number_of(self, kind: str) -> int:
         """The number of a new pipe or queue."""
@@ -75,15 +77,18 @@ class Network:
         return made
 
     def link(self, near: Host, far: Host, options: Optional[str] = None, *, classes: Optional[Mapping[str, str]] = None,
-             classify: Optional[Classifier] = None, loss: Optional[Words] = None) -> Link:
+             classify: Optional[Classifier] = None, loss: Optional[Words] = None, copies: Optional[Callable[[Datagram], int]] = None,
+             jitter: Optional[DelayOf] = None) -> Link:
         """One direction between two hosts: a pipe with these options, as `bw 8Mbit/s delay 20ms plr 0.05` or `8Mbit/s 20ms loss 5%`.
 
         With `classes`, the options of a queue for each class, `classify` returns the class of a datagram. A model of loss gives the words
-        of the packets, under a loss rate of 0.5. LineError: the options are none.
+        of the packets, under a loss rate of 0.5. `copies` returns how often a datagram enters the link, and `jitter` for how many ms more it is
+        under way, by a second pass. LineError: the options are none.
         """
         if near is far or (near, far) in self.links:
             raise ValueError(f"there is a link from {near.name} to {far.name} already")
-        made = self.links[near, far] = Link(self, near, far, self.options if options is None else options, classes=classes, classify=classify, loss=loss)
+        made = self.links[near, far] = Link(self, near, far, self.options if options is None else options, classes=classes, classify=classify,
+                                                   loss=loss, copies=copies, jitter=jitter)
         self.routes.add(made)
         return made
 
@@ -129,15 +134,27 @@ class Network:
         if link is None:
             self.unrouted[f"{near.name} > {it.target[0]}"] += 1
             return OSError(errno.ENETUNREACH, os.strerror(errno.ENETUNREACH))
+        for _ in range(1 if link.copies is None else link.copies(it)):
+            self._enter(link, it)
+        return None
+
+    def _enter(self, link: Link, it: Datagram, second: int = 0) -> None:
         self.rows += 1
         self.changed = True
         now = self.loop.clock.now
-        fate = link.submit(now, it)
+        fate = link.submit(now, it, second)
         if fate.packet is None:
             self.dropped.append(Dropped(self.rows, now, *it, fate.outcome))
         else:
-            self._held[fate.packet] = link, it
-        return None
+            self._held[fate.packet] = link, it, second
+
+    def obey(self, line: str) -> None:
+        """A configuration line counts from the moment of the loop's clock."""
+        moment = self.loop.clock.now
+        if moment:
+            self.shaper.advance(moment)
+        self.changed = True
+        self.shaper.configure(line)
 
     def wake(self) -> int:
         """The next moment of a link, in ns, or NEVER."""
@@ -150,8 +167,11 @@ class Network:
         """Datagrams whose moment has come leave their links."""
         self.changed = True
         for delivery in self.shaper.collect(self.loop.clock.now):
-            link, it = self._held.pop(delivery.packet)
-            if it.target[0] in link.far.addresses:
+            link, it, second = self._held.pop(delivery.packet)
+            pipe = 0 if second or link.jitter is None else link.jitter.pipe(it)
+            if pipe:
+                self._enter(link, it, pipe)
+            elif it.target[0] in link.far.addresses:
                 self._give(link.far, it)
             else:
                 self.send(link.far, it)
@@ -178,7 +198,7 @@ class Network:
             text = waiting(self.loop)
             task.cancel()
             await asyncio.wait({task})
-            raise asyncio.TimeoutError(f"it hasn't ended after {timeout} s of simulated time.{text}")
+            raise asyncio.TimeoutError(f"it hasn't ended after {timeout} s of simulated time.{hint()}{text}")
         return task.result()
 
     def close(self) -> None:

@@ -11,6 +11,7 @@ from unittest import mock
 
 from hingetulip.aio.clock_in_c import clock_in_c
 from hingetulip.aio.datagram import NS
+from hingetulip.aio.openssl import random_of_openssl
 
 if TYPE_CHECKING:
     from hingetulip.aio.loop import Loop
@@ -21,7 +22,7 @@ EPOCH = 1_700_000_000  # s: what time.time() returns at the start
 @contextmanager
 def simulated(loop: Loop, source: random.Random) -> Iterator[None]:
     """The module `time` returns the simulated time, and so does the clock in C code under `hinge with-clock`. Numbers of `random`,
-    `secrets` and `os.urandom` come from `source`."""
+    `secrets`, `os.urandom` and OpenSSL come from `source`."""
     clock = loop.clock
     told = {"time": lambda: EPOCH + loop.time(), "time_ns": lambda: EPOCH * NS + clock.now}
     for name in ("monotonic", "perf_counter"):
@@ -34,6 +35,7 @@ def simulated(loop: Loop, source: random.Random) -> Iterator[None]:
             stack.enter_context(mock.patch.object(os, "urandom", source.randbytes))
             if hasattr(random, "_urandom"):
                 stack.enter_context(mock.patch.object(random, "_urandom", source.randbytes))
+            stack.enter_context(random_of_openssl(random.Random(source.getrandbits(64))))
             stack.enter_context(clock_in_c(clock, EPOCH * NS))
             yield
     finally:

@@ -1,0 +1,112 @@
+"""The examples of docs/TESTING.md, as a team runs them: pytest over examples/tests, by `hinge with-clock`, twice with one seed.
+
+    python3 tools/gate/testing.py
+
+Both runs have to write the same histories, byte for byte, where time is simulated. Pytest has to be one of /usr/bin/python3 or of this
+Python. An example whose package the machine lacks says so. The session and the file that the page prints are run too.
+"""
+
+from __future__ import annotations
+
+import os
+import re
+import shutil
+import subprocess
+import sys
+from pathlib import Path
+from tempfile import TemporaryDirectory
+from typing import Optional
+
+from tally import Tally
+
+TOP = Path(__file__).resolve().parent.parent.parent
+EXAMPLES = TOP / "examples" / "tests"
+PAGE = TOP / "docs" / "TESTING.md"
+MOST_LINES = 59  # of an example
+OUTCOME = re.compile(r"^(?P<test>\S*::.+?) (?P<outcome>PASSED|FAILED|ERROR|SKIPPED|XFAIL|XPASS)\b", re.M)
+REAL_TIME = "test_own_protocol"  # whose history has the moments of this machine
+
+
+def python() -> Optional[str]:
+    """A Python that has pytest."""
+    for word in ("/usr/bin/python3", sys.executable):
+        if shutil.which(word) and subprocess.run([word, "-c", "import pytest"], capture_output=True).returncode == 0:
+            return word
+    return None
+
+
+def environment(place: Path) -> dict[str, str]:
+    """What names the library of the present sources, and what is built from C where there is a compiler."""
+    library = subprocess.run([TOP / "tools" / "library"], stdout=subprocess.PIPE, text=True, check=True).stdout.strip()
+    named = {"HINGETULIP_LIBRARY": f"{TOP / library}/libhingetulip.so.1", "PYTHONPATH": str(TOP / "python"), "PYTHONDONTWRITEBYTECODE": "1"}
+    if shutil.which("cc"):
+        subprocess.run([TOP / "tools" / "hosts", place], check=True, stdout=subprocess.DEVNULL)
+        named.update(HINGE_LINK=str(place / "hinge-link"), HINGE_CLOCK=str(place / "hinge-clock.so"))
+    return {**os.environ, **named}
+
+
+class Pytest:
+    """Runs of pytest, each over the same files, in a folder of its own."""
+
+    def __init__(self, interpreter: str, place: Path) -> None:
+        self.interpreter, self.place, self.env = interpreter, place, environment(place)
+
+    def run(self, folder: str, *files: Path) -> str:
+        """What pytest prints."""
+        clock = [self.interpreter, TOP / "python" / "hinge" / "start.py", "with-clock"] if "HINGE_CLOCK" in self.env else []
+        options = ["-v", "-rs", "-p", "hinge.pytest_plugin", "-p", "no:cacheprovider", f"--basetemp={self.place / folder}"]
+        words = [*clock, self.interpreter, "-m", "pytest", *options, *files]
+        return subprocess.run(list(map(str, words)), cwd=self.place, env=self.env, stdout=subprocess.PIPE, stderr=subprocess.STDOUT, text=True).stdout
+
+    def histories(self, folder: str) -> dict[str, bytes]:
+        found = (self.place / folder).rglob("*.history")
+        return {str(it.relative_to(self.place / folder)): it.read_bytes() for it in found}
+
+
+def examples(tally: Tally, pytest: Pytest) -> None:
+    files = sorted(EXAMPLES.glob("test_*.py"))
+    tally.note("five examples", "" if len(files) >= 5 else f"got {files}")
+    for file in files:
+        tally.note(f"lines of {file.name}", "" if len(file.read_text().splitlines()) <= MOST_LINES else "more than 59")
+        if "HINGE_LINK" not in pytest.env and file.stem == REAL_TIME:
+            print(f"{file.name}: skipped, since there is no cc on the path")
+            continue
+        told = pytest.run(f"first-{file.stem}", file)
+        outcomes = OUTCOME.findall(told)
+        for reason in re.findall(r"^SKIPPED .*: (.*)$", told, re.M):
+            print(f"{file.name}: skipped, since there is {reason}")
+        tally.note(file.name, "" if outcomes or "skipped" in told else told)
+        for test, outcome in outcomes:
+            tally.note(test, "" if outcome in ("PASSED", "XFAIL", "SKIPPED") else told)
+        if file.stem != REAL_TIME:
+            pytest.run(f"again-{file.stem}", file)
+            tally.note(f"two runs of {file.name}", "" if pytest.histories(f"first-{file.stem}") == pytest.histories(f"again-{file.stem}") else "differ")
+
+
+def of_page(tally: Tally, pytest: Pytest) -> None:
+    """The page's first test fails as the page prints it."""
+    text = PAGE.read_text()
+    body = re.search(r"^```python\n(.*?)^```$", text, re.M | re.S)
+    printed = re.search(r"^-+ emulated link -+\n(.*?)^```$", text, re.M | re.S)
+    file = pytest.place / "test_sync.py"
+    file.write_text(body[1] if body else "")
+    told = pytest.run("page", file)
+    section = re.search(r"^-+ emulated link -+\n(.*?hinge look )", told, re.M | re.S)
+    wanted = printed[1].partition("hinge look ")[0] + "hinge look " if printed else "no report"
+    tally.equal("the report of the page's first test", wanted, section[1] if section else told)
+
+
+def main() -> int:
+    tally, interpreter = Tally(), python()
+    if interpreter is None:
+        print("tests in simulated time: skipped, since no Python has pytest: apt-get install python3-pytest")
+        return tally.end()
+    with TemporaryDirectory() as folder:
+        pytest = Pytest(interpreter, Path(folder))
+        examples(tally, pytest)
+        of_page(tally, pytest)
+    return tally.end()
+
+
+if __name__ == "__main__":
+    sys.exit(main())
