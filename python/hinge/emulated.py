@@ -34,7 +34,7 @@ def dropped(history: Path) -> list[str]:
                 call = record
                 row += call[2] == "submit"
             elif record[0] == "r" and call[2:3] == ["submit"] and record[1] != "queued":
-                lines.append(f"  row {row}, {int(record[2]) / 1e9:.9f} s, {call[5]}:{call[8]} > {call[6]}:{call[9]}, {call[10]} bytes: {record[1]}")
+                lines.append(f"  row {row:>5}, {int(record[2]) / 1e9:.9f} s, {call[5]}:{call[8]} > {call[6]}:{call[9]}, {call[10]} bytes: {record[1]}")
     return lines[:MOST_DROPPED] + ([f"  and {len(lines) - MOST_DROPPED} more"] if len(lines) > MOST_DROPPED else [])
 
 

@@ -107,7 +107,7 @@ class Plugin(unittest.TestCase):
         sent, lost = map(int, re.search(r"10\.0\.0\.1 > 10\.0\.0\.2: (\d+) sent, (\d+) lost, 0 met a full queue", section).groups())
         self.assertEqual(sent, 100)
         self.assertGreater(lost, 20)
-        rows = re.findall(r"^  row (\d+), (\d+)\.000000000 s, 10\.0\.0\.1:49152 > 10\.0\.0\.2:9, (?:29|30) bytes: lost$", section, re.M)
+        rows = re.findall(r"^  row  *(\d+), (\d+)\.000000000 s, 10\.0\.0\.1:49152 > 10\.0\.0\.2:9, (?:29|30) bytes: lost$", section, re.M)
         self.assertEqual(len(rows), 20)
         self.assertIn(f"  and {lost - 20} more\n", section)
         self.assertRegex(section, r"simulated time 100\.0\d+ s\nseed 1, lawful \d+: hinge look /.*/link\.history\n")
@@ -212,7 +212,7 @@ class Plugin(unittest.TestCase):
         self.assertEqual(done.counts, {"failed": 1, "passed": 1}, done.text)
         section = done.text.partition("emulated link")[2]
         self.assertRegex(section, r"up: 100 came, \d+ delivered, \d+ lost")
-        self.assertRegex(section, r"(?m)^  row 2?\d, \d+\.\d{9} s, 127\.0\.0\.1:\d+ > 127\.0\.0\.1:\d+, (29|30) bytes: lost$")
+        self.assertRegex(section, r"(?m)^  row  *\d+, \d+\.\d{9} s, 127\.0\.0\.1:\d+ > 127\.0\.0\.1:\d+, (29|30) bytes: lost$")
         self.assertRegex(section, r"(?m)^seed 5, lawful \d+: hinge look /.*/link1\.history$")
 
 

@@ -23,7 +23,7 @@ TOP = Path(__file__).resolve().parent.parent.parent
 PAGE = (TOP / "docs" / "EMBEDDING.md").read_text()
 MANUAL = TOP / "docs" / "hingetulip.3"
 EXAMPLES = TOP / "examples" / "embed"
-FIRST, SIMULATION = EXAMPLES / "first.c", EXAMPLES / "aimd.py"
+FIRST, LOOP, SIMULATION = EXAMPLES / "first.c", EXAMPLES / "simulate.c", EXAMPLES / "aimd.py"
 WARNINGS = ["-Wall", "-Wextra", "-Werror"]
 INSTALLED = ["include/hingetulip.h", "lib/cmake/Hingetulip/HingetulipConfig.cmake", "lib/cmake/Hingetulip/HingetulipConfigVersion.cmake",
              "lib/libhingetulip.a", "lib/libhingetulip.so", "lib/libhingetulip.so.1", "lib/pkgconfig/hingetulip.pc",
@@ -63,9 +63,12 @@ def printed_after(command: str) -> str:
 
 
 def from_c(tally: Tally, prefix: Prefix) -> None:
-    tally.equal("the page's C program is examples/embed/first.c", [FIRST.read_text()], blocks("c"))
-    done = prefix.built(FIRST, *WARNINGS)
-    tally.equal("examples/embed/first.c", (0, printed_after("./first")), (done.returncode, done.stdout))
+    first, *parts = blocks("c")
+    tally.equal("the page's C program is examples/embed/first.c", FIRST.read_text(), first)
+    tally.equal("the page's loop is of examples/embed/simulate.c", [True], [part in LOOP.read_text() for part in parts])
+    for source in (FIRST, LOOP):
+        done = prefix.built(source, *WARNINGS)
+        tally.equal(f"examples/embed/{source.name}", (0, printed_after(f"./{source.stem}")), (done.returncode, done.stdout))
     example = re.search(r"^\.Bd -literal[^\n]*\n(.*?)^\.Ed", MANUAL.read_text(), re.M | re.S)
     source = prefix.place / "example.c"
     source.write_text(AROUND % (example[1] if example else "").replace("\\e", "\\"))

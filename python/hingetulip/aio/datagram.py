@@ -32,5 +32,5 @@ class Dropped(NamedTuple):
     outcome: Outcome
 
     def __str__(self) -> str:
-        return (f"row {self.row}, {self.moment / NS:.9f} s, {self.source[0]}:{self.source[1]} > {self.target[0]}:{self.target[1]}, "
+        return (f"row {self.row:>5}, {self.moment / NS:.9f} s, {self.source[0]}:{self.source[1]} > {self.target[0]}:{self.target[1]}, "
                 f"{len(self.data) + HEADERS} bytes: {self.outcome.name.lower()}")
