@@ -3,7 +3,7 @@
     python3 tools/gate/testing.py
 
 Both runs have to write the same histories, byte for byte, where time is simulated. Pytest has to be one of /usr/bin/python3 or of this
-Python. An example whose package the machine lacks says so. The session and the file that the page prints are run too.
+Python. An example whose package the machine lacks says so. The test that the page begins with is run too.
 """
 
 from __future__ import annotations
@@ -38,7 +38,8 @@ def python() -> Optional[str]:
 def environment(place: Path) -> dict[str, str]:
     """What names the library of the present sources, and what is built from C where there is a compiler."""
     library = subprocess.run([TOP / "tools" / "library"], stdout=subprocess.PIPE, text=True, check=True).stdout.strip()
-    named = {"HINGETULIP_LIBRARY": f"{TOP / library}/libhingetulip.so.1", "PYTHONPATH": str(TOP / "python"), "PYTHONDONTWRITEBYTECODE": "1"}
+    named = {"HINGETULIP_LIBRARY": f"{TOP / library}/libhingetulip.so.1", "PYTHONPATH": str(TOP / "python"),
+             "PYTHONDONTWRITEBYTECODE": "1", "PYTEST_DISABLE_PLUGIN_AUTOLOAD": "1"}
     if shutil.which("cc"):
         subprocess.run([TOP / "tools" / "hosts", place], check=True, stdout=subprocess.DEVNULL)
         named.update(HINGE_LINK=str(place / "hinge-link"), HINGE_CLOCK=str(place / "hinge-clock.so"))
@@ -80,7 +81,9 @@ def examples(tally: Tally, pytest: Pytest) -> None:
             tally.note(test, "" if outcome in ("PASSED", "XFAIL", "SKIPPED") else told)
         if file.stem != REAL_TIME:
             pytest.run(f"again-{file.stem}", file)
-            tally.note(f"two runs of {file.name}", "" if pytest.histories(f"first-{file.stem}") == pytest.histories(f"again-{file.stem}") else "differ")
+            first, again = (pytest.histories(f"{run}-{file.stem}") for run in ("first", "again"))
+            ran = any(outcome == "PASSED" for _, outcome in outcomes)
+            tally.note(f"two runs of {file.name}", "" if first == again and bool(first) == ran else f"differ, of {len(first)} and {len(again)} histories")
 
 
 def of_page(tally: Tally, pytest: Pytest) -> None:

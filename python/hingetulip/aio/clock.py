@@ -24,6 +24,7 @@ class Clock:
     def __init__(self, loop: Loop) -> None:
         self.loop, self.net = loop, loop.net
         self.now: int = 0
+        self.seconds = 0.0  # of `now`
         self.steps = 0
         self.moved: list[Callable[[int], None]] = []
         """What is called with each new moment."""
@@ -31,7 +32,7 @@ class Clock:
     def select(self, timeout: Optional[float]) -> Sequence[object]:
         """The loop has nothing to do for `timeout` seconds, or, where that is None, until something comes."""
         net = self.net
-        wake = net.wake()
+        wake = net.wake() if net.changed else net.next_moment
         if timeout is None:
             self._move(wake)
         elif timeout > 0:
@@ -50,7 +51,7 @@ class Clock:
         if moment > LAST_MOMENT:
             raise Stuck(f"at {self.now / NS:.9f} s nothing can happen any more: no timer runs, and no packet is under way.{waiting(self.loop)}")
         if moment > self.now:
-            self.now, self.steps = moment, 0
+            self.now, self.seconds, self.steps = moment, moment / NS, 0
             for call in self.moved:
                 call(moment)
 

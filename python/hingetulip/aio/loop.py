@@ -7,7 +7,7 @@ import socket
 from typing import TYPE_CHECKING, Any, Callable, NoReturn, Optional, TypeVar
 
 from hingetulip.aio.clock import Clock
-from hingetulip.aio.datagram import NS, UDP, Address
+from hingetulip.aio.datagram import UDP, Address
 from hingetulip.aio.host import ANY, Protocol
 from hingetulip.aio.task import Task
 from hingetulip.aio.transport import Transport
@@ -36,7 +36,7 @@ class Loop(asyncio.BaseEventLoop):
 
     def time(self) -> float:
         """Seconds since the loop was made. `clock.now` has the ns."""
-        return self.clock.now / NS
+        return self.clock.seconds
 
     def _process_events(self, events: list[object]) -> None:
         """There are none: the clock gives datagrams to their sockets itself."""

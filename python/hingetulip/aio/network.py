@@ -29,6 +29,7 @@ from hingetulip.shaper import Shaper
 
 T = TypeVar("T")
 OWN = ("localhost", "127.0.0.1")
+ONCE = (0,)
 MOST_PIPES = 65535
 PATIENCE = 3600  # s of simulated time that tasks have to end when the network is closed
 
@@ -54,7 +55,7 @@ class Network:
         self.closing = False
         self.loop = Loop(self)
         self._made: Counter[str] = Counter()
-        self.changed, self._wake = False, NEVER  # whether the shaper was called since it was asked for its next moment
+        self.next_moment, self.changed = NEVER, False  # of the shaper, and whether it was called since it was asked for that
         self._held: dict[int, tuple[Link, Datagram, int]] = {}
 
     def number_of(self, kind: str) -> int:
@@ -124,17 +125,17 @@ class Network:
 
     def send(self, near: Host, it: Datagram) -> Optional[OSError]:
         """A host sends a datagram, or passes it on: what the system says where it has no way to the target."""
-        target = self.hosts.get(it.target[0])
+        target = near if it.target[0] in OWN else self.hosts.get(it.target[0])
         if self.closing:
             return None
-        if target is near or it.target[0] in OWN:
-            self._give(near, it._replace(target=(near.address, it.target[1])) if target is None else it)
+        if target is near:
+            self._give(near, it)
             return None
         link = None if target is None else self.routes.next(near, target)
         if link is None:
             self.unrouted[f"{near.name} > {it.target[0]}"] += 1
             return OSError(errno.ENETUNREACH, os.strerror(errno.ENETUNREACH))
-        for _ in range(1 if link.copies is None else link.copies(it)):
+        for _ in ONCE if link.copies is None else range(link.copies(it)):
             self._enter(link, it)
         return None
 
@@ -158,10 +159,11 @@ class Network:
 
     def wake(self) -> int:
         """The next moment of a link, in ns, or NEVER."""
-        if self.changed and not self.closing:
+        if not self.closing:
             found = self.shaper.wake()
-            self._wake, self.changed = NEVER if found is None else found, False
-        return self._wake
+            self.next_moment = NEVER if found is None else found
+        self.changed = False
+        return self.next_moment
 
     def deliver(self) -> None:
         """Datagrams whose moment has come leave their links."""
@@ -206,7 +208,7 @@ class Network:
         if self.loop.is_closed():
             return
         self.closing = True
-        self._wake = NEVER
+        self.next_moment = NEVER
         tasks = self.loop.pending()
         for task in tasks:
             task.cancel()
