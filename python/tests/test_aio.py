@@ -18,6 +18,7 @@ from pathlib import Path
 
 from hingetulip import LineError, Outcome, aio
 from hingetulip.aio import private_names
+from hingetulip.aio.drawn import Drawn
 from simulated_hosts import PROGRAM, Ends, exchange, network, opened
 
 MS = 10**6  # ns
@@ -207,6 +208,15 @@ class Repeats(unittest.TestCase):
         self.assertEqual(lost[0], lost[1])
         self.assertGreater(len(lost[0]), 5)
 
+    def test_words_are_those_of_hinge(self) -> None:
+        try:
+            from hinge.loss import Bernoulli
+        except ImportError:
+            self.skipTest("no hinge beside the module")
+        for seed, pipe in ((1, 1), (7, 2), (2**40, 65535)):
+            ours, theirs = Drawn(seed, pipe), Bernoulli(seed, pipe)
+            self.assertEqual([ours.next() for _ in range(100)], [theirs.next() for _ in range(100)])
+
     def test_a_model_of_loss(self) -> None:
         class Third:
             count = 0
@@ -215,12 +225,13 @@ class Repeats(unittest.TestCase):
                 self.count += 1
                 return 0 if self.count % 3 == 0 else 2**31 - 1
 
-        with aio.Network() as net:
-            one, other = net.host("10.0.0.1"), net.host("10.0.0.2")
-            net.link(one, other, "1ms", loss=Third())
-            net.link(other, one)
-            net.run(exchange(net, 9, 1))
-            self.assertEqual([it.data for it in net.dropped], [b"2", b"5", b"8"])
+        for classes in ({}, {"classes": {"all": "weight 2"}, "classify": lambda it: "all"}):
+            with aio.Network() as net:
+                one, other = net.host("10.0.0.1"), net.host("10.0.0.2")
+                net.link(one, other, "1ms", loss=Third(), **classes)
+                net.link(other, one)
+                net.run(exchange(net, 9, 1))
+                self.assertEqual([it.data for it in net.dropped], [b"2", b"5", b"8"])
 
     def test_clock_and_random_numbers_of_python(self) -> None:
         async def main() -> list[object]:

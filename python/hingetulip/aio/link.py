@@ -3,11 +3,11 @@
 from __future__ import annotations
 
 from collections import Counter
-from random import Random
 from typing import TYPE_CHECKING, Callable, Mapping, Optional, Protocol
 
 from hingetulip.aio.datagram import HEADERS, UDP, Datagram
 from hingetulip.aio.jitter import DelayOf, Jitter
+from hingetulip.aio.drawn import QUEUES, Drawn
 from hingetulip.aio.options import Options, Setting
 from hingetulip.records import Fate, Outcome
 
@@ -27,16 +27,6 @@ class Words(Protocol):
         """The word of the next packet, 0 to 2^31 - 1."""
 
 
-class Drawn:
-    """Random words of a seed and a direction."""
-
-    def __init__(self, seed: int, direction: int) -> None:
-        self.random = Random(f"{seed} {direction}")
-
-    def next(self) -> int:
-        return self.random.getrandbits(31)
-
-
 class Link:
     """One direction between two hosts, which can be configured anew under way.
 
@@ -53,11 +43,13 @@ class Link:
         self.counts: Counter[Outcome] = Counter()
         self.queues = {name: net.number_of("queue") for name in classes or {}}
         self.copies, self.jitter = copies, None if jitter is None else Jitter(net, jitter)
-        self.loss: Words = loss or Drawn(net.seed, self.pipe)
+        self.loss: Words = Drawn(net.seed, self.pipe) if loss is None else loss
         self.options = Options(options)
-        if loss is not None:
-            self.options.change({"plr": BY_MODEL})
         self.class_options = {name: Options(text) for name, text in (classes or {}).items()}
+        self.class_words = {number: Drawn(net.seed, QUEUES + number) if loss is None else loss for number in self.queues.values()}
+        if loss is not None:
+            for it in (self.options, *self.class_options.values()):
+                it.change({"plr": BY_MODEL})
         self._configure_pipe()
         for name in self.queues:
             self._configure_queue(name)
@@ -98,10 +90,11 @@ class Link:
         """A datagram arrives at the link, or at the pipe of its second pass."""
         queue = None if second or self.classify is None else self.queues[self.classify(it)]
         pipe = second or (self.pipe if queue is None else None)
+        word = LOSES_NONE if second else self.loss.next() if queue is None else self.class_words[queue].next()
         (source, sport), (target, dport), data = it
         numbers = self.net.numbers
         fate = self.net.shaper.submit(moment, len(data) + HEADERS, pipe=pipe, queue=queue, src=numbers[source], dst=numbers[target],
-                                      proto=UDP, sport=sport, dport=dport, word=LOSES_NONE if second else self.loss.next())
+                                      proto=UDP, sport=sport, dport=dport, word=word)
         if not second:
             self.counts[fate.outcome] += 1
         return fate

@@ -159,9 +159,8 @@ class Network:
 
     def wake(self) -> int:
         """The next moment of a link, in ns, or NEVER."""
-        if not self.closing:
-            found = self.shaper.wake()
-            self.next_moment = NEVER if found is None else found
+        found = self.shaper.wake() if self._held and not self.closing else None
+        self.next_moment = NEVER if found is None else found
         self.changed = False
         return self.next_moment
 
