@@ -123,6 +123,7 @@ class Moments(unittest.TestCase):
             self.assertEqual(link.line, "pipe 1 config plr 0.005 delay 4ms bw 1MByte/s")
             with self.assertRaises(LineError):
                 link.change(plr="a lot")
+            self.assertEqual(link.line, "pipe 1 config plr 0.005 delay 4ms bw 1MByte/s")
 
     def test_a_change_under_way(self) -> None:
         with network("delay 10ms") as net:

@@ -44,15 +44,13 @@ class Link:
         self.queues = {name: net.number_of("queue") for name in classes or {}}
         self.copies, self.jitter = copies, None if jitter is None else Jitter(net, jitter)
         self.loss: Words = Drawn(net.seed, self.pipe) if loss is None else loss
-        self.options = Options(options)
-        self.class_options = {name: Options(text) for name, text in (classes or {}).items()}
+        by_model: dict[str, Setting] = {} if loss is None else {"plr": BY_MODEL}
+        self.options = Options(options).changed(by_model)
+        self.class_options = {name: Options(text).changed(by_model) for name, text in (classes or {}).items()}
         self.class_words = {number: Drawn(net.seed, QUEUES + number) if loss is None else loss for number in self.queues.values()}
-        if loss is not None:
-            for it in (self.options, *self.class_options.values()):
-                it.change({"plr": BY_MODEL})
-        self._configure_pipe()
+        net.obey(self.line)
         for name in self.queues:
-            self._configure_queue(name)
+            self._configure_class(name, self.class_options[name])
 
     def __repr__(self) -> str:
         return f"<Link {self.near.name} > {self.far.name}: {self.line}>"
@@ -60,31 +58,36 @@ class Link:
     @property
     def line(self) -> str:
         """The configuration line of the pipe."""
-        return f"pipe {self.pipe} config {self.options}".strip()
+        return self._line(self.options)
+
+    def _line(self, options: Options) -> str:
+        return f"pipe {self.pipe} config {options}".strip()
 
     def configure(self, options: str) -> None:
-        """Gives all options anew, as a `pipe config` line does: one that is left away has its default."""
-        self.options = Options(options)
-        self._configure_pipe()
+        """Gives all options anew, as a `pipe config` line does: one that is left away has its default.
+
+        LineError: they are none, and the link stays as it was.
+        """
+        self._configure(Options(options))
 
     def change(self, **settings: Setting) -> None:
         """Sets some options of the pipe and keeps the others: `link.change(plr=0, bw="2Mbit/s")`. None sets the default.
 
-        `delay` is in ms, `bw` in bit/s where it has no unit, and `mask` takes the fields.
+        `delay` is in ms, `bw` in bit/s if it has no unit, and `mask` takes the fields. LineError is as with `configure`.
         """
-        self.options.change(settings)
-        self._configure_pipe()
+        self._configure(self.options.changed(settings))
 
     def change_class(self, name: str, **settings: Setting) -> None:
         """As `change`, of the queue of a class: `link.change_class("video", weight=10)`."""
-        self.class_options[name].change(settings)
-        self._configure_queue(name)
+        self._configure_class(name, self.class_options[name].changed(settings))
 
-    def _configure_pipe(self) -> None:
-        self.net.obey(self.line)
+    def _configure(self, options: Options) -> None:
+        self.net.obey(self._line(options))
+        self.options = options
 
-    def _configure_queue(self, name: str) -> None:
-        self.net.obey(f"queue {self.queues[name]} config pipe {self.pipe} {self.class_options[name]}".strip())
+    def _configure_class(self, name: str, options: Options) -> None:
+        self.net.obey(f"queue {self.queues[name]} config pipe {self.pipe} {options}".strip())
+        self.class_options[name] = options
 
     def submit(self, moment: int, it: Datagram, second: int = 0) -> Fate:
         """A datagram arrives at the link, or at the pipe of its second pass."""

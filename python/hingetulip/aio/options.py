@@ -60,13 +60,16 @@ class Options:
             name = "mask" if word == "mask" else taken[0]
             self.settings[name] = " ".join(taken[1:])
 
-    def change(self, settings: dict[str, Setting]) -> None:
-        """Sets some; None takes one away, so that it has its default."""
+    def changed(self, settings: dict[str, Setting]) -> Options:
+        """These with some set anew. None takes one away, so that it has its default."""
+        made = Options("")
+        made.settings = dict(self.settings)
         for name, value in settings.items():
             if value is None:
-                self.settings.pop(name, None)
+                made.settings.pop(name, None)
             else:
-                self.settings[name] = decimal(value) if isinstance(value, float) else str(value)
+                made.settings[name] = decimal(value) if isinstance(value, float) else str(value)
+        return made
 
     def __str__(self) -> str:
         return " ".join(f"{name} {value}".strip() for name, value in self.settings.items())
