@@ -48,7 +48,7 @@ class RecordedShaper(Shaper):
             self.file.write(f"c,0,{call}\nr,{reply}\n{items}")
 
     def configure(self, line: Union[str, bytes]) -> None:
-        text = (line.decode() if isinstance(line, bytes) else line).partition("#")[0].strip()
+        text = (line if isinstance(line, str) else bytes(line).decode(errors="replace")).partition("#")[0].strip()
         try:
             super().configure(line)
         except RefusedError as refused:

@@ -16,9 +16,10 @@ import unittest
 import uuid
 from pathlib import Path
 
-from hingetulip import LineError, Outcome, aio
+from hingetulip import LineError, Outcome, RefusedError, aio
 from hingetulip.aio import private_names
 from hingetulip.aio.drawn import Drawn
+from hingetulip.recorded import RecordedShaper
 from simulated_hosts import PROGRAM, Ends, exchange, network, opened
 
 MS = 10**6  # ns
@@ -266,6 +267,28 @@ class Histories(unittest.TestCase):
         self.assertEqual([it for it in lines if it.startswith("#")], [])
         replies = [reply for call, reply in zip(lines, lines[1:]) if call.startswith("c,0,submit")]
         self.assertEqual([it.row for it in dropped], [row for row, reply in enumerate(replies, 1) if not reply.startswith("r,queued")])
+
+
+class Recorded(unittest.TestCase):
+    def test_calls_of_a_recorded_shaper(self) -> None:
+        with tempfile.TemporaryDirectory() as folder:
+            history = Path(folder) / "h"
+            with RecordedShaper(history, seed=1) as shaper:
+                for line in ("pipe 1 config bw 8Mbit/s # a note", bytearray(b"queue 1 config pipe 1"), "# nothing", "queue delete 1"):
+                    shaper.configure(line)
+                for line, error in ((b"pipe \xff", LineError), ("queue delete 1", RefusedError), ("queue 1 config pipe 9", RefusedError)):
+                    with self.assertRaises(error):
+                        shaper.configure(line)
+                shaper.submit(0, 1000, pipe=1)
+                shaper.submit(0, 1000, pipe=2)
+                shaper.advance(5)
+                self.assertEqual([it.due for it in shaper.collect(MS)], [MS])
+                shaper.collect(0)
+                for call, given in ((shaper.submit_many, None), (shaper.collect_many, 0)):
+                    with self.assertRaises(NotImplementedError):
+                        call(given)
+            done = subprocess.run([PROGRAM, "audit", history], capture_output=True, text=True)
+        self.assertEqual(done.stdout, "lawful 10\n")
 
 
 class Faults(unittest.TestCase):
