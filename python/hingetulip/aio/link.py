@@ -41,6 +41,7 @@ class Link:
             raise TypeError("classes are given together with the function that classifies")
         self.net, self.near, self.far, self.pipe, self.classify = net, near, far, net.number_of("pipe"), classify
         self.counts: Counter[Outcome] = Counter()
+        self.delay = 0  # ns: a packet is under way for no less
         self.queues = {name: net.number_of("queue") for name in classes or {}}
         self.copies, self.jitter = copies, None if jitter is None else Jitter(net, jitter)
         self.loss: Words = Drawn(net.seed, self.pipe) if loss is None else loss
@@ -48,7 +49,7 @@ class Link:
         self.options = Options(options).changed(by_model)
         self.class_options = {name: Options(text).changed(by_model) for name, text in (classes or {}).items()}
         self.class_words = {number: Drawn(net.seed, QUEUES + number) if loss is None else loss for number in self.queues.values()}
-        net.obey(self.line)
+        self._configure(self.options)
         for name in self.queues:
             self._configure_class(name, self.class_options[name])
 
@@ -83,7 +84,7 @@ class Link:
 
     def _configure(self, options: Options) -> None:
         self.net.obey(self._line(options))
-        self.options = options
+        self.options, self.delay = options, options.delay
 
     def _configure_class(self, name: str, options: Options) -> None:
         self.net.obey(f"queue {self.queues[name]} config pipe {self.pipe} {options}".strip())

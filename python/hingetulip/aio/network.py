@@ -141,8 +141,9 @@ class Network:
 
     def _enter(self, link: Link, it: Datagram, second: int = 0) -> None:
         self.rows += 1
-        self.changed = True
         now = self.loop.clock.now
+        if second or now + link.delay < self.next_moment:  # else the packet isn't due before the shaper is asked again
+            self.changed = True
         fate = link.submit(now, it, second)
         if fate.packet is None:
             self.dropped.append(Dropped(self.rows, now, *it, fate.outcome))

@@ -11,6 +11,7 @@ RATE = re.compile(r"\d+[kmg]?(bits?|bytes?)/s", re.ASCII | re.IGNORECASE)
 DELAY = re.compile(r"\d+ms", re.ASCII)
 PERCENT = re.compile(r"\d+(\.\d+)?%", re.ASCII)
 VALUED = ("bw", "delay", "queue", "plr", "buckets", "weight")  # options with one value each
+MS = 10**6  # ns
 PLACES = 18  # digits behind the point that the language takes
 
 
@@ -70,6 +71,11 @@ class Options:
             else:
                 made.settings[name] = decimal(value) if isinstance(value, float) else str(value)
         return made
+
+    @property
+    def delay(self) -> int:
+        """ns of a delay that the language has taken."""
+        return int(self.settings.get("delay", "0").rstrip("ms")) * MS
 
     def __str__(self) -> str:
         return " ".join(f"{name} {value}".strip() for name, value in self.settings.items())
