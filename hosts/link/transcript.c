@@ -14,8 +14,8 @@
 #include "basics.h"
 #include "page.h"
 
-/* The record with which a transcript begins: the form and its version, of links whose packets keep their order. */
-#define FIRST_RECORD "dummynet-history,3\n"
+/* The record with which a transcript begins. Behind it remarks may come between entries, and links keep the order of their packets. */
+#define FIRST_RECORD "dummynet-live,1\n"
 
 enum { BUFFER = 1 << 16 };
 

@@ -27,6 +27,7 @@ REPORT = "event,row,flow,packet,at,start,due\nout,1,0,0,0,0,1000000\n"
 HISTORY = ("dummynet-history,3\nc,0,configure,pipe 1 config bw 8000000bit/s\nr,configured\n"
            "c,0,submit,pipe,1,10.0.0.1,10.0.0.2,17,1000,2000,1000,0,0\nr,queued,0,0,0\n"
            "c,0,collect,4611686018427387904\nr,delivered,4611686018427387904,1\nd,0,0,0,1000000\nend,3\n")
+TRANSCRIPT = HISTORY.replace("dummynet-history,3", "dummynet-live,1")
 CHANGED = HISTORY.replace("r,queued,0,0,0", "r,queued,0,0,1")
 FILES = {"c": CONFIG, "p": PACKETS, "h": HISTORY}
 OLDER = "an older history\n"
@@ -79,9 +80,9 @@ FORMS = [
     fault("a history of one byte more", ["audit", "--most-history", str(len(HISTORY) - 1), "h"], 6, "history too long"),
     Case("lawful history", ["audit", "h"], 0, "lawful 3\n"),
     Case("changed history", ["audit", "h"], 1, "differs 1\n", files={"h": CHANGED}),
-    Case("a live session", ["live"], 0, HISTORY, stdin=SESSION),
+    Case("a live session", ["live"], 0, TRANSCRIPT, stdin=SESSION),
     Case("a live session without lines", ["live"], 0, "dummynet-live,1\nend,0\n"),
-    Case("a bad line of a live session", ["live"], 4, HISTORY.replace("end,3\n", f"{BAD_LINE}end,3\n"), stdin=f"{SESSION}hello\n"),
+    Case("a bad line of a live session", ["live"], 4, TRANSCRIPT.replace("end,3\n", f"{BAD_LINE}end,3\n"), stdin=f"{SESSION}hello\n"),
     Case("CR LF in a joined input", [], 0, REPORT, stdin=f"{CONFIG}--\n{PACKETS}".replace("\n", "\r\n")),
     Case("CR LF in two files", replay(), 0, REPORT, files={"c": CONFIG.replace("\n", "\r\n"), "p": PACKETS.replace("\n", "\r\n")}),
     Case("CR LF in a history", ["audit", "h"], 0, "lawful 3\n", files={"h": HISTORY.replace("\n", "\r\n")}),

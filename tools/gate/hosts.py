@@ -85,7 +85,7 @@ def page(tally: Tally, program: str, folder: Path) -> None:
     tally.equal("the session without a clock", (0, printed, ""), (done.returncode, done.stdout, done.stderr))
 
 
-CUT = """dummynet-history,3
+CUT = """dummynet-live,1
 c,0,configure,pipe 1 config delay 1
 r,configured
 c,0,submit,pipe,1,10.0.0.1,10.0.0.2,17,1000,2000,1000,0,0
