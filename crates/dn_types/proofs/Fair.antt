@@ -11,7 +11,7 @@ use Rattle.dn_types.specs.Trace.{Link, shared, link_eq, Accepted, Start, Event, 
 use Rattle.dn_types.specs.Wf2q.{Stamped, heads, pick}
 use Rattle.dn_types.specs.declared.call.Call.{Call}
 use Rattle.dn_types.proofs.EachHead.{at-head, all-heads}
-use Rattle.dn_types.proofs.Firsts.{heads-same, stamped_of, pick-first}
+use Rattle.dn_types.proofs.Firsts.{heads-same, stamped_of, stamped-first, next-picked}
 use Rattle.dn_types.proofs.Settled.{and-left, link_eq-true}
 use Rattle.dn_types.proofs.Settling.{and-right, first-own, backlog-own, is_below}
 use Rattle.dn_types.proofs.Shares.{pick-is-fair}
@@ -26,44 +26,19 @@ module _ (pipe : ℕ) where
   abbrev link : Link
   link = shared pipe
 
-  first-stamped : (ps : List Accepted) (p : Accepted) → slice_get ps 0 ≡ Some p → slice_get (stamped_of ps) 0 ≡ Some p.stamped
-  first-stamped [] p e = absurd cc
-  first-stamped (r ∷ ps) p e = let same : r ≡ p = cc in ap (λ (x : Accepted). Some x.stamped) same
-
-  stamped-first : (ps : List Accepted) (h : Stamped) → slice_get (stamped_of ps) 0 ≡ Some h → (p : Accepted) × (slice_get ps 0 ≡ Some p) × (p.stamped ≡ h)
-  stamped-first [] h e = absurd cc
-  stamped-first (p ∷ ps) h e = let same : p.stamped ≡ h = cc in (p, refl, same)
-
   pub fair-start : (t : List Event) (p : Accepted) (flow : ℕ) (x : Accepted) → IsSteady t → next_packet link t ≡ Some p → slice_get (backlog link flow t) 0 ≡ Some x →
       p.stamped.start_tag ≤ x.stamped.finish_tag
-  fair-start t p flow x h next first = by (pick (virtual_time link t) (link_heads link t)) refl next
+  fair-start t p flow x h next first =
+      let fair = pick-is-fair (virtual_time (shared pipe) t) (link_heads (shared pipe) t) p.stamped (next-picked pipe t p next) put in
+      let over = subst (All (λ (z : Stamped). p.stamped.start_tag ≤ z.finish_tag)) (sym heads_are) fair in
+      let low = is_below (shared pipe) flow (record { packet = x; moment = 0; transmission = 0; delay = 0 }) t first in
+      at-head (λ (z : Stamped). p.stamped.start_tag ≤ z.finish_tag) (flow_bound t) (λ f. stamped_of (backlog (shared pipe) f t)) flow x.stamped low (stamped-first (backlog (shared pipe) flow t) x first) over
     where
-      own_firsts : (f : ℕ) (y : Stamped) → slice_get (stamped_of (backlog (shared pipe) f t)) 0 ≡ Some y → y.flow ≡ f
-      own_firsts f y e =
-          let one = stamped-first (backlog (shared pipe) f t) y e in
-          ap (λ (z : Stamped). z.flow) (sym one.2)
-          ∙ eqb-true one.0.stamped.flow f (and-right (link_eq one.0.link (shared pipe)) (nat_eq one.0.stamped.flow f) (first-own (shared pipe) f one.0 (backlog (shared pipe) f t) one.1 (backlog-own (shared pipe) f t)))
-
       heads_are : heads (flow_bound t) (λ f. stamped_of (backlog (shared pipe) f t)) ≡ link_heads (shared pipe) t
       heads_are = heads-same (flow_bound t) (λ f. stamped_of (backlog (shared pipe) f t)) (λ f. backlog (shared pipe) f t) (λ f. refl)
 
       put : All (λ (y : Stamped). y.start_tag ≤ y.finish_tag) (link_heads (shared pipe) t)
       put = All-map (λ (y : Stamped). y.start_tag ≤ y.finish_tag) (λ (a : Accepted). a.stamped) (heads (flow_bound t) (λ f. backlog (shared pipe) f t)) (all-heads (λ (a : Accepted). a.stamped.start_tag ≤ a.stamped.finish_tag) (flow_bound t) (λ f. backlog (shared pipe) f t) (λ f. all-put (shared pipe) f t h))
-
-      by : (o : Option Stamped) → pick (virtual_time (shared pipe) t) (link_heads (shared pipe) t) ≡ o → option_and_then (λ y. slice_get (backlog (shared pipe) y.flow t) 0) o ≡ Some p →
-          p.stamped.start_tag ≤ x.stamped.finish_tag
-      by None e is = absurd cc
-      by (Some y) e is =
-          let fair = pick-is-fair (virtual_time (shared pipe) t) (link_heads (shared pipe) t) y e put in
-          let over = subst (All (λ (z : Stamped). y.start_tag ≤ z.finish_tag)) (sym heads_are) fair in
-          let low = is_below (shared pipe) flow (record { packet = x; moment = 0; transmission = 0; delay = 0 }) t first in
-          let here = at-head (λ (z : Stamped). y.start_tag ≤ z.finish_tag) (flow_bound t) (λ f. stamped_of (backlog (shared pipe) f t)) flow x.stamped low (first-stamped (backlog (shared pipe) flow t) x first) over in
-          let front = pick-first (λ f. stamped_of (backlog (shared pipe) f t)) own_firsts (flow_bound t) (virtual_time (shared pipe) t) y (ap (λ (hs : List Stamped). pick (virtual_time (shared pipe) t) hs) heads_are ∙ e) in
-          let own_front = first-stamped (backlog (shared pipe) y.flow t) p is in
-          let both : Some p.stamped ≡ Some y = sym own_front ∙ front in
-          let same : p.stamped ≡ y = cc in
-          let tags = ap (λ (z : Stamped). z.start_tag) same in
-          omega arith
 
   -- ---- A stretch
 

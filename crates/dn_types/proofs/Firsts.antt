@@ -68,7 +68,7 @@ module _ (q : ℕ → List Stamped) (own_firsts : (f : ℕ) (h : Stamped) → sl
   pub pick-first : (n v : ℕ) (h : Stamped) → pick v (heads n q) ≡ Some h → slice_get (q h.flow) 0 ≡ Some h
   pick-first n v h e = first_to_go-one-of IsFirst (filter (λ x. nat_le x.start_tag (raised v (heads n q))) (heads n q)) h (All-filter (λ x. nat_le x.start_tag (raised v (heads n q))) IsFirst (heads n q) (heads-first n)) e
 
--- ---- A link with no next packet has empty queues
+-- ---- The next packet of a shared link
 
 first-stamped : (ps : List Accepted) (h : Stamped) → slice_get (stamped_of ps) 0 ≡ Some h → (p : Accepted) × (slice_get ps 0 ≡ Some p) × (p.stamped ≡ h)
 first-stamped [] h e = absurd cc
@@ -78,7 +78,11 @@ length-stamped : (ps : List Accepted) → length (stamped_of ps) ≡ length ps
 length-stamped [] = refl
 length-stamped (p ∷ ps) = let rest = length-stamped ps in omega arith
 
-module _ (pipe : ℕ) (trace : List Event) (none : next_packet (shared pipe) trace ≡ None) where
+pub stamped-first : (ps : List Accepted) (p : Accepted) → slice_get ps 0 ≡ Some p → slice_get (stamped_of ps) 0 ≡ Some p.stamped
+stamped-first [] p e = absurd cc
+stamped-first (r ∷ ps) p e = let same : r ≡ p = cc in ap (λ (x : Accepted). Some x.stamped) same
+
+module _ (pipe : ℕ) (trace : List Event) where
   abbrev l : Link
   l = shared pipe
 
@@ -93,27 +97,39 @@ module _ (pipe : ℕ) (trace : List Event) (none : next_packet (shared pipe) tra
   heads_are : heads (flow_bound trace) q ≡ link_heads l trace
   heads_are = heads-same (flow_bound trace) q (λ f. backlog l f trace) (λ f. refl)
 
-  none_picked : pick (virtual_time l trace) (link_heads l trace) ≡ None
-  none_picked = by (pick (virtual_time l trace) (link_heads l trace)) refl
+  -- A packet that is next has the tags of the pick.
+  pub next-picked : (p : Accepted) → next_packet (shared pipe) trace ≡ Some p → pick (virtual_time (shared pipe) trace) (link_heads (shared pipe) trace) ≡ Some p.stamped
+  next-picked p next = by (pick (virtual_time l trace) (link_heads l trace)) refl next
     where
-      by : (o : Option Stamped) → pick (virtual_time l trace) (link_heads l trace) ≡ o → pick (virtual_time l trace) (link_heads l trace) ≡ None
-      by None e = e
-      by (Some h) e =
+      by : (o : Option Stamped) → pick (virtual_time l trace) (link_heads l trace) ≡ o → option_and_then (λ h. slice_get (backlog l h.flow trace) 0) o ≡ Some p → pick (virtual_time l trace) (link_heads l trace) ≡ Some p.stamped
+      by None e is = absurd cc
+      by (Some h) e is =
           let at_front = pick-first q own_firsts (flow_bound trace) (virtual_time l trace) h (ap (λ (hs : List Stamped). pick (virtual_time l trace) hs) heads_are ∙ e) in
-          let first = first-stamped (backlog l h.flow trace) h at_front in
-          let there : next_packet l trace ≡ Some first.0 = ap (option_and_then (λ (x : Stamped). slice_get (backlog l x.flow trace) 0)) e ∙ first.1 in
-          let t = sym none ∙ there in
-          absurd cc
+          e ∙ sym at_front ∙ stamped-first (backlog l h.flow trace) p is
 
-  no_heads : length (link_heads l trace) ≡ 0
-  no_heads = by (length (link_heads l trace)) refl
-    where
-      by : (n : ℕ) → length (link_heads l trace) ≡ n → length (link_heads l trace) ≡ 0
-      by zero e = e
-      by (suc n) e =
-          let some = pick-some (virtual_time l trace) (link_heads l trace) (omega arith) in
-          let t : false ≡ true = sym (ap (λ (o : Option Stamped). is_some o) none_picked) ∙ some in
-          absurd cc
+  -- A link with no next packet has empty queues.
+  module _ (none : next_packet (shared pipe) trace ≡ None) where
+    none_picked : pick (virtual_time l trace) (link_heads l trace) ≡ None
+    none_picked = by (pick (virtual_time l trace) (link_heads l trace)) refl
+      where
+        by : (o : Option Stamped) → pick (virtual_time l trace) (link_heads l trace) ≡ o → pick (virtual_time l trace) (link_heads l trace) ≡ None
+        by None e = e
+        by (Some h) e =
+            let at_front = pick-first q own_firsts (flow_bound trace) (virtual_time l trace) h (ap (λ (hs : List Stamped). pick (virtual_time l trace) hs) heads_are ∙ e) in
+            let first = first-stamped (backlog l h.flow trace) h at_front in
+            let there : next_packet l trace ≡ Some first.0 = ap (option_and_then (λ (x : Stamped). slice_get (backlog l x.flow trace) 0)) e ∙ first.1 in
+            let t = sym none ∙ there in
+            absurd cc
 
-  pub none-shared : (flow : ℕ) → backlog l flow trace ≡ []
-  none-shared flow = ⊎_elim (λ high. backlog-above l flow trace high.1) (λ low. total-at (flow_bound trace) (λ f. backlog l f trace) flow low.1 (heads-none (flow_bound trace) (λ f. backlog l f trace) (sym (length-stamped (heads (flow_bound trace) (λ f. backlog l f trace))) ∙ no_heads))) (leb_tells (flow_bound trace) flow)
+    no_heads : length (link_heads l trace) ≡ 0
+    no_heads = by (length (link_heads l trace)) refl
+      where
+        by : (n : ℕ) → length (link_heads l trace) ≡ n → length (link_heads l trace) ≡ 0
+        by zero e = e
+        by (suc n) e =
+            let some = pick-some (virtual_time l trace) (link_heads l trace) (omega arith) in
+            let t : false ≡ true = sym (ap (λ (o : Option Stamped). is_some o) none_picked) ∙ some in
+            absurd cc
+
+    pub none-shared : (flow : ℕ) → backlog l flow trace ≡ []
+    none-shared flow = ⊎_elim (λ high. backlog-above l flow trace high.1) (λ low. total-at (flow_bound trace) (λ f. backlog l f trace) flow low.1 (heads-none (flow_bound trace) (λ f. backlog l f trace) (sym (length-stamped (heads (flow_bound trace) (λ f. backlog l f trace))) ∙ no_heads))) (leb_tells (flow_bound trace) flow)

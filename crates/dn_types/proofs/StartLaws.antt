@@ -6,15 +6,17 @@ use Rattle.dn_types.specs.Clock.{effective_moment}
 use Rattle.dn_types.specs.Configuration.{settings}
 use Rattle.dn_types.specs.Explained.{IsStartBy}
 use Rattle.dn_types.specs.Links.{free, transmission_time}
-use Rattle.dn_types.specs.SharedLinks.{next_packet}
+use Rattle.dn_types.specs.SharedLinks.{next_packet, virtual_time, link_heads}
 use Rattle.dn_types.specs.Starts.{start_at, bandwidth_of, delay_of}
-use Rattle.dn_types.specs.Trace.{Start, Event, arrived, started, pipe_of}
+use Rattle.dn_types.specs.Trace.{Link, shared, Start, Event, arrived, started, pipe_of}
+use Rattle.dn_types.specs.Wf2q.{pick}
 use Rattle.dn_types.specs.declared.call.Call.{Call}
 use Rattle.dn_types.specs.declared.command.Command.{Command}
 use Rattle.dn_types.specs.declared.command.Command.TheVariants.{Pipe, Queue, DeletePipe, DeleteQueue}
 use Rattle.dn_types.specs.declared.target.Target.TheVariants.{Pipe as ToPipe}
 use Rattle.dn_types.proofs.InForce.{IsKept, IsOfTarget, settings-kept}
 use Rattle.dn_types.proofs.Begun.{IsBegun, IsCaused, call-causes, adds-among}
+use Rattle.dn_types.proofs.Firsts.{next-picked}
 
 abbrev IsPipe : Command → Type 0
 IsPipe (Pipe number bw delay limit loss buckets mask) = ⊤
@@ -30,6 +32,10 @@ module _ (calls : List Call) (c : Call) (later between : List Event) (s : Start)
 
   pub starts-the-next : next_packet s.packet.link (between ++ trace_of calls) ≡ Some s.packet
   starts-the-next = begun.picked
+
+  pub starts-the-pick : (pipe : ℕ) → s.packet.link ≡ shared pipe →
+      pick (virtual_time (shared pipe) (between ++ trace_of calls)) (link_heads (shared pipe) (between ++ trace_of calls)) ≡ Some s.packet.stamped
+  starts-the-pick pipe on = next-picked pipe (between ++ trace_of calls) s.packet (ap (λ (l : Link). next_packet l (between ++ trace_of calls)) (sym on) ∙ starts-the-next)
 
   with-setting : (o : Option Command) → s ≡ start_at (settings calls) s.packet.link s.packet s.moment → settings calls (ToPipe (pipe_of s.packet.link)) ≡ o →
       (s.transmission ≡ transmission_time (bandwidth_of o) s.packet.stamped.len) × (s.delay ≡ delay_of o)

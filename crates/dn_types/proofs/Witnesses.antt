@@ -32,13 +32,14 @@ use Rattle.dn_types.proofs.Bridge.{exhausted-changes-nothing, replies-by-standin
 use Rattle.dn_types.proofs.Dues.{due-is-last, due-moments-never-fall, gives-once, gives-what-is-due, leaves-what-is-not-due}
 use Rattle.dn_types.proofs.ExampleWords.{delivery, key, no_mask, pipe, queue, status, to_pipe, to_queue, tuple}
 use Rattle.dn_types.proofs.Giving.{gives-started}
-use Rattle.dn_types.proofs.Histories.{counts-up-to-the-limit, lawful-replies, own-entries-grow}
+use Rattle.dn_types.proofs.Histories.{counts-up-to-the-limit, lawful-replies, lawful-more, own-entries-grow}
 use Rattle.dn_types.proofs.Once.{starts-once}
 use Rattle.dn_types.proofs.Ordered.{sends-one-at-a-time, starts-in-order}
 use Rattle.dn_types.proofs.PickLaws.{pick-is-first}
 use Rattle.dn_types.proofs.Picks.{pick-some}
 use Rattle.dn_types.proofs.Settled.{settled-ends}
 use Rattle.dn_types.proofs.Shares.{grows-by-work, pick-is-least}
+use Rattle.dn_types.proofs.StartLaws.{starts-the-pick}
 use Rattle.dn_types.proofs.TransmissionTime.{transmission-is-least}
 
 -- Two packets to queue 1 of weight 1 and three to queue 2 of weight 3, all at 0, newest first.
@@ -93,6 +94,10 @@ it_is_picked = refl
 
 it_is_first : IsFirstEligible (virtual_time (shared 1) before) (link_heads (shared 1) before) picked
 it_is_first = pick-is-first (virtual_time (shared 1) before) (link_heads (shared 1) before) picked refl
+
+-- What starts at 1 ms is the pick among what waits then.
+it_is_started : pick (virtual_time (shared 1) (drop 1 before)) (link_heads (shared 1) (drop 1 before)) ≡ Some newest.packet.stamped
+it_is_started = starts-the-pick calls (Advance 1000000) [] [] newest refl 1 refl
 
 -- At 1 ms the first packets of both queues have the start tag 65536000, which virtual time has reached. That of queue 2 is
 -- picked, and its finish tag is the lesser.
@@ -169,6 +174,9 @@ it_is_lawful = (refl, (refl, (refl, tt)))
 
 its_replies : replies Ordered (calls_of history) ≡ reverse (map (λ e. e.reply) history)
 its_replies = lawful-replies Ordered history it_is_lawful
+
+it_stays_lawful : IsLawful Ordered (history ++ entry 1 (to_pipe 1 2000000) (Queued 2000000 0 1) ∷ [])
+it_stays_lawful = lawful-more Ordered history (entry 1 (to_pipe 1 2000000) (Queued 2000000 0 1)) it_is_lawful refl
 
 one_own_entry_more : own_entries 0 history ≡ own_entries 0 (entry 0 (pipe 1 8000000 0) Configured ∷ entry 1 (to_pipe 1 0) (Queued 0 0 0) ∷ []) ++ entry 0 (Collect 1000000) (Delivered 1000000 (delivery 0 0 0 1000000 ∷ [])) ∷ []
 one_own_entry_more = own-entries-grow 0 (entry 0 (pipe 1 8000000 0) Configured ∷ entry 1 (to_pipe 1 0) (Queued 0 0 0) ∷ []) (entry 0 (Collect 1000000) (Delivered 1000000 (delivery 0 0 0 1000000 ∷ [])))

@@ -13,7 +13,7 @@ use Rattle.dn_types.specs.Replies.{replies, reply}
 use Rattle.dn_types.specs.Standing.{standing}
 use Rattle.dn_types.specs.Starts.{next_start, settled}
 use Rattle.dn_types.specs.Trace.{Event, Link, Start, started, backlog}
-use Rattle.dn_types.specs.Wf2q.{Stamped, pick, raised, is_eligible, goes_before}
+use Rattle.dn_types.specs.Wf2q.{Stamped, pick, raised, goes_before}
 use Rattle.dn_types.specs.declared.call.Call.{Call}
 use Rattle.dn_types.specs.declared.call.Call.TheVariants.{Collect}
 use Rattle.dn_types.specs.declared.entry.Entry.{Entry}
@@ -29,11 +29,12 @@ SettlingEnds = (settings : Settings) (at : ℕ) (link : Link) (trace : List Even
 abbrev pub PickIsThere : Type 0
 PickIsThere = (virtual_time : ℕ) (hs : List Stamped) → 0 < length hs → is_some (pick virtual_time hs) ≡ true
 
--- The packet is one of the heads, it is eligible at the raised virtual time, and none of the eligible heads goes before it.
+-- The packet is one of the heads, and the raised virtual time has reached its start tag. Of the heads whose start tag it has
+-- reached, none goes before the packet.
 pub record IsFirstEligible (virtual_time : ℕ) (hs : List Stamped) (h : Stamped) : Type 0 where
   pub is_head : Contains hs h
-  pub may_go : is_eligible (raised virtual_time hs) h ≡ true
-  pub is_first : All (λ x. is_eligible (raised virtual_time hs) x ≡ true → goes_before x h ≡ false) hs
+  pub may_go : h.start_tag ≤ raised virtual_time hs
+  pub is_first : All (λ x. x.start_tag ≤ raised virtual_time hs → goes_before x h ≡ false) hs
 
 abbrev pub PickIsFirst : Type 0
 PickIsFirst = (virtual_time : ℕ) (hs : List Stamped) (h : Stamped) → pick virtual_time hs ≡ Some h → IsFirstEligible virtual_time hs h
@@ -83,6 +84,11 @@ DueMomentsNeverFall = (link : Link) (later trace : List Event) → last_due Orde
 -- The replies of a lawful history are those to its calls.
 abbrev pub LawfulReplies : Type 0
 LawfulReplies = (rule : Rule) (history : List Entry) → IsLawful rule history → replies rule (calls_of history) ≡ reverse (map (λ e. e.reply) history)
+
+-- The empty history is lawful, and a lawful one stays so with an entry more whose reply is the one after its calls.
+abbrev pub LawfulHistoriesGrow : Type 0
+LawfulHistoriesGrow = (rule : Rule) → IsLawful rule []
+    × ((history : List Entry) (e : Entry) → IsLawful rule history → e.reply ≡ reply rule (calls_of history) e.call → IsLawful rule (history ++ e ∷ []))
 
 -- An entry more is its caller's own, and no other caller's.
 abbrev pub OwnEntriesGrow : Type 0

@@ -9,7 +9,7 @@ use Rattle.dn_types.specs.Explained.{IsTagged, IsJudgedBy}
 use Rattle.dn_types.specs.Flows.{keys}
 use Rattle.dn_types.specs.Links.{free, last_due}
 use Rattle.dn_types.specs.SharedLinks.{virtual_time, link_heads}
-use Rattle.dn_types.specs.Trace.{Link, Accepted, Start, Event, arrived, started, backlog, pipe_of}
+use Rattle.dn_types.specs.Trace.{Link, shared, Accepted, Start, Event, arrived, started, backlog, pipe_of}
 use Rattle.dn_types.specs.Wf2q.{Stamped, pick, raised}
 use Rattle.dn_types.specs.declared.call.Call.{Call}
 use Rattle.dn_types.specs.declared.call.Call.TheVariants.{Configure, Submit, Advance}
@@ -36,6 +36,12 @@ TagsByWeight = (calls : List Call) (target : Target) (packet : Packet) (moment :
 abbrev pub HeadsAreFirst : Type 0
 HeadsAreFirst = (link : Link) (flow : ℕ) (trace : List Event) →
     filter (λ h. nat_eq h.flow flow) (link_heads link trace) ≡ map (λ p. p.stamped) (take 1 (backlog link flow trace))
+
+-- What starts on a shared link is the pick among its heads at its virtual time.
+abbrev pub StartsThePick : Type 0
+StartsThePick = (calls : List Call) (c : Call) (later between : List Event) (s : Start) →
+    trace_of (c ∷ calls) ≡ later ++ started s ∷ between ++ trace_of calls → (pipe : ℕ) → s.packet.link ≡ shared pipe →
+    pick (virtual_time (shared pipe) (between ++ trace_of calls)) (link_heads (shared pipe) (between ++ trace_of calls)) ≡ Some s.packet.stamped
 
 -- No packet starts in whose favour another flow is passed over by more than a packet: the pick's start tag is at most the
 -- finish tag of each head.

@@ -15,7 +15,8 @@ ghost use Rattle.dn_types.specs.KeptLaws.{PacketsSpareTags, TagsAreKept, Virtual
 ghost use Rattle.dn_types.specs.Laws.{BytesAreBounded, CountsAreBounded, CountsUpToTheLimit};
 ghost use Rattle.dn_types.specs.Laws.{DueIsLast, DueMomentsAreBounded, DueMomentsNeverFall};
 ghost use Rattle.dn_types.specs.Laws.{ExhaustedChangesNothing, GivesOnce, GivesStarted};
-ghost use Rattle.dn_types.specs.Laws.{GivesWhatIsDue, LawfulReplies, LeavesWhatIsNotDue};
+ghost use Rattle.dn_types.specs.Laws.{GivesWhatIsDue, LawfulHistoriesGrow, LawfulReplies};
+ghost use Rattle.dn_types.specs.Laws.{LeavesWhatIsNotDue};
 ghost use Rattle.dn_types.specs.Laws.{MomentsAreBounded, OwnEntriesGrow, PickIsFirst, PickIsThere};
 ghost use Rattle.dn_types.specs.Laws.{RepliesByStanding, SendsOneAtATime, SettlingEnds};
 ghost use Rattle.dn_types.specs.Laws.{StartsInOrder, StartsOnce, TransmissionIsLeast};
@@ -38,7 +39,7 @@ ghost use Rattle.dn_types.specs.SharingLaws.{CommandsMoveNothing, GrowsByWork, H
 ghost use Rattle.dn_types.specs.SharingLaws.{PacketsKeepApart, PickIsFair, PickIsLeast};
 ghost use Rattle.dn_types.specs.SharingLaws.{PipeDeleteEmpties, PipeDeleteSpares};
 ghost use Rattle.dn_types.specs.SharingLaws.{QueueDeleteEmpties, QueueDeleteSpares};
-ghost use Rattle.dn_types.specs.SharingLaws.{RaisesToTheLeast, TagsByWeight};
+ghost use Rattle.dn_types.specs.SharingLaws.{RaisesToTheLeast, StartsThePick, TagsByWeight};
 ghost use Rattle.dn_types.specs.TimeLaws.{DelaysAddUp, EventsStay, GivesInOrder, NoneStartsEarly};
 ghost use Rattle.dn_types.specs.TimeLaws.{StartsInTime, UnlimitedTakesNoTime};
 
@@ -56,11 +57,12 @@ pub fn laws_of_starts()
 
 /// The heads of a link are the first packets of the flows that wait for it. On a shared link WF2Q+
 /// picks one wherever there is one: of the eligible heads the one with the least finish tag, and of
-/// those with equal tags that of the least flow number.
+/// those with equal tags that of the least flow number. What starts on it is that pick.
 pub fn laws_of_the_pick()
     ensures heads { HeadsAreFirst }
     ensures there { PickIsThere }
     ensures first { PickIsFirst }
+    ensures started { StartsThePick }
 {}
 
 /// The transmission time is the least that carries the packet's bits, and under `Rule::Ordered` the
@@ -80,11 +82,12 @@ pub fn laws_of_collecting()
     ensures none_left { LeavesWhatIsNotDue }
 {}
 
-/// The replies of a lawful history are those to its calls, of which the first 2^62 count and the
-/// others change nothing, and each of its entries is one caller's own. A reply rests on where the
+/// A history is lawful exactly if its replies are those to its calls, of which the first 2^62 count
+/// and the others change nothing, and each of its entries is one caller's own. A reply rests on where the
 /// calls before it left the emulator, and on nothing else of their past.
 pub fn laws_of_histories()
     ensures replies { LawfulReplies }
+    ensures grow { LawfulHistoriesGrow }
     ensures counts { CountsUpToTheLimit }
     ensures exhausted { ExhaustedChangesNothing }
     ensures own { OwnEntriesGrow }

@@ -1,10 +1,13 @@
 -- Each law is a lemma over the definitions.
 use Rattle.dn_types.proofs.Bridge.{exhausted-changes-nothing, replies-by-standing}
-use Rattle.dn_types.proofs.Histories.{lawful-replies, own-entries-grow, counts-up-to-the-limit}
+use Rattle.dn_types.proofs.Histories.{lawful-replies, lawful-more, own-entries-grow, counts-up-to-the-limit}
 use Rattle.dn_types.proofs.laws.laws_of_histories.Goals as goal
 
 pub returns-clause-replies : goal.returns-clause-replies
 returns-clause-replies c = lawful-replies
+
+pub returns-clause-grow : goal.returns-clause-grow
+returns-clause-grow c = λ rule. (tt, lawful-more rule)
 
 pub returns-clause-own : goal.returns-clause-own
 returns-clause-own c = own-entries-grow

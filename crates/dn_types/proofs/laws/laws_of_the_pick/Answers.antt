@@ -2,6 +2,7 @@
 use Rattle.dn_types.proofs.Heads.{heads-are-first}
 use Rattle.dn_types.proofs.PickLaws.{pick-is-first}
 use Rattle.dn_types.proofs.Picks.{pick-some}
+use Rattle.dn_types.proofs.StartLaws.{starts-the-pick}
 use Rattle.dn_types.proofs.laws.laws_of_the_pick.Goals as goal
 
 pub returns-clause-there : goal.returns-clause-there
@@ -12,3 +13,6 @@ returns-clause-first c = pick-is-first
 
 pub returns-clause-heads : goal.returns-clause-heads
 returns-clause-heads c = heads-are-first
+
+pub returns-clause-started : goal.returns-clause-started
+returns-clause-started c = starts-the-pick
