@@ -32,9 +32,10 @@ CommandsCount = (calls : List Call) (command : Command) →
     settings (Configure command ∷ calls) (subject command) ≡ settings calls (subject command))
     × ((target : Target) → target ≢ subject command → settings (Configure command ∷ calls) target ≡ settings calls target)
 
--- Nothing but a command changes what is in force.
+-- Nothing is in force at first, and nothing but a command changes what is.
 abbrev pub OnlyCommandsCount : Type 0
-OnlyCommandsCount = (calls : List Call) (c : Call) (target : Target) → ((command : Command) → c ≢ Configure command) → settings (c ∷ calls) target ≡ settings calls target
+OnlyCommandsCount = (target : Target) → (settings [] target ≡ None)
+    × ((calls : List Call) (c : Call) → ((command : Command) → c ≢ Configure command) → settings (c ∷ calls) target ≡ settings calls target)
 
 -- The pipe of a configured queue is configured.
 abbrev pub QueuesHavePipes : Type 0

@@ -175,8 +175,8 @@ pub fn laws_of_shares()
     ensures bytes { SharesByWeight }
 {}
 
-/// A delete empties the queues that it reaches and moves nothing that has started. Nothing but a
-/// command changes what is in force. A packet changes nothing on the links of other pipes: whatever
+/// A delete empties the queues that it reaches and moves nothing that has started. Nothing is in force
+/// at first, and nothing but a command changes what is. A packet changes nothing on the links of other pipes: whatever
 /// happens there, the links of a pipe stand as the clock alone leaves them.
 pub fn laws_of_isolation()
     ensures pipe_delete { PipeDeleteEmpties }

@@ -1,4 +1,5 @@
 -- Each law is a lemma over the definitions.
+use Rattle.std.proofs.Common.{refl}
 use Rattle.dn_types.proofs.Elsewhere.{other-pipes-change-nothing}
 use Rattle.dn_types.proofs.Isolation.{pipe-delete-empties, queue-delete-empties, queue-delete-spares, pipe-delete-spares, commands-move-nothing, commands-count, only-commands-count, packets-keep-apart, queues-have-pipes}
 use Rattle.dn_types.proofs.Spares.{packets-spare-tags, clock-spares-tags}
@@ -38,4 +39,4 @@ pub returns-clause-clock_tags : goal.returns-clause-clock_tags
 returns-clause-clock_tags c = clock-spares-tags
 
 pub returns-clause-only_commands : goal.returns-clause-only_commands
-returns-clause-only_commands c = only-commands-count
+returns-clause-only_commands c = λ target. (refl, λ calls d. only-commands-count calls d target)
