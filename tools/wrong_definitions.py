@@ -6,11 +6,12 @@
     tools/wrong_definitions.py --list       prints the rows and tries nothing
     tools/wrong_definitions.py --table      prints the table as it is if each row is refused, and tries nothing
 
-In the table a row with a file in tools/refuted, by which refuted_laws.py shows that the law is false of it, has a star.
+In the table a row without a file in tools/refuted has a star: refuted_laws.py doesn't show that the law is false of it.
 
 Each row changes one line of crates/dn_types/specs, or a few of one file, in a copy from which the worked examples, the lists
 of calls and the witnesses are taken out, and checks the function of `laws` with the law that is false of the definition. A row
-passes where it is not proved. A row without a law is a choice that no law judges: it is pinned by examples alone.
+passes where it is not proved. A row without a law is a choice that no law judges: it is pinned by examples alone. A row without
+a clause is about a function that has one clause without a name.
 The prover is called as RT, which is `rt` where the environment names nothing else.
 """
 import os
@@ -249,6 +250,29 @@ ROWS = [
      'laws_of_histories', 'replies'),
     ('each entry is every caller\'s own', 'History', 'filter (λ e. nat_eq e.caller caller) history', 'history',
      'laws_of_histories', 'own'),
+    ('each pipe is configured at first', 'Configuration',
+     ('Reply.{Reply}\n', 'settings [] target = None'),
+     ('Reply.{Reply}\nuse Rattle.dn_types.specs.declared.limit.Limit.TheVariants.{Slots}\n',
+      'settings [] (ToPipe number) = Some (Pipe number 0 0 (Slots 50) 0 None '
+      '(record { src = 0; dst = 0; proto = 0; sport = 0; dport = 0 }))\nsettings [] target = None'),
+     'laws_of_isolation', 'only_commands'),
+    ('every head is eligible', 'Wf2q', '= nat_le h.start_tag virtual_time', '= nat_le 0 virtual_time',
+     'laws_of_the_pick', 'first'),
+    ('the pick does not look at virtual time', 'SharedLinks', '(pick (virtual_time (shared pipe) trace) (link_heads',
+     '(pick 0 (link_heads', 'laws_of_the_pick', 'started'),
+    ('a shared link serves its flows in order of number', 'SharedLinks',
+     '(pick (virtual_time (shared pipe) trace) (link_heads (shared pipe) trace))',
+     '(slice_get (link_heads (shared pipe) trace) 0)', 'laws_of_the_pick', 'started'),
+    ('no history is lawful', 'History',
+     ('◌≡◌, ⊤, List', 'IsLawfulAfter rule calls [] = ⊤'), ('◌≡◌, List', 'IsLawfulAfter rule calls [] = ⊥'),
+     'laws_of_histories', 'grow'),
+    ('a packet may have 2^32 bytes', 'Bounds', 'packet.len ≤ 65535', 'packet.len ≤ 2 ^ 32', 'laws_of_bounds', 'bytes'),
+    ('a moment may be 2^63 ns', 'Bounds', 'IsInRange (Advance moment) = moment ≤ 2 ^ 62',
+     'IsInRange (Advance moment) = moment ≤ 2 ^ 63', 'laws_of_bounds', 'moments'),
+    ('a delay may be 2^50 ms', 'Bounds', 'delay ≤ 3600000', 'delay ≤ 2 ^ 50', 'laws_of_bounds', 'dues'),
+    ('no packet is longer than 1,500 bytes', 'Bounds', 'packet.len ≤ 65535', 'packet.len ≤ 1500',
+     'each_call_is_in_range', ''),
+    ('no delay is longer than a minute', 'Bounds', 'delay ≤ 3600000', 'delay ≤ 60000', 'each_call_is_in_range', ''),
 ]
 
 
@@ -326,11 +350,10 @@ def print_table(rows):
     by_function, refuted = {}, refuted_rows()
     for wrong, _, _, _, function, clause in rows:
         clauses = by_function.setdefault('`%s`' % function if function else 'none: pinned by examples alone', {})
-        clauses.setdefault('`%s`' % clause, []).append(wrong + ' *' * (wrong in refuted))
+        clauses.setdefault('`%s`: ' % clause if clause else '', []).append(wrong + ' *' * (wrong not in refuted))
     print('| Law | Clause: wrong definitions of which it is false |\n|---|---|')
     for function, clauses in by_function.items():
-        print('| %s | %s |' % (function, '. '.join('%s: %s' % (clause, '; '.join(wrongs))
-                                                   for clause, wrongs in clauses.items())))
+        print('| %s | %s |' % (function, '. '.join(clause + '; '.join(wrongs) for clause, wrongs in clauses.items())))
 
 
 def main(arguments):
