@@ -1,6 +1,6 @@
 """The key of the flow table's hash: whatever the system gives for it, the report and the history are the same, and where the
-system gives none, the program says so and writes nothing. The key reaches the hash: packets whose keys collide where it is 0 cost much with
-that key and little with another.
+system gives none, the program says so and writes nothing. The key reaches the hash in each form of the program: packets whose keys collide
+where it is 0 cost much with that key and little with another.
 
     python3 tools/gate/hash_key.py PROGRAM
 
@@ -37,8 +37,8 @@ int getentropy(void *bytes, size_t count) {
 KEYS = ("0", "1", "85", "255")
 HOSTILE = Path(__file__).resolve().parent.parent / "hostile"
 COUNTED = ["valgrind", "--tool=cachegrind", "--cache-sim=no", "--cachegrind-out-file=/dev/null"]
-FLOWS = 8_000
-LEAST = 5  # it is about 19
+FLOWS = 3_000
+LEAST = 3  # of a live session it is about 6, of the others 10 and more
 
 
 def run(program: str, words: list[str], place: str, key: dict[str, str]) -> tuple[int, bytes, bytes]:
@@ -48,12 +48,25 @@ def run(program: str, words: list[str], place: str, key: dict[str, str]) -> tupl
     return done.returncode, done.stdout, done.stderr
 
 
-def instructions(program: str, place: str, key: str) -> int:
-    """What a replay costs whose keys collide where the key of the hash is 0."""
-    words = [*COUNTED, program, "replay", f"{place}/chosen.config", f"{place}/chosen.packets"]
+def instructions(program: str, words: list[str], stdin: str, place: str, key: str) -> int:
+    """What a run costs with a key."""
     env = {**os.environ, "LD_PRELOAD": f"{place}/given.so", "KEY": key}
-    done = subprocess.run(words, stdout=subprocess.DEVNULL, stderr=subprocess.PIPE, env=env, text=True, check=True)
+    with open(stdin, "rb") as given:
+        done = subprocess.run([*COUNTED, program, *words], stdin=given, stdout=subprocess.DEVNULL, stderr=subprocess.PIPE, env=env, text=True, check=True)
     return int(re.search(r"I +refs: +([\d,]+)", done.stderr)[1].replace(",", ""))
+
+
+def forms_of_flows(program: str, place: str) -> dict[str, tuple[list[str], str]]:
+    """Each form of the program to which the key is handed, over the flows that were chosen: its words and its input."""
+    config, packets = f"{place}/chosen.config", f"{place}/chosen.packets"
+    replay, history, calls, joined = ["replay", config, packets], f"{place}/chosen.history", f"{place}/chosen.calls", f"{place}/chosen.joined"
+    Path(joined).write_text(f"{Path(config).read_text()}--\n{Path(packets).read_text()}")
+    subprocess.run([program, *replay, "--history", history], check=True, stdout=subprocess.DEVNULL)
+    told = Path(history).read_text().splitlines(keepends=True)
+    Path(calls).write_text("".join(line for line in told if line.startswith("c,")))
+    new, none = f"{place}/new.history", "/dev/null"
+    return {"two files": (replay, none), "two files and a history": ([*replay, "--history", new], none), "callers": ([*replay, "--callers", "1"], none),
+            "a joined input": ([], joined), "an audit": (["audit", history], none), "a live session": (["live"], calls)}
 
 
 def count_known_key(tally: Tally, program: str, place: str) -> None:
@@ -61,9 +74,10 @@ def count_known_key(tally: Tally, program: str, place: str) -> None:
         print("the cost of a known key: skipped, since there is no valgrind on the path")
         return
     subprocess.run([sys.executable, HOSTILE / "known_key.py", str(FLOWS), place], check=True)
-    known, other = (instructions(program, place, key) for key in ("0", "1"))
-    print(f"{FLOWS} flows chosen for the key 0 take {known} instructions with it, and {other} with another")
-    tally.note("a known key", "" if known >= LEAST * other else f"the flows chosen for it cost less than {LEAST} times as much")
+    for name, (words, stdin) in forms_of_flows(program, place).items():
+        known, other = (instructions(program, words, stdin, place, key) for key in ("0", "1"))
+        print(f"{name}: {FLOWS} flows chosen for the key 0 take {known} instructions with it, and {other} with another", flush=True)
+        tally.note(f"a known key, {name}", "" if known >= LEAST * other else f"the flows chosen for it cost less than {LEAST} times as much")
 
 
 def main(program: str) -> int:
