@@ -2,8 +2,8 @@
 
     python3 tools/gate/command_line.py PROGRAM
 
-Each form, each status from 0 to 6, help and version, broken pipes, full devices, files that are missing, unreadable or folders,
-lines that end in CR LF, and byte order marks. What is wanted stands here in full, from docs/FORMATS.md.
+Each form, each status from 0 to 6, help and version, broken pipes, full devices, files that may not grow, files that are missing,
+unreadable or folders, lines that end in CR LF, and byte order marks. What is wanted stands here in full, from docs/FORMATS.md.
 """
 
 from __future__ import annotations
@@ -220,6 +220,28 @@ def devices(tally: Tally, program: str) -> None:
             tally.equal(f"standard input{name} closed", (6, begun, b"cannot read input\n"), (done.returncode, done.stdout, done.stderr))
 
 
+def short_writes(tally: Tally, program: str) -> None:
+    """A file that may grow to 512 bytes takes the front of what is written, and then nothing: the run ends with status 6, and a history
+    isn't whole."""
+    limited = ["sh", "-c", "trap '' XFSZ; ulimit -f 1; exec \"$@\"", "sh", program]
+    rows = HEADER + ROW * 40
+    packed = [f"{form}\n" for form in (CONFIG.rstrip(), *[SUBMIT.rstrip()] * 40)]
+    with TemporaryDirectory() as folder:
+        laid(Path(folder), {"c": CONFIG, "p": rows})
+        ample = run(program, replay("--history", "whole"), folder, "")
+        whole = {"report": ample.stdout, "history": (Path(folder) / "whole").read_bytes(), "session": run(program, ["live"], folder, "".join(packed)).stdout}
+        for name, words, what, fault in (("a history", replay("--history", "cut"), "history", "history"),
+                                         ("a history of callers", replay("--callers", "1", "--history", "cut"), "history", "history"),
+                                         ("a report", replay(), "report", "report"), ("a joined input's report", [], "report", "report"),
+                                         ("a live session", ["live"], "session", "history")):
+            stdin = "".join(packed) if words == ["live"] else f"{CONFIG}--\n{rows}"
+            cut = Path(folder) / "cut"
+            with open(os.devnull if "--history" in words else cut, "wb") as out:
+                done = subprocess.run([*limited, *words], cwd=folder, input=stdin.encode(), stdout=out, stderr=subprocess.PIPE, timeout=120)
+            tally.equal(f"{name} that is cut", (6, f"cannot write {fault}\n".encode(), whole[what][:512]), (done.returncode, done.stderr, cut.read_bytes()))
+            tally.equal(f"{name} has more bytes", True, len(whole[what]) > 512)
+
+
 def rights(tally: Tally, program: str) -> None:
     """Files that may not be read or written, by a user to whom that matters."""
     drop = ["setpriv", "--reuid=65534", "--regid=65534", "--clear-groups"] if os.geteuid() == 0 else []
@@ -247,6 +269,7 @@ def main(program: str) -> int:
         judged(tally, program, case)
     texts(tally, program)
     devices(tally, program)
+    short_writes(tally, program)
     rights(tally, program)
     return tally.end()
 
