@@ -161,7 +161,9 @@ uint32_t dn_open_with_key(struct dn_handle *handle, uint32_t rule, uint64_t high
 uint32_t dn_close(struct dn_handle *handle);
 
 /* Obeys a line of a configuration, as `pipe 1 config bw 8Mbit/s delay 20`: `length` bytes of UTF-8, which need no 0 behind
-   them. A line without words is answered DN_OK and changes nothing. Only DN_LINE writes *fault. */
+   them. A line without words is answered DN_OK and changes nothing. Only DN_LINE writes *fault. A delete names no moment, and acts
+   at that of the last call that names one: it discards also packets that could have started since. Call dn_advance before it
+   if that matters. */
 uint32_t dn_configure(struct dn_handle *handle, const uint8_t *line, size_t length, struct dn_fault *fault);
 
 /* A packet arrives. DN_OK writes *fate. */
