@@ -127,6 +127,7 @@ def parts(cases: str, seed: int) -> list[Part]:
         Part("what a team installs", [python, "tools/gate/installs.py", program]),
         Part("the crate for cargo", [python, "tools/gate/crate.py"], "cargo"),
         Part("the version", [python, "tools/gate/version.py", program]),
+        Part("why not one mutex", [python, "tools/gate/one_mutex.py"]),
         Part("tests in simulated time", [python, "tools/gate/testing.py"]),
         Part("the manual pages", [python, "tools/gate/manual.py", program], "mandoc"),
         Part("the kit", ["python/tests/kit"]),

@@ -1,0 +1,60 @@
+"""The example of dn_service's README under "Why not one mutex": two calls under one mutex share no fact, and under one guard they do.
+
+    python3 tools/gate/one_mutex.py
+
+The prover has to leave the one goal open that the page names, and to prove the same two calls under one guard. RT is the command that checks,
+`rt` without it.
+"""
+
+from __future__ import annotations
+
+import os
+import re
+import shlex
+import subprocess
+import sys
+from pathlib import Path
+from tempfile import TemporaryDirectory
+
+from tally import Tally
+
+TOP = Path(__file__).resolve().parent.parent.parent
+PAGE = TOP / "crates" / "dn_service" / "README.md"
+HEAD = """//! Two calls under one mutex.
+#![tactic(auto)]
+ghost use Rattle.std.specs.Prelude.{◌≡◌, ◌≤◌};
+
+"""
+PROVED = re.compile(r"^fn one_mutex::(\w+): proved", re.M)
+REFUSED = re.compile(r"^fn one_mutex::(\w+): no(?:t| proof)", re.M)
+OPEN = re.compile(r"must prove: record \{later : (.*)\}$", re.M)
+
+
+def checked(text: str, place: Path) -> str:
+    """What a check of a crate of this text says."""
+    crate = place / "crates" / "one_mutex"
+    (crate / "src").mkdir(parents=True)
+    (crate / "src" / "lib.rt").write_text(HEAD + text)
+    (place / "crates.txt").write_text("one_mutex:\n")
+    (place / "HANDLES").write_text((TOP / "HANDLES").read_text())
+    words = [*shlex.split(os.environ.get("RT", "rt")), "check"]
+    return subprocess.run(words, cwd=crate, stdout=subprocess.PIPE, stderr=subprocess.STDOUT, text=True, errors="replace").stdout
+
+
+def main() -> int:
+    tally, page = Tally(), PAGE.read_text()
+    section = page.partition("## Why not one mutex\n")[2].partition("\n## ")[0]
+    block = re.search(r"^```rust\n(.*?)^```$", section, re.M | re.S)
+    goal = re.search(r"stays open: `(.*)`\.", section)
+    with TemporaryDirectory() as place:
+        told = checked(block[1] if block else "", Path(place))
+    tally.equal("two calls under one mutex", ["two_calls"], REFUSED.findall(told))
+    tally.equal("two calls under one guard", True, "two_calls_at_once" in PROVED.findall(told))
+    tally.equal("the goal that stays open", [goal[1] if goal else "a goal on the page"], OPEN.findall(told))
+    if tally.failed:
+        print(told)
+    return tally.end()
+
+
+if __name__ == "__main__":
+    sys.exit(main())
