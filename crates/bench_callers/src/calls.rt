@@ -3,8 +3,9 @@ use dn_types::{
     Target,
 };
 
-/// Pipe 1, unlimited, so that each packet starts when it is submitted. Its delay in ms keeps the
-/// packets under way.
+/// Pipe 1, unlimited, so that each packet starts when it is submitted.
+///
+/// Its delay in ms keeps the packets under way.
 pub fn pipe(delay: u32) -> Option<Call> {
     Some(Call::Configure(Command::Pipe {
         number: Number::new(1)?,

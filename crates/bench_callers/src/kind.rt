@@ -25,8 +25,9 @@ impl Kind {
     }
 }
 
-/// One of the calls that come before those that are measured: the pipe first, and then the packets
-/// that are under way where Collects are measured.
+/// One of the calls that come before those that are measured.
+///
+/// The pipe is first. Where Collects are measured, the packets that are under way follow.
 pub fn before(kind: Kind, place: u64) -> Option<Call> {
     let delay = if kind == Kind::Collects { 1 } else { 0 };
     if place == 0 { pipe(delay) } else { packet(0) }

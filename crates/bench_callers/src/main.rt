@@ -1,5 +1,6 @@
-//! Measures calls through a service, and looks at what many callers leave behind: what was answered and which histories are right
-//! goes to standard output, and the times to standard error.
+//! Measures calls through a service, and looks at what many callers leave behind.
+//!
+//! The replies and the lawful histories go to standard output, and the times to standard error.
 #![tactic(auto)]
 
 mod calls;

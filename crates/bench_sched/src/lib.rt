@@ -45,8 +45,7 @@ struct Outcome {
     refused: u64,
 }
 
-/// Fills so many flows with so many packets each, then picks and lets a packet of the same flow
-/// arrive, so many times.
+/// Fills so many flows with so many packets each, then picks and lets a packet of the same flow arrive, so many times.
 fn run(
     sched: &mut Sched,
     flows: usize,
@@ -75,8 +74,9 @@ fn run(
     Ok(())
 }
 
-/// Answers whether memory was there, at the second try at the latest. It tells the order of the
-/// picks, virtual time modulo 2^64 and the growths that were refused.
+/// Returns whether there was memory, at the second try at the latest.
+///
+/// It reports the order of the picks, virtual time modulo 2^64 and the growths that were refused.
 #[unsafe(no_mangle)]
 pub extern "C" fn bench_sched(
     alloc: Global,

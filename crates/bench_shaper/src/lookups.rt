@@ -27,8 +27,9 @@ fn fill(table: &mut Flows, pipe: Number, flows: u32) {
     }
 }
 
-/// Looks up one of so many flows, so many times, in no order that a cache foresees. It answers how many
-/// were found.
+/// Looks up one of so many flows, so many times, in no order that a cache foresees.
+///
+/// It returns how many were found.
 fn look_up(table: &mut Flows, pipe: Number, flows: u32, times: u64) -> u64 {
     let mut found = 0u64;
     let mut seed = 1;

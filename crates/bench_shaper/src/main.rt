@@ -14,8 +14,9 @@ use run::{Run, apply, collect, configure, submit};
 use std::io;
 use std::time::Instant;
 
-/// At 1,100 ns a packet the links carry nine tenths of what they can: 1,000 bytes take 1,000 ns on
-/// the pipe that all share, and 16,384 times as long on each of 16,384 links.
+/// At 1,100 ns a packet the links carry nine tenths of what they can.
+///
+/// A packet of 1,000 bytes takes 1,000 ns on the pipe that all share, and 16,384 times as long on each of 16,384 links.
 const LOADS: [Load; 5] = [
     Load {
         name: "one flow of a pipe",
@@ -84,8 +85,9 @@ fn add_time(rt: &HostRuntime, start: &Instant, nanos: &mut u128) -> io::Result<(
     Ok(())
 }
 
-/// Submits 1,000 packets from the moment on, and adds the time that they took. It answers the next
-/// seed.
+/// Submits 1,000 packets from the moment on, and adds the time that they took.
+///
+/// It returns the next seed.
 fn submit_timed(
     rt: &HostRuntime,
     shaper: &mut Shaper,
@@ -225,8 +227,9 @@ fn measure(rt: &HostRuntime, measured: Measured, load: &Load, rounds: u64) -> io
     told
 }
 
-/// A load whose delete reaches so many flows, most with waiting packets: that of a pipe, where each
-/// flow has a link of its own, or of the one queue of a pipe, whose flows share a link.
+/// A load whose delete reaches so many flows, most with waiting packets.
+///
+/// It deletes a pipe, each of whose flows has a link of its own, or the one queue of a pipe, whose flows share a link.
 fn deleted(name: &'static str, queues: u32, flows: u32) -> Load {
     Load {
         name,

@@ -21,8 +21,9 @@ fn fill(heap: &mut RunHeap<u128>, keys: u64) {
     }
 }
 
-/// Takes the least key out and puts a later one in, so many times, as a settling does. It answers
-/// how many were taken out.
+/// Takes the least key out and puts a later one in, so many times, as a settling does.
+///
+/// It returns how many were taken out.
 fn turn(heap: &mut RunHeap<u128>, times: u64) -> u64 {
     let mut taken = 0u64;
     let mut seed = 1;
@@ -55,8 +56,9 @@ fn begin(line: &mut DelayLine, packets: u64) {
     }
 }
 
-/// Takes the first packet out where it is due, and puts a further one under way, so many times. It
-/// answers how many were taken out.
+/// Takes the first packet out where it is due, and puts a further one under way, so many times.
+///
+/// It returns how many were taken out.
 fn pass(line: &mut DelayLine, under_way: u64, times: u64) -> u64 {
     let mut given = 0u64;
     for i in 0..times {

@@ -97,8 +97,7 @@ impl Cases {
         Ok(())
     }
 
-    /// Writes how many histories and calls there were and how many replies differ, and the first one
-    /// that does.
+    /// Writes how many histories and calls there were and how many replies differ, and the first one that does.
     pub fn report(&self, rt: &impl Print) -> io::Result<()> {
         let (histories, calls, differ) = (self.histories, self.calls, self.differ);
         println!(rt; "{histories} histories, {calls} calls, {differ} differ")?;

@@ -1,5 +1,6 @@
-//! Compares the shaper with histories that an independent program made: each call is applied, and
-//! its reply compared with the one in the history.
+//! Compares the shaper with histories that an independent program made.
+//!
+//! Each call is applied, and its reply compared with the one in the history.
 #![tactic(auto)]
 
 mod cases;

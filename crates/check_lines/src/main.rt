@@ -1,5 +1,6 @@
-//! Compares `parse_line` and `print_command` with the answers of an independent program. The input
-//! has an answer and then its configuration line, one such pair after the other.
+//! Compares `parse_line` and `print_command` with the results of an independent program.
+//!
+//! The input has a result and then its configuration line, one such pair after the other.
 #![tactic(auto)]
 
 use dn_config::{LineFault, parse_line, print_command};

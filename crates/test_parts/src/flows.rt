@@ -18,8 +18,7 @@ fn made_and_forgotten(flows: &mut Flows) -> Result<Option<usize>, AllocError> {
     Ok(Some(flow))
 }
 
-/// The flows to which four packets fall: the first flow of the target is found without the hash, and the
-/// second by it.
+/// The flows to which four packets fall: the first flow of the target is found without the hash, and the second by it.
 fn four_found(flows: &mut Flows) -> Result<[usize; 4], AllocError> {
     let first = flows.find_or_make(key(2))?;
     let second = flows.find_or_make(key(1))?;
@@ -120,8 +119,9 @@ fn a_byte_limit(rt: HostRuntime) -> Result<(), AllocError> {
     outcome
 }
 
-/// What happens at a flow: a packet of 100 bytes comes, the first one starts, which has this number, or all that wait
-/// are discarded.
+/// What happens at a flow.
+///
+/// A packet of 100 bytes comes, the first one starts, which has this number, or all that wait are discarded.
 #[derive(Clone, Copy)]
 enum Step {
     Comes(u64),

@@ -60,8 +60,9 @@ impl Keys for RunHeap<u32> {
     }
 }
 
-/// Makes room for `n` pushes, again where memory was refused, which changed nothing. Run with each
-/// allocation refused in turn, the tests pass for every one.
+/// Makes room for `n` pushes, again if memory was refused, which changed nothing.
+///
+/// Run with each allocation refused in turn, the tests pass for every one.
 pub(crate) fn reserved_again<R: Abort, H: Keys>(
     rt: &R,
     heap: &mut H,

@@ -3,8 +3,7 @@ use dn_wf2q::Sched;
 use std::alloc::AllocError;
 use std::process::Abort;
 
-/// A packet of 1,000 bytes and weight 2 comes to the slot, and passes where none waits, which is
-/// answered.
+/// A packet of 1,000 bytes and weight 2 comes to the slot, and passes if none waits, which is returned.
 fn come(sched: &mut Sched, slot: usize) -> Result<bool, AllocError> {
     let len = Len::new(1_000).unwrap();
     let weight = Weight::new(2).unwrap();

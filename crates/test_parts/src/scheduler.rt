@@ -24,8 +24,7 @@ fn the_example_of_the_readme(rt: HostRuntime) {
     assert!(rt; sent == Ok(Some(0)));
 }
 
-/// A step of an example. Slots and virtual time after each pick were worked by hand from Bennett and
-/// Zhang's rules, and by an independent reference.
+/// A step of an example, with values that were worked by hand from Bennett and Zhang's rules, and by an independent reference.
 enum Step {
     /// A busy period begins.
     Begin,
@@ -50,8 +49,7 @@ fn told(sched: &Sched) -> (bool, u128, u64, u64, u64) {
     )
 }
 
-/// A packet of 1,000 bytes arrives. A refused growth changes nothing, and the next try goes on: with
-/// each allocation refused in turn, `rt try --test --fail-alloc N`, the tests pass for every N.
+/// A packet of 1,000 bytes arrives, at the next try if a growth is refused, which changes nothing (`--fail-alloc N`).
 fn arrive(rt: &impl Abort, sched: &mut Sched, slot: usize, weight: u8) -> Result<(), AllocError> {
     let before = told(sched);
     if sched.reserve_flow(slot).is_err() {
@@ -214,8 +212,9 @@ fn a_discarded_backlog(rt: HostRuntime) -> Result<(), AllocError> {
     check(&rt, rt.alloc(), &STEPS)
 }
 
-/// What a scan over 100 flows picks, of which flow f has weight f + 1 and had 100 packets of 1,000
-/// bytes at first, where so many of each have been sent.
+/// What a scan over 100 flows picks.
+///
+/// Flow f has weight f + 1 and had 100 packets of 1,000 bytes at first, of which so many have been sent.
 fn scan(sent: &[u128; 100], virtual_time: &mut u128) -> Option<usize> {
     let mut least: Option<u128> = None;
     let mut weights: u128 = 0;

@@ -123,8 +123,9 @@ fn one_caller_history_by_try_call(rt: HostRuntime) -> Result<(), Fail> {
     Ok(())
 }
 
-/// Tries the call again where memory was refused, three times at most. It is never busy, so a refused call has given the
-/// word back.
+/// Tries the call again if memory was refused, three times at most.
+///
+/// It is never busy, so a refused call has given the word back.
 fn tried_again<R: Abort>(rt: &R, caller: &mut Caller, call: &Call)
     ensures { IsSameCaller caller.old caller.new }
 {

@@ -163,8 +163,9 @@ fn check_thousands<R: Abort>(rt: &R, history: &[Entry]) {
     assert!(rt; next.iter().all(|n| *n == 1000));
 }
 
-/// One caller has configured the pipe, and each of sixteen has submitted a thousand packets. A new shaper that is given
-/// the calls again answers each as the history says.
+/// One caller has configured the pipe, and each of sixteen has submitted a thousand packets.
+///
+/// A new shaper that is given the calls again answers each as the history says.
 fn check_history<R: Abort>(rt: &R, alloc: Global, history: &[Entry]) {
     assert!(rt; history.len() == 16_001);
     check_thousands(rt, history);

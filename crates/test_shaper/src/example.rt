@@ -1,5 +1,6 @@
-//! The one way that an example is run. What is refused memory is tried once more, so that an example
-//! holds also where any one growth is refused.
+//! The one way that an example is run.
+//!
+//! What is refused memory is tried once more, so that an example holds also where any one growth is refused.
 
 use crate::step::Step;
 use dn_shaper::{Shaper, run};
@@ -106,8 +107,9 @@ fn compare<R: Abort + AllocGlobal>(
     Ok(())
 }
 
-/// A shaper of the rule answers the steps so, from its beginning: by `run` for Ordered, by `apply`
-/// for Free.
+/// A shaper of the rule returns the replies of the steps, from its beginning.
+///
+/// It is by `run` for Ordered, and by `apply` for Free.
 pub fn holds<R: Abort + Print + AllocGlobal>(
     rt: &R,
     rule: Rule,

@@ -1,5 +1,6 @@
-//! Worked examples: the clock, links of one flow, limits and due moments. A packet of 1,000 bytes
-//! takes 1 ms at 8 Mbit/s.
+//! Worked examples: the clock, links of one flow, limits and due moments.
+//!
+//! A packet of 1,000 bytes takes 1 ms at 8 Mbit/s.
 
 use crate::destination::pipe;
 use crate::example::holds;

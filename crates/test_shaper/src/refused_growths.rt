@@ -1,5 +1,6 @@
-//! Worked examples whose calls are made again where memory is refused. With any one growth refused
-//! (`rt try --test --fail-alloc N`) each of them passes: the refused call has changed nothing.
+//! Worked examples whose calls are made again if memory is refused.
+//!
+//! With any one growth refused (`rt try --test --fail-alloc N`) each of them passes: the refused call has changed nothing.
 
 use crate::destination::pipe;
 use crate::flow::{Flow, status};

@@ -1,5 +1,6 @@
-//! Worked examples: queues that share a pipe of 8 Mbit/s, on which a packet of 1,000 bytes takes
-//! 1 ms. `a` is queue 1, of flow 0, and `b` is queue 2, of flow 1.
+//! Worked examples: queues that share a pipe of 8 Mbit/s, on which a packet of 1,000 bytes takes 1 ms.
+//!
+//! `a` is queue 1, of flow 0, and `b` is queue 2, of flow 1.
 
 use crate::example::holds;
 use crate::step::{collect, config, to_queue};

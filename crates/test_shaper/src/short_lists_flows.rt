@@ -1,5 +1,6 @@
-//! Short lists of calls, each for a slip in the rules of flows and deletes that no worked example
-//! shows. The replies are those of an independent reference.
+//! Short lists of calls, each for a slip in the rules of flows and deletes that no worked example shows.
+//!
+//! The replies are those of an independent reference.
 
 use crate::destination::{pipe, queue};
 use crate::example::holds;

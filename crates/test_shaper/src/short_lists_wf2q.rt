@@ -1,4 +1,5 @@
 //! Short lists of calls, each for a slip in the rules of shared links that no worked example shows.
+//!
 //! The replies are those of an independent reference.
 
 use crate::destination::queue;

@@ -5,8 +5,9 @@ use crate::sent::{Sent, sized};
 use crate::wanted::Wanted;
 use dn_types::Delivery;
 
-/// A call and the reply that it gets: a row of an example's table. It is plain data, so that a table
-/// is made by calls that can't fail.
+/// A call and the reply that it gets: a row of an example's table.
+///
+/// It is plain data, so that a table is made by calls that can't fail.
 #[derive(Clone, Copy)]
 pub struct Step<'a> {
     pub asked: Asked<'a>,

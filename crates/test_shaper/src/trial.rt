@@ -8,8 +8,9 @@ use std::io::Print;
 use std::process::Abort;
 use std::test::Fail;
 
-/// A shaper that is shown after each call. A call that is refused memory has to leave it as it was,
-/// and is then made again.
+/// A shaper that is shown after each call.
+///
+/// A call that is refused memory has to leave it as it was, and is then made again.
 #[derive(Drop)]
 pub struct Trial {
     alloc: Global,
@@ -96,8 +97,9 @@ impl Trial {
     }
 }
 
-/// A shaper answers the steps so, by `apply`, and shows these flows after each. It does so also where
-/// any one growth is refused.
+/// A shaper returns the replies of the steps, by `apply`, and shows these flows after each.
+///
+/// It does so also if any one growth is refused.
 pub fn holds_when_refused<R: Abort + Print + AllocGlobal>(
     rt: &R,
     steps: &[ShownStep<'_>],
