@@ -52,11 +52,12 @@ fn audit_input<I: Inlet>(
     }
 }
 
-/// Reads a history file, audits it by the rule of its version, and writes one line: `lawful` and the
-/// count of the entries, or `differs` and the first entry that differs, counted from 0. A history file has
-/// at most 268,435,456 bytes, and that of a large replay can be longer. The faults are those of
-/// `read_history`, `OutOfMemory` also where an audit or the line was refused memory, and `Write(Report)`
-/// where a write of the line failed.
+/// Reads a history file, audits it by the rule of its version, and writes one line.
+///
+/// The line is `lawful` and the count of the entries, or `differs` and the first entry that differs, counted from 0. A
+/// history file has at most 268,435,456 bytes; the history of a large replay can be longer. The faults are those of
+/// `read_history`. `OutOfMemory` is also returned if an audit or the line was refused memory, and `Write(Report)` if a
+/// write of the line failed.
 pub fn audit_file<I: Inlet, O: Outlet>(
     alloc: Global,
     history: &mut I,
@@ -77,8 +78,9 @@ pub fn audit_file<I: Inlet, O: Outlet>(
     audit_file_with_key(alloc, HashKey(0), history, out)
 }
 
-/// [`audit_file`] with a secret for the flow table's hash, where a stranger chose the packets. No verdict depends on
-/// it.
+/// [`audit_file`] with a secret for the flow table's hash, for packets that a stranger chose.
+///
+/// No verdict depends on it.
 pub fn audit_file_with_key<I: Inlet, O: Outlet>(
     alloc: Global,
     key: HashKey,

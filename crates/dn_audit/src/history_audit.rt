@@ -10,7 +10,8 @@ use dn_types::{Entry, Rule};
 use std::alloc::{AllocError, Global};
 
 /// Asks a new shaper the calls of a history, oldest first, and compares each reply with the entry's.
-/// The first that differs is the answer. It doesn't matter which caller made a call. Err says that memory was
+///
+/// The verdict has the first entry that differs. It doesn't matter which caller made a call. Err says that memory was
 /// refused for a call.
 pub fn audit(alloc: Global, rule: Rule, entries: &[Entry]) -> Result<Verdict, AllocError>
     ensures ok { IfOk result (λ verdict. IsVerdict rule entries.now verdict) }

@@ -8,8 +8,9 @@ use dn_shaper::{HashKey, Shaper};
 use dn_types::{Entry, Rule};
 use std::alloc::{AllocError, Global};
 
-/// An audit under way: a shaper that was asked the calls of the entries so far, and what was found of
-/// these. Behind the first entry that differs no call is asked.
+/// An audit under way: a shaper that was asked the calls of the entries so far, and what was found of these.
+///
+/// After the first entry that differs no call is asked.
 #[derive(Drop)]
 pub(crate) struct RunningAudit {
     shaper: Shaper,

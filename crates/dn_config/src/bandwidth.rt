@@ -50,7 +50,7 @@ fn unit_rate(unit: &[u8]) -> Option<u64>
     Some(scale * bits)
 }
 
-/// Does the word begin with an ASCII letter?
+/// Whether the word begins with an ASCII letter.
 fn begins_with_letter(word: &[u8]) -> bool
     ensures { result ≡ is_ascii_alphabetic (slice_index word.now 0) }
 {

@@ -3,8 +3,9 @@ ghost use Rattle.dn_config.specs.Positions.{position_of};
 
 use thiserror::Error;
 
-/// The first fault of a configuration line, with the position of the word that it concerns. All
-/// words of the line count, from 1, a leading `ipfw` included.
+/// The first fault of a configuration line, with the position of the word that it concerns.
+///
+/// All words of the line count, from 1, a leading `ipfw` included.
 #[derive(Clone, Copy, Debug, PartialEq, Eq, Error)]
 pub enum LineFault {
     /// A word that is no keyword here, an option of the other kind of line included.
@@ -19,7 +20,7 @@ pub enum LineFault {
     /// The value is a number that this project doesn't accept.
     #[error("out of range")]
     OutOfRange(usize),
-    /// ipfw(8) has this word, and this project leaves it out.
+    /// The word is one of ipfw(8) that this project leaves out.
     #[error("left out")]
     LeftOut(usize),
     /// The line of a queue, which this word begins, doesn't name its pipe. It has no other fault.

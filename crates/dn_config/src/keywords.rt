@@ -5,7 +5,7 @@ ghost use Rattle.dn_config.specs.Values.{lower};
 use crate::mask_field::{MaskField, MaskWord};
 use crate::option_group::{OptionWord, Parameter};
 
-/// Is the word this keyword?
+/// Whether the word is this keyword.
 pub fn is(word: &[u8], keyword: &str) -> bool
     ensures { result ≡ bytes_eq word.now keyword.now }
 {
@@ -67,7 +67,7 @@ pub fn field_named(word: &[u8]) -> Option<MaskWord>
     }
 }
 
-/// Is the word an option or a mask field of ipfw(8) that this project leaves out?
+/// Whether the word is an option or a mask field of ipfw(8) that this project leaves out.
 #[tactic(auto, unfolding(crate::specs::Keywords::is_left_out_word))]
 pub fn is_left_out(word: &[u8]) -> bool
     ensures { result ≡ is_left_out_word word.now }
@@ -88,7 +88,7 @@ pub fn is_left_out(word: &[u8]) -> bool
         || is(word, "flow-id")
 }
 
-/// Does the word ask for a listing, which this project leaves out?
+/// Whether the word asks for a listing, which this project leaves out.
 pub fn asks(word: &[u8]) -> bool
     ensures { result ≡ is_query word.now }
 {

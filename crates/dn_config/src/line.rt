@@ -13,8 +13,9 @@ use crate::options::{Options, read_options};
 use dn_text::Words;
 use dn_types::{Command, Number};
 
-/// The command that the options of a `config` line make. Here and below `at` is the position of the
-/// word that begins the command, `pipe` or `queue`.
+/// The command that the options of a `config` line make.
+///
+/// Here and below `at` is the position of the word that begins the command, `pipe` or `queue`.
 fn configured(kind: Kind, at: usize, number: Number, options: Options) -> Result<Command, LineFault>
     ensures { result ≡ command_with kind at number options }
 {
@@ -191,8 +192,9 @@ fn before_comment(line: &[u8]) -> &[u8]
     line
 }
 
-/// The command of a configuration line in the manner of ipfw(8), None for a line without words, or
-/// the line's first fault. It takes no memory, whatever the line's length, and so it never answers
+/// The command of a configuration line in the manner of ipfw(8), or the line's first fault.
+///
+/// A line without words has no command: None. It takes no memory, whatever the line's length, and so it never returns
 /// [`LineFault::OutOfMemory`].
 #[tactic(auto, unfolding(crate::specs::Line::answer, crate::specs::Words::words))]
 pub fn parse_line(line: &str) -> Result<Option<Command>, LineFault>

@@ -51,14 +51,14 @@ pub fn with_field(mask: Mask, field: MaskField, bits: u32) -> Mask
     }
 }
 
-/// Has the mask no bits?
+/// Whether the mask has no bits.
 pub fn has_no_bits(mask: Mask) -> bool
     ensures { result ≡ has_no_bits mask }
 {
     mask.dst == 0 && mask.src == 0 && mask.dport == 0 && mask.sport == 0 && mask.proto == 0
 }
 
-/// Has the mask all bits?
+/// Whether the mask has all bits.
 pub fn has_all_bits(mask: Mask) -> bool
     ensures { result ≡ has_all_bits mask }
 {
@@ -113,7 +113,7 @@ fn fields(mut words: Words<'_>) -> Result<(Mask, Words<'_>), LineFault>
     Ok((mask, words))
 }
 
-/// Does the word go on with a mask, or is it one that is left out there?
+/// Whether the word goes on with a mask, or is one that is left out there.
 fn continues_mask(word: &[u8]) -> bool
     ensures { result ≡ (is_some (field_of word.now) || is_left_out_word word.now) }
 {

@@ -37,14 +37,14 @@ pub enum MaskWord {
     All,
 }
 
-/// Does the word begin with a slash?
+/// Whether the word begins with a slash.
 fn begins_with_slash(word: &[u8]) -> bool
     ensures { result ≡ (slice_index word.now 0 == 47) }
 {
     !word.is_empty() && word[0] == b'/'
 }
 
-/// Is the word a hexadecimal number by its first two bytes?
+/// Whether the word is a hexadecimal number by its first two bytes.
 fn is_hexadecimal(word: &[u8]) -> bool
     ensures value { result ≡ (slice_index word.now 0 == 48 && (slice_index word.now 1 == 120 || slice_index word.now 1 == 88)) }
     ensures long { IsTrue result → 2 ≤ length word.now }

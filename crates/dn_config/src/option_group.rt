@@ -45,7 +45,7 @@ pub enum Setting {
     Mask(Mask),
 }
 
-/// May a line of this kind have this option?
+/// Whether a line of this kind may have this option.
 fn belongs_to(kind: Kind, parameter: Parameter) -> bool
     ensures { result ≡ belongs kind parameter }
 {

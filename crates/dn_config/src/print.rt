@@ -84,6 +84,7 @@ fn push_command(text: &mut String, command: Command) -> Result<(), AllocError>
 }
 
 /// The canonical text of a command: the options that differ from their default, in a fixed order.
+///
 /// `parse_line` reads it back as the command. No line feed ends it.
 pub fn print_command(alloc: Global, command: &Command) -> Result<String, AllocError>
     ensures text { IfOk result (λ s. string_bytes s ≡ canonical command.now) }

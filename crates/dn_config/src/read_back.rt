@@ -11,19 +11,22 @@ use dn_types::Command;
 use std::alloc::{AllocError, Global};
 
 /// The law of both directions: the canonical text of every command is a line whose command it is.
+///
 /// The function computes nothing.
 pub fn each_text_reads_back()
     ensures { (command : Command) → IsTyped command → answer (text command) ≡ Ok (Some command) }
 {}
 
-/// The values of a command are in range, since its types hold no others. The function computes
-/// nothing.
+/// The values of a command are in range, since its types hold no others.
+///
+/// The function computes nothing.
 fn command_in_range(command: Command)
     ensures { IsTyped command }
 {}
 
-/// Prints a command and parses its text, which gives the command again. Want of memory in the
-/// printing is the one refusal.
+/// Prints a command and parses its text, which gives the command again.
+///
+/// The one refusal is out of memory in the printing.
 #[tactic(auto, using(crate::proofs::CommandsBack::text_back))]
 pub fn print_and_parse(
     alloc: Global,

@@ -1,5 +1,6 @@
-//! A replay by one caller whose packets are submitted as their text comes: a report is written, and a history is
-//! kept where it is asked for.
+//! A replay by one caller whose packets are submitted as their text comes.
+//!
+//! A report is written, and a history is kept if it is asked for.
 
 mod file_replay;
 mod inlets;

@@ -27,8 +27,10 @@ fn count_on(count: u64, more: usize) -> u64
     count.saturating_add(more as u64)
 }
 
-/// The shaper, with the history of all its calls but for the entries that were taken out. Contracts see the shaper and
-/// these entries. Its pages lie in a block of their own, so that a book that changes hands is a pointer.
+/// The shaper, with the history of all its calls except the entries that were taken out.
+///
+/// Contracts see the shaper and these entries. Its pages are in a block of their own, so that a book that changes hands is
+/// a pointer.
 #[derive(Drop)]
 pub(crate) struct Book {
     pages: Box<Pages>,
@@ -58,8 +60,9 @@ impl Book {
         })
     }
 
-    /// Applies a caller's call to the shaper, and notes it with its reply. All room is taken before the shaper is touched,
-    /// so that a refusal of memory leaves no trace.
+    /// Applies a caller's call to the shaper, and notes it with its reply.
+    ///
+    /// All room is taken before the shaper is touched, so that a refusal of memory leaves no trace.
     pub(crate) fn apply(&mut self, caller: usize, call: &Call) -> Result<Reply, AllocError>
         requires { (past : Past) × Keeps past self.old }
         ensures ok { IfOk result (λ reply. (past : Past) → Keeps past self.old → Keeps (with_entry past (entry_of caller call.now reply)) self.new) }

@@ -80,9 +80,10 @@ impl Caller {
         self.number
     }
 
-    /// Makes a call if no other caller is in one. It tries once and waits for nobody. `Busy(k)`, which is tested first, says
-    /// that caller k was in a call; `OutOfMemory` that memory was refused, for the call or for its place in the history.
-    /// Neither changes anything.
+    /// Makes a call if no other caller is in one.
+    ///
+    /// It tries once and waits for nobody. `Busy(k)`, which is tested first, says that caller k was in a call;
+    /// `OutOfMemory` that memory was refused, for the call or for its place in the history. Neither changes anything.
     pub fn try_call(&mut self, call: Call) -> Result<Reply, TryFault>
         ensures ok { IfOk result (λ reply. Answered self.old call reply self.new) }
         ensures same_caller { IsSameCaller self.old self.new }
@@ -179,8 +180,10 @@ impl Caller {
         unreachable!()
     }
 
-    /// Makes a call, and waits while other callers are in one: it spins between its first tries, and then sleeps until a call
-    /// has ended. Where memory is refused, for the call or for its place in the history, nothing has changed.
+    /// Makes a call, and waits while other callers are in one.
+    ///
+    /// It spins between its first tries, and then sleeps until a call has ended. If memory is refused, for the call or for
+    /// its place in the history, nothing has changed.
     pub fn call<R: Wait>(&mut self, rt: &R, call: Call) -> Result<Reply, AllocError>
         ensures ok { IfOk result (λ reply. Answered self.old call reply self.new) }
         ensures same_caller { IsSameCaller self.old self.new }
@@ -280,7 +283,8 @@ impl Caller {
         Seen::new(seat)
     }
 
-    /// From now on this caller has seen what the token's caller had seen, so that its next answer comes after all of that.
+    /// From now on this caller has seen what the token's caller had seen, so that its next reply comes after all of that.
+    ///
     /// It waits for nobody.
     pub fn learn(&mut self, seen: Seen)
         requires { seen.service ≡ self.old.service }

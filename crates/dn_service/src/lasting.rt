@@ -44,8 +44,9 @@ impl Model for Lasting {
         × (length (shed_in s.seat.me.0.shed) < 2 ^ 64 → s.start ≡ length (shed_in s.seat.me.0.shed)) };
 }
 
-/// Takes all entries out of the book into an empty list, by a seat that stands for the caller `number` alone and has all that
-/// was taken out before. `Err` names the caller that has the book.
+/// Takes all entries out of the book into an empty list, by a seat for the caller `number` alone.
+///
+/// The seat has all that was taken out before. `Err` names the caller that has the book.
 fn empty(
     desk: &Desk,
     seat: &mut BookSeat,
@@ -98,8 +99,9 @@ impl Lasting {
         Vec::new(self.desk.alloc)
     }
 
-    /// Takes all entries out into an empty list, by the seat of the caller `number`, which is then a seat of that caller
-    /// again. It reports how many were taken out before.
+    /// Takes all entries out into an empty list, by the seat of the caller `number`, which is then a seat of that caller again.
+    ///
+    /// It reports how many were taken out before.
     pub(crate) fn take_by(
         &mut self,
         seat: &mut BookSeat,

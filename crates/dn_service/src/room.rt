@@ -5,8 +5,10 @@ use dn_types::{Call, Deliveries, Delivery, FlowStatus, Reply, Statuses};
 use std::alloc::{AllocError, Global};
 use std::mem;
 
-/// Memory for the list of a reply's copy, taken before the reply is known. It stays for the next call, since it is taken for
-/// all that a reply may have, which is mostly far more than a reply has.
+/// Memory for the list of a reply's copy, taken before the reply is known.
+///
+/// It is kept for the next call, since it is taken for all that a reply may have, which is mostly far more than a reply
+/// has.
 #[derive(Drop)]
 pub(crate) struct Room {
     deliveries: Vec<Delivery>,
@@ -75,8 +77,9 @@ impl Room {
     }
 }
 
-/// A list of the items in no more memory than it needs. Where that is refused, it is the room with the items in it, and
-/// the next call takes other memory.
+/// A list of the items in no more memory than it needs.
+///
+/// If that is refused, it is the room with the items in it, and the next call takes other memory.
 fn copied<T: Copy + Drop>(room: &mut Vec<T>, alloc: Global, items: &[T]) -> Vec<T>
     requires { (room.old.items ≡ []) × (length items.now ≤ vec_capacity room.old) }
     ensures { result.items ≡ items.now }

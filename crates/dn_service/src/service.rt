@@ -60,8 +60,9 @@ fn new_table(alloc: Global, count: usize, key: HashKey) -> Result<(BookTable, Bo
 impl Service {
     ghost use Rattle.dn_service.specs.Callers.{new_callers, IsOf, IsOpenFault, IsCloseFault, Closes};
 
-    /// A service with a new dummynet, and its `n` callers, numbered from 0 in their order. `BadCount`, which is tested first,
-    /// where `n` is not in 1..=16, and `OutOfMemory` where memory was refused.
+    /// A service with a new dummynet, and its `n` callers, numbered from 0 in their order.
+    ///
+    /// It returns `BadCount`, which is tested first, if `n` is not in 1..=16, and `OutOfMemory` if memory was refused.
     pub fn open(alloc: Global, n: usize) -> Result<(Service, Vec<Caller>), OpenFault>
         ensures service { IfOk result (λ made. (made.0.callers ≡ n) × (0 < n) × (n ≤ 16)) }
         ensures callers { IfOk result (λ made. made.1.items ≡ new_callers made.0 0 n) }
@@ -71,8 +72,9 @@ impl Service {
         Service::open_with_key(alloc, n, HashKey(0))
     }
 
-    /// The same with a secret for the table of its flows, for packets that a stranger chooses. No reply
-    /// depends on the key.
+    /// The same with a secret for the table of its flows, for packets that a stranger chooses.
+    ///
+    /// No reply depends on the key.
     pub fn open_with_key(
         alloc: Global,
         n: usize,
@@ -110,8 +112,10 @@ impl Service {
         ))
     }
 
-    /// Ends the service, and gives its history. Every caller that `open` handed out has to be handed in, in any order, or
-    /// `Absent(k)` names the least that is missing and everything is handed back. It takes no memory and waits for nobody.
+    /// Ends the service, and gives its history.
+    ///
+    /// Every caller that `open` handed out has to be handed in, in any order, or `Absent(k)` names the least that is
+    /// missing and everything is handed back. It takes no memory and waits for nobody.
     pub fn close(self, callers: Vec<Caller>) -> Result<Closed, Unclosed>
         requires { All (IsOf self) callers.items }
         ensures ok { IfOk result (λ closed. Closes self callers.items closed.history.items) }

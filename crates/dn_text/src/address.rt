@@ -26,8 +26,9 @@ fn read_octet(text: &[u8]) -> Option<u32>
     }
 }
 
-/// The IPv4 address that four numbers 0 to 255 with points between them write, the first the
-/// highest byte. None for any other text.
+/// The IPv4 address that four numbers 0 to 255 with points between them write.
+///
+/// The first is the highest byte. None for any other text.
 #[tactic(auto, unfolding(crate::specs::Addresses::address_of))]
 pub fn read_address(text: &[u8]) -> Option<u32>
     ensures { result ≡ address_of text.now }

@@ -23,8 +23,10 @@ fn after_mark_line(text: &[u8]) -> Option<&[u8]>
     }
 }
 
-/// The configuration and the packet file of a joined input: what stands before its first line `--`,
-/// and what stands after that line. Without such a line the whole is the configuration.
+/// The configuration and the packet file of a joined input.
+///
+/// The configuration is the text before the first line `--`, and the packet file the text after that line. Without such a
+/// line the whole is the configuration.
 pub fn split_joined(text: &[u8]) -> (&[u8], &[u8])
     ensures config { result.0.now ≡ (joined_parts text.now).0 }
     ensures packets { result.1.now ≡ (joined_parts text.now).1 }

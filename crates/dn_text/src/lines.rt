@@ -26,9 +26,10 @@ fn without_first(text: &[u8]) -> &[u8]
     }
 }
 
-/// The lines of a text that are left. Each ends at a line feed; what follows the last line feed is
-/// a line too, if it isn't empty. `number` is the number of the next one, where the first line of a
-/// text has number 1.
+/// The lines of a text that are left.
+///
+/// Each ends at a line feed; what follows the last line feed is a line too, if it isn't empty. `number` is the number of
+/// the next one. The first line of a text has number 1.
 #[derive(Clone, Copy, Debug)]
 pub struct Lines<'a> {
     pub number: usize,
@@ -49,8 +50,7 @@ impl<'a> Lines<'a> {
         }
     }
 
-    /// The line of this number, without its line feed, and the lines behind it, or None where no
-    /// line is left.
+    /// The line of this number, without its line feed, and the lines behind it, or None if no line is left.
     pub fn next(&self) -> Option<(&'a [u8], Lines<'a>)>
         requires { self.now.number + length self.now.rest.now < 2 ^ 64 }
         ensures { TakesLine self.now result }

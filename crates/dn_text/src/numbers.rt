@@ -3,8 +3,9 @@ ghost use Rattle.dn_text.specs.Numbers.{numeral_of, number_of, within, number_wi
 
 use crate::number_fault::NumberFault;
 
-/// The value of one digit or more in a radix, at most `greatest`. Leading zeros are allowed, and
-/// the text may be of any length.
+/// The value of one digit or more in a radix, at most `greatest`.
+///
+/// Leading zeros are allowed, and the text may be of any length.
 #[tactic(auto, unfolding(crate::specs::Numbers::numeral_of, crate::specs::Numbers::within))]
 pub fn read_numeral(text: &[u8], radix: u32, greatest: u64) -> Result<u64, NumberFault>
     requires radix_from { 2 ≤ radix }
@@ -30,8 +31,9 @@ pub fn read_numeral(text: &[u8], radix: u32, greatest: u64) -> Result<u64, Numbe
     Ok(value as u64)
 }
 
-/// The value of a decimal number from `least` to `greatest`, as `0` or a digit 1 to 9 and any
-/// digits write it. The text may be of any length.
+/// The value of a decimal number from `least` to `greatest`, as `0` or a digit 1 to 9 and any digits write it.
+///
+/// The text may be of any length.
 #[tactic(auto, unfolding(crate::specs::Numbers::number_of, crate::specs::Numbers::within))]
 pub fn read_number(text: &[u8], least: u64, greatest: u64) -> Result<u64, NumberFault>
     ensures value { result ≡ number_within least greatest text.now }

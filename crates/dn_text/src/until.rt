@@ -35,8 +35,9 @@ fn digit_of(byte: u8) -> Option<u64>
     if value > 9 { None } else { Some(value) }
 }
 
-/// The value of the digits that a text begins with, and how many there are. None where there are `most` or
-/// more, or where the text is shorter than that.
+/// The value of the digits that a text begins with, and how many there are.
+///
+/// None if there are `most` or more, or if the text is shorter than that.
 #[inline(always)]
 fn short_digits(text: &[u8], most: usize) -> Option<(u64, usize)>
     requires { most ≤ 19 }
@@ -101,8 +102,9 @@ fn has_too_many_digits(text: &[u8]) -> bool
     digits.len() > MOST_DIGITS
 }
 
-/// As `number_until`, in passes over at most the digits of a u64 and one more. So a text that is digits alone
-/// costs no more than they do.
+/// As `number_until`, in passes over at most the digits of a u64 and one more.
+///
+/// So a text that is digits alone costs no more than they do.
 #[cold]
 #[inline(never)]
 #[tactic(auto, unfolding(crate::specs::Until::number_until))]
@@ -119,9 +121,10 @@ fn long_number_until(text: &[u8], end: u8, least: u64, greatest: u64) -> Option<
     Some((number, rest))
 }
 
-/// The number from `least` to `greatest` whose decimal digits a text begins with, and what stands
-/// behind the byte `end` that follows them. None where the digits are no number of the range, as with
-/// a zero in front of others, or where another byte or nothing follows. The text may be of any length.
+/// The number from `least` to `greatest` at a text's front, and what follows the byte `end` after it.
+///
+/// The number is in decimal digits. None if the digits are no number of the range, as with a zero in front of others, or if
+/// another byte or nothing follows. The text may be of any length.
 #[inline(always)]
 #[tactic(auto, unfolding(crate::specs::Until::number_until))]
 pub fn number_until(text: &[u8], end: u8, least: u64, greatest: u64) -> Option<(u64, &[u8])>
@@ -137,8 +140,9 @@ pub fn number_until(text: &[u8], end: u8, least: u64, greatest: u64) -> Option<(
     Some((number, rest))
 }
 
-/// The IPv4 address that a text begins with, and what stands behind the byte `end` that follows it: four
-/// numbers 0 to 255 with points between them, the first the highest byte. None for any other text.
+/// The IPv4 address that a text begins with, and what follows the byte `end` after it.
+///
+/// The address is four numbers 0 to 255 with points between them, the first the highest byte. None for any other text.
 #[inline(always)]
 #[tactic(auto, unfolding(crate::specs::Until::address_until))]
 pub fn address_until(text: &[u8], end: u8) -> Option<(u32, &[u8])>

@@ -48,8 +48,10 @@ fn next_word(text: &[u8]) -> Option<(&[u8], &[u8])>
     Some(text.split_at(word_len(text)))
 }
 
-/// The words of a text that are left. Words stand between spaces, tabs and carriage returns, and
-/// `position` is the position of the next one, where the first word of a line has position 1.
+/// The words of a text that are left.
+///
+/// Words are separated by spaces, tabs and carriage returns. `position` is the position of the next one. The first word of
+/// a line has position 1.
 #[derive(Clone, Copy, Debug)]
 pub struct Words<'a> {
     pub position: usize,

@@ -2,8 +2,9 @@ use std::io::Write;
 use std::rt::Files;
 use std::{fs, io};
 
-/// A file that is made, or emptied if it is there, by the first write to it. So what fails before it has
-/// something to write leaves an older file as it was.
+/// A file that is made, or emptied if it is there, by the first write to it.
+///
+/// So what fails before it has something to write leaves an older file as it was.
 #[derive(Drop)]
 pub struct LateFile<'a, R: Files> {
     rt: &'a R,

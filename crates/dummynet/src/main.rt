@@ -59,8 +59,7 @@ fn run<R: Input + Files + Print + AllocGlobal + Threads + Wait + Sync>(
     Ok(DONE)
 }
 
-/// The secret by which the flow table hashes, drawn anew in each run, so that who writes a packet file
-/// can't know it.
+/// The secret by which the flow table hashes, drawn anew in each run, so that who writes a packet file can't know it.
 fn drawn_key<R: RandomSource>(rt: &R) -> io::Result<HashKey> {
     let mut bytes = [0; 16];
     rt.fill_bytes(&mut bytes)?;

@@ -23,8 +23,10 @@ pub fn replay_input<R: Input + Print + AllocGlobal>(
     replay_joined_report(rt.alloc(), key, &mut input, &mut out)
 }
 
-/// From two files to standard output. Both are opened before either is read. The history goes to a third one after the report, and
-/// that file is made, or emptied if it is there, once the text of the history stands whole in memory.
+/// From two files to standard output.
+///
+/// Both are opened before either is read. The history goes to a third one after the report, and that file is made, or
+/// emptied if it is there, once the whole text of the history is in memory.
 pub fn replay_files<R: Files + Print + AllocGlobal + Threads + Wait + Sync>(
     rt: &R,
     key: HashKey,

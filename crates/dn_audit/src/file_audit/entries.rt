@@ -39,8 +39,9 @@ pub(crate) fn audit_entries(
     }
 }
 
-/// The verdict on the history of a text, and the count of its entries. The first difference is kept
-/// while reading goes on, for a fault of the text comes before a verdict.
+/// The verdict on the history of a text, and the count of its entries.
+///
+/// The first difference is kept while reading goes on, because a fault of the text comes before a verdict.
 pub(crate) fn audit_text(
     alloc: Global,
     key: HashKey,

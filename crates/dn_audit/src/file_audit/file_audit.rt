@@ -16,9 +16,10 @@ use dn_shaper::HashKey;
 use std::alloc::{AllocError, Global};
 use std::mem;
 
-/// The audit of a history file that comes in parts of any length. `HasCome` says which text has come. Its
-/// entries are audited as they come once the line of its version has; where that isn't written plainly the text
-/// is kept, and read at the end.
+/// The audit of a history file that comes in parts of any length.
+///
+/// `HasCome` says which text has come. Once the line of the version has come, entries are audited as they come. If that
+/// line isn't written plainly, the text is kept, and read at the end.
 #[derive(Drop)]
 pub struct FileAudit {
     alloc: Global,
@@ -31,8 +32,9 @@ pub struct FileAudit {
 }
 
 impl FileAudit {
-    /// An audit of which nothing has come, of at most 268,435,456 bytes. No verdict depends on the key, the secret of
-    /// the flow table.
+    /// An audit of which nothing has come, of at most 268,435,456 bytes.
+    ///
+    /// No verdict depends on the key, the secret of the flow table.
     pub fn new(alloc: Global, key: HashKey) -> FileAudit
         ensures come { HasCome result [] }
         ensures limit { result.limit ≡ 268435456 }
@@ -83,8 +85,10 @@ impl FileAudit {
         }
     }
 
-    /// Takes the next part of the text, which has at most as many bytes in all as its limit says. TooLong says that it
-    /// has more, and OutOfMemory that a growth was refused; after either the audit is of no more use.
+    /// Takes the next part of the text, which has at most as many bytes in all as its limit says.
+    ///
+    /// TooLong says that the text has more, and OutOfMemory that a growth was refused. After either the audit is of no more
+    /// use.
     pub fn feed(&mut self, part: &[u8]) -> Result<(), ReplayFault>
         ensures ok { OnOk result ((text : List ℕ) → HasCome self.old text → HasCome self.new (text ++ part.now)) }
         ensures limit { self.new.limit ≡ self.old.limit }
@@ -102,8 +106,10 @@ impl FileAudit {
         Ok(())
     }
 
-    /// Feeds what an inlet has left, in parts of at most 65,536 bytes. The faults are those of `feed`, and Read
-    /// where a read failed. Once more bytes have come than a file has at most, nothing more is read.
+    /// Feeds what an inlet has left, in parts of at most 65,536 bytes.
+    ///
+    /// The faults are those of `feed`, and Read if a read failed. Once more bytes have come than a file has at most,
+    /// nothing more is read.
     pub fn read<I: Inlet>(&mut self, inlet: &mut I) -> Result<(), ReplayFault>
         requires come { HasCome self.old [] }
         requires sound { I.has_failed inlet.old ≡ false }
@@ -116,9 +122,10 @@ impl FileAudit {
         feed_all(self.alloc, inlet, self)
     }
 
-    /// The verdict on the history, whose text has ended, and the count of its entries, or the fault of the text:
-    /// BadRecord with the number of the first bad record, from 1, or OutOfMemory. The first difference is kept
-    /// while reading goes on, for a fault of the text comes before a verdict.
+    /// The verdict on the history, whose text has ended, and the count of its entries.
+    ///
+    /// The faults are BadRecord with the number of the first bad record, from 1, and OutOfMemory. The first difference is
+    /// kept while reading goes on, because a fault of the text comes before a verdict.
     pub fn finish(self) -> Result<(Verdict, usize), ReplayFault>
         ensures ok { IfOk result (λ found. (text : List ℕ) → HasCome self text → HasVerdict text found.0 found.1) }
         ensures err { IfErr result (λ fault. (text : List ℕ) → HasCome self text → IsFaultOf (history_in text) fault) }

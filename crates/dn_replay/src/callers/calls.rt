@@ -88,8 +88,9 @@ fn submit_all<G: Gate + Sync, R: Threads + Wait + Sync>(
     gathered(thread::map_vec(rt, callers, &submit)?)
 }
 
-/// Caller 0 makes the calls of a configuration. Then all callers submit their rows at the same time, and
-/// when they have all come back caller 0 takes what is delivered.
+/// Caller 0 makes the calls of a configuration.
+///
+/// Then all callers submit their rows at the same time, and when they have all come back caller 0 takes what is delivered.
 pub(crate) fn run_callers<G: Gate + Sync, R: Threads + Wait + Sync>(
     rt: &R,
     mut callers: Vec<Caller>,

@@ -1,5 +1,7 @@
-/// What is called round each Submit of the callers of a replay. A gate that waits for another caller can
-/// hold one caller until another has come as far, and so choose the order of their calls.
+/// What is called round each Submit of the callers of a replay.
+///
+/// A gate that waits for another caller can hold one caller until another has come as far, and so choose the order of their
+/// calls.
 pub trait Gate {
     /// Called before a caller submits a row. `turn` counts that caller's rows from 0.
     fn before(&self, caller: usize, turn: usize);

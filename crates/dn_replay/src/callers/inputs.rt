@@ -29,8 +29,7 @@ pub(crate) fn configure_from<I: Inlet>(
     configure(run, text.as_slice())
 }
 
-/// Makes the commands of a configuration by a run before its first call, and reads the rows of a packet
-/// file.
+/// Makes the commands of a configuration by a run before its first call, and reads the rows of a packet file.
 pub(crate) fn read_inputs<C: Inlet, P: Inlet>(
     alloc: Global,
     run: &mut Run,

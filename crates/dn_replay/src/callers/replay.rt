@@ -35,8 +35,7 @@ fn open(alloc: Global, n: usize, key: HashKey) -> Result<(Service, Vec<Caller>),
     }
 }
 
-/// The history of the commands of a configuration, which a run before its first call makes, and the rows of
-/// a packet file.
+/// The history of the commands of a configuration, which a run before its first call makes, and the rows of a packet file.
 fn commands_and_rows<C: Inlet, P: Inlet>(
     alloc: Global,
     run: &mut Run,
@@ -79,11 +78,12 @@ fn history<G: Gate + Sync, R: Threads + Wait + Sync>(
     Ok(closed.history)
 }
 
-/// Replays a packet file through a configuration for n callers, 1 to 16, in threads of their own. Caller 0
-/// makes the command of each configuration line. Then row i, from 1, is submitted by caller (i - 1) mod n,
-/// each caller's rows in order, with a call of the gate before and after each. When all have come back,
-/// caller 0 takes all packets that are due by 2^62 ns. It writes the report and answers the history that
-/// the service left: with several callers two runs may differ.
+/// Replays a packet file through a configuration for n callers, 1 to 16, in threads of their own.
+///
+/// Caller 0 makes the command of each configuration line. Then row i, from 1, is submitted by caller (i - 1) mod n, each
+/// caller's rows in order, with a call of the gate before and after each. When all have come back, caller 0 takes all
+/// packets that are due by 2^62 ns. It writes the report and returns the history that the service left: with several
+/// callers two runs may differ.
 ///
 /// `BadCount` comes before anything is read, and then the faults of [`replay`](crate::replay). Nothing is
 /// written before both inputs were read and judged.
@@ -116,8 +116,9 @@ pub fn replay_callers<C: Inlet, P: Inlet, O: Outlet, G: Gate + Sync, R: Threads 
     replay_callers_with_key(rt, alloc, HashKey(0), n, config, packets, out, gate)
 }
 
-/// [`replay_callers`] with a secret for the flow table's hash, where a stranger chose the packets. No answer depends on
-/// it.
+/// [`replay_callers`] with a secret for the flow table's hash, for packets that a stranger chose.
+///
+/// No reply depends on it.
 pub fn replay_callers_with_key<
     C: Inlet,
     P: Inlet,

@@ -8,9 +8,10 @@ use crate::config::run::Run;
 use dn_files::{ReplayFault, command_at};
 use dn_text::Lines;
 
-/// Makes the commands of a configuration's text by a run before its first call, each before the next
-/// line is read: a refused command is told before the fault of a later line. `read_config` of dn_files
-/// has a loop of its own, which reads all lines and asks for none to be accepted.
+/// Makes the commands of a configuration's text by a run before its first call.
+///
+/// Each is made before the next line is read: a refused command is reported before the fault of a later line. `read_config`
+/// of dn_files has a loop of its own, which reads all lines and asks for none to be accepted.
 pub(crate) fn configure(run: &mut Run, text: &[u8]) -> Result<(), ReplayFault>
     requires { HasMade run.old [] }
     ensures ok { OnOk result ((calls : List Call) × (configured_by text.now ≡ Ok calls) × HasMade run.new calls) }

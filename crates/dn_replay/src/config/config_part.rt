@@ -48,8 +48,9 @@ impl ConfigPart {
         Ok(false)
     }
 
-    /// Takes what a part of the input has of the configuration. Once the line `--` has ended, the lines are
-    /// the configuration, and what stands behind in the part is answered.
+    /// Takes what a part of the input has of the configuration.
+    ///
+    /// Once the line `--` has ended, the lines are the configuration, and what follows in the part is returned.
     pub(crate) fn take<'a>(&mut self, part: &'a [u8]) -> Result<Option<&'a [u8]>, AllocError>
         ensures { IfOk result (λ found. MatchOption found
             ((text : List ℕ) → IsConfigSoFar self.old text → IsConfigSoFar self.new (text ++ part.now))
@@ -64,8 +65,9 @@ impl ConfigPart {
         Ok(None)
     }
 
-    /// Takes the end of the input. The lines are then the configuration: where the last line is `--`, it is no
-    /// part of it, and no packets follow.
+    /// Takes the end of the input.
+    ///
+    /// The lines are then the configuration: if the last line is `--`, it is no part of it, and no packets follow.
     pub(crate) fn end(&mut self) -> Result<(), AllocError>
         ensures { OnOk result ((text : List ℕ) → IsConfigSoFar self.old text → joined_parts text ≡ (self.new.lines.items, [])) }
     {

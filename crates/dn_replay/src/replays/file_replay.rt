@@ -13,9 +13,11 @@ use dn_types::Entry;
 use std::alloc::Global;
 use std::marker::Model;
 
-/// A replay by one caller of files that come in parts of any length: a joined input, or the packets behind a
-/// configuration. `HasCome` says which text has come. Packets are submitted as they come, and nothing is written
-/// before `finish`, whose answer rests on the text alone and not on its parts.
+/// A replay by one caller of files that come in parts of any length.
+///
+/// Its text is a joined input, or the packets behind a configuration. `HasCome` says which text has come. Packets are
+/// submitted as they come, and nothing is written before `finish`, whose result rests on the text alone and not on its
+/// parts.
 #[derive(Drop)]
 pub struct FileReplay {
     input: Input,
@@ -37,9 +39,10 @@ impl Model for FileReplay {
 }
 
 impl FileReplay {
-    /// A replay of a joined input, of which nothing has come: a configuration up to the line `--`, and then
-    /// packets. Where it records, each call is kept with its reply; else what is kept of a packet is what the
-    /// report's line says. It has at most 67,108,864 bytes. No answer depends on the key, the secret of the flow table.
+    /// A replay of a joined input, of which nothing has come: a configuration up to the line `--`, and then packets.
+    ///
+    /// If it records, each call is kept with its reply; else what is kept of a packet is what the report's line says. The
+    /// input has at most 67,108,864 bytes. No result depends on the key, the secret of the flow table.
     pub fn joined(alloc: Global, key: HashKey, records: bool) -> FileReplay
         ensures come { HasCome records result None [] }
         ensures limit { result.limit ≡ 67108864 }
@@ -54,9 +57,10 @@ impl FileReplay {
         }
     }
 
-    /// A replay of packets, of which none has come, behind a configuration of at most 1,048,576 bytes, whose
-    /// commands are made. The packets have at most 67,108,864 bytes. The fault is that of the first line that is bad
-    /// or refused, TooLong(Config), or OutOfMemory.
+    /// A replay of packets, of which none has come, behind a configuration whose commands are made.
+    ///
+    /// The configuration has at most 1,048,576 bytes, and the packets at most 67,108,864. The faults are the one of the
+    /// first line that is bad or refused, TooLong(Config), and OutOfMemory.
     pub fn behind(
         alloc: Global,
         key: HashKey,
@@ -106,8 +110,10 @@ impl FileReplay {
         }
     }
 
-    /// Takes the next part, of at most as many bytes in all as its limit says. TooLong says that there are more, and
-    /// nothing of the part was taken. After OutOfMemory, which says that a growth was refused, `finish` answers it too.
+    /// Takes the next part, of at most as many bytes in all as its limit says.
+    ///
+    /// TooLong says that there are more, and nothing of the part was taken. OutOfMemory says that a growth was refused;
+    /// after it `finish` returns it too.
     pub fn feed(&mut self, part: &[u8]) -> Result<(), ReplayFault>
         ensures ok { OnOk result ((records : Bool) (config : Option (List ℕ)) (text : List ℕ)
             → HasCome records self.old config text → HasCome records self.new config (text ++ part.now)) }
@@ -127,8 +133,9 @@ impl FileReplay {
         Ok(())
     }
 
-    /// Feeds what an inlet has left, in parts of at most 65,536 bytes. The faults are those of `feed`, after which
-    /// nothing more is read, and Read where a read failed.
+    /// Feeds what an inlet has left, in parts of at most 65,536 bytes.
+    ///
+    /// The faults are those of `feed`, after which nothing more is read, and Read if a read failed.
     pub fn read<I: Inlet>(&mut self, inlet: &mut I) -> Result<(), ReplayFault>
         requires sound { I.has_failed inlet.old ≡ false }
         ensures ok { OnOk result ((text : List ℕ) × IsTextOf (I.remaining inlet.old) text
@@ -141,9 +148,10 @@ impl FileReplay {
         feed_all(self.alloc, inlet, self)
     }
 
-    /// Takes the end of the text: its first fault is answered, or its report is written and its history answered,
-    /// which is empty where none is kept. Before Write a part of the report was written, and before any other
-    /// fault nothing.
+    /// Takes the end of the text: returns its first fault, or writes its report and returns its history.
+    ///
+    /// The history is empty if none is kept. Before Write a part of the report was written, and before any other fault
+    /// nothing.
     pub fn finish<O: Outlet>(self, out: &mut O) -> Result<Vec<Entry>, ReplayFault>
         requires sound { O.has_failed out.old ≡ false }
         ensures ok { IfOk result (λ entries. (records : Bool) (config : Option (List ℕ)) (text : List ℕ) → HasCome records self config text

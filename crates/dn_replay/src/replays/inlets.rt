@@ -90,8 +90,9 @@ fn replay_input<I: Inlet, O: Outlet>(
     answer(FileReplay::joined(alloc, key, records), input, out)
 }
 
-/// [`replay`](crate::replay) with a secret for the flow table's hash, where a stranger chose the packets. No answer
-/// depends on it.
+/// [`replay`](crate::replay) with a secret for the flow table's hash, for packets that a stranger chose.
+///
+/// No reply depends on it.
 pub fn replay_with_key<C: Inlet, P: Inlet, O: Outlet>(
     alloc: Global,
     key: HashKey,
@@ -155,10 +156,10 @@ pub fn replay_within<C: Inlet, P: Inlet, O: Outlet>(
     replay_inputs(alloc, key, true, limit, config, packets, out)
 }
 
-/// Replays a packet file through a configuration for one caller, as [`replay`](crate::replay) does, and writes
-/// the report alone. The packets are submitted as they are read, and no history is kept: what is kept of a
-/// packet is what its line says. Nothing is written before both inputs were read and judged. No answer depends
-/// on the key, the secret of the flow table.
+/// Replays a packet file through a configuration for one caller, as [`replay`](crate::replay), and writes the report alone.
+///
+/// The packets are submitted as they are read, and no history is kept: what is kept of a packet is what its line says.
+/// Nothing is written before both inputs were read and judged. No reply depends on the key, the secret of the flow table.
 pub fn replay_report<C: Inlet, P: Inlet, O: Outlet>(
     alloc: Global,
     key: HashKey,

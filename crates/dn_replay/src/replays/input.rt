@@ -21,13 +21,16 @@ pub(crate) enum Stage {
     Config,
     /// Packets.
     Packets,
-    /// What stands behind a configuration that was refused. Reading goes on, since a failed read and an
-    /// input that is too long are told before the fault.
+    /// The text after a configuration that was refused.
+    ///
+    /// Reading goes on, since a failed read and an input that is too long are reported before the fault.
     Refused(ReplayFault),
 }
 
-/// A replay whose input comes in parts: a configuration up to the line `--` and then packets, or packets
-/// behind a configuration that was accepted before.
+/// A replay whose input comes in parts.
+///
+/// The input is a configuration up to the line `--` and then packets, or packets behind a configuration that was accepted
+/// before.
 #[derive(Drop)]
 pub(crate) struct Input {
     pub(crate) pass: Pass,
@@ -37,8 +40,9 @@ pub(crate) struct Input {
 }
 
 impl Input {
-    /// A replay before its first call, whose input is a joined one. Where it records, each call is kept with its
-    /// reply.
+    /// A replay before its first call, whose input is a joined one.
+    ///
+    /// If it records, each call is kept with its reply.
     pub(crate) fn new(alloc: Global, key: HashKey, records: bool) -> Input
         ensures unbegun { IsUnbegun result }
         ensures records { result.pass.records ≡ records }
@@ -117,8 +121,9 @@ impl Input {
         }
     }
 
-    /// Takes the end of the input, and writes the report of what it asks for. Where the calls are recorded, they
-    /// are all in the history then.
+    /// Takes the end of the input, and writes the report of what it asks for.
+    ///
+    /// If the calls are recorded, they are all in the history then.
     pub(crate) fn report<O: Outlet>(&mut self, out: &mut O) -> Result<(), ReplayFault>
         requires taken { (records : Bool) × (asked : List ℕ → Result (List CallValue) FaultValue) × (text : List ℕ)
             × HasTaken records self.old asked text × AreFew (asked text) }

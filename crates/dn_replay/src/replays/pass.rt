@@ -22,8 +22,10 @@ use std::alloc::{AllocError, Global};
 // After so many Submits packets are collected in passing.
 const STRETCH: usize = 256;
 
-/// A run that submits the packets of a text as its parts come. Of a packet it keeps what the report needs; where it
-/// records, the run's history has the packets' calls too, and elsewhere those of the configuration alone.
+/// A run that submits the packets of a text as its parts come.
+///
+/// Of a packet it keeps what the report needs. If it records, the run's history has the packets' calls too, and else those
+/// of the configuration alone.
 #[derive(Drop)]
 pub(crate) struct Pass {
     pub(crate) run: Run,
@@ -45,8 +47,10 @@ fn collect(shaper: &mut Shaper, given: &mut Vec<Delivery>, moment: Moment) -> Re
     Ok(())
 }
 
-/// Submits the packet of a row, and keeps what the report needs of the answer. Where nothing is recorded, packets
-/// that are due by the clock are collected from time to time, so that the shaper needn't hold all until the end.
+/// Submits the packet of a row, and keeps what the report needs of the reply.
+///
+/// If nothing is recorded, packets that are due by the clock are collected from time to time, so that the shaper needn't
+/// hold all until the end.
 fn submit_row(
     run: &mut Run,
     kept: &mut Kept,
@@ -135,8 +139,7 @@ impl Pass {
         collect(&mut self.run.shaper, &mut self.given, last)
     }
 
-    /// Submits what is left of the packets' text, which has ended, and takes all packets that are due by the last
-    /// moment.
+    /// Submits what is left of the packets' text, which has ended, and takes all packets that are due by the last moment.
     fn finish(&mut self) -> Result<(), ReplayFault>
         ensures ok { OnOk result ((records : Bool) (calls : List CallValue) (text : List ℕ) → HasFed records self.old calls text
             → AreFew (calls_with calls text) → HasEndedWith records self.new calls text) }

@@ -10,10 +10,11 @@ use dn_shaper::HashKey;
 use dn_types::Entry;
 use std::alloc::Global;
 
-/// Replays a packet file through a configuration for one caller: it makes the command of each
-/// configuration line, submits each row, and then takes all packets that are due by 2^62 ns. It writes
-/// the report and answers the history. The packets are submitted as they are read. Nothing is written before
-/// both inputs were read and judged. The packets have at most 67,108,864 bytes.
+/// Replays a packet file through a configuration for one caller, writes the report, and returns the history.
+///
+/// It makes the command of each configuration line, submits each row, and then takes all packets that are due by 2^62 ns.
+/// The packets are submitted as they are read. Nothing is written before both inputs were read and judged. The packets have
+/// at most 67,108,864 bytes.
 pub fn replay<C: Inlet, P: Inlet, O: Outlet>(
     alloc: Global,
     config: &mut C,
@@ -43,8 +44,9 @@ pub fn replay<C: Inlet, P: Inlet, O: Outlet>(
     replay_with_key(alloc, HashKey(0), config, packets, out)
 }
 
-/// [`replay`] over one joined input of at most 67,108,864 bytes: a configuration up to the first line
-/// `--`, and then a packet file.
+/// [`replay`] over one joined input of at most 67,108,864 bytes.
+///
+/// It is a configuration up to the first line `--`, and then a packet file.
 pub fn replay_joined<I: Inlet, O: Outlet>(
     alloc: Global,
     input: &mut I,

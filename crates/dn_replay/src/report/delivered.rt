@@ -51,8 +51,9 @@ fn note_all(table: &mut Vec<Option<Delivery>>, list: &[Delivery])
     }
 }
 
-/// The deliveries of a history by packet number. In a lawful history packet numbers are below the
-/// count of entries.
+/// The deliveries of a history by packet number.
+///
+/// In a lawful history packet numbers are below the count of entries.
 pub(crate) fn delivery_table(
     alloc: Global,
     entries: &[Entry],

@@ -3,8 +3,9 @@ ghost use Rattle.dn_replay.specs.Kept.{fate_of, flow_of, is_accepted, moment_of}
 
 use dn_types::Reply;
 
-/// What became of the packet of a row, as its Submit was answered. `at` is the effective moment in
-/// nanoseconds, and `flow` a flow number.
+/// What became of the packet of a row, by the reply to its Submit.
+///
+/// `at` is the effective moment in nanoseconds, and `flow` a flow number.
 #[derive(Clone, Copy, Debug)]
 pub(crate) enum Fate {
     /// The packet was accepted.

@@ -1,8 +1,9 @@
 ghost use Rattle.std.specs.Prelude.{◌≡◌};
 ghost use Rattle.dn_replay.specs.Report.{due_of, is_out, packet_of, row_number};
 
-/// A line of a report: what became of the packet of one row. `at` is the effective moment of its
-/// Submit; moments are in nanoseconds.
+/// A line of a report: what became of the packet of one row.
+///
+/// `at` is the effective moment of its Submit; moments are in nanoseconds.
 #[derive(Clone, Copy, Debug)]
 pub(crate) enum ReportLine {
     /// The packet was delivered.

@@ -1,5 +1,6 @@
-//! The lines of a report, each added to a text that has room for it. A line is built from its end towards its front in
-//! an array.
+//! The lines of a report, each added to a text that has room for it.
+//!
+//! A line is built from its end towards its front in an array.
 
 ghost use Rattle.std.specs.Prelude.{◌≡◌, ◌<◌, ◌≤◌, ◌+◌, ◌++◌, [], ◌∷◌, decimal, drop, length, vec_capacity};
 ghost use Rattle.dn_records.specs.Records.{line_of};

@@ -103,8 +103,9 @@ fn is_submit(call: &Call) -> bool
     matches!(call, Call::Submit { .. })
 }
 
-/// The line of the next entry, if it is a Submit. `counts` has the count of each caller's Submits so
-/// far.
+/// The line of the next entry, if it is a Submit.
+///
+/// `counts` has the count of each caller's Submits so far.
 fn line_of_entry(
     counts: &mut Vec<u64>,
     table: &[Option<Delivery>],

@@ -261,9 +261,10 @@ fn write_by<O: Outlet>(
     }
 }
 
-/// Writes the report of what is kept, where `given` is what a Collect at the last moment gave: its
-/// lines follow the deliveries as they stand. The text is written in parts, for which room is made
-/// before the first is written.
+/// Writes the report of what is kept.
+///
+/// `given` is what a Collect at the last moment gave: its lines follow the deliveries in their order. The text is written
+/// in parts, for which room is made before the first is written.
 pub(crate) fn write_kept<O: Outlet>(
     alloc: Global,
     kept: &Kept,
