@@ -2,8 +2,9 @@ ghost use Rattle.std.specs.Prelude.{◌≡◌, ℕ, ◌≤◌, ◌↔◌, IsSome
 
 use std::marker::Model;
 
-/// The size of the hash table of flows, 16 to 65536, as ipfw(8) has it. It is kept and changes no
-/// reply.
+/// The size of the hash table of flows, 16 to 65536, as ipfw(8) has it.
+///
+/// It is kept and changes no reply.
 #[derive(Clone, Copy, Debug, PartialEq, Eq, PartialOrd, Ord, Hash)]
 pub struct Buckets(u32);
 

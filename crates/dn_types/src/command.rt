@@ -10,7 +10,7 @@ use crate::weight::Weight;
 /// What a configuration line asks for. A line gives the whole configuration of its pipe or queue.
 #[derive(Clone, Copy, Debug, PartialEq, Eq)]
 pub enum Command {
-    /// `pipe N config ..`
+    /// `pipe N config ..` configures a pipe.
     Pipe {
         number: Number,
         bw: Bandwidth,
@@ -20,7 +20,7 @@ pub enum Command {
         buckets: Option<Buckets>,
         mask: Mask,
     },
-    /// `queue N config pipe P ..`
+    /// `queue N config pipe P ..` configures a queue on a pipe.
     Queue {
         number: Number,
         pipe: Number,
@@ -30,8 +30,8 @@ pub enum Command {
         buckets: Option<Buckets>,
         mask: Mask,
     },
-    /// `pipe delete N`
+    /// `pipe delete N` deletes a pipe.
     DeletePipe(Number),
-    /// `queue delete N`
+    /// `queue delete N` deletes a queue.
     DeleteQueue(Number),
 }

@@ -1,5 +1,6 @@
-/// A packet that a Collect gives. Deliveries are ordered by their fields as they stand here, so by
-/// due moment and then by packet number.
+/// A packet that a Collect gives.
+///
+/// Deliveries are ordered by their fields in this order, so by due moment and then by packet number.
 #[derive(Clone, Copy, Debug, PartialEq, Eq, PartialOrd, Ord)]
 pub struct Delivery {
     /// When the packet leaves the emulator, in nanoseconds.

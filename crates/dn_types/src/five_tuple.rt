@@ -1,5 +1,6 @@
-/// The addresses, the protocol and the ports by which packets are told apart. An IPv4 address
-/// stands with its first number in the highest byte.
+/// The addresses, the protocol and the ports by which packets are told apart.
+///
+/// An IPv4 address has its first number in the highest byte.
 #[derive(Clone, Copy, Debug, PartialEq, Eq, PartialOrd, Ord, Hash)]
 pub struct FiveTuple {
     pub src: u32,

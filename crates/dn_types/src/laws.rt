@@ -1,5 +1,6 @@
-//! Laws of the definitions. A function here does nothing: its contract is the law, which the
-//! check proves.
+//! Laws of the definitions.
+//!
+//! A function here does nothing: its contract is the law, which the check proves.
 
 ghost use Rattle.dn_types.specs.Bounds.{IsInRange};
 ghost use Rattle.dn_types.specs.ByteShares.{SharesByWeight};
@@ -45,9 +46,9 @@ ghost use Rattle.dn_types.specs.TimeLaws.{StartsInTime, UnlimitedTakesNoTime};
 
 use crate::call::Call;
 
-/// A settling starts every packet that can start: after it no start is due on any link. A link
-/// sends one packet at a time. The packets of a flow start in the order of their arrival, and none
-/// starts twice.
+/// A settling starts every packet that can start: after it no start is due on any link.
+///
+/// A link sends one packet at a time. The packets of a flow start in the order of their arrival, and none starts twice.
 pub fn laws_of_starts()
     ensures settles { SettlingEnds }
     ensures one_at_a_time { SendsOneAtATime }
@@ -55,8 +56,9 @@ pub fn laws_of_starts()
     ensures once { StartsOnce }
 {}
 
-/// The heads of a link are the first packets of the flows that wait for it. On a shared link WF2Q+
-/// picks one wherever there is one: of the eligible heads the one with the least finish tag, and of
+/// The heads of a link are the first packets of the flows that wait for it.
+///
+/// On a shared link WF2Q+ picks one wherever there is one: of the eligible heads the one with the least finish tag, and of
 /// those with equal tags that of the least flow number. What starts on it is that pick.
 pub fn laws_of_the_pick()
     ensures heads { HeadsAreFirst }
@@ -65,16 +67,16 @@ pub fn laws_of_the_pick()
     ensures started { StartsThePick }
 {}
 
-/// The transmission time is the least that carries the packet's bits, and under `Rule::Ordered` the
-/// due moments of a link never fall.
+/// The transmission time is the least that carries the packet's bits.
+///
+/// Under `Rule::Ordered` the due moments of a link never fall.
 pub fn laws_of_due_moments()
     ensures transmission { TransmissionIsLeast }
     ensures due_is_last { DueIsLast }
     ensures never_fall { DueMomentsNeverFall }
 {}
 
-/// Each packet that starts is given by one Collect at most, and by the first whose effective moment
-/// reaches its due moment.
+/// Each packet that starts is given by one Collect at most, and by the first whose effective moment reaches its due moment.
 pub fn laws_of_collecting()
     ensures as_started { GivesStarted }
     ensures once { GivesOnce }
@@ -82,8 +84,9 @@ pub fn laws_of_collecting()
     ensures none_left { LeavesWhatIsNotDue }
 {}
 
-/// A history is lawful exactly if its replies are those to its calls, of which the first 2^62 count
-/// and the others change nothing, and each of its entries is one caller's own. A reply rests on where the
+/// A history is lawful exactly if its replies are those to its calls.
+///
+/// The first 2^62 calls count, and the others change nothing. Each entry is one caller's own. A reply rests on where the
 /// calls before it left the emulator, and on nothing else of their past.
 pub fn laws_of_histories()
     ensures replies { LawfulReplies }
@@ -94,9 +97,10 @@ pub fn laws_of_histories()
     ensures standing { RepliesByStanding }
 {}
 
-/// After calls in range, the moments of a reply are at most 2^62 ns, the due moments of what is still
-/// to be given are below 2^63 ns, and no queue holds 2^32 bytes. After any calls, the counts of a
-/// reply and its packet numbers are below 2^62.
+/// After calls in range, moments and queues are bounded.
+///
+/// The moments of a reply are at most 2^62 ns, the due moments of what is still to be given are below 2^63 ns, and no queue
+/// holds 2^32 bytes. After any calls, the counts of a reply and its packet numbers are below 2^62.
 pub fn laws_of_bounds()
     ensures moments { MomentsAreBounded }
     ensures dues { DueMomentsAreBounded }
@@ -115,9 +119,10 @@ pub fn laws_of_drops()
     ensures unconfigured { NoneUnconfigured }
 {}
 
-/// A packet starts as soon as its link is free, with the bandwidth and the delay in force. Nothing but a
-/// start moves the moment at which a link is free, its last due moment or, in a busy period, its
-/// virtual time.
+/// A packet starts as soon as its link is free, with the bandwidth and the delay in force.
+///
+/// Nothing but a start moves the moment at which a link is free, its last due moment or, in a busy period, its virtual
+/// time.
 pub fn laws_of_links()
     ensures at_once { StartsAtOnce }
     ensures never_idle { IsNeverIdle }
@@ -131,11 +136,11 @@ pub fn laws_of_links()
     ensures virtual_time { VirtualTimeIsKept }
 {}
 
-/// What has happened stays: each call adds to it and changes nothing of it. A packet starts while a
-/// call is answered, at a moment between the clocks before and after it, and never before it was
-/// accepted. From then to its due moment it takes its wait, its transmission, its delay and what the
-/// packet before it lacks, and nothing else. A Collect gives its packets by due moment, and where two
-/// are equal by packet number.
+/// What has happened stays: each call adds to it and changes nothing of it.
+///
+/// A packet starts while a call is answered, at a moment between the clocks before and after it, and never before it was
+/// accepted. From then to its due moment it takes its wait, its transmission, its delay and what the packet before it
+/// lacks, and nothing else. A Collect gives its packets by due moment, and where two are equal by packet number.
 pub fn laws_of_time()
     ensures stay { EventsStay }
     ensures in_time { StartsInTime }
@@ -145,9 +150,10 @@ pub fn laws_of_time()
     ensures in_order { GivesInOrder }
 {}
 
-/// A busy period begins with tags of 0, where the link is free and no packet waits for it; a delete
-/// forgets the tags of its flows; and a packet that is lost, refused or without a target changes no
-/// queue. Else a flow keeps the finish tag of its last packet.
+/// A busy period begins with tags of 0, where the link is free and no packet waits for it.
+///
+/// A delete forgets the tags of its flows. A packet that is lost, refused or without a target changes no queue. Else a flow
+/// keeps the finish tag of its last packet.
 pub fn laws_of_resets()
     ensures afresh { TagsBeginAfresh }
     ensures queue_delete { QueueDeleteResets }
@@ -175,9 +181,10 @@ pub fn laws_of_shares()
     ensures bytes { SharesByWeight }
 {}
 
-/// A delete empties the queues that it reaches and moves nothing that has started. Nothing is in force
-/// at first, and nothing but a command changes what is. A packet changes nothing on the links of other pipes: whatever
-/// happens there, the links of a pipe stand as the clock alone leaves them.
+/// A delete empties the queues that it reaches and moves nothing that has started.
+///
+/// Nothing is in force at first, and nothing but a command changes what is. A packet changes nothing on the links of other
+/// pipes: whatever happens there, the links of a pipe are as the clock alone leaves them.
 pub fn laws_of_isolation()
     ensures pipe_delete { PipeDeleteEmpties }
     ensures queue_delete { QueueDeleteEmpties }
@@ -193,10 +200,11 @@ pub fn laws_of_isolation()
     ensures clock_tags { ClockSparesTags }
 {}
 
-/// What other links carry changes nothing on a link, and so what other pipes carry nothing on a pipe:
-/// with their packets taken away, each packet is queued, lost or refused as before and starts and is
-/// due at the same moments. So a replay can be cut by links: each part gets its part of the replies.
-/// A pipe's part rests on what is in force for the pipe and for its packets' targets alone.
+/// What other links carry changes nothing on a link, and so what other pipes carry nothing on a pipe.
+///
+/// With their packets taken away, each packet is queued, lost or refused as before and starts and is due at the same
+/// moments. So a replay can be cut by links: each part gets its part of the replies. A pipe's part rests on what is in
+/// force for the pipe and for its packets' targets alone.
 pub fn laws_of_parts()
     ensures trace { OtherLinksChangeNothing }
     ensures replies { OtherLinksChangeNoReply }
@@ -208,11 +216,12 @@ pub fn laws_of_parts()
     ensures force { CommandsActByForce }
 {}
 
-/// A call is told what happens, and nothing else. The first 2^62 are answered. A packet, an Advance and a
-/// Collect are told the clock, and a command what is in force. A packet that is told to be queued waits,
-/// is discarded or starts, and is then delivered once: by the first Collect whose effective moment
-/// reaches its due moment. A Show tells how many packets of each flow were told to be lost, refused
-/// and queued, and of the queued ones how many started, wait and were discarded.
+/// A call is told what happens, and nothing else.
+///
+/// The first 2^62 are answered. A packet, an Advance and a Collect are told the clock, and a command what is in force. A
+/// packet that is told to be queued waits, is discarded or starts, and is then delivered once: by the first Collect whose
+/// effective moment reaches its due moment. A Show tells how many packets of each flow were told to be lost, refused and
+/// queued, and of the queued ones how many started, wait and were discarded.
 pub fn laws_of_replies()
     ensures limit { LimitIsCounted }
     ensures clock { RepliesTellTheClock }
@@ -228,18 +237,19 @@ pub fn laws_of_replies()
     ensures flows { FlowsWereTold }
 {}
 
-/// What arrives is what was told to be queued: with its own length, on its flow's own link where it was
-/// sent to a pipe, and on the one link of the pipe where it was sent to a queue. So all queues of a
-/// pipe together keep the configured rate.
+/// What arrives is what was told to be queued.
+///
+/// It has its own length. It is on its flow's own link if it was sent to a pipe, and on the one link of the pipe if it was
+/// sent to a queue. So all queues of a pipe together keep the configured rate.
 pub fn laws_of_acceptance()
     ensures arrivals { ArrivalsAreTold }
     ensures queued { QueuedPacketsArrive }
     ensures rate { QueuesShareTheRate }
 {}
 
-/// A queue is emptied by a delete alone, which reaches the flow's key and is told Deleted, and any other
-/// command makes nothing happen. So of the accepted packets of a flow each has started, waits or was
-/// discarded.
+/// A queue is emptied by a delete alone, which reaches the flow's key and is told Deleted.
+///
+/// Any other command makes nothing happen. So of the accepted packets of a flow each has started, waits or was discarded.
 pub fn laws_of_discards()
     ensures deletes { DiscardsAreDeletes }
     ensures spared { CommandsSpare }

@@ -2,8 +2,7 @@ ghost use Rattle.std.specs.Prelude.{◌≡◌, ℕ, ◌≤◌, ◌^◌, ◌↔�
 
 use std::marker::Model;
 
-/// The loss rate in parts of 2^31, 0 to 2^31: a rate `plr` of ipfw(8) is kept as `floor(plr *
-/// 2^31)`.
+/// The loss rate in parts of 2^31, 0 to 2^31: a rate `plr` of ipfw(8) is kept as `floor(plr * 2^31)`.
 #[derive(Clone, Copy, Debug, PartialEq, Eq, PartialOrd, Ord, Hash)]
 pub struct Loss(u32);
 

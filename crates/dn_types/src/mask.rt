@@ -3,8 +3,9 @@ ghost use Rattle.dn_types.specs.Flows.{masked};
 
 use crate::five_tuple::FiveTuple;
 
-/// The bits of a five-tuple that tell the flows of a pipe or a queue apart, as `mask` of ipfw(8)
-/// gives them. With no bits all packets are one flow.
+/// The bits of a five-tuple that tell the flows of a pipe or a queue apart, as `mask` of ipfw(8) gives them.
+///
+/// With no bits all packets are one flow.
 #[derive(Clone, Copy, Debug, PartialEq, Eq, PartialOrd, Ord, Hash)]
 pub struct Mask {
     pub src: u32,

@@ -2,8 +2,9 @@ ghost use Rattle.std.specs.Prelude.{◌≡◌, ℕ, ◌≤◌, ◌^◌, ◌↔�
 
 use std::marker::Model;
 
-/// A moment of the clock in nanoseconds, 0 to 2^62. The upper bound keeps every start and due
-/// moment below 2^63.
+/// A moment of the clock in nanoseconds, 0 to 2^62.
+///
+/// The upper bound keeps every start and due moment below 2^63.
 #[derive(Clone, Copy, Debug, PartialEq, Eq, PartialOrd, Ord, Hash)]
 pub struct Moment(u64);
 

@@ -4,8 +4,9 @@ use crate::deliveries::Deliveries;
 use crate::statuses::Statuses;
 use std::alloc::AllocError;
 
-/// What a call is answered. `at` is the effective moment in nanoseconds, `flow` a flow number, and
-/// `packet` a packet number.
+/// The reply to a call.
+///
+/// `at` is the effective moment in nanoseconds, `flow` a flow number, and `packet` a packet number.
 #[derive(Debug, PartialEq, Eq, Drop)]
 pub enum Reply {
     /// A configuration was accepted.

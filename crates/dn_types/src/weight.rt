@@ -2,8 +2,7 @@ ghost use Rattle.std.specs.Prelude.{◌≡◌, ℕ, ◌≤◌, ◌↔◌, IsSome
 
 use std::marker::Model;
 
-/// The weight of a queue, 1 to 100: its share of the link, beside the weights of the other
-/// backlogged queues.
+/// The weight of a queue, 1 to 100: its share of the link, beside the weights of the other backlogged queues.
 #[derive(Clone, Copy, Debug, PartialEq, Eq, PartialOrd, Ord, Hash)]
 pub struct Weight(u8);
 
