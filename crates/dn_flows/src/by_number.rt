@@ -5,8 +5,9 @@ use dn_types::Number;
 use std::alloc::{AllocError, Global};
 use std::marker::Model;
 
-/// Lists of flow numbers, one for each number of a pipe or of a queue. Contracts see a list of lists.
-/// There is one for each number up to the highest to which a flow was added.
+/// Lists of flow numbers, one for each number of a pipe or of a queue.
+///
+/// Contracts see a list of lists. There is one for each number up to the highest to which a flow was added.
 #[derive(Drop)]
 pub struct ByNumber {
     lists: Vec<Vec<usize>>,

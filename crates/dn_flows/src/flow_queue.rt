@@ -12,8 +12,9 @@ use crate::verdict::Verdict;
 use crate::waiting::Waiting;
 use dn_types::{Limit, Packet};
 
-/// The queue of one flow, and the count of its packets that started. The packets themselves lie in
-/// the store of all queues.
+/// The queue of one flow, and the count of its packets that started.
+///
+/// The packets themselves lie in the store of all queues.
 #[derive(Drop)]
 pub struct FlowQueue {
     /// Where the first packet lies, if there is one.
@@ -23,8 +24,9 @@ pub struct FlowQueue {
     pub len: usize,
     /// The sum of the packets' lengths, which is below 2^32.
     pub bytes: u32,
-    /// Whether the store keeps room for the next push. A pop and a clear leave it, so that only the
-    /// push itself uses it up.
+    /// Whether the store keeps room for the next push.
+    ///
+    /// A pop and a clear leave it, so that only the push itself uses it up.
     pub reserved: bool,
     pub started: u64,
 }

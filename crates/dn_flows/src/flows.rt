@@ -22,8 +22,9 @@ use indexmap::IndexSet;
 use std::alloc::{AllocError, Global};
 use std::marker::Model;
 
-/// The flows, numbered from 0 in order of first sight. Contracts see the keys and the states of the
-/// flows as two lists. Flows never expire.
+/// The flows, numbered from 0 in order of first sight.
+///
+/// Contracts see the keys and the states of the flows as two lists. Flows never expire.
 ///
 /// The packets of all queues lie in one store, in which the place that a packet left last is taken
 /// first. So the memory that is in use stays small and near, where a buffer for each queue would be
@@ -54,8 +55,9 @@ impl Model for Flows {
 }
 
 impl Flows {
-    /// The table without a flow, whose hash has no secret: for packets that no stranger chooses. It takes
-    /// no memory.
+    /// The table without a flow, whose hash has no secret: for packets that no stranger chooses.
+    ///
+    /// It takes no memory.
     pub fn new(alloc: Global) -> Flows
         ensures keys { result.keys ≡ [] }
         ensures flows { result.flows ≡ [] }
@@ -86,8 +88,9 @@ impl Flows {
         self.queues.len()
     }
 
-    /// The number of the flow with the key, which is made where no flow has it. A key that is known
-    /// takes no memory. It is inlined, so that where the first flow of the target has the key, this is
+    /// The number of the flow with the key, which is made if no flow has it.
+    ///
+    /// A key that is known takes no memory. It is inlined, so that if the first flow of the target has the key, this is
     /// never written.
     #[inline(always)]
     pub fn find_or_make(&mut self, key: FlowKey) -> Result<usize, AllocError>
@@ -175,8 +178,9 @@ impl Flows {
         }
     }
 
-    /// What becomes of a packet of the flow. A packet that is taken fits: the bytes queued with it
-    /// are below 2^32.
+    /// What becomes of a packet of the flow.
+    ///
+    /// A packet that is taken fits: the bytes queued with it are below 2^32.
     pub fn verdict(&self, flow: usize, packet: &Packet, rule: &DropRule) -> Verdict
         requires { flow < length self.now.flows }
         ensures value { result ≡ verdict_of rule.now.loss rule.now.limit packet.now.word (flow_at self.now.flows flow).backlog }

@@ -25,6 +25,7 @@ fn factors(key: HashKey, word: u64) -> Factors {
 }
 
 impl KeyedHash {
+    /// The hash with this secret.
     pub fn new(key: HashKey) -> KeyedHash {
         KeyedHash {
             before_words: KeyedHasher {

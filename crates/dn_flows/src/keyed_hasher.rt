@@ -5,8 +5,9 @@ ghost use Rattle.dn_flows.specs.Hashing.{folded, hash_of, with_word, written};
 use crate::factors::Factors;
 use std::hash::Hasher;
 
-/// A hash of four words: a secret number plus the products of their halves with secret factors, modulo
-/// 2^64, and folded by a last factor.
+/// A hash of four words, by products of their halves with secret factors.
+///
+/// It is a secret number plus these products, modulo 2^64, folded by a last factor.
 #[derive(Clone, Copy)]
 pub struct KeyedHasher {
     pub sum: u64,

@@ -22,8 +22,9 @@ fn has_key(keys: &IndexSet<TableKey, KeyedHash>, flow: usize, key: &TableKey) ->
     }
 }
 
-/// The first flow of the key's target, where it has the key. It is found without a hash, and where the
-/// mask has no bits there is no other, unless the target was configured anew.
+/// The first flow of the key's target, if it has the key.
+///
+/// It is found without a hash, and if the mask has no bits there is no other, unless the target was configured anew.
 #[inline(always)]
 pub fn first_with_key(
     keys: &IndexSet<TableKey, KeyedHash>,

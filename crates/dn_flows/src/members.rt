@@ -7,8 +7,9 @@ use crate::by_number::ByNumber;
 use dn_types::{FlowKey, Number, Target};
 use std::alloc::{AllocError, Global};
 
-/// The flows on each pipe and those of each queue, in order of their numbers, so that a delete finds
-/// the flows that it reaches without a pass over the others.
+/// The flows on each pipe and those of each queue, in order of their numbers.
+///
+/// So a delete finds the flows that it reaches without a pass over the others.
 #[derive(Drop)]
 pub struct Members {
     pub on_pipes: ByNumber,

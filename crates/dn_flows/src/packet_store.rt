@@ -6,8 +6,9 @@ use crate::stored::Stored;
 use std::alloc::{AllocError, Global};
 use std::marker::Model;
 
-/// The packets of all queues, each under a key. The place that a packet left last is taken first, so
-/// the memory that is in use stays small and near.
+/// The packets of all queues, each under a key.
+///
+/// The place that a packet left last is taken first, so the memory that is in use stays small and near.
 ///
 /// A place has no mark of its own that tells whether a packet lies there, so a packet is made to name
 /// the one behind it by a write alone, which waits for no read.

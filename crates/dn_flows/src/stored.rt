@@ -5,8 +5,9 @@ use crate::waiting::Waiting;
 use dn_types::Len;
 use std::marker::Model;
 
-/// A packet in the store of all queues, with the key of the packet behind it in its queue. What the
-/// last packet of a queue names is never read.
+/// A packet in the store of all queues, with the key of the packet behind it in its queue.
+///
+/// What the last packet of a queue names is never read.
 ///
 /// It takes 16 bytes, so that a line of a cache holds four.
 #[derive(Clone, Copy)]
@@ -38,6 +39,7 @@ impl Stored {
         }
     }
 
+    /// The packet, without the key of the one behind it.
     pub fn waiting(&self) -> Waiting
         ensures { result ≡ self.now.waiting }
     {

@@ -14,8 +14,7 @@ use std::marker::Model;
 /// bytes, and each would be hashed and compared.
 #[derive(Drop)]
 pub struct TableKey {
-    /// The target in the upper half; in the lower one the pipe and the protocols of the mask and the
-    /// tuple.
+    /// The target in the upper half; in the lower one the pipe and the protocols of the mask and the tuple.
     numbers: u64,
     /// The mask's source and destination.
     mask_addresses: u64,
@@ -37,6 +36,7 @@ impl Model for TableKey {
 }
 
 impl TableKey {
+    /// The key of a flow in the form of the table.
     #[inline(always)]
     pub fn new(key: FlowKey) -> TableKey
         ensures { result ≡ key }
@@ -61,6 +61,7 @@ impl TableKey {
         }
     }
 
+    /// The key of the flow.
     pub fn get(&self) -> FlowKey
         ensures { result ≡ self.now }
     {

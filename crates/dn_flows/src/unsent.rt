@@ -1,5 +1,6 @@
-/// The counts of a flow's packets that are never sent. They lie apart from the queues, since no packet
-/// that is sent reads them.
+/// The counts of a flow's packets that are never sent.
+///
+/// They lie apart from the queues, since no packet that is sent reads them.
 #[derive(Clone, Copy)]
 pub struct Unsent {
     /// Lost by the loss rate.

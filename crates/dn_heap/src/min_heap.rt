@@ -12,8 +12,10 @@ use std::marker::Model;
 
 mod push_pop;
 
-/// A heap with the least key on top. Memory is taken by `reserve` alone: it makes room, each push
-/// uses one place of the room, and a key that leaves gives its place back.
+/// A heap with the least key on top.
+///
+/// Memory is taken by `reserve` alone: it makes room, each push uses one place of the room, and a key that leaves gives its
+/// place back.
 ///
 /// Keys that compare as equal are kept side by side, and leave in no promised order.
 #[derive(Drop)]
@@ -49,8 +51,9 @@ impl<K: Ord> MinHeap<K> {
         }
     }
 
-    /// Makes room for `n` more pushes; room that is there already counts. A refusal by the
-    /// allocator changes nothing.
+    /// Makes room for `n` more pushes; room that is there already counts.
+    ///
+    /// A refusal by the allocator changes nothing.
     pub fn reserve(&mut self, n: usize) -> Result<(), AllocError>
         ensures succeeds { n ≤ self.old.room → IsOk result }
         ensures ok { OnOk result (self.new.room ≡ max self.old.room n) }
@@ -115,8 +118,9 @@ impl<K: Ord> MinHeap<K> {
         Some(top)
     }
 
-    /// Takes out one key that compares as equal to `key`, where there is one, and gives its room
-    /// back. It looks at every key.
+    /// Takes out one key that compares as equal to `key`, if there is one, and gives its room back.
+    ///
+    /// It looks at every key.
     pub fn take_out(&mut self, key: &K) -> bool
     where
         K: Drop,
@@ -134,8 +138,9 @@ impl<K: Ord> MinHeap<K> {
         true
     }
 
-    /// Lets go of each key at which `keep` answers false, and gives its room back. It looks at every
-    /// key once, in no promised order.
+    /// Lets go of each key at which `keep` returns false, and gives its room back.
+    ///
+    /// It looks at every key once, in no promised order.
     pub fn retain<F: Fn(&K) -> bool>(&mut self, keep: F)
     where
         K: Drop,

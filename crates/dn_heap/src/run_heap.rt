@@ -8,9 +8,10 @@ use std::alloc::{AllocError, Global};
 use std::collections::VecDeque;
 use std::marker::Model;
 
-/// A heap for keys that mostly come in order, and otherwise as a `MinHeap`. Memory is taken by
-/// `reserve` alone: it makes room, each push uses one place of the room, and a key that leaves gives
-/// its place back.
+/// A heap for keys that mostly come in order, and otherwise as a `MinHeap`.
+///
+/// Memory is taken by `reserve` alone: it makes room, each push uses one place of the room, and a key that leaves gives its
+/// place back.
 ///
 /// Beside its heap it has a run, a queue in ascending order. A key that is not less than the last of
 /// the run joins it at its end, and leaves it at its front, which costs no sift. The moments of packets
@@ -55,8 +56,9 @@ impl<K: Ord> RunHeap<K> {
         }
     }
 
-    /// Makes room for `n` more pushes; room that is there already counts. A refusal by the
-    /// allocator changes nothing.
+    /// Makes room for `n` more pushes; room that is there already counts.
+    ///
+    /// A refusal by the allocator changes nothing.
     pub fn reserve(&mut self, n: usize) -> Result<(), AllocError>
         ensures succeeds { n ≤ self.old.room → IsOk result }
         ensures ok { OnOk result (self.new.room ≡ max self.old.room n) }
@@ -132,8 +134,9 @@ impl<K: Ord> RunHeap<K> {
         Some(first)
     }
 
-    /// Lets go of each key at which `keep` answers false, and gives its room back. It looks at every
-    /// key once, in no promised order.
+    /// Lets go of each key at which `keep` returns false, and gives its room back.
+    ///
+    /// It looks at every key once, in no promised order.
     pub fn retain<F: Fn(&K) -> bool>(&mut self, keep: F)
     where
         K: Drop,

@@ -7,8 +7,9 @@ use dn_types::Delivery;
 use std::alloc::{AllocError, Global};
 use std::marker::Model;
 
-/// The packets under way: those that have started and that nobody has collected. Contracts see the
-/// list in the order in which they are given, by due moment and then by packet number.
+/// The packets under way: those that have started and that nobody has collected.
+///
+/// Contracts see the list in the order in which they are given, by due moment and then by packet number.
 #[derive(Drop)]
 pub struct DelayLine {
     heap: RunHeap<Delivery>,
@@ -82,8 +83,9 @@ impl DelayLine {
         }
     }
 
-    /// The due moment of the first packet, in nanoseconds: no other is due sooner. None where no packet is
-    /// under way.
+    /// The due moment of the first packet, in nanoseconds: no other is due sooner.
+    ///
+    /// None if no packet is under way.
     pub fn first_due(&self) -> Option<u64>
         ensures value { result ≡ option_map (λ d. d.due) (slice_get self.now.pending 0) }
         ensures least { IfSome result (λ due. All (λ d. due ≤ d.due) self.now.pending) }

@@ -5,8 +5,9 @@ use crate::timing::due;
 use dn_types::{Delay, Rule};
 use std::marker::Model;
 
-/// A link, as the moment from which it is free and the due moment of the packet that started last on
-/// it, in nanoseconds.
+/// A link: when it is free, and when its last packet is due, in nanoseconds.
+///
+/// The first is the moment from which it is free. The second is the due moment of the packet that started last on it.
 #[derive(Clone, Copy, Debug, PartialEq, Eq)]
 pub struct Link {
     free: u64,
@@ -59,8 +60,7 @@ impl Link {
         self.free = start + tx;
     }
 
-    /// The due moment by the rule of the packet that starts at `start`, which is the last on the link
-    /// from now on.
+    /// The due moment by the rule of the packet that starts at `start`, which is the last on the link from now on.
     pub fn deliver(&mut self, start: u64, tx: u64, delay: Delay, rule: Rule) -> u64
         requires fits { start + tx + delay * 1000000 < 2 ^ 64 }
         ensures value { result ≡ due_by rule (start + tx + delay * 1000000) self.old.last_due }

@@ -8,9 +8,10 @@ const BYTE: u64 = 8_000_000_000;
 
 const NANOSECONDS_PER_MILLISECOND: u64 = 1_000_000;
 
-/// The transmission time in nanoseconds: the least in which all bits of a packet pass, and 0 where
-/// the bandwidth is 0, which is unlimited. It is rounded up, so that a link never carries more than
-/// its bandwidth.
+/// The transmission time in nanoseconds: the least in which all bits of a packet pass.
+///
+/// It is 0 if the bandwidth is 0, which is unlimited. It is rounded up, so that a link never carries more than its
+/// bandwidth.
 pub fn tx_time(len: Len, bandwidth: Bandwidth) -> u64
     ensures value { result ≡ transmission_time bandwidth len }
     ensures unlimited { bandwidth ≡ 0 → result ≡ 0 }
@@ -28,8 +29,9 @@ pub fn tx_time(len: Len, bandwidth: Bandwidth) -> u64
     }
 }
 
-/// When a packet is due that starts at `start` and takes `tx`, in nanoseconds, whatever goes before
-/// it on its link: when its bits and the delay have passed.
+/// When a packet is due that starts at `start` and takes `tx`, in nanoseconds.
+///
+/// It is due when its bits and the delay have passed, whatever goes before it on its link.
 pub fn due(start: u64, tx: u64, delay: Delay) -> u64
     requires fits { start + tx + delay * 1000000 < 2 ^ 64 }
     ensures value { result ≡ start + tx + delay * 1000000 }

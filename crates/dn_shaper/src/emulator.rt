@@ -25,9 +25,10 @@ pub trait Emulator {
     fn begin(alloc: Global, rule: Rule, key: HashKey) -> Self
         ensures { stands rule result [] };
 
-    /// Answers a call as dummynet does after the calls before it, and Exhausted after 2^62 of them. Err says
-    /// that memory was refused: the call is then as if it had never come. An Advance takes none, and neither
-    /// does a call that is answered Exhausted.
+    /// Returns dummynet's reply to a call after the calls before it, and Exhausted after 2^62 of them.
+    ///
+    /// Err says that memory was refused: the call is then as if it had never come. An Advance takes none, and neither does
+    /// a call whose reply is Exhausted.
     fn apply(&mut self, call: &Call) -> Result<Reply, AllocError>
         ensures ok { IfOk result (λ r. (rule : RuleValue) (calls : List CallValue) → stands rule self.old calls → (r ≡ reply rule calls call.now) × stands rule self.new (call.now ∷ calls)) }
         ensures err { OnErr result ((rule : RuleValue) (calls : List CallValue) → stands rule self.old calls → stands rule self.new calls) }
@@ -35,8 +36,9 @@ pub trait Emulator {
         ensures advance { (moment : ℕ) → call.now ≡ Advance moment → IsOk result }
         ensures exhausted { (rule : RuleValue) (calls : List CallValue) → stands rule self.old calls → call_limit ≤ length calls → IsOk result };
 
-    /// When to ask next, in nanoseconds: if no other call comes, no Collect with an effective moment before
-    /// it gives a packet. None where no packet waits or is under way.
+    /// When to ask next, in nanoseconds: before it no Collect gives a packet, if no other call comes.
+    ///
+    /// The Collect's effective moment counts. None if no packet waits or is under way.
     fn wake(&self) -> Option<u64>
         ensures value { (rule : RuleValue) (calls : List CallValue) → stands rule self.now calls → result ≡ wake_of rule (trace_of (counted calls)) }
         ensures quiet { (rule : RuleValue) (calls : List CallValue) → stands rule self.now calls → (moment : ℕ) → IfSome result (λ next. max (effective_moment (counted calls)) moment < next) → items_in (reply rule calls (Collect moment)) ≡ 0 };

@@ -18,8 +18,9 @@ fn answer_all(alloc: Global, shaper: &mut Shaper, calls: &[Call]) -> Result<Vec<
     Ok(replies)
 }
 
-/// The replies to a list of calls, from a new shaper on. Err says that memory was refused, for a call
-/// or for the list.
+/// The replies to a list of calls, from a new shaper on.
+///
+/// Err says that memory was refused, for a call or for the list.
 pub fn run(alloc: Global, calls: &[Call]) -> Result<Vec<Reply>, AllocError>
     ensures { IfOk result (λ list. list.items ≡ reverse (replies Ordered (reverse calls.now))) }
 {

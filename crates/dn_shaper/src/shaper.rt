@@ -25,10 +25,10 @@ use std::marker::Model;
 /// So many calls are answered. Every further one is answered Exhausted.
 const CALL_LIMIT: u64 = 1 << 62;
 
-/// Sequential dummynet: pipes and queues with their flows, links and delay line (ipfw(8); Rizzo
-/// 1997). Times are in nanoseconds: the moments of calls are at most 2^62, and due moments are below
-/// 2^63. Contracts see its state, and say how it stands after the calls that it answered, newest
-/// first.
+/// Sequential dummynet: pipes and queues with their flows, links and delay line (ipfw(8); Rizzo 1997).
+///
+/// Times are in nanoseconds: the moments of calls are at most 2^62, and due moments are below 2^63. Contracts see its
+/// state, and say what it is after the calls that it has replied to, newest first.
 #[derive(Drop)]
 pub struct Shaper {
     state: State,
@@ -67,8 +67,9 @@ impl Shaper {
         Shaper::with_key(alloc, rule, HashKey(0))
     }
 
-    /// The same with a secret for the table of its flows, for packets that a stranger chooses. No reply
-    /// depends on the key.
+    /// The same with a secret for the table of its flows, for packets that a stranger chooses.
+    ///
+    /// No reply depends on the key.
     pub fn with_key(alloc: Global, rule: Rule, key: HashKey) -> Shaper
         ensures { StandsAfter rule result [] }
     {
@@ -79,9 +80,10 @@ impl Shaper {
         }
     }
 
-    /// Answers a call as dummynet does after the calls before it, and Exhausted after 2^62 of them. Err
-    /// says that memory was refused: the call is then as if it had never come. An Advance takes none,
-    /// and neither does a call that is answered Exhausted.
+    /// Returns dummynet's reply to a call after the calls before it, and Exhausted after 2^62 of them.
+    ///
+    /// Err says that memory was refused: the call is then as if it had never come. An Advance takes none, and neither does
+    /// a call whose reply is Exhausted.
     pub fn apply(&mut self, call: &Call) -> Result<Reply, AllocError>
         ensures ok { IfOk result (λ r. (rule : RuleValue) (calls : List CallValue) → StandsAfter rule self.old calls → (r ≡ reply rule calls call.now) × StandsAfter rule self.new (call.now ∷ calls)) }
         ensures err { OnErr result ((rule : RuleValue) (calls : List CallValue) → StandsAfter rule self.old calls → StandsAfter rule self.new calls) }
@@ -115,10 +117,11 @@ impl Shaper {
         self.state.calls
     }
 
-    /// When to ask next, in nanoseconds: if no other call comes, no Collect with an effective moment before
-    /// it gives a packet. It is the earliest of the due moments of the packets under way and of the
-    /// moments from which the links with a backlog are free, and None where no packet waits or is under
-    /// way. A Collect at it may give none: then a packet has started, and the next answer is later.
+    /// When to ask next, in nanoseconds: before it no Collect gives a packet, if no other call comes.
+    ///
+    /// The Collect's effective moment counts. It is the earliest of the due moments of the packets under way and of the
+    /// moments from which the links with a backlog are free. It is None if no packet waits or is under way. A Collect at it
+    /// may give none: then a packet has started, and the next result is later.
     pub fn wake(&self) -> Option<u64>
         ensures value { (rule : RuleValue) (calls : List CallValue) → StandsAfter rule self.now calls → result ≡ wake_of rule (trace_of (counted calls)) }
         ensures quiet { (rule : RuleValue) (calls : List CallValue) → StandsAfter rule self.now calls → (moment : ℕ) → IfSome result (λ next. max (effective_moment (counted calls)) moment < next) → items_in (reply rule calls (Collect moment)) ≡ 0 }
@@ -144,8 +147,9 @@ impl Shaper {
         self.state.parts.flows.len()
     }
 
-    /// The list in the next reply has at most so many items, whatever the call: the greater of the count of
-    /// packets that wait or are under way and the count of flows.
+    /// The list in the next reply has at most so many items, whatever the call.
+    ///
+    /// It is the greater of the count of packets that wait or are under way and the count of flows.
     pub fn reply_room(&self) -> usize
         ensures value { (rule : RuleValue) (calls : List CallValue) → StandsAfter rule self.now calls → result ≡ max (held rule (trace_of (counted calls))) (length (keys (counted calls))) }
         ensures room { (rule : RuleValue) (calls : List CallValue) → StandsAfter rule self.now calls → (c : CallValue) → items_in (reply rule calls c) ≤ result }

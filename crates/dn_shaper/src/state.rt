@@ -12,8 +12,10 @@ use dn_link::DelayLine;
 use dn_types::Rule;
 use std::alloc::Global;
 
-/// All that a shaper keeps: the parts that packets change, the heap of the links that have a
-/// backlog, what is configured, the clock in nanoseconds and the count of calls.
+/// All that a shaper keeps.
+///
+/// It has the parts that packets change, the heap of the links that have a backlog, what is configured, the clock in
+/// nanoseconds and the count of calls.
 #[derive(Drop)]
 pub struct State {
     pub parts: Parts,

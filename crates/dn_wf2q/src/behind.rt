@@ -9,8 +9,9 @@ use std::collections::VecDeque;
 /// For how many packets the first block of memory has room.
 const FIRST_PLACES: usize = 4;
 
-/// The packets of a flow that wait behind its head, oldest first. It takes no memory before room
-/// for one of them is asked for, and stands in a block of its own, so that a flow without any is
+/// The packets of a flow that wait behind its head, oldest first.
+///
+/// It takes no memory before room for one of them is asked for. It is in a block of its own, so that a flow without any is
 /// short.
 #[derive(Drop)]
 pub(crate) struct Behind {

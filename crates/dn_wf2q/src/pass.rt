@@ -9,8 +9,10 @@ use crate::scaled::cost;
 use crate::sched_parts::SchedParts;
 
 impl SchedParts {
-    /// A packet that comes where none waits is sent at once. Its start tag is 0, and alone it lets
-    /// virtual time grow by its own cost. Its key passes an empty heap, and counts as a push.
+    /// A packet that comes where none waits is sent at once.
+    ///
+    /// Its start tag is 0, and alone it lets virtual time grow by its own cost. Its key passes an empty heap, and counts as
+    /// a push.
     pub(crate) fn pass(&mut self, slot: usize, len: u16, weight: u8)
         requires kept { IsSchedKept self.old }
         requires idle { IsIdle (flows_of self.old) }

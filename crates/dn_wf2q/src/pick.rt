@@ -28,8 +28,9 @@ impl SchedParts {
         self.send()
     }
 
-    /// Raises virtual time to the least start tag of the heads. A head in the eligible heap has
-    /// one that is low enough already.
+    /// Raises virtual time to the least start tag of the heads.
+    ///
+    /// A head in the eligible heap has one that is low enough already.
     fn raise(&mut self)
         requires kept { IsSchedKept self.old }
         ensures virtual_time { self.new ≡ record self.old { virtual_time = raised self.old.virtual_time (heads_of (flows_of self.old)) } }

@@ -11,8 +11,9 @@ use std::marker::Model;
 /// How many slots a key has room for. A tag is below 2^96.
 pub(crate) const SLOTS: usize = 1 << 32;
 
-/// A key of a heap: a tag of a flow's head, and the flow's slot. Ranks are ordered by tag and
-/// then by slot.
+/// A key of a heap: a tag of a flow's head, and the flow's slot.
+///
+/// Ranks are ordered by tag and then by slot.
 ///
 /// Both stand in one number, since most of a scheduler's time goes into comparing and moving keys
 /// within the heaps: so two are compared in one step, and a key takes 16 bytes.

@@ -28,8 +28,9 @@ impl SchedParts {
         self.add_flow(slot)
     }
 
-    /// A queue with room for an arrival at a slot that has none. It isn't inlined, since a slot is asked
-    /// for room many times after that.
+    /// A queue with room for an arrival at a slot that has none.
+    ///
+    /// It isn't inlined, since a slot is asked for room many times after that.
     #[inline(never)]
     fn add_flow(&mut self, slot: usize) -> Result<(), AllocError>
         requires kept { IsSchedKept self.old }

@@ -10,8 +10,9 @@ pub(crate) fn cost(len: u16, weight: u8) -> u32
     len as u32 * 65536 / weight as u32
 }
 
-/// By how much a packet of `len` bytes lets virtual time grow, where the heads weigh so much. It is
-/// 0 where the sum of weights doesn't fit 32 bits, since `len * 65536` does.
+/// By how much a packet of `len` bytes lets virtual time grow, if the heads weigh so much.
+///
+/// It is 0 if the sum of weights doesn't fit 32 bits, since `len * 65536` does.
 pub(crate) fn growth(len: u16, weights: u128) -> u32
     requires some { 0 < weights }
     ensures value { result ≡ scaled len weights }

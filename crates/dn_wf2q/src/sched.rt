@@ -9,8 +9,9 @@ use dn_types::{Len, Weight};
 use std::alloc::{AllocError, Global};
 use std::marker::Model;
 
-/// The WF2Q+ scheduler of one shared link (Bennett and Zhang 1996, 1997). Tags and virtual time
-/// are in units of 1/65536 byte per weight.
+/// The WF2Q+ scheduler of one shared link (Bennett and Zhang 1996, 1997).
+///
+/// Tags and virtual time are in units of 1/65536 byte per weight.
 ///
 /// A flow is named by its *slot*, its place among the flows of this link. The queues stand in one
 /// vector by slot, so the highest slot that was reserved decides the memory: about 96 bytes for
@@ -23,8 +24,9 @@ use std::marker::Model;
 #[derive(Drop)]
 pub struct Sched {
     parts: SchedParts,
-    /// Whether a flow was discarded since the heaps were swept. Then they may hold keys of flows
-    /// without a packet.
+    /// Whether a flow was discarded since the heaps were swept.
+    ///
+    /// Then they may hold keys of flows without a packet.
     stale: bool,
     alloc: Global,
 }
@@ -69,8 +71,9 @@ impl Sched {
         parts.is_idle()
     }
 
-    /// Begins a busy period: virtual time and all last finish tags begin again from 0. The cost
-    /// does not depend on the number of flows.
+    /// Begins a busy period: virtual time and all last finish tags begin again from 0.
+    ///
+    /// The cost does not depend on the number of flows.
     pub fn begin_busy(&mut self)
         requires idle { IsIdle self.old.flows }
         ensures flows { self.new.flows ≡ forgotten self.old.flows }
@@ -82,9 +85,10 @@ impl Sched {
         self.parts.begin_busy()
     }
 
-    /// Makes room for one more arrival at a slot, which lasts until that arrival. A refusal by
-    /// the allocator loses no packet, tag or room. There are at most 2^32 slots, and one beyond them
-    /// is refused as want of memory.
+    /// Makes room for one more arrival at a slot, which lasts until that arrival.
+    ///
+    /// A refusal by the allocator loses no packet, tag or room. There are at most 2^32 slots, and one beyond them is
+    /// refused as out of memory.
     #[inline(always)]
     pub fn reserve_flow(&mut self, slot: usize) -> Result<(), AllocError>
         ensures succeeds { 0 < room_at self.old.room slot → IsOk result }
@@ -114,8 +118,9 @@ impl Sched {
         self.parts.arrive(slot, len.get(), weight.get())
     }
 
-    /// A packet that comes where none waits begins a busy period and is sent at once, as by
-    /// `begin_busy`, `arrive` and `pick`. It takes no memory.
+    /// A packet that comes where none waits begins a busy period and is sent at once, as by `begin_busy`, `arrive` and `pick`.
+    ///
+    /// It takes no memory.
     pub fn pass(&mut self, slot: usize, len: Len, weight: Weight)
         requires idle { IsIdle self.old.flows }
         requires reserved { 0 < room_at self.old.room slot }
@@ -140,9 +145,10 @@ impl Sched {
         self.parts.pick()
     }
 
-    /// Lets all packets of a slot go, and its last finish tag with them. Virtual time and the tags
-    /// of the other flows stay. It looks at no other flow: the next call that needs the heaps sweeps
-    /// them, in one pass for all flows that were discarded before it.
+    /// Lets all packets of a slot go, and its last finish tag with them.
+    ///
+    /// Virtual time and the tags of the other flows stay. It looks at no other flow: the next call that needs the heaps
+    /// sweeps them, in one pass for all flows that were discarded before it.
     pub fn discard(&mut self, slot: usize)
         ensures flows { self.new.flows ≡ after_discard self.old.flows slot }
         ensures fewer { waiting_of self.new.flows + length (flow_at self.old.flows slot).backlog ≡ waiting_of self.old.flows }
@@ -176,8 +182,7 @@ impl Sched {
         self.parts.picks
     }
 
-    /// How many pushes into the heaps there have been: at least one for each pick, and at most two
-    /// for each arrival.
+    /// How many pushes into the heaps there have been: at least one for each pick, and at most two for each arrival.
     pub fn moves(&self) -> u64
         ensures value { result ≡ self.now.moves }
         ensures least { self.now.picks ≤ result }

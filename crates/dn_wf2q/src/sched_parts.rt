@@ -7,8 +7,10 @@ use crate::rank::Rank;
 use crate::tagged_queue::TaggedQueue;
 use dn_heap::MinHeap;
 
-/// What a scheduler is made of. Each backlogged flow stands in one of the heaps: by its head's
-/// finish tag in the eligible one, by its head's start tag in the waiting one.
+/// What a scheduler is made of.
+///
+/// Each backlogged flow is in one of the heaps: by its head's finish tag in the eligible one, by its head's start tag in
+/// the waiting one.
 #[derive(Drop)]
 pub(crate) struct SchedParts {
     pub(crate) flows: Vec<TaggedQueue>,

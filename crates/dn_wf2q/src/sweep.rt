@@ -39,8 +39,9 @@ impl SchedParts {
         sweep_heap(&mut self.waiting, &self.flows);
     }
 
-    /// Sweeps the heaps where they are stale, so that each key is one of a flow with a packet. Each
-    /// call that reads the heaps begins with it.
+    /// Sweeps the heaps if they are stale, so that each key is one of a flow with a packet.
+    ///
+    /// Each call that reads the heaps begins with it.
     pub(crate) fn refresh(&mut self, stale: &mut bool)
         requires kept { IsStaleKept stale.old self.old }
         ensures same { schedule_of self.new ≡ schedule_of self.old }

@@ -8,20 +8,24 @@ use crate::scaled::cost;
 use crate::tagged_packet::TaggedPacket;
 use std::alloc::{AllocError, Global};
 
-/// The packets of one flow that wait, oldest first. The head stands here, so that a flow with one
-/// packet takes no memory of its own, and the others stand behind it without tags: a packet's start
-/// tag behind another is that one's finish tag, and it is told when the packet becomes the head.
+/// The packets of one flow that wait, oldest first.
+///
+/// The head is here, so that a flow with one packet takes no memory of its own. The others are behind it without tags: a
+/// packet's start tag behind another is that one's finish tag, and it is told when the packet becomes the head.
 #[derive(Drop)]
 pub(crate) struct TaggedQueue {
     /// The head's finish tag.
     pub(crate) finish_tag: u128,
     pub(crate) last_finish_tag: u128,
-    /// The count of arrivals at this flow's last one. Where a busy period has begun since then, the
-    /// last finish tag counts for 0, so that the beginning of one need not go through all flows.
+    /// The count of arrivals at this flow's last one.
+    ///
+    /// If a busy period has begun since then, the last finish tag counts for 0, so that the beginning of one need not go
+    /// through all flows.
     pub(crate) arrived: u64,
     pub(crate) head: Option<QueuedPacket>,
-    /// Whether no packet stands behind the head. It lies beside the head, so that where none does the
-    /// block of those isn't read.
+    /// Whether no packet is behind the head.
+    ///
+    /// It lies beside the head, so that if there is none the block of those isn't read.
     pub(crate) alone: bool,
     pub(crate) behind: Behind,
 }

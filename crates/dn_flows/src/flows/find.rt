@@ -11,7 +11,8 @@ use dn_types::FlowKey;
 use std::alloc::AllocError;
 
 impl Flows {
-    /// The number of the flow with the key, which is found by its hash, or made where no flow has the key.
+    /// The number of the flow with the key, which is found by its hash, or made if no flow has the key.
+    ///
     /// It isn't inlined, since most keys are found without.
     #[inline(never)]
     pub(crate) fn find_by_hash_or_make(&mut self, key: TableKey) -> Result<usize, AllocError>

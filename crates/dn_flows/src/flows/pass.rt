@@ -5,8 +5,9 @@ ghost use Rattle.dn_flows.specs.declared.waiting.Waiting.{Waiting};
 use crate::flows::Flows;
 
 impl Flows {
-    /// A packet of a flow without a backlog uses up the place that was reserved and starts at once, as
-    /// by `push_reserved` and then `pop_front`. It is never put into the store.
+    /// A packet of a flow without a backlog uses up the place that was reserved and starts at once.
+    ///
+    /// The result is as by `push_reserved` and then `pop_front`. The packet is never put into the store.
     pub fn pass(&mut self, flow: usize)
         requires within { flow < length self.old.flows }
         requires reserved { (flow_at self.old.flows flow).reserved ≡ true }

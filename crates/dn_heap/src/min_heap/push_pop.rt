@@ -6,8 +6,9 @@ ghost use Rattle.dn_heap.specs.Run.{Leads};
 use crate::min_heap::MinHeap;
 
 impl<K: Ord> MinHeap<K> {
-    /// Puts a key in and takes a least one out, which counts as a push. It needs no room. Where no key
-    /// is less than this one, it is answered itself, and the heap isn't touched.
+    /// Puts a key in and takes a least one out, which counts as a push.
+    ///
+    /// It needs no room. If no key is less than this one, it is returned itself, and the heap isn't touched.
     #[inline(always)]
     pub fn push_pop(&mut self, key: K) -> K
         requires few { self.old.moves < 2 ^ 63 }

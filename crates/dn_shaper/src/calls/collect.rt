@@ -15,8 +15,9 @@ use dn_types::{Deliveries, Delivery, Moment, Reply};
 use std::alloc::{AllocError, Global};
 use std::mem;
 
-/// Takes the packets that are due at the moment out of the delay line, in order. The list has room
-/// for all that are under way.
+/// Takes the packets that are due at the moment out of the delay line, in order.
+///
+/// The list has room for all that are under way.
 fn give(line: &mut DelayLine, at: u64, list: &mut Vec<Delivery>)
     requires ordered { (rule : RuleValue) × (trace : List Event) × (line.old.pending ≡ undelivered rule trace) }
     requires room { length list.old.items + length line.old.pending ≤ vec_capacity list.old }
@@ -30,8 +31,9 @@ fn give(line: &mut DelayLine, at: u64, list: &mut Vec<Delivery>)
     }
 }
 
-/// A copy of the list in no more memory than it needs. Where that is refused, the answer is the list
-/// itself, and the next one is gathered in other memory.
+/// A copy of the list in no more memory than it needs.
+///
+/// If that is refused, the result is the list itself, and the next one is gathered in other memory.
 fn own_list(given: &mut Vec<Delivery>, alloc: Global) -> Vec<Delivery>
     ensures { result.items ≡ given.old.items }
 {
@@ -41,9 +43,10 @@ fn own_list(given: &mut Vec<Delivery>, alloc: Global) -> Vec<Delivery>
     }
 }
 
-/// Moves the clock, and gives the packets that are due by then. They are gathered in `given`, in which
-/// room for all that wait or are under way is made first. Its memory stays for the next Collect, since
-/// to ask the system for so much each time costs more than the rest of a call.
+/// Moves the clock, and gives the packets that are due by then.
+///
+/// They are gathered in `given`, in which room for all that wait or are under way is made first. Its memory stays for the
+/// next Collect, since to ask the system for so much each time costs more than the rest of a call.
 pub fn collect(
     state: &mut State,
     given: &mut Vec<Delivery>,

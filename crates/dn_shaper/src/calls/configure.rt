@@ -22,8 +22,9 @@ use dn_heap::RunHeap;
 use dn_types::{Command, Reply};
 use std::alloc::AllocError;
 
-/// The flow that a delete reaches and that so many others which it reaches come before: one of the
-/// queue, or one on the pipe.
+/// The flow that a delete reaches and that so many others which it reaches come before.
+///
+/// It is one of the queue, or one on the pipe.
 fn reached(flows: &Flows, command: &Command, index: usize) -> Option<usize>
     ensures { result ≡ slice_get (places_where (reaches command.now) 0 flows.now.keys) index }
 {
@@ -35,8 +36,9 @@ fn reached(flows: &Flows, command: &Command, index: usize) -> Option<usize>
     }
 }
 
-/// Discards the packets of all flows that the delete reaches, in order of flow numbers. The others cost
-/// nothing.
+/// Discards the packets of all flows that the delete reaches, in order of flow numbers.
+///
+/// The others cost nothing.
 fn discard_flows(parts: &mut Parts, command: &Command)
     requires agrees { Agrees parts.old }
     requires few { Within (2 ^ 62) parts.old }
@@ -54,9 +56,10 @@ fn discard_flows(parts: &mut Parts, command: &Command)
     }
 }
 
-/// Discards the packets of all flows that the delete reaches. The links that this empties leave the
-/// heap together, so that a delete costs one pass over it and not one for each of them. A delete that
-/// reaches no flow costs none.
+/// Discards the packets of all flows that the delete reaches.
+///
+/// The links that this empties leave the heap together, so that a delete costs one pass over it and not one for each of
+/// them. A delete that reaches no flow costs none.
 fn discard_reached(parts: &mut Parts, heap: &mut RunHeap<NextStart>, command: &Command)
     requires kept { AreInStep parts.old heap.old }
     ensures discards { DiscardsReached command.now parts.old parts.new }
@@ -72,9 +75,10 @@ fn discard_reached(parts: &mut Parts, heap: &mut RunHeap<NextStart>, command: &C
     forget_emptied(heap, parts);
 }
 
-/// Answers a command: an accepted one changes what is in force, and an accepted delete discards the
-/// packets of the flows that it reaches. Memory is taken for a new pipe or queue alone, before any
-/// change.
+/// Returns the reply to a command, and changes what an accepted one changes.
+///
+/// An accepted command changes what is in force, and an accepted delete discards the packets of the flows that it reaches.
+/// Memory is taken for a new pipe or queue alone, before any change.
 pub fn configure(state: &mut State, command: &Command) -> Result<Reply, AllocError>
     requires sound { IsSound state.old }
     requires few { state.old.calls < 2 ^ 62 }

@@ -17,9 +17,10 @@ use crate::state::State;
 use dn_types::{Moment, Packet, Reply, Target};
 use std::alloc::{AllocError, Global};
 
-/// Settles up to the moment, and sends a packet to a target. The clock stays, and the call isn't
-/// counted yet. Memory is taken for the packet, and for its flow where that is new, before any
-/// change.
+/// Settles up to the moment, and sends a packet to a target.
+///
+/// The clock stays, and the call isn't counted yet. Memory is taken for the packet, and for its flow if that is new, before
+/// any change.
 fn send_packet(
     state: &mut State,
     alloc: Global,
@@ -59,8 +60,9 @@ fn send_packet(
     }
 }
 
-/// Moves the clock, settles, and sends a packet to a target. Memory is taken for the packet, and for
-/// its flow where that is new, before any change.
+/// Moves the clock, settles, and sends a packet to a target.
+///
+/// Memory is taken for the packet, and for its flow if that is new, before any change.
 pub fn submit(
     state: &mut State,
     alloc: Global,

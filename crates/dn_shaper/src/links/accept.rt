@@ -15,8 +15,9 @@ use crate::settings::treatment::Treatment;
 use dn_heap::RunHeap;
 use dn_types::{Len, Target};
 
-/// Accepts a packet of the flow after a settling, in the room that was reserved, and answers its
-/// number. It starts at once where its link is idle.
+/// Accepts a packet of the flow after a settling, in the room that was reserved, and returns its number.
+///
+/// It starts at once if its link is idle.
 pub fn accept(
     parts: &mut Parts,
     heap: &mut RunHeap<NextStart>,

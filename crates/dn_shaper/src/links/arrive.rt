@@ -19,8 +19,9 @@ pub fn is_idle(link: &LinkParts, flows: &Flows, at: u64) -> bool
     !link.has_backlog(flows) && link.times.free() <= at
 }
 
-/// A packet joins those that wait for the link, which isn't idle: on a link of its own by its flow's
-/// queue alone, and on a shared one here too.
+/// A packet joins those that wait for the link, which isn't idle.
+///
+/// On a link of its own it joins them by its flow's queue alone, and on a shared one here too.
 fn join_link(link: &mut LinkParts, slot: usize, len: Len, weight: Weight)
     requires can { (queues : ℕ → ℕ) × CanJoin slot (view_of queues link.old) (view_of queues link.old).link }
     ensures joins { (before after : ℕ → ℕ) → HasOneMore before after (view_of after link.old).link → Joins slot len weight false (view_of before link.old) (view_of after link.new) }

@@ -13,8 +13,9 @@ use crate::links::next_start::NextStart;
 use crate::links::parts::Parts;
 use dn_heap::RunHeap;
 
-/// The packets at the slot no longer wait for the link, where it is shared. Those of an own link wait
-/// in its flow's queue alone.
+/// The packets at the slot no longer wait for the link, if it is shared.
+///
+/// Those of an own link wait in its flow's queue alone.
 fn leave_link(link: &mut LinkParts, slot: usize)
     ensures { (before after : ℕ → ℕ) (count : ℕ) → LosesCount slot count before after (view_of before link.old) (view_of before link.old).link → LeavesLink slot count (view_of before link.old) (view_of after link.new) }
 {
@@ -39,8 +40,9 @@ fn empty_flow(parts: &mut Parts, home: Home, flow: usize, count: usize)
     parts.waiting -= count;
 }
 
-/// Discards the packets of the flow as a delete does. A link that this empties keeps its place in the
-/// heap of links until `forget_emptied`.
+/// Discards the packets of the flow as a delete does.
+///
+/// A link that this empties keeps its place in the heap of links until `forget_emptied`.
 pub fn discard_flow(parts: &mut Parts, flow: usize)
     requires agrees { Agrees parts.old }
     requires few { Within (2 ^ 62) parts.old }

@@ -46,8 +46,7 @@ fn note_full(parts: &mut Parts, flow: usize)
     parts.flows.note_full(flow);
 }
 
-/// Settles, and then a packet of the flow is lost, or finds its queue full, or is accepted in the room
-/// that was reserved.
+/// Settles, and then a packet of the flow is lost, or finds its queue full, or is accepted in reserved room.
 pub fn judge(
     parts: &mut Parts,
     heap: &mut RunHeap<NextStart>,

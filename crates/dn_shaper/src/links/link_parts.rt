@@ -17,9 +17,10 @@ pub enum Carries {
     Shared(Box<SharedLink>),
 }
 
-/// A link. It has no count of the packets that wait for it: those of an own link wait in its flow's
-/// queue, and those of a shared one in its scheduler. So a packet that joins others on an own link
-/// leaves the link as it is.
+/// A link, which has no count of the packets that wait for it.
+///
+/// Those of an own link wait in its flow's queue, and those of a shared one in its scheduler. So a packet that joins others
+/// on an own link leaves the link as it is.
 #[derive(Drop)]
 pub struct LinkParts {
     pub pipe: Number,

@@ -7,8 +7,9 @@ ghost use Rattle.dn_shaper.specs.Refinement.NextStarts.{next_start_cmp};
 
 use std::cmp::Ordering;
 
-/// The next start of a link with a backlog: the moment from which the link is free, and the link's
-/// place. The links stand in a heap of these, by moment and then by place.
+/// The next start of a link with a backlog: the moment from which the link is free, and the link's place.
+///
+/// The heap of links has one for each, by moment and then by place.
 #[derive(Clone, Copy, Debug, PartialEq, Eq)]
 pub struct NextStart {
     pub moment: u64,
@@ -16,8 +17,9 @@ pub struct NextStart {
 }
 
 impl NextStart {
-    /// Both in one number, so that two are compared without a branch for each field, which a processor
-    /// can't foresee in a heap of many links.
+    /// Both in one number.
+    ///
+    /// So two are compared without a branch for each field, which a processor can't foresee in a heap of many links.
     fn key(&self) -> u128
         ensures value { result ≡ self.now.moment * 2 ^ 64 + self.now.place }
         ensures place { self.now.place < 2 ^ 64 }

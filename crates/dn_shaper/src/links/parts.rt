@@ -8,8 +8,7 @@ use dn_flows::Flows;
 use dn_link::DelayLine;
 use dn_types::Rule;
 
-/// All that packets change: the flows with their queues, the links in order of first sight, and the
-/// packets under way.
+/// All that packets change: the flows with their queues, the links in order of first sight, and the packets under way.
 #[derive(Drop)]
 pub struct Parts {
     pub rule: Rule,

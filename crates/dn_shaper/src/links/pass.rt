@@ -17,8 +17,9 @@ use crate::settings::rates::Rates;
 use dn_flows::Waiting;
 use dn_types::{Len, Weight};
 
-/// A packet is accepted at the moment and starts at once on its flow's own link. It is put into no
-/// queue.
+/// A packet is accepted at the moment and starts at once on its flow's own link.
+///
+/// It is put into no queue.
 fn pass_own(parts: &mut Parts, home: Home, flow: usize, len: Len, at: u64, rates: &Rates)
     requires may { (settings : Settings) × (heap : Heap NextStart) × MayAccept settings at flow parts.old heap }
     requires home { home ≡ slice_index_or parts.old.homes.items flow home }

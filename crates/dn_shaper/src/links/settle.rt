@@ -65,8 +65,10 @@ fn settle_due(parts: &mut Parts, heap: &mut RunHeap<NextStart>, configured: &Con
     while settle_one(parts, heap, configured, at) {}
 }
 
-/// Starts all packets that start up to the moment, in order of time. It costs the starts that are
-/// due, and not the links that there are. It is inlined, so that where none is due no call is made.
+/// Starts all packets that start up to the moment, in order of time.
+///
+/// It costs the starts that are due, and not the links that there are. It is inlined, so that if none is due no call is
+/// made.
 #[inline(always)]
 pub fn settle(parts: &mut Parts, heap: &mut RunHeap<NextStart>, configured: &Configured, at: u64)
     requires kept { AreInStep parts.old heap.old }

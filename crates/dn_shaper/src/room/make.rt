@@ -43,8 +43,9 @@ fn share_link(links: &mut Vec<LinkParts>, place: usize, flow: usize) -> Result<H
     Ok(Home { place, slot })
 }
 
-/// A link on which nothing has started, for a new flow with the key, with room for a packet: one of
-/// its own, or the one that the queues on its pipe share from now on.
+/// A link on which nothing has started, for a new flow with the key, with room for a packet.
+///
+/// It is one of its own, or the one that the queues on its pipe share from now on.
 fn new_link(alloc: Global, key: &FlowKey, flow: usize) -> Result<LinkParts, AllocError>
     ensures { (queues : ℕ → ℕ) → queues flow ≡ 0 → IfOk result (λ made. IsNewLink (link_of key.now.target flow key.now.pipe) flow (view_of queues made)) }
 {
@@ -87,8 +88,9 @@ fn make_link(
     Ok(Home { place, slot: 0 })
 }
 
-/// A new flow with the key gets its home: on the link that it shares, where that is there, and else
-/// on one that is made.
+/// A new flow with the key gets its home.
+///
+/// The home is on the link that it shares, if there is one, and else on one that is made.
 fn find_home(
     links: &mut Vec<LinkParts>,
     heap: &mut RunHeap<NextStart>,
@@ -133,8 +135,9 @@ fn make_home(state: &mut State, alloc: Global, key: &FlowKey, flow: usize) -> Re
     Ok(())
 }
 
-/// Gives the last flow, which was made for a packet, its home, with room for the packet. Where memory
-/// is refused, the flow is taken out again.
+/// Gives the last flow, which was made for a packet, its home, with room for the packet.
+///
+/// If memory is refused, the flow is taken out again.
 pub fn house_last(
     state: &mut State,
     alloc: Global,

@@ -13,8 +13,9 @@ use crate::state::State;
 use dn_types::FlowKey;
 use std::alloc::{AllocError, Global};
 
-/// The number of the flow with the key, which is made where no flow has it, with room for one more
-/// packet. A flow that was made for a packet that then finds no memory is taken out again.
+/// The number of the flow with the key, which is made if no flow has it, with room for one more packet.
+///
+/// A flow that was made for a packet that then finds no memory is taken out again.
 pub fn prepare(state: &mut State, alloc: Global, key: FlowKey) -> Result<usize, AllocError>
     requires sound { IsSound state.old }
     requires few { state.old.calls < 2 ^ 62 }

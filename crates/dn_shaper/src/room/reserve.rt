@@ -22,9 +22,10 @@ fn reserve_at(link: &mut LinkParts, slot: usize) -> Result<(), AllocError>
     }
 }
 
-/// Makes room for one more packet of a flow that is known: in the delay line, in the flow's queue
-/// and at its slot where its link is shared. It changes nothing but room, also where memory is
-/// refused.
+/// Makes room for one more packet of a flow that is known.
+///
+/// The room is in the delay line, in the flow's queue, and at its slot if its link is shared. It changes nothing but room,
+/// also if memory is refused.
 pub fn reserve_known(parts: &mut Parts, flow: usize, target: &Target) -> Result<(), AllocError>
     requires agrees { Agrees parts.old }
     requires within { flow < length parts.old.flows.keys }

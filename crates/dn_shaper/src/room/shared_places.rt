@@ -6,8 +6,9 @@ use dn_types::{FlowKey, Number, Target};
 use std::alloc::{AllocError, Global};
 use std::marker::Model;
 
-/// The place of the link that the queues on a pipe share, by the pipe's number. One is found by a read
-/// at the number, so that no choice of numbers makes it dear.
+/// The place of the link that the queues on a pipe share, by the pipe's number.
+///
+/// One is found by a read at the number, so that no choice of numbers makes it dear.
 #[derive(Drop)]
 pub struct SharedPlaces {
     places: Vec<Option<usize>>,
@@ -64,8 +65,7 @@ impl SharedPlaces {
         Ok(())
     }
 
-    /// The place of the link that a flow with the key shares, where the key is one of a queue and
-    /// the link is there.
+    /// The place of the link that a flow with the key shares, if the key is a queue's and there is the link.
     pub fn place_for(&self, key: &FlowKey) -> Option<usize>
         ensures { result ≡ place_for key.now self.now }
     {

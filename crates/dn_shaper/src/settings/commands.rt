@@ -7,9 +7,10 @@ use std::alloc::{AllocError, Global};
 use std::marker::Model;
 use std::mem;
 
-/// The commands that are in force for pipes, or for queues, by number. One is found by a read at its
-/// number, so that no choice of numbers makes it dear. Memory is taken for a number that had no
-/// command alone: a block for the command, and a place for each number up to the greatest one.
+/// The commands that are in force for pipes, or for queues, by number.
+///
+/// One is found by a read at its number, so that no choice of numbers makes it dear. Memory is taken for a number that had
+/// no command alone: a block for the command, and a place for each number up to the greatest one.
 #[derive(Drop)]
 pub struct Commands {
     places: Vec<Option<Box<Command>>>,

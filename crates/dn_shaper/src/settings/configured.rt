@@ -82,6 +82,7 @@ fn treatment_by(target: &Target, command: &Command) -> Option<Treatment>
 }
 
 /// The commands that are in force for pipes and for queues, and with each pipe the count of its queues.
+///
 /// Contracts see the commands.
 #[derive(Drop)]
 pub struct Configured {

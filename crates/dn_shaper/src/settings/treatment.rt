@@ -5,8 +5,10 @@ ghost use Rattle.dn_shaper.specs.Refinement.Submitting.{treatment_of};
 use dn_flows::DropRule;
 use dn_types::{FlowKey, Mask, Number, Packet, Target, Weight};
 
-/// How packets to a target are treated: the pipe that carries them, their weight, and the mask, the
-/// loss rate and the limit that judge them. Those to a pipe have a link of their own for each flow.
+/// How packets to a target are treated.
+///
+/// It has the pipe that carries them, their weight, and the mask, the loss rate and the limit that judge them. Those to a
+/// pipe have a link of their own for each flow.
 #[derive(Clone, Copy, Debug, PartialEq, Eq)]
 pub struct Treatment {
     pub target: Target,
