@@ -34,8 +34,8 @@ fn line_fault(number: usize, fault: LineFault) -> ReplayFault
 }
 
 /// The command of the line with this number, from 1 on, or None for a line that asks for nothing.
-/// ConfigText says that the line is no UTF-8, and Config that it is no line of the configuration, and
-/// where and why.
+///
+/// ConfigText says that the line is no UTF-8, and Config that it is no line of the configuration, and where and why.
 pub fn command_at(number: usize, line: &[u8]) -> Result<Option<Command>, ReplayFault>
     ensures value { result ≡ command_at number line.now }
     ensures err { IfErr result (λ fault. IsFaultOf {A = Option Command} (Err fault) fault) }
@@ -67,8 +67,10 @@ fn keep(
     }
 }
 
-/// The commands of a configuration's text with the numbers of their lines. All lines are read before any
-/// command is made. A replay has a loop of its own, which makes each command before it reads on.
+/// The commands of a configuration's text with the numbers of their lines.
+///
+/// All lines are read before any command is made. A replay has a loop of its own, which makes each command before it reads
+/// on.
 fn commands_of_text(alloc: Global, text: &[u8]) -> Result<Vec<(usize, Command)>, ReplayFault>
     ensures ok { IfOk result (λ commands. commands_in text.now ≡ Ok commands.items) }
     ensures err { IfErr result (λ fault. IsFaultOf (commands_in text.now) fault) }
@@ -91,9 +93,9 @@ fn commands_of_text(alloc: Global, text: &[u8]) -> Result<Vec<(usize, Command)>,
     }
 }
 
-/// The commands of a configuration of at most 1,048,576 bytes, each with the number of its line,
-/// counted from 1. The fault is that of the first faulty line. Whether a command is accepted when it
-/// is applied isn't asked here.
+/// The commands of a configuration of at most 1,048,576 bytes, each with the number of its line, counted from 1.
+///
+/// The fault is that of the first faulty line. Whether a command is accepted when it is applied isn't asked here.
 pub fn read_config<I: Inlet>(
     alloc: Global,
     reader: &mut I,

@@ -11,8 +11,9 @@ use std::alloc::Global;
 // How many bytes one read asks for at most.
 const PART: usize = 65536;
 
-/// What takes a text in parts of any length. What it has taken is known by more than its value, such as the text
-/// that came before this one: `Known` is that.
+/// What takes a text in parts of any length.
+///
+/// What it has taken is known by more than its value, such as the text that came before this one: `Known` is that.
 pub trait Feed {
     ghost Known: { Type 0 };
 
@@ -70,8 +71,9 @@ fn feed_by<I: Inlet, F: Feed>(
     }
 }
 
-/// Feeds what an inlet has left, in parts of at most 65,536 bytes. The faults are those of `feed`, after which nothing
-/// more is read, Read where a read failed, and OutOfMemory.
+/// Feeds what an inlet has left, in parts of at most 65,536 bytes.
+///
+/// The faults are those of `feed`, after which nothing more is read, Read if a read failed, and OutOfMemory.
 pub fn feed_all<I: Inlet, F: Feed>(
     alloc: Global,
     inlet: &mut I,

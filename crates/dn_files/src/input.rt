@@ -6,8 +6,9 @@ use crate::source::Source;
 use dn_records::{Inlet, ReadFault, read_whole};
 use std::alloc::Global;
 
-/// The rest of an input of at most `limit` bytes, under the name `source`. TooLong says that there is
-/// more of it, Read that a read failed, and OutOfMemory that a growth was refused.
+/// The rest of an input of at most `limit` bytes, under the name `source`.
+///
+/// TooLong says that there is more of it, Read that a read failed, and OutOfMemory that a growth was refused.
 pub fn read_input<I: Inlet>(
     alloc: Global,
     reader: &mut I,

@@ -1,5 +1,6 @@
-//! Configurations and packet files are read. What dn_history shares with them is public too: faults, whole inputs and
-//! outlets, and the fields of records.
+//! Reads configurations and packet files.
+//!
+//! What dn_history shares with them is public too: faults, whole inputs and outlets, and the fields of records.
 #![tactic(auto)]
 
 mod config;

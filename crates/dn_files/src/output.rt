@@ -14,8 +14,9 @@ pub fn number<'a>(value: u64) -> Field<'a>
     Field::Number(u128::from(value))
 }
 
-/// Writes a text whole, under the name `source`. Write says that a write failed: what was written is
-/// then a part of the text from its front.
+/// Writes a text whole, under the name `source`.
+///
+/// Write says that a write failed: what was written is then a part of the text from its front.
 pub fn write_text<O: Outlet>(out: &mut O, source: Source, text: &[u8]) -> Result<(), ReplayFault>
     requires { O.has_failed out.old ≡ false }
     ensures ok { OnOk result (Appends (O.contents out.old) (O.contents out.new) text.now) }

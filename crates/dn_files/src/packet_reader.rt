@@ -34,8 +34,9 @@ fn put_line_feed(text: &mut Vec<u8>, place: usize)
     text[place] = b'\n';
 }
 
-/// The rows of a packet file whose text comes in parts. `HasRead` says which text has been fed, and
-/// which rows have been taken.
+/// The rows of a packet file whose text comes in parts.
+///
+/// `HasRead` says which text has been fed, and which rows have been taken.
 #[derive(Drop)]
 pub struct PacketReader {
     alloc: Global,
@@ -135,9 +136,10 @@ impl PacketReader {
         Some(row)
     }
 
-    /// The next row, or None where the text that has been fed goes on with something else than a whole
-    /// row that is written plainly, without quotes and with a line feed at its end. More text may make
-    /// it whole; `finish` reads what isn't plain.
+    /// The next row, or None if the text that has been fed doesn't go on with a whole plain row.
+    ///
+    /// A plain row has no quotes, and a line feed at its end. More text may make the row whole; `finish` reads what isn't
+    /// plain.
     pub fn next(&mut self) -> Option<Row>
         ensures rows { MatchOption result
             ((text : List ℕ) → (rows : List Row) → HasRead self.old text rows → HasRead self.new text rows)
@@ -150,8 +152,10 @@ impl PacketReader {
         self.take_row()
     }
 
-    /// The rows that are left, where the text has ended. BadRow names the first bad row, from 1 on and 0
-    /// for the header, and its first bad field, and OutOfMemory says that a growth was refused.
+    /// The rows that are left, after the end of the text.
+    ///
+    /// BadRow names the first bad row, from 1 on and 0 for the header, and its first bad field. OutOfMemory says that a
+    /// growth was refused.
     pub fn finish(&mut self) -> Result<Vec<Row>, ReplayFault>
         ensures ok { IfOk result (λ last. (text : List ℕ) → (rows : List Row) → HasRead self.old text rows
             → rows_of text ≡ Ok (rows ++ last.items)) }

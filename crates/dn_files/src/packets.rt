@@ -100,8 +100,7 @@ pub(crate) fn rows_from_text(
     rows_below(alloc, &mut reader, &mut fields, first)
 }
 
-/// Appends the rows that a text begins with and that are written plainly, and answers what stands behind
-/// them.
+/// Appends the rows that a text begins with and that are written plainly, and returns what follows them.
 fn take_plain_rows<'a>(text: &'a [u8], rows: &mut Vec<Row>) -> Result<&'a [u8], AllocError>
     ensures { IfOk result (λ left. PassesRows text.now left.now rows.old.items rows.new.items) }
 {
@@ -119,8 +118,10 @@ fn take_plain_rows<'a>(text: &'a [u8], rows: &mut Vec<Row>) -> Result<&'a [u8], 
     }
 }
 
-/// The rows of a packet file's text. BadRow names the first bad row, from 1 on and 0 for the header, and
-/// its first bad field, and OutOfMemory says that a growth was refused.
+/// The rows of a packet file's text.
+///
+/// BadRow names the first bad row, from 1 on and 0 for the header, and its first bad field. OutOfMemory says that a growth
+/// was refused.
 pub fn rows_of_text(alloc: Global, text: &[u8]) -> Result<Vec<Row>, ReplayFault>
     ensures ok { IfOk result (λ rows. rows_of text.now ≡ Ok rows.items) }
     ensures err { IfErr result (λ fault. IsFaultOf (rows_of text.now) fault) }
@@ -144,8 +145,9 @@ pub fn rows_of_text(alloc: Global, text: &[u8]) -> Result<Vec<Row>, ReplayFault>
     Ok(rows)
 }
 
-/// The rows of a packet file of at most 67,108,864 bytes, in their order. The fault of a file is that
-/// of its first bad row, and of the first bad field there.
+/// The rows of a packet file of at most 67,108,864 bytes, in their order.
+///
+/// The fault of a file is the one of its first bad row, and of the first bad field there.
 pub fn read_packets<I: Inlet>(alloc: Global, reader: &mut I) -> Result<Vec<Row>, ReplayFault>
     requires { I.has_failed reader.old ≡ false }
     ensures ok { IfOk result (λ rows. ReadsAs packet_file (I.remaining reader.old) rows.items) }

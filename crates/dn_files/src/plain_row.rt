@@ -71,8 +71,9 @@ pub fn tuple_at_front(text: &[u8]) -> Option<(FiveTuple, &[u8])>
     Some((tuple, text))
 }
 
-/// The row whose plain line a text begins with, and what stands behind that line. None where the text
-/// begins otherwise, as with a quote, a carriage return, a faulty row or a part of a row.
+/// The row whose plain line a text begins with, and what follows that line.
+///
+/// None if the text begins otherwise, as with a quote, a carriage return, a faulty row or a part of a row.
 #[inline(always)]
 #[tactic(auto, unfolding(crate::specs::PlainRow::row_until))]
 pub(crate) fn plain_row(text: &[u8]) -> Option<(Row, &[u8])>

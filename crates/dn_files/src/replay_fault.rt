@@ -5,9 +5,10 @@ use crate::source::Source;
 use dn_config::LineFault;
 use thiserror::Error;
 
-/// Why a replay, or the reading or writing of a file, was refused. Each is shown as one line, without
-/// its line feed. Lines of a configuration, rows of a packet file and fields of a row are numbered
-/// from 1.
+/// Why a replay, or the reading or writing of a file, was refused.
+///
+/// Each is shown as one line, without its line feed. Lines of a configuration, rows of a packet file and fields of a row
+/// are numbered from 1.
 #[derive(Clone, Copy, Debug, PartialEq, Eq, Error)]
 pub enum ReplayFault {
     /// A configuration line is no command, and this is its first fault.
@@ -19,11 +20,13 @@ pub enum ReplayFault {
     /// The line names a pipe that isn't configured.
     #[error("config line {0}: no such pipe")]
     NoSuchPipe(usize),
-    /// A row isn't of the packet form. `field` is its first bad field, and 0 where it hasn't ten. Where
-    /// the header is bad both are 0.
+    /// A row isn't of the packet form.
+    ///
+    /// `field` is its first bad field, and 0 if it hasn't ten. If the header is bad both are 0.
     #[error("packet row {row}, field {field}: bad")]
     BadRow { row: u64, field: u64 },
-    /// A record of a history file isn't of the history form or is missing, or stands behind the end.
+    /// A record of a history file isn't of the history form or is missing, or comes after the end.
+    ///
     /// Records are numbered from 1, and a missing one has the number that it would have.
     #[error("history record {0}: bad")]
     BadRecord(u64),

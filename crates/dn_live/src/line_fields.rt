@@ -72,8 +72,9 @@ fn read_quoted(alloc: Global, line: &[u8], fields: &mut ByteRecord) -> Result<bo
     is_at_end(alloc, &mut records)
 }
 
-/// Reads the first record of a line into `fields`, and answers whether there is no more than one. Only where
-/// a line has quotes or carriage returns is a reader of CSV made, which takes some ten times as long.
+/// Reads the first record of a line into `fields`, and returns whether there is no more than one.
+///
+/// Only if a line has quotes or carriage returns is a reader of CSV made, which takes some ten times as long.
 #[tactic(auto, unfolding(crate::specs::Asked::records_in))]
 pub(crate) fn read_fields(
     alloc: Global,

@@ -64,8 +64,9 @@ impl LineSource {
         &self.bytes[self.start..]
     }
 
-    /// Moves the bytes up to the next line feed to the end of `line`, and drops the line feed. It answers
-    /// whether there was one.
+    /// Moves the bytes up to the next line feed to the end of `line`, and drops the line feed.
+    ///
+    /// It returns whether there was one.
     fn take_piece(&mut self, line: &mut Vec<u8>) -> Result<bool, AllocError>
         ensures { IfOk result (λ found. (piece : List ℕ) × TakesPiece self.old self.new found piece
             × (line.new.items ≡ line.old.items ++ piece) × IsOneLine piece) }
@@ -105,9 +106,10 @@ impl LineSource {
         Ok(count > 0)
     }
 
-    /// Takes the next line into `line`, without its line feed, and answers true. At the end of the input it
-    /// answers false, and what stands behind the last line feed is in `line`. It reads only where it has no
-    /// line feed, so that a line is there as soon as it has come.
+    /// Takes the next line into `line`, without its line feed, and returns true.
+    ///
+    /// At the end of the input it returns false, and what follows the last line feed is in `line`. It reads only if it has
+    /// no line feed, so that a line is there as soon as it has come.
     pub(crate) fn next<I: Inlet>(
         &mut self,
         input: &mut I,

@@ -38,8 +38,9 @@ fn write_head<O: Outlet>(out: &mut O) -> Result<(), ReplayFault>
     }
 }
 
-/// Makes the call that a line asks for, if it asks for one, and writes the answer. It counts the call or
-/// the bad line.
+/// Makes the call that a line asks for, if it asks for one, and writes the reply.
+///
+/// It counts the call or the bad line.
 fn serve_line<O: Outlet>(
     alloc: Global,
     shaper: &mut Shaper,
@@ -150,13 +151,14 @@ fn serve<I: Inlet, O: Outlet>(
     Err(ReplayFault::TooLong(Source::Input))
 }
 
-/// Serves a live session. Each line of the input is a call, as the record that history files have
-/// (`c,CALLER,..`) or as a configuration line (`pipe 1 config ..`), which is taken as a Configure of caller 0,
-/// and is answered before the next one is read: the records of its entry are written in one write. What is
-/// written begins with the record `dummynet-live,1`, and ends with the count of the calls. It is read as the
-/// history of the session, by the rule Ordered: `read_history`, `audit` and `audit_file` pass over its remarks. A line that is none is answered by a
-/// remark, `#,bad,LINE,FIELD,CAUSE`, and changes nothing. Empty lines and those that begin with `#` get no
-/// answer. What stands behind the last line feed is no line, and gets a remark.
+/// Serves a live session.
+///
+/// Each line of the input is a call, as the record that history files have (`c,CALLER,..`) or as a configuration line
+/// (`pipe 1 config ..`), which is taken as a Configure of caller 0. The records of its entry are written in one write,
+/// before the next line is read. What is written begins with the record `dummynet-live,1`, and ends with the count of the
+/// calls. It is read as the history of the session, by the rule Ordered: `read_history`, `audit` and `audit_file` pass over
+/// its remarks. A line that is no call is reported by a remark, `#,bad,LINE,FIELD,CAUSE`, and changes nothing. Empty lines
+/// and those that begin with `#` get no reply. What follows the last line feed is no line, and gets a remark.
 ///
 /// No history is kept: a session takes the memory that its shaper takes, and that of one line and one
 /// answer. A line has at most 65,536 bytes. The fault is `TooLong(Input)` at a longer one, `Read(Input)` where a

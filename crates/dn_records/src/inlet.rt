@@ -9,8 +9,9 @@ pub trait Inlet {
     // Whether a read has failed.
     ghost has_failed: { Self → Bool };
 
-    /// Reads some bytes into the front of `buf` and answers how many: 0 only at the end of the input
-    /// or where `buf` is empty. None is a failure, an interrupted call included.
+    /// Reads some bytes into the front of `buf` and returns how many.
+    ///
+    /// 0 is returned only at the end of the input or if `buf` is empty. None is a failure, an interrupted call included.
     fn read(&mut self, buf: &mut [u8]) -> Option<usize>
         ensures bytes { ReadsBytes (remaining self.old) (remaining self.new) result buf.new }
         ensures failed { has_failed self.new ≡ has_failed self.old || read_fails result };

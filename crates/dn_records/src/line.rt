@@ -8,9 +8,9 @@ use std::marker::Model;
 // No line that is made in one has more bytes.
 const LONGEST_LINE: usize = 256;
 
-/// A line that is made from its end towards its front, in an array of 256 bytes, and goes to a text in
-/// one piece. What has numbers and addresses alone is made faster so than field by field. Its value is
-/// the bytes so far.
+/// A line that is made from its end towards its front, in an array of 256 bytes, and goes to a text in one piece.
+///
+/// What has numbers and addresses alone is made faster so than field by field. Its value is the bytes so far.
 #[derive(Drop)]
 pub struct Line {
     bytes: [u8; LONGEST_LINE],

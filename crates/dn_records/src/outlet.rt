@@ -9,8 +9,9 @@ pub trait Outlet {
     // Whether a write has failed.
     ghost has_failed: { Self → Bool };
 
-    /// Writes some bytes from the front of `buf` and answers how many. None is a failure, an
-    /// interrupted call included, and so is 0 of at least one byte.
+    /// Writes some bytes from the front of `buf` and returns how many.
+    ///
+    /// None is a failure, an interrupted call included, and so is 0 of at least one byte.
     fn write(&mut self, buf: &[u8]) -> Option<usize>
         ensures bytes { Writes (contents self.old) (contents self.new) result buf.now }
         ensures failed { has_failed self.new ≡ has_failed self.old || write_fails result buf.now };

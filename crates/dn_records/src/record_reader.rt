@@ -28,8 +28,9 @@ impl<'a> Model for RecordReader<'a> {
 }
 
 impl<'a> RecordReader<'a> {
-    /// A reader of all records of `text`, the first one included, with csv's default delimiter and
-    /// quotes. Empty lines are no records, and a byte order mark at the front is passed over.
+    /// A reader of all records of `text`, the first one included, with csv's default delimiter and quotes.
+    ///
+    /// Empty lines are no records, and a byte order mark at the front is passed over.
     pub fn new(alloc: Global, text: &'a [u8]) -> RecordReader<'a>
         ensures records { result ≡ records_of text.now }
 
@@ -47,8 +48,9 @@ impl<'a> RecordReader<'a> {
         }
     }
 
-    /// Reads the next record into `row`, whose memory is used again, and answers whether there was
-    /// one. After an error no record is left.
+    /// Reads the next record into `row`, whose memory is used again, and returns whether there was one.
+    ///
+    /// After an error no record is left.
     pub fn read(&mut self, row: &mut ByteRecord) -> Result<bool, AllocError>
         ensures ok { IfOk result (λ found. Takes self.old self.new found (fields_of row.new)) }
         ensures shorter { IfOk result (λ found. found ≡ true → length self.new < length self.old) }

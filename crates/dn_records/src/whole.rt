@@ -11,8 +11,10 @@ use std::alloc::Global;
 // How many bytes one read asks for at most.
 const CHUNK: usize = 16384;
 
-/// The rest of an input of at most `limit` bytes. Once more bytes have come, nothing more is read, so
-/// an input that never ends is refused too. After a fault part of the input has been read.
+/// The rest of an input of at most `limit` bytes.
+///
+/// Once more bytes have come, nothing more is read, so an input that never ends is refused too. After a fault part of the
+/// input has been read.
 pub fn read_whole<I: Inlet>(
     alloc: Global,
     inlet: &mut I,

@@ -18,8 +18,9 @@ const MOST: u64 = 1 << 62;
 // For how many entries room is made before the first of them, at most: those of a part of 65,536 bytes.
 const ROOM: usize = 1024;
 
-/// What was read of a text: its first entries, how many were given with them, the number of the record
-/// behind them, and the text that is left.
+/// What was read of a text: its first entries, and what is left.
+///
+/// It has the count of entries that were given with these, the number of the record after them, and the text that is left.
 #[derive(Drop)]
 pub(crate) struct Batch<'a> {
     pub(crate) entries: Vec<Entry>,
@@ -28,8 +29,9 @@ pub(crate) struct Batch<'a> {
     pub(crate) left: &'a [u8],
 }
 
-/// Reads the entries that a text has whole, behind the line feed at its front. `given` entries were
-/// given before, and the number is that of its first record.
+/// Reads the entries that a text has whole, behind the line feed at its front.
+///
+/// `given` entries were given before, and the number is that of its first record.
 pub(crate) fn read_batch<'a>(
     alloc: Global,
     version: HistoryVersion,

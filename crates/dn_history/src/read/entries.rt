@@ -59,8 +59,7 @@ fn entry_by(
     entry_of(alloc, version, caller, call, records, fields)
 }
 
-/// Nothing, where the record with this number, which stands in `fields`, tells this count of entries
-/// and no record is left.
+/// Succeeds if the record with this number, which is in `fields`, tells this count of entries and none follows.
 #[tactic(auto, unfolding(crate::specs::HistoryFile::end_by))]
 fn end_by(
     count: usize,

@@ -16,8 +16,9 @@ use dn_types::{Entry, Rule};
 use std::alloc::Global;
 use std::marker::Model;
 
-/// A reader of the entries of a history's text, one after another. Its value is what it has left of the
-/// history.
+/// A reader of the entries of a history's text, one after another.
+///
+/// Its value is what it has left of the history.
 #[derive(Drop)]
 pub struct EntryReader<'a> {
     alloc: Global,
@@ -47,8 +48,9 @@ impl<'a> Model for EntryReader<'a> {
 }
 
 impl<'a> EntryReader<'a> {
-    /// A reader of all entries of `text`, whose first record is read. Where that tells no version the
-    /// fault is `BadRecord(1)`, and `OutOfMemory` says that memory was refused.
+    /// A reader of all entries of `text`, whose first record is read.
+    ///
+    /// If that tells no version the fault is `BadRecord(1)`. `OutOfMemory` says that memory was refused.
     #[tactic(auto, unfolding(crate::specs::HistoryFile::history_from))]
     pub fn new(alloc: Global, text: &'a [u8]) -> Result<EntryReader<'a>, ReplayFault>
         ensures ok { IfOk result (λ reader. history_in text.now ≡ history_left reader) }
@@ -74,8 +76,7 @@ impl<'a> EntryReader<'a> {
         })
     }
 
-    /// A reader of the entries that are left behind this many, in a text behind a line feed whose first
-    /// record has this number.
+    /// A reader of the entries that are left behind this many, in a text behind a line feed whose first record has this number.
     pub(crate) fn from(
         alloc: Global,
         version: HistoryVersion,
@@ -99,8 +100,9 @@ impl<'a> EntryReader<'a> {
         }
     }
 
-    /// The rule of the history: Free in files of versions 1 and 2, and Ordered in those of version 3 and in the
-    /// transcripts of live sessions.
+    /// The rule of the history.
+    ///
+    /// It is Free in files of versions 1 and 2, and Ordered in those of version 3 and in the transcripts of live sessions.
     pub fn rule(&self) -> Rule
         ensures { result ≡ self.now.rule }
     {
@@ -114,8 +116,9 @@ impl<'a> EntryReader<'a> {
         self.given
     }
 
-    /// The next entry, or None at the end of the history and from then on. A fault is that of the first
-    /// bad record, or `OutOfMemory`, and the same fault is answered from then on.
+    /// The next entry, or None at the end of the history and from then on.
+    ///
+    /// A fault is the one of the first bad record, or `OutOfMemory`, and the same fault is returned from then on.
     pub fn next(&mut self) -> Result<Option<Entry>, ReplayFault>
         ensures ok { IfOk result (λ next. self.old.entries ≡ before next self.new.entries) }
         ensures after { IfOk result (λ next. IsAfter next self.old self.new) }

@@ -3,8 +3,9 @@ ghost use Rattle.dn_history.specs.HistoryParts.{BeginsHistory, BeginsNoHistory};
 
 use crate::history_version::HistoryVersion;
 
-/// The version that a text tells in the line at its front, and what stands behind that line. None where it
-/// begins otherwise, or the line has quotes.
+/// The version that a text tells in the line at its front, and what follows that line.
+///
+/// None if it begins otherwise, or the line has quotes.
 pub(crate) fn header_at_front(text: &[u8]) -> Option<(HistoryVersion, &[u8])>
     ensures { MatchOption result (BeginsNoHistory text.now) (λ p. BeginsHistory text.now p.0 p.1.now) }
 {

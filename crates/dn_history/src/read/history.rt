@@ -48,10 +48,11 @@ fn history_of_text(alloc: Global, text: &[u8]) -> Result<(Rule, Vec<Entry>), Rep
     }
 }
 
-/// The rule and the entries of a history file of at most 268,435,456 bytes: the rule is Free in files
-/// of versions 1 and 2, and Ordered in those of version 3. A live session's transcript, whose first record is
-/// `dummynet-live,1`, is read as one of version 3 that may have remarks between its entries. The fault of a
-/// file is that of its first bad record. Whether the replies are those of sequential dummynet isn't asked here.
+/// The rule and the entries of a history file of at most 268,435,456 bytes.
+///
+/// The rule is Free in files of versions 1 and 2, and Ordered in those of version 3. A live session's transcript, whose
+/// first record is `dummynet-live,1`, is read as one of version 3 that may have remarks between its entries. The fault of a
+/// file is the one of its first bad record. Whether the replies are those of sequential dummynet isn't asked here.
 pub fn read_history<I: Inlet>(
     alloc: Global,
     input: &mut I,

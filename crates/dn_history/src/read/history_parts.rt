@@ -15,8 +15,9 @@ use dn_types::{Entry, Rule};
 use std::alloc::{AllocError, Global};
 use std::marker::Model;
 
-/// The entries of a history whose text comes in parts. `HasRead` says which text has been fed, and which
-/// entries have been given.
+/// The entries of a history whose text comes in parts.
+///
+/// `HasRead` says which text has been fed, and which entries have been given.
 #[derive(Drop)]
 pub struct HistoryParts {
     alloc: Global,
@@ -54,8 +55,9 @@ fn text_left(alloc: Global, front: &[u8], back: &[u8]) -> Result<Vec<u8>, AllocE
 }
 
 impl HistoryParts {
-    /// The parts of a history that begins with this text. None where it doesn't begin with the whole line
-    /// of a version, written plainly.
+    /// The parts of a history that begins with this text.
+    ///
+    /// None if it doesn't begin with the whole line of a version, written plainly.
     pub fn new(alloc: Global, text: &[u8]) -> Result<Option<HistoryParts>, AllocError>
         ensures { IfOk result (λ found. MatchOption found (BeginsNoHistory text.now) (λ parts. HasRead parts text.now [])) }
     {
@@ -74,8 +76,9 @@ impl HistoryParts {
         }))
     }
 
-    /// The rule of the history: Free in files of versions 1 and 2, and Ordered in those of version 3 and in the
-    /// transcripts of live sessions.
+    /// The rule of the history.
+    ///
+    /// It is Free in files of versions 1 and 2, and Ordered in those of version 3 and in the transcripts of live sessions.
     pub fn rule(&self) -> Rule
         ensures { result ≡ rule_of self.now.version }
     {
@@ -104,8 +107,9 @@ impl HistoryParts {
         self.text.extend_from_slice(part)
     }
 
-    /// The next entries: those that have come whole, up to the first that isn't written plainly. That one and
-    /// those behind it are left to the reader of `finish`. None is given while a list may be under way, or
+    /// The next entries: those that have come whole, up to the first that isn't written plainly.
+    ///
+    /// That one and those behind it are left to the reader of `finish`. None is given while a list may be under way, or
     /// before the text that is left has twice the length that it had when it was read last.
     pub fn take(&mut self) -> Result<Vec<Entry>, AllocError>
         ensures ok { IfOk result (λ list. (text : List ℕ) (entries : List EntryValue) → HasRead self.old text entries

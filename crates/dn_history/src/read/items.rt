@@ -148,8 +148,9 @@ fn next_status(
     }
 }
 
-/// The deliveries of the next records, as many as `count`. No room is taken by that number, which
-/// may be any.
+/// The deliveries of the next records, as many as `count`.
+///
+/// No room is taken by that number, which may be any.
 pub(crate) fn read_deliveries(
     alloc: Global,
     count: u64,

@@ -11,8 +11,9 @@ use dn_records::RecordReader;
 use std::alloc::{AllocError, Global};
 use std::marker::Model;
 
-/// Where the first line of a text begins: behind a line feed at its front, or at its front. None where it
-/// is empty, or a byte order mark may stand there.
+/// Where the first line of a text begins: behind a line feed at its front, or at its front.
+///
+/// None if it is empty, or may begin with a byte order mark.
 fn line_start(text: &[u8]) -> Option<&[u8]>
     ensures { IfSome result (λ lines. records_of text.now ≡ records_after st.StartRecord lines.now) }
 {
@@ -28,8 +29,10 @@ fn line_start(text: &[u8]) -> Option<&[u8]>
     Some(text)
 }
 
-/// The records of a text that are left. Those whose lines are written plainly are read from their bytes,
-/// and from the first other line on csv's reader reads them.
+/// The records of a text that are left.
+///
+/// Those whose lines are written plainly are read from their bytes, and from the first other line on csv's reader reads
+/// them.
 #[derive(Drop)]
 pub(crate) struct LineRecords<'a> {
     alloc: Global,
@@ -112,8 +115,9 @@ impl<'a> LineRecords<'a> {
         }
     }
 
-    /// Reads the next record into `fields`, and answers whether there was one. After an error no record is
-    /// left.
+    /// Reads the next record into `fields`, and returns whether there was one.
+    ///
+    /// After an error no record is left.
     pub(crate) fn read(&mut self, fields: &mut ByteRecord) -> Result<bool, AllocError>
         ensures ok { IfOk result (λ found. Takes self.old self.new found (fields_of fields.new)) }
         ensures shorter { IfOk result (λ found. found ≡ true → length self.new < length self.old) }

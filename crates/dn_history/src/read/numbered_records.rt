@@ -20,8 +20,9 @@ use dn_types::{Call, Delivery, Reply};
 use std::alloc::Global;
 use std::marker::Model;
 
-/// The records of a text that are left, with the number of the next one. The first has number 1, and remarks
-/// have none.
+/// The records of a text that are left, with the number of the next one.
+///
+/// The first has number 1, and remarks have none.
 #[derive(Drop)]
 pub(crate) struct NumberedRecords<'a> {
     number: u64,

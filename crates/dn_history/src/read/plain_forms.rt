@@ -7,8 +7,9 @@ use dn_files::{target_at_front, tuple_at_front};
 use dn_text::number_until;
 use dn_types::{Call, Delivery, Len, Moment, Packet, Reply};
 
-/// The caller and the call of the plain line of a Submit that a text begins with, and what stands behind
-/// the line. None where the text begins otherwise.
+/// The caller and the call of the plain line of a Submit that a text begins with, and what follows the line.
+///
+/// None if the text begins otherwise.
 pub(crate) fn submit_at_front(text: &[u8]) -> Option<(usize, Call, &[u8])>
     ensures { IfSome result (λ p. BeginsCall text.now p.0 p.1 p.2.now) }
 {
@@ -38,8 +39,9 @@ pub(crate) fn submit_at_front(text: &[u8]) -> Option<(usize, Call, &[u8])>
     Some((caller as usize, call, text))
 }
 
-/// The reply of the plain line of an accepted packet that a text begins with, and what stands behind the
-/// line. None where the text begins otherwise.
+/// The reply of the plain line of an accepted packet that a text begins with, and what follows the line.
+///
+/// None if the text begins otherwise.
 pub(crate) fn queued_at_front(text: &[u8]) -> Option<(Reply, &[u8])>
     ensures { IfSome result (λ p. BeginsReply text.now p.0 p.1.now) }
 {
@@ -55,8 +57,9 @@ pub(crate) fn queued_at_front(text: &[u8]) -> Option<(Reply, &[u8])>
     Some((reply, text))
 }
 
-/// The delivery of the plain line that a text begins with, and what stands behind the line. None where the
-/// text begins otherwise.
+/// The delivery of the plain line that a text begins with, and what follows the line.
+///
+/// None if the text begins otherwise.
 pub(crate) fn delivery_at_front(text: &[u8]) -> Option<(Delivery, &[u8])>
     ensures { IfSome result (λ p. BeginsDelivery text.now p.0 p.1.now) }
 {

@@ -15,8 +15,9 @@ fn begins_with_feed(text: &[u8]) -> bool
     }
 }
 
-/// The field that a text begins with, whether it is the last one of its line, and what stands behind the
-/// byte that ends it. None where a quote or a carriage return comes before that, or nothing ends it.
+/// The field that a text begins with, whether it is the last one of its line, and what follows the byte that ends it.
+///
+/// None if a quote or a carriage return comes before that, or nothing ends it.
 fn plain_field(text: &[u8]) -> Option<(&[u8], bool, &[u8])>
     ensures { IfSome result (λ p. EndsField text.now p.0.now p.1 p.2.now) }
 {
@@ -37,8 +38,9 @@ fn plain_field(text: &[u8]) -> Option<(&[u8], bool, &[u8])>
     None
 }
 
-/// Reads the record of the line that a text begins with into `fields`, and answers what stands behind the
-/// line. None where the line is empty, has a quote or a carriage return, or doesn't end.
+/// Reads the record of the line that a text begins with into `fields`, and returns what follows the line.
+///
+/// None if the line is empty, has a quote or a carriage return, or doesn't end.
 pub(crate) fn read_plain_line<'a>(
     text: &'a [u8],
     fields: &mut ByteRecord,

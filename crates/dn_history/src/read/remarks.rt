@@ -27,8 +27,9 @@ fn is_passed_over(version: HistoryVersion, fields: &ByteRecord) -> bool
     version.has_remarks() && is_remark(fields)
 }
 
-/// Reads the next record between two entries into `fields`, past the remarks that the version may have
-/// there, and returns whether there was one. After an error no record is left.
+/// Reads the next record between two entries into `fields`, and returns whether there was one.
+///
+/// It reads past the remarks that the version may have there. After an error no record is left.
 #[tactic(auto, using(crate::proofs::Remarks::passed_over, crate::proofs::Remarks::found_plain, crate::proofs::Remarks::none_left, crate::proofs::HistoryReading::emptied))]
 pub(crate) fn read_past_remarks(
     version: HistoryVersion,

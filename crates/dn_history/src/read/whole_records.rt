@@ -2,8 +2,9 @@ ghost use Rattle.dn_history.specs.HistoryParts.{BeginsRecords};
 
 use memchr::{memchr, memrchr};
 
-/// What stands behind the records that have come whole of a text: those up to its last line feed, if no
-/// quote stands before that. Else that is the text.
+/// What follows the records that have come whole of a text: those up to its last line feed, if no quote comes before that.
+///
+/// Else that is the text.
 pub(crate) fn behind_records(text: &[u8]) -> &[u8]
     ensures { BeginsRecords text.now result.now }
 {

@@ -74,10 +74,10 @@ fn history_text(alloc: Global, entries: &[Entry]) -> Result<Vec<u8>, AllocError>
     Ok(writer.into_text())
 }
 
-/// Writes the history file of some entries, lawful or not, in version 3 of the format. The text is built
-/// whole before it is written; only memory bounds its length, and history files of more than
-/// 268,435,456 bytes are too long to be read. It answers `OutOfMemory` where memory was refused, and
-/// `Write(History)` where a write failed.
+/// Writes the history file of some entries, lawful or not, in version 3 of the format.
+///
+/// The text is built whole before it is written; only memory bounds its length, and history files of more than 268,435,456
+/// bytes are too long to be read. It returns `OutOfMemory` if memory was refused, and `Write(History)` if a write failed.
 pub fn write_history<O: Outlet>(
     alloc: Global,
     entries: &[Entry],

@@ -38,8 +38,9 @@ fn end_text(alloc: Global, count: usize) -> Result<Vec<u8>, AllocError>
     Ok(writer.into_text())
 }
 
-/// Writes the front of a history file. It reports `OutOfMemory` where memory was refused, and then has written nothing, and
-/// `Write(History)` where a write failed.
+/// Writes the front of a history file.
+///
+/// It returns `OutOfMemory` if memory was refused, and then has written nothing, and `Write(History)` if a write failed.
 pub fn write_history_front<O: Outlet>(alloc: Global, out: &mut O) -> Result<(), ReplayFault>
     requires { O.has_failed out.old ≡ false }
     ensures ok { OnOk result (Appends (O.contents out.old) (O.contents out.new) history_front) }
@@ -52,8 +53,10 @@ pub fn write_history_front<O: Outlet>(alloc: Global, out: &mut O) -> Result<(), 
     }
 }
 
-/// Writes the entries that come next in a history file. Memory is taken for their text alone. It reports `OutOfMemory` where
-/// memory was refused, and then has written nothing, and `Write(History)` where a write failed.
+/// Writes the entries that come next in a history file.
+///
+/// Memory is taken for their text alone. It returns `OutOfMemory` if memory was refused, and then has written nothing, and
+/// `Write(History)` if a write failed.
 pub fn write_history_part<O: Outlet>(
     alloc: Global,
     entries: &[Entry],
@@ -70,8 +73,9 @@ pub fn write_history_part<O: Outlet>(
     }
 }
 
-/// Writes the end of a history file of so many entries in all. It reports `OutOfMemory` where memory was refused, and then has
-/// written nothing, and `Write(History)` where a write failed.
+/// Writes the end of a history file of so many entries in all.
+///
+/// It returns `OutOfMemory` if memory was refused, and then has written nothing, and `Write(History)` if a write failed.
 pub fn write_history_end<O: Outlet>(
     alloc: Global,
     count: usize,
@@ -88,8 +92,9 @@ pub fn write_history_end<O: Outlet>(
     }
 }
 
-/// A law: a front, entries and an end are the file that `write_history` writes of these entries, and the text of two parts is that of
-/// the entries of both. So a file whose entries came in parts is the file of them all.
+/// A law: a front, entries and an end are the file that `write_history` writes of these entries.
+///
+/// The text of two parts is the text of the entries of both. So a file whose entries came in parts is the file of them all.
 pub fn parts_are_a_file(first: &[Entry], second: &[Entry])
     ensures file { (history_front ++ part_text first.now) ++ history_end (length first.now) ≡ history_text first.now }
     ensures joins { part_text first.now ++ part_text second.now ≡ part_text (first.now ++ second.now) }

@@ -1,5 +1,6 @@
-//! The numbers of entries are in the ranges of their types. A function here computes nothing: its contract says so of
-//! its argument.
+//! The numbers of entries are in the ranges of their types.
+//!
+//! A function here computes nothing: its contract says so of its argument.
 
 ghost use Rattle.std.specs.Prelude.{length};
 ghost use Rattle.std.specs.List.{All};

@@ -53,8 +53,9 @@ pub extern "C" fn dn_open(alloc: Global, handle: &mut Handle, rule: u32) -> u32
     open(alloc, handle, rule, HashKey(0))
 }
 
-/// The same with a secret of 128 bits for the table of its flows, for packets that a stranger chooses. No
-/// answer depends on it.
+/// As `dn_open`, with a secret of 128 bits for the table of its flows, for packets that a stranger chooses.
+///
+/// No reply depends on it.
 #[unsafe(no_mangle)]
 pub extern "C" fn dn_open_with_key(
     alloc: Global,
