@@ -130,6 +130,7 @@ def parts(cases: str, seed: int) -> list[Part]:
         Part("why not one mutex", [python, "tools/gate/one_mutex.py"]),
         Part("tests in simulated time", [python, "tools/gate/testing.py"]),
         Part("the manual pages", [python, "tools/gate/manual.py", program], "mandoc"),
+        Part("doc comments", [python, "tools/gate/doc_comments.py"]),
         Part("the kit", ["python/tests/kit"]),
     ]
 

@@ -1,0 +1,94 @@
+"""The doc comments of the crates: each begins with one line that is a sentence, and then has an empty line or ends.
+
+    python3 tools/gate/doc_comments.py
+
+Each public item of a crate that users call has one. It reads the sources alone.
+"""
+
+from __future__ import annotations
+
+import re
+import sys
+from pathlib import Path
+from typing import Iterator, NamedTuple
+
+from tally import Tally
+
+TOP = Path(__file__).resolve().parent.parent.parent
+LONGEST = 130
+COMMENT = re.compile(r"\s*(///|//!)(?: (.*))?$")
+ITEM = re.compile(r'\s*pub (?:extern "C" )?(?:fn|struct|enum|trait|const|static|type)\b')
+ATTRIBUTE = re.compile(r"\s*#")
+SENTENCE = re.compile(r"[A-Z0-9`\[].*\.$")
+# Crates that users don't call.
+OWN = ("bench_", "check_", "test_")
+
+
+class Comment(NamedTuple):
+    """A doc comment: its first line, from 1, the line after it, and the texts of its lines."""
+
+    first: int
+    after: int
+    texts: list[str]
+
+
+def comments(lines: list[str]) -> Iterator[Comment]:
+    at = 0
+    while at < len(lines):
+        found, first = COMMENT.match(lines[at]), at
+        if found is None:
+            at += 1
+            continue
+        texts, mark = [], found[1]
+        while at < len(lines) and (found := COMMENT.match(lines[at])) and found[1] == mark:
+            texts.append(found[2] or "")
+            at += 1
+        yield Comment(first + 1, at + 1, texts)
+
+
+def fault_of(comment: Comment, lines: list[str]) -> str:
+    """What is wrong with a comment, or nothing."""
+    summary, rest = comment.texts[0], comment.texts[1:]
+    if rest and rest[0]:
+        return "the summary is longer than one line"
+    if not SENTENCE.match(summary):
+        return "the summary isn't a sentence"
+    if len(lines[comment.first - 1]) > LONGEST:
+        return f"the summary's line has more than {LONGEST} characters"
+    return "an empty line at the end" if rest and not rest[-1] else ""
+
+
+def without_comment(lines: list[str], found: list[Comment]) -> Iterator[int]:
+    """The numbers of the lines of public items that have no doc comment."""
+    ends = {comment.after for comment in found}
+    for number, line in enumerate(lines, 1):
+        before = number
+        while before > 1 and ATTRIBUTE.match(lines[before - 2]):
+            before -= 1
+        if ITEM.match(line) and before not in ends:
+            yield number
+
+
+def faults_of(source: Path) -> Iterator[str]:
+    """What is wrong in a source file, with its lines."""
+    name = source.relative_to(TOP)
+    lines = source.read_text().splitlines()
+    found = list(comments(lines))
+    for comment in found:
+        fault = fault_of(comment, lines)
+        if fault:
+            yield f"{name}:{comment.first}: {fault}"
+    if not name.parts[1].startswith(OWN):
+        for number in without_comment(lines, found):
+            yield f"{name}:{number}: a public item without a doc comment"
+
+
+def main() -> int:
+    tally = Tally()
+    for crate in sorted(TOP.glob("crates/*/src")):
+        tally.note(crate.parent.name, *(fault for source in sorted(crate.glob("**/*.rt")) for fault in faults_of(source)))
+    return tally.end()
+
+
+if __name__ == "__main__":
+    sys.exit(main())
