@@ -11,7 +11,7 @@ pub enum LineFault {
     /// A word that is no keyword here, an option of the other kind of line included.
     #[error("unknown word")]
     UnknownWord(usize),
-    /// The line ends behind this word, or this `mask` has no field.
+    /// The line ends after this word, or this `mask` has no field.
     #[error("missing value")]
     MissingValue(usize),
     /// The value isn't written as the number that is asked for.
@@ -26,13 +26,15 @@ pub enum LineFault {
     /// The line of a queue, which this word begins, doesn't name its pipe. It has no other fault.
     #[error("needs a pipe")]
     NeedsPipe(usize),
-    /// Memory was refused. [`parse_line`](crate::parse_line) takes none and never answers this.
+    /// Memory was refused. [`parse_line`](crate::parse_line) takes none, and so never returns this.
+    ///
+    /// It is here for a reader of lines that takes some, so that its callers have a case for it, as the C library has a number.
     #[error("out of memory")]
     OutOfMemory,
 }
 
 impl LineFault {
-    /// The position of the word that the fault concerns, and None for a want of memory.
+    /// The position of the word that the fault concerns, and None for OutOfMemory.
     pub fn position(&self) -> Option<usize>
         ensures { result ≡ position_of self.now }
     {
