@@ -22,7 +22,8 @@ bound None read b more e = cc e
 bound (Some a) read b more e = more a refl e
 
 -- A number and the byte behind it, from what was read.
-number_and_byte : (end n : ℕ) (r : Result ℕ NumberFault) (u rest : List ℕ) → ◌>>=◌ {B = ℕ × List ℕ} (result_ok r) (λ number. ◌>>=◌ {B = ℕ × List ℕ} (behind_byte end u) (λ left. Some (number, left))) ≡ Some (n, rest)
+number_and_byte : (end n : ℕ) (r : Result ℕ NumberFault) (u rest : List ℕ)
+    → ◌>>=◌ {B = ℕ × List ℕ} (result_ok r) (λ number. ◌>>=◌ {B = ℕ × List ℕ} (behind_byte end u) (λ left. Some (number, left))) ≡ Some (n, rest)
     → (r ≡ Ok n) × (u ≡ end ∷ rest)
 number_and_byte end n (Err fault) u rest e = cc e
 number_and_byte end n (Ok m) [] rest e = cc e
@@ -104,4 +105,5 @@ address_parts end text a rest e =
     bound (number_until 46 0 255 second.1) _ (a, rest) (λ third is_third e3.
     bound (number_until end 0 255 third.1) _ (a, rest) (λ fourth is_fourth e4.
     let both = some_is (first.0 * 16777216 + second.0 * 65536 + third.0 * 256 + fourth.0, fourth.1) (a, rest) e4 in
-    address_from end text first.1 second.1 third.1 rest first.0 second.0 third.0 fourth.0 a is_first is_second is_third (is_fourth ∙ ap (λ p. Some (fourth.0, p.1)) both) (ap (λ p. p.0) both)) e3) e2) e1) e
+    address_from end text first.1 second.1 third.1 rest first.0 second.0 third.0 fourth.0 a is_first is_second is_third
+    (is_fourth ∙ ap (λ p. Some (fourth.0, p.1)) both) (ap (λ p. p.0) both)) e3) e2) e1) e
