@@ -36,7 +36,8 @@ pub record IsTakenAs (calls : List Call) (target : Target) (packet : Packet) (mo
   pub flow : p.stamped.flow ≡ flow_number (keys calls) (key_of target packet.tuple how)
   pub link : p.link ≡ link_of target p.stamped.flow how.pipe
   pub len : p.stamped.len ≡ packet.len
-  pub told : reply_to_verdict (max (effective_moment calls) moment) (verdict calls target packet (trace_of (Advance moment ∷ calls))) (trace_of (Advance moment ∷ calls)) ≡ Queued (max (effective_moment calls) moment) p.stamped.flow p.packet
+  pub told : reply_to_verdict (max (effective_moment calls) moment) (verdict calls target packet (trace_of (Advance moment ∷ calls))) (trace_of (Advance moment ∷ calls))
+      ≡ Queued (max (effective_moment calls) moment) p.stamped.flow p.packet
 
 abbrev IsVerdict : List FlowKey → Target → Packet → Option Treatment → Link → ℕ → Treatment → Type 0
 IsVerdict known target packet o link flow how = (o ≡ Some how) × (link ≡ link_of target flow how.pipe) × (flow ≡ flow_number known (key_of target packet.tuple how))

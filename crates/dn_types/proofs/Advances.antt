@@ -98,7 +98,8 @@ module _ (set : Settings) (at to : ℕ) (le : at ≤ to) where
 
 module _ (calls : List Call) (moment : ℕ) where
   settled-less : (m : ℕ) → moment ≤ max (effective_moment calls) m →
-      settled (settings (Advance moment ∷ calls)) (max (effective_moment (Advance moment ∷ calls)) m) (trace_of (Advance moment ∷ calls)) ≡ settled (settings calls) (max (effective_moment calls) m) (trace_of calls)
+      settled (settings (Advance moment ∷ calls)) (max (effective_moment (Advance moment ∷ calls)) m) (trace_of (Advance moment ∷ calls))
+      ≡ settled (settings calls) (max (effective_moment calls) m) (trace_of calls)
   settled-less m le =
       let at = max (effective_moment calls) moment in
       let to = max (effective_moment calls) m in

@@ -93,7 +93,8 @@ waits-home known [] h link flow some = absurd (omega (arith, some))
 waits-home known (opened l ∷ t) h link flow some = waits-home known t h link flow some
 waits-home known (arrived p ∷ t) h link flow some = by (is_of link flow p) refl some (λ more. waits-home known t h.1 link flow more)
   where
-    by : (b : Bool) → is_of link flow p ≡ b → 0 < length (cond b (backlog link flow t ++ p ∷ []) (backlog link flow t)) → (0 < length (backlog link flow t) → IsHomeOf known link flow) → IsHomeOf known link flow
+    by : (b : Bool) → is_of link flow p ≡ b → 0 < length (cond b (backlog link flow t ++ p ∷ []) (backlog link flow t))
+        → (0 < length (backlog link flow t) → IsHomeOf known link flow) → IsHomeOf known link flow
     by false e some rest = rest some
     by true e some rest =
         let l = link_eq-true p.link link (and-left (link_eq p.link link) (nat_eq p.stamped.flow flow) e) in

@@ -12,7 +12,8 @@ use Rattle.dn_types.specs.Flows.{Treatment, treatment, keys, key_of, flow_number
 use Rattle.dn_types.specs.Links.{free}
 use Rattle.dn_types.specs.SharedLinks.{waiting, opening, next_packet, virtual_time, link_heads}
 use Rattle.dn_types.specs.Starts.{next_start, first_start, settle, settled, start_at, waiting_all}
-use Rattle.dn_types.specs.Trace.{Link, own, shared, pipe_of, link_eq, Accepted, Start, Event, opened, arrived, started, lost, refused, discarded, collected, is_of, backlog, flow_bound, links, is_arrival, accepted_count}
+use Rattle.dn_types.specs.Trace.{Link, own, shared, pipe_of, link_eq, Accepted, Start, Event, opened, arrived, started}
+use Rattle.dn_types.specs.Trace.{lost, refused, discarded, collected, is_of, backlog, flow_bound, links, is_arrival, accepted_count}
 use Rattle.dn_types.specs.Wf2q.{Stamped, pick}
 use Rattle.dn_types.specs.declared.call.Call.{Call}
 use Rattle.dn_types.specs.declared.call.Call.TheVariants.{Configure, Submit, Advance, Collect, Show}

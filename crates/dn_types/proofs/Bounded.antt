@@ -83,7 +83,8 @@ module _ (link : Link) (flow : ℕ) where
   backlog-short (collected at ∷ trace) h = backlog-short trace h
 
   -- A packet that joins another queue adds nothing to this one.
-  bytes-push : (p : Accepted) (trace : List Event) (b : Bool) → is_of link flow p ≡ b → bytes p.link p.stamped.flow trace + p.stamped.len ≤ 655350000 → bytes link flow trace ≤ 655350000 → sum_by len_of (cond b (backlog link flow trace ++ p ∷ []) (backlog link flow trace)) ≤ 655350000
+  bytes-push : (p : Accepted) (trace : List Event) (b : Bool) → is_of link flow p ≡ b → bytes p.link p.stamped.flow trace + p.stamped.len ≤ 655350000
+      → bytes link flow trace ≤ 655350000 → sum_by len_of (cond b (backlog link flow trace ++ p ∷ []) (backlog link flow trace)) ≤ 655350000
   bytes-push p trace true e fits h =
       let l = link_eq-true p.link link (and-left _ (nat_eq p.stamped.flow flow) e) in
       let f = eqb-true p.stamped.flow flow (and-right _ (nat_eq p.stamped.flow flow) e) in
@@ -125,15 +126,18 @@ room (Kbytes count) q len h short e one =
 
 -- ---- Starts
 
-starting : (set : Settings) (link : Link) (p : Accepted) (at : ℕ) (trace : List Event) → AreInRange set → at ≤ 2 ^ 62 → IsShort p → IsBounded trace → IsBounded (started (start_at set link p at) ∷ trace)
+starting : (set : Settings) (link : Link) (p : Accepted) (at : ℕ) (trace : List Event) → AreInRange set
+    → at ≤ 2 ^ 62 → IsShort p → IsBounded trace → IsBounded (started (start_at set link p at) ∷ trace)
 starting set link p at trace within soon short h =
     let pipe = set (ToPipe (pipe_of link)) in
     (soon, transmission-in-range (bandwidth_of pipe) (len_of p) short, delay-in-range pipe (within (ToPipe (pipe_of link))), h)
 
-next-bounded : (set : Settings) (at : ℕ) (link : Link) (trace : List Event) (s : Start) → AreInRange set → at ≤ 2 ^ 62 → IsBounded trace → next_start set at link trace ≡ Some s → IsBounded (started s ∷ trace)
+next-bounded : (set : Settings) (at : ℕ) (link : Link) (trace : List Event) (s : Start) → AreInRange set
+    → at ≤ 2 ^ 62 → IsBounded trace → next_start set at link trace ≡ Some s → IsBounded (started s ∷ trace)
 next-bounded set at link trace s within soon h e = by (nat_le (free link trace) at) (next_packet link trace) refl refl e
   where
-    by : (b : Bool) (o : Option Accepted) → nat_le (free link trace) at ≡ b → next_packet link trace ≡ o → cond b (option_map (λ p. start_at set link p (free link trace)) o) None ≡ Some s → IsBounded (started s ∷ trace)
+    by : (b : Bool) (o : Option Accepted) → nat_le (free link trace) at ≡ b → next_packet link trace ≡ o
+        → cond b (option_map (λ p. start_at set link p (free link trace)) o) None ≡ Some s → IsBounded (started s ∷ trace)
     by false o is next e = absurd cc
     by true None is next e = absurd cc
     by true (Some p) is next e =
@@ -147,7 +151,8 @@ settle-bounded : (most : ℕ) (set : Settings) (at : ℕ) (trace : List Event) �
 settle-bounded zero set at trace within soon h = h
 settle-bounded (suc most) set at trace within soon h = step (first_start set at (links trace) trace) refl (λ t g. settle-bounded most set at t within soon g)
   where
-    step : (o : Option Start) → first_start set at (links trace) trace ≡ o → ((t : List Event) → IsBounded t → IsBounded (settle most set at t)) → IsBounded (elim o as (λ _. List Event) [ None ↦ trace | Some s ↦ settle most set at (started s ∷ trace) ])
+    step : (o : Option Start) → first_start set at (links trace) trace ≡ o → ((t : List Event) → IsBounded t → IsBounded (settle most set at t))
+        → IsBounded (elim o as (λ _. List Event) [ None ↦ trace | Some s ↦ settle most set at (started s ∷ trace) ])
     step None e rest = h
     step (Some s) e rest = let of = first_start-of set at (links trace) trace s e in rest (started s ∷ trace) (next-bounded set at of.0 trace s within soon h of.1)
 
@@ -189,7 +194,8 @@ opened-bytes : (b : Bool) (l link : Link) (flow : ℕ) (trace : List Event) → 
 opened-bytes true l link flow trace = refl
 opened-bytes false l link flow trace = refl
 
-verdict-bounded : (set : Settings) (at : ℕ) (packet : Packet) (v : Verdict) (trace : List Event) → AreInRange set → at ≤ 2 ^ 62 → packet.len ≤ 65535 → Fits v trace → IsBounded trace → IsBounded (after_verdict set at packet v trace)
+verdict-bounded : (set : Settings) (at : ℕ) (packet : Packet) (v : Verdict) (trace : List Event) → AreInRange set
+    → at ≤ 2 ^ 62 → packet.len ≤ 65535 → Fits v trace → IsBounded trace → IsBounded (after_verdict set at packet v trace)
 verdict-bounded set at packet no_target trace within soon short fits h = h
 verdict-bounded set at packet (loses link flow) trace within soon short fits h = h
 verdict-bounded set at packet (refuses link flow) trace within soon short fits h = h

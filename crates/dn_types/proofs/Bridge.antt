@@ -15,7 +15,8 @@ use Rattle.dn_types.specs.Standing.{Traffic, traffic, Standing, standing, standi
 use Rattle.dn_types.specs.Starts.{next_start, sooner, first_start, settle, waiting_all, settled, start_at}
 use Rattle.dn_types.specs.Trace.{Link, own, shared, Accepted, Event, opened, arrived, started, lost, refused, discarded, collected, Start, links, is_arrival, is_start_of, is_loss_of, is_refusal_of}
 use Rattle.dn_types.proofs.Giving.{count-event}
-use Rattle.dn_types.proofs.Step.{after_event, next_start_in, first_start_in, settle_most_in, settle_in, waiting_all_in, verdict_in, opening_in, accept_in, join_in, after_verdict_in, discard_reached_in, after_command_in, queue_numbers_after, counted_step, step, statuses_in, verdict_reply_in, counted_step_reply, step_reply}
+use Rattle.dn_types.proofs.Step.{after_event, next_start_in, first_start_in, settle_most_in, settle_in, waiting_all_in, verdict_in, opening_in, accept_in, join_in}
+use Rattle.dn_types.proofs.Step.{after_verdict_in, discard_reached_in, after_command_in, queue_numbers_after, counted_step, step, statuses_in, verdict_reply_in, counted_step_reply, step_reply}
 use Rattle.dn_types.specs.declared.call.Call.{Call}
 use Rattle.dn_types.specs.declared.call.Call.TheVariants.{Configure, Submit, Advance, Collect, Show}
 use Rattle.dn_types.specs.declared.packet.Packet.{Packet}
@@ -76,7 +77,8 @@ settled-traffic rule settings at trace =
 
 -- ---- Submits
 
-verdict-traffic : (rule : Rule) (known : List FlowKey) (target : Target) (packet : Packet) (how : Option Treatment) (trace : List Event) → verdict_by known target packet how trace ≡ verdict_in known target packet how (traffic rule trace)
+verdict-traffic : (rule : Rule) (known : List FlowKey) (target : Target) (packet : Packet) (how : Option Treatment) (trace : List Event)
+    → verdict_by known target packet how trace ≡ verdict_in known target packet how (traffic rule trace)
 verdict-traffic rule known target packet None trace = refl
 verdict-traffic rule known target packet (Some how) trace = refl
 
@@ -95,7 +97,8 @@ join-traffic rule settings at p trace =
     ∙ ap (λ (x : Traffic). cond (nat_le (free p.link trace) at) x (traffic rule (arrived p ∷ trace))) (traffic-cons rule (started (start_at settings p.link p at)) (arrived p ∷ trace))
     ∙ ap (λ (x : Traffic). cond (nat_le (free p.link trace) at) (after_event rule (started (start_at settings p.link p at)) x) x) (traffic-cons rule (arrived p) trace)
 
-after_verdict-traffic : (rule : Rule) (settings : Settings) (at : ℕ) (packet : Packet) (v : Verdict) (trace : List Event) → traffic rule (after_verdict settings at packet v trace) ≡ after_verdict_in rule settings at packet v (traffic rule trace)
+after_verdict-traffic : (rule : Rule) (settings : Settings) (at : ℕ) (packet : Packet) (v : Verdict) (trace : List Event)
+    → traffic rule (after_verdict settings at packet v trace) ≡ after_verdict_in rule settings at packet v (traffic rule trace)
 after_verdict-traffic rule settings at packet no_target trace = refl
 after_verdict-traffic rule settings at packet (loses link flow) trace = traffic-cons rule (lost link flow) trace
 after_verdict-traffic rule settings at packet (refuses link flow) trace = traffic-cons rule (refused link flow) trace
@@ -105,23 +108,27 @@ after_verdict-traffic rule settings at packet (takes link flow how) trace =
 
 -- ---- Commands
 
-discard_reached-traffic : (rule : Rule) (command : Command) (flow : ℕ) (known : List FlowKey) (trace : List Event) → traffic rule (discard_reached command flow known trace) ≡ discard_reached_in rule command flow known (traffic rule trace)
+discard_reached-traffic : (rule : Rule) (command : Command) (flow : ℕ) (known : List FlowKey) (trace : List Event)
+    → traffic rule (discard_reached command flow known trace) ≡ discard_reached_in rule command flow known (traffic rule trace)
 discard_reached-traffic rule command flow [] trace = refl
 discard_reached-traffic rule command flow (key ∷ known) trace =
     discard_reached-traffic rule command (flow + 1) known (cond (reaches command key) (discarded flow ∷ trace) trace)
     ∙ ap (λ (x : Traffic). discard_reached_in rule command (flow + 1) known x)
     (traffic-cond rule (reaches command key) (discarded flow ∷ trace) trace ∙ ap (λ (x : Traffic). cond (reaches command key) x (traffic rule trace)) (traffic-cons rule (discarded flow) trace))
 
-after_command-traffic : (rule : Rule) (r : Reply) (command : Command) (known : List FlowKey) (trace : List Event) → traffic rule (after_command r command known trace) ≡ after_command_in rule r command known (traffic rule trace)
+after_command-traffic : (rule : Rule) (r : Reply) (command : Command) (known : List FlowKey) (trace : List Event)
+    → traffic rule (after_command r command known trace) ≡ after_command_in rule r command known (traffic rule trace)
 after_command-traffic rule Deleted command known trace = discard_reached-traffic rule command 0 known trace
 after_command-traffic rule _ command known trace = refl
 
 -- ---- One call
 
-command-step : (rule : Rule) (calls : List Call) (command : Command) → queue_numbers (Configure command ∷ calls) ≡ queue_numbers_after command (queue_numbers calls) → standing_of_counted rule (Configure command ∷ calls) ≡ counted_step rule (standing_of_counted rule calls) (Configure command)
+command-step : (rule : Rule) (calls : List Call) (command : Command) → queue_numbers (Configure command ∷ calls) ≡ queue_numbers_after command (queue_numbers calls)
+    → standing_of_counted rule (Configure command ∷ calls) ≡ counted_step rule (standing_of_counted rule calls) (Configure command)
 command-step rule calls command e = λ i. record (standing_of_counted rule (Configure command ∷ calls)) { queue_numbers = e i; traffic = after_command-traffic rule (reply_to_command calls command) command (keys calls) (trace_of calls) i }
 
-submit-traffic : (rule : Rule) (calls : List Call) (target : Target) (packet : Packet) (moment : ℕ) → traffic rule (trace_of (Submit target packet moment ∷ calls)) ≡ (counted_step rule (standing_of_counted rule calls) (Submit target packet moment)).traffic
+submit-traffic : (rule : Rule) (calls : List Call) (target : Target) (packet : Packet) (moment : ℕ)
+    → traffic rule (trace_of (Submit target packet moment ∷ calls)) ≡ (counted_step rule (standing_of_counted rule calls) (Submit target packet moment)).traffic
 submit-traffic rule calls target packet moment =
     let at = max (effective_moment calls) moment in
     let before = settled (settings calls) at (trace_of calls) in
@@ -167,7 +174,8 @@ counted_reply-standing rule calls (Submit target packet moment) =
     ∙ ap (λ (v : Verdict). verdict_reply_in at v (traffic rule before)) (verdict-traffic rule (keys calls) target packet how before)
     ∙ ap (λ (x : Traffic). verdict_reply_in at (verdict_in (keys calls) target packet how x) x) (settled-traffic rule (settings calls) at (trace_of calls))
 counted_reply-standing rule calls (Advance moment) = refl
-counted_reply-standing rule calls (Collect moment) = let at = max (effective_moment calls) moment in ap (λ (x : Traffic). Delivered at (filter (λ d. nat_le d.due at) x.undelivered)) (settled-traffic rule (settings calls) at (trace_of calls))
+counted_reply-standing rule calls (Collect moment) = let at = max (effective_moment calls) moment in
+    ap (λ (x : Traffic). Delivered at (filter (λ d. nat_le d.due at) x.undelivered)) (settled-traffic rule (settings calls) at (trace_of calls))
 counted_reply-standing rule calls Show = ap Status (statuses-traffic rule 0 (keys calls) (trace_of calls))
 
 -- ---- The limit of calls
@@ -223,7 +231,8 @@ reply-standing rule calls c = ⊎_elim (λ full. at_limit full.1) (λ below. bel
         ∙ ap (λ (s : Standing). step_reply rule s c) (sym e)
 
 -- Where two lists of calls leave the emulator the same, so does one call more, and its reply is the same.
-pub replies-by-standing : (rule : Rule) (calls others : List Call) → standing rule calls ≡ standing rule others → (c : Call) → (reply rule calls c ≡ reply rule others c) × (standing rule (c ∷ calls) ≡ standing rule (c ∷ others))
+pub replies-by-standing : (rule : Rule) (calls others : List Call) → standing rule calls ≡ standing rule others
+    → (c : Call) → (reply rule calls c ≡ reply rule others c) × (standing rule (c ∷ calls) ≡ standing rule (c ∷ others))
 replies-by-standing rule calls others same c = (
   reply-standing rule calls c ∙ ap (λ (s : Standing). step_reply rule s c) same ∙ sym (reply-standing rule others c),
   standing-cons rule calls c ∙ ap (λ (s : Standing). step rule s c) same ∙ sym (standing-cons rule others c),

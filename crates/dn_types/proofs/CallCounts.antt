@@ -35,7 +35,8 @@ module _ (p : Event → Bool) (no_opening : (l : Link) → p (opened l) ≡ fals
   settle-count zero set at trace = refl
   settle-count (suc most) set at trace = step (first_start set at (links trace) trace) (λ t. settle-count most set at t)
     where
-      step : (o : Option Start) → ((t : List Event) → count_by p (settle most set at t) ≡ count_by p t) → count_by p (elim o as (λ _. List Event) [ None ↦ trace | Some s ↦ settle most set at (started s ∷ trace) ]) ≡ count_by p trace
+      step : (o : Option Start) → ((t : List Event) → count_by p (settle most set at t) ≡ count_by p t)
+          → count_by p (elim o as (λ _. List Event) [ None ↦ trace | Some s ↦ settle most set at (started s ∷ trace) ]) ≡ count_by p trace
       step None rest = refl
       step (Some s) rest = rest (started s ∷ trace) ∙ count-none (started s) trace (no_start s)
 
@@ -47,7 +48,8 @@ module _ (p : Event → Bool) (no_opening : (l : Link) → p (opened l) ≡ fals
   join-count set at q trace = by (nat_le (free q.link trace) at)
     where
       by : (b : Bool) → count_by p (cond b (started (start_at set q.link q at) ∷ arrived q ∷ trace) (arrived q ∷ trace)) ≤ count_by p trace + 1
-      by true = let one = count-one (arrived q) trace in let none = count-none (started (start_at set q.link q at)) (arrived q ∷ trace) (no_start (start_at set q.link q at)) in omega (arith, one, none)
+      by true = let one = count-one (arrived q) trace in
+          let none = count-none (started (start_at set q.link q at)) (arrived q ∷ trace) (no_start (start_at set q.link q at)) in omega (arith, one, none)
       by false = count-one (arrived q) trace
 
   pub opened-count : (b : Bool) (link : Link) (trace : List Event) → count_by p (cond b (opened link ∷ trace) trace) ≡ count_by p trace

@@ -116,7 +116,8 @@ module _ (calls : List Call) (target : Target) (packet : Packet) (moment : ℕ) 
       more calls submit (opened link) new h (subst (λ (t : List Event). (free link t ≤ effective_moment (Submit target packet moment ∷ calls)) × (waiting link t ≡ 0)) h.1 (idle refl))
   comes-opened false link new idle h = h
 
-  is-idle : (link : Link) (at : ℕ) → at ≡ effective_moment (Submit target packet moment ∷ calls) → (nat_eq (waiting link (trace_of (Advance moment ∷ calls))) 0 && nat_le (free link (trace_of (Advance moment ∷ calls))) at) ≡ true →
+  is-idle : (link : Link) (at : ℕ) → at ≡ effective_moment (Submit target packet moment ∷ calls)
+      → (nat_eq (waiting link (trace_of (Advance moment ∷ calls))) 0 && nat_le (free link (trace_of (Advance moment ∷ calls))) at) ≡ true →
       (free link (trace_of (Advance moment ∷ calls)) ≤ effective_moment (Submit target packet moment ∷ calls)) × (waiting link (trace_of (Advance moment ∷ calls)) ≡ 0)
   is-idle link at same e =
       let soon : nat_le (free link before) at ≡ true = and-right (nat_eq (waiting link before) 0) (nat_le (free link before) at) e in
@@ -129,7 +130,8 @@ module _ (calls : List Call) (target : Target) (packet : Packet) (moment : ℕ) 
   opened-count true link t = refl
   opened-count false link t = refl
 
-  comes-verdict : (set : Settings) (at : ℕ) → at ≡ effective_moment (Submit target packet moment ∷ calls) → (v : Verdict) → verdict calls target packet (trace_of (Advance moment ∷ calls)) ≡ v → AddsTo (trace_of (Advance moment ∷ calls)) →
+  comes-verdict : (set : Settings) (at : ℕ) → at ≡ effective_moment (Submit target packet moment ∷ calls) → (v : Verdict)
+      → verdict calls target packet (trace_of (Advance moment ∷ calls)) ≡ v → AddsTo (trace_of (Advance moment ∷ calls)) →
       AddsTo (after_verdict set at packet v (trace_of (Advance moment ∷ calls)))
   comes-verdict set at now_is no_target is h = h
   comes-verdict set at now_is (loses link flow) is h = more calls submit (lost link flow) before h tt

@@ -24,7 +24,8 @@ module _ (number : ℕ) where
   abbrev is-it : Accepted → Bool
   is-it q = nat_eq q.packet number
 
-  count-cons : (q : Accepted) (qs : List Accepted) → count_by (λ (x : Accepted). nat_eq x.packet number) (q ∷ qs) ≡ cond (nat_eq q.packet number) 1 0 + count_by (λ (x : Accepted). nat_eq x.packet number) qs
+  count-cons : (q : Accepted) (qs : List Accepted)
+      → count_by (λ (x : Accepted). nat_eq x.packet number) (q ∷ qs) ≡ cond (nat_eq q.packet number) 1 0 + count_by (λ (x : Accepted). nat_eq x.packet number) qs
   count-cons q qs = sum_by-cons (λ (x : Accepted). cond (nat_eq x.packet number) 1 0) q qs
 
   count-push : (qs : List Accepted) (q : Accepted) → count_by is-it (qs ++ q ∷ []) ≡ count_by is-it qs + cond (nat_eq q.packet number) 1 0

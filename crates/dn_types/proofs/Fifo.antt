@@ -42,7 +42,8 @@ module _ (link : Link) (flow : ℕ) where
   clear-more false acc ss q e = e
 
   -- The first packet of its backlog is so of the backlog that it is of.
-  pub own-first : (s : Start) (trace : List Event) → slice_get (backlog s.packet.link s.packet.stamped.flow trace) 0 ≡ Some s.packet → is_of link flow s.packet ≡ true → slice_get (backlog link flow trace) 0 ≡ Some s.packet
+  pub own-first : (s : Start) (trace : List Event) → slice_get (backlog s.packet.link s.packet.stamped.flow trace) 0 ≡ Some s.packet
+      → is_of link flow s.packet ≡ true → slice_get (backlog link flow trace) 0 ≡ Some s.packet
   own-first s trace first e =
       let l = link_eq-true s.packet.link link (and-left _ (nat_eq s.packet.stamped.flow flow) e) in
       let f = eqb-true s.packet.stamped.flow flow (and-right _ (nat_eq s.packet.stamped.flow flow) e) in

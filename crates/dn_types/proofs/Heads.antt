@@ -19,7 +19,8 @@ module _ (flow : ℕ) where
   append (x ∷ xs) ys = by (mine x.stamped) (append xs ys)
     where
       by : (b : Bool) → filter mine (stamped_of (xs ++ ys)) ≡ filter mine (stamped_of xs) ++ filter mine (stamped_of ys) →
-          cond b (x.stamped ∷ filter mine (stamped_of (xs ++ ys))) (filter mine (stamped_of (xs ++ ys))) ≡ cond b (x.stamped ∷ filter mine (stamped_of xs)) (filter mine (stamped_of xs)) ++ filter mine (stamped_of ys)
+          cond b (x.stamped ∷ filter mine (stamped_of (xs ++ ys))) (filter mine (stamped_of (xs ++ ys)))
+          ≡ cond b (x.stamped ∷ filter mine (stamped_of xs)) (filter mine (stamped_of xs)) ++ filter mine (stamped_of ys)
       by true rest = ap (λ (hs : List Stamped). x.stamped ∷ hs) rest
       by false rest = rest
 
@@ -36,7 +37,8 @@ module _ (flow : ℕ) where
   module _ (q : ℕ → List Accepted) (own : (n : ℕ) → All (λ p. nat_eq p.stamped.flow n ≡ true) (q n)) where
     one-more : (n : ℕ) (hs : List Stamped) (b : Bool) → filter mine (stamped_of (heads n q)) ≡ hs → nat_eq n flow ≡ b →
         filter mine (stamped_of (heads (suc n) q)) ≡ hs ++ cond b (stamped_of (take 1 (q n))) []
-    one-more n hs b before e = append (heads n q) (take 1 (q n)) ∙ ap (λ (xs : List Stamped). xs ++ filter mine (stamped_of (take 1 (q n)))) before ∙ ap (λ (xs : List Stamped). hs ++ xs) (first n b (q n) e (own n))
+    one-more n hs b before e = append (heads n q) (take 1 (q n)) ∙ ap (λ (xs : List Stamped). xs ++ filter mine (stamped_of (take 1 (q n)))) before
+        ∙ ap (λ (xs : List Stamped). hs ++ xs) (first n b (q n) e (own n))
 
     none : (n : ℕ) → n ≤ flow → filter mine (stamped_of (heads n q)) ≡ []
     none zero low = refl
@@ -55,7 +57,8 @@ module _ (flow : ℕ) where
         same : nat_eq n flow ≡ true → n ≤ flow
         same e = grind (arith, nat_tests)
 
-        by : (b : Bool) → nat_eq n flow ≡ b → (flow < n → filter mine (stamped_of (heads n q)) ≡ stamped_of (take 1 (q flow))) → filter mine (stamped_of (heads (suc n) q)) ≡ stamped_of (take 1 (q flow))
+        by : (b : Bool) → nat_eq n flow ≡ b → (flow < n → filter mine (stamped_of (heads n q)) ≡ stamped_of (take 1 (q flow)))
+            → filter mine (stamped_of (heads (suc n) q)) ≡ stamped_of (take 1 (q flow))
         by true e below = one-more n [] true (none n (same e)) e ∙ ap (λ m. stamped_of (take 1 (q m))) (eqb-true n flow e)
         by false e below = one-more n (stamped_of (take 1 (q flow))) false (below (lower e)) e ∙ append-nil (stamped_of (take 1 (q flow)))
 

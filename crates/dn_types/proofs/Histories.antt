@@ -16,7 +16,8 @@ reverse-cons : {X : Type 0} (x : X) (xs : List X) → reverse (x ∷ xs) ≡ rev
 reverse-cons x xs = reverse-append (x ∷ []) xs
 
 -- After some calls, the replies to a lawful history's calls are its replies.
-after : (rule : Rule) (calls : List Call) (history : List Entry) → IsLawfulAfter rule calls history → replies rule (reverse (map (λ e. e.call) history) ++ calls) ≡ reverse (map (λ e. e.reply) history) ++ replies rule calls
+after : (rule : Rule) (calls : List Call) (history : List Entry) → IsLawfulAfter rule calls history
+    → replies rule (reverse (map (λ e. e.call) history) ++ calls) ≡ reverse (map (λ e. e.reply) history) ++ replies rule calls
 after rule calls [] h = refl
 after rule calls (e ∷ history) h =
     ap (λ (cs : List Call). replies rule (cs ++ calls)) (reverse-cons e.call (map (λ x. x.call) history))
@@ -29,7 +30,8 @@ after rule calls (e ∷ history) h =
 pub lawful-replies : (rule : Rule) (history : List Entry) → IsLawful rule history → replies rule (calls_of history) ≡ reverse (map (λ e. e.reply) history)
 lawful-replies rule history h = ap (replies rule) (sym (append-nil (calls_of history))) ∙ after rule [] history h ∙ append-nil (reverse (map (λ e. e.reply) history))
 
-pub own-entries-grow : (caller : ℕ) (history : List Entry) (e : Entry) → own_entries caller (history ++ e ∷ []) ≡ cond (nat_eq e.caller caller) (own_entries caller history ++ e ∷ []) (own_entries caller history)
+pub own-entries-grow : (caller : ℕ) (history : List Entry) (e : Entry)
+    → own_entries caller (history ++ e ∷ []) ≡ cond (nat_eq e.caller caller) (own_entries caller history ++ e ∷ []) (own_entries caller history)
 own-entries-grow caller history e = filter-append (λ x. nat_eq x.caller caller) history (e ∷ []) ∙ by (nat_eq e.caller caller)
   where
     by : (b : Bool) → own_entries caller history ++ cond b (e ∷ []) [] ≡ cond b (own_entries caller history ++ e ∷ []) (own_entries caller history)
@@ -40,7 +42,8 @@ own-entries-grow caller history e = filter-append (λ x. nat_eq x.caller caller)
 pub calls_of-more : (history : List Entry) (e : Entry) → calls_of (history ++ e ∷ []) ≡ e.call ∷ calls_of history
 calls_of-more history e = ap reverse (map-append (λ (x : Entry). x.call) history (e ∷ [])) ∙ reverse-append (map (λ x. x.call) history) (e.call ∷ [])
 
-lawful-after : (rule : Rule) (calls : List Call) (history : List Entry) (e : Entry) → IsLawfulAfter rule calls history → e.reply ≡ reply rule (calls_of history ++ calls) e.call → IsLawfulAfter rule calls (history ++ e ∷ [])
+lawful-after : (rule : Rule) (calls : List Call) (history : List Entry) (e : Entry) → IsLawfulAfter rule calls history
+    → e.reply ≡ reply rule (calls_of history ++ calls) e.call → IsLawfulAfter rule calls (history ++ e ∷ [])
 lawful-after rule calls [] e lawful is = (is, tt)
 lawful-after rule calls (x ∷ history) e lawful is = (
   lawful.0,

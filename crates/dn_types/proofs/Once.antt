@@ -72,8 +72,10 @@ module _ (n : ℕ) where
   -- An event that is no arrival and no start of the packet, and after which no more wait.
   quiet : (e : Event) (trace : List Event) → is_start_with n e ≡ false → is_arrival e ≡ false → ((l : Link) (f : ℕ) → waits l f (e ∷ trace) ≤ waits l f trace) → AtMost trace → AtMost (e ∷ trace)
   quiet e trace no_start no_arrival fewer h l f m g =
-      let starts : start_count n (e ∷ trace) ≡ start_count n trace = let c = count-event (is_start_with n) e trace in let z : cond {A = ℕ} (is_start_with n e) 1 0 ≡ 0 = ap {B = ℕ} (λ b. cond b 1 0) no_start in omega arith in
-      let arrivals : accepted_count (e ∷ trace) ≡ accepted_count trace = let c = count-event is_arrival e trace in let z : cond {A = ℕ} (is_arrival e) 1 0 ≡ 0 = ap {B = ℕ} (λ b. cond b 1 0) no_arrival in omega arith in
+      let starts : start_count n (e ∷ trace) ≡ start_count n trace = let c = count-event (is_start_with n) e trace in
+      let z : cond {A = ℕ} (is_start_with n e) 1 0 ≡ 0 = ap {B = ℕ} (λ b. cond b 1 0) no_start in omega arith in
+      let arrivals : accepted_count (e ∷ trace) ≡ accepted_count trace = let c = count-event is_arrival e trace in
+      let z : cond {A = ℕ} (is_arrival e) 1 0 ≡ 0 = ap {B = ℕ} (λ b. cond b 1 0) no_arrival in omega arith in
       let bound : most (e ∷ trace) ≡ most trace = ap {B = ℕ} (λ k. cond (nat_lt n k) 1 0) arrivals in
       let here = fewer l f in
       let there = less (link_eq l m && nat_eq f g) (waits m g (e ∷ trace)) (waits m g trace) (fewer m g) in

@@ -70,11 +70,13 @@ of-own p = both _ _ (link_eq-refl p.link) same
     both true b e f = f
     both false b e f = absurd cc
 
-join-proper : (set : Settings) (at : ℕ) (p : Accepted) (trace : List Event) → p.packet ≡ accepted_count trace → IsProper trace → (free p.link trace ≤ at → backlog p.link p.stamped.flow trace ≡ []) → IsProper (join set at p trace)
+join-proper : (set : Settings) (at : ℕ) (p : Accepted) (trace : List Event) → p.packet ≡ accepted_count trace
+    → IsProper trace → (free p.link trace ≤ at → backlog p.link p.stamped.flow trace ≡ []) → IsProper (join set at p trace)
 join-proper set at p trace number h empty = by (nat_le (free p.link trace) at) refl
   where
     by : (b : Bool) → nat_le (free p.link trace) at ≡ b → IsProper (cond b (started (start_at set p.link p at) ∷ arrived p ∷ trace) (arrived p ∷ trace))
-    by true e = let soon : free p.link trace ≤ at = grind (arith, nat_tests) in (one-first p.link p.stamped.flow p (is_of p.link p.stamped.flow p) (backlog p.link p.stamped.flow trace) (of-own p) (empty soon), soon, (number, h))
+    by true e = let soon : free p.link trace ≤ at = grind (arith, nat_tests) in
+        (one-first p.link p.stamped.flow p (is_of p.link p.stamped.flow p) (backlog p.link p.stamped.flow trace) (of-own p) (empty soon), soon, (number, h))
     by false e = (number, h)
 
 pub opened-proper : (b : Bool) (link : Link) (trace : List Event) → IsProper trace → IsProper (cond b (opened link ∷ trace) trace)
@@ -89,7 +91,8 @@ pub opened-backlog : (b : Bool) (l link : Link) (flow : ℕ) (trace : List Event
 opened-backlog true l link flow trace = refl
 opened-backlog false l link flow trace = refl
 
-verdict-proper : (set : Settings) (at : ℕ) (packet : Packet) (v : Verdict) (trace : List Event) → GoesHome v → IsProper trace → ((link : Link) → next_start set at link trace ≡ None) → IsProper (after_verdict set at packet v trace)
+verdict-proper : (set : Settings) (at : ℕ) (packet : Packet) (v : Verdict) (trace : List Event) → GoesHome v
+    → IsProper trace → ((link : Link) → next_start set at link trace ≡ None) → IsProper (after_verdict set at packet v trace)
 verdict-proper set at packet no_target trace home h ends = h
 verdict-proper set at packet (loses link flow) trace home h ends = h
 verdict-proper set at packet (refuses link flow) trace home h ends = h

@@ -69,7 +69,8 @@ module _ (chosen : Choice) where
   settings-on (Collect moment ∷ calls) = (λ i t. settings (calls_on chosen calls) t) ∙ settings-on calls ∙ (λ i t. settings calls t)
   settings-on (Show ∷ calls) = (λ i t. settings (calls_on chosen calls) t) ∙ settings-on calls ∙ (λ i t. settings calls t)
 
-  moment-submit : (target : Target) (packet : Packet) (moment : ℕ) (b : Bool) (cs : List Call) → effective_moment (cond b (Submit target packet moment) (Advance moment) ∷ cs) ≡ max (effective_moment cs) moment
+  moment-submit : (target : Target) (packet : Packet) (moment : ℕ) (b : Bool) (cs : List Call)
+      → effective_moment (cond b (Submit target packet moment) (Advance moment) ∷ cs) ≡ max (effective_moment cs) moment
   moment-submit target packet moment true cs = refl
   moment-submit target packet moment false cs = refl
 
@@ -97,7 +98,8 @@ module _ (chosen : Choice) where
   any-keys key [] on = refl
   any-keys key (k ∷ known) on = by (is-on k) refl (any-keys key known on)
     where
-      by : (b : Bool) → is-on k ≡ b → list_any (key_eq key) (keys-of known) ≡ list_any (key_eq key) known → list_any (key_eq key) (cond b (k ∷ keys-of known) (keys-of known)) ≡ (key_eq key k || list_any (key_eq key) known)
+      by : (b : Bool) → is-on k ≡ b → list_any (key_eq key) (keys-of known) ≡ list_any (key_eq key) known
+          → list_any (key_eq key) (cond b (k ∷ keys-of known) (keys-of known)) ≡ (key_eq key k || list_any (key_eq key) known)
       by true e rest = ap (λ b. key_eq key k || b) rest
       by false e rest =
           let other : key_eq key k ≡ false = false-if (key_eq key k) (λ same. let t : true ≡ false = sym on ∙ ap (λ (x : FlowKey). is-on x) (key_eq-true key k same) ∙ e in cc) in
@@ -208,7 +210,8 @@ module _ (chosen : Choice) where
   IsFlowOf mine known target packet None = ⊤
   IsFlowOf mine known target packet (Some how) = mine (flow_number known (key_of target packet.tuple how)) ≡ is-on (key_of target packet.tuple how)
 
-  pub flow-of : (mine : ℕ → Bool) (known : List FlowKey) (target : Target) (packet : Packet) (o : Option Treatment) → IsKeyed mine (keys_with target packet.tuple o known) → IsFlowOf mine known target packet o
+  pub flow-of : (mine : ℕ → Bool) (known : List FlowKey) (target : Target) (packet : Packet) (o : Option Treatment)
+      → IsKeyed mine (keys_with target packet.tuple o known) → IsFlowOf mine known target packet o
   flow-of mine known target packet None h = tt
   flow-of mine known target packet (Some how) h =
       let key = key_of target packet.tuple how in
@@ -239,7 +242,8 @@ module _ (chosen : Choice) where
     taken-settle taken zero set at t h = h
     taken-settle taken (suc most) set at t h = step (first_start set at (links t) t) (λ x. taken-settle taken most set at (started x ∷ t) h)
       where
-        step : (o : Option Start) → ((x : Start) → AreTaken taken (settle most set at (started x ∷ t))) → AreTaken taken (elim o as (λ _. List Event) [ None ↦ t | Some s ↦ settle most set at (started s ∷ t) ])
+        step : (o : Option Start) → ((x : Start) → AreTaken taken (settle most set at (started x ∷ t)))
+            → AreTaken taken (elim o as (λ _. List Event) [ None ↦ t | Some s ↦ settle most set at (started s ∷ t) ])
         step None rest = h
         step (Some s) rest = rest s
 
@@ -348,9 +352,11 @@ module _ (chosen : Choice) where
     count-on [] h a = refl
     count-on (opened l ∷ t) h a = count-skip (is_link_on chosen mine l) (opened (link-on l)) (part-on t) refl ∙ count-on t h a ∙ sym (ap (place taken) (count-same (opened l) t refl))
     count-on (arrived q ∷ t) h a = count-arrived q t h.0 a.0 (count-on t h.1 a.1)
-    count-on (started s ∷ t) h a = count-skip (is_link_on chosen mine s.packet.link) (started (start' chosen mine taken s)) (part-on t) refl ∙ count-on t h.2 a ∙ sym (ap (place taken) (count-same (started s) t refl))
+    count-on (started s ∷ t) h a = count-skip (is_link_on chosen mine s.packet.link) (started (start' chosen mine taken s)) (part-on t) refl
+        ∙ count-on t h.2 a ∙ sym (ap (place taken) (count-same (started s) t refl))
     count-on (lost l f ∷ t) h a = count-skip (is_link_on chosen mine l) (lost (link-on l) (place mine f)) (part-on t) refl ∙ count-on t h a ∙ sym (ap (place taken) (count-same (lost l f) t refl))
-    count-on (refused l f ∷ t) h a = count-skip (is_link_on chosen mine l) (refused (link-on l) (place mine f)) (part-on t) refl ∙ count-on t h a ∙ sym (ap (place taken) (count-same (refused l f) t refl))
+    count-on (refused l f ∷ t) h a = count-skip (is_link_on chosen mine l) (refused (link-on l) (place mine f)) (part-on t) refl
+        ∙ count-on t h a ∙ sym (ap (place taken) (count-same (refused l f) t refl))
     count-on (discarded f ∷ t) h a = count-skip (mine f) (discarded (place mine f)) (part-on t) refl ∙ count-on t h a ∙ sym (ap (place taken) (count-same (discarded f) t refl))
     count-on (collected m ∷ t) h a = count-same (collected m) (part-on t) refl ∙ count-on t h a ∙ sym (ap (place taken) (count-same (collected m) t refl))
 
@@ -386,7 +392,8 @@ module _ (chosen : Choice) where
     link-is (ToPipe n) flow carrier = refl
     link-is (ToQueue n) flow carrier = refl
 
-    pub verdict-fit : (known : List FlowKey) (target : Target) (packet : Packet) (o : Option Treatment) (t : List Event) → IsFlowOf mine known target packet o → IsVerdictFit (verdict_by known target packet o t)
+    pub verdict-fit : (known : List FlowKey) (target : Target) (packet : Packet) (o : Option Treatment) (t : List Event)
+        → IsFlowOf mine known target packet o → IsVerdictFit (verdict_by known target packet o t)
     verdict-fit known target packet None t h = tt
     verdict-fit known target packet (Some how) t h =
         let flow = flow_number known (key_of target packet.tuple how) in
@@ -398,7 +405,8 @@ module _ (chosen : Choice) where
         by l f h false true = h
         by l f h false false = h
 
-    pub verdict-at : (known : List FlowKey) (target : Target) (packet : Packet) (o : Option Treatment) (t : List Event) (b : Bool) → IsFlowOf mine known target packet o → is_carried chosen target packet.tuple o ≡ b → IsAt b (verdict_by known target packet o t)
+    pub verdict-at : (known : List FlowKey) (target : Target) (packet : Packet) (o : Option Treatment) (t : List Event) (b : Bool)
+        → IsFlowOf mine known target packet o → is_carried chosen target packet.tuple o ≡ b → IsAt b (verdict_by known target packet o t)
     verdict-at known target packet None t b is h = tt
     verdict-at known target packet (Some how) t b is h =
         let flow = flow_number known (key_of target packet.tuple how) in
@@ -410,7 +418,8 @@ module _ (chosen : Choice) where
         by l f h false true = h
         by l f h false false = h
 
-    pub verdict-part : (known : List FlowKey) (target : Target) (packet : Packet) (o : Option Treatment) (t : List Event) → IsKeyed mine known → IsFlowOf mine known target packet o → is_carried chosen target packet.tuple o ≡ true → AreFitHere t →
+    pub verdict-part : (known : List FlowKey) (target : Target) (packet : Packet) (o : Option Treatment) (t : List Event)
+        → IsKeyed mine known → IsFlowOf mine known target packet o → is_carried chosen target packet.tuple o ≡ true → AreFitHere t →
         verdict_by (keys-of known) target packet o (part-on t) ≡ verdict-on (verdict_by known target packet o t)
     verdict-part known target packet None t keyed h on fit = absurd cc
     verdict-part known target packet (Some how) t keyed h on fit =
@@ -453,11 +462,13 @@ module _ (chosen : Choice) where
       opening-fit true l t h = h
       opening-fit false l t h = h
 
-      accept-part : (l : Link) (packet : Packet) (f : ℕ) (how : Treatment) (t : List Event) → is_link_on chosen mine l ≡ true → IsFitHere l f → AreFitHere t → accepted_count (part-on t) ≡ place taken (accepted_count t) →
+      accept-part : (l : Link) (packet : Packet) (f : ℕ) (how : Treatment) (t : List Event) → is_link_on chosen mine l ≡ true
+          → IsFitHere l f → AreFitHere t → accepted_count (part-on t) ≡ place taken (accepted_count t) →
           accept (link-on l) packet (place mine f) how (part-on t) ≡ accepted-on (accept l packet f how t)
       accept-part l packet f how t on fit h count =
           let hf = fit ∙ on in
-          let lens : length (backlog (link-on l) (place mine f) (part-on t)) ≡ length (backlog l f t) = ap (λ (ps : List Accepted). length ps) (backlog-part chosen mine taken l on f hf t h) ∙ lengths (backlog l f t) in
+          let lens : length (backlog (link-on l) (place mine f) (part-on t)) ≡ length (backlog l f t) =
+          ap (λ (ps : List Accepted). length ps) (backlog-part chosen mine taken l on f hf t h) ∙ lengths (backlog l f t) in
           let tag = last_finish_tag-part chosen mine taken l on f hf t h in
           let v = virtual_time-part chosen mine taken l on t h in
           λ i. record { packet = count i; link = link-on l; stamped = record { flow = place mine f; len = packet.len; weight = how.weight; start_tag = start_tag_on_arrival (nat_eq (lens i) 0) (tag i) (v i); finish_tag = start_tag_on_arrival (nat_eq (lens i) 0) (tag i) (v i) + scaled packet.len how.weight } }
@@ -551,7 +562,8 @@ module _ (chosen : Choice) where
         next = omega arith
 
         by : (b : Bool) → is-on key ≡ b → (c : Bool) →
-            discard_reached command (place mine from) (cond b (key ∷ keys-of known) (keys-of known)) (part-on t) ≡ discard_reached command (place mine (from + 1)) (keys-of known) (part-on (cond (reaches command key) (discarded from ∷ t) t))
+            discard_reached command (place mine from) (cond b (key ∷ keys-of known) (keys-of known)) (part-on t)
+            ≡ discard_reached command (place mine (from + 1)) (keys-of known) (part-on (cond (reaches command key) (discarded from ∷ t) t))
         by true e c =
             let more : place mine from + 1 ≡ place mine (from + 1) = let one = ap (place mine) next in let two = place-more mine from (h.0 ∙ e) in omega (arith, one, two) in
             λ i. discard_reached command (more i) (keys-of known) (cleared (reaches command key) i)
@@ -575,7 +587,8 @@ module _ (chosen : Choice) where
         by true = h
         by false = h
 
-    command-part : (r : Reply) (command : Command) (known : List FlowKey) (t : List Event) → IsKeyed mine known → after_command r command (keys-of known) (part-on t) ≡ part-on (after_command r command known t)
+    command-part : (r : Reply) (command : Command) (known : List FlowKey) (t : List Event) → IsKeyed mine known
+        → after_command r command (keys-of known) (part-on t) ≡ part-on (after_command r command known t)
     command-part Deleted command known t h = discard-part command 0 known t (keyed-from 0 known (λ f key e. let same : 0 + f ≡ f = omega arith in ap mine same ∙ h f key e))
     command-part _ command known t h = refl
 
@@ -600,7 +613,8 @@ module _ (chosen : Choice) where
 
     -- A settling before a call.
     pub settled-on : (calls : List Call) (moment : ℕ) → IsKeyed mine (keys calls) → trace_of (calls_on chosen calls) ≡ part-on (trace_of calls) →
-        settled (settings (calls_on chosen calls)) (max (effective_moment (calls_on chosen calls)) moment) (trace_of (calls_on chosen calls)) ≡ part-on (settled (settings calls) (max (effective_moment calls) moment) (trace_of calls))
+        settled (settings (calls_on chosen calls)) (max (effective_moment (calls_on chosen calls)) moment) (trace_of (calls_on chosen calls))
+        ≡ part-on (settled (settings calls) (max (effective_moment calls) moment) (trace_of calls))
     settled-on calls moment k same =
         let s = settings-on calls in
         let m = moment-on calls in

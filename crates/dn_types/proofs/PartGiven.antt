@@ -176,7 +176,8 @@ module _ (chosen : Choice) (mine taken : ℕ → Bool) where
       by true e rest = All-cons IsOn d (filter is-mine ds) (e, h 0 d (omega arith) e) rest
       by false e rest = rest
 
-  filter-map : (at : ℕ) (later : Bool) (ds : List Delivery) → filter (λ d. cond later (nat_lt at d.due) (nat_le d.due at)) (map delivery-on ds) ≡ map delivery-on (filter (λ d. cond later (nat_lt at d.due) (nat_le d.due at)) ds)
+  filter-map : (at : ℕ) (later : Bool) (ds : List Delivery) → filter (λ d. cond later (nat_lt at d.due) (nat_le d.due at)) (map delivery-on ds)
+      ≡ map delivery-on (filter (λ d. cond later (nat_lt at d.due) (nat_le d.due at)) ds)
   filter-map at later [] = refl
   filter-map at later (d ∷ ds) = by (cond later (nat_lt at d.due) (nat_le d.due at)) (filter-map at later ds)
     where
@@ -217,7 +218,8 @@ module _ (chosen : Choice) (mine taken : ℕ → Bool) where
   first-numbered p [] e all = absurd cc
   first-numbered p (r ∷ ps) e all = let same : r ≡ p = cc in subst IsNumbered same (all 0 r (omega arith))
 
-  start-taken : (s : Start) (t : List Event) → IsFit chosen mine taken s.packet.link s.packet.stamped.flow → AreTaken chosen mine taken t → slice_get (backlog s.packet.link s.packet.stamped.flow t) 0 ≡ Some s.packet →
+  start-taken : (s : Start) (t : List Event) → IsFit chosen mine taken s.packet.link s.packet.stamped.flow
+      → AreTaken chosen mine taken t → slice_get (backlog s.packet.link s.packet.stamped.flow t) 0 ≡ Some s.packet →
       mine s.packet.stamped.flow ≡ true → taken s.packet.packet ≡ true
   start-taken s t fit all first e =
       first-numbered s.packet (backlog s.packet.link s.packet.stamped.flow t) first (backlog-numbered s.packet.link s.packet.stamped.flow t all) ∙ sym fit ∙ e
@@ -236,14 +238,16 @@ module _ (chosen : Choice) (mine taken : ℕ → Bool) where
   -- ---- What is still to be given
 
   started-part : (rule : Rule) (s : Start) (t : List Event) → IsFit chosen mine taken s.packet.link s.packet.stamped.flow → AreFit chosen mine taken t → AreTaken chosen mine taken t →
-      slice_get (backlog s.packet.link s.packet.stamped.flow t) 0 ≡ Some s.packet → All IsTaken (undelivered rule t) → undelivered rule (part-on t) ≡ map delivery-on (filter is-mine (undelivered rule t)) →
+      slice_get (backlog s.packet.link s.packet.stamped.flow t) 0 ≡ Some s.packet → All IsTaken (undelivered rule t)
+      → undelivered rule (part-on t) ≡ map delivery-on (filter is-mine (undelivered rule t)) →
       undelivered rule (part-on (started s ∷ t)) ≡ map delivery-on (filter is-mine (undelivered rule (started s ∷ t)))
   started-part rule s t fit all tk first everyone rest = by (is_link_on chosen mine s.packet.link) refl
     where
       d : Delivery
       d = delivery_of rule s (last_due rule s.packet.link t)
 
-      by : (b : Bool) → is_link_on chosen mine s.packet.link ≡ b → undelivered rule (cond b (started (start' chosen mine taken s) ∷ part-on t) (part-on t)) ≡ map delivery-on (filter is-mine (in_order (delivery_of rule s (last_due rule s.packet.link t)) (undelivered rule t)))
+      by : (b : Bool) → is_link_on chosen mine s.packet.link ≡ b → undelivered rule (cond b (started (start' chosen mine taken s) ∷ part-on t) (part-on t))
+          ≡ map delivery-on (filter is-mine (in_order (delivery_of rule s (last_due rule s.packet.link t)) (undelivered rule t)))
       by true e =
           let last = last_due-part chosen mine taken s.packet.link e rule t all in
           let on : mine s.packet.stamped.flow ≡ true = fit ∙ e in
@@ -252,7 +256,8 @@ module _ (chosen : Choice) (mine taken : ℕ → Bool) where
           ∙ ap (map delivery-on) (sym (filter-in_order is-mine (delivery_of rule s (last_due rule s.packet.link t)) (undelivered rule t) (undelivered-sorted rule t) on))
       by false e = rest ∙ ap (map delivery-on) (sym (filter-out is-mine (delivery_of rule s (last_due rule s.packet.link t)) (undelivered rule t) (fit ∙ e)))
 
-  pub undelivered-part : (rule : Rule) (t : List Event) → AreFit chosen mine taken t → IsProper t → AreTaken chosen mine taken t → undelivered rule (part-on t) ≡ map delivery-on (filter is-mine (undelivered rule t))
+  pub undelivered-part : (rule : Rule) (t : List Event) → AreFit chosen mine taken t → IsProper t
+      → AreTaken chosen mine taken t → undelivered rule (part-on t) ≡ map delivery-on (filter is-mine (undelivered rule t))
   undelivered-part rule [] f h a = refl
   undelivered-part rule (opened l ∷ t) f h a = skip (undelivered rule) (is_link_on chosen mine l) (opened (link' chosen mine taken l)) (part-on t) refl ∙ undelivered-part rule t f h a
   undelivered-part rule (arrived q ∷ t) f h a = skip (undelivered rule) (is_link_on chosen mine q.link) (arrived (accepted' chosen mine taken q)) (part-on t) refl ∙ undelivered-part rule t f.1 h.1 a.1
@@ -261,8 +266,11 @@ module _ (chosen : Choice) (mine taken : ℕ → Bool) where
   undelivered-part rule (refused l g ∷ t) f h a = skip (undelivered rule) (is_link_on chosen mine l) (refused (link' chosen mine taken l) (place mine g)) (part-on t) refl ∙ undelivered-part rule t f.1 h a
   undelivered-part rule (discarded g ∷ t) f h a = skip (undelivered rule) (mine g) (discarded (place mine g)) (part-on t) refl ∙ undelivered-part rule t f h a
   undelivered-part rule (collected at ∷ t) f h a =
-      ap (filter (λ d. nat_lt at d.due)) (undelivered-part rule t f h a) ∙ filter-map at true (filter is-mine (undelivered rule t)) ∙ ap (map delivery-on) (sym (filter-both is-mine (λ d. nat_lt at d.due) (undelivered rule t)))
+      ap (filter (λ d. nat_lt at d.due)) (undelivered-part rule t f h a) ∙ filter-map at true (filter is-mine (undelivered rule t))
+      ∙ ap (map delivery-on) (sym (filter-both is-mine (λ d. nat_lt at d.due) (undelivered rule t)))
 
-  pub given-part : (rule : Rule) (at : ℕ) (t : List Event) → AreFit chosen mine taken t → IsProper t → AreTaken chosen mine taken t → given rule at (part-on t) ≡ map delivery-on (filter is-mine (given rule at t))
+  pub given-part : (rule : Rule) (at : ℕ) (t : List Event) → AreFit chosen mine taken t → IsProper t
+      → AreTaken chosen mine taken t → given rule at (part-on t) ≡ map delivery-on (filter is-mine (given rule at t))
   given-part rule at t f h a =
-      ap (filter (λ d. nat_le d.due at)) (undelivered-part rule t f h a) ∙ filter-map at false (filter is-mine (undelivered rule t)) ∙ ap (map delivery-on) (sym (filter-both is-mine (λ d. nat_le d.due at) (undelivered rule t)))
+      ap (filter (λ d. nat_le d.due at)) (undelivered-part rule t f h a) ∙ filter-map at false (filter is-mine (undelivered rule t))
+      ∙ ap (map delivery-on) (sym (filter-both is-mine (λ d. nat_le d.due at) (undelivered rule t)))

@@ -110,7 +110,8 @@ module _ (rule : Rule) (chosen : Choice) where
     pub settles : (m : ℕ) → clock ≤ m → settled (settings mine) m (trace_of mine) ≡ settled (settings whole) m (trace_of whole)
     pub told : replies rule mine ≡ filter is_told (replies rule whole)
 
-  behind-same : (calls : List Call) (mine : List Call) → mine ≡ less calls → replies rule (less calls) ≡ filter is_told (replies rule (less calls)) → IsBehind mine (less calls) (effective_moment calls)
+  behind-same : (calls : List Call) (mine : List Call) → mine ≡ less calls
+      → replies rule (less calls) ≡ filter is_told (replies rule (less calls)) → IsBehind mine (less calls) (effective_moment calls)
   behind-same calls mine e all =
       let m = moment-on chosen calls in
       record {

@@ -12,7 +12,8 @@ use Rattle.dn_types.specs.Parts.{Choice, is_carried, call_on, calls_on, place, i
 use Rattle.dn_types.specs.Replies.{status_of, statuses_from, reply_to_verdict, counted_reply, reply, replies}
 use Rattle.dn_types.specs.ReplyParts.{status_by, reply_by, reply_on}
 use Rattle.dn_types.specs.Starts.{settled}
-use Rattle.dn_types.specs.Trace.{Link, Accepted, Start, Event, opened, arrived, started, lost, refused, discarded, collected, backlog, is_loss_of, is_refusal_of, is_start_of, discarded_count, accepted_count}
+use Rattle.dn_types.specs.Trace.{Link, Accepted, Start, Event, opened, arrived, started, lost, refused}
+use Rattle.dn_types.specs.Trace.{discarded, collected, backlog, is_loss_of, is_refusal_of, is_start_of, discarded_count, accepted_count}
 use Rattle.dn_types.specs.declared.call.Call.{Call}
 use Rattle.dn_types.specs.declared.call.Call.TheVariants.{Configure, Submit, Advance, Collect, Show}
 use Rattle.dn_types.specs.declared.command.Command.{Command}
@@ -21,14 +22,16 @@ use Rattle.dn_types.specs.declared.flow_key.FlowKey.{FlowKey}
 use Rattle.dn_types.specs.declared.flow_status.FlowStatus.{FlowStatus}
 use Rattle.dn_types.specs.declared.packet.Packet.{Packet}
 use Rattle.dn_types.specs.declared.reply.Reply.{Reply}
-use Rattle.dn_types.specs.declared.reply.Reply.TheVariants.{Configured, NoSuchPipe, Deleted, PipeHasQueues, NoSuchQueue, Queued as ReplyQueued, Lost as ReplyLost, Full as ReplyFull, Advanced, Delivered, Status, Exhausted}
+use Rattle.dn_types.specs.declared.reply.Reply.TheVariants.{Configured, NoSuchPipe, Deleted, PipeHasQueues, NoSuchQueue, Queued as ReplyQueued}
+use Rattle.dn_types.specs.declared.reply.Reply.TheVariants.{Lost as ReplyLost, Full as ReplyFull, Advanced, Delivered, Status, Exhausted}
 use Rattle.dn_types.specs.declared.rule.Rule.{Rule}
 use Rattle.dn_types.specs.declared.target.Target.{Target}
 use Rattle.dn_types.specs.declared.target.Target.TheVariants.{Pipe as ToPipe, Queue as ToQueue}
 use Rattle.dn_types.proofs.Fifo.{IsProper}
 use Rattle.dn_types.proofs.Giving.{count-event}
 use Rattle.dn_types.proofs.Ordered.{trace-proper, settled-proper}
-use Rattle.dn_types.proofs.PartCalls.{is-on, keys-of, IsKeyed, AreTaken, IsVerdictFit, IsAt, IsKeyedFrom, queues-on, settings-on, moment-on, length-on, keys-on, keyed-before, keyed-from, keyed-all, flow-of, taken-before, taken-settled, all-taken, count-on, verdict-on, verdict-fit, verdict-at, verdict-part, link-fit, link-is, trace-fit, settled-on, calls-part}
+use Rattle.dn_types.proofs.PartCalls.{is-on, keys-of, IsKeyed, AreTaken, IsVerdictFit, IsAt, IsKeyedFrom, queues-on, settings-on, moment-on, length-on, keys-on, keyed-before, keyed-from, keyed-all}
+use Rattle.dn_types.proofs.PartCalls.{flow-of, taken-before, taken-settled, all-taken, count-on, verdict-on, verdict-fit, verdict-at, verdict-part, link-fit, link-is, trace-fit, settled-on, calls-part}
 use Rattle.dn_types.proofs.PartGiven.{given-part}
 use Rattle.dn_types.proofs.PartStarts.{settled-fit}
 use Rattle.dn_types.proofs.Parts.{IsFit, AreFit, link', accepted', apart-flow, backlog-part}
@@ -66,7 +69,8 @@ module _ (chosen : Choice) (mine taken : ℕ → Bool) where
             omega (arith, old, none, rest)
 
     count-part : ((l : Link) → Counts (opened l)) → ((q : Accepted) → Counts (arrived q)) → ((s : Start) → IsFit chosen mine taken s.packet.link s.packet.stamped.flow → Counts (started s)) →
-        ((l : Link) (g : ℕ) → IsFit chosen mine taken l g → Counts (lost l g)) → ((l : Link) (g : ℕ) → IsFit chosen mine taken l g → Counts (refused l g)) → ((g : ℕ) → Counts (discarded g)) → ((at : ℕ) → Counts (collected at)) →
+        ((l : Link) (g : ℕ) → IsFit chosen mine taken l g → Counts (lost l g)) → ((l : Link) (g : ℕ) → IsFit chosen mine taken l g → Counts (refused l g))
+        → ((g : ℕ) → Counts (discarded g)) → ((at : ℕ) → Counts (collected at)) →
         (t : List Event) → AreFitHere t → count_by Q (part-on t) ≡ count_by P t
     count-part o a s l r d c [] h = refl
     count-part o a s l r d c (opened k ∷ t) h = count-one (opened k) t (o k) (count-part o a s l r d c t h)
@@ -78,7 +82,8 @@ module _ (chosen : Choice) (mine taken : ℕ → Bool) where
     count-part o a s l r d c (collected m ∷ t) h = count-one (collected m) t (c m) (count-part o a s l r d c t h)
 
   module _ (f : ℕ) (hf : mine f ≡ true) where
-    told : (l : Link) (g : ℕ) → IsFit chosen mine taken l g → (is_link_on chosen mine l ≡ true → nat_eq (place mine g) (place mine f) ≡ nat_eq g f) × (is_link_on chosen mine l ≡ false → nat_eq g f ≡ false)
+    told : (l : Link) (g : ℕ) → IsFit chosen mine taken l g
+        → (is_link_on chosen mine l ≡ true → nat_eq (place mine g) (place mine f) ≡ nat_eq g f) × (is_link_on chosen mine l ≡ false → nat_eq g f ≡ false)
     told l g h = (λ on. place-eq mine g f (h ∙ on) hf, λ off. apart-flow chosen mine taken g f (h ∙ off) hf)
 
     losses-part : (t : List Event) → AreFitHere t → count_by (is_loss_of (place mine f)) (part-on t) ≡ count_by (is_loss_of f) t
@@ -90,7 +95,8 @@ module _ (chosen : Choice) (mine taken : ℕ → Bool) where
     starts-part : (t : List Event) → AreFitHere t → count_by (is_start_of (place mine f)) (part-on t) ≡ count_by (is_start_of f) t
     starts-part t h = count-part (is_start_of f) (is_start_of (place mine f)) (λ l. (λ e. refl, λ e. refl)) (λ q. (λ e. refl, λ e. refl)) (λ s fit. told s.packet.link s.packet.stamped.flow fit) (λ l g fit. (λ e. refl, λ e. refl)) (λ l g fit. (λ e. refl, λ e. refl)) (λ g. (λ e. refl, λ e. refl)) (λ m. (λ e. refl, λ e. refl)) t h
 
-    skip-count : (l : Link) (b : Bool) (e : Event) (u : List Event) → discarded_count l (place mine f) (e ∷ u) ≡ discarded_count l (place mine f) u → discarded_count l (place mine f) (cond b (e ∷ u) u) ≡ discarded_count l (place mine f) u
+    skip-count : (l : Link) (b : Bool) (e : Event) (u : List Event) → discarded_count l (place mine f) (e ∷ u) ≡ discarded_count l (place mine f) u
+        → discarded_count l (place mine f) (cond b (e ∷ u) u) ≡ discarded_count l (place mine f) u
     skip-count l true e u h = h
     skip-count l false e u h = refl
 
@@ -109,7 +115,8 @@ module _ (chosen : Choice) (mine taken : ℕ → Bool) where
           discarded_count linked (place mine f) (part-on (discarded g ∷ t)) ≡ discarded_count l f (discarded g ∷ t)
       discards-one g t h rest = by (mine g) refl
         where
-          by : (b : Bool) → mine g ≡ b → discarded_count linked (place mine f) (cond b (discarded (place mine g) ∷ part-on t) (part-on t)) ≡ cond (nat_eq g f) (length (backlog l f t)) 0 + discarded_count l f t
+          by : (b : Bool) → mine g ≡ b → discarded_count linked (place mine f) (cond b (discarded (place mine g) ∷ part-on t) (part-on t))
+              ≡ cond (nat_eq g f) (length (backlog l f t)) 0 + discarded_count l f t
           by true e =
               let same = place-eq mine g f e hf in
               let lens = waiting-lengths t h in
@@ -128,7 +135,8 @@ module _ (chosen : Choice) (mine taken : ℕ → Bool) where
       discards-part (discarded g ∷ t) h = discards-one g t h (discards-part t h)
       discards-part (collected m ∷ t) h = discards-part t h
 
-  status-part : (f : ℕ) (key : FlowKey) (t : List Event) → mine f ≡ is-on chosen key → is-on chosen key ≡ true → AreFitHere t → status_of (place mine f) key (part-on t) ≡ status_by (place mine) (status_of f key t)
+  status-part : (f : ℕ) (key : FlowKey) (t : List Event) → mine f ≡ is-on chosen key → is-on chosen key ≡ true
+      → AreFitHere t → status_of (place mine f) key (part-on t) ≡ status_by (place mine) (status_of f key t)
   status-part f key t is on h =
       let l = link_of key.target f key.pipe in
       let hf : mine f ≡ true = is ∙ on in
@@ -136,7 +144,8 @@ module _ (chosen : Choice) (mine taken : ℕ → Bool) where
       let there : is_link_on chosen mine (link_of key.target f key.pipe) ≡ true = sym fit ∙ hf in
       let moved = link-is chosen mine taken key.target f key.pipe in
       let lens = ap (λ (m : Link). map (λ p. p.stamped.len) (backlog m (place mine f) (part-on t))) moved
-      ∙ ap (λ (ps : List Accepted). map (λ p. p.stamped.len) ps) (backlog-part chosen mine taken (link_of key.target f key.pipe) there f hf t h) ∙ lengths (backlog (link_of key.target f key.pipe) f t) in
+      ∙ ap (λ (ps : List Accepted). map (λ p. p.stamped.len) ps) (backlog-part chosen mine taken (link_of key.target f key.pipe) there f hf t h)
+      ∙ lengths (backlog (link_of key.target f key.pipe) f t) in
       let gone = ap (λ (m : Link). discarded_count m (place mine f) (part-on t)) moved ∙ discards-part f hf (link_of key.target f key.pipe) there t h in
       let lo = losses-part f hf t h in
       let re = refusals-part f hf t h in
@@ -150,7 +159,8 @@ module _ (chosen : Choice) (mine taken : ℕ → Bool) where
   abbrev statuses-on : List FlowStatus → List FlowStatus
   statuses-on ss = map (status_by (place mine)) (filter (λ s. mine s.flow) ss)
 
-  statuses-part : (from : ℕ) (known : List FlowKey) (t : List Event) → IsKeyedFrom chosen mine taken from known → AreFitHere t → statuses_from (place mine from) (keys-of chosen known) (part-on t) ≡ statuses-on (statuses_from from known t)
+  statuses-part : (from : ℕ) (known : List FlowKey) (t : List Event) → IsKeyedFrom chosen mine taken from known → AreFitHere t
+      → statuses_from (place mine from) (keys-of chosen known) (part-on t) ≡ statuses-on (statuses_from from known t)
   statuses-part from [] t k h = refl
   statuses-part from (key ∷ known) t k h = by (is-on chosen key) refl (statuses-part (from + 1) known t k.1 h) ∙ sym (ap (λ b. map (status_by (place mine)) (cond b (status_of from key t ∷ filter (λ s. mine s.flow) (statuses_from (from + 1) known t)) (filter (λ s. mine s.flow) (statuses_from (from + 1) known t)))) k.0)
     where
@@ -199,7 +209,8 @@ module _ (chosen : Choice) (mine taken : ℕ → Bool) where
   HasTarget no_target = ⊥
   HasTarget _ = ⊤
 
-  has-target : (known : List FlowKey) (target : Target) (packet : Packet) (o : Option Treatment) (t : List Event) → is_carried chosen target packet.tuple o ≡ true → HasTarget (verdict_by known target packet o t)
+  has-target : (known : List FlowKey) (target : Target) (packet : Packet) (o : Option Treatment) (t : List Event)
+      → is_carried chosen target packet.tuple o ≡ true → HasTarget (verdict_by known target packet o t)
   has-target known target packet None t e = absurd cc
   has-target known target packet (Some how) t e =
       let flow = flow_number known (key_of target packet.tuple how) in
@@ -217,7 +228,8 @@ module _ (chosen : Choice) (mine taken : ℕ → Bool) where
   told-on at (loses l f) t there fit on proper all = sym (ap (λ b. cond b (ReplyLost at (place mine f)) (Advanced at)) (fit ∙ on))
   told-on at (refuses l f) t there fit on proper all = sym (ap (λ b. cond b (ReplyFull at (place mine f)) (Advanced at)) (fit ∙ on))
   told-on at (takes l f how) t there fit on proper all =
-      ap (λ n. ReplyQueued at (place mine f) n) (count-on chosen mine taken t proper all) ∙ sym (ap (λ b. cond b (ReplyQueued at (place mine f) (place taken (accepted_count t))) (Advanced at)) (fit ∙ on))
+      ap (λ n. ReplyQueued at (place mine f) n) (count-on chosen mine taken t proper all)
+      ∙ sym (ap (λ b. cond b (ReplyQueued at (place mine f) (place taken (accepted_count t))) (Advanced at)) (fit ∙ on))
 
   told-off : (at : ℕ) (v : Verdict) (t : List Event) → IsVerdictFit chosen mine taken v → IsAt chosen mine taken false v → Advanced at ≡ reply-part-of (reply_to_verdict at v t)
   told-off at no_target t fit off = refl
@@ -229,7 +241,8 @@ module _ (chosen : Choice) (mine taken : ℕ → Bool) where
     abbrev less : List Call
     less = calls_on chosen calls
 
-    submit-reply : (target : Target) (packet : Packet) (moment : ℕ) → IsKeyed chosen mine (keys (Submit target packet moment ∷ calls)) → (b : Bool) → is_carried chosen target packet.tuple (treatment (settings calls target)) ≡ b →
+    submit-reply : (target : Target) (packet : Packet) (moment : ℕ) → IsKeyed chosen mine (keys (Submit target packet moment ∷ calls))
+        → (b : Bool) → is_carried chosen target packet.tuple (treatment (settings calls target)) ≡ b →
         counted_reply rule (calls_on chosen calls) (cond b (Submit target packet moment) (Advance moment)) ≡ reply-part-of (counted_reply rule calls (Submit target packet moment))
     submit-reply target packet moment k true on =
         let keyed = keyed-before chosen mine calls (Submit target packet moment) k in
@@ -284,7 +297,8 @@ module _ (chosen : Choice) (mine taken : ℕ → Bool) where
         either true = refl
         either false = refl
 
-  replies-part : (rule : Rule) (calls : List Call) → IsKeyed chosen mine (keys calls) → AreTaken chosen mine taken (trace_of calls) → replies rule (calls_on chosen calls) ≡ map (reply_by mine taken) (replies rule calls)
+  replies-part : (rule : Rule) (calls : List Call) → IsKeyed chosen mine (keys calls) → AreTaken chosen mine taken (trace_of calls)
+      → replies rule (calls_on chosen calls) ≡ map (reply_by mine taken) (replies rule calls)
   replies-part rule [] k all = refl
   replies-part rule (c ∷ calls) k all =
       let before = taken-before chosen mine taken calls c all in

@@ -52,7 +52,8 @@ module _ (pipe : ℕ) where
   settle-on set zero at t h = h
   settle-on set (suc most) at t h = step (first_start set at (links t) t) (λ x. settle-on set most at (started x ∷ t) h)
     where
-      step : (o : Option Start) → ((x : Start) → AreOn (links (settle most set at (started x ∷ t)))) → AreOn (links (elim o as (λ _. List Event) [ None ↦ t | Some s ↦ settle most set at (started s ∷ t) ]))
+      step : (o : Option Start) → ((x : Start) → AreOn (links (settle most set at (started x ∷ t))))
+          → AreOn (links (elim o as (λ _. List Event) [ None ↦ t | Some s ↦ settle most set at (started s ∷ t) ]))
       step None rest = h
       step (Some s) rest = rest s
 
@@ -65,7 +66,8 @@ module _ (pipe : ℕ) where
 
     first-same : (at : ℕ) (ls : List Link) (t : List Event) → AreOn ls → first_start set at ls t ≡ first_start other at ls t
     first-same at [] t h = refl
-    first-same at (l ∷ ls) t h = let rest = first-same at ls t h.1 in λ i. sooner (cond (nat_le (free l t) at) (option_map (λ (p : Accepted). start-same l p (free l t) h.0 i) (next_packet l t)) None) (rest i)
+    first-same at (l ∷ ls) t h = let rest = first-same at ls t h.1 in
+        λ i. sooner (cond (nat_le (free l t) at) (option_map (λ (p : Accepted). start-same l p (free l t) h.0 i) (next_packet l t)) None) (rest i)
 
     settle-same : (most at : ℕ) (t : List Event) → AreOn (links t) → settle most set at t ≡ settle most other at t
     settle-same zero at t h = refl
@@ -89,7 +91,8 @@ module _ (pipe : ℕ) where
     IsOn (refuses l f) = pipe_of l ≡ pipe
     IsOn (takes l f how) = pipe_of l ≡ pipe
 
-    verdict-on : (known : List FlowKey) (target : Target) (packet : Packet) (o : Option Treatment) (t : List Event) → ((how : Treatment) → o ≡ Some how → how.pipe ≡ pipe) → IsOn (verdict_by known target packet o t)
+    verdict-on : (known : List FlowKey) (target : Target) (packet : Packet) (o : Option Treatment) (t : List Event)
+        → ((how : Treatment) → o ≡ Some how → how.pipe ≡ pipe) → IsOn (verdict_by known target packet o t)
     verdict-on known target packet None t h = tt
     verdict-on known target packet (Some how) t h =
         let flow = flow_number known (key_of target packet.tuple how) in
@@ -171,7 +174,8 @@ module _ (rule : Rule) (pipe : ℕ) where
 
   submit-same : (mine theirs : List Call) (target : Target) (packet : Packet) (moment : ℕ) → AreSame mine theirs → settings mine target ≡ settings theirs target →
       ((how : Treatment) → treatment (settings mine target) ≡ Some how → how.pipe ≡ pipe) →
-      AreSame (Submit target packet moment ∷ mine) (Submit target packet moment ∷ theirs) × (counted_reply rule mine (Submit target packet moment) ≡ counted_reply rule theirs (Submit target packet moment))
+      AreSame (Submit target packet moment ∷ mine) (Submit target packet moment ∷ theirs)
+      × (counted_reply rule mine (Submit target packet moment) ≡ counted_reply rule theirs (Submit target packet moment))
   submit-same mine theirs target packet moment h to on =
       let c = h.clock_is in
       let ks = h.keys_are in
@@ -239,7 +243,8 @@ module _ (rule : Rule) (pipe : ℕ) where
   after-links _ command known t h = h
 
   -- What a command or a Show leaves.
-  untimed : (c : Call) (calls : List Call) → IsUntimed c → (trace_of (c ∷ calls) ≡ emptied calls c ++ trace_of calls) × (keys (c ∷ calls) ≡ keys calls) × (effective_moment (c ∷ calls) ≡ effective_moment calls)
+  untimed : (c : Call) (calls : List Call) → IsUntimed c
+      → (trace_of (c ∷ calls) ≡ emptied calls c ++ trace_of calls) × (keys (c ∷ calls) ≡ keys calls) × (effective_moment (c ∷ calls) ≡ effective_moment calls)
       × (AreOn pipe (links (trace_of calls)) → AreOn pipe (links (trace_of (c ∷ calls))))
   untimed (Configure command) calls h =
       (after-append (reply_to_command calls command) command (keys calls) (trace_of calls), refl, omega arith, λ on. after-links (reply_to_command calls command) command (keys calls) (trace_of calls) on)
@@ -248,7 +253,8 @@ module _ (rule : Rule) (pipe : ℕ) where
   untimed (Advance moment) calls h = absurd h
   untimed (Collect moment) calls h = absurd h
 
-  untimed-same : (c d : Call) (mine theirs : List Call) → IsUntimed c → IsUntimed d → emptied mine c ≡ emptied theirs d → settings (c ∷ mine) (ToPipe pipe) ≡ settings (d ∷ theirs) (ToPipe pipe) → AreSame mine theirs →
+  untimed-same : (c d : Call) (mine theirs : List Call) → IsUntimed c → IsUntimed d → emptied mine c ≡ emptied theirs d
+      → settings (c ∷ mine) (ToPipe pipe) ≡ settings (d ∷ theirs) (ToPipe pipe) → AreSame mine theirs →
       AreSame (c ∷ mine) (d ∷ theirs)
   untimed-same c d mine theirs uc ud gone force h =
       let a = untimed c mine uc in
@@ -279,7 +285,8 @@ module _ (rule : Rule) (pipe : ℕ) where
   matched-same (Configure command ∷ mine) [] h = absurd h
   matched-same (Show ∷ mine) [] h = absurd h
 
-pub commands-act-by-force : (pipe : ℕ) (calls others : List Call) → AreMatched pipe (calls_on (of_pipe pipe) calls) (calls_on (of_pipe pipe) others) → part_of (of_pipe pipe) calls ≡ part_of (of_pipe pipe) others
+pub commands-act-by-force : (pipe : ℕ) (calls others : List Call) → AreMatched pipe (calls_on (of_pipe pipe) calls) (calls_on (of_pipe pipe) others)
+    → part_of (of_pipe pipe) calls ≡ part_of (of_pipe pipe) others
 commands-act-by-force pipe calls others h =
     let same = matched-same Ordered pipe (calls_on (of_pipe pipe) calls) (calls_on (of_pipe pipe) others) h in
     sym (other-links-change-nothing (of_pipe pipe) calls) ∙ same.trace_is ∙ other-links-change-nothing (of_pipe pipe) others
@@ -314,7 +321,8 @@ module _ (rule : Rule) (pipe : ℕ) (commands others : List Call) (commands_are 
   forces old (Advance moment ∷ packets) h = absurd h
   forces old (Show ∷ packets) h = absurd h
 
-  answered : (mine theirs : List Call) (c : Call) → length mine < call_limit → length theirs < call_limit → counted_reply rule mine c ≡ counted_reply rule theirs c → reply rule mine c ≡ reply rule theirs c
+  answered : (mine theirs : List Call) (c : Call) → length mine < call_limit → length theirs < call_limit
+      → counted_reply rule mine c ≡ counted_reply rule theirs c → reply rule mine c ≡ reply rule theirs c
   answered mine theirs c few less e = counts rule mine c few ∙ e ∙ sym (counts rule theirs c less)
 
   all-same : (packets : List Call) → AreAlike pipe here there packets → length (packets ++ commands) ≤ call_limit → length (packets ++ others) ≤ call_limit →

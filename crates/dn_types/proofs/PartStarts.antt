@@ -134,7 +134,8 @@ module _ (chosen : Choice) (mine taken : ℕ → Bool) where
   eligible-part v (x ∷ hs) = by (is_eligible v x) (eligible-part v hs)
     where
       by : (b : Bool) → filter (is_eligible v) (map stamped-on hs) ≡ map stamped-on (filter (is_eligible v) hs) →
-          cond b (stamped-on x ∷ filter (is_eligible v) (map stamped-on hs)) (filter (is_eligible v) (map stamped-on hs)) ≡ map stamped-on (cond b (x ∷ filter (is_eligible v) hs) (filter (is_eligible v) hs))
+          cond b (stamped-on x ∷ filter (is_eligible v) (map stamped-on hs)) (filter (is_eligible v) (map stamped-on hs))
+          ≡ map stamped-on (cond b (x ∷ filter (is_eligible v) hs) (filter (is_eligible v) hs))
       by true rest = ap (λ (r : List Stamped). stamped-on x ∷ r) rest
       by false rest = rest
 
@@ -161,7 +162,8 @@ module _ (chosen : Choice) (mine taken : ℕ → Bool) where
       ∙ by (pick (virtual_time (shared a) t) (link_heads (shared a) t)) (picked-mine (virtual_time (shared a) t) (link_heads (shared a) t) all)
     where
       by : (o : Option Stamped) → ((x : Stamped) → o ≡ Some x → IsMine x) →
-          option_and_then (λ (x : Stamped). slice_get (backlog (shared a) x.flow (part-on t)) 0) (option_map stamped-on o) ≡ option_map accepted-on (option_and_then (λ (x : Stamped). slice_get (backlog (shared a) x.flow t) 0) o)
+          option_and_then (λ (x : Stamped). slice_get (backlog (shared a) x.flow (part-on t)) 0) (option_map stamped-on o)
+          ≡ option_map accepted-on (option_and_then (λ (x : Stamped). slice_get (backlog (shared a) x.flow t) 0) o)
       by None m = refl
       by (Some x) m = ap (λ (q : List Accepted). slice_get q 0) (backlog-part chosen mine taken (shared a) on x.flow (m x refl) t h) ∙ slice_get-map accepted-on (backlog (shared a) x.flow t) 0
 
@@ -178,7 +180,8 @@ module _ (chosen : Choice) (mine taken : ℕ → Bool) where
           (λ i. cond (nat_le (fr i) at) (option_map (λ (p : Accepted). start_at set (link-on l) p (fr i)) (next i)) None) ∙ by (nat_le (free l t) at) (next_packet l t)
         where
           by : (b : Bool) (o : Option Accepted) →
-              cond b (option_map (λ (p : Accepted). start_at set (link-on l) p (free l t)) (option_map accepted-on o)) None ≡ option_map start-on (cond b (option_map (λ (p : Accepted). start_at set l p (free l t)) o) None)
+              cond b (option_map (λ (p : Accepted). start_at set (link-on l) p (free l t)) (option_map accepted-on o)) None
+              ≡ option_map start-on (cond b (option_map (λ (p : Accepted). start_at set l p (free l t)) o) None)
           by false o = refl
           by true None = refl
           by true (Some p) = ap (λ (s : Start). Some s) (start_at-part l p (free l t))
@@ -299,7 +302,8 @@ module _ (chosen : Choice) (mine taken : ℕ → Bool) where
                 let le : y.moment ≤ w.moment = subst (λ (v : Start). v.moment ≤ w.moment) (sym same) b.2 in
                 grind (arith, nat_tests)
 
-            first-is-here : (x y : Start) → nat_lt y.moment x.moment ≡ false → first_start set at ls t ≡ Some y → (o : Option Start) → first-on ls ≡ o → sooner (Some (start-on x)) o ≡ Some (start-on x)
+            first-is-here : (x y : Start) → nat_lt y.moment x.moment ≡ false → first_start set at ls t ≡ Some y
+                → (o : Option Start) → first-on ls ≡ o → sooner (Some (start-on x)) o ≡ Some (start-on x)
             first-is-here x y no' is None e = refl
             first-is-here x y no' is (Some w) e = ap (λ b. Some (cond b w (start-on x))) (late x y w no' is (first-bound ls w e))
 
@@ -387,7 +391,8 @@ module _ (chosen : Choice) (mine taken : ℕ → Bool) where
       settle-part zero t h = (0, refl)
       settle-part (suc most) t h = step (first_start set at (links t) t) refl (λ x g. settle-part most (started x ∷ t) g)
         where
-          step : (o : Option Start) → first_start set at (links t) t ≡ o → ((x : Start) → AreFitHere (started x ∷ t) → (k : ℕ) × (part-on (settle most set at (started x ∷ t)) ≡ settle k set at (part-on (started x ∷ t)))) →
+          step : (o : Option Start) → first_start set at (links t) t ≡ o
+              → ((x : Start) → AreFitHere (started x ∷ t) → (k : ℕ) × (part-on (settle most set at (started x ∷ t)) ≡ settle k set at (part-on (started x ∷ t)))) →
               (k : ℕ) × (part-on (elim o as (λ _. List Event) [ None ↦ t | Some s ↦ settle most set at (started s ∷ t) ]) ≡ settle k set at (part-on t))
           step None e rest = (0, refl)
           step (Some s) e rest = by (is_link_on chosen mine s.packet.link) refl (rest s (start-fit t s h e, h))

@@ -86,7 +86,8 @@ falls_apart = replays-fall-apart Ordered (of_host 2) replay tt few
     few = let h : nat_le (length replay) call_limit ≡ true = refl in grind (arith, nat_tests)
 
 -- The other address's third packet is refused: its queue holds one.
-refused : replies Ordered (own_calls (of_host 3) replay) ≡ Delivered 100000000 (delivery 0 0 0 1000000 ∷ delivery 1 0 1000000 2000000 ∷ []) ∷ Full 500000 0 ∷ Queued 500000 0 1 ∷ Queued 0 0 0 ∷ Configured ∷ []
+refused : replies Ordered (own_calls (of_host 3) replay)
+    ≡ Delivered 100000000 (delivery 0 0 0 1000000 ∷ delivery 1 0 1000000 2000000 ∷ []) ∷ Full 500000 0 ∷ Queued 500000 0 1 ∷ Queued 0 0 0 ∷ Configured ∷ []
 refused = refl
 
 -- ---- An Advance before a packet
@@ -144,7 +145,8 @@ not_on_the_first = refl
 abbrev on_two_else : List Call
 on_two_else = to_pipe 2 0 ∷ to_queue 9 0 ∷ both_pipes
 
-agree : (part_of (of_pipe 2) on_two ≡ part_of (of_pipe 2) on_two_else) × (map (reply_on (of_pipe 2) on_two) (replies Ordered on_two) ≡ map (reply_on (of_pipe 2) on_two_else) (replies Ordered on_two_else))
+agree : (part_of (of_pipe 2) on_two ≡ part_of (of_pipe 2) on_two_else)
+    × (map (reply_on (of_pipe 2) on_two) (replies Ordered on_two) ≡ map (reply_on (of_pipe 2) on_two_else) (replies Ordered on_two_else))
 agree = agreeing-calls-agree Ordered (of_pipe 2) on_two on_two_else refl
 
 -- ---- A command of another pipe between two packets, and a Show in its place

@@ -87,7 +87,8 @@ module _ (chosen : Choice) (mine taken : ℕ → Bool) where
 
   -- ---- Flows
 
-  bound-arrived : (q : Accepted) (t : List Event) → IsFit q.link q.stamped.flow → flow_bound (part' t) ≤ place mine (flow_bound t) → flow_bound (part' (arrived q ∷ t)) ≤ place mine (flow_bound (arrived q ∷ t))
+  bound-arrived : (q : Accepted) (t : List Event) → IsFit q.link q.stamped.flow → flow_bound (part' t) ≤ place mine (flow_bound t)
+      → flow_bound (part' (arrived q ∷ t)) ≤ place mine (flow_bound (arrived q ∷ t))
   bound-arrived q t h rest = by (is_link_on chosen mine q.link) refl
     where
       by : (b : Bool) → is_link_on chosen mine q.link ≡ b → flow_bound (cond b (arrived (accepted' q) ∷ part' t) (part' t)) ≤ place mine (max (flow_bound t) (q.stamped.flow + 1))

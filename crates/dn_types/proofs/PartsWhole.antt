@@ -53,7 +53,8 @@ module _ (rule : Rule) where
   settle-keyed set in_force known zero at t h keyed = keyed
   settle-keyed set in_force known (suc most) at t h keyed = step (first_start in_force at (links t) t) refl (λ x g k. settle-keyed set in_force known most at (started x ∷ t) g k)
     where
-      step : (o : Option Start) → first_start in_force at (links t) t ≡ o → ((x : Start) → AreKnown set known (started x ∷ t) → HaveKeys known (started x ∷ t) → HaveKeys known (settle most in_force at (started x ∷ t))) →
+      step : (o : Option Start) → first_start in_force at (links t) t ≡ o
+          → ((x : Start) → AreKnown set known (started x ∷ t) → HaveKeys known (started x ∷ t) → HaveKeys known (settle most in_force at (started x ∷ t))) →
           HaveKeys known (elim o as (λ _. List Event) [ None ↦ t | Some s ↦ settle most in_force at (started s ∷ t) ])
       step None e rest = keyed
       step (Some s) e rest =
@@ -66,7 +67,8 @@ module _ (rule : Rule) where
   IsKeyed known (takes l f how) = (key : FlowKey) × (slice_get known f ≡ Some key)
   IsKeyed known _ = ⊤
 
-  verdict-keyed : (known : List FlowKey) (target : Target) (packet : Packet) (o : Option Treatment) (t : List Event) → IsKeyed (keys_with target packet.tuple o known) (verdict_by known target packet o t)
+  verdict-keyed : (known : List FlowKey) (target : Target) (packet : Packet) (o : Option Treatment) (t : List Event)
+      → IsKeyed (keys_with target packet.tuple o known) (verdict_by known target packet o t)
   verdict-keyed known target packet None t = tt
   verdict-keyed known target packet (Some how) t =
       let key = key_of target packet.tuple how in
@@ -84,14 +86,16 @@ module _ (rule : Rule) where
   opened-keyed known true l t h = h
   opened-keyed known false l t h = h
 
-  join-keyed : (known : List FlowKey) (set : Settings) (at : ℕ) (p : Accepted) (t : List Event) → (key : FlowKey) × (slice_get known p.stamped.flow ≡ Some key) → HaveKeys known t → HaveKeys known (join set at p t)
+  join-keyed : (known : List FlowKey) (set : Settings) (at : ℕ) (p : Accepted) (t : List Event)
+      → (key : FlowKey) × (slice_get known p.stamped.flow ≡ Some key) → HaveKeys known t → HaveKeys known (join set at p t)
   join-keyed known set at p t k h = by (nat_le (free p.link t) at)
     where
       by : (b : Bool) → HaveKeys known (cond b (started (start_at set p.link p at) ∷ arrived p ∷ t) (arrived p ∷ t))
       by true = in_order-all (HasKey known) (delivery_of rule (start_at set p.link p at) (last_due rule p.link t)) (undelivered rule t) k h
       by false = h
 
-  after-keyed : (known : List FlowKey) (set : Settings) (at : ℕ) (packet : Packet) (v : Verdict) (t : List Event) → IsKeyed known v → HaveKeys known t → HaveKeys known (after_verdict set at packet v t)
+  after-keyed : (known : List FlowKey) (set : Settings) (at : ℕ) (packet : Packet) (v : Verdict) (t : List Event)
+      → IsKeyed known v → HaveKeys known t → HaveKeys known (after_verdict set at packet v t)
   after-keyed known set at packet no_target t k h = h
   after-keyed known set at packet (loses l f) t k h = h
   after-keyed known set at packet (refuses l f) t k h = h

@@ -42,7 +42,9 @@ module _ (test : ℕ → Bool) where
   place-less a b mine = ⊎_elim (λ (high : (nat_le b a ≡ true) × (b ≤ a)). not_below high.1) (λ (low : (nat_le b a ≡ false) × (a < b)). is_below low.1) (leb_tells b a)
     where
       is_below : a < b → nat_lt (place test a) (place test b) ≡ nat_lt a b
-      is_below lt = let more = place-lt a b lt mine in let one : nat_lt (place test a) (place test b) ≡ true = grind (arith, nat_tests) in let two : nat_lt a b ≡ true = grind (arith, nat_tests) in one ∙ sym two
+      is_below lt = let more = place-lt a b lt mine in let one : nat_lt (place test a) (place test b) ≡ true = grind (arith, nat_tests) in
+          let two : nat_lt a b ≡ true = grind (arith, nat_tests) in one ∙ sym two
 
       not_below : b ≤ a → nat_lt (place test a) (place test b) ≡ nat_lt a b
-      not_below le = let more = place-mono b a le in let one : nat_lt (place test a) (place test b) ≡ false = grind (arith, nat_tests) in let two : nat_lt a b ≡ false = grind (arith, nat_tests) in one ∙ sym two
+      not_below le = let more = place-mono b a le in let one : nat_lt (place test a) (place test b) ≡ false = grind (arith, nat_tests) in
+          let two : nat_lt a b ≡ false = grind (arith, nat_tests) in one ∙ sym two

@@ -14,7 +14,8 @@ use Rattle.dn_types.proofs.Fifo.{IsProper}
 
 -- ---- Settling
 
-start-proper : (settings : Settings) (at : ℕ) (link : Link) (trace : List Event) (s : Start) → next_start settings at link trace ≡ Some s → slice_get (backlog s.packet.link s.packet.stamped.flow trace) 0 ≡ Some s.packet
+start-proper : (settings : Settings) (at : ℕ) (link : Link) (trace : List Event) (s : Start)
+    → next_start settings at link trace ≡ Some s → slice_get (backlog s.packet.link s.packet.stamped.flow trace) 0 ≡ Some s.packet
 start-proper settings at link trace s e =
     let first = next_packet-first link trace s.packet (next_start-packet settings at link trace s e) in
     let l = next_start-link settings at link trace s e in
@@ -39,9 +40,11 @@ pub settle-proper : (most : ℕ) (settings : Settings) (at : ℕ) (trace : List 
 settle-proper zero settings at trace h = h
 settle-proper (suc most) settings at trace h = step (first_start settings at (links trace) trace) refl (λ t p. settle-proper most settings at t p)
   where
-    step : (o : Option Start) → first_start settings at (links trace) trace ≡ o → ((t : List Event) → IsProper t → IsProper (settle most settings at t)) → IsProper (elim o as (λ _. List Event) [ None ↦ trace | Some s ↦ settle most settings at (started s ∷ trace) ])
+    step : (o : Option Start) → first_start settings at (links trace) trace ≡ o → ((t : List Event) → IsProper t → IsProper (settle most settings at t))
+        → IsProper (elim o as (λ _. List Event) [ None ↦ trace | Some s ↦ settle most settings at (started s ∷ trace) ])
     step None e rest = h
-    step (Some s) e rest = let of = first_start-of settings at (links trace) trace s e in rest (started s ∷ trace) (start-proper settings at of.0 trace s of.1, start-free settings at of.0 trace s of.1, h)
+    step (Some s) e rest = let of = first_start-of settings at (links trace) trace s e in
+        rest (started s ∷ trace) (start-proper settings at of.0 trace s of.1, start-free settings at of.0 trace s of.1, h)
 
 -- ---- A packet that is accepted into a free link finds its backlog empty
 

@@ -44,7 +44,8 @@ module _ (number : ℕ) (known : List FlowKey) where
   same-sent (started s ∷ f) rest proper h =
       let more = same-sent f rest proper.2 h in
       let same = on-shared s.packet.link s.packet.stamped.flow (start-home known s (f ++ rest) proper h) in
-      let one : cond (link_eq s.packet.link (shared number)) s.packet.stamped.len 0 ≡ cond (is_of_queues number (slice_get known s.packet.stamped.flow)) s.packet.stamped.len 0 = ap {B = ℕ} (λ b. cond b s.packet.stamped.len 0) same in
+      let one : cond (link_eq s.packet.link (shared number)) s.packet.stamped.len 0 ≡ cond (is_of_queues number (slice_get known s.packet.stamped.flow)) s.packet.stamped.len 0 =
+      ap {B = ℕ} (λ b. cond b s.packet.stamped.len 0) same in
       omega (arith, more, one)
   same-sent (arrived p ∷ f) rest proper h = same-sent f rest proper.1 h.1
   same-sent (opened l ∷ f) rest proper h = same-sent f rest proper h

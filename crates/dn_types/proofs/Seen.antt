@@ -89,7 +89,8 @@ module _ (rule : Rule) (flow : ℕ) where
       before : 0 < told (replies rule calls) → 0 < told (replies rule (Submit target packet moment ∷ calls))
       before rest = omega (arith, rest, more)
 
-      new : (how : Treatment) → treatment (settings calls target) ≡ Some how → flow_number (keys calls) (key_of target packet.tuple how) ≡ flow → 0 < told (replies rule (Submit target packet moment ∷ calls))
+      new : (how : Treatment) → treatment (settings calls target) ≡ Some how
+          → flow_number (keys calls) (key_of target packet.tuple how) ≡ flow → 0 < told (replies rule (Submit target packet moment ∷ calls))
       new how is same =
           let t = settled (settings calls) (max (effective_moment calls) moment) (trace_of calls) in
           let answered = ap names (not-exhausted rule calls (Submit target packet moment) (omega (arith, few))) in

@@ -18,7 +18,8 @@ and-left true b e = refl
 and-left false b e = absurd cc
 
 pub link_eq-true : (x y : Link) → link_eq x y ≡ true → x ≡ y
-link_eq-true (own a f) (own b g) e = let same : a ≡ b = eqb-true a b (and-left (nat_eq a b) (nat_eq f g) e) in let flow : f ≡ g = eqb-true f g (and-right (nat_eq a b) (nat_eq f g) e) in λ i. own (same i) (flow i)
+link_eq-true (own a f) (own b g) e = let same : a ≡ b = eqb-true a b (and-left (nat_eq a b) (nat_eq f g) e) in
+    let flow : f ≡ g = eqb-true f g (and-right (nat_eq a b) (nat_eq f g) e) in λ i. own (same i) (flow i)
 link_eq-true (shared a) (shared b) e = ap shared (eqb-true a b e)
 link_eq-true (own a f) (shared b) e = absurd cc
 link_eq-true (shared a) (own b g) e = absurd cc
@@ -125,7 +126,8 @@ none-unknown settings at link trace e = by_start (next_start settings at link tr
         absurd cc
 
 -- Where no start is the first of all, no link has a next start.
-pub none-first : (settings : Settings) (at : ℕ) (link : Link) (ls : List Link) (trace : List Event) → list_any (link_eq link) ls ≡ true → first_start settings at ls trace ≡ None → next_start settings at link trace ≡ None
+pub none-first : (settings : Settings) (at : ℕ) (link : Link) (ls : List Link) (trace : List Event)
+    → list_any (link_eq link) ls ≡ true → first_start settings at ls trace ≡ None → next_start settings at link trace ≡ None
 none-first settings at link [] trace there e = absurd cc
 none-first settings at link (l ∷ ls) trace there e = ⊎_elim here (later (λ in_rest rest. none-first settings at link ls trace in_rest rest)) (true_or_false (link_eq link l))
   where
@@ -150,7 +152,8 @@ none-first settings at link (l ∷ ls) trace there e = ⊎_elim here (later (λ 
     later lower other = lower (or-rest (link_eq link l) (list_any (link_eq link) ls) other there) (sooner-right (next_start settings at l trace) (first_start settings at ls trace) e)
 
 -- The first start is the next start of some link.
-pub first_start-of : (settings : Settings) (at : ℕ) (ls : List Link) (trace : List Event) (s : Start) → first_start settings at ls trace ≡ Some s → (link : Link) × (next_start settings at link trace ≡ Some s)
+pub first_start-of : (settings : Settings) (at : ℕ) (ls : List Link) (trace : List Event) (s : Start)
+    → first_start settings at ls trace ≡ Some s → (link : Link) × (next_start settings at link trace ≡ Some s)
 first_start-of settings at [] trace s e = absurd cc
 first_start-of settings at (l ∷ ls) trace s e = by_next (next_start settings at l trace) refl (first_start settings at ls trace) refl (λ is. first_start-of settings at ls trace s is) e
   where
@@ -181,7 +184,8 @@ waiting_all-no_more : (ls : List Link) (s : Start) (trace : List Event) → wait
 waiting_all-no_more [] s trace = omega arith
 waiting_all-no_more (l ∷ ls) s trace = let rest = waiting_all-no_more ls s trace in let here = waiting-no_more l s trace in omega arith
 
-pub waiting_all-first : (settings : Settings) (at : ℕ) (ls : List Link) (trace : List Event) (s : Start) → first_start settings at ls trace ≡ Some s → waiting_all ls (started s ∷ trace) < waiting_all ls trace
+pub waiting_all-first : (settings : Settings) (at : ℕ) (ls : List Link) (trace : List Event) (s : Start)
+    → first_start settings at ls trace ≡ Some s → waiting_all ls (started s ∷ trace) < waiting_all ls trace
 waiting_all-first settings at [] trace s e = absurd cc
 waiting_all-first settings at (l ∷ ls) trace s e = by_next (next_start settings at l trace) refl (first_start settings at ls trace) refl (λ is. waiting_all-first settings at ls trace s is) e
   where
@@ -201,7 +205,8 @@ waiting_all-first settings at (l ∷ ls) trace s e = by_next (next_start setting
     by_next (Some x) is (Some y) is' rest e = by_test (nat_lt y.moment x.moment) x y is is' rest e
 
 -- With as many starts as packets that wait, or more, all links are settled.
-pub settle-ends : (most : ℕ) (settings : Settings) (at : ℕ) (trace : List Event) → waiting_all (links trace) trace ≤ most → first_start settings at (links (settle most settings at trace)) (settle most settings at trace) ≡ None
+pub settle-ends : (most : ℕ) (settings : Settings) (at : ℕ) (trace : List Event) → waiting_all (links trace) trace ≤ most
+    → first_start settings at (links (settle most settings at trace)) (settle most settings at trace) ≡ None
 settle-ends zero settings at trace h = none (first_start settings at (links trace) trace) refl
   where
     none : (o : Option Start) → first_start settings at (links trace) trace ≡ o → first_start settings at (links trace) trace ≡ None
@@ -209,7 +214,8 @@ settle-ends zero settings at trace h = none (first_start settings at (links trac
     none (Some s) e = let fewer = waiting_all-first settings at (links trace) trace s e in absurd (omega arith)
 settle-ends (suc most) settings at trace h = step (first_start settings at (links trace) trace) refl (λ t. settle-ends most settings at t)
   where
-    step : (o : Option Start) → first_start settings at (links trace) trace ≡ o → ((t : List Event) → waiting_all (links t) t ≤ most → first_start settings at (links (settle most settings at t)) (settle most settings at t) ≡ None)
+    step : (o : Option Start) → first_start settings at (links trace) trace ≡ o
+        → ((t : List Event) → waiting_all (links t) t ≤ most → first_start settings at (links (settle most settings at t)) (settle most settings at t) ≡ None)
         → first_start settings at (links (elim o as (λ _. List Event) [ None ↦ trace | Some s ↦ settle most settings at (started s ∷ trace) ])) (elim o as (λ _. List Event) [ None ↦ trace | Some s ↦ settle most settings at (started s ∷ trace) ]) ≡ None
     step None e rest = e
     step (Some s) e rest = let fewer = waiting_all-first settings at (links trace) trace s e in rest (started s ∷ trace) (omega arith)

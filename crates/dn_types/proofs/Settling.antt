@@ -133,7 +133,8 @@ module _ (link : Link) (flow : ℕ) (s : Start) (trace : List Event) (is_first :
           let here : length (backlog link n (started s ∷ trace)) + 1 ≡ length (backlog link n trace) = subst Shrinks (sym same.1) one_less in
           omega arith
 
-      above_flow : (flow < n → total n (λ f. backlog link f (started s ∷ trace)) + 1 ≡ total n (λ f. backlog link f trace)) → (nat_eq n flow ≡ false) × (n ≢ flow) → total (suc n) (λ f. backlog link f (started s ∷ trace)) + 1 ≡ total (suc n) (λ f. backlog link f trace)
+      above_flow : (flow < n → total n (λ f. backlog link f (started s ∷ trace)) + 1 ≡ total n (λ f. backlog link f trace))
+          → (nat_eq n flow ≡ false) × (n ≢ flow) → total (suc n) (λ f. backlog link f (started s ∷ trace)) + 1 ≡ total (suc n) (λ f. backlog link f trace)
       above_flow lower other =
           let ne = other.1 in
           let lt : flow < n = ⊎_elim (λ (le : n ≤ flow). absurd (ne (omega arith))) (λ (lt : flow < n). lt) (le_or_lt n flow) in
@@ -164,5 +165,6 @@ next_start-packet settings at link trace s e = by_test (nat_le (free link trace)
     by_test true None e = absurd cc
     by_test true (Some p) e = let same : start_at settings link p (free link trace) ≡ s = cc in ap (λ (x : Start). Some x.packet) same
 
-pub waiting-next : (settings : Settings) (at : ℕ) (link : Link) (trace : List Event) (s : Start) → next_start settings at link trace ≡ Some s → waiting link (started s ∷ trace) + 1 ≡ waiting link trace
+pub waiting-next : (settings : Settings) (at : ℕ) (link : Link) (trace : List Event) (s : Start)
+    → next_start settings at link trace ≡ Some s → waiting link (started s ∷ trace) + 1 ≡ waiting link trace
 waiting-next settings at link trace s e = let first = next_packet-first link trace s.packet (next_start-packet settings at link trace s e) in waiting-start link first.0 s trace first.1

@@ -83,7 +83,8 @@ module _ (rule : Rule) (link : Link) (flow : ℕ) where
   tags-opened true l t other = ap {B = ℕ} (λ b. cond b 0 (last_finish_tag link flow t)) other
   tags-opened false l t other = refl
 
-  tags-verdict : (set : Settings) (at : ℕ) (packet : Packet) (v : Verdict) (t : List Event) → IsElsewhere rule link v → last_finish_tag link flow (after_verdict set at packet v t) ≡ last_finish_tag link flow t
+  tags-verdict : (set : Settings) (at : ℕ) (packet : Packet) (v : Verdict) (t : List Event) → IsElsewhere rule link v
+      → last_finish_tag link flow (after_verdict set at packet v t) ≡ last_finish_tag link flow t
   tags-verdict set at packet no_target t other = refl
   tags-verdict set at packet (loses l f) t other = refl
   tags-verdict set at packet (refuses l f) t other = refl

@@ -10,7 +10,8 @@ use Rattle.dn_types.specs.Flows.{Treatment, treatment, key_of, keys_with, flow_n
 use Rattle.dn_types.specs.Links.{arrival_time, due_by}
 use Rattle.dn_types.specs.Standing.{Traffic, Standing}
 use Rattle.dn_types.specs.Starts.{start_at, sooner}
-use Rattle.dn_types.specs.Trace.{with_link, Link, own, shared, link_eq, Accepted, Start, Event, opened, arrived, started, lost, refused, discarded, collected, is_of, is_arrival, is_start_of, is_loss_of, is_refusal_of}
+use Rattle.dn_types.specs.Trace.{with_link, Link, own, shared, link_eq, Accepted, Start, Event, opened, arrived}
+use Rattle.dn_types.specs.Trace.{started, lost, refused, discarded, collected, is_of, is_arrival, is_start_of, is_loss_of, is_refusal_of}
 use Rattle.dn_types.specs.Wf2q.{Stamped, heads, total, pick, grown, scaled, start_tag_on_arrival}
 use Rattle.dn_types.specs.declared.call.Call.{Call}
 use Rattle.dn_types.specs.declared.call.Call.TheVariants.{Configure, Submit, Advance, Collect, Show}

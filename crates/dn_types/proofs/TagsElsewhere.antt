@@ -109,7 +109,8 @@ module _ (rule : Rule) (link : Link) (flow : ℕ) where
   call-tag calls (Collect moment) h on = clock-spares-tags calls moment link flow
   call-tag calls Show h on = refl
 
-  all-tags : (after calls : List Call) → AreElsewhere (pipe_of link) after calls → IsOn (keys (after ++ calls)) → last_finish_tag link flow (trace_of (after ++ calls)) ≡ last_finish_tag link flow (trace_of calls)
+  all-tags : (after calls : List Call) → AreElsewhere (pipe_of link) after calls → IsOn (keys (after ++ calls))
+      → last_finish_tag link flow (trace_of (after ++ calls)) ≡ last_finish_tag link flow (trace_of calls)
   all-tags [] calls h on = refl
   all-tags (c ∷ after) calls h on =
       let before : IsOn (keys (after ++ calls)) = λ key e. on key (keys-stay (after ++ calls) c flow key e) in

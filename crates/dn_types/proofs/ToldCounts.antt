@@ -122,7 +122,8 @@ module _ (p : Event → Bool) (no_opening : (l : Link) → p (opened l) ≡ fals
         let rest = all-told rule calls (omega (arith, few)) in
         let one = call-told rule calls c in
         let here = count-reply (reply rule calls c) (replies rule calls) in
-        let as' : cond {A = ℕ} (q (reply rule calls c)) 1 0 ≡ cond (q (counted_reply rule calls c)) 1 0 = ap {B = ℕ} (λ (r : Reply). cond (q r) 1 0) (not-exhausted rule calls c (omega (arith, few))) in
+        let as' : cond {A = ℕ} (q (reply rule calls c)) 1 0 ≡ cond (q (counted_reply rule calls c)) 1 0 =
+        ap {B = ℕ} (λ (r : Reply). cond (q r) 1 0) (not-exhausted rule calls c (omega (arith, few))) in
         omega (arith, rest, one, here, as')
 
 -- ---- What is queued, lost and refused

@@ -15,7 +15,8 @@ module _ (bits b : ℕ) (h : 0 < b) where
       let below : (bits + (b - 1)) / b < suc t = (div-lt_iff_lt-mul {y = suc t} h).1 (omega (arith, grown, fits, h)) in
       omega arith
 
-pub transmission-is-least : (bandwidth len : ℕ) → 0 < bandwidth → (len * 8 * 10 ^ 9 ≤ transmission_time bandwidth len * bandwidth) × ((t : ℕ) → len * 8 * 10 ^ 9 ≤ t * bandwidth → transmission_time bandwidth len ≤ t)
+pub transmission-is-least : (bandwidth len : ℕ) → 0 < bandwidth
+    → (len * 8 * 10 ^ 9 ≤ transmission_time bandwidth len * bandwidth) × ((t : ℕ) → len * 8 * 10 ^ 9 ≤ t * bandwidth → transmission_time bandwidth len ≤ t)
 transmission-is-least bandwidth len h =
     let bits : len * 8 * 10 ^ 9 ≡ len * 8000000000 = omega arith in
     let limited : nat_eq bandwidth 0 ≡ false = grind (arith, nat_tests) in

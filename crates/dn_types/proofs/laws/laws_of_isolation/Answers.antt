@@ -1,7 +1,8 @@
 -- Each law is a lemma over the definitions.
 use Rattle.std.proofs.Common.{refl}
 use Rattle.dn_types.proofs.Elsewhere.{other-pipes-change-nothing}
-use Rattle.dn_types.proofs.Isolation.{pipe-delete-empties, queue-delete-empties, queue-delete-spares, pipe-delete-spares, commands-move-nothing, commands-count, only-commands-count, packets-keep-apart, queues-have-pipes}
+use Rattle.dn_types.proofs.Isolation.{pipe-delete-empties, queue-delete-empties, queue-delete-spares, pipe-delete-spares, commands-move-nothing}
+use Rattle.dn_types.proofs.Isolation.{commands-count, only-commands-count, packets-keep-apart, queues-have-pipes}
 use Rattle.dn_types.proofs.Spares.{packets-spare-tags, clock-spares-tags}
 use Rattle.dn_types.proofs.laws.laws_of_isolation.Goals as goal
 
