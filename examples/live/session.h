@@ -94,16 +94,29 @@ static inline const char *behind(const char *text, int commas) {
     return text;
 }
 
-/* Asks for what a configuration line says, and answers NULL, or else why it was refused, until the next call. */
-static inline const char *session_configure(struct session *session, const char *line) {
-    if (strcspn(line, "#") == strspn(line, " \t\r")) return NULL; /* no words: it would have no answer */
-    session_say(session, line, strlen(line));
+/* Whether a configuration line has a word: blanks and what is behind a # are none. */
+static inline bool has_words(const char *line, size_t len) {
+    size_t at = 0;
+    while (at < len && memchr(" \t\r", line[at], 3)) at++;
+    return at < len && line[at] != '#';
+}
+
+/* Asks for what a configuration line of so many bytes says, as a file has it, without its line feed. Answers NULL, or else why it was
+   refused, until the next call. The blank before it makes a configuration line of each: `next` and calls have other answers. */
+static inline const char *session_configure_bytes(struct session *session, const char *line, size_t len) {
+    if (memchr(line, '\n', len)) return "more than one line";
+    if (!has_words(line, len)) return NULL; /* it would have no answer */
+    session_say(session, " ", 1);
+    session_say(session, line, len);
     session_say(session, "\n", 1);
     const char *answer = session_record(session);
     if (begins(answer, "#,bad")) return behind(answer, 4);
     answer = session_record(session);
     return begins(answer, "r,configured") || begins(answer, "r,deleted") ? NULL : behind(answer, 1);
 }
+
+/* The same of a text. */
+static inline const char *session_configure(struct session *session, const char *line) { return session_configure_bytes(session, line, strlen(line)); }
 
 /* Ends the session, keeps what it still says, and answers its status. */
 static inline int session_end(struct session *session) {

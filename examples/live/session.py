@@ -107,9 +107,12 @@ class Session:
         return found
 
     def configure(self, line: str) -> None:
-        """A configuration line as it is typed; nothing where it has no words."""
-        if text := line.partition("#")[0].strip():
-            [answer] = self.ask([text])
+        """A configuration line as it is typed; nothing where it has no words. The blank before it makes one of each: `next` and
+        calls have other answers."""
+        if "\n" in line:
+            raise BadLine("more than one line")
+        if text := line.partition("#")[0].strip(" \t\r"):
+            [answer] = self.ask([f" {text}"])
             if answer.outcome not in ("configured", "deleted"):
                 raise BadLine(answer.outcome.replace("-", " "))
             self.links.append(text)

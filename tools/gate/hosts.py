@@ -117,10 +117,57 @@ def in_c(tally: Tally, program: str, folder: Path) -> None:
     tally.equal("live.c", (0, "949 delivered"), (done.returncode, done.stdout.strip().rpartition(", ")[2]))
 
 
+UNKNOWN = "word 1: unknown word"
+LINES = [  # a configuration line as a file has it, and what a host by session.h or session.py is told of it
+    (b"pipe 1 config bw 8Mbit/s", "obeyed"), (b"  ", "obeyed"), (b"", "obeyed"), (b"\t\r", "obeyed"), (b" # a note", "obeyed"), (b"\r", "obeyed"),
+    (b"next", UNKNOWN), (b"next\r", UNKNOWN), (b"next\rc,0,show", UNKNOWN), (b'"next"', UNKNOWN), (b"c,0,show", UNKNOWN), (b"c,0,collect,9", UNKNOWN),
+    (b"c,0,submit,pipe,1,10.0.0.1,10.0.0.2,17,1000,2000,1000,0,0", UNKNOWN), (b"#,next", "obeyed"), (b"pipe 1 config\r", "obeyed"),
+    (b"\0", UNKNOWN), (b"\0pipe 1 config", UNKNOWN), (b" \0 # a note", UNKNOWN), (b"pipe 1 config\0", "word 3: unknown word"),
+    (b"pipe 1 config bw 3x", "word 5: bad number"), (b"queue 1 config pipe 9", "no-such-pipe"), (b"pipe 1 \xff", "not UTF-8"), (b"pipe 1 delete", "obeyed")]
+
+
+def lines_in_c(tally: Tally, program: str, folder: Path) -> None:
+    """Lines of every kind, each told apart and none waited for in vain."""
+    if shutil.which("cc") is None:
+        print("configuration lines of a session in C: skipped, since there is no cc on the path")
+        return
+    done = subprocess.run([*STRICT, "-o", folder / "lines", TOP / "tools" / "gate" / "session_lines.c"], capture_output=True, text=True)
+    tally.equal("session_lines.c compiled", (0, ""), (done.returncode, done.stderr))
+    session = subprocess.run([folder / "lines"], env={**os.environ, "DUMMYNET": program}, input=b"\n".join(line for line, _ in LINES), stdout=subprocess.PIPE,
+                             timeout=20)
+    told = session.stdout.decode().splitlines()
+    for (line, wanted), got in zip(LINES, told):
+        tally.equal(f"{line!r} by session.h", f"{wanted}; #,next", got)
+    tally.equal("the end of the session", (4, ["more than one line"]), (session.returncode, told[len(LINES):]))
+
+
+IN_PYTHON = """
+import sys
+from session import BadLine, Session, program
+with Session(program()) as session:
+    for line in eval(sys.stdin.read()):
+        try:
+            told = session.configure(line) or "obeyed"
+        except BadLine as bad:
+            told = str(bad)
+        print(f"{told}; {session.ask(['next'])[0].outcome}")
+"""
+
+
+def lines_in_python(tally: Tally, program: str, folder: Path) -> None:
+    """The same lines in Python, as far as they are text, and two at once."""
+    lines = [(line.decode(), wanted) for line, wanted in [*LINES, (b"pipe 1 config\npipe 2 config", "more than one line")] if b"\xff" not in line]
+    done = subprocess.run([sys.executable, "-c", IN_PYTHON], cwd=LIVE, env={**os.environ, "DUMMYNET": program}, input=repr([line for line, _ in lines]),
+                          capture_output=True, text=True, timeout=20)
+    tally.equal("the session in Python at its end", (0, "", len(lines)), (done.returncode, done.stderr, done.stdout.count("\n")))
+    for (line, wanted), got in zip(lines, done.stdout.splitlines()):
+        tally.equal(f"{line!r} by session.py", f"{wanted.replace('-', ' ')}; next", got)
+
+
 def main(program: str) -> int:
     tally = Tally()
     with TemporaryDirectory() as folder:
-        for part in (page, cut, example, in_c, tests):
+        for part in (page, cut, example, in_c, lines_in_c, lines_in_python, tests):
             part(tally, program, Path(folder))
     return tally.end()
 
