@@ -4,18 +4,21 @@ from __future__ import annotations
 
 import json
 import os
+import pwd
 import re
 import shutil
 import subprocess
 import sys
 import tempfile
+import time
 import unittest
 from typing import Any
 
-from linked import HINGE, Done, found, needs, needs_rooms, run
+from linked import HINGE, Done, audited_as_lawful, found, needs, needs_rooms, run
 
 PAYLOAD = 1448 / 1500  # of a TCP packet's bytes, with time stamps
 TOLERANCE = 0.05
+SSHD = shutil.which("sshd", path=f"{os.environ['PATH']}:/usr/sbin")  # users lack that folder on their paths
 CERTIFICATE = ["openssl", "req", "-x509", "-newkey", "rsa:2048", "-nodes", "-subj", "/CN=server", "-days", "2"]
 
 
@@ -133,6 +136,40 @@ class OfDownloads(Behind):
         done, told = self.summary("--up", "30ms", "--down", "30ms", "--server", serve, "--", "sh", "-c", ask)
         self.assertIn("42-there", done.stdout, re.sub(r"[^ -~]", "", done.stdout + done.stderr))
         self.assertGreater(told["down"]["sent"], 2)
+
+
+@needs_rooms
+@needs("ssh", "ssh-keygen")
+@unittest.skipIf(SSHD is None, "there is no sshd")
+class OfSsh(Behind):
+    USER = pwd.getpwuid(os.getuid())
+
+    def key(self, name: str) -> str:
+        subprocess.run(["ssh-keygen", "-q", "-t", "ed25519", "-N", "", "-f", f"{self.folder}/{name}"], check=True)
+        return f"{self.folder}/{name}"
+
+    def server(self) -> str:
+        """A server at port 2222 for this user alone, with keys of its own. As root it wants a folder below /run, and gets one in the rooms."""
+        options = {"AuthorizedKeysFile": f"{self.key('user')}.pub", "StrictModes": "no", "UsePAM": "no", "PidFile": "none", "PasswordAuthentication": "no"}
+        given = " ".join(f"-o {name}={value}" for name, value in options.items())
+        begun = "mount -t tmpfs none /run && mkdir /run/sshd && " if os.getuid() == 0 else ""
+        return f"{begun}exec {SSHD} -D -e -f /dev/null -p 2222 -h {self.key('host')} {given} 2>{self.folder}/log"
+
+    @unittest.skipIf(os.path.basename(USER.pw_shell) in ("nologin", "false"), "this user may not log in")
+    def test_a_login_and_a_file(self) -> None:
+        """100,000 bytes take 0.4 s at 2 Mbit/s, after at least two round trips of 70 ms. The shell knows what no client does."""
+        with open(f"{self.folder}/data", "wb") as file:
+            file.write(os.urandom(10**5))
+        serve = self.server()
+        known = f"-o UserKnownHostsFile={self.folder}/known -o StrictHostKeyChecking=no -o BatchMode=yes"
+        ask = f"ssh -F none -p 2222 -i {self.folder}/user {known} {self.USER.pw_name}@server 'echo $((6 * 7))-there; wc -c' <{self.folder}/data"
+        begun = time.monotonic()
+        done, told = self.summary("--up", "2Mbit/s 30ms", "--down", "2Mbit/s 40ms", "--transcript", f"{self.folder}/h", "--server", serve, "--", "sh", "-c", ask)
+        with open(f"{self.folder}/log") as log:
+            self.assertEqual((done.returncode, done.stdout.split()), (0, ["42-there", "100000"]), done.stderr + log.read())
+        self.assertGreater(time.monotonic() - begun, 0.4 + 2 * 0.07)
+        self.assertGreater(told["up"]["sent_bytes"], 10**5)
+        audited_as_lawful(self, f"{self.folder}/h")
 
 
 @needs_rooms
