@@ -18,6 +18,9 @@ MTU, QUEUE_LENGTH = 4, 13  # IFLA_MTU, IFLA_TXQLEN
 UP, MULTICAST = 1, 0x1000  # IFF_UP, IFF_MULTICAST
 NODAD = 2  # IFA_F_NODAD
 LOCAL, ADDRESS = 1, 2  # IFA_ADDRESS, IFA_LOCAL
+FREEBIND = 78  # IPV6_FREEBIND
+ADVERTISEMENT, OVERRIDE = 136, 0x20000000  # ND_NEIGHBOR_ADVERT, ND_NA_FLAG_OVERRIDE
+REJECTS = 0x200  # RTF_REJECT, in /proc/net/ipv6_route
 MAIN_TABLE, BY_BOOT, UNICAST, GATEWAY = 254, 3, 1, 5  # RT_TABLE_MAIN, RTPROT_BOOT, RTN_UNICAST, RTA_GATEWAY
 TUNSETIFF, TUN_WITHOUT_HEADER = 0x400454CA, 0x1001  # IFF_TUN | IFF_NO_PI
 DROPPED_OUT = 11  # the column of /proc/net/dev
@@ -42,15 +45,39 @@ def set_up(name: str, change: int = UP, attributes: tuple[tuple[int, int], ...] 
     ask(SETLINK, struct.pack("BxHiII", 0, 0, socket.if_nametoindex(name), UP, change), [(key, struct.pack("I", value)) for key, value in attributes])
 
 
-def add_address(name: str, text: str, bits: int) -> None:
+def family_and_bytes(text: str) -> tuple[int, bytes]:
     family = socket.AF_INET6 if ":" in text else socket.AF_INET
-    data = socket.inet_pton(family, text)
+    return family, socket.inet_pton(family, text)
+
+
+def add_address(name: str, text: str, bits: int) -> None:
+    family, data = family_and_bytes(text)
     ask(NEWADDR, struct.pack("BBBBi", family, bits, NODAD, 0, socket.if_nametoindex(name)), [(LOCAL, data), (ADDRESS, data)])
 
 
 def add_route(gateway: str) -> None:
-    """The way to all other networks of IPv4."""
-    ask(NEWROUTE, struct.pack("BBBBBBBBI", socket.AF_INET, 0, 0, 0, MAIN_TABLE, BY_BOOT, 0, UNICAST, 0), [(GATEWAY, socket.inet_aton(gateway))])
+    """The way to all other networks of the gateway's family."""
+    family, data = family_and_bytes(gateway)
+    ask(NEWROUTE, struct.pack("BBBBBBBBI", family, 0, 0, 0, MAIN_TABLE, BY_BOOT, 0, UNICAST, 0), [(GATEWAY, data)])
+
+
+def announce(name: str, text: str) -> None:
+    """Tells those at an interface that an IPv6 address, which lies behind another one, is reached by it: a neighbour advertisement from there."""
+    index = socket.if_nametoindex(name)
+    with socket.socket(socket.AF_INET6, socket.SOCK_RAW, socket.IPPROTO_ICMPV6) as teller:
+        teller.setsockopt(socket.IPPROTO_IPV6, FREEBIND, 1)
+        teller.setsockopt(socket.IPPROTO_IPV6, socket.IPV6_MULTICAST_HOPS, 255)
+        teller.bind((text, 0))
+        teller.sendto(struct.pack("!BBHI", ADVERTISEMENT, 0, 0, OVERRIDE) + socket.inet_pton(socket.AF_INET6, text), ("ff02::1", 0, 0, index))
+
+
+def leads_out_in_ipv6() -> bool:
+    """Whether the present namespace has a way to all other networks of IPv6."""
+    try:
+        with open("/proc/thread-self/net/ipv6_route") as file:
+            return any(int(line.split()[1], 16) == 0 and not int(line.split()[8], 16) & REJECTS for line in file)
+    except OSError:
+        return False
 
 
 def add_tun(address: str, address6: str, mtu: int) -> int:

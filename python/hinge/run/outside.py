@@ -1,29 +1,41 @@
-"""The rest of the network behind the link, by pasta or slirp4netns: it stays in the system's network and joins the server's room to it."""
+"""The rest of the network behind the link, by pasta or slirp4netns: it stays in the system's network and joins the server's room to it.
+IPv6 is led out where the system has a way out in it."""
 
 from __future__ import annotations
 
+import errno
 import os
 import shutil
 import signal
 import socket
 import time
 
-from hinge.run.rooms import Rooms
-from hinge.run.system import Missing, die_with_parent, enter, write
+from hinge.run.interfaces import add_address, add_route, announce, leads_out_in_ipv6
+from hinge.run.rooms import CLIENT6, Rooms
+from hinge.run.system import Missing, die_with_parent, enter, try_to_write, write
 
 NET, OWN, GATEWAY, RESOLVER = "10.9.0.0/24", "10.9.0.100", "10.9.0.2", "10.9.0.3"  # slirp4netns takes these of a network by itself
+OWN6, GATEWAY6 = "fd00::100", "fd00::2"  # and this network of IPv6 always
 INTERFACE = "outside"
 PATIENCE = 5  # s
 
 
-def words_for(process: str, own_users: bool) -> list[str]:
+def words_for(process: str, own_users: bool, ipv6: bool) -> list[str]:
     """The command that joins the network of a process to this one's: slirp4netns where it is there, else pasta, which serves no root."""
     network, users = f"/proc/{process}/ns/net", f"/proc/{process}/ns/user"
     if shutil.which("slirp4netns"):
-        return ["slirp4netns", "--configure", "--mtu=1500", f"--cidr={NET}", "--netns-type=path", *[f"--userns-path={users}"] * own_users, network, INTERFACE]
-    return ["pasta", "--foreground", "--quiet", "--config-net", "--ns-ifname", INTERFACE, "--ipv4-only", "--mtu", "1500", "--address", OWN, "--netmask", "24",
+        return ["slirp4netns", "--configure", "--mtu=1500", f"--cidr={NET}", *["--enable-ipv6"] * ipv6, "--netns-type=path",
+                *[f"--userns-path={users}"] * own_users, network, INTERFACE]
+    more = ["--address", OWN6, "--gateway", GATEWAY6] if ipv6 else ["--ipv4-only"]
+    return ["pasta", "--foreground", "--quiet", "--config-net", "--ns-ifname", INTERFACE, *more, "--mtu", "1500", "--address", OWN, "--netmask", "24",
             "--gateway", GATEWAY, "--dns-forward", RESOLVER, "-t", "none", "-u", "none", "-T", "none", "-U", "none",
             "--userns", users, "--netns", network]
+
+
+def unless_there(error: OSError) -> None:
+    """Takes the refusal of an address or a way that there is."""
+    if error.errno != errno.EEXIST:
+        raise error
 
 
 class Outside:
@@ -32,6 +44,8 @@ class Outside:
     def __init__(self) -> None:
         if not shutil.which("slirp4netns") and (os.geteuid() == 0 or not shutil.which("pasta")):
             raise Missing("--outside: slirp4netns isn't there, nor pasta, which serves users but root: sudo apt install slirp4netns")
+        self.ipv6 = leads_out_in_ipv6()
+        self.said = os.memfd_create("said")  # what the joining program says: told where there is no way out
         read_end, self.write_end = os.pipe()
         if os.fork() == 0:
             die_with_parent()
@@ -48,8 +62,9 @@ class Outside:
                 os._exit(0)
             told += more
         process, own_users = told[:-1].decode().split()
-        words = words_for(process, own_users == "True")
-        os.dup2(os.open(os.devnull, os.O_WRONLY), 1)
+        words = words_for(process, own_users == "True", self.ipv6)
+        os.dup2(self.said, 1)
+        os.dup2(self.said, 2)
         signal.signal(signal.SIGPIPE, signal.SIG_DFL)  # pasta refuses to begin where it is ignored
         os.execvp(words[0], words)
 
@@ -68,12 +83,26 @@ class Outside:
     def join(self, rooms: Rooms) -> None:
         """In the first process: waits for the interface and lets the server's room hand packets on."""
         enter(rooms.server)
+        for name in ("accept_dad", "accept_ra"):
+            try_to_write(f"/proc/sys/net/ipv6/conf/default/{name}", "0")  # else it asks for a second whether its address is another's
         os.write(self.write_end, b"!")
         until = time.monotonic() + PATIENCE
         while not self.joined():
             if time.monotonic() > until:
-                raise Missing("--outside: the server's room gets no way out; the lines above say why")
+                raise Missing(f"--outside: the server's room gets no way out: {os.pread(self.said, 1000, 0).decode(errors='replace').strip()}")
             time.sleep(0.01)
         write("/proc/sys/net/ipv4/ip_forward", "1")
         write(f"/proc/sys/net/ipv4/conf/{INTERFACE}/proxy_arp", "1")
-        rooms.lead_out(RESOLVER)
+        if self.ipv6:
+            self.hand_on_ipv6()
+        rooms.lead_out(RESOLVER, self.ipv6)
+
+    def hand_on_ipv6(self) -> None:
+        """The same of the other family. pasta has given the address and the way out, and slirp4netns hasn't."""
+        for give in (lambda: add_address(INTERFACE, OWN6, 64), lambda: add_route(GATEWAY6)):
+            try:
+                give()
+            except OSError as error:
+                unless_there(error)
+        write("/proc/sys/net/ipv6/conf/all/forwarding", "1")
+        announce(INTERFACE, CLIENT6)

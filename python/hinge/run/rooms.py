@@ -111,10 +111,12 @@ class Rooms:
             file.flush()
             mount(file.name, path, "none", BIND)
 
-    def lead_out(self, resolver: str) -> None:
+    def lead_out(self, resolver: str, ipv6: bool) -> None:
         """Sends what the client has for other networks to the server's room, and takes names from a resolver there."""
         enter(self.client)
         add_route(SERVER)
+        if ipv6:
+            add_route(SERVER6)
         self.put_over("/etc/resolv.conf", f"nameserver {resolver}\n")
 
     def dropped(self) -> list[int]:

@@ -14,6 +14,8 @@ import time
 import unittest
 from typing import Any
 
+from hinge.run.interfaces import leads_out_in_ipv6
+from hinge.run.outside import GATEWAY, GATEWAY6
 from linked import HINGE, Done, audited_as_lawful, found, needs, needs_rooms, run
 
 PAYLOAD = 1448 / 1500  # of a TCP packet's bytes, with time stamps
@@ -175,30 +177,52 @@ class OfSsh(Behind):
 @needs_rooms
 @needs("curl")
 class OfOutside(Behind):
-    GATEWAY = "10.9.0.2"  # both of them lead it to the loopback interface of the system
+    """Both programs lead some address to the loopback interface of the system."""
 
-    def asked(self, path: str) -> None:
+    def asked(self, path: str, own: str, gateway: str) -> None:
         with open(f"{self.folder}/data", "w") as file:
             file.write("from outside")
-        with subprocess.Popen([sys.executable, "-u", "-m", "http.server", "0", "--bind", "127.0.0.1"], cwd=self.folder, stdout=subprocess.PIPE,
+        with subprocess.Popen([sys.executable, "-u", "-m", "http.server", "0", "--bind", own], cwd=self.folder, stdout=subprocess.PIPE,
                               stderr=subprocess.DEVNULL, text=True) as server:
             assert server.stdout
             port = found(r"port (\d+)", server.stdout.readline())[0]
-            ask = ["curl", "-s", "-m", "9", "-w", " %{time_total}", f"http://{self.GATEWAY}:{port}/data"]
+            ask = ["curl", "-s", "-m", "9", "-w", " %{time_total}", f"http://{gateway}:{port}/data"]
             done = subprocess.run([*HINGE, "run", "--quiet", "--outside", "--up", "30ms", "--down", "30ms", "--", *ask], capture_output=True, text=True,
                                   timeout=30, stdin=subprocess.DEVNULL, env={**os.environ, "PATH": path})
             server.terminate()
-        self.assertRegex(done.stdout, r"^from outside 0\.\d+$", done.stderr)
+        self.assertEqual(done.stderr, "")
+        self.assertRegex(done.stdout, r"^from outside 0\.\d+$")
         self.assertGreaterEqual(float(done.stdout.split()[-1]), 0.12)  # two round trips
+
+    def in_ipv4(self, path: str) -> None:
+        self.asked(path, "127.0.0.1", GATEWAY)
+
+    def in_ipv6(self, path: str) -> None:
+        if not leads_out_in_ipv6():
+            self.skipTest("the system has no way out in IPv6")
+        self.asked(path, "::1", f"[{GATEWAY6}]")
+
+    def with_pasta_alone(self) -> str:
+        alone = tempfile.TemporaryDirectory()
+        self.addCleanup(alone.cleanup)
+        for name in ("pasta", "curl"):
+            os.symlink(str(shutil.which(name)), f"{alone.name}/{name}")
+        return alone.name
 
     @needs("slirp4netns")
     def test_by_slirp4netns(self) -> None:
-        self.asked(os.environ["PATH"])
+        self.in_ipv4(os.environ["PATH"])
+
+    @needs("slirp4netns")
+    def test_ipv6_by_slirp4netns(self) -> None:
+        self.in_ipv6(os.environ["PATH"])
 
     @needs("pasta")
     @unittest.skipIf(os.geteuid() == 0, "pasta doesn't serve root")
     def test_by_pasta(self) -> None:
-        with tempfile.TemporaryDirectory() as alone:
-            for name in ("pasta", "curl"):
-                os.symlink(str(shutil.which(name)), f"{alone}/{name}")
-            self.asked(alone)
+        self.in_ipv4(self.with_pasta_alone())
+
+    @needs("pasta")
+    @unittest.skipIf(os.geteuid() == 0, "pasta doesn't serve root")
+    def test_ipv6_by_pasta(self) -> None:
+        self.in_ipv6(self.with_pasta_alone())
