@@ -10,13 +10,12 @@ import errno
 import os
 import signal
 import sys
-import tempfile
 from typing import Optional, Sequence
 
 from hinge.run.interfaces import add_route, add_tun, dropped, set_up
 from hinge.run.processes import Mask
 from hinge.run.system import (BIND, NEWNET, NEWNS, NEWPID, NEWUSER, PRIVATE, REC, Missing, enter, keep_network_rights, mount, setting, try_to_write,
-                              unshare, write)
+                              unmount, unshare, write)
 
 CLIENT, SERVER = "10.8.0.1", "10.8.0.2"
 CLIENT6, SERVER6 = "fd08::1", "fd08::2"
@@ -104,12 +103,15 @@ class Rooms:
             print(f"hinge run: /etc/hosts: {error.strerror}: the name `server` isn't known, take {SERVER}", file=sys.stderr)
 
     def put_over(self, path: str, text: str) -> None:
-        """Puts a text in the place of a file, in these namespaces alone."""
-        with tempfile.NamedTemporaryFile("w", prefix="hinge-run-") as file:
-            os.fchmod(file.fileno(), 0o644)
-            file.write(text)
-            file.flush()
-            mount(file.name, path, "none", BIND)
+        """Puts a text in the place of a file, in these namespaces alone. Its file system is in no folder, so that nothing outlives the
+        run; and its file has a name there, so that a run inside this one can do the same."""
+        mount("none", "/tmp", "tmpfs", 0)
+        try:
+            write("/tmp/file", text)
+            os.chmod("/tmp/file", 0o644)
+            mount("/tmp/file", path, "none", BIND)
+        finally:
+            unmount("/tmp")
 
     def lead_out(self, resolver: str, ipv6: bool) -> None:
         """Sends what the client has for other networks to the server's room, and takes names from a resolver there."""

@@ -9,6 +9,7 @@ import struct
 
 NEWNS, NEWUSER, NEWPID, NEWNET = 0x00020000, 0x10000000, 0x20000000, 0x40000000  # of unshare(2)
 BIND, REC, PRIVATE = 0x1000, 0x4000, 0x40000  # of mount(2)
+DETACH = 2  # of umount2(2)
 SET_PDEATHSIG, AMBIENT, AMBIENT_RAISE = 1, 47, 2  # of prctl(2)
 KILL = 9
 NET_ADMIN, NET_RAW = 12, 13  # of capabilities(7)
@@ -38,6 +39,11 @@ def enter(network: int) -> None:
 
 def mount(source: str, target: str, kind: str, flags: int) -> None:
     must(libc.mount(source.encode(), target.encode(), kind.encode(), ctypes.c_ulong(flags), None))
+
+
+def unmount(target: str) -> None:
+    """What uses it keeps it."""
+    must(libc.umount2(target.encode(), DETACH))
 
 
 def die_with_parent() -> None:

@@ -90,7 +90,8 @@ class OfPings(unittest.TestCase):
         words = ["run", "--quiet", "--up", "5ms", "--", "ping", "-q", "-c", "2", "-i", "0.2", "server"]
         many = [subprocess.Popen([*HINGE, *words], stdout=subprocess.DEVNULL) for _ in range(6)]
         self.assertEqual([one.wait(30) for one in many], [0] * 6)
-        self.assertEqual(run("--quiet", "--", *HINGE, *words).returncode, 0)
+        got = run("--quiet", "--", *HINGE, *words)
+        self.assertEqual((got.returncode, got.stderr), (0, ""))
 
 
 @needs_rooms
