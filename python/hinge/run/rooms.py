@@ -14,7 +14,7 @@ from typing import Optional, Sequence
 
 from hinge.run.interfaces import add_route, add_tun, dropped, set_up
 from hinge.run.processes import Mask
-from hinge.run.system import (BIND, NEWNET, NEWNS, NEWPID, NEWUSER, PRIVATE, REC, Missing, enter, keep_network_rights, mount, setting, try_to_write,
+from hinge.run.system import (BIND, NEWNET, NEWNS, NEWPID, NEWUSER, Missing, enter, keep_mounts_to_itself, keep_network_rights, mount, setting, try_to_write,
                               unmount, unshare, write)
 
 CLIENT, SERVER = "10.8.0.1", "10.8.0.2"
@@ -23,8 +23,19 @@ NAMES = f"{SERVER} server\n{CLIENT} client\n{SERVER6} server6\n{CLIENT6} client6
 CANNOT_EXECUTE, NOT_FOUND = 126, 127
 
 
+def is_chrooted() -> bool:
+    """As far as a user can see: the root of a chroot is seldom that of a file system."""
+    try:
+        with open("/proc/self/mountinfo") as file:
+            return all(line.split()[4] != "/" for line in file)
+    except OSError:
+        return False
+
+
 def advice(number: Optional[int]) -> str:
     """What to do where namespaces are refused."""
+    if number == errno.EPERM and is_chrooted():
+        return "in a chroot the kernel gives them to root alone: run it as root"
     if setting("kernel/apparmor_restrict_unprivileged_userns") == "1":
         return "AppArmor keeps users from it: sudo sysctl kernel.apparmor_restrict_unprivileged_userns=0, or run it as root"
     if setting("kernel/unprivileged_userns_clone") == "0":
@@ -60,7 +71,10 @@ def leave_the_system() -> bool:
         write("/proc/self/setgroups", "deny")
         write("/proc/self/uid_map", f"{uid} {uid} 1")
         write("/proc/self/gid_map", f"{gid} {gid} 1")
-    mount("none", "/", "none", REC | PRIVATE)
+    try:
+        keep_mounts_to_itself()
+    except OSError as error:
+        raise Missing(f"{error.filename or 'mounts'}: {error.strerror}: in a chroot mount /proc there first: mount -t proc proc /proc") from None
     return own
 
 
@@ -100,7 +114,8 @@ class Rooms:
         try:
             self.put_over("/etc/hosts", names)
         except OSError as error:
-            print(f"hinge run: /etc/hosts: {error.strerror}: the name `server` isn't known, take {SERVER}", file=sys.stderr)
+            made = "make an empty one, or take" if error.errno == errno.ENOENT else "take"
+            print(f"hinge run: /etc/hosts: {error.strerror}: the name `server` isn't known: {made} {SERVER}", file=sys.stderr)
 
     def put_over(self, path: str, text: str) -> None:
         """Puts a text in the place of a file, in these namespaces alone. Its file system is in no folder, so that nothing outlives the

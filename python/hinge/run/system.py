@@ -3,6 +3,7 @@
 from __future__ import annotations
 
 import ctypes
+import errno
 import os
 import platform
 import struct
@@ -44,6 +45,22 @@ def mount(source: str, target: str, kind: str, flags: int) -> None:
 def unmount(target: str) -> None:
     """What uses it keeps it."""
     must(libc.umount2(target.encode(), DETACH))
+
+
+def keep_mounts_to_itself() -> None:
+    """Keeps what is mounted in this mount namespace out of all others. The kernel takes such a wish at the root of a file system alone,
+    which that of a chroot isn't, so it is made from the namespace's own root."""
+    try:
+        mount("none", "/", "none", REC | PRIVATE)
+    except OSError as error:
+        if error.errno != errno.EINVAL:
+            raise
+        root, place, own = (os.open(name, os.O_RDONLY | os.O_CLOEXEC) for name in ("/", ".", "/proc/thread-self/ns/mnt"))
+        must(libc.setns(own, NEWNS))
+        mount("none", "/", "none", REC | PRIVATE)
+        os.fchdir(root)
+        os.chroot(".")
+        os.fchdir(place)
 
 
 def die_with_parent() -> None:

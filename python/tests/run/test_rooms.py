@@ -14,6 +14,18 @@ import unittest
 from linked import HINGE, audited_as_lawful, found, needs, needs_rooms, run
 
 
+CHROOTED = """mount --make-rshared / && cd "$0" || exit 99
+for each in /*; do
+    if [ -L $each ]; then cp -d $each .; elif [ -d $each ]; then mkdir .$each && mount --rbind $each .$each; fi
+done
+before=$(wc -l </proc/self/mountinfo)
+chroot . "$@"
+status=$?
+[ "$before" = "$(wc -l </proc/self/mountinfo)" ] || echo 'mounts came out'
+exit $status
+"""
+
+
 @needs_rooms
 class OfCommands(unittest.TestCase):
     def test_status_and_user(self) -> None:
@@ -68,6 +80,20 @@ class OfCommands(unittest.TestCase):
         ask = "import socket; print(socket.create_connection(('server',80)).recv(9))"
         got = run("--up", "10ms", "--server", serve, "--", sys.executable, "-c", ask)
         self.assertEqual((got.returncode, got.stdout.strip()), (0, "b'hello'"), got.stderr)
+
+
+@needs_rooms
+@needs("unshare", "chroot", "getent")
+@unittest.skipUnless(os.geteuid() == 0, "the kernel gives users no namespaces in a chroot")
+class OfChroots(unittest.TestCase):
+    def test_a_root_that_is_no_file_system_s(self) -> None:
+        """The folder is in mounts that are shared, so that one that the run doesn't keep to itself would be seen from outside."""
+        with tempfile.TemporaryDirectory() as folder:
+            words = ["unshare", "-m", "sh", "-c", CHROOTED, folder, *HINGE, "run", "--quiet", "--", "getent", "ahostsv4", "server"]
+            got = subprocess.run(words, capture_output=True, text=True, timeout=30)
+        self.assertEqual((got.returncode, got.stderr), (0, ""))
+        self.assertIn("10.8.0.2", got.stdout)
+        self.assertNotIn("mounts came out", got.stdout)
 
 
 @needs_rooms
