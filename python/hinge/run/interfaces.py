@@ -7,6 +7,7 @@ import fcntl
 import os
 import socket
 import struct
+from typing import Iterable
 
 from hinge.run.system import Missing, try_to_write
 
@@ -25,15 +26,20 @@ MAIN_TABLE, BY_BOOT, UNICAST, GATEWAY = 254, 3, 1, 5  # RT_TABLE_MAIN, RTPROT_BO
 TUNSETIFF, TUN_WITHOUT_HEADER = 0x400454CA, 0x1001  # IFF_TUN | IFF_NO_PI
 DROPPED_OUT = 11  # the column of /proc/net/dev
 LISTENS = (("tcp", "0A"), ("tcp6", "0A"), ("udp", "07"), ("udp6", "07"))  # in /proc/net, and the state there
-QUIET = (("accept_dad", "0"), ("accept_ra", "0"), ("router_solicitations", "0"), ("addr_gen_mode", "1"))  # of IPv6
+QUIET = (("accept_dad", "0"), ("accept_ra", "0"), ("router_solicitations", "0"))  # of IPv6
+OF_FAMILIES, INET_CONF, ADDRESS_MODE, NO_ADDRESS = 26, 1, 8, 1  # IFLA_AF_SPEC, IFLA_INET_CONF, IFLA_INET6_ADDR_GEN_MODE, IN6_ADDR_GEN_MODE_NONE
+FORWARDING, PROXY_ARP = 1, 3  # IPV4_DEVCONF_FORWARDING, IPV4_DEVCONF_PROXY_ARP
 TUN_ADVICE = {errno.ENOENT: "in a container give it --device /dev/net/tun; elsewhere sudo modprobe tun",
               errno.EACCES: "let users open it, as most systems do: sudo chmod 666 /dev/net/tun"}
 
 
-def ask(kind: int, body: bytes, attributes: list[tuple[int, bytes]]) -> None:
+def packed(attributes: Iterable[tuple[int, bytes]]) -> bytes:
+    return b"".join(struct.pack("HH", 4 + len(data), number) + data + bytes(-len(data) % 4) for number, data in attributes)
+
+
+def ask(kind: int, body: bytes, attributes: Iterable[tuple[int, bytes]]) -> None:
     """Asks the kernel for a change. An ioctl would take root for some."""
-    for number, data in attributes:
-        body += struct.pack("HH", 4 + len(data), number) + data + bytes(-len(data) % 4)
+    body += packed(attributes)
     with socket.socket(socket.AF_NETLINK, socket.SOCK_RAW, 0) as asked:
         asked.send(struct.pack("IHHII", 16 + len(body), kind, REQUEST, 1, 0) + body)
         error = -struct.unpack_from("i", asked.recv(4096), 16)[0]
@@ -41,8 +47,34 @@ def ask(kind: int, body: bytes, attributes: list[tuple[int, bytes]]) -> None:
         raise OSError(error, os.strerror(error))
 
 
-def set_up(name: str, change: int = UP, attributes: tuple[tuple[int, int], ...] = ()) -> None:
-    ask(SETLINK, struct.pack("BxHiII", 0, 0, socket.if_nametoindex(name), UP, change), [(key, struct.pack("I", value)) for key, value in attributes])
+def change(name: str, flags: int, changed: int, attributes: Iterable[tuple[int, bytes]]) -> None:
+    """Changes an interface: which flags it has of those that are to change, and its attributes."""
+    ask(SETLINK, struct.pack("BxHiII", 0, 0, socket.if_nametoindex(name), flags, changed), attributes)
+
+
+def set_up(name: str, changed: int = UP, attributes: tuple[tuple[int, int], ...] = ()) -> None:
+    change(name, UP, changed, [(key, struct.pack("I", value)) for key, value in attributes])
+
+
+def of_family(family: int, settings: bytes) -> list[tuple[int, bytes]]:
+    return [(OF_FAMILIES, packed([(family, settings)]))]
+
+
+def hand_on(name: str) -> None:
+    """Lets an interface take packets of IPv4 for others, and be asked for their addresses. It asks as /proc/sys would, which a container
+    may not let write."""
+    settings = packed([(FORWARDING, struct.pack("I", 1)), (PROXY_ARP, struct.pack("I", 1))])
+    change(name, 0, 0, of_family(socket.AF_INET, packed([(INET_CONF, settings)])))
+
+
+def be_silent(name: str) -> None:
+    """Gives an interface no address of IPv6 by itself, so that the kernel says nothing there."""
+    for setting, value in QUIET:
+        try_to_write(f"/proc/sys/net/ipv6/conf/{name}/{setting}", value)
+    try:
+        change(name, 0, 0, of_family(socket.AF_INET6, packed([(ADDRESS_MODE, bytes([NO_ADDRESS]))])))
+    except OSError:
+        pass  # a system without IPv6
 
 
 def family_and_bytes(text: str) -> tuple[int, bytes]:
@@ -89,8 +121,7 @@ def add_tun(address: str, address6: str, mtu: int) -> int:
         advice = TUN_ADVICE.get(error.errno or 0, "the container or the system keeps this user from it")
         raise Missing(f"/dev/net/tun: {error.strerror}: {advice}") from None
     fcntl.ioctl(made, TUNSETIFF, struct.pack("16sH22x", NAME.encode(), TUN_WITHOUT_HEADER))
-    for name, value in QUIET:
-        try_to_write(f"/proc/sys/net/ipv6/conf/{NAME}/{name}", value)
+    be_silent(NAME)
     set_up(NAME, UP | MULTICAST, ((MTU, mtu), (QUEUE_LENGTH, QUEUE)))
     add_address(NAME, address, 24)
     try:

@@ -10,7 +10,7 @@ import signal
 import socket
 import time
 
-from hinge.run.interfaces import add_address, add_route, announce, leads_out_in_ipv6
+from hinge.run.interfaces import NAME, add_address, add_route, announce, hand_on, leads_out_in_ipv6
 from hinge.run.rooms import CLIENT6, Rooms
 from hinge.run.system import Missing, die_with_parent, enter, try_to_write, write
 
@@ -91,18 +91,21 @@ class Outside:
             if time.monotonic() > until:
                 raise Missing(f"--outside: the server's room gets no way out: {os.pread(self.said, 1000, 0).decode(errors='replace').strip()}")
             time.sleep(0.01)
-        write("/proc/sys/net/ipv4/ip_forward", "1")
-        write(f"/proc/sys/net/ipv4/conf/{INTERFACE}/proxy_arp", "1")
-        if self.ipv6:
-            self.hand_on_ipv6()
-        rooms.lead_out(RESOLVER, self.ipv6)
+        hand_on(NAME)
+        hand_on(INTERFACE)
+        rooms.lead_out(RESOLVER, self.ipv6 and self.hands_on_ipv6())
 
-    def hand_on_ipv6(self) -> None:
-        """The same of the other family. pasta has given the address and the way out, and slirp4netns hasn't."""
+    def hands_on_ipv6(self) -> bool:
+        """The same of the other family, where the system lets it be changed; whether it does. pasta has given the address and the way
+        out, and slirp4netns hasn't."""
+        try:
+            write("/proc/sys/net/ipv6/conf/all/forwarding", "1")
+        except OSError:
+            return False
         for give in (lambda: add_address(INTERFACE, OWN6, 64), lambda: add_route(GATEWAY6)):
             try:
                 give()
             except OSError as error:
                 unless_there(error)
-        write("/proc/sys/net/ipv6/conf/all/forwarding", "1")
         announce(INTERFACE, CLIENT6)
+        return True

@@ -13,7 +13,7 @@ BIND, REC, PRIVATE = 0x1000, 0x4000, 0x40000  # of mount(2)
 DETACH = 2  # of umount2(2)
 SET_PDEATHSIG, AMBIENT, AMBIENT_RAISE = 1, 47, 2  # of prctl(2)
 KILL = 9
-NET_ADMIN, NET_RAW = 12, 13  # of capabilities(7)
+BIND_SERVICE, NET_ADMIN, NET_RAW = 10, 12, 13  # of capabilities(7)
 CAPABILITY_VERSION = 0x20080522
 CAPSET = {"x86_64": 126}.get(platform.machine(), 91)  # 91 on aarch64 and riscv64
 libc = ctypes.CDLL(None, use_errno=True)
@@ -68,11 +68,12 @@ def die_with_parent() -> None:
 
 
 def keep_network_rights() -> None:
-    """Lets what this process executes use raw sockets and the interfaces of its namespace, though it isn't root."""
-    kept = 1 << NET_ADMIN | 1 << NET_RAW
+    """Lets what this process executes use raw sockets, ports below 1024 and the interfaces of its namespace, though it isn't root."""
+    rights = (BIND_SERVICE, NET_ADMIN, NET_RAW)
+    kept = sum(1 << right for right in rights)
     libc.syscall(CAPSET, struct.pack("Ii", CAPABILITY_VERSION, 0), struct.pack("6I", kept, kept, kept, 0, 0, 0))
-    for capability in (NET_ADMIN, NET_RAW):
-        libc.prctl(AMBIENT, AMBIENT_RAISE, capability, 0, 0)
+    for right in rights:
+        libc.prctl(AMBIENT, AMBIENT_RAISE, right, 0, 0)
 
 
 def write(path: str, text: str) -> None:

@@ -28,6 +28,10 @@ Done = subprocess.CompletedProcess
 Word = Union[str, Path]
 
 
+AS_IN_A_CONTAINER = ["unshare", "-m", "sh", "-c", 'mount --bind /proc/sys /proc/sys && mount -o remount,bind,ro /proc/sys && '
+                     'exec setpriv --bounding-set=-sys_admin --inh-caps=-sys_admin "$0" "$@"']  # root without its rights, and no setting to change
+
+
 @lru_cache(maxsize=None)
 def no_host() -> str:
     try:

@@ -16,7 +16,7 @@ from typing import Any
 
 from hinge.run.interfaces import leads_out_in_ipv6
 from hinge.run.outside import GATEWAY, GATEWAY6
-from linked import HINGE, Done, audited_as_lawful, found, needs, needs_rooms, run
+from linked import AS_IN_A_CONTAINER, HINGE, Done, audited_as_lawful, found, needs, needs_rooms, run
 
 PAYLOAD = 1448 / 1500  # of a TCP packet's bytes, with time stamps
 TOLERANCE = 0.05
@@ -179,7 +179,7 @@ class OfSsh(Behind):
 class OfOutside(Behind):
     """Both programs lead some address to the loopback interface of the system."""
 
-    def asked(self, path: str, own: str, gateway: str) -> None:
+    def asked(self, path: str, own: str, gateway: str, *before: str) -> None:
         with open(f"{self.folder}/data", "w") as file:
             file.write("from outside")
         with subprocess.Popen([sys.executable, "-u", "-m", "http.server", "0", "--bind", own], cwd=self.folder, stdout=subprocess.PIPE,
@@ -187,7 +187,7 @@ class OfOutside(Behind):
             assert server.stdout
             port = found(r"port (\d+)", server.stdout.readline())[0]
             ask = ["curl", "-s", "-m", "9", "-w", " %{time_total}", f"http://{gateway}:{port}/data"]
-            done = subprocess.run([*HINGE, "run", "--quiet", "--outside", "--up", "30ms", "--down", "30ms", "--", *ask], capture_output=True, text=True,
+            done = subprocess.run([*before, *HINGE, "run", "--quiet", "--outside", "--up", "30ms", "--down", "30ms", "--", *ask], capture_output=True, text=True,
                                   timeout=30, stdin=subprocess.DEVNULL, env={**os.environ, "PATH": path})
             server.terminate()
         self.assertEqual(done.stderr, "")
@@ -212,6 +212,11 @@ class OfOutside(Behind):
     @needs("slirp4netns")
     def test_by_slirp4netns(self) -> None:
         self.in_ipv4(os.environ["PATH"])
+
+    @needs("slirp4netns", "unshare", "setpriv")
+    @unittest.skipUnless(os.geteuid() == 0, "only root can take its rights away")
+    def test_by_slirp4netns_as_in_a_container(self) -> None:
+        self.asked(os.environ["PATH"], "127.0.0.1", GATEWAY, *AS_IN_A_CONTAINER)
 
     @needs("slirp4netns")
     def test_ipv6_by_slirp4netns(self) -> None:

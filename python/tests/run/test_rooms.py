@@ -11,7 +11,7 @@ import tempfile
 import time
 import unittest
 
-from linked import HINGE, audited_as_lawful, found, needs, needs_rooms, run
+from linked import AS_IN_A_CONTAINER, HINGE, audited, audited_as_lawful, found, needs, needs_rooms, run
 
 
 CHROOTED = """mount --make-rshared / && cd "$0" || exit 99
@@ -94,6 +94,19 @@ class OfChroots(unittest.TestCase):
         self.assertEqual((got.returncode, got.stderr), (0, ""))
         self.assertIn("10.8.0.2", got.stdout)
         self.assertNotIn("mounts came out", got.stdout)
+
+
+@needs_rooms
+@needs("unshare", "setpriv", "ping")
+@unittest.skipUnless(os.geteuid() == 0, "only root can take its rights away")
+class OfContainers(unittest.TestCase):
+    def test_nothing_but_the_command_speaks(self) -> None:
+        """Six entries: two lines, a packet there and back, and the two moments at which they leave."""
+        with tempfile.TemporaryDirectory() as folder:
+            words = [*AS_IN_A_CONTAINER, *HINGE, "run", "--quiet", "--up", "10ms", "--transcript", f"{folder}/h", "--"]
+            got = subprocess.run([*words, "sh", "-c", "sleep 2; ping -c 1 server6"], capture_output=True, text=True, timeout=30)
+            self.assertEqual((got.returncode, got.stderr), (0, ""))
+            self.assertEqual(audited(f"{folder}/h"), "lawful 6")
 
 
 @needs_rooms
