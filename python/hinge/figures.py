@@ -8,6 +8,7 @@ from typing import Optional, TextIO
 
 import numpy as np
 
+from hinge.command import say
 from hinge.groups import group
 from hinge.links import Parts
 from hinge.replay import EVENT_NAMES, FULL, HELD, LOST, NONE, OUT, Replay
@@ -91,6 +92,15 @@ def untargeted(replay: Replay) -> dict[str, int]:
     targets = replay.packets.targets
     counts = np.bincount(replay.packets.target[replay.event == NONE], minlength=len(targets)).tolist()
     return {f"{kind} {number}": count for (kind, number), count in zip(targets, counts) if count}
+
+
+def tell_untargeted(replay: Replay) -> None:
+    """A line for each target that isn't configured, so that a wrong number is noticed, and one where no row has a target."""
+    found = untargeted(replay)
+    for target, count in found.items():
+        say(f"{count:,} rows went to {target}, which isn't configured")
+    if found and sum(found.values()) == len(replay.packets):
+        say("no row has a target: nothing went through a link")
 
 
 def table_of(replay: Replay, parts: Optional[Parts], by: str = "tuple", top: int = MOST_FLOWS) -> list[Figures]:

@@ -13,7 +13,7 @@ from hinge.commands.picture import picture_file
 from hinge.commands.stats import write_text
 from hinge.explain import Explainer
 from hinge.figures import MOST_FLOWS as MOST_ROWS
-from hinge.figures import table_of
+from hinge.figures import table_of, tell_untargeted
 from hinge.groups import WAYS, group
 from hinge.history import Told, read_history
 from hinge.links import Parts
@@ -69,6 +69,7 @@ def main() -> None:
         print("\n\n".join(explainer.paragraph(row) for row in asked.why))
     else:
         write_text(table_of(replay, parts, asked.by, asked.top or MOST_ROWS), sys.stdout)
+        tell_untargeted(replay)
         if not told.steady:
             say("the links were changed while packets came: no parts of the delay")
     if asked.o:

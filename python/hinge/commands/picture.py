@@ -10,6 +10,7 @@ from hinge.chart import MOST_FLOWS, save
 from hinge.command import parser
 from hinge.configured import spelled
 from hinge.explain import Explainer
+from hinge.figures import tell_untargeted
 from hinge.groups import WAYS, Groups, group
 from hinge.links import Parts, read_configuration
 from hinge.page import save_page
@@ -62,6 +63,7 @@ def main() -> None:
     asked = command_line()
     packets = read_packets(asked.packets)
     replays = [read_report(report, packets) for report in asked.reports]
+    tell_untargeted(replays[0])
     found = drawn(replays, asked)
     if not asked.o.lower().endswith(".html"):
         save(found, asked.o, asked.title)

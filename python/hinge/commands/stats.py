@@ -6,11 +6,11 @@ import argparse
 from typing import Optional, TextIO
 
 from hinge.arguments import add_inputs, bounded
-from hinge.command import parser, say, writing
-from hinge.figures import MOST_FLOWS, Figures, table_of, untargeted, write_csv
+from hinge.command import parser, writing
+from hinge.figures import MOST_FLOWS, Figures, table_of, tell_untargeted, write_csv
 from hinge.groups import WAYS
 from hinge.links import Parts, read_configuration
-from hinge.replay import Replay, read_packets, read_report
+from hinge.replay import read_packets, read_report
 
 WHAT = """\
 A line for each flow, the largest first, and one for all: packets and bytes; Mbit/s offered (from its first to its last packet sent) and
@@ -35,12 +35,6 @@ def write_text(table: list[Figures], out: TextIO) -> None:
     widths = [max(map(len, column)) for column in zip(*lines)]
     for first, *rest in lines:
         out.write("  ".join([first.ljust(widths[0]), *(text.rjust(width) for text, width in zip(rest, widths[1:]))]) + "\n")
-
-
-def tell_untargeted(replay: Replay) -> None:
-    """A line for each target that isn't configured, so that a wrong number is noticed."""
-    for target, count in untargeted(replay).items():
-        say(f"{count:,} rows went to {target}, which isn't configured")
 
 
 def command_line() -> argparse.Namespace:

@@ -71,8 +71,16 @@ def command_line() -> argparse.Namespace:
     return asked
 
 
+def tell_untargeted(rows: list[dict[str, str]]) -> None:
+    """How many runs had rows whose pipe or queue isn't configured, so that a wrong number is noticed."""
+    wholes = [row for row in rows if row["flow"] == "all"]
+    if some := [row for row in wholes if row["none"] != "0"]:
+        say(f"in {len(some)} of {len(wholes)} runs rows went to a pipe or queue that isn't configured, {some[0]['none']} of {some[0]['packets']} in run {some[0]['run']}")
+
+
 def gather(study: Study, asked: argparse.Namespace) -> None:
     rows = list(study.rows())
+    tell_untargeted(rows)
     with writing(asked.o) as out:
         writer = csv.DictWriter(out, list(rows[0]), lineterminator="\n")
         writer.writeheader()

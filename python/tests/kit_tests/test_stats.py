@@ -4,13 +4,15 @@ from __future__ import annotations
 
 import csv
 import io
+import subprocess
 import unittest
 
 import numpy as np
-from kit import mixed, needs_tshark, rows_of, run, write
+from kit import folder, mixed, needs_tshark, replay, rows_of, run, write
 
 from hinge.figures import exact_sum, jitter, mean, percentile
 from hinge.packet_rows import HEADER
+from hinge.program import dummynet
 
 
 def table(*words: object) -> dict[str, dict[str, str]]:
@@ -36,6 +38,21 @@ class ByHand(unittest.TestCase):
         done = run("stats", packets, report, "--by", "target")
         self.assertIn("1 rows went to pipe 9, which isn't configured", done.stderr)
         self.assertEqual([line.split("  ")[0] for line in done.stdout.splitlines()[1:]], ["pipe 1", "pipe 9", "all"])
+
+    def test_no_row_has_a_target(self) -> None:
+        """Every command that reads such a replay says so, and the program doesn't."""
+        packets = write("lost.csv", HEADER + "\n" + "".join(f"{moment},pipe,7,10.0.0.1,10.0.0.2,17,1,2,1000,0\n" for moment in (0, 1000)))
+        config = write("lost.config", "pipe 1 config bw {bw}\n")
+        spelled = write("lost1.config", "pipe 1 config bw 8Mbit/s\n")
+        report, history = replay("lost", spelled, packets), folder() / "lost.history"
+        subprocess.run([dummynet(), "replay", spelled, packets, "--history", history], stdout=subprocess.DEVNULL, check=True)
+        for words in (("stats", packets, report), ("picture", packets, report, "-o", "lost.png"), ("look", history)):
+            done = run(*words)
+            told = f"hinge {words[0]}: 2 rows went to pipe 7, which isn't configured\nhinge {words[0]}: no row has a target: nothing went through a link\n"
+            self.assertEqual((done.returncode, done.stderr), (0, told))
+        run("sweep", "plan", "lost", packets, config, "--set", "bw=1Mbit/s,2Mbit/s"), run("sweep", "run", "lost")
+        self.assertEqual(run("sweep", "gather", "lost").stderr,
+                         "hinge sweep: in 2 of 2 runs rows went to a pipe or queue that isn't configured, 2 of 2 in run 1\n")
 
     def test_percentiles_by_nearest_rank(self) -> None:
         ordered = np.arange(1, 201)
