@@ -7,7 +7,7 @@ from typing import Iterable, Iterator, Optional
 
 from hinge.run.words import Wrong
 
-AUDITED = 268_435_456  # bytes: the most that an audit reads
+AUDITED = 268_435_456  # bytes: the most that an audit reads without being told
 
 
 def refuse_own_input(transcript: Optional[str], inputs: Iterable[Optional[str]]) -> None:
@@ -29,5 +29,5 @@ def told(transcript: str, count: int) -> Iterator[str]:
     if count > 1:
         yield f"the transcript is in {count} files, of which each is audited by itself: {parts[0]}, {parts[1]}{' ..' if count > 2 else ''}"
     for part in parts:
-        if os.path.exists(part) and os.path.getsize(part) > AUDITED:
-            yield f"{part}: longer than the {AUDITED} bytes that an audit reads, since the link was never idle"
+        if os.path.exists(part) and (size := os.path.getsize(part)) > AUDITED:
+            yield f"{part} has {size} bytes, since the link was never idle; its audit: dummynet audit --most-history {size} {part}"

@@ -2,15 +2,18 @@
 
 from __future__ import annotations
 
+import subprocess
 import tempfile
 import time
 import unittest
 from fractions import Fraction
 
+from hinge.program import dummynet
 from hinge.run.page import BINS, Times
 from hinge.run.plan import Plan
 from hinge.run.spelling import spelled
 from hinge.run.traces import Rate, Trace, outage_rate, read_trace
+from hinge.run.transcripts import AUDITED, told
 from hinge.run.words import Wrong, duration, link_line
 
 BIN = 100_000_000  # ns
@@ -116,3 +119,22 @@ class Timelines(OfFiles):
     def test_lines_that_are_wrong(self) -> None:
         for text in ("soon pipe 1 config\n", "1s outage\n", "1s outage 2s gently\n", "1s up outage 2s\n"):
             self.assertRaisesRegex(Wrong, "line 1: ", self.lines, text)
+
+
+class OfTranscripts(OfFiles):
+    def test_what_is_told_of_long_ones(self) -> None:
+        """A file that is longer than an audit reads by itself has the command that reads it; the file is as short as that allows."""
+        path = self.file("dummynet-live,1\n#" + "x" * 100 + "\nend,0\n")
+        with open(path, "r+b") as file:
+            self.assertEqual(list(told(path, 1)), [])
+            file.seek(AUDITED - 1)
+            file.write(b"\n")
+        self.assertEqual(list(told(path, 1)), [])
+        with open(path, "ab") as file:
+            file.write(b"\n")
+        [line] = told(path, 1)
+        size, command = AUDITED + 1, line.rpartition(": ")[2]
+        self.assertEqual((line.partition(",")[0], command), (f"{path} has {size} bytes", f"dummynet audit --most-history {size} {path}"))
+        refused, read = (subprocess.run([dummynet(), *words], capture_output=True, text=True) for words in (["audit", path], command.split()[1:]))
+        self.assertEqual((refused.stderr, refused.returncode), ("history too long\n", 6))
+        self.assertNotIn("too long", read.stderr)
