@@ -1,10 +1,11 @@
 """Writes the inputs of a load: a configuration and a packet file.
 
-    python3 bench/loads.py pipe|queues|links|flows ROWS FOLDER
+    python3 bench/loads.py pipe|queues|links|flows|backlogged ROWS FOLDER
 
 Writes FOLDER/LOAD.config and FOLDER/LOAD.csv. `pipe` is one pipe of 8 Gbit/s with 100 hosts on it, filled to nine tenths and more;
-`queues` are 100 queues with weights 1 to 100 on such a pipe; `links` is a pipe with a link of its own for each of 16,384 flows; and
-`flows` are 40,000 flows over ten queues of 64 Kbytes that lose one packet of a hundred. The same words give the same files.
+`queues` are 100 queues with weights 1 to 100 on such a pipe; `links` is a pipe with a link of its own for each of 16,384 flows;
+`flows` are 40,000 flows over ten queues of 64 Kbytes that lose one packet of a hundred; and `backlogged` are 10,000 flows of one queue to
+which a tenth more is sent than the pipe carries, so that all of them wait. The same words give the same files.
 """
 
 from __future__ import annotations
@@ -51,6 +52,11 @@ def flows(r: int) -> tuple[int, str]:
     return r % 1500, f"queue,{1 + r % 10},{flow},2000,{length(r, 32)},{r >> 20 & 0xFFFFFFFF}"
 
 
+def backlogged(r: int) -> tuple[int, str]:
+    flow = f"10.0.0.{(r >> 9) % 100},10.0.0.2,17,{1000 + (r >> 22) % 100}"
+    return r % 1400, f"queue,1,{flow},2000,{length(r, 32)},{r >> 20 & 0xFFFFFFFF}"
+
+
 CONFIGS = {
     "pipe": "pipe 1 config bw 8Gbit/s delay 5ms queue 1000\n",
     "queues": "pipe 1 config bw 8Gbit/s delay 5ms\n"
@@ -60,8 +66,9 @@ CONFIGS = {
     + "".join(
         f"queue {n} config pipe 1 weight {n * 10} queue 64Kbytes plr 0.01 mask src-ip 0xffff src-port 0xffff\n" for n in range(1, 11)
     ),
+    "backlogged": "pipe 1 config bw 8Gbit/s delay 5ms\nqueue 1 config pipe 1 queue 100 mask all\n",
 }
-ROWS: dict[str, Callable[[int], tuple[int, str]]] = {"pipe": pipe, "queues": queues, "links": links, "flows": flows}
+ROWS: dict[str, Callable[[int], tuple[int, str]]] = {"pipe": pipe, "queues": queues, "links": links, "flows": flows, "backlogged": backlogged}
 
 
 def rows(load: str, count: int) -> Iterator[str]:

@@ -1,5 +1,5 @@
 #!/bin/sh
-# The program beside plain Rust on four loads of 1,000,000 rows, as a table: bench/replay.sh [ROUNDS [ROWS]]. It takes about five minutes.
+# The program beside plain Rust on five loads of 1,000,000 rows, as a table: bench/replay.sh [ROUNDS [ROWS]]. It takes about five minutes.
 set -e
 cd "$(dirname "$0")/.."
 work=$(mktemp -d)
