@@ -1,15 +1,15 @@
 -- After a settling no start is due on any link.
-use Rattle.std.proofs.Common.{◌≡◌, ◌∙◌, ◌≤◌, ◌<◌, ◌⊎◌, ℕ, zero, suc, ◌+◌, Bool, true, false, cond, ◌&&◌, ◌||◌, List, [], ◌∷◌, ◌++◌, map, refl, ap, sym, length, drop, arith, ⊎_elim, inl, inr}
-use Rattle.std.specs.Prelude.{Option, Some, None, nat_le, nat_lt, nat_eq, slice_get, option_and_then, option_map}
+use Rattle.std.proofs.Common.{◌≡◌, ◌∙◌, ◌≤◌, ◌<◌, ◌⊎◌, ℕ, zero, suc, ◌+◌, Bool, true, false, cond, ◌&&◌, ◌||◌, List, [], ◌∷◌, ◌++◌, refl, ap, sym, length, drop, arith, ⊎_elim, inl, inr}
+use Rattle.std.specs.Prelude.{Option, Some, None, nat_lt, nat_eq, slice_get}
 use Rattle.std.specs.List.{list_any}
 use Rattle.std.proofs.lemmas.Bool.{eqb-true, eq-eqb}
 use Rattle.std.proofs.lemmas.List.Folds.{list_any-append}
 use Rattle.dn_types.specs.Configuration.{Settings}
 use Rattle.dn_types.specs.Links.{last_due, due_by, arrival_time, free}
-use Rattle.dn_types.specs.SharedLinks.{waiting, next_packet, virtual_time, link_heads}
-use Rattle.dn_types.specs.Starts.{next_start, sooner, first_start, settle, waiting_all, settled, start_at}
+use Rattle.dn_types.specs.SharedLinks.{waiting, virtual_time, link_heads}
+use Rattle.dn_types.specs.Starts.{next_start, sooner, first_start, settle, waiting_all, settled}
 use Rattle.dn_types.specs.Trace.{Link, own, shared, link_eq, Accepted, Event, opened, arrived, started, lost, refused, discarded, collected, Start, is_of, backlog, flow_bound, with_link, links}
-use Rattle.dn_types.specs.Wf2q.{Stamped, heads, total, pick, grown}
+use Rattle.dn_types.specs.Wf2q.{total, grown}
 use Rattle.dn_types.specs.declared.rule.Rule.{Rule}
 use Rattle.dn_types.proofs.Settling.{backlog-own, first-own, and-right, next_packet-first, next_start-packet, waiting-next}
 
