@@ -10,6 +10,7 @@ import errno
 import os
 import signal
 import sys
+from tempfile import gettempdir
 from typing import Optional, Sequence
 
 from hinge.run.interfaces import add_route, add_tun, dropped, set_up
@@ -120,13 +121,15 @@ class Rooms:
     def put_over(self, path: str, text: str) -> None:
         """Puts a text in the place of a file, in these namespaces alone. Its file system is in no folder, so that nothing outlives the
         run; and its file has a name there, so that a run inside this one can do the same."""
-        mount("none", "/tmp", "tmpfs", 0)
+        folder = gettempdir()
+        made = os.path.join(folder, "made")
+        mount("none", folder, "tmpfs", 0)
         try:
-            write("/tmp/file", text)
-            os.chmod("/tmp/file", 0o644)
-            mount("/tmp/file", path, "none", BIND)
+            write(made, text)
+            os.chmod(made, 0o644)
+            mount(made, path, "none", BIND)
         finally:
-            unmount("/tmp")
+            unmount(folder)
 
     def lead_out(self, resolver: str, ipv6: bool) -> None:
         """Sends what the client has for other networks to the server's room, and takes names from a resolver there."""
