@@ -1,10 +1,13 @@
 pub mod Causes
 pub mod Commands
+pub mod Headers
 pub mod Inputs
+pub mod LastNumbers
 pub mod PacketNext
 pub mod PacketParts
 pub mod PlainFields
 pub mod PlainLines
 pub mod PlainRows
 pub mod PlainRowsBack
+pub mod QuotedRows
 pub mod Rows

@@ -1,51 +1,67 @@
 -- The row that stands whole and plainly before a reader is the one that it gives.
-use Rattle.std.proofs.Common.{◌≡◌, ◌∙◌, refl, sym, ap, subst, ℕ, zero, suc, ◌+◌, ◌-◌, ◌<◌, ◌≤◌, ◌^◌, List, ◌++◌, length, drop, Option, Some, None, arith}
+use Rattle.std.proofs.Common.{◌≡◌, ◌∙◌, refl, sym, ap, subst, ℕ, zero, suc, ◌+◌, ◌-◌, ◌<◌, ◌≤◌, ◌^◌, List, ◌∷◌, ◌++◌, length, length-append, drop, Option, Some, None, arith}
 use Rattle.std.specs.Prelude.{max}
-use Rattle.std.proofs.lemmas.List.{append_cancel_left, length-drop}
+use Rattle.std.proofs.lemmas.List.{length-drop}
 use Rattle.dn_text.proofs.UntilParts.{some_is}
 use Rattle.dn_records.specs.Records.{line_of}
 use Rattle.dn_files.specs.PacketParts.{BeginsNext, BeginsRow, header}
-use Rattle.dn_files.specs.PlainRow.{row_until}
+use Rattle.dn_files.specs.QuotedRow.{header_until, row_at_front}
 use Rattle.dn_files.specs.Unread.{Unread}
 use Rattle.dn_files.specs.declared.row.Row.{Row}
-use Rattle.dn_files.proofs.PacketParts.{begins_shorter, cut}
-use Rattle.dn_files.proofs.PlainRows.{row_read}
+use Rattle.dn_files.proofs.Headers.{header_back, header_read}
+use Rattle.dn_files.proofs.PacketParts.{begins_shorter, cut-line}
+use Rattle.dn_files.proofs.QuotedRows.{row_reads}
 use Rattle.dn_files.proofs.PlainRowsBack.{row_back}
 
 -- The header is passed, and what stands behind it is left.
 pub header_given : (number start len : ℕ) (items rest below : List ℕ) (old : Unread) → record { number = number; text = drop start items } ≡ old → start ≤ length items
-    → drop start items ≡ line_of header ++ rest → len ≡ length items → old.text ≡ line_of header ++ below
+    → Some rest ≡ header_until (drop start items) → len ≡ length items → old.text ≡ line_of header ++ below
     → ◌≡◌ {A = Unread} (record { number = 1; text = drop (len - length rest) items }) (record { number = 1; text = below })
-header_given number start len items rest below old view le is count held =
-    let left = cut start items (line_of header) rest le is in
-    let same : line_of header ++ rest ≡ line_of header ++ below = sym is ∙ ap (λ (u : Unread). u.text) view ∙ held in
-    rw count (ap (λ (t : List ℕ). let u : Unread = record { number = 1; text = t } in u) (left ∙ append_cancel_left (line_of header) rest below same))
+header_given number start len items rest below old view le read count held =
+    let begins = header_read (drop start items) rest (sym read) in
+    let left = cut-line start items begins.front rest le begins.stands in
+    let same : rest ≡ below = some_is rest below (read ∙ ap header_until (ap (λ (u : Unread). u.text) view ∙ held) ∙ header_back below) in
+    rw count (ap (λ (t : List ℕ). let u : Unread = record { number = 1; text = t } in u) (left ∙ same))
+
+-- What stands behind the header is shorter than the whole.
+pub header_left : (start : ℕ) (items rest : List ℕ) → Some rest ≡ header_until (drop start items) → length rest < length items
+header_left start items rest read =
+    let begins = header_read (drop start items) rest (sym read) in
+    let sum : length (drop start items) ≡ length begins.front + length (10 ∷ rest) = ap (length {A = ℕ}) begins.stands ∙ length-append begins.front (10 ∷ rest) in
+    let whole = length-drop start items in
+    omega arith
+
+-- Where nothing was read no header stands.
+pub header_withheld : (number start : ℕ) (items below : List ℕ) (old : Unread) → record { number = number; text = drop start items } ≡ old → None ≡ header_until (drop start items)
+    → old.text ≡ line_of header ++ below → ⊥
+header_withheld number start items below old view none held =
+    let read : None ≡ Some below = none ∙ ap header_until (ap (λ (u : Unread). u.text) view ∙ held) ∙ header_back below in cc read
 
 -- What was read at the front of what is left is the row that stands there.
 pub row_given : (number start len : ℕ) (items left rest : List ℕ) (given row : Row) (old : Unread) → record { number = number; text = drop start items } ≡ old → start ≤ length items
-    → Some (given, left) ≡ row_until (drop start items) → len ≡ length items → BeginsRow old.text row rest
+    → Some (given, left) ≡ row_at_front (drop start items) → len ≡ length items → BeginsRow old.text row rest
     → (◌≡◌ {A = Option Row} (Some given) (Some row)) × (◌≡◌ {A = Unread} (record { number = number + 1; text = drop (len - length left) items }) (record { number = old.number + 1; text = rest }))
 row_given number start len items left rest given row old view le read count begins =
-    let own = row_read (drop start items) left given (sym read) in
-    let behind = cut start items (line_of own.fields) left le own.stands in
-    let both = some_is (given, left) (row, rest) (read ∙ ap row_until (ap (λ (u : Unread). u.text) view) ∙ row_back old.text rest row begins) in (
+    let own = row_reads (drop start items) left given (sym read) in
+    let behind = cut-line start items own.line.front left le own.line.stands in
+    let both = some_is (given, left) (row, rest) (read ∙ ap row_at_front (ap (λ (u : Unread). u.text) view) ∙ row_back old.text rest row begins) in (
       ap (λ p. Some (p.0)) both,
       rw count (ap (λ (t : List ℕ). let u : Unread = record { number = number + 1; text = t } in u) (behind ∙ ap (λ p. p.1) both)
           ∙ ap (λ (n : ℕ). let u : Unread = record { number = n + 1; text = rest } in u) (ap (λ (u : Unread). u.number) view)),
     )
 
 -- What stands behind a row is shorter than the whole.
-pub row_left : (start : ℕ) (items left : List ℕ) (row : Row) → Some (row, left) ≡ row_until (drop start items) → length left < length items
+pub row_left : (start : ℕ) (items left : List ℕ) (row : Row) → Some (row, left) ≡ row_at_front (drop start items) → length left < length items
 row_left start items left row read =
-    let shorter = begins_shorter (drop start items) left row (row_read (drop start items) left row (sym read)) in
+    let shorter = begins_shorter (drop start items) left row (row_reads (drop start items) left row (sym read)) in
     let whole = length-drop start items in
     omega arith
 
 -- Where nothing was read no row stands.
-pub row_withheld : (number start : ℕ) (items rest : List ℕ) (row : Row) (old : Unread) → record { number = number; text = drop start items } ≡ old → None ≡ row_until (drop start items)
+pub row_withheld : (number start : ℕ) (items rest : List ℕ) (row : Row) (old : Unread) → record { number = number; text = drop start items } ≡ old → None ≡ row_at_front (drop start items)
     → BeginsRow old.text row rest → ⊥
 row_withheld number start items rest row old view none begins =
-    let read : None ≡ Some (row, rest) = none ∙ ap row_until (ap (λ (u : Unread). u.text) view) ∙ row_back old.text rest row begins in cc read
+    let read : None ≡ Some (row, rest) = none ∙ ap row_at_front (ap (λ (u : Unread). u.text) view) ∙ row_back old.text rest row begins in cc read
 
 -- What a row gives, and the reader behind it.
 abbrev Gives : Option Row → Unread → Unread → Row → List ℕ → Type 0

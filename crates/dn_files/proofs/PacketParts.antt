@@ -5,21 +5,20 @@ use Rattle.std.specs.Result.{is_ok}
 use Rattle.std.proofs.lemmas.List.{append-nil, drop-append-le, drop-drop, drop-set, take-append-drop}
 use Rattle.std.proofs.Math.ListN.{set}
 use Rattle.std.proofs.Math.Seq.{drop-append_seam}
-use Rattle.csv.specs.Writing.{default_writer, fields_text, is_blank, row_body}
-use Rattle.csv.specs.Reading.{strip_bom}
 use Rattle.csv.specs.Records.{field_at}
 use Rattle.csv.specs.declared.parser.State.TheVariants as st
 use Rattle.dn_records.specs.Reading.{records_after}
-use Rattle.dn_records.specs.Records.{Fields, line_of, records_of}
-use Rattle.dn_records.proofs.ReadBack.{line-some}
-use Rattle.dn_records.proofs.FirstLine.{behind-feed, line-first}
-use Rattle.dn_files.specs.PacketFile.{is_header, row_of, rows_below, rows_from, rows_of}
-use Rattle.dn_files.specs.PacketParts.{BeginsRow, HasRead, PassesRows, header, rows_left, with_front}
+use Rattle.dn_records.specs.Records.{Fields, records_of}
+use Rattle.dn_records.proofs.FirstLine.{behind-feed}
+use Rattle.dn_files.specs.PacketFile.{is_header, rows_below, rows_from, rows_of}
+use Rattle.dn_files.specs.PacketParts.{HasRead, PassesRows, header, rows_left, with_front}
 use Rattle.dn_files.specs.Reading.{IsFaultOf}
 use Rattle.dn_files.specs.Unread.{Unread}
 use Rattle.dn_files.specs.declared.replay_fault.ReplayFault.{ReplayFault}
 use Rattle.dn_files.specs.declared.row.Row.{Row}
+use Rattle.dn_files.proofs.Headers.{BeginsFirst}
 use Rattle.dn_files.proofs.Inputs.{carried}
+use Rattle.dn_files.proofs.PlainRows.{ReadsRow}
 use Rattle.dn_files.proofs.Rows.{one_more, starts}
 
 -- Nothing has been fed.
@@ -60,27 +59,31 @@ header-is : is_header header ≡ true
 unfolding is_header field_at
 header-is = refl
 
-first-record : (tail : List ℕ) → records_of (line_of header ++ tail) ≡ header ∷ records_after st.StartRecord tail
-unfolding strip_bom fields_text is_blank
-first-record tail = line-first _ _ tail
+-- What stands behind a line, by the line feed at its end.
+pub cut-line : (start : ℕ) (items front rest : List ℕ) → start ≤ length items → drop start items ≡ front ++ 10 ∷ rest → drop (length items - length rest) items ≡ rest
+cut-line start items front rest le is = cut start items (front ++ 10 ∷ []) rest le (is ∙ sym (append_assoc front (10 ∷ []) rest))
 
-header_passed : (rest text : List ℕ) (rows : List Row) → HasRead (record { number = 0; text = line_of header ++ rest }) text rows → HasRead (record { number = 1; text = rest }) text rows
+-- More of a text behind a line of it.
+line-more : (left front rest more : List ℕ) → left ≡ front ++ 10 ∷ rest → left ++ more ≡ front ++ 10 ∷ (rest ++ more)
+line-more left front rest more stands = ap (λ (t : List ℕ). t ++ more) stands ∙ append_assoc front (10 ∷ rest) more
+
+header_passed : (left rest text : List ℕ) (rows : List Row) → BeginsFirst left header rest → HasRead (record { number = 0; text = left }) text rows → HasRead (record { number = 1; text = rest }) text rows
 unfolding rows_left rows_below
-header_passed rest text rows has = record {
+header_passed left rest text rows begins has = record {
   goes_on = λ more.
-      let next : rows_of ((line_of header ++ rest) ++ more) ≡ rows_from 1 (records_after st.StartRecord (rest ++ more)) =
-      ap rows_of (append_assoc (line_of header) rest more) ∙ ap rows_below (first-record (rest ++ more)) ∙ rw header-is refl in
+      let next : rows_of (left ++ more) ≡ rows_from 1 (records_after st.StartRecord (rest ++ more)) =
+      ap rows_of (line-more left begins.front rest more begins.stands) ∙ ap rows_below (begins.reads (rest ++ more)) ∙ rw header-is refl in
       has.goes_on more ∙ ap (with_front rows) next;
 }
 
 -- The header was read, and the text behind it is left.
 pub header_taken : (number start len : ℕ) (items rest : List ℕ) (old : Unread) → record { number = number; text = drop start items } ≡ old → number ≡ 0 → start ≤ length items
-    → drop start items ≡ line_of header ++ rest → len ≡ length items → (text : List ℕ) → (rows : List Row) → HasRead old text rows
+    → BeginsFirst (drop start items) header rest → len ≡ length items → (text : List ℕ) → (rows : List Row) → HasRead old text rows
     → HasRead (record { number = 1; text = drop (len - length rest) items }) text rows
-header_taken number start len items rest old view first le is count text rows has =
-    let had : HasRead (record { number = 0; text = line_of header ++ rest }) text rows =
-    subst (λ (u : Unread). HasRead u text rows) (sym view ∙ ap (λ n. record { number = n; text = drop start items }) first ∙ ap (λ (t : List ℕ). record { number = 0; text = t }) is) has in
-    rw (count, cut start items (line_of header) rest le is) (header_passed rest text rows had)
+header_taken number start len items rest old view first le begins count text rows has =
+    let had : HasRead (record { number = 0; text = drop start items }) text rows =
+    subst (λ (u : Unread). HasRead u text rows) (sym view ∙ ap (λ n. record { number = n; text = drop start items }) first) has in
+    rw (count, cut-line start items begins.front rest le begins.stands) (header_passed (drop start items) rest text rows begins had)
 
 -- The rows from a row on.
 pub later : (number : ℕ) (text : List ℕ) → 0 < number → rows_left number text ≡ rows_from number (records_after st.StartRecord text)
@@ -88,47 +91,41 @@ unfolding rows_left
 later zero text some = absurd (omega arith)
 later (suc n) text some = refl
 
-row_passed : (number : ℕ) (fields : Fields) (row : Row) (rest text : List ℕ) (rows : List Row) → 0 < number → row_of fields ≡ Ok row
-    → HasRead (record { number = number; text = line_of fields ++ rest }) text rows → HasRead (record { number = number + 1; text = rest }) text (rows ++ row ∷ [])
-unfolding row_of
-row_passed number [] row rest text rows some says has = cc says
-row_passed number (field ∷ fields) row rest text rows some says has = record {
+row_passed : (number : ℕ) (row : Row) (left rest text : List ℕ) (rows : List Row) → 0 < number → ReadsRow left row rest
+    → HasRead (record { number = number; text = left }) text rows → HasRead (record { number = number + 1; text = rest }) text (rows ++ row ∷ [])
+row_passed number row left rest text rows some begins has = record {
   goes_on = λ more.
-      let front : (line_of (field ∷ fields) ++ rest) ++ more ≡ line_of (field ∷ fields) ++ (rest ++ more) = append_assoc (line_of (field ∷ fields)) rest more in
-      let left = records_after st.StartRecord (rest ++ more) in
-      let old = (field ∷ fields) ∷ left in
-      has.goes_on more ∙ ap (λ (t : List ℕ). with_front rows (rows_left number t)) front
-      ∙ ap (with_front rows) (later number (line_of (field ∷ fields) ++ (rest ++ more)) some ∙ ap (rows_from number) (line-first field fields (rest ++ more)))
-      ∙ one_more rows number old left row (says, refl, refl)
+      let behind = records_after st.StartRecord (rest ++ more) in
+      has.goes_on more ∙ ap (λ (t : List ℕ). with_front rows (rows_left number t)) (line-more left begins.line.front rest more begins.line.stands)
+      ∙ ap (with_front rows) (later number (begins.line.front ++ 10 ∷ (rest ++ more)) some ∙ ap (rows_from number) (begins.line.reads (rest ++ more)))
+      ∙ one_more rows number (begins.fields ∷ behind) behind row (begins.says, refl, refl)
       ∙ ap (with_front (rows ++ row ∷ [])) (sym (later (number + 1) (rest ++ more) (omega arith)));
 }
 
 -- A row was read, and the text behind it is left.
 pub row_taken : (number start len : ℕ) (items rest : List ℕ) (row : Row) (old : Unread) → record { number = number; text = drop start items } ≡ old → 0 < number → start ≤ length items
-    → BeginsRow (drop start items) row rest → len ≡ length items → (text : List ℕ) → (rows : List Row) → HasRead old text rows
+    → ReadsRow (drop start items) row rest → len ≡ length items → (text : List ℕ) → (rows : List Row) → HasRead old text rows
     → HasRead (record { number = number + 1; text = drop (len - length rest) items }) text (rows ++ row ∷ [])
 row_taken number start len items rest row old view some le begins count text rows has =
-    let had : HasRead (record { number = number; text = line_of begins.fields ++ rest }) text rows =
-    subst (λ (u : Unread). HasRead u text rows) (sym view ∙ ap (λ (t : List ℕ). record { number = number; text = t }) begins.stands) has in
-    rw (count, cut start items (line_of begins.fields) rest le begins.stands) (row_passed number begins.fields row rest text rows some begins.says had)
+    let had : HasRead (record { number = number; text = drop start items }) text rows = subst (λ (u : Unread). HasRead u text rows) (sym view) has in
+    rw (count, cut-line start items begins.line.front rest le begins.line.stands) (row_passed number row (drop start items) rest text rows some begins had)
 
 -- What is left behind the header is no longer.
 pub header_shorter : (number start len : ℕ) (items rest : List ℕ) (old : Unread) → record { number = number; text = drop start items } ≡ old → start ≤ length items
-    → drop start items ≡ line_of header ++ rest → len ≡ length items → length (drop (len - length rest) items) ≤ length old.text
-header_shorter number start len items rest old view le is count =
-    let left = cut start items (line_of header) rest le is in
+    → BeginsFirst (drop start items) header rest → len ≡ length items → length (drop (len - length rest) items) ≤ length old.text
+header_shorter number start len items rest old view le begins count =
+    let left = cut-line start items begins.front rest le begins.stands in
     let was : length (drop start items) ≡ length old.text = ap (λ (u : Unread). length u.text) view in
-    let sum : length (drop start items) ≡ length (line_of header) + length rest = ap (length {A = ℕ}) is ∙ length-append (line_of header) rest in
+    let sum : length (drop start items) ≡ length begins.front + length (10 ∷ rest) = ap (length {A = ℕ}) begins.stands ∙ length-append begins.front (10 ∷ rest) in
     rw (count, left) (omega arith)
 
 -- What is left behind a row is shorter.
 pub row_shorter : (number start len : ℕ) (items rest : List ℕ) (row : Row) (old : Unread) → record { number = number; text = drop start items } ≡ old → start ≤ length items
-    → BeginsRow (drop start items) row rest → len ≡ length items → length (drop (len - length rest) items) < length old.text
+    → ReadsRow (drop start items) row rest → len ≡ length items → length (drop (len - length rest) items) < length old.text
 row_shorter number start len items rest row old view le begins count =
-    let left = cut start items (line_of begins.fields) rest le begins.stands in
+    let left = cut-line start items begins.line.front rest le begins.line.stands in
     let was : length (drop start items) ≡ length old.text = ap (λ (u : Unread). length u.text) view in
-    let sum : length (drop start items) ≡ length (line_of begins.fields) + length rest = ap (length {A = ℕ}) begins.stands ∙ length-append (line_of begins.fields) rest in
-    let some = line-some begins.fields in
+    let sum : length (drop start items) ≡ length begins.line.front + length (10 ∷ rest) = ap (length {A = ℕ}) begins.line.stands ∙ length-append begins.line.front (10 ∷ rest) in
     rw (count, left) (omega arith)
 
 -- What is left once the text has ended.
@@ -157,55 +154,40 @@ pub at_header : (number : ℕ) (left : List ℕ) → number ≡ 0 → rows_left 
 unfolding rows_left
 at_header number left none = rw none refl
 
--- A line is what stands before its line feed, and the line feed.
-pub line-ends : (fields : Fields) (rest : List ℕ) → (front : List ℕ) × (line_of fields ++ rest ≡ front ++ 10 ∷ rest)
-line-ends fields rest = (
-  row_body default_writer fields ++ blank,
-  ap (λ (t : List ℕ). t ++ rest) (sym (append_assoc (row_body default_writer fields) blank (10 ∷ []))) ∙ append_assoc (row_body default_writer fields ++ blank) (10 ∷ []) rest,
-)
-  where
-    blank : List ℕ
-    blank = cond (is_blank default_writer fields) (34 ∷ 34 ∷ []) []
-
 -- No row was read yet.
 pub none_passed : (text : List ℕ) (rows : List Row) → PassesRows text text rows rows
 none_passed text rows = record { read = []; stands = refl; goes_on = λ first some. refl }
 
 -- One row more.
-pub passes_more : (text left behind : List ℕ) (old new : List Row) (row : Row) → PassesRows text left old new → BeginsRow left row behind
+pub passes_more : (text left behind : List ℕ) (old new : List Row) (row : Row) → PassesRows text left old new → ReadsRow left row behind
     → PassesRows text behind old (new ++ row ∷ [])
-unfolding row_of
-passes_more text left behind old new row passes begins = more begins.fields begins.stands begins.says
-  where
-    more : (fields : Fields) → left ≡ line_of fields ++ behind → row_of fields ≡ Ok row → PassesRows text behind old (new ++ row ∷ [])
-    more [] stands says = cc says
-    more (field ∷ fields) stands says =
-        let (front, is) = line-ends (field ∷ fields) behind in
-        let L = records_after st.StartRecord behind in
-        record {
-          read = passes.read ++ 10 ∷ front;
-          stands = passes.stands ∙ ap (λ (t : List ℕ). passes.read ++ 10 ∷ t) (stands ∙ is) ∙ sym (append_assoc passes.read (10 ∷ front) (10 ∷ behind));
-          goes_on = λ first some.
-              let number : first + length (new ++ row ∷ []) ≡ first + length new + 1 = omega (arith, length-append new (row ∷ [])) in
-              passes.goes_on first some
-              ∙ ap (λ (rs : List Fields). with_front new (rows_from (first + length new) rs)) (ap (records_after st.StartRecord) stands ∙ line-first field fields behind)
-              ∙ one_more new (first + length new) ((field ∷ fields) ∷ L) L row (says, refl, refl)
-              ∙ ap (λ n. with_front (new ++ row ∷ []) (rows_from n L)) (sym number);
-        }
+passes_more text left behind old new row passes begins =
+    let front = begins.line.front in
+    let L = records_after st.StartRecord behind in
+    record {
+      read = passes.read ++ 10 ∷ front;
+      stands = passes.stands ∙ ap (λ (t : List ℕ). passes.read ++ 10 ∷ t) begins.line.stands ∙ sym (append_assoc passes.read (10 ∷ front) (10 ∷ behind));
+      goes_on = λ first some.
+          let number : first + length (new ++ row ∷ []) ≡ first + length new + 1 = omega (arith, length-append new (row ∷ [])) in
+          passes.goes_on first some
+          ∙ ap (λ (rs : List Fields). with_front new (rows_from (first + length new) rs)) (ap (records_after st.StartRecord) begins.line.stands ∙ begins.line.reads behind)
+          ∙ one_more new (first + length new) (begins.fields ∷ L) L row (begins.says, refl, refl)
+          ∙ ap (λ n. with_front (new ++ row ∷ []) (rows_from n L)) (sym number);
+    }
 
 -- What is left after a row is shorter.
-pub begins_shorter : (left behind : List ℕ) (row : Row) → BeginsRow left row behind → length behind < length left
+pub begins_shorter : (left behind : List ℕ) (row : Row) → ReadsRow left row behind → length behind < length left
 begins_shorter left behind row begins =
-    let sum : length left ≡ length (line_of begins.fields) + length behind = ap (length {A = ℕ}) begins.stands ∙ length-append (line_of begins.fields) behind in
-    let some = line-some begins.fields in
+    let sum : length left ≡ length begins.line.front + length (10 ∷ behind) = ap (length {A = ℕ}) begins.line.stands ∙ length-append begins.line.front (10 ∷ behind) in
     omega arith
 
 -- The text behind the header, and what plain rows leave of it.
-module _ (text below left : List ℕ) (rows : List Row) (headed : text ≡ line_of header ++ below) (passes : PassesRows below left [] rows) where
+module _ (text below left : List ℕ) (rows : List Row) (headed : BeginsFirst text header below) (passes : PassesRows below left [] rows) where
   pub whole-is : (front : List ℕ) × (text ≡ front ++ 10 ∷ left)
-  whole-is =
-      let (front, is) = line-ends header below in
-      (front ++ passes.read, headed ∙ is ∙ ap (λ (t : List ℕ). front ++ t) passes.stands ∙ sym (append_assoc front passes.read (10 ∷ left)))
+  whole-is = (
+    headed.front ++ passes.read,
+    headed.stands ∙ ap (λ (t : List ℕ). headed.front ++ t) passes.stands ∙ sym (append_assoc headed.front passes.read (10 ∷ left)),
+  )
 
   pub left-fits : length left + 1 ≤ length text
   left-fits =
@@ -227,7 +209,7 @@ module _ (text below left : List ℕ) (rows : List Row) (headed : text ≡ line_
       let L = records_after st.StartRecord below in
       let begun : rows_below (header ∷ L) ≡ with_front [] (rows_from 1 L) = rw header-is (sym (starts (rows_from 1 L))) in
       let gone : with_front [] (rows_from 1 L) ≡ with_front rows (rows_from (1 + length rows) (records_after st.StartRecord left)) = passes.goes_on 1 (omega arith) in
-      ap rows_of headed ∙ ap rows_below (first-record below) ∙ begun ∙ gone ∙ ap (λ n. with_front rows (rows_from n (records_after st.StartRecord left))) number
+      ap rows_of headed.stands ∙ ap rows_below (headed.reads below) ∙ begun ∙ gone ∙ ap (λ n. with_front rows (rows_from n (records_after st.StartRecord left))) number
       ∙ ap (λ (rs : List Fields). with_front rows (rows_from (length rows + 1) rs)) (sym (behind-feed left))
 
   -- The rows of the whole are the plain ones and those that are left.

@@ -1,9 +1,12 @@
 -- Fields that are written as they are, without quotes.
-use Rattle.std.proofs.Common.{◌≡◌, ℕ, List, [], ◌∷◌, ◌++◌, Ok}
+use Rattle.std.proofs.Common.{◌≡◌, ℕ, List, [], ◌∷◌, ◌++◌, ◌⊎◌, Ok, Some}
 use Rattle.csv.specs.Writing.{default_writer, field_text}
 use Rattle.dn_types.specs.declared.five_tuple.FiveTuple.{FiveTuple}
 use Rattle.dn_types.specs.declared.target.Target.{Target}
+use Rattle.dn_text.specs.Addresses.{address_of}
+use Rattle.dn_text.specs.Numbers.{number_within}
 use Rattle.dn_records.specs.Records.{Fields}
+use Rattle.dn_records.proofs.LineEnds.{BeginsFields, Opens, Writes}
 use Rattle.dn_files.specs.Fields.{target_at, tuple_at}
 
 -- A field that is written as it is.
@@ -15,15 +18,30 @@ abbrev pub AllPlain : Fields → Type 0
 AllPlain [] = Unit {0}
 AllPlain (field ∷ fields) = IsPlain field × AllPlain fields
 
--- Fields with a comma behind each, and then the rest of a text.
-abbrev pub with_commas : Fields → List ℕ → List ℕ
-with_commas [] rest = rest
-with_commas (field ∷ fields) rest = field ++ 44 ∷ with_commas fields rest
+-- What a text ends with behind its fields: a last one, and the end of its line.
+abbrev pub EndsIn : List ℕ → List ℕ → List ℕ → Type 0
+EndsIn text field rest = (text ≡ field ++ 10 ∷ rest) ⊎ (text ≡ field ++ 13 ∷ 10 ∷ rest)
 
--- A text begins with these plain fields, with a comma behind each, and then the rest follows.
-pub record BeginsFields (text : List ℕ) (fields : Fields) (rest : List ℕ) : Type 0 where
-  pub stands : text ≡ with_commas fields rest
-  pub plain : AllPlain fields
+-- A text begins with the field of a number of a range.
+pub record BeginsNumber (text : List ℕ) (least greatest n : ℕ) (rest : List ℕ) : Type 0 where
+  pub field : List ℕ
+  pub fields : BeginsFields text (field ∷ []) rest
+  pub opens : Opens text
+  pub says : number_within least greatest field ≡ Ok n
+
+-- A text begins with the last field of a line, a number of a range, and with the end of that line.
+pub record EndsNumber (text : List ℕ) (least greatest n : ℕ) (rest : List ℕ) : Type 0 where
+  pub written : List ℕ
+  pub field : List ℕ
+  pub ends : EndsIn text written rest
+  pub writes : Writes written field
+  pub says : number_within least greatest field ≡ Ok n
+
+-- A text begins with the field of an address.
+pub record BeginsAddress (text : List ℕ) (a : ℕ) (rest : List ℕ) : Type 0 where
+  pub field : List ℕ
+  pub fields : BeginsFields text (field ∷ []) rest
+  pub says : address_of field ≡ Some a
 
 -- A text begins with the two fields of a target, which are the second and the third of a row.
 pub record BeginsTarget (text : List ℕ) (target : Target) (rest : List ℕ) : Type 0 where

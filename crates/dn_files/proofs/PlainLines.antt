@@ -1,13 +1,16 @@
 -- Lines whose fields are written as they are.
-use Rattle.std.proofs.Common.{◌≡◌, ◌∙◌, ℕ, false, true, List, [], ◌∷◌, ◌++◌, Bool, refl, inl, inr, sym, ap, append_assoc}
+use Rattle.std.proofs.Common.{◌≡◌, ◌∙◌, ℕ, false, true, List, [], ◌∷◌, ◌++◌, Bool, refl, inl, inr, ap, append_assoc, subst}
 use Rattle.std.specs.List.{list_any, list_all}
 use Rattle.std.proofs.lemmas.Bool.{cases_Bool}
 use Rattle.csv.specs.Writing.{default_writer, fields_text, is_blank, needs_byte}
+use Rattle.dn_records.specs.Reading.{BeginsLine}
 use Rattle.dn_records.specs.Records.{Fields, line_of}
-use Rattle.dn_files.proofs.PlainFields.{AllPlain, BeginsFields, IsPlain, with_commas}
+use Rattle.dn_records.proofs.LineEnds.{BeginsFields, Opens, Writes, feed-line, return-line}
+use Rattle.dn_files.specs.PacketParts.{returned_line}
+use Rattle.dn_files.proofs.PlainFields.{AllPlain, EndsIn, IsPlain}
 
 -- A field whose bytes all pass a test is plain, where what passes calls for no quotes.
-unquoted : (test : ℕ → Bool) → ((byte : ℕ) → test byte ≡ true → needs_byte default_writer byte ≡ false) → (field : List ℕ) → list_all test field ≡ true
+pub unquoted : (test : ℕ → Bool) → ((byte : ℕ) → test byte ≡ true → needs_byte default_writer byte ≡ false) → (field : List ℕ) → list_all test field ≡ true
     → list_any (needs_byte default_writer) field ≡ false
 unquoted test plain [] e = refl
 unquoted test plain (byte ∷ field) e = elim (cases_Bool (test byte)) [
@@ -18,48 +21,34 @@ unquoted test plain (byte ∷ field) e = elim (cases_Bool (test byte)) [
 pub plain-field : (test : ℕ → Bool) → ((byte : ℕ) → test byte ≡ true → needs_byte default_writer byte ≡ false) → (field : List ℕ) → list_all test field ≡ true → IsPlain field
 plain-field test plain field e = rw (unquoted test plain field e) refl
 
--- The text behind a field of a plain line: further fields, each with a comma before it, and a line feed before the rest.
+-- The text behind a field of a plain line: further fields, each with a comma before it, and then the end of the line and the rest.
 abbrev pub plain_end : Fields → List ℕ → List ℕ
-plain_end [] rest = 10 ∷ rest
-plain_end (field ∷ fields) rest = 44 ∷ (field ++ plain_end fields rest)
+plain_end [] tail = tail
+plain_end (field ∷ fields) tail = 44 ∷ (field ++ plain_end fields tail)
 
-end-is : (fields : Fields) (rest : List ℕ) → AllPlain fields → fields_text default_writer fields ++ 10 ∷ rest ≡ plain_end fields rest
+end-is : (fields : Fields) (tail : List ℕ) → AllPlain fields → fields_text default_writer fields ++ tail ≡ plain_end fields tail
 unfolding fields_text
-end-is [] rest plain = refl
-end-is (field ∷ fields) rest plain =
-    rw plain.0 (ap (λ (t : List ℕ). 44 ∷ t) (append_assoc field (fields_text default_writer fields) (10 ∷ rest) ∙ ap (λ (t : List ℕ). field ++ t) (end-is fields rest plain.1)))
+end-is [] tail plain = refl
+end-is (field ∷ fields) tail plain =
+    rw plain.0 (ap (λ (t : List ℕ). 44 ∷ t) (append_assoc field (fields_text default_writer fields) tail ∙ ap (λ (t : List ℕ). field ++ t) (end-is fields tail plain.1)))
+
+body-is : (first : List ℕ) (fields : Fields) (ends rest : List ℕ) → IsPlain first → AllPlain fields
+    → ((first ++ fields_text default_writer fields) ++ ends) ++ rest ≡ first ++ plain_end fields (ends ++ rest)
+body-is first fields ends rest plain more =
+    append_assoc (first ++ fields_text default_writer fields) ends rest ∙ append_assoc first (fields_text default_writer fields) (ends ++ rest)
+    ∙ ap (λ (t : List ℕ). first ++ t) (end-is fields (ends ++ rest) more)
 
 pub line-is : (first second : List ℕ) (fields : Fields) (rest : List ℕ) → IsPlain first → AllPlain (second ∷ fields)
-    → line_of (first ∷ second ∷ fields) ++ rest ≡ first ++ plain_end (second ∷ fields) rest
+    → line_of (first ∷ second ∷ fields) ++ rest ≡ first ++ plain_end (second ∷ fields) (10 ∷ rest)
 unfolding is_blank
-line-is first second fields rest plain more =
-    rw plain (append_assoc (first ++ fields_text default_writer (second ∷ fields)) (10 ∷ []) rest ∙ append_assoc first (fields_text default_writer (second ∷ fields)) (10 ∷ rest)
-    ∙ ap (λ (t : List ℕ). first ++ t) (end-is (second ∷ fields) rest more))
+line-is first second fields rest plain more = rw plain (body-is first (second ∷ fields) (10 ∷ []) rest plain more)
 
-ends-line : (field : List ℕ) (fields : Fields) (last rest : List ℕ) → with_commas (field ∷ fields) (last ++ 10 ∷ rest) ≡ field ++ plain_end (fields ++ last ∷ []) rest
-ends-line field [] last rest = refl
-ends-line field (next ∷ fields) last rest = ap (λ (t : List ℕ). field ++ 44 ∷ t) (ends-line next fields last rest)
+pub return-is : (first second : List ℕ) (fields : Fields) (rest : List ℕ) → IsPlain first → AllPlain (second ∷ fields)
+    → returned_line (first ∷ second ∷ fields) ++ rest ≡ first ++ plain_end (second ∷ fields) (13 ∷ 10 ∷ rest)
+return-is first second fields rest plain more = rw plain (body-is first (second ∷ fields) (13 ∷ 10 ∷ []) rest plain more)
 
-all-then : (front back : Fields) → AllPlain front → AllPlain back → AllPlain (front ++ back)
-all-then [] back f b = b
-all-then (field ∷ front) back f b = (f.0, all-then front back f.1 b)
-
--- A text that begins with plain fields, and then with a last one and a line feed, begins with their line.
-pub plain-line : (text : List ℕ) (field : List ℕ) (fields : Fields) (last rest : List ℕ) → BeginsFields text (field ∷ fields) (last ++ 10 ∷ rest) → IsPlain last
-    → text ≡ line_of (field ∷ (fields ++ last ∷ [])) ++ rest
-plain-line text field [] last rest begins plain =
-    begins.stands ∙ ends-line field [] last rest ∙ sym (line-is field last [] rest begins.plain.0 (plain, tt))
-plain-line text field (next ∷ fields) last rest begins plain =
-    begins.stands ∙ ends-line field (next ∷ fields) last rest
-    ∙ sym (line-is field next (fields ++ last ∷ []) rest begins.plain.0 (all-then (next ∷ fields) (last ∷ []) begins.plain.1 (plain, tt)))
-
-commas-then : (front back : Fields) (rest : List ℕ) → with_commas (front ++ back) rest ≡ with_commas front (with_commas back rest)
-commas-then [] back rest = refl
-commas-then (field ∷ front) back rest = ap (λ (t : List ℕ). field ++ 44 ∷ t) (commas-then front back rest)
-
--- Further fields behind those that a text begins with.
-pub fields-then : (text : List ℕ) (front back : Fields) (middle rest : List ℕ) → BeginsFields text front middle → BeginsFields middle back rest → BeginsFields text (front ++ back) rest
-fields-then text front back middle rest begins more = record {
-  stands = begins.stands ∙ ap (with_commas front) more.stands ∙ sym (commas-then front back rest);
-  plain = all-then front back begins.plain more.plain;
-}
+-- A text that begins with fields, and then with a last one and the end of a line, begins with the line of a record.
+pub line-begins : (text left : List ℕ) (fields : Fields) (written field rest : List ℕ) → BeginsFields text fields left → EndsIn left written rest → Writes written field → Opens text
+    → BeginsLine text (fields ++ field ∷ []) rest
+line-begins text left fields written field rest begins (inl feed) writes opens = feed-line text fields written field rest (subst (BeginsFields text fields) feed begins) writes opens
+line-begins text left fields written field rest begins (inr return) writes opens = return-line text fields written field rest (subst (BeginsFields text fields) return begins) writes opens

@@ -1,5 +1,5 @@
 -- The line of a record that has a row is read as that row.
-use Rattle.std.proofs.Common.{◌≡◌, ◌∙◌, refl, sym, ap, subst, ℕ, ◌^◌, ◌==◌, Bool, true, false, cond, List, [], ◌∷◌, ◌++◌, length, Some, None, Option, Result, Ok, Err, arith}
+use Rattle.std.proofs.Common.{◌≡◌, ◌∙◌, refl, sym, ap, subst, ℕ, ◌^◌, ◌==◌, Bool, true, false, cond, List, [], ◌∷◌, ◌++◌, length, Some, None, Option, Result, Ok, Err, arith, inl, inr}
 use Rattle.std.specs.Prelude.{bytes_eq, codes, nat_lt}
 use Rattle.std.specs.Char.{digit_value}
 use Rattle.std.specs.Result.{result_ok}
@@ -18,12 +18,15 @@ use Rattle.dn_text.proofs.UntilParts.{is_address_byte}
 use Rattle.dn_records.specs.Records.{Fields, line_of}
 use Rattle.dn_files.specs.Fields.{or_place, packet_at, target_at, tuple_at}
 use Rattle.dn_files.specs.PacketFile.{row_of}
-use Rattle.dn_files.specs.PacketParts.{BeginsRow}
+use Rattle.dn_files.specs.PacketParts.{BeginsRow, returned_line}
+use Rattle.dn_files.specs.LineEnd.{number_at_end, number_before_return}
 use Rattle.dn_files.specs.PlainRow.{kind_until, row_until, target_until, tuple_until}
+use Rattle.dn_files.specs.QuotedRow.{row_at_front}
 use Rattle.dn_files.specs.Reading.{◌>>=◌}
 use Rattle.dn_files.specs.declared.row.Row.{Row}
+use Rattle.dn_files.proofs.LastNumbers.{other_end}
 use Rattle.dn_files.proofs.PlainFields.{AllPlain, IsPlain}
-use Rattle.dn_files.proofs.PlainLines.{line-is, plain-field}
+use Rattle.dn_files.proofs.PlainLines.{line-is, plain-field, plain_end, return-is}
 use Rattle.dn_files.proofs.PlainRows.{address-plain, digit-plain}
 
 ok_is : {A : Type 0} (x y : A) → ◌≡◌ {A = Result A ℕ} (Ok x) (Ok y) → x ≡ y
@@ -44,6 +47,17 @@ number_is place (Ok m) n e = ap Ok (ok_is m n e)
 
 number_plain : (least greatest : ℕ) (field : List ℕ) (n : ℕ) → number_within least greatest field ≡ Ok n → IsPlain field
 number_plain least greatest field n is = plain-field (λ byte. nat_lt (digit_value byte) 10) digit-plain field (number_digits least greatest field n is)
+
+-- The last number of a line, with either end behind it.
+feed-end : (word rest : List ℕ) (w : ℕ) → number_within 0 4294967295 word ≡ Ok w → number_at_end 0 4294967295 (word ++ 10 ∷ rest) ≡ Some (w, rest)
+unfolding number_at_end
+feed-end word rest w is = rw (number_back 10 0 4294967295 word rest w refl is) refl
+
+return-end : (word rest : List ℕ) (w : ℕ) → number_within 0 4294967295 word ≡ Ok w → number_at_end 0 4294967295 (word ++ 13 ∷ 10 ∷ rest) ≡ Some (w, rest)
+unfolding number_at_end number_before_return
+return-end word rest w is =
+    let read = number_back 13 0 4294967295 word (10 ∷ rest) w refl is in
+    rw (other_end 10 13 0 4294967295 (word ++ 13 ∷ 10 ∷ rest) w (10 ∷ rest) refl read, read) refl
 
 -- The two fields of a target.
 abbrev TargetBack : List ℕ → List ℕ → Target → Type 0
@@ -116,51 +130,63 @@ module _ (moment kind number src dst proto sport dport len word : List ℕ) wher
   abbrev ten : Fields
   ten = moment ∷ kind ∷ number ∷ src ∷ dst ∷ proto ∷ sport ∷ dport ∷ len ∷ word ∷ []
 
-  -- Each of them is read.
-  row_line : (rest : List ℕ) (m l w : ℕ) (target : Target) (tuple : FiveTuple) → number_within 0 (2 ^ 62) moment ≡ Ok m → TargetBack kind number target
-      → TupleBack src dst proto sport dport tuple → number_within 1 65535 len ≡ Ok l → number_within 0 4294967295 word ≡ Ok w
-      → row_until (line_of ten ++ rest)
-      ≡ Some (record { moment = m; target = target; packet = record { tuple = tuple; len = l; word = w } }, rest)
-  unfolding row_until
-  row_line rest m l w target tuple is at named is_len is_word =
-      let plain : AllPlain (kind ∷ number ∷ src ∷ dst ∷ proto ∷ sport ∷ dport ∷ len ∷ word ∷ []) =
-      (at.1.0, (at.1.1.0, (named.1.0, (named.1.1.0, (named.1.1.1.0, (named.1.1.1.1.0, (named.1.1.1.1.1.0, (number_plain 1 65535 len l is_len, (number_plain 0 4294967295 word w is_word, tt))))))))) in
-      let behind : List ℕ = src ++ 44 ∷ (dst ++ 44 ∷ (proto ++ 44 ∷ (sport ++ 44 ∷ (dport ++ 44 ∷ (len ++ 44 ∷ (word ++ 10 ∷ rest)))))) in
-      rw (
-        line-is moment kind (number ∷ src ∷ dst ∷ proto ∷ sport ∷ dport ∷ len ∷ word ∷ []) rest (number_plain 0 (2 ^ 62) moment m is) plain,
-        number_back 44 0 (2 ^ 62) moment (kind ++ 44 ∷ (number ++ 44 ∷ behind)) m refl is,
-        at.0 behind,
-        named.0 (len ++ 44 ∷ (word ++ 10 ∷ rest)),
-        number_back 44 1 65535 len (word ++ 10 ∷ rest) l refl is_len,
-        number_back 10 0 4294967295 word rest w refl is_word,
-      ) refl
+  -- A text that begins with them as they are, and what stands behind the last one.
+  module _ (text tail rest : List ℕ)
+      (stands : IsPlain moment → AllPlain (kind ∷ number ∷ src ∷ dst ∷ proto ∷ sport ∷ dport ∷ len ∷ word ∷ [])
+      → text ≡ moment ++ plain_end (kind ∷ number ∷ src ∷ dst ∷ proto ∷ sport ∷ dport ∷ len ∷ word ∷ []) tail)
+      (ends : (w : ℕ) → number_within 0 4294967295 word ≡ Ok w → number_at_end 0 4294967295 (word ++ tail) ≡ Some (w, rest)) where
+    -- Each of them is read.
+    row_line : (m l w : ℕ) (target : Target) (tuple : FiveTuple) → number_within 0 (2 ^ 62) moment ≡ Ok m → TargetBack kind number target
+        → TupleBack src dst proto sport dport tuple → number_within 1 65535 len ≡ Ok l → number_within 0 4294967295 word ≡ Ok w
+        → row_until text ≡ Some (record { moment = m; target = target; packet = record { tuple = tuple; len = l; word = w } }, rest)
+    unfolding row_until
+    row_line m l w target tuple is at named is_len is_word =
+        let plain : AllPlain (kind ∷ number ∷ src ∷ dst ∷ proto ∷ sport ∷ dport ∷ len ∷ word ∷ []) =
+        (at.1.0, (at.1.1.0, (named.1.0, (named.1.1.0, (named.1.1.1.0, (named.1.1.1.1.0, (named.1.1.1.1.1.0, (number_plain 1 65535 len l is_len, (number_plain 0 4294967295 word w is_word, tt))))))))) in
+        let behind : List ℕ = src ++ 44 ∷ (dst ++ 44 ∷ (proto ++ 44 ∷ (sport ++ 44 ∷ (dport ++ 44 ∷ (len ++ 44 ∷ (word ++ tail)))))) in
+        rw (
+          stands (number_plain 0 (2 ^ 62) moment m is) plain,
+          number_back 44 0 (2 ^ 62) moment (kind ++ 44 ∷ (number ++ 44 ∷ behind)) m refl is,
+          at.0 behind,
+          named.0 (len ++ 44 ∷ (word ++ tail)),
+          number_back 44 1 65535 len (word ++ tail) l refl is_len,
+          ends w is_word,
+        ) refl
 
-  packet_line : (rest : List ℕ) (m : ℕ) (target : Target) (packet : Packet) → number_within 0 (2 ^ 62) moment ≡ Ok m → TargetBack kind number target
-      → packet_at 4 ten ≡ Ok packet
-      → row_until (line_of ten ++ rest)
-      ≡ Some (record { moment = m; target = target; packet = packet }, rest)
-  unfolding packet_at field_at
-  packet_line rest m target packet is at e =
-      bound (tuple_at 4 ten) _ packet (λ tuple named e1.
-      bound (or_place 9 (result_ok (number_within 1 65535 len))) _ packet (λ l is_len e2.
-      bound (or_place 10 (result_ok (number_within 0 4294967295 word))) _ packet (λ w is_word e3.
-      row_line rest m l w target tuple is at (tuple_back moment kind number src dst proto sport dport (len ∷ word ∷ []) tuple named)
-      (number_is 9 (number_within 1 65535 len) l is_len) (number_is 10 (number_within 0 4294967295 word) w is_word)
-      ∙ ap (λ (p : Packet). Some (record { moment = m; target = target; packet = p }, rest)) (ok_is (record { tuple = tuple; len = l; word = w }) packet e3)) e2) e1) e
+    packet_line : (m : ℕ) (target : Target) (packet : Packet) → number_within 0 (2 ^ 62) moment ≡ Ok m → TargetBack kind number target
+        → packet_at 4 ten ≡ Ok packet → row_until text ≡ Some (record { moment = m; target = target; packet = packet }, rest)
+    unfolding packet_at field_at
+    packet_line m target packet is at e =
+        bound (tuple_at 4 ten) _ packet (λ tuple named e1.
+        bound (or_place 9 (result_ok (number_within 1 65535 len))) _ packet (λ l is_len e2.
+        bound (or_place 10 (result_ok (number_within 0 4294967295 word))) _ packet (λ w is_word e3.
+        row_line m l w target tuple is at (tuple_back moment kind number src dst proto sport dport (len ∷ word ∷ []) tuple named)
+        (number_is 9 (number_within 1 65535 len) l is_len) (number_is 10 (number_within 0 4294967295 word) w is_word)
+        ∙ ap (λ (p : Packet). Some (record { moment = m; target = target; packet = p }, rest)) (ok_is (record { tuple = tuple; len = l; word = w }) packet e3)) e2) e1) e
 
-  ten_line : (rest : List ℕ) (row : Row) → row_of ten ≡ Ok row
-      → row_until (line_of ten ++ rest) ≡ Some (row, rest)
-  unfolding row_of field_at
-  ten_line rest row e =
-      bound (or_place 1 (result_ok (number_within 0 (2 ^ 62) moment))) _ row (λ m is e1.
-      bound (target_at 2 ten) _ row (λ target at e2.
-      bound (packet_at 4 ten) _ row (λ packet packed e3.
-      packet_line rest m target packet (number_is 1 (number_within 0 (2 ^ 62) moment) m is)
-      (target_back moment kind number (src ∷ dst ∷ proto ∷ sport ∷ dport ∷ len ∷ word ∷ []) target at) packed
-      ∙ ap (λ (r : Row). Some (r, rest)) (ok_is (record { moment = m; target = target; packet = packet }) row e3)) e2) e1) e
+    ten_line : (row : Row) → row_of ten ≡ Ok row → row_until text ≡ Some (row, rest)
+    unfolding row_of field_at
+    ten_line row e =
+        bound (or_place 1 (result_ok (number_within 0 (2 ^ 62) moment))) _ row (λ m is e1.
+        bound (target_at 2 ten) _ row (λ target at e2.
+        bound (packet_at 4 ten) _ row (λ packet packed e3.
+        packet_line m target packet (number_is 1 (number_within 0 (2 ^ 62) moment) m is)
+        (target_back moment kind number (src ∷ dst ∷ proto ∷ sport ∷ dport ∷ len ∷ word ∷ []) target at) packed
+        ∙ ap (λ (r : Row). Some (r, rest)) (ok_is (record { moment = m; target = target; packet = packet }) row e3)) e2) e1) e
 
--- The line of a record that has a row, and what stands behind it.
-line_back : (fields : Fields) (rest : List ℕ) (row : Row) → row_of fields ≡ Ok row → row_until (line_of fields ++ rest) ≡ Some (row, rest)
+  -- Their line, in either form.
+  module _ (rest : List ℕ) (row : Row) (says : row_of ten ≡ Ok row) where
+    feed_back : row_until (line_of ten ++ rest) ≡ Some (row, rest)
+    feed_back = ten_line (line_of ten ++ rest) (10 ∷ rest) rest (λ plain more. line-is moment kind _ rest plain more) (λ w is. feed-end word rest w is) row says
+
+    return_back : row_until (returned_line ten ++ rest) ≡ Some (row, rest)
+    return_back = ten_line (returned_line ten ++ rest) (13 ∷ 10 ∷ rest) rest (λ plain more. return-is moment kind _ rest plain more) (λ w is. return-end word rest w is) row says
+
+-- The line of a record that has a row, in either form, and what stands behind it.
+abbrev IsBack : Fields → List ℕ → Row → Type 0
+IsBack fields rest row = (row_until (line_of fields ++ rest) ≡ Some (row, rest)) × (row_until (returned_line fields ++ rest) ≡ Some (row, rest))
+
+line_back : (fields : Fields) (rest : List ℕ) (row : Row) → row_of fields ≡ Ok row → IsBack fields rest row
 unfolding row_of
 line_back [] rest row e = cc e
 line_back (a ∷ []) rest row e = cc e
@@ -172,12 +198,18 @@ line_back (a ∷ b ∷ c ∷ d ∷ f ∷ g ∷ []) rest row e = cc e
 line_back (a ∷ b ∷ c ∷ d ∷ f ∷ g ∷ h ∷ []) rest row e = cc e
 line_back (a ∷ b ∷ c ∷ d ∷ f ∷ g ∷ h ∷ i ∷ []) rest row e = cc e
 line_back (a ∷ b ∷ c ∷ d ∷ f ∷ g ∷ h ∷ i ∷ j ∷ []) rest row e = cc e
-line_back (a ∷ b ∷ c ∷ d ∷ f ∷ g ∷ h ∷ i ∷ j ∷ k ∷ []) rest row e = ten_line a b c d f g h i j k rest row e
+line_back (a ∷ b ∷ c ∷ d ∷ f ∷ g ∷ h ∷ i ∷ j ∷ k ∷ []) rest row e = (feed_back a b c d f g h i j k rest row e, return_back a b c d f g h i j k rest row e)
 line_back (a ∷ b ∷ c ∷ d ∷ f ∷ g ∷ h ∷ i ∷ j ∷ k ∷ l ∷ more) rest row e =
     let long : (length (a ∷ b ∷ c ∷ d ∷ f ∷ g ∷ h ∷ i ∷ j ∷ k ∷ l ∷ more) == 10) ≡ false = ne_eqb _ _ (λ same. omega arith) in
     let k = rw long at e in
     cc k
 
 -- A text that begins with a row's line is read as that row.
-pub row_back : (text rest : List ℕ) (row : Row) → BeginsRow text row rest → row_until text ≡ Some (row, rest)
-row_back text rest row begins = ap row_until begins.stands ∙ line_back begins.fields rest row begins.says
+pub row_back : (text rest : List ℕ) (row : Row) → BeginsRow text row rest → row_at_front text ≡ Some (row, rest)
+unfolding row_at_front
+row_back text rest row begins =
+    let read : row_until text ≡ Some (row, rest) = elim begins.stands [
+      | inl feed ↦ ap row_until feed ∙ (line_back begins.fields rest row begins.says).0
+      | inr return ↦ ap row_until return ∙ (line_back begins.fields rest row begins.says).1
+    ] in
+    rw read refl

@@ -1,9 +1,11 @@
 pub mod ConfigFile
 pub mod Faults
 pub mod Fields
+pub mod LineEnd
 pub mod PacketFile
 pub mod PacketParts
 pub mod PlainRow
+pub mod QuotedRow
 pub mod Reading
 pub mod Unread
 pub mod Writing

@@ -1,5 +1,6 @@
 -- A packet file that comes in parts: what has been read of it, and what is left.
-use Rattle.std.specs.Prelude.{length, ◌+◌, ◌<◌, ◌≡◌, ℕ, zero, suc, List, [], ◌∷◌, ◌++◌, Result, Ok, codes}
+use Rattle.std.specs.Prelude.{length, ◌+◌, ◌<◌, ◌≡◌, ◌⊎◌, ℕ, zero, suc, List, [], ◌∷◌, ◌++◌, Result, Ok, codes}
+use Rattle.csv.specs.Writing.{default_writer, row_body}
 use Rattle.csv.specs.declared.parser.State.TheVariants as st
 use Rattle.dn_records.specs.Reading.{records_after}
 use Rattle.dn_records.specs.Records.{Fields, line_of}
@@ -36,10 +37,14 @@ abbrev pub header : Fields
 header =
     codes "moment" ∷ codes "target" ∷ codes "number" ∷ codes "src" ∷ codes "dst" ∷ codes "proto" ∷ codes "sport" ∷ codes "dport" ∷ codes "len" ∷ codes "word" ∷ []
 
--- A text begins with the line of a record that has this row.
+-- The line of a record with a carriage return before its line feed.
+abbrev pub returned_line : Fields → List ℕ
+returned_line fields = row_body default_writer fields ++ 13 ∷ 10 ∷ []
+
+-- A text begins with the line of a record that has this row. Before its line feed a carriage return may stand.
 pub record BeginsRow (text : List ℕ) (row : Row) (rest : List ℕ) : Type 0 where
   pub fields : Fields
-  pub stands : text ≡ line_of fields ++ rest
+  pub stands : (text ≡ line_of fields ++ rest) ⊎ (text ≡ returned_line fields ++ rest)
   pub says : row_of fields ≡ Ok row
 
 -- A reader's next row stands whole and plainly at the front of what it has left, or behind the header where that is next.

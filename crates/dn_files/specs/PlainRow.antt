@@ -1,16 +1,13 @@
--- Rows that are written plainly are read from the front of a text, field by field, each with the comma or the line feed behind it.
-use Rattle.std.specs.Prelude.{ℕ, ◌^◌, List, [], ◌∷◌, ◌++◌, length, take, drop, Option, Some, None, bytes_eq, codes, if◌then◌else◌}
+-- Rows that are written plainly are read from the front of a text, field by field, each with the comma or the end of the line behind it.
+use Rattle.std.specs.Prelude.{ℕ, ◌^◌, List, [], ◌∷◌, ◌++◌, Option, Some, codes}
 use Rattle.std.specs.Option.{option_or}
 use Rattle.dn_types.specs.declared.five_tuple.FiveTuple.{FiveTuple}
 use Rattle.dn_types.specs.declared.target.Target.{Target}
 use Rattle.dn_types.specs.declared.target.Target.TheVariants.{Pipe, Queue}
 use Rattle.dn_text.specs.Addresses.{◌>>=◌}
 use Rattle.dn_text.specs.Until.{address_until, number_until}
+use Rattle.dn_files.specs.LineEnd.{behind_word, number_at_end}
 use Rattle.dn_files.specs.declared.row.Row.{Row}
-
--- What stands behind a word at the front of a text.
-abbrev pub behind_word : List ℕ → List ℕ → Option (List ℕ)
-behind_word word text = if bytes_eq (take (length word) text) word then Some (drop (length word) text) else None
 
 -- A target of one kind: its name and its number, with a comma behind each.
 unfoldable pub kind_until : List ℕ → (ℕ → Target) → List ℕ → Option (Target × List ℕ)
@@ -40,5 +37,5 @@ row_until text = do
   target ← target_until moment.1
   tuple ← tuple_until target.1
   len ← number_until 44 1 65535 tuple.1
-  word ← number_until 10 0 4294967295 len.1
+  word ← number_at_end 0 4294967295 len.1
   Some (record { moment = moment.0; target = target.0; packet = record { tuple = tuple.0; len = len.0; word = word.0 } }, word.1)

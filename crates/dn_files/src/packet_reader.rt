@@ -6,7 +6,7 @@ ghost use Rattle.dn_files.specs.Reading.{IsFaultOf};
 ghost use Rattle.dn_files.specs.declared.row.Row.{Row};
 
 use crate::packets::{rows_from_text, rows_of_text};
-use crate::plain_row::{behind_header, plain_row};
+use crate::quoted_row::{behind_header, row_at_front};
 use crate::replay_fault::ReplayFault;
 use crate::row::Row;
 use dn_types::Target;
@@ -94,7 +94,7 @@ impl PacketReader {
         self.text.extend_from_slice(part)
     }
 
-    // Reads the header, where it is next and written plainly.
+    // Reads the header, if it is next and written in a plain form.
     fn take_header(&mut self)
         ensures rows { (text : List ℕ) → (rows : List Row) → HasRead self.old text rows → HasRead self.new text rows }
         ensures no_longer { length self.new.text ≤ length self.old.text }
@@ -113,7 +113,7 @@ impl PacketReader {
         self.number = 1;
     }
 
-    // Reads the next row, where it is written plainly.
+    // Reads the next row, if it is written in a plain form.
     fn take_row(&mut self) -> Option<Row>
         ensures rows { MatchOption result
             ((text : List ℕ) → (rows : List Row) → HasRead self.old text rows → HasRead self.new text rows)
@@ -128,7 +128,7 @@ impl PacketReader {
         if self.number >= MOST {
             return None;
         }
-        let Some((row, rest)) = plain_row(&self.text[self.start..]) else {
+        let Some((row, rest)) = row_at_front(&self.text[self.start..]) else {
             return None;
         };
         self.start = self.text.len() - rest.len();
@@ -136,10 +136,10 @@ impl PacketReader {
         Some(row)
     }
 
-    /// The next row, or None if the text that has been fed doesn't go on with a whole plain row.
+    /// The next row, or None if the text that has been fed doesn't go on with a whole row in a plain form.
     ///
-    /// A plain row has no quotes, and a line feed at its end. More text may make the row whole; `finish` reads what isn't
-    /// plain.
+    /// Each field of such a row is written as it is or in quotes. It ends in a line feed, or in a carriage return and a
+    /// line feed. More text may make the row whole; `finish` reads any other.
     pub fn next(&mut self) -> Option<Row>
         ensures rows { MatchOption result
             ((text : List ℕ) → (rows : List Row) → HasRead self.old text rows → HasRead self.new text rows)

@@ -6,7 +6,7 @@ ghost use Rattle.dn_files.specs.Reading.{IsFaultOf, IsRefusal, ReadsAs};
 ghost use Rattle.dn_files.specs.declared.source.Source.TheVariants.{Packets};
 
 use crate::input::read_input;
-use crate::plain_row::{behind_header, plain_row};
+use crate::quoted_row::{behind_header, row_at_front};
 use crate::replay_fault::ReplayFault;
 use crate::row::Row;
 use crate::row_fields::{is_header, read_row};
@@ -100,13 +100,13 @@ pub(crate) fn rows_from_text(
     rows_below(alloc, &mut reader, &mut fields, first)
 }
 
-/// Appends the rows that a text begins with and that are written plainly, and returns what follows them.
+/// Appends the rows that a text begins with and that are written in a plain form, and returns what follows them.
 fn take_plain_rows<'a>(text: &'a [u8], rows: &mut Vec<Row>) -> Result<&'a [u8], AllocError>
     ensures { IfOk result (λ left. PassesRows text.now left.now rows.old.items rows.new.items) }
 {
     let mut left = text;
     loop {
-        let Some((row, behind)) = plain_row(left) else {
+        let Some((row, behind)) = row_at_front(left) else {
             return Ok(left);
         };
         // The prover has to meet the module of this type here.

@@ -1,20 +1,11 @@
-ghost use Rattle.std.specs.Prelude.{◌≡◌, ◌≢◌, ◌++◌, ℕ, List, MatchOption, codes, option_map};
-ghost use Rattle.dn_records.specs.Records.{line_of};
+ghost use Rattle.std.specs.Prelude.{◌≡◌, codes, option_map};
 ghost use Rattle.dn_types.specs.declared.target.Target.TheVariants.{Pipe, Queue};
-ghost use Rattle.dn_files.specs.PacketParts.{header};
 ghost use Rattle.dn_files.specs.PlainRow.{kind_until, row_until, target_until, tuple_until};
 
+use crate::line_end::number_at_end;
 use crate::row::Row;
 use dn_text::{address_until, number_until};
 use dn_types::{FiveTuple, Len, Moment, Number, Packet, Target};
-
-/// What stands behind the header at the front of a text, where the header is written plainly.
-pub(crate) fn behind_header(text: &[u8]) -> Option<&[u8]>
-    ensures { MatchOption result ((rest : List ℕ) → text.now ≢ line_of header ++ rest)
-        (λ rest. text.now ≡ line_of header ++ rest.now) }
-{
-    text.strip_prefix(b"moment,target,number,src,dst,proto,sport,dport,len,word\n")
-}
 
 /// The pipe at the front of a text, and what stands behind the comma after its number.
 #[inline(always)]
@@ -73,7 +64,7 @@ pub fn tuple_at_front(text: &[u8]) -> Option<(FiveTuple, &[u8])>
 
 /// The row whose plain line a text begins with, and what follows that line.
 ///
-/// None if the text begins otherwise, as with a quote, a carriage return, a faulty row or a part of a row.
+/// None if the text begins otherwise, as with a quote, a carriage return alone, a faulty row or a part of a row.
 #[inline(always)]
 #[tactic(auto, unfolding(crate::specs::PlainRow::row_until))]
 pub(crate) fn plain_row(text: &[u8]) -> Option<(Row, &[u8])>
@@ -88,7 +79,7 @@ pub(crate) fn plain_row(text: &[u8]) -> Option<(Row, &[u8])>
         return None;
     };
     let (len, text) = number_until(text, b',', 1, 65_535)?;
-    let (word, text) = number_until(text, b'\n', 0, 4_294_967_295)?;
+    let (word, text) = number_at_end(text, 0, 4_294_967_295)?;
     let packet = Packet {
         tuple,
         len: Len::new(len as u16)?,

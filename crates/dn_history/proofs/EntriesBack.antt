@@ -13,7 +13,6 @@ use Rattle.dn_history.specs.HistoryFile.{entries_from, entry_by, entry_from, end
 use Rattle.dn_history.specs.RecordsLeft.{next_record}
 use Rattle.dn_history.specs.HistoryRecords.{has_deletes, has_remarks, rule_of}
 use Rattle.dn_history.specs.HistoryText.{end_record, entry_records, history_text}
-use Rattle.dn_history.specs.HistoryParts.{version_record}
 use Rattle.dn_history.specs.Remarks.{is_remark}
 use Rattle.dn_history.specs.Ranges.{AreEntries, IsEntry, IsLong}
 use Rattle.dn_history.specs.declared.history_version.HistoryVersion.{HistoryVersion}
@@ -25,6 +24,7 @@ use Rattle.dn_history.proofs.ItemsBack.{Reads}
 use Rattle.dn_history.proofs.PartsRead.{header-tells}
 use Rattle.dn_history.proofs.Remarks.{ahead_plain}
 use Rattle.dn_history.proofs.RepliesBack.{reply_back}
+use Rattle.dn_history.proofs.VersionLines.{version_record}
 
 -- A piece of what is written: an entry, or else a remark.
 abbrev pub Piece : Type 0

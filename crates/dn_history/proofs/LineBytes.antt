@@ -20,7 +20,7 @@ number : (n : ℕ) → IsLong n → IsPlain (decimal n)
 number n small = decimal_is_plain n (omega arith)
 
 -- The bytes of a line of plain fields.
-stands : (first second : List ℕ) (fields : Fields) → IsPlain first → AllPlain (second ∷ fields) → first ++ plain_end (second ∷ fields) [] ≡ line_of (first ∷ second ∷ fields)
+stands : (first second : List ℕ) (fields : Fields) → IsPlain first → AllPlain (second ∷ fields) → first ++ plain_end (second ∷ fields) (10 ∷ []) ≡ line_of (first ∷ second ∷ fields)
 stands first second fields plain more = sym (line-is first second fields [] plain more) ∙ append-nil (line_of (first ∷ second ∷ fields))
 
 target-plain : (target : Target) → IsPlain (target_name target)

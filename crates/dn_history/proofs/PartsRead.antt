@@ -1,6 +1,5 @@
 -- A history whose text comes in parts: the whole records at the front of what has come, and the entries that are read off them.
 use Rattle.std.proofs.Common.{◌≡◌, ◌∙◌, true, false, refl, sym, ap, ℕ, ◌+◌, ◌-◌, ◌<◌, ◌==◌, take, drop, List, [], ◌∷◌, ◌++◌, length, length-append, arith, append_assoc, Result, Ok, Err, Some}
-use Rattle.std.specs.Prelude.{codes}
 use Rattle.std.proofs.lemmas.Bool.{false≢true}
 use Rattle.std.proofs.lemmas.Bool.Decides.{nat_tests}
 use Rattle.std.proofs.lemmas.List.{append-nil}
@@ -10,13 +9,13 @@ use Rattle.csv.specs.declared.parser.State.TheVariants as st
 use Rattle.dn_types.specs.declared.entry.Entry.{Entry}
 use Rattle.dn_types.specs.declared.rule.Rule.{Rule}
 use Rattle.dn_records.specs.Reading.{records_after}
-use Rattle.dn_records.specs.Records.{Fields, line_of, records_of}
-use Rattle.dn_records.proofs.FirstLine.{behind-feed, line-first}
+use Rattle.dn_records.specs.Records.{Fields, records_of}
+use Rattle.dn_records.proofs.FirstLine.{behind-feed}
 use Rattle.dn_files.specs.Reading.{◌>>=◌}
 use Rattle.dn_files.specs.declared.replay_fault.ReplayFault.{ReplayFault}
 use Rattle.dn_history.specs.EntriesLeft.{entries_left}
 use Rattle.dn_history.specs.HistoryFile.{before, entry_from, history_from, history_in}
-use Rattle.dn_history.specs.HistoryParts.{AreRead, BeginsHistory, BeginsRecords, HasRead, IsWhole, Unread, after_entries, entries_with, version_record, with_rule}
+use Rattle.dn_history.specs.HistoryParts.{AreRead, BeginsHistory, BeginsRecords, HasRead, IsWhole, Unread, after_entries, entries_with, with_rule}
 use Rattle.dn_history.specs.HistoryRecords.{live_of, rule_of, version_of}
 use Rattle.dn_history.specs.RecordsLeft.{Rest, next_record}
 use Rattle.dn_history.specs.declared.history_version.HistoryVersion.{HistoryVersion}
@@ -24,7 +23,7 @@ use Rattle.dn_history.specs.declared.history_version.HistoryVersion.TheVariants.
 use Rattle.dn_history.specs.declared.read.progress.Progress.TheVariants.{Reading}
 use Rattle.dn_history.proofs.EntriesBehind.{behind, entry_reads}
 use Rattle.dn_history.proofs.EntryTurns.{entries_step}
-use Rattle.dn_history.proofs.PlainRecords.{at-front}
+use Rattle.dn_history.proofs.VersionLines.{version-first, version_record}
 use Rattle.dn_history.proofs.WholeRecords.{records-then}
 
 -- Nothing read.
@@ -90,13 +89,7 @@ part-fed left text part entries read = record {
       >>= λ last. with_rule (rule_of left.version) (entries ++ last)) (sym (append_assoc left.text part more));
 }
 
--- The record of the header is the first.
-header-first : (version : HistoryVersion) (rest : List ℕ) → records_of (line_of (version_record version) ++ rest) ≡ version_record version ∷ records_after st.StartRecord rest
-header-first First rest = at-front (line_of (version_record First) ++ rest) (omega arith) (λ e. omega (arith, e)) ∙ line-first (codes "dummynet-history") (codes "1" ∷ []) rest
-header-first Second rest = at-front (line_of (version_record Second) ++ rest) (omega arith) (λ e. omega (arith, e)) ∙ line-first (codes "dummynet-history") (codes "2" ∷ []) rest
-header-first Third rest = at-front (line_of (version_record Third) ++ rest) (omega arith) (λ e. omega (arith, e)) ∙ line-first (codes "dummynet-history") (codes "3" ∷ []) rest
-header-first Live rest = at-front (line_of (version_record Live) ++ rest) (omega arith) (λ e. omega (arith, e)) ∙ line-first (codes "dummynet-live") (codes "1" ∷ []) rest
-
+-- The record of the header tells the version.
 pub header-tells : (version : HistoryVersion) → version_of (version_record version) ≡ Ok version
 unfolding version_of live_of field_at
 header-tells First = refl
@@ -114,9 +107,9 @@ unfolding history_from next_record
 begun text rest version begins = record {
   count = refl;
   goes_on = λ more.
-      let stands : text ++ more ≡ line_of (version_record version) ++ (rest ++ more) =
-      ap (λ (t : List ℕ). t ++ more) begins.stands ∙ append_assoc (line_of (version_record version)) rest more in
-      rw (ap records_of stands ∙ header-first version (rest ++ more), header-tells version) (started (rule_of version) _);
+      let first = version-first text version rest begins in
+      let stands : text ++ more ≡ first.front ++ 10 ∷ (rest ++ more) = ap (λ (t : List ℕ). t ++ more) first.stands ∙ append_assoc first.front (10 ∷ rest) more in
+      rw (ap records_of stands ∙ first.reads (rest ++ more), header-tells version) (started (rule_of version) _);
 }
 
 -- The entries that are left, where the text has ended.

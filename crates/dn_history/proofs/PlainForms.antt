@@ -1,5 +1,5 @@
 -- The records of a Submit, of an accepted packet and of a delivery, where their lines are written plainly.
-use Rattle.std.proofs.Common.{false, ◌≡◌, ◌∙◌, refl, sym, ap, ℕ, ◌+◌, ◌^◌, ◌<◌, List, [], ◌∷◌, ◌++◌, length, Option, Some, None, Result, Ok, arith, inl, inr}
+use Rattle.std.proofs.Common.{false, ◌≡◌, ◌∙◌, refl, sym, ap, subst, ℕ, ◌+◌, ◌^◌, ◌<◌, List, [], ◌∷◌, ◌++◌, length, Option, Some, None, Result, Ok, arith, inl, inr}
 use Rattle.std.specs.Prelude.{bytes_eq, codes}
 use Rattle.std.specs.Result.{result_ok}
 use Rattle.std.proofs.lemmas.Bool.{cases_Bool}
@@ -16,15 +16,17 @@ use Rattle.dn_text.specs.Addresses.{address_of}
 use Rattle.dn_text.specs.Numbers.{digits, number_within}
 use Rattle.dn_text.specs.Until.{number_until}
 use Rattle.dn_text.proofs.UntilParts.{number_parts}
-use Rattle.dn_records.specs.Reading.{records_after}
-use Rattle.dn_records.specs.Records.{Fields, line_of}
-use Rattle.dn_records.proofs.FirstLine.{line-first}
+use Rattle.dn_records.specs.Reading.{BeginsLine, records_after}
+use Rattle.dn_records.specs.Records.{Fields}
+use Rattle.dn_records.proofs.LineEnds.{BeginsFields, Opens, field-begins, fields-then, line-reads, plain-writes}
+use Rattle.dn_files.specs.LineEnd.{number_at_end}
+use Rattle.dn_files.proofs.LastNumbers.{end_parts}
 use Rattle.dn_files.specs.Fields.{or_place, packet_at, target_at, tuple_at}
 use Rattle.dn_history.specs.PlainRecords.{IsPlain}
-use Rattle.dn_files.proofs.PlainFields.{BeginsFields, BeginsTarget, BeginsTuple, with_commas}
+use Rattle.dn_files.proofs.PlainFields.{BeginsTarget, BeginsTuple}
 use Rattle.dn_files.specs.Reading.{◌>>=◌}
-use Rattle.dn_files.proofs.PlainLines.{fields-then, plain-line}
-use Rattle.dn_files.proofs.PlainRows.{digits-plain, number-field}
+use Rattle.dn_files.proofs.PlainLines.{line-begins}
+use Rattle.dn_files.proofs.PlainRows.{digits-write, number-field}
 use Rattle.dn_history.specs.HistoryFile.{call_of, entry_by, entry_from, reply_by, reply_from}
 use Rattle.dn_history.specs.HistoryItems.{delivery_item}
 use Rattle.dn_history.specs.HistoryRecords.{has_remarks, plain_call, plain_reply, queued_of, submit_of, timed_reply}
@@ -60,22 +62,22 @@ tuple-moves a b c d f src dst proto sport dport others tuple e =
 
 -- A word and a comma are a field.
 word : (text rest name : List ℕ) → text ≡ name ++ 44 ∷ rest → IsPlain name → BeginsFields text (name ∷ []) rest
-word text rest name stands plain = record { stands = stands; plain = (plain, tt) }
+word text rest name stands plain = field-begins text name name rest stands (plain-writes name plain)
 
 -- The last number of a line.
-ends : (text last rest : List ℕ) (least greatest n : ℕ) (fields : Fields) → BeginsFields text fields last → number_until 10 least greatest last ≡ Some (n, rest)
-    → BeginsFields text fields (digits last ++ 10 ∷ rest)
-ends text last rest least greatest n fields begins is = record { stands = begins.stands ∙ ap (with_commas fields) (number_parts 10 least greatest last n rest is).0; plain = begins.plain }
+ends : (text last rest : List ℕ) (least greatest n : ℕ) (fields : Fields) → BeginsFields text fields last → number_at_end least greatest last ≡ Some (n, rest) → Opens text
+    → BeginsLine text (fields ++ digits last ∷ []) rest
+ends text last rest least greatest n fields begins is opens = line-begins text last fields (digits last) (digits last) rest begins (end_parts least greatest last n rest is).0 (digits-write last) opens
 
 pub submit_begins : (text t1 t2 t3 t4 t5 t6 t7 rest : List ℕ) (caller len word_is moment : ℕ) (target : Target) (tuple : FiveTuple) → text ≡ codes "c," ++ t1 → number_until 44 0 15 t1 ≡ Some (caller, t2)
     → t2 ≡ codes "submit," ++ t3 → BeginsTarget t3 target t4 → BeginsTuple t4 tuple t5 → number_until 44 1 65535 t5 ≡ Some (len, t6) → number_until 44 0 4294967295 t6 ≡ Some (word_is, t7)
-    → number_until 10 0 (2 ^ 62) t7 ≡ Some (moment, rest) → BeginsCall text caller (Submit target (record { tuple = tuple; len = len; word = word_is }) moment) rest
+    → number_at_end 0 (2 ^ 62) t7 ≡ Some (moment, rest) → BeginsCall text caller (Submit target (record { tuple = tuple; len = len; word = word_is }) moment) rest
 unfolding call_of plain_call submit_of packet_at field_at
 submit_begins text t1 t2 t3 t4 t5 t6 t7 rest caller len word_is moment target tuple e0 e1 e2 at named e3 e4 e5 =
     let is1 = (number_parts 44 0 15 t1 caller t2 e1).1 in
     let is3 = (number_parts 44 1 65535 t5 len t6 e3).1 in
     let is4 = (number_parts 44 0 4294967295 t6 word_is t7 e4).1 in
-    let is5 = (number_parts 10 0 (2 ^ 62) t7 moment rest e5).1 in
+    let is5 = (end_parts 0 (2 ^ 62) t7 moment rest e5).1 in
     let numbers : Fields = digits t5 ∷ digits t6 ∷ digits t7 ∷ [] in
     let middle : Fields = digits t1 ∷ codes "submit" ∷ at.kind ∷ at.number ∷ named.src ∷ named.dst ∷ named.proto ∷ named.sport ∷ named.dport ∷ digits t5 ∷ digits t6 ∷ [] in
     let all : BeginsFields text (codes "c" ∷ middle) t7 =
@@ -89,26 +91,27 @@ submit_begins text t1 t2 t3 t4 t5 t6 t7 rest caller len word_is moment target tu
     (named.says (codes "submit") at.kind at.number numbers) in
     record {
       others = digits t1 ∷ codes "submit" ∷ at.kind ∷ at.number ∷ named.src ∷ named.dst ∷ named.proto ∷ named.sport ∷ named.dport ∷ numbers;
-      stands = plain-line text (codes "c") middle (digits t7) rest (ends text t7 rest 0 (2 ^ 62) moment (codes "c" ∷ middle) all e5) (digits-plain t7);
+      line = ends text t7 rest 0 (2 ^ 62) moment (codes "c" ∷ middle) all e5 (subst Opens (sym e0) (refl, refl));
       says_caller = rw is1 refl;
       says_call = λ version number. rw (target_is, tuple_is, is3, is4, is5) refl;
     }
 
 pub queued_begins : (text t1 t2 t3 rest : List ℕ) (at flow packet : ℕ) → text ≡ codes "r,queued," ++ t1 → number_until 44 0 18446744073709551615 t1 ≡ Some (at, t2)
-    → number_until 44 0 18446744073709551615 t2 ≡ Some (flow, t3) → number_until 10 0 18446744073709551615 t3 ≡ Some (packet, rest) → BeginsReply text (Queued at flow packet) rest
+    → number_until 44 0 18446744073709551615 t2 ≡ Some (flow, t3) → number_at_end 0 18446744073709551615 t3 ≡ Some (packet, rest) → BeginsReply text (Queued at flow packet) rest
 unfolding reply_by plain_reply timed_reply queued_of field_at
 queued_begins text t1 t2 t3 rest at flow packet e0 e1 e2 e3 =
     let is1 = (number_parts 44 0 18446744073709551615 t1 at t2 e1).1 in
     let is2 = (number_parts 44 0 18446744073709551615 t2 flow t3 e2).1 in
-    let is3 = (number_parts 10 0 18446744073709551615 t3 packet rest e3).1 in
+    let is3 = (end_parts 0 18446744073709551615 t3 packet rest e3).1 in
     let middle : Fields = codes "queued" ∷ digits t1 ∷ digits t2 ∷ [] in
-    let names : BeginsFields text (codes "r" ∷ codes "queued" ∷ []) t1 = record { stands = e0; plain = (refl, (refl, tt)) } in
+    let names : BeginsFields text (codes "r" ∷ codes "queued" ∷ []) t1 =
+    record { written = codes "r" ∷ codes "queued" ∷ []; stands = e0; all = (plain-writes (codes "r") refl, (plain-writes (codes "queued") refl, tt)) } in
     let all : BeginsFields text (codes "r" ∷ middle) t3 =
     fields-then text (codes "r" ∷ codes "queued" ∷ []) _ t1 t3 names (fields-then t1 (digits t1 ∷ []) _ t2 t3 (number-field t1 t2 0 18446744073709551615 at e1)
     (number-field t2 t3 0 18446744073709551615 flow e2)) in
     record {
       others = codes "queued" ∷ digits t1 ∷ digits t2 ∷ digits t3 ∷ [];
-      stands = plain-line text (codes "r") middle (digits t3) rest (ends text t3 rest 0 18446744073709551615 packet (codes "r" ∷ middle) all e3) (digits-plain t3);
+      line = ends text t3 rest 0 18446744073709551615 packet (codes "r" ∷ middle) all e3 (subst Opens (sym e0) (refl, refl));
       says = says is1 is2 is3;
     }
   where
@@ -120,29 +123,29 @@ queued_begins text t1 t2 t3 rest at flow packet e0 e1 e2 e3 =
     says is1 is2 is3 Live number left = rw (is1, is2, is3) refl
 
 pub delivery_begins : (text t1 t2 t3 t4 rest : List ℕ) (packet flow start due : ℕ) → text ≡ codes "d," ++ t1 → number_until 44 0 18446744073709551615 t1 ≡ Some (packet, t2)
-    → number_until 44 0 18446744073709551615 t2 ≡ Some (flow, t3) → number_until 44 0 18446744073709551615 t3 ≡ Some (start, t4) → number_until 10 0 18446744073709551615 t4 ≡ Some (due, rest)
+    → number_until 44 0 18446744073709551615 t2 ≡ Some (flow, t3) → number_until 44 0 18446744073709551615 t3 ≡ Some (start, t4) → number_at_end 0 18446744073709551615 t4 ≡ Some (due, rest)
     → BeginsDelivery text (record { due = due; packet = packet; flow = flow; start = start }) rest
 unfolding delivery_item field_at
 delivery_begins text t1 t2 t3 t4 rest packet flow start due e0 e1 e2 e3 e4 =
     let is1 = (number_parts 44 0 18446744073709551615 t1 packet t2 e1).1 in
     let is2 = (number_parts 44 0 18446744073709551615 t2 flow t3 e2).1 in
     let is3 = (number_parts 44 0 18446744073709551615 t3 start t4 e3).1 in
-    let is4 = (number_parts 10 0 18446744073709551615 t4 due rest e4).1 in
+    let is4 = (end_parts 0 18446744073709551615 t4 due rest e4).1 in
     let middle : Fields = digits t1 ∷ digits t2 ∷ digits t3 ∷ [] in
     let all : BeginsFields text (codes "d" ∷ middle) t4 =
     fields-then text (codes "d" ∷ []) _ t1 t4 (word text t1 (codes "d") e0 refl) (fields-then t1 (digits t1 ∷ []) _ t2 t4 (number-field t1 t2 0 18446744073709551615 packet e1)
     (fields-then t2 (digits t2 ∷ []) _ t3 t4 (number-field t2 t3 0 18446744073709551615 flow e2) (number-field t3 t4 0 18446744073709551615 start e3))) in
     record {
       others = digits t1 ∷ digits t2 ∷ digits t3 ∷ digits t4 ∷ [];
-      stands = plain-line text (codes "d") middle (digits t4) rest (ends text t4 rest 0 18446744073709551615 due (codes "d" ∷ middle) all e4) (digits-plain t4);
+      line = ends text t4 rest 0 18446744073709551615 due (codes "d" ∷ middle) all e4 (subst Opens (sym e0) (refl, refl));
       says = rw (is1, is2, is3, is4) refl;
     }
 
 -- The records of a text that begins with the line of a record.
 module _ (records new : List Fields) (text rest field : List ℕ) (others : Fields) (is : records ≡ records_after st.StartRecord text)
-    (stands : text ≡ line_of (field ∷ others) ++ rest) (goes : new ≡ records_after st.StartRecord rest) where
+    (line : BeginsLine text (field ∷ others) rest) (goes : new ≡ records_after st.StartRecord rest) where
   pub one-record : records ≡ (field ∷ others) ∷ new
-  one-record = is ∙ ap (records_after st.StartRecord) stands ∙ line-first field others rest ∙ ap (λ (t : List Fields). (field ∷ others) ∷ t) (sym goes)
+  one-record = is ∙ line-reads text (field ∷ others) rest line ∙ ap (λ (t : List Fields). (field ∷ others) ∷ t) (sym goes)
 
   pub one-counted : length records ≡ length new + 1
   one-counted = rw one-record (omega arith)
@@ -162,14 +165,14 @@ pub call-taken : (records new : List Fields) (text rest : List ℕ) (caller : �
 unfolding entry_from entry_by next_record field_at
 call-taken records new text rest caller call is asked goes number count version =
     let plain = ahead_plain (has_remarks version) (codes "c" ∷ asked.others) new (call-unremarked asked.others) in
-    rw (one-record records new text rest (codes "c") asked.others is asked.stands goes, plain) (rw (asked.says_caller, asked.says_call version number) refl)
+    rw (one-record records new text rest (codes "c") asked.others is asked.line goes, plain) (rw (asked.says_caller, asked.says_call version number) refl)
 
 pub reply-taken : (records new : List Fields) (text rest : List ℕ) (reply : Reply) → records ≡ records_after st.StartRecord text → BeginsReply text reply rest
     → new ≡ records_after st.StartRecord rest → (number : ℕ) (version : HistoryVersion)
     → reply_from version (record { number = number; records = records }) ≡ Ok (reply, record { number = number + 1; records = new })
 unfolding reply_from next_record
 reply-taken records new text rest reply is answers goes number version =
-    rw (one-record records new text rest (codes "r") answers.others is answers.stands goes)
+    rw (one-record records new text rest (codes "r") answers.others is answers.line goes)
     (rw (answers.says version number (record { number = number + 1; records = new })) refl)
 
 pub delivery-taken : (records new : List Fields) (text rest : List ℕ) (delivery : Delivery) → records ≡ records_after st.StartRecord text → BeginsDelivery text delivery rest
@@ -177,4 +180,4 @@ pub delivery-taken : (records new : List Fields) (text rest : List ℕ) (deliver
     → item_from delivery_item (record { number = number; records = records }) ≡ Ok (delivery, record { number = number + 1; records = new })
 unfolding item_from next_record
 delivery-taken records new text rest delivery is listed goes number =
-    rw (one-record records new text rest (codes "d") listed.others is listed.stands goes) (rw listed.says refl)
+    rw (one-record records new text rest (codes "d") listed.others is listed.line goes) (rw listed.says refl)

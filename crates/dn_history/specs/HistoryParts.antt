@@ -1,5 +1,5 @@
 -- A history whose text comes in parts: what has been read of it so far, and what is left of what has come.
-use Rattle.std.specs.Prelude.{◌≡◌, ℕ, List, [], ◌∷◌, ◌++◌, ◌+◌, length, codes, Result, Ok}
+use Rattle.std.specs.Prelude.{◌≡◌, ℕ, List, [], ◌∷◌, ◌++◌, ◌+◌, length, codes, Some, Result, Ok}
 use Rattle.csv.specs.Machine.{step}
 use Rattle.csv.specs.Reading.{default_config}
 use Rattle.csv.specs.declared.parser.State.{State}
@@ -7,13 +7,13 @@ use Rattle.csv.specs.declared.parser.State.TheVariants as st
 use Rattle.dn_types.specs.declared.entry.Entry.{Entry}
 use Rattle.dn_types.specs.declared.rule.Rule.{Rule}
 use Rattle.dn_records.specs.Reading.{records_after}
-use Rattle.dn_records.specs.Records.{Fields, line_of}
+use Rattle.dn_records.specs.Records.{Fields}
+use Rattle.dn_files.specs.LineEnd.{behind_first}
 use Rattle.dn_files.specs.Reading.{◌>>=◌}
 use Rattle.dn_files.specs.declared.replay_fault.ReplayFault.{ReplayFault}
 use Rattle.dn_history.specs.EntriesLeft.{EntriesLeft, entries_left}
 use Rattle.dn_history.specs.HistoryFile.{history_in}
 use Rattle.dn_history.specs.HistoryRecords.{rule_of}
-use Rattle.dn_history.specs.HistoryText.{history_header, live_header}
 use Rattle.dn_history.specs.RecordsLeft.{Rest}
 use Rattle.dn_history.specs.declared.history_version.HistoryVersion.{HistoryVersion}
 use Rattle.dn_history.specs.declared.history_version.HistoryVersion.TheVariants.{First, Second, Third, Live}
@@ -48,16 +48,16 @@ pub record HasRead (left : Unread) (text : List ℕ) (entries : List Entry) : Ty
   pub count : left.given ≡ length entries
   pub goes_on : (more : List ℕ) → history_in (text ++ more) ≡ (entries_with left more >>= λ last. with_rule (rule_of left.version) (entries ++ last))
 
--- The first record of a history of this version.
-abbrev pub version_record : HistoryVersion → Fields
-version_record First = codes "dummynet-history" ∷ codes "1" ∷ []
-version_record Second = codes "dummynet-history" ∷ codes "2" ∷ []
-version_record Third = history_header
-version_record Live = live_header
+-- The line that tells a version, without its end.
+abbrev pub version_words : HistoryVersion → List ℕ
+version_words First = codes "dummynet-history,1"
+version_words Second = codes "dummynet-history,2"
+version_words Third = codes "dummynet-history,3"
+version_words Live = codes "dummynet-live,1"
 
 -- A text begins with the line that tells this version, and then the rest follows.
 pub record BeginsHistory (text : List ℕ) (version : HistoryVersion) (rest : List ℕ) : Type 0 where
-  pub stands : text ≡ line_of (version_record version) ++ rest
+  pub stands : behind_first (version_words version) text ≡ Some rest
 
 -- A text begins with no line that tells a version.
 abbrev pub BeginsNoHistory : List ℕ → Type 0

@@ -1,10 +1,11 @@
 -- What a reader of records has left: the records that csv will read from the bytes that its reader has left.
-use Rattle.std.specs.Prelude.{◌≡◌, ℕ, ◌+◌, List, [], length, Bool, true, false, Option, IsSome, Some}
+use Rattle.std.specs.Prelude.{◌≡◌, ℕ, ◌+◌, List, [], ◌∷◌, ◌++◌, length, Bool, true, false, Option, IsSome, Some}
 use Rattle.std.specs.Borrow.{Bor}
 use Rattle.std.specs.Option.{option_map_or}
 use Rattle.csv.specs.Machine.{ends_at_end}
 use Rattle.csv.specs.Reading.{Ready, default_config, is_flexible, reader_config, reader_state, reader_trim, records_from, source_of}
 use Rattle.csv.specs.declared.parser.State.{State}
+use Rattle.csv.specs.declared.parser.State.TheVariants as st
 use Rattle.csv.specs.declared.reader.Reader.{Reader}
 use Rattle.csv.specs.declared.reader.Trim.TheVariants as trim
 use Rattle.dn_records.specs.Records.{Fields}
@@ -34,3 +35,9 @@ pub record IsReading (reader : Reader (Bor (List ℕ))) : Type 0 where
   pub ready : Ready reader
   pub between : ends_at_end (reader_state reader) ≡ false
   pub known : IsSome (text_left reader)
+
+-- A text begins with a line that is one record: these fields are read off it, whatever follows the line feed at its end.
+pub record BeginsLine (text : List ℕ) (fields : Fields) (rest : List ℕ) : Type 0 where
+  pub front : List ℕ
+  pub stands : text ≡ front ++ 10 ∷ rest
+  pub reads : (more : List ℕ) → records_after st.StartRecord (front ++ 10 ∷ more) ≡ fields ∷ records_after st.StartRecord more

@@ -1,4 +1,5 @@
 use dn_files::{PacketReader, ReplayFault, Row, rows_of_text};
+use dn_types::{Number, Target};
 use std::alloc::Global;
 use std::process::Abort;
 use std::test::Fail;
@@ -52,6 +53,17 @@ static FILES: [(&str, Result<usize, ReplayFault>); 12] = [
         "0,pipe,1,10.0.0.1,10.0.0.2,17,1000,2000,1000,4294967296\n",
         Err(ReplayFault::BadRow { row: 1, field: 10 }),
     ),
+];
+
+// Two rows in each form in which csv may write them: lines that end in a line feed or in a carriage return and a line
+// feed, a byte order mark before them, and fields in quotes.
+static FORMS: [&str; 6] = [
+    "moment,target,number,src,dst,proto,sport,dport,len,word\n7,pipe,1,10.0.0.1,10.0.0.2,17,1000,2000,1000,0\n8,queue,9,1.2.3.4,10.0.0.2,6,1,65535,881,4294967295\n",
+    "moment,target,number,src,dst,proto,sport,dport,len,word\r\n7,pipe,1,10.0.0.1,10.0.0.2,17,1000,2000,1000,0\r\n8,queue,9,1.2.3.4,10.0.0.2,6,1,65535,881,4294967295\r\n",
+    "\u{feff}moment,target,number,src,dst,proto,sport,dport,len,word\n7,pipe,1,10.0.0.1,10.0.0.2,17,1000,2000,1000,0\n8,queue,9,1.2.3.4,10.0.0.2,6,1,65535,881,4294967295\r\n",
+    "\u{feff}moment,target,number,src,dst,proto,sport,dport,len,word\r\n7,pipe,1,10.0.0.1,10.0.0.2,17,1000,2000,1000,0\r\n8,queue,9,1.2.3.4,10.0.0.2,6,1,65535,881,4294967295\n",
+    "moment,target,number,src,dst,proto,sport,dport,len,word\n7,\"pipe\",1,\"10.0.0.1\",10.0.0.2,\"17\",1000,2000,1000,\"0\"\n8,queue,9,1.2.3.4,10.0.0.2,6,1,65535,881,4294967295\n",
+    "\u{feff}\"moment\",\"target\",\"number\",\"src\",\"dst\",\"proto\",\"sport\",\"dport\",\"len\",\"word\"\r\n\"7\",\"pipe\",\"1\",\"10.0.0.1\",\"10.0.0.2\",\"17\",\"1000\",\"2000\",\"1000\",\"0\"\r\n\"8\",\"queue\",\"9\",\"1.2.3.4\",\"10.0.0.2\",\"6\",\"1\",\"65535\",\"881\",\"4294967295\"\r\n",
 ];
 
 // The lengths of the parts into which each file is cut.
@@ -111,5 +123,56 @@ fn a_file_in_parts_has_the_rows_of_the_whole(rt: HostRuntime) -> Result<(), Fail
         b"moment,target\n",
         &Err(ReplayFault::BadRow { row: 0, field: 0 }),
     );
+    Ok(())
+}
+
+// The two rows of each form.
+fn is_first(row: &Row) -> bool {
+    let tuple = &row.packet.tuple;
+    row.moment.get() == 7
+        && row.target == Target::Pipe(Number::new(1).unwrap())
+        && tuple.src == 0x0a00_0001
+        && tuple.dst == 0x0a00_0002
+        && (tuple.proto, tuple.sport, tuple.dport) == (17, 1_000, 2_000)
+        && (row.packet.len.get(), row.packet.word) == (1_000, 0)
+}
+
+fn is_second(row: &Row) -> bool {
+    let tuple = &row.packet.tuple;
+    row.moment.get() == 8
+        && row.target == Target::Queue(Number::new(9).unwrap())
+        && tuple.src == 0x0102_0304
+        && tuple.dst == 0x0a00_0002
+        && (tuple.proto, tuple.sport, tuple.dport) == (6, 1, 65_535)
+        && (row.packet.len.get(), row.packet.word) == (881, 4_294_967_295)
+}
+
+fn are_the_two(rows: &[Row]) -> bool {
+    match rows {
+        [first, second] => is_first(first) && is_second(second),
+        _ => false,
+    }
+}
+
+// The rows that are taken as they come, and how many are left at the end.
+fn rows_before_the_end(alloc: Global, text: &[u8]) -> Result<(Vec<Row>, usize), ReplayFault> {
+    let mut reader = PacketReader::new(alloc);
+    let mut rows = Vec::new(alloc);
+    if reader.feed(text).is_err() {
+        return Err(ReplayFault::OutOfMemory);
+    }
+    take_rows(&mut reader, &mut rows)?;
+    let last = reader.finish()?;
+    Ok((rows, last.len()))
+}
+
+#[test]
+fn rows_in_any_form_are_taken_as_they_come(rt: HostRuntime) -> Result<(), Fail> {
+    let alloc = rt.alloc();
+    for text in FORMS.iter() {
+        let (rows, left) = rows_before_the_end(alloc, text.as_bytes())?;
+        assert!(rt; are_the_two(rows.as_slice()) && left == 0, "{text}");
+        check_parts(&rt, alloc, text.as_bytes(), &Ok(2));
+    }
     Ok(())
 }

@@ -11,9 +11,9 @@ use dn_records::RecordReader;
 use std::alloc::{AllocError, Global};
 use std::marker::Model;
 
-/// Where the first line of a text begins: behind a line feed at its front, or at its front.
+/// Where the first line of a text begins: behind a line feed or a byte order mark at its front, or at its front.
 ///
-/// None if it is empty, or may begin with a byte order mark.
+/// None if it is empty, or begins with a part of a byte order mark.
 fn line_start(text: &[u8]) -> Option<&[u8]>
     ensures { IfSome result (λ lines. records_of text.now ≡ records_after st.StartRecord lines.now) }
 {
@@ -21,6 +21,9 @@ fn line_start(text: &[u8]) -> Option<&[u8]>
         return None;
     };
     if *first == b'\n' {
+        return Some(rest);
+    }
+    if let Some(rest) = text.strip_prefix(b"\xEF\xBB\xBF") {
         return Some(rest);
     }
     if *first == 0xEF {

@@ -3,7 +3,7 @@
 ghost use Rattle.std.specs.Prelude.{IfSome};
 ghost use Rattle.dn_history.specs.PlainRecords.{BeginsCall, BeginsDelivery, BeginsReply};
 
-use dn_files::{target_at_front, tuple_at_front};
+use dn_files::{number_at_end, target_at_front, tuple_at_front};
 use dn_text::number_until;
 use dn_types::{Call, Delivery, Len, Moment, Packet, Reply};
 
@@ -25,7 +25,7 @@ pub(crate) fn submit_at_front(text: &[u8]) -> Option<(usize, Call, &[u8])>
     };
     let (len, text) = number_until(text, b',', 1, 65_535)?;
     let (word, text) = number_until(text, b',', 0, 4_294_967_295)?;
-    let (moment, text) = number_until(text, b'\n', 0, 1 << 62)?;
+    let (moment, text) = number_at_end(text, 0, 1 << 62)?;
     let packet = Packet {
         tuple,
         len: Len::new(len as u16)?,
@@ -48,7 +48,7 @@ pub(crate) fn queued_at_front(text: &[u8]) -> Option<(Reply, &[u8])>
     let text = text.strip_prefix(b"r,queued,")?;
     let (at, text) = number_until(text, b',', 0, 18_446_744_073_709_551_615)?;
     let (flow, text) = number_until(text, b',', 0, 18_446_744_073_709_551_615)?;
-    let (packet, text) = number_until(text, b'\n', 0, 18_446_744_073_709_551_615)?;
+    let (packet, text) = number_at_end(text, 0, 18_446_744_073_709_551_615)?;
     let reply = Reply::Queued {
         at,
         flow: flow as usize,
@@ -67,7 +67,7 @@ pub(crate) fn delivery_at_front(text: &[u8]) -> Option<(Delivery, &[u8])>
     let (packet, text) = number_until(text, b',', 0, 18_446_744_073_709_551_615)?;
     let (flow, text) = number_until(text, b',', 0, 18_446_744_073_709_551_615)?;
     let (start, text) = number_until(text, b',', 0, 18_446_744_073_709_551_615)?;
-    let (due, text) = number_until(text, b'\n', 0, 18_446_744_073_709_551_615)?;
+    let (due, text) = number_at_end(text, 0, 18_446_744_073_709_551_615)?;
     let delivery = Delivery {
         due,
         packet,

@@ -1,23 +1,24 @@
 ghost use Rattle.std.specs.Prelude.{◌≡◌, IfOk, IfSome};
 ghost use Rattle.csv.specs.Records.{fields_of};
-ghost use Rattle.dn_history.specs.PlainRecords.{BeginsRecord, EndsField, begins_with_feed};
+ghost use Rattle.dn_records.specs.Reading.{BeginsLine};
+ghost use Rattle.dn_history.specs.PlainRecords.{EndsField, begins_with_end};
 
 use csv::ByteRecord;
 use std::alloc::AllocError;
 
-/// Whether a text begins with a line feed.
-fn begins_with_feed(text: &[u8]) -> bool
-    ensures { result ≡ begins_with_feed text.now }
+/// Whether a text begins with the end of a line.
+fn begins_with_end(text: &[u8]) -> bool
+    ensures { result ≡ begins_with_end text.now }
 {
     match text {
         [] => false,
-        [first, ..] => *first == b'\n',
+        [first, ..] => *first == b'\n' || *first == b'\r',
     }
 }
 
-/// The field that a text begins with, whether it is the last one of its line, and what follows the byte that ends it.
+/// The field that a text begins with, whether it is the last one of its line, and what follows the bytes that end it.
 ///
-/// None if a quote or a carriage return comes before that, or nothing ends it.
+/// None if a quote or a carriage return alone comes before that, or nothing ends it.
 fn plain_field(text: &[u8]) -> Option<(&[u8], bool, &[u8])>
     ensures { IfSome result (λ p. EndsField text.now p.0.now p.1 p.2.now) }
 {
@@ -32,7 +33,10 @@ fn plain_field(text: &[u8]) -> Option<(&[u8], bool, &[u8])>
             return None;
         }
         if *byte == b'\r' {
-            return None;
+            let Some(rest) = text[i + 1..].strip_prefix(b"\n") else {
+                return None;
+            };
+            return Some((&text[..i], true, rest));
         }
     }
     None
@@ -40,15 +44,15 @@ fn plain_field(text: &[u8]) -> Option<(&[u8], bool, &[u8])>
 
 /// Reads the record of the line that a text begins with into `fields`, and returns what follows the line.
 ///
-/// None if the line is empty, has a quote or a carriage return, or doesn't end.
+/// None if the line is empty, has a quote or a carriage return within it, or doesn't end.
 pub(crate) fn read_plain_line<'a>(
     text: &'a [u8],
     fields: &mut ByteRecord,
 ) -> Result<Option<&'a [u8]>, AllocError>
-    ensures { IfOk result (λ found. IfSome found (λ rest. BeginsRecord text.now (fields_of fields.new) rest.now)) }
+    ensures { IfOk result (λ found. IfSome found (λ rest. BeginsLine text.now (fields_of fields.new) rest.now)) }
 {
     fields.clear();
-    if begins_with_feed(text) {
+    if begins_with_end(text) {
         return Ok(None);
     }
     let mut left = text;

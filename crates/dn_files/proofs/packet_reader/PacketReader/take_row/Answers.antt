@@ -2,7 +2,7 @@ use Rattle.std.proofs.Common.{◌≡◌, ◌<◌, ◌∙◌, length, vec_len, ru
 use Rattle.std.proofs.lemmas.List.{take_rest}
 use Rattle.dn_files.proofs.PacketNext.{row_given, row_left, row_withheld}
 use Rattle.dn_files.proofs.PacketParts.{row_shorter, row_taken}
-use Rattle.dn_files.proofs.PlainRows.{row_read}
+use Rattle.dn_files.proofs.QuotedRows.{row_reads}
 use Rattle.dn_files.proofs.packet_reader.PacketReader.take_row.Goals as goal
 
 pub returns-clause-rows : goal.returns-clause-rows
@@ -11,7 +11,7 @@ returns-clause-rows c =
     let counted : vec_len inside.text ≡ length inside.text.items = search rules in
     let some : 0 < inside.number = omega arith in
     row_taken inside.number inside.start c.len.result inside.text.items c.in-Some.rest.now c.in-Some.row c.args.self.now c.self.view_is some c.self.invariant.within
-    (row_read (drop inside.start inside.text.items) c.in-Some.rest.now c.in-Some.row
+    (row_reads (drop inside.start inside.text.items) c.in-Some.rest.now c.in-Some.row
     (sym (rw (c.deref.ensures.value, take_rest inside.text.items inside.start) at c.in-Some.ensures))) (c.len.ensures ∙ counted)
 
 pub returns-clause-shorter : goal.returns-clause-shorter
@@ -19,7 +19,7 @@ returns-clause-shorter c =
     let inside = c.self.inside in
     let counted : vec_len inside.text ≡ length inside.text.items = search rules in
     row_shorter inside.number inside.start c.len.result inside.text.items c.in-Some.rest.now c.in-Some.row c.args.self.now c.self.view_is c.self.invariant.within
-    (row_read (drop inside.start inside.text.items) c.in-Some.rest.now c.in-Some.row
+    (row_reads (drop inside.start inside.text.items) c.in-Some.rest.now c.in-Some.row
     (sym (rw (c.deref.ensures.value, take_rest inside.text.items inside.start) at c.in-Some.ensures))) (c.len.ensures ∙ counted)
 
 pub returns-clause-gives : goal.returns-clause-gives

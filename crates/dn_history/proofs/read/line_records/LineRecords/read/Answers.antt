@@ -1,11 +1,11 @@
 use Rattle.std.proofs.Common.{◌∙◌, sym, true}
 use Rattle.csv.specs.Records.{fields_of}
 use Rattle.dn_records.proofs.RecordSteps.{shorter}
-use Rattle.dn_history.proofs.PlainRecords.{behind-record, none-behind, takes-line}
+use Rattle.dn_history.proofs.PlainRecords.{behind-line, none-behind, takes-line}
 use Rattle.dn_history.proofs.read.line_records.LineRecords.read.Goals as goal
 
 pub go_on-requires : goal.go_on-requires
-go_on-requires c = behind-record c.in-Some.text.now (fields_of c.read_plain_line.new.fields) c.in-Ok-Some.rest.now (rw c.in-Ok-Some.field-0-is at c.in-Ok-Some.ensures)
+go_on-requires c = behind-line c.in-Some.text.now (fields_of c.read_plain_line.new.fields) c.in-Ok-Some.rest.now (rw c.in-Ok-Some.field-0-is at c.in-Ok-Some.ensures)
 
 pub returns-in-Ok-Some-clause-ok : goal.returns-in-Ok-Some-clause-ok
 returns-in-Ok-Some-clause-ok c =
