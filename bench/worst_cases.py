@@ -53,6 +53,9 @@ CASES = [
     Case("the shortest rows, 64 MiB", ["fullest.py", "rows", str(PACKETS), "{}"], replay("rows", "csv")),
     Case("the same with a history", ["fullest.py", "rows", str(PACKETS), "{}"], replay("rows", "csv", "--history", "{}/history")),
     Case("the shortest rows of a flow each, 64 MiB", ["fullest.py", "flows", str(PACKETS), "{}"], replay("flows", "csv")),
+    Case("900,000 rows that end in CR LF", ["forms.py", "900000", "{}", "returns"], replay("forms", "packets")),
+    Case("900,000 rows in quotes", ["forms.py", "900000", "{}", "quoted"], replay("forms", "packets")),
+    Case("900,000 plain rows, to compare", ["forms.py", "900000", "{}"], replay("forms", "packets")),
     Case("an audit of the shortest entries, 256 MiB", ["fullest.py", "entries", str(HISTORY), "{}"], lambda f: Run(["audit", f"{f}/entries.history"])),
 ]
 

@@ -1,4 +1,5 @@
-"""Calls that a stranger chose cost no more than their count: twice as many take at most 2.3 times the instructions.
+"""Calls that a stranger chose cost no more than their count: twice as many take at most 2.3 times the instructions. Rows in a form of
+CSV that isn't the plainest take little more than plain ones.
 
     python3 tools/gate/hostile.py PROGRAM
 
@@ -66,10 +67,46 @@ def digits(field: str) -> Cost:
     return cost
 
 
+def rows(form: str) -> Cost:
+    """A replay of rows of a form of CSV."""
+    def cost(program: str, count: int, folder: str) -> int:
+        subprocess.run([sys.executable, HOSTILE / "forms.py", str(count), folder, form], check=True)
+        return counted([program, "replay", f"{folder}/forms.config", f"{folder}/forms.packets"], "/dev/null")
+    return cost
+
+
+def entries(end: bytes) -> Cost:
+    """An audit of the shortest entries, whose lines have this end."""
+    def cost(program: str, count: int, folder: str) -> int:
+        subprocess.run([sys.executable, HOSTILE / "fullest.py", "entries", str(KIB * count // 40), folder], check=True)
+        history = Path(folder) / "entries.history"
+        history.write_bytes(history.read_bytes().replace(b"\n", end))
+        return counted([program, "audit", str(history)], "/dev/null")
+    return cost
+
+
 CASES: dict[str, Cost] = {
     "flows with chosen keys": chosen_keys, "flows of one deleted queue": queue_delete, "deletes that reach no flow": idle_deletes,
     "KiB of digits as a moment": digits("moment"), "KiB of digits as an address": digits("address"),
+    "rows that end in CR LF": rows("returns"), "rows behind a byte order mark": rows("mark"),
+    "rows behind one in quotes": rows("quoted-first"), "rows in quotes": rows("quoted"),
+    "entries that end in CR LF": entries(b"\r\n"),
 }
+# A form of rows or entries, the plainest one, and at most how many times its instructions.
+RATIOS: list[tuple[str, Cost, float]] = [
+    ("rows that end in CR LF", rows("plain"), 1.3), ("rows behind a byte order mark", rows("plain"), 1.05),
+    ("rows behind one in quotes", rows("plain"), 1.05), ("rows in quotes", rows("plain"), 2.0),
+    ("entries that end in CR LF", entries(b"\n"), 1.3),
+]
+
+
+def compare_with_plain(program: str, tally: Tally) -> None:
+    """Each form takes little more than the plainest one."""
+    for name, plain, most in RATIOS:
+        with TemporaryDirectory() as folder:
+            ratio = CASES[name](program, FEWER, folder) / plain(program, FEWER, folder)
+        print(f"{FEWER} {name} take {ratio:.2f} times the instructions of plain ones")
+        tally.note(f"{name}, over plain ones", "" if ratio <= most else f"more than {most} times the instructions")
 
 
 def main(program: str) -> int:
@@ -79,6 +116,7 @@ def main(program: str) -> int:
             fewer, more = (cost(program, count, folder) for count in (FEWER, 2 * FEWER))
         print(f"{FEWER} {name} take {fewer} instructions, and {2 * FEWER} take {more}: {more / fewer:.2f} times as many")
         tally.note(name, "" if more <= MOST * fewer else f"more than {MOST} times the instructions")
+    compare_with_plain(program, tally)
     return tally.end()
 
 
