@@ -1,5 +1,7 @@
 ghost use Rattle.std.specs.Prelude.{◌≡◌, ◌≢◌, ◌<◌, ◌≤◌, ◌+◌, ◌^◌, [], length, IfOk, IfErr, OnErr};
 
+mod tries;
+
 use crate::after_fault::AfterFault;
 use crate::desk::Desk;
 use crate::lasting::Lasting;
@@ -47,7 +49,7 @@ impl Model for Caller {
 
 impl Caller {
     ghost use Rattle.std.specs.Arc.{arc_value};
-    ghost use Rattle.dn_service.specs.Callers.{new_caller, IsSameCaller, Answered, NamesAnother, IsOf};
+    ghost use Rattle.dn_service.specs.Callers.{new_caller, IsSameCaller, Answered, IsOf};
     ghost use Rattle.dn_service.specs.Lasting.{Takes, Learns, IsTryAfterFault, IsAfterFault};
     ghost use Rattle.dn_service.specs.Seats.{sitting};
 
@@ -80,43 +82,6 @@ impl Caller {
         self.number
     }
 
-    /// Makes a call if no other caller is in one.
-    ///
-    /// It tries once and waits for nobody. `Busy(k)`, which is tested first, says that caller k was in a call;
-    /// `OutOfMemory` that memory was refused, for the call or for its place in the history. Neither changes anything.
-    pub fn try_call(&mut self, call: Call) -> Result<Reply, TryFault>
-        ensures ok { IfOk result (λ reply. Answered self.old call reply self.new) }
-        ensures same_caller { IsSameCaller self.old self.new }
-        ensures err { OnErr result (self.new ≡ self.old) }
-        ensures busy { IfErr result (λ fault. NamesAnother self.old fault) }
-    {
-        self.try_once(&call)
-    }
-
-    fn try_once(&mut self, call: &Call) -> Result<Reply, TryFault>
-        ensures ok { IfOk result (λ reply. Answered self.old call.now reply self.new) }
-        ensures same_caller { IsSameCaller self.old self.new }
-        ensures err { OnErr result (self.new ≡ self.old) }
-        ensures busy { IfErr result (λ fault. NamesAnother self.old fault) }
-    {
-        let number = self.number;
-        let desk: &Desk = &self.desk;
-        let mut book = match enter(desk, &mut self.seat, number) {
-            Ok(book) => book,
-            Err(holder) => return Err(TryFault::Busy(holder)),
-        };
-        match book.apply(number, call) {
-            Ok(reply) => {
-                publish(desk, &mut self.seat, book);
-                Ok(reply)
-            }
-            Err(_) => {
-                give_back(desk, &mut self.seat, book);
-                Err(TryFault::OutOfMemory)
-            }
-        }
-    }
-
     /// Makes a call that comes after `after` others, if no other caller is in one, and reports its place in the history.
     ///
     /// The place of a reply, and one more, is a number that another thread can hand in here, by whatever way it came: its call then
@@ -139,15 +104,18 @@ impl Caller {
         let place = book.place();
         if place < after {
             give_back(desk, &mut self.seat, book);
+            desk.bell.ring();
             return Err(TryAfterFault::Ahead);
         }
         match book.apply(caller, &call) {
             Ok(reply) => {
                 publish(desk, &mut self.seat, book);
+                desk.bell.ring();
                 Ok(Placed { place, reply })
             }
             Err(_) => {
                 give_back(desk, &mut self.seat, book);
+                desk.bell.ring();
                 Err(TryAfterFault::OutOfMemory)
             }
         }
@@ -234,7 +202,13 @@ impl Caller {
         ensures same_service { lasting.new.service ≡ lasting.old.service }
         ensures busy { IfErr result (λ k. (k < self.old.service.callers) × (k ≢ self.old.number)) }
     {
-        lasting.take_by(&mut self.seat, self.number, list)
+        match self.take_quietly_into(lasting, list) {
+            Ok(start) => {
+                self.desk.bell.ring();
+                Ok(start)
+            }
+            Err(holder) => Err(holder),
+        }
     }
 
     /// Takes all entries so far out of the service, and waits while other callers are in a call. It takes no memory.

@@ -1,4 +1,4 @@
-//! The lock of the book: how a seat takes the book, and gives it back.
+//! The lock of the book: how a seat takes the book, and gives it back. Nothing here wakes a caller that waits.
 ghost use Rattle.std.specs.Prelude.{◌≡◌, ◌+◌, ◌^◌, ◌<◌, List, [], ◌∷◌, ◌++◌, MatchResult, Some, None};
 ghost use Rattle.dn_types.specs.declared.entry.Entry.{Entry};
 ghost use Rattle.dn_service.specs.Pasts.{Past, BookView, Keeps, with_entry, all_shed};
@@ -61,7 +61,6 @@ pub(crate) fn give_back(desk: &Desk, seat: &mut BookSeat, book: Book)
 {
     put_in(&desk.table, seat, book);
     desk.table.shared.store::<Return>(seat, 0, 0);
-    desk.bell.ring();
 }
 
 /// Gives the book back with one entry more, of a caller of this seat. Here the call happens, for all callers.
@@ -76,7 +75,6 @@ pub(crate) fn publish(desk: &Desk, seat: &mut BookSeat, book: Book)
 {
     put_in(&desk.table, seat, book);
     desk.table.shared.store::<Publish>(seat, 0, 0);
-    desk.bell.ring();
 }
 
 /// Gives the book back without its entries, which were taken out. The seat is the one that has all that was taken out before.
@@ -90,5 +88,4 @@ pub(crate) fn give_empty(desk: &Desk, seat: &mut BookSeat, book: Book)
 {
     put_in(&desk.table, seat, book);
     desk.table.shared.store::<Empty>(seat, 0, 0);
-    desk.bell.ring();
 }

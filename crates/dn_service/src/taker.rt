@@ -89,4 +89,13 @@ impl Taker {
     {
         self.caller.try_take(&mut self.lasting)
     }
+    /// Takes all entries so far out, as `try_take` does, and wakes no caller that waits.
+    pub fn try_take_quietly(&mut self) -> Result<Segment, usize>
+        ensures ok { IfOk result (λ s. Takes self.old.lasting self.old.caller s.start s.entries.items self.new.lasting self.new.caller) }
+        ensures same_caller { IsSameCaller self.old.caller self.new.caller }
+        ensures err { OnErr result (self.new ≡ self.old) }
+        ensures busy { IfErr result (λ k. (k < self.old.caller.service.callers) × (k ≢ self.old.caller.number)) }
+    {
+        self.caller.try_take_quietly(&mut self.lasting)
+    }
 }

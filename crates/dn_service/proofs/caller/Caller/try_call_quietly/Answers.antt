@@ -5,7 +5,7 @@ use Rattle.dn_service.specs.Histories.{entry_of}
 use Rattle.dn_service.specs.Seats.{Has, with_history}
 use Rattle.dn_service.proofs.Calling.{now_sitting, seen_from, answers, stands_for}
 use Rattle.dn_service.proofs.Lastings.{is_sitting}
-use Rattle.dn_service.proofs.caller.Caller.try_once.Goals as goal
+use Rattle.dn_service.proofs.caller.Caller.try_call_quietly.Goals as goal
 
 pub apply-requires : goal.apply-requires
 apply-requires c = let won = c.in-Ok.ensures.taken in (won.past, won.keeps)

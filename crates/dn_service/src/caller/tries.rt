@@ -1,0 +1,107 @@
+//! A caller's call by one try, and its tries that wake nobody.
+ghost use Rattle.std.specs.Prelude.{◌≡◌, ◌≢◌, ◌<◌, [], IfOk, IfErr, OnErr};
+ghost use Rattle.dn_service.specs.Callers.{IsSameCaller, Answered, NamesAnother, IsOf};
+ghost use Rattle.dn_service.specs.Lasting.{Takes};
+
+use crate::caller::Caller;
+use crate::desk::Desk;
+use crate::lasting::Lasting;
+use crate::lock::{enter, give_back, publish};
+use crate::segment::Segment;
+use crate::try_fault::TryFault;
+use dn_types::{Call, Entry, Reply};
+
+impl Caller {
+    /// Makes a call if no other caller is in one.
+    ///
+    /// It tries once and waits for nobody. `Busy(k)`, which is tested first, says that caller k was in a call;
+    /// `OutOfMemory` that memory was refused, for the call or for its place in the history. Neither changes anything.
+    pub fn try_call(&mut self, call: Call) -> Result<Reply, TryFault>
+        ensures ok { IfOk result (λ reply. Answered self.old call reply self.new) }
+        ensures same_caller { IsSameCaller self.old self.new }
+        ensures err { OnErr result (self.new ≡ self.old) }
+        ensures busy { IfErr result (λ fault. NamesAnother self.old fault) }
+    {
+        self.try_once(&call)
+    }
+
+    /// Tries as `try_call_quietly` does, and wakes a caller that waits, unless another caller was in a call.
+    pub(crate) fn try_once(&mut self, call: &Call) -> Result<Reply, TryFault>
+        ensures ok { IfOk result (λ reply. Answered self.old call.now reply self.new) }
+        ensures same_caller { IsSameCaller self.old self.new }
+        ensures err { OnErr result (self.new ≡ self.old) }
+        ensures busy { IfErr result (λ fault. NamesAnother self.old fault) }
+    {
+        match self.try_call_quietly(call) {
+            Ok(reply) => {
+                self.desk.bell.ring();
+                Ok(reply)
+            }
+            Err(TryFault::OutOfMemory) => {
+                self.desk.bell.ring();
+                Err(TryFault::OutOfMemory)
+            }
+            Err(fault) => Err(fault),
+        }
+    }
+
+    /// Makes a call as `try_call` does, and wakes no caller that waits.
+    ///
+    /// A library for C may wake nobody.
+    pub fn try_call_quietly(&mut self, call: &Call) -> Result<Reply, TryFault>
+        ensures ok { IfOk result (λ reply. Answered self.old call.now reply self.new) }
+        ensures same_caller { IsSameCaller self.old self.new }
+        ensures err { OnErr result (self.new ≡ self.old) }
+        ensures busy { IfErr result (λ fault. NamesAnother self.old fault) }
+    {
+        let number = self.number;
+        let desk: &Desk = &self.desk;
+        let mut book = match enter(desk, &mut self.seat, number) {
+            Ok(book) => book,
+            Err(holder) => return Err(TryFault::Busy(holder)),
+        };
+        match book.apply(number, call) {
+            Ok(reply) => {
+                publish(desk, &mut self.seat, book);
+                Ok(reply)
+            }
+            Err(_) => {
+                give_back(desk, &mut self.seat, book);
+                Err(TryFault::OutOfMemory)
+            }
+        }
+    }
+
+    /// Takes all entries so far out, as `try_take` does, and wakes no caller that waits.
+    pub fn try_take_quietly(&mut self, lasting: &mut Lasting) -> Result<Segment, usize>
+        requires { IsOf lasting.old.service self.old }
+        ensures ok { IfOk result (λ s. Takes lasting.old self.old s.start s.entries.items lasting.new self.new) }
+        ensures same_caller { IsSameCaller self.old self.new }
+        ensures err { OnErr result ((self.new ≡ self.old) × (lasting.new ≡ lasting.old)) }
+        ensures same_service { lasting.new.service ≡ lasting.old.service }
+        ensures busy { IfErr result (λ k. (k < self.old.service.callers) × (k ≢ self.old.number)) }
+    {
+        let mut entries = lasting.empty_list();
+        match self.take_quietly_into(lasting, &mut entries) {
+            Ok(start) => Ok(Segment { start, entries }),
+            Err(holder) => Err(holder),
+        }
+    }
+
+    /// Takes as `try_take_quietly` does, into an empty list.
+    pub(crate) fn take_quietly_into(
+        &mut self,
+        lasting: &mut Lasting,
+        list: &mut Vec<Entry>,
+    ) -> Result<u64, usize>
+        requires caller { IsOf lasting.old.service self.old }
+        requires list { list.old.items ≡ [] }
+        ensures ok { IfOk result (λ start. Takes lasting.old self.old start list.new.items lasting.new self.new) }
+        ensures same_caller { IsSameCaller self.old self.new }
+        ensures err { OnErr result ((self.new ≡ self.old) × (lasting.new ≡ lasting.old) × (list.new ≡ list.old)) }
+        ensures same_service { lasting.new.service ≡ lasting.old.service }
+        ensures busy { IfErr result (λ k. (k < self.old.service.callers) × (k ≢ self.old.number)) }
+    {
+        lasting.take_by(&mut self.seat, self.number, list)
+    }
+}
