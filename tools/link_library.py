@@ -3,7 +3,8 @@
     python3 tools/link_library.py ARCHIVE FOLDER
 
 The toolchain's small C file between its allocator and malloc goes into both, so that a program needs nothing beside them. The
-shared one gives out the names that begin with `dn_` alone.
+shared one gives out the names of the headers alone. Each has the version that it came with: a program that needs a later one than the
+library has is refused when it starts.
 """
 
 from __future__ import annotations
@@ -14,6 +15,11 @@ from pathlib import Path
 from tempfile import TemporaryDirectory
 
 STATIC, SHARED = "libhingetulip.a", "libhingetulip.so.1"
+VERSIONS = {
+    "HINGETULIP_1.0": ("dn_version", "dn_open", "dn_open_with_key", "dn_close", "dn_configure", "dn_submit", "dn_submit_many", "dn_advance",
+                       "dn_collect", "dn_show", "dn_wake"),
+    "HINGETULIP_1.1": ("dn_service_*", "dn_caller_*"),
+}
 
 
 def kit_archive() -> Path:
@@ -28,13 +34,23 @@ def run(*words: str | Path, text: str = "") -> None:
         raise OSError(f"{' '.join(map(str, words))} failed: {done.stdout.strip()}")
 
 
+def version_script() -> str:
+    """The names that the shared library gives out, by version, each of which stands on the one before."""
+    text, before = "", ""
+    for version, names in VERSIONS.items():
+        hidden = "" if before else " local: *;"
+        text += f"{version} {{ global: {' '.join(f'{name};' for name in names)}{hidden} }}{before};\n"
+        before = f" {version}"
+    return text
+
+
 def link(archive: Path, folder: Path) -> None:
     """Puts the libraries into the folder, each whole from its first moment."""
     folder.mkdir(parents=True, exist_ok=True)
     with TemporaryDirectory(dir=folder) as place:
         static, shared, names = (Path(place) / name for name in (STATIC, SHARED, "names"))
         run("ar", "-M", text=f"create {static}\naddlib {archive}\naddlib {kit_archive()}\nsave\nend\n")
-        names.write_text("{ global: dn_*; local: *; };\n")
+        names.write_text(version_script())
         run("cc", "-shared", "-o", shared, f"-Wl,-soname,{SHARED}", f"-Wl,--version-script,{names}", "-Wl,-z,defs", "-Wl,--gc-sections",
             "-Wl,--whole-archive", static, "-Wl,--no-whole-archive")
         static.replace(folder / STATIC)

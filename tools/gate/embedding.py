@@ -23,10 +23,11 @@ TOP = Path(__file__).resolve().parent.parent.parent
 PAGE = (TOP / "docs" / "EMBEDDING.md").read_text()
 MANUAL = TOP / "docs" / "hingetulip.3"
 EXAMPLES = TOP / "examples" / "embed"
-FIRST, LOOP, SIMULATION = EXAMPLES / "first.c", EXAMPLES / "simulate.c", EXAMPLES / "aimd.py"
+FIRST, LOOP, THREADS, SIMULATION = (EXAMPLES / name for name in ("first.c", "simulate.c", "threads.c", "aimd.py"))
+PROGRAM = os.environ.get("DUMMYNET", TOP / "release" / "dummynet")
 WARNINGS = ["-Wall", "-Wextra", "-Werror"]
-INSTALLED = ["include/hingetulip.h", "lib/cmake/Hingetulip/HingetulipConfig.cmake", "lib/cmake/Hingetulip/HingetulipConfigVersion.cmake",
-             "lib/libhingetulip.a", "lib/libhingetulip.so", "lib/libhingetulip.so.1", "lib/pkgconfig/hingetulip.pc",
+INSTALLED = ["include/hingetulip.h", "include/hingetulip_service.h", "lib/cmake/Hingetulip/HingetulipConfig.cmake",
+             "lib/cmake/Hingetulip/HingetulipConfigVersion.cmake", "lib/libhingetulip.a", "lib/libhingetulip.so", "lib/libhingetulip.so.1", "lib/pkgconfig/hingetulip.pc",
              "share/hingetulip/installed", "share/man/man3/hingetulip.3"]
 AROUND = "#include <hingetulip.h>\n#include <stdio.h>\n#include <string.h>\nint main(void)\n{\n%s\nreturn 0;\n}\n"
 Done = subprocess.CompletedProcess  # of a program that was run
@@ -69,6 +70,10 @@ def from_c(tally: Tally, prefix: Prefix) -> None:
     for source in (FIRST, LOOP):
         done = prefix.built(source, *WARNINGS)
         tally.equal(f"examples/embed/{source.name}", (0, printed_after(f"./{source.stem}")), (done.returncode, done.stdout))
+    done = prefix.built(THREADS, *WARNINGS, "-pthread")
+    tally.equal("examples/embed/threads.c", (0, printed_after("./threads")), (done.returncode, done.stdout))
+    done = prefix.run(PROGRAM, "audit", "threads.history")
+    tally.equal("the history of threads.c", printed_after("dummynet audit"), done.stdout)
     example = re.search(r"^\.Bd -literal[^\n]*\n(.*?)^\.Ed", MANUAL.read_text(), re.M | re.S)
     source = prefix.place / "example.c"
     source.write_text(AROUND % (example[1] if example else "").replace("\\e", "\\"))
@@ -91,7 +96,7 @@ def from_python(tally: Tally, prefix: Prefix) -> None:
 
 def manual(tally: Tally, prefix: Prefix) -> None:
     """The manual page names all that the header declares, and mandoc has nothing to say of it."""
-    header = (prefix.folder / "include" / "hingetulip.h").read_text()
+    header = "".join((prefix.folder / "include" / name).read_text() for name in ("hingetulip.h", "hingetulip_service.h"))
     text = MANUAL.read_text()
     for name in sorted(set(re.findall(r"\b(?:dn_\w+(?=\()|DN_[A-Z0-9_]+(?= = ))", header))):
         tally.note(f"hingetulip(3): {name}", "" if re.search(rf"\b{name}\b", text) else "isn't named")

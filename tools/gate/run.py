@@ -29,6 +29,7 @@ RANDOM_CASES = 400
 RUNS_BY_CALLERS = 100
 LIVE_SESSIONS = 200
 SCENARIOS_IN_C = 200
+SERVICES_IN_C = 40
 # More than a prover of any of our crates takes at most, in bytes: 3.7 GiB were seen.
 PROVER_MEMORY = 9 * 2**29
 
@@ -114,6 +115,7 @@ def parts(cases: str, seed: int) -> list[Part]:
         Part("replays by callers", [python, "tools/callers_checks.py", program, str(seed), str(RUNS_BY_CALLERS)]),
         Part("live sessions", [python, "tools/gate/live.py", program, str(seed), str(LIVE_SESSIONS)]),
         Part("the C library", [python, "tools/gate/c_library.py", str(seed), str(SCENARIOS_IN_C)], "gcc"),
+        Part("the service from C", [python, "tools/gate/c_service.py", program, str(seed), str(SERVICES_IN_C)], "gcc"),
         Part("the C library and Python from a prefix", [python, "tools/gate/embedding.py"], "cc"),
         Part("the program without memory", [python, "tools/gate/memory.py", program], "cc"),
         Part("chosen keys", [python, "tools/gate/hostile.py", program], "valgrind"),

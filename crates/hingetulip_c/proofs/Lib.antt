@@ -1,4 +1,7 @@
 pub mod Answering
+pub mod CallerHandles
 pub mod Handles
 pub mod Many
 pub mod RawBoxes
+pub mod ServiceHandles
+pub mod Serving

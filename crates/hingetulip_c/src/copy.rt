@@ -48,7 +48,7 @@ fn flow_of(flow: &FlowStatus) -> CFlow
 }
 
 #[tactic(auto, using(crate::proofs::Many::others_more))]
-fn copy_deliveries(given: &[Delivery], list: &mut [CDelivery])
+pub(crate) fn copy_deliveries(given: &[Delivery], list: &mut [CDelivery])
     requires { length given.now ≤ length list.old }
     ensures written { take (length given.now) list.new ≡ map c_delivery given.now }
     ensures others { drop (length given.now) list.new ≡ drop (length given.now) list.old }

@@ -1,9 +1,11 @@
 //! The calls of the header. Where a call could answer two statuses, it tests its numbers before the handle.
 
 mod advance;
+mod caller;
 mod collect;
 mod configure;
 mod lifetime;
+mod service;
 mod show;
 mod submit;
 mod submit_many;

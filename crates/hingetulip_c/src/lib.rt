@@ -1,11 +1,16 @@
 //! Dummynet for C, as include/hingetulip.h declares it: a handle holds a sequential shaper, and each call answers a status.
 #![tactic(auto)]
 
+mod caller_handle;
+mod client;
 mod convert;
 mod copy;
+mod copy_part;
 mod exports;
 mod handle;
+mod ledger;
 mod raw_box;
 mod records;
+mod service_handle;
 mod status;
 mod written;

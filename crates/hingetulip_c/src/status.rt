@@ -29,3 +29,11 @@ pub(crate) const BAD_NUMBER: u32 = 12;
 pub(crate) const BAD_LENGTH: u32 = 13;
 
 pub(crate) const BAD_RESERVED: u32 = 14;
+
+pub(crate) const BUSY: u32 = 15;
+
+pub(crate) const BAD_COUNT: u32 = 16;
+
+pub(crate) const UNWRITTEN: u32 = 17;
+
+pub(crate) const NO_ENTRY: u32 = 18;

@@ -1,5 +1,5 @@
 ghost use Rattle.std.specs.Prelude.{◌≡◌, true};
-ghost use Rattle.hingetulip_c.specs.Statuses.{answered, taken, configure_status, clock_status, clock_of};
+ghost use Rattle.hingetulip_c.specs.Statuses.{answered, taken, configure_status, clock_status, clock_of, collect_status, collect_count};
 ghost use Rattle.hingetulip_c.specs.Submits.{fate_status, fate_of};
 
 use crate::records::CFate;
@@ -45,6 +45,21 @@ pub(crate) fn put_clock(reply: &Reply, clock: &mut u64) -> u32
     match reply {
         Reply::Advanced { at } => {
             *clock = *at;
+            OK
+        }
+        _ => EXHAUSTED,
+    }
+}
+
+/// Writes how many packets a reply gives.
+pub(crate) fn put_count(reply: &Reply, count: &mut u64) -> u32
+    ensures status { result ≡ collect_status reply.now }
+    ensures count { count.new ≡ collect_count count.old reply.now }
+    ensures answered { answered result ≡ true }
+{
+    match reply {
+        Reply::Delivered { at: _, list } => {
+            *count = list.as_slice().len() as u64;
             OK
         }
         _ => EXHAUSTED,

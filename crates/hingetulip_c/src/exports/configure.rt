@@ -19,7 +19,7 @@ use dn_types::Call;
 use std::alloc::Global;
 
 /// The fault, with the numbers of the header.
-fn fault_of(found: &LineFault) -> CFault
+pub(crate) fn fault_of(found: &LineFault) -> CFault
     ensures { result ≡ fault_of found.now }
 {
     let kind = match found {

@@ -1,0 +1,100 @@
+-- What is so of the value that a handle holds is so of the handle, and each turn of the loops over handles does one more.
+use Rattle.std.proofs.Common.{◌≡◌, ◌≢◌, ◌∙◌, ◌<◌, ◌+◌, ℕ, zero, suc, List, [], ◌∷◌, ◌++◌, get_or, map, min, replicate, take, drop, set, length, refl, ap, sym, subst, arith}
+use Rattle.std.proofs.lemmas.List.{take_more, take_more_set, take_at, drop_at, length_push, map-append, length-take, take_min, drop_min, take-map, drop-map}
+use Rattle.std.proofs.lemmas.Grind.{replicate_next}
+use Rattle.dn_types.specs.declared.call.Call.{Call}
+use Rattle.dn_types.specs.declared.delivery.Delivery.{Delivery}
+use Rattle.dn_service.specs.Callers.{ServiceView, CallerView, new_caller, new_callers}
+use Rattle.dn_service.specs.Lasting.{LastingView, Takes}
+use Rattle.dn_service.proofs.Handing.{one_more_caller}
+use Rattle.hingetulip_c.specs.Clients.{IsAnswered, IsOther, AnsweredBy, IsBusyWith}
+use Rattle.hingetulip_c.specs.Lists.{c_delivery}
+use Rattle.hingetulip_c.specs.declared.records.c_delivery.CDelivery.{CDelivery}
+use Rattle.hingetulip_c.specs.Services.{all_held, held_new, waiting, IsServiceBusyWith, Opened, Taken, Written, Wrote}
+use Rattle.hingetulip_c.specs.declared.caller_handle.CallerHandle.{CallerHandle}
+use Rattle.hingetulip_c.specs.declared.client.Client.{Client}
+use Rattle.hingetulip_c.specs.declared.ledger.Ledger.{Ledger}
+
+pub answered_by : (call : Call) (b a : Client) (xs ys : List Client) → xs ≡ b ∷ [] → ys ≡ a ∷ [] → IsAnswered call b a → AnsweredBy call xs ys
+answered_by call b a xs ys e f is =
+    subst (λ (l : List Client). AnsweredBy call l ys) (sym e) (subst (λ (l : List Client). AnsweredBy call (b ∷ []) l) (sym f) is)
+
+pub busy_with : (holder : ℕ) (b : Client) (xs : List Client) → xs ≡ b ∷ [] → IsOther holder b → IsBusyWith holder xs
+busy_with holder b xs e is = subst (λ (l : List Client). IsBusyWith holder l) (sym e) is
+
+pub wrote : (text : List ℕ) (b a : Ledger) (xs ys : List Ledger) → xs ≡ b ∷ [] → ys ≡ a ∷ [] → Written text b a → Wrote text xs ys
+wrote text b a xs ys e f is =
+    subst (λ (l : List Ledger). Wrote text l ys) (sym e) (subst (λ (l : List Ledger). Wrote text (b ∷ []) l) (sym f) is)
+
+pub taken_out : (start : ℕ) (b a : Ledger) (xs ys : List Ledger) → xs ≡ b ∷ [] → ys ≡ a ∷ []
+    → (waiting b ≡ []) × Takes b.taker.lasting b.taker.caller start (waiting a) a.taker.lasting a.taker.caller → Taken start xs ys
+taken_out start b a xs ys e f is =
+    subst (λ (l : List Ledger). Taken start l ys) (sym e) (subst (λ (l : List Ledger). Taken start (b ∷ []) l) (sym f) is)
+
+-- One handle more holds its caller.
+pub held_more : (handles : List CallerHandle) (callers : List CallerView) (place : ℕ) (h : CallerHandle) (c d : CallerView)
+    → place < length handles → place < length callers → all_held (take place handles) ≡ map held_new (take place callers)
+    → h.held ≡ held_new c → get_or callers place d ≡ c → all_held (take (place + 1) (set handles place h)) ≡ map held_new (take (place + 1) callers)
+held_more handles callers place h c d room there so_far holds is =
+    ap all_held (take_more_set handles place h room)
+    ∙ map-append (λ (x : CallerHandle). x.held) (take place handles) (h ∷ [])
+    ∙ (λ i. so_far i ++ holds i ∷ [])
+    ∙ sym (map-append held_new (take place callers) (c ∷ []))
+    ∙ ap (map held_new) (sym (take_more callers place d there ∙ ap (λ (x : CallerView). take place callers ++ x ∷ []) is))
+
+-- One handle more is closed.
+pub closed_more : (handles : List CallerHandle) (place : ℕ) (h : CallerHandle) → place < length handles
+    → all_held (take place handles) ≡ replicate place [] → h.held ≡ [] → all_held (take (place + 1) (set handles place h)) ≡ replicate (place + 1) []
+closed_more handles place h room so_far closed =
+    ap all_held (take_more_set handles place h room)
+    ∙ map-append (λ (x : CallerHandle). x.held) (take place handles) (h ∷ [])
+    ∙ (λ i. so_far i ++ closed i ∷ [])
+    ∙ sym (replicate_next place [])
+
+pub service_busy_with : (holder : ℕ) (b : Ledger) (xs : List Ledger) → xs ≡ b ∷ [] → holder < b.taker.caller.service.callers → holder ≢ b.taker.caller.number
+    → IsServiceBusyWith holder xs
+service_busy_with holder b xs e below another = subst (λ (l : List Ledger). IsServiceBusyWith holder l) (sym e) (below, another)
+
+callers_many : (service : ServiceView) (k n : ℕ) → length (new_callers service k n) ≡ n
+callers_many service k zero = refl
+callers_many service k (suc n) = ap suc (callers_many service (k + 1) n)
+
+-- Of n callers and one the last is the service's own.
+pub last_is_own : (service : ServiceView) (n : ℕ) (all rest : List CallerView) (own : CallerView) → all ≡ new_callers service 0 (n + 1) → all ≡ rest ++ own ∷ []
+    → (rest ≡ new_callers service 0 n) × (own ≡ new_caller service n) × (length rest ≡ n)
+last_is_own service n all rest own e f =
+    let both : rest ++ own ∷ [] ≡ new_callers service 0 n ++ new_caller service n ∷ [] = sym f ∙ e ∙ sym (one_more_caller service n) in
+    let more : length rest + 1 ≡ n + 1 = sym (length_push rest own) ∙ ap length (sym f ∙ e) ∙ callers_many service 0 (n + 1) in
+    let long : length rest ≡ n = omega (arith, more) in (
+      sym (take_at rest (own ∷ []) n long) ∙ ap (take n) both ∙ take_at (new_callers service 0 n) (new_caller service n ∷ []) n (callers_many service 0 n),
+      ap (λ (l : List CallerView). get_or l 0 own) (sym (drop_at rest (own ∷ []) n long) ∙ ap (drop n) both
+          ∙ drop_at (new_callers service 0 n) (new_caller service n ∷ []) n (callers_many service 0 n)),
+      long,
+    )
+
+pub opened : (n : ℕ) (service : ServiceView) (l : Ledger) (rest : List CallerView) (clients : List (List Client)) → service.callers ≡ n + 1
+    → l.taker.lasting ≡ record { service = service; taken = [] } → l.taker.caller ≡ new_caller service n → waiting l ≡ []
+    → rest ≡ new_callers service 0 n → clients ≡ map held_new rest → Opened n (l ∷ []) clients
+opened n service l rest clients count is own none rest_is held = (
+  ap (λ (v : LastingView). v.service.callers) is ∙ count,
+  own ∙ ap (λ (v : LastingView). new_caller v.service n) (sym is),
+  ap (λ (v : LastingView). v.taken) is,
+  none,
+  held ∙ ap (map held_new) rest_is ∙ ap (λ (v : LastingView). map held_new (new_callers v.service 0 n)) (sym is),
+)
+
+-- A place beyond the end is as the end.
+pub rest_of : (given : List Delivery) (from n : ℕ) → n ≡ min from (length given) → drop n given ≡ drop from given
+rest_of given from n is = ap (λ (k : ℕ). drop k given) is ∙ drop_min from given
+
+pub front_of : (given : List Delivery) (most n : ℕ) → n ≡ min most (length given) → take n given ≡ take most given
+front_of given most n is = ap (λ (k : ℕ). take k given) is ∙ take_min most given
+
+-- A part of a list as it is copied.
+pub part_copied : (given : List Delivery) (from room : ℕ) (part : List Delivery) (list : List CDelivery) → part ≡ take room (drop from given)
+    → take (length part) list ≡ map c_delivery part → take (length part) list ≡ take (length part) (drop from (map c_delivery given))
+part_copied given from room part list is copied =
+    let rest = drop from given in
+    let whole : take (length part) rest ≡ part =
+    ap (λ (l : List Delivery). take (length l) rest) is ∙ ap (λ (n : ℕ). take n rest) (length-take room rest) ∙ take_min room rest ∙ sym is in
+    copied ∙ sym (ap (map c_delivery) whole) ∙ sym (take-map c_delivery (length part) rest) ∙ ap (take (length part)) (sym (drop-map c_delivery from given))

@@ -1,0 +1,31 @@
+-- A caller that C holds, and what a call by it does.
+use Rattle.std.specs.Prelude.{◌≢◌, ◌<◌, ℕ, List, [], ◌∷◌}
+use Rattle.dn_types.specs.declared.call.Call.{Call}
+use Rattle.dn_types.specs.declared.reply.Reply.{Reply}
+use Rattle.dn_types.specs.declared.reply.Reply.TheVariants.{Exhausted}
+use Rattle.dn_service.specs.Callers.{Answered, IsSameCaller}
+use Rattle.hingetulip_c.specs.declared.client.Client.{Client}
+
+-- The caller's call was answered, and the reply is the one that is kept now.
+pub record IsAnswered (call : Call) (b a : Client) : Type 0 where
+  pub answer : Answered b.caller call a.last a.caller
+  pub same_caller : IsSameCaller b.caller a.caller
+
+-- This is the number of another caller of the service.
+pub record IsOther (holder : ℕ) (c : Client) : Type 0 where
+  pub below : holder < c.caller.service.callers
+  pub another : holder ≢ c.caller.number
+
+-- The same of a handle, which is open before and after.
+abbrev pub AnsweredBy : Call → List Client → List Client → Type 0
+AnsweredBy call (b ∷ []) (a ∷ []) = IsAnswered call b a
+AnsweredBy call _ _ = ⊥
+
+abbrev pub IsBusyWith : ℕ → List Client → Type 0
+IsBusyWith holder (c ∷ []) = IsOther holder c
+IsBusyWith holder _ = ⊥
+
+-- The reply that the handle has. A closed handle has one that tells nothing.
+abbrev pub last_reply : List Client → Reply
+last_reply (c ∷ []) = c.last
+last_reply _ = Exhausted

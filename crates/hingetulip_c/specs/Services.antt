@@ -1,0 +1,66 @@
+-- A service that C holds: its callers, and the entries that it took out, which wait to be written.
+use Rattle.std.specs.Prelude.{◌≡◌, ◌≢◌, ℕ, ◌+◌, ◌<◌, List, [], ◌∷◌, drop, length, map}
+use Rattle.dn_types.specs.declared.entry.Entry.{Entry}
+use Rattle.dn_types.specs.declared.reply.Reply.TheVariants.{Exhausted}
+use Rattle.dn_records.specs.Records.{text_of}
+use Rattle.dn_history.specs.HistoryText.{entry_records}
+use Rattle.dn_service.specs.Callers.{CallerView, new_caller, new_callers}
+use Rattle.dn_service.specs.Lasting.{Takes}
+use Rattle.hingetulip_c.specs.declared.caller_handle.CallerHandle.{CallerHandle}
+use Rattle.hingetulip_c.specs.declared.client.Client.{Client}
+use Rattle.hingetulip_c.specs.declared.ledger.Ledger.{Ledger}
+
+-- The entries that weren't written yet.
+abbrev pub waiting : Ledger → List Entry
+waiting l = drop l.written l.entries.items
+
+-- A handle's list when it holds a caller that made no call.
+abbrev pub held_new : CallerView → List Client
+held_new c = record { caller = c; last = Exhausted } ∷ []
+
+-- What each handle's list is.
+abbrev pub all_held : List CallerHandle → List (List Client)
+all_held handles = map (λ h. h.held) handles
+
+-- The handle holds a new service of n callers and one of its own, which is the last, and the n handles hold the others in order.
+abbrev pub Opened : ℕ → List Ledger → List (List Client) → Type 0
+Opened n (l ∷ []) clients = (l.taker.lasting.service.callers ≡ n + 1) × (l.taker.caller ≡ new_caller l.taker.lasting.service n)
+    × (l.taker.lasting.taken ≡ []) × (waiting l ≡ []) × (clients ≡ map held_new (new_callers l.taker.lasting.service 0 n))
+Opened n _ clients = ⊥
+
+-- The handle is open before and after, no entry waited, and those that now wait were taken out. The first has this place.
+abbrev pub Taken : ℕ → List Ledger → List Ledger → Type 0
+Taken start (b ∷ []) (a ∷ []) = (waiting b ≡ []) × Takes b.taker.lasting b.taker.caller start (waiting a) a.taker.lasting a.taker.caller
+Taken start _ _ = ⊥
+
+-- The number of the entries that wait.
+abbrev pub count_waiting : List Ledger → ℕ
+count_waiting (l ∷ []) = length (waiting l)
+count_waiting _ = 0
+
+-- The handle is open, and its service has another caller of this number than the service's own.
+abbrev pub IsServiceBusyWith : ℕ → List Ledger → Type 0
+IsServiceBusyWith holder (l ∷ []) = (holder < l.taker.caller.service.callers) × (holder ≢ l.taker.caller.number)
+IsServiceBusyWith holder _ = ⊥
+
+-- The text of the first entry that waits.
+abbrev pub next_text : List Entry → List ℕ
+next_text (e ∷ entries) = text_of (entry_records e)
+next_text [] = []
+
+-- This is the text of the first entry that waited, and the others wait.
+pub record Written (text : List ℕ) (b a : Ledger) : Type 0 where
+  pub entry : Entry
+  pub waited : waiting b ≡ entry ∷ waiting a
+  pub text_is : text ≡ text_of (entry_records entry)
+  pub taker : a.taker ≡ b.taker
+
+-- The same of a handle that is open before and after.
+abbrev pub Wrote : List ℕ → List Ledger → List Ledger → Type 0
+Wrote text (b ∷ []) (a ∷ []) = Written text b a
+Wrote text _ _ = ⊥
+
+-- How many bytes the first entry that waits has as text.
+abbrev pub next_length : List Ledger → ℕ
+next_length (l ∷ []) = length (next_text (waiting l))
+next_length _ = 0

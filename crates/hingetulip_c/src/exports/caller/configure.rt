@@ -1,0 +1,72 @@
+ghost use Rattle.std.specs.Prelude.{◌≡◌, ◌≢◌, ◌⊎◌, [], IsUtf8, true, false, Ok, Err, Some, None};
+ghost use Rattle.dn_config.specs.Line.{answer};
+ghost use Rattle.dn_config.specs.declared.fault.LineFault.{LineFault as FaultValue};
+ghost use Rattle.dn_types.specs.declared.call.Call.TheVariants.{Configure};
+ghost use Rattle.dn_types.specs.declared.command.Command.{Command as CommandValue};
+ghost use Rattle.hingetulip_c.specs.Clients.{AnsweredBy, IsBusyWith, last_reply};
+ghost use Rattle.hingetulip_c.specs.Faults.{fault_of, no_text};
+ghost use Rattle.hingetulip_c.specs.Statuses.{taken, configure_status};
+
+use crate::caller_handle::CallerHandle;
+use crate::exports::configure::fault_of;
+use crate::records::CFault;
+use crate::status::{CLOSED, LINE, OK};
+use dn_config::parse_line;
+use dn_types::{Call, Command};
+use std::alloc::Global;
+
+/// Makes the call of a command.
+#[tactic(auto, using(crate::proofs::Serving::answered_by, crate::proofs::Serving::busy_with))]
+fn obey(alloc: Global, caller: &mut CallerHandle, command: Command, holder: &mut u64) -> u32
+    ensures refused { taken result ≡ false → caller.new.held ≡ caller.old.held }
+    ensures why { taken result ≡ false → ((result ≡ 5) × (caller.old.held ≡ [])) ⊎ ((result ≡ 6) × (caller.old.held ≢ [])) ⊎ ((result ≡ 15) × IsBusyWith holder.new caller.old.held) }
+    ensures holder { result ≢ 15 → holder.new ≡ holder.old }
+    ensures answered { taken result ≡ true → AnsweredBy (Configure command) caller.old.held caller.new.held }
+    ensures status { taken result ≡ true → result ≡ configure_status (last_reply caller.new.held) }
+{
+    let call = Call::Configure(command);
+    let Some(mut client) = caller.take(alloc) else {
+        return CLOSED;
+    };
+    let status = client.configure(&call, holder);
+    let _none = caller.put(alloc, client);
+    status
+}
+
+/// Obeys a line of a configuration.
+#[unsafe(no_mangle)]
+pub extern "C" fn dn_caller_configure(
+    alloc: Global,
+    caller: &mut CallerHandle,
+    line: &[u8],
+    fault: &mut CFault,
+    holder: &mut u64,
+) -> u32
+    ensures refused { taken result ≡ false → caller.new.held ≡ caller.old.held }
+    ensures no_text { ¬ (IsUtf8 line.now) → (result ≡ 8) × (fault.new ≡ no_text) }
+    ensures fault { IsUtf8 line.now → (found : FaultValue) → answer line.now ≡ Err found → (result ≡ 8) × (fault.new ≡ fault_of found) }
+    ensures no_fault { result ≢ 8 → fault.new ≡ fault.old }
+    ensures blank { IsUtf8 line.now → answer line.now ≡ Ok None → (result ≡ 0) × (caller.new.held ≡ caller.old.held) }
+    ensures why { IsUtf8 line.now → (command : CommandValue) → answer line.now ≡ Ok (Some command) → taken result ≡ false
+        → ((result ≡ 5) × (caller.old.held ≡ [])) ⊎ ((result ≡ 6) × (caller.old.held ≢ [])) ⊎ ((result ≡ 15) × IsBusyWith holder.new caller.old.held) }
+    ensures holder { result ≢ 15 → holder.new ≡ holder.old }
+    ensures answered { taken result ≡ true → (command : CommandValue) → answer line.now ≡ Ok (Some command) → AnsweredBy (Configure command) caller.old.held caller.new.held }
+    ensures status { taken result ≡ true → (command : CommandValue) → answer line.now ≡ Ok (Some command) → result ≡ configure_status (last_reply caller.new.held) }
+{
+    let Ok(text) = std::str::from_utf8(line) else {
+        *fault = CFault {
+            word: 0,
+            kind: 0,
+            reserved: 0,
+        };
+        return LINE;
+    };
+    match parse_line(text) {
+        Ok(None) => OK,
+        Ok(Some(command)) => obey(alloc, caller, command, holder),
+        Err(found) => {
+            *fault = fault_of(&found);
+            LINE
+        }
+    }
+}

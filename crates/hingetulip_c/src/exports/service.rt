@@ -1,0 +1,7 @@
+//! The calls of the header on a service.
+
+mod close;
+mod hand_out;
+mod open;
+mod take;
+mod text;

@@ -1,0 +1,124 @@
+ghost use Rattle.std.specs.Prelude.{◌≡◌, ◌≢◌, ◌⊎◌, ◌<◌, ◌+◌, [], ◌∷◌, ◌≤◌, drop, take, length, vec_len, IfOk, IfErr, OnErr};
+ghost use Rattle.std.specs.Option.{MatchOption};
+ghost use Rattle.dn_history.specs.HistoryText.{entry_records};
+ghost use Rattle.dn_records.specs.Records.{text_of};
+ghost use Rattle.dn_service.specs.Lasting.{Takes};
+ghost use Rattle.dn_types.specs.declared.entry.Entry.{Entry as EntryValue};
+ghost use Rattle.hingetulip_c.specs.Services.{next_text, waiting, Written};
+
+use crate::status::{BUSY, MEMORY, NO_ENTRY, OK, ROOM, UNWRITTEN};
+use dn_history::write_entry;
+use dn_records::RecordWriter;
+use dn_service::{Segment, Taker};
+use dn_types::Entry;
+use std::alloc::{AllocError, Global};
+use std::mem;
+
+/// A service with a caller of its own, by which entries are taken out, and the entries that it took out last.
+#[derive(Drop)]
+pub struct Ledger {
+    pub(crate) taker: Taker,
+    pub(crate) entries: Vec<Entry>,
+    /// How many of the entries were written.
+    pub(crate) written: usize,
+}
+
+/// The text of an entry in a history file.
+fn entry_text(alloc: Global, entry: &Entry) -> Result<Vec<u8>, AllocError>
+    ensures { IfOk result (λ text. text.items ≡ text_of (entry_records entry.now)) }
+{
+    let mut writer = RecordWriter::new(alloc);
+    write_entry(alloc, &mut writer, entry)?;
+    Ok(writer.into_text())
+}
+
+/// Puts the line into the first bytes of the text.
+fn put_line(line: &[u8], text: &mut [u8])
+    requires { length line.now ≤ length text.old }
+    ensures line { take (length line.now) text.new ≡ line.now }
+    ensures others { drop (length line.now) text.new ≡ drop (length line.now) text.old }
+{
+    text[..line.len()].copy_from_slice(line);
+}
+
+impl Ledger {
+    /// Takes out all entries so far, in the place of those that were written. `Err` has the number of the caller who is in a call.
+    fn take(&mut self) -> Result<u64, usize>
+        ensures ok { IfOk result (λ start. Takes self.old.taker.lasting self.old.taker.caller start self.new.entries.items self.new.taker.lasting self.new.taker.caller) }
+        ensures written { IfOk result (λ start. self.new.written ≡ 0) }
+        ensures err { OnErr result (self.new ≡ self.old) }
+        ensures busy { IfErr result (λ k. (k < self.old.taker.caller.service.callers) × (k ≢ self.old.taker.caller.number)) }
+    {
+        match self.taker.try_take_quietly() {
+            Ok(Segment { start, entries }) => {
+                drop(mem::replace(&mut self.entries, entries));
+                self.written = 0;
+                Ok(start)
+            }
+            Err(holder) => Err(holder),
+        }
+    }
+
+    /// Takes out all entries so far if none waits, and writes the place of the first and how many they are.
+    pub(crate) fn take_out(&mut self, start: &mut u64, count: &mut u64, holder: &mut u64) -> u32
+        ensures ok { result ≡ 0 → (waiting self.old ≡ []) × Takes self.old.taker.lasting self.old.taker.caller start.new (waiting self.new) self.new.taker.lasting self.new.taker.caller }
+        ensures count { result ≡ 0 → count.new ≡ length (waiting self.new) }
+        ensures refused { result ≢ 0 → (self.new ≡ self.old) × (start.new ≡ start.old) × (count.new ≡ count.old) }
+        ensures why { result ≢ 0 → ((result ≡ 17) × (length (waiting self.old) ≢ 0)) ⊎ ((result ≡ 15) × (holder.new < self.old.taker.caller.service.callers) × (holder.new ≢ self.old.taker.caller.number)) }
+        ensures holder { result ≢ 15 → holder.new ≡ holder.old }
+    {
+        if self.written < self.entries.len() {
+            return UNWRITTEN;
+        }
+        match self.take() {
+            Ok(first) => {
+                *start = first;
+                *count = self.entries.len() as u64;
+                OK
+            }
+            Err(number) => {
+                *holder = number as u64;
+                BUSY
+            }
+        }
+    }
+
+    /// The text of the first entry that was not written, if there is one.
+    fn next_text(&self, alloc: Global) -> Result<Option<Vec<u8>>, AllocError>
+        ensures { IfOk result (λ found. MatchOption found (waiting self.now ≡ [])
+            (λ text. (entry : EntryValue) × (waiting self.now ≡ entry ∷ drop (self.now.written + 1) self.now.entries.items) × (text.items ≡ text_of (entry_records entry)) × (self.now.written < vec_len self.now.entries))) }
+    {
+        match self.entries.get(self.written) {
+            Some(entry) => match entry_text(alloc, entry) {
+                Ok(text) => Ok(Some(text)),
+                Err(fault) => Err(fault),
+            },
+            None => Ok(None),
+        }
+    }
+
+    /// Writes the first entry that was not written, if there is one and it has room.
+    pub(crate) fn write_next(&mut self, alloc: Global, text: &mut [u8], size: &mut u64) -> u32
+        ensures statuses { (result ≡ 0) ⊎ (result ≡ 6) ⊎ (result ≡ 7) ⊎ (result ≡ 18) }
+        ensures ok { result ≡ 0 → Written (take size.new text.new) self.old self.new }
+        ensures others { result ≡ 0 → drop size.new text.new ≡ drop size.new text.old }
+        ensures refused { result ≢ 0 → (self.new ≡ self.old) × (text.new ≡ text.old) }
+        ensures room { result ≡ 7 → (length text.old < size.new) × (size.new ≡ length (next_text (waiting self.old))) }
+        ensures size { result ≢ 0 → result ≢ 7 → size.new ≡ size.old }
+        ensures none { result ≡ 18 → waiting self.old ≡ [] }
+    {
+        match self.next_text(alloc) {
+            Err(_) => MEMORY,
+            Ok(None) => NO_ENTRY,
+            Ok(Some(line)) => {
+                *size = line.len() as u64;
+                if text.len() < line.len() {
+                    return ROOM;
+                }
+                put_line(line.as_slice(), text);
+                self.written += 1;
+                OK
+            }
+        }
+    }
+}

@@ -1,0 +1,93 @@
+"""The service from C: threads make the calls of random scenarios, each through a caller, and `dummynet audit` judges their history.
+
+    python3 tools/gate/c_service.py PROGRAM SEED COUNT
+
+It takes the library of the present sources, as tools/library finds it. Each run has 1 to 15 threads. Each is made twice, with the
+sanitizers for addresses and undefined behaviour, and with the one for threads. The latter sees the program and the header alone: the
+shared library isn't made for it, and orders its threads by atomics that it doesn't see. The history has to be lawful, and each
+caller's entries have to be as many, and of the kinds, as its thread was told.
+"""
+
+from __future__ import annotations
+
+import os
+import subprocess
+import sys
+from collections import Counter
+from pathlib import Path
+from random import Random
+from tempfile import TemporaryDirectory
+
+from c_library import HEADER, SOURCES, library, scenario
+from link_library import SHARED
+from tally import Tally
+
+MOST_CALLERS = 15
+COMMON = ["-std=c99", "-g", "-O1", "-Wall", "-Wextra", "-Werror", "-fno-sanitize-recover=all", "-pthread"]
+KINDS = {"queued": "queued", "lost": "lost", "full": "full", "no-target": "without target", "no-such-pipe": "refused", "pipe-has-queues": "refused",
+         "no-such-queue": "refused"}
+TOLD = ("calls", "queued", "lost", "full", "without target", "delivered", "refused")
+
+
+def program(place: Path, name: str, sanitizer: str, *linked: str | Path) -> Path:
+    made = place / name
+    subprocess.run(["gcc", *COMMON, sanitizer, f"-I{HEADER}", "-o", made, SOURCES / "service.c", *linked], check=True)
+    return made
+
+
+def told_by(history: str) -> dict[int, Counter[str]]:
+    """How many calls of each caller the history has, and how many replies of each kind."""
+    counts: dict[int, Counter[str]] = {}
+    caller = 0
+    for line in history.splitlines():
+        fields = line.split(",")
+        if fields[0] == "c":
+            caller = int(fields[1])
+            counts.setdefault(caller, Counter())["calls"] += 1
+        elif fields[0] == "r" and fields[1] == "delivered":
+            counts[caller]["delivered"] += int(fields[3])
+        elif fields[0] == "r" and fields[1] in KINDS:
+            counts[caller][KINDS[fields[1]]] += 1
+    return counts
+
+
+def wanted(history: str, threads: int) -> str:
+    """What the program has to print."""
+    counts = told_by(history)
+    return "".join(f"caller {number}: {', '.join(f'{counts.get(number, Counter())[word]} {word}' for word in TOLD)}\n" for number in range(threads))
+
+
+def tried(tally: Tally, name: str, made: Path, place: Path, audit: str, calls: list[Path]) -> int:
+    """One run, and how many entries its history has."""
+    history = place / "history"
+    done = subprocess.run([made, history, *calls], stdout=subprocess.PIPE, stderr=subprocess.STDOUT, text=True, errors="replace")
+    text = history.read_text()
+    tally.equal(f"{name}: what the callers were told", (0, wanted(text, len(calls))), (done.returncode, done.stdout))
+    entries = sum(one["calls"] for one in told_by(text).values())
+    judged = subprocess.run([audit, "audit", history], stdout=subprocess.PIPE, stderr=subprocess.STDOUT, text=True)
+    tally.equal(f"{name}: the audit", f"lawful {entries}", judged.stdout.strip())
+    return entries
+
+
+def main(audit: str, seed: str, count: str) -> int:
+    tally, rng, entries = Tally(), Random(int(seed)), 0
+    static = library()
+    shared = static.parent / SHARED
+    os.environ.update(ASAN_OPTIONS="detect_leaks=1", TSAN_OPTIONS="ignore_noninstrumented_modules=1")
+    print(f"seed {seed}", flush=True)
+    with TemporaryDirectory() as folder:
+        place = Path(folder)
+        programs = {"addresses": program(place, "addresses", "-fsanitize=address,undefined", static),
+                    "threads": program(place, "threads", "-fsanitize=thread", shared, f"-Wl,-rpath,{shared.parent}")}
+        for number in range(int(count)):
+            calls = [place / f"calls{thread}" for thread in range(rng.randint(1, MOST_CALLERS))]
+            for one in calls:
+                one.write_text("".join(f"{line}\n" for line in scenario(rng) if line[0] in "fpac"))
+            for name, made in programs.items():
+                entries += tried(tally, f"run {number}, {name}", made, place, audit, calls)
+    print(f"{entries} entries of histories")
+    return tally.end()
+
+
+if __name__ == "__main__":
+    sys.exit(main(*sys.argv[1:]))
