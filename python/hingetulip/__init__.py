@@ -23,8 +23,10 @@ from hingetulip.errors import (
 )
 from hingetulip.library import LAST_MOMENT, LIBRARY, VERSION
 from hingetulip.records import Delivery, Fate, FlowStatus, Outcome, Rule
+from hingetulip.service import Caller, Service
 from hingetulip.shaper import Shaper
 
-__all__ = ["LAST_MOMENT", "LIBRARY", "VERSION", "ClosedError", "Deliveries", "Delivery", "ExhaustedError", "Fate", "Fates", "FlowStatus",
-           "HingetulipError", "InUseError", "LineError", "OutOfMemoryError", "Outcome", "Packets", "RangeError", "RefusedError", "Rule", "Shaper"]
+__all__ = ["LAST_MOMENT", "LIBRARY", "VERSION", "Caller", "ClosedError", "Deliveries", "Delivery", "ExhaustedError", "Fate", "Fates", "FlowStatus",
+           "HingetulipError", "InUseError", "LineError", "OutOfMemoryError", "Outcome", "Packets", "RangeError", "RefusedError", "Rule", "Service",
+           "Shaper"]
 __version__ = VERSION

@@ -29,6 +29,7 @@ FAILURES: dict[int, tuple[type[HingetulipError], str]] = {
     11: (RangeError, "a kind that is neither 0, for a pipe, nor 1, for a queue"),
     12: (RangeError, "the number of a pipe or queue isn't in 1 to 65535"),
     13: (RangeError, "a length isn't in 1 to 65535 bytes"),
+    16: (RangeError, "the number of callers isn't in 1 to 15"),
 }
 FAULT_KINDS = ("not UTF-8", "unknown word", "missing value", "bad number", "out of range", "left out", "needs a pipe")
 

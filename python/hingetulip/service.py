@@ -1,0 +1,217 @@
+"""A service: one emulator that many threads call, and its history in a file."""
+
+from __future__ import annotations
+
+from ctypes import CDLL, byref, c_char, c_size_t, c_uint32, c_uint64, sizeof
+from os import PathLike, urandom
+from random import Random
+from struct import error as StructError
+from threading import Lock
+from time import sleep
+from types import TracebackType
+from typing import Any, BinaryIO, Callable, NoReturn, Optional, Union
+
+from hingetulip.batches import QUEUED, make_fate, read_fate
+from hingetulip.errors import HingetulipError, LineError
+from hingetulip.layout import DELIVERY, FATE, FAULT, PACKET
+from hingetulip.library import FAULT_KINDS, LIBRARY, LINE, ROOM, Handle, failure
+from hingetulip.records import Delivery, Fate
+from hingetulip.shaper import NEITHER_OR_BOTH, SECRET, pack_moment, unpackable
+
+BUSY, NO_ENTRY = 15, 18
+FUNCTIONS = ("dn_service_open", "dn_service_open_with_key", "dn_service_close", "dn_caller_close", "dn_caller_configure", "dn_caller_submit",
+             "dn_caller_advance", "dn_caller_collect", "dn_caller_deliveries", "dn_service_take", "dn_service_text")
+FRONT, END = b"dummynet-history,3\n", b"end,%d\n"
+FIRST_ROOM = 4096
+
+
+def loaded() -> CDLL:
+    """The functions of a service. Unlike those of a shaper they give up Python's lock during a call, so that threads go on."""
+    library = CDLL(LIBRARY)
+    try:
+        for name in FUNCTIONS:
+            getattr(library, name).restype = c_uint32
+    except AttributeError as fault:
+        raise HingetulipError(f"{LIBRARY} is of an older version, which has no service: {fault}") from None
+    return library
+
+
+def answered(call: Callable[..., int], *arguments: Any) -> int:
+    """The status of a call, once no other caller is in one."""
+    while True:
+        status = call(*arguments)
+        if status != BUSY:
+            return status
+        sleep(0)
+
+
+def succeed(status: int) -> None:
+    if status:
+        raise failure(status)
+
+
+class Caller:
+    """One of the callers of a service. Threads may share it: a call waits until no other thread is in one.
+
+    Its calls are those of Shaper. Each reply comes after all calls that this caller's earlier replies came after.
+    """
+
+    def __init__(self, calls: CDLL, handle: Any, number: int, seed: Optional[int]) -> None:
+        self.number = number
+        self._calls, self._self, self._lock, self._random = calls, handle, Lock(), Random(seed)
+        self._packet, self._fate = (c_char * PACKET.size)(), (c_char * FATE.size)()
+        self._moment, self._number, self._holder = c_uint64(), c_uint64(), byref(c_uint64())
+
+    def __reduce__(self) -> NoReturn:
+        raise TypeError("a caller is neither copied nor pickled")
+
+    def configure(self, line: Union[str, bytes, bytearray, memoryview]) -> None:
+        """Obeys one line of a configuration, as Shaper.configure does, with the same exceptions."""
+        text = bytes(line) if isinstance(line, (bytes, bytearray, memoryview)) else line.encode("utf-8", "surrogatepass")
+        fault = (c_char * FAULT.size)()
+        with self._lock:
+            status = answered(self._calls.dn_caller_configure, self._self, text, c_size_t(len(text)), byref(fault), self._holder)
+        if status == LINE:
+            word, kind = FAULT.record.unpack(fault)
+            raise LineError(FAULT_KINDS[kind], word)
+        succeed(status)
+
+    def submit(self, moment: int, length: int, *, pipe: Optional[int] = None, queue: Optional[int] = None, src: int = 0, dst: int = 0,
+               proto: int = 0, sport: int = 0, dport: int = 0, word: Optional[int] = None) -> Fate:
+        """A packet of `length` bytes arrives at a pipe or a queue at `moment` ns, as by Shaper.submit, and this is what becomes of it."""
+        number, kind = (queue, 1) if pipe is None else (pipe, 0)
+        if number is None or kind == 0 and queue is not None:
+            raise TypeError(NEITHER_OR_BOTH)
+        with self._lock:
+            drawn = self._random.getrandbits(32) if word is None else word
+            try:
+                PACKET.record.pack_into(self._packet, 0, moment, src, dst, drawn, sport, dport, length, number, kind, proto)
+            except StructError:
+                raise unpackable(moment=moment, src=src, dst=dst, word=drawn, sport=sport, dport=dport, length=length, number=number,
+                                 proto=proto) from None
+            succeed(answered(self._calls.dn_caller_submit, self._self, byref(self._packet), byref(self._fate), self._holder))
+            at, flow, packet, outcome = FATE.record.unpack(self._fate)
+        return make_fate((QUEUED, at, flow, packet)) if outcome == 0 else read_fate(at, flow, packet, outcome)
+
+    def advance(self, moment: int) -> int:
+        """Moves the clock to `moment` ns, if it is earlier, and returns where it is, in ns. It takes no packet out."""
+        with self._lock:
+            self._set_moment(moment)
+            succeed(answered(self._calls.dn_caller_advance, self._self, self._moment, byref(self._number), self._holder))
+            return self._number.value
+
+    def collect(self, moment: int) -> list[Delivery]:
+        """Moves the clock to `moment` ns, and takes the packets that are due, in the order in which they are due."""
+        with self._lock:
+            self._set_moment(moment)
+            succeed(answered(self._calls.dn_caller_collect, self._self, self._moment, byref(self._number), self._holder))
+            room = self._number.value
+            if room == 0:
+                return []
+            records = (c_char * (DELIVERY.size * room))()
+            succeed(self._calls.dn_caller_deliveries(self._self, c_size_t(0), byref(records), c_size_t(room), byref(self._number)))
+            return list(map(Delivery._make, DELIVERY.record.iter_unpack(records)))
+
+    def _set_moment(self, moment: int) -> None:
+        try:
+            pack_moment(self._moment, 0, moment)
+        except StructError:
+            raise unpackable(moment=moment) from None
+
+
+class Service:
+    """An emulator that the threads of a program share, each through a caller.
+
+    The calls of all callers are one history. `history` names the file to which it goes, `take` appends what was called so far, and
+    `close`, or the end of a `with`, appends the rest and the file's end. Without `take` the entries are kept in memory.
+    """
+
+    def __init__(self, callers: int, seed: Optional[int] = None) -> None:
+        """Opens a service of 1 to 15 callers, numbered from 0. From `seed` follow the words of packets that are submitted without one.
+
+        RangeError: the count is another one. HingetulipError: the library is of a version that has no service.
+        """
+        self._calls, self._lock, self._taken = loaded(), Lock(), 0
+        self._file: Optional[BinaryIO] = None
+        self._handle, self._handles = Handle(), (Handle * max(callers, 0))()
+        self._text = (c_char * FIRST_ROOM)()
+        high, low = SECRET.unpack(urandom(SECRET.size))
+        succeed(self._calls.dn_service_open_with_key(byref(self._handle), self._handles, c_size_t(len(self._handles)), c_uint64(high), c_uint64(low)))
+        seeds = Random(seed)
+        self.callers = tuple(Caller(self._calls, byref(self._handles, number * sizeof(Handle)), number, seeds.getrandbits(64))
+                             for number in range(callers))
+
+    def history(self, path: Union[str, PathLike[str]]) -> None:
+        """From now on what is taken out goes to this file, which is made anew. It has to be called before anything was taken."""
+        with self._lock:
+            if self._file is not None or self._taken:
+                raise ValueError("the history has a file, or a part of it was taken before")
+            self._file = open(path, "wb")
+            self._file.write(FRONT)
+
+    def take(self) -> int:
+        """Takes what was called so far out of memory, into the history's file if there is one, and returns how many entries that were."""
+        with self._lock:
+            return self._take()
+
+    def close(self) -> None:
+        """Takes the rest, ends the history's file, and closes the service and its callers. A second time does nothing."""
+        with self._lock:
+            if not self._handle.open:
+                return
+            try:
+                self._take()
+                if self._file is not None:
+                    self._file.write(END % self._taken)
+            finally:
+                self._let_go()
+
+    @property
+    def closed(self) -> bool:
+        return not self._handle.open
+
+    def __del__(self) -> None:
+        if hasattr(self, "callers"):
+            self._let_go()
+
+    def __enter__(self) -> Service:
+        return self
+
+    def __exit__(self, kind: Optional[type[BaseException]], error: Optional[BaseException], trace: Optional[TracebackType]) -> None:
+        self.close()
+
+    def __reduce__(self) -> NoReturn:
+        raise TypeError("a service is neither copied nor pickled")
+
+    def __repr__(self) -> str:
+        return f"<hingetulip.Service, {'closed' if self.closed else f'{len(self.callers)} callers'}>"
+
+    def _let_go(self) -> None:
+        if self._file is not None:
+            self._file.close()
+        for caller in self.callers:
+            with caller._lock:
+                self._calls.dn_caller_close(caller._self)
+        self._calls.dn_service_close(byref(self._handle))
+
+    def _take(self) -> int:
+        start, count = c_uint64(), c_uint64()
+        self._write_waiting()
+        succeed(answered(self._calls.dn_service_take, byref(self._handle), byref(start), byref(count), byref(c_uint64())))
+        self._taken = start.value + count.value
+        self._write_waiting()
+        return count.value
+
+    def _write_waiting(self) -> None:
+        """Writes the entries that were taken and not written, as after a write that failed."""
+        size = c_uint64()
+        while True:
+            status = self._calls.dn_service_text(byref(self._handle), byref(self._text), c_size_t(len(self._text)), byref(size))
+            if status == NO_ENTRY:
+                return
+            if status == ROOM:
+                self._text = (c_char * (2 * size.value))()
+                continue
+            succeed(status)
+            if self._file is not None:
+                self._file.write(memoryview(self._text)[:size.value])

@@ -1,0 +1,136 @@
+"""A service against values worked out by hand, and eight threads that share one, whose history `dummynet audit` finds lawful."""
+
+from __future__ import annotations
+
+import os
+import re
+import subprocess
+import unittest
+from concurrent.futures import ThreadPoolExecutor
+from pathlib import Path
+from random import Random
+from tempfile import TemporaryDirectory
+
+import hingetulip
+from hingetulip import ClosedError, Delivery, Fate, LineError, Outcome, RangeError, RefusedError, Service, service
+
+TOP = Path(__file__).resolve().parents[2]
+HEADER = TOP / "crates" / "hingetulip_c" / "include" / "hingetulip_service.h"
+LINE = "pipe 1 config bw 8Mbit/s delay 20ms queue 1"
+MS = 1_000_000
+THREADS, CALLS = 8, 400
+
+
+def program() -> Path:
+    """The program `dummynet`: the one that the gate names, else the released one."""
+    return Path(os.environ.get("DUMMYNET", TOP / "release" / "dummynet"))
+
+
+class OneCaller(unittest.TestCase):
+    def setUp(self) -> None:
+        self.service = Service(1)
+        self.addCleanup(self.service.close)
+        (self.caller,) = self.service.callers
+        self.caller.configure(LINE)
+
+    def test_calls(self) -> None:
+        fates = [self.caller.submit(5, 1000, pipe=1) for _ in range(3)]
+        self.assertEqual([Fate(Outcome.QUEUED, 5, 0, 0), Fate(Outcome.QUEUED, 5, 0, 1), Fate(Outcome.FULL, 5, 0, None)], fates)
+        self.assertEqual(Fate(Outcome.NO_TARGET, 7, None, None), self.caller.submit(7, 1000, queue=1))
+        self.assertEqual(9, self.caller.advance(9))
+        self.assertEqual(9, self.caller.advance(8))
+        self.assertEqual([], self.caller.collect(21 * MS))
+        self.assertEqual([Delivery(21 * MS + 5, 0, 0, 5), Delivery(22 * MS + 5, 1, 0, MS + 5)], self.caller.collect(30 * MS))
+
+    def test_refusals(self) -> None:
+        with self.assertRaises(LineError) as raised:
+            self.caller.configure("pipe 1 config bw 8Mbps")
+        self.assertEqual((5, "bad number"), (raised.exception.word, raised.exception.kind))
+        for call in (lambda: self.caller.configure("queue 1 config pipe 9"), lambda: self.caller.configure("pipe 9 delete")):
+            self.assertRaises(RefusedError, call)
+        for call in (lambda: self.caller.submit(2**62 + 1, 1, pipe=1), lambda: self.caller.submit(0, 0, pipe=1), lambda: self.caller.submit(0, 1, pipe=0),
+                     lambda: self.caller.submit(0, 65536, pipe=1), lambda: self.caller.advance(-1), lambda: self.caller.collect(2**62 + 1)):
+            self.assertRaises(RangeError, call)
+        self.assertRaises(TypeError, lambda: self.caller.submit(0, 1))
+        self.service.close()
+        self.service.close()
+        for call in (lambda: self.caller.advance(0), lambda: self.caller.configure(LINE), lambda: self.caller.collect(0), self.service.take):
+            self.assertRaises(ClosedError, call)
+
+    def test_history(self) -> None:
+        with TemporaryDirectory() as folder:
+            path = Path(folder) / "history"
+            self.service.history(path)
+            self.assertRaises(ValueError, self.service.history, path)
+            self.assertEqual([1, 0], [self.service.take(), self.service.take()])
+            self.caller.submit(0, 1000, pipe=1, src=0x0A000001, word=3)
+            self.service.close()
+            self.assertEqual("dummynet-history,3\nc,0,configure,pipe 1 config bw 8000000bit/s delay 20 queue 1\nr,configured\n"
+                             "c,0,submit,pipe,1,10.0.0.1,0.0.0.0,0,0,0,1000,3,0\nr,queued,0,0,0\nend,2\n", path.read_text())
+
+    def test_an_entry_longer_than_the_room(self) -> None:
+        self.caller.configure("pipe 1 config bw 8Mbit/s")
+        for number in range(45):
+            self.caller.submit(0, 100, pipe=1)
+        self.assertEqual(45, len(self.caller.collect(10_000 * MS)))
+        with TemporaryDirectory() as folder:
+            path = Path(folder) / "history"
+            self.service.history(path)
+            self.service._text = (service.c_char * 16)()
+            self.service.close()
+            self.assertEqual(45, path.read_text().count("\nd,"))
+
+
+class Counts(unittest.TestCase):
+    def test_from_one_to_fifteen(self) -> None:
+        for count in (0, 16):
+            self.assertRaises(RangeError, Service, count)
+        for count in (1, 15):
+            with Service(count) as opened:
+                self.assertEqual(list(range(count)), [caller.number for caller in opened.callers])
+                self.assertEqual(list(range(count)), [caller.advance(caller.number) for caller in opened.callers])
+            self.assertTrue(opened.closed)
+
+
+class Header(unittest.TestCase):
+    def test_functions_and_statuses(self) -> None:
+        text = HEADER.read_text()
+        self.assertEqual(sorted(re.findall(r"^uint32_t (\w+)\(", text, re.M)), sorted(service.FUNCTIONS))
+        statuses = dict(re.findall(r"(DN_\w+) = (\d+)", text))
+        self.assertEqual({"DN_BUSY": str(service.BUSY), "DN_BAD_COUNT": "16", "DN_UNWRITTEN": "17", "DN_NO_ENTRY": str(service.NO_ENTRY)}, statuses)
+        self.assertIn(f'#define DN_HISTORY_FRONT "{service.FRONT.decode().strip()}\\n"', text)
+
+
+def work(shared: Service, number: int) -> int:
+    """Calls by a caller that two threads share, and how many packets were queued less those that came."""
+    caller, rng = shared.callers[number // 2], Random(number)
+    under_way = 0
+    for turn in range(CALLS):
+        if rng.random() < 0.7:
+            under_way += caller.submit(turn * MS, rng.randint(1, 1500), pipe=rng.randint(1, 2)).outcome is Outcome.QUEUED
+        else:
+            under_way -= len(caller.collect(turn * MS))
+    return under_way
+
+
+class Threads(unittest.TestCase):
+    def test_a_lawful_history(self) -> None:
+        with TemporaryDirectory() as folder, Service(THREADS // 2) as shared:
+            path = Path(folder) / "history"
+            shared.history(path)
+            for line in ("pipe 1 config bw 8Mbit/s delay 20ms queue 10", "pipe 2 config bw 1Mbit/s plr 0.1 queue 5"):
+                shared.callers[0].configure(line)
+            with ThreadPoolExecutor(THREADS) as pool:
+                working = [pool.submit(work, shared, number) for number in range(THREADS)]
+                while not all(one.done() for one in working):
+                    shared.take()
+            left = len(shared.callers[-1].collect(hingetulip.LAST_MOMENT))
+            self.assertEqual(left, sum(one.result() for one in working))
+            shared.close()
+            entries = THREADS * CALLS + 3
+            done = subprocess.run([program(), "audit", path], stdout=subprocess.PIPE, text=True)
+            self.assertEqual((0, f"lawful {entries}\n"), (done.returncode, done.stdout))
+
+
+if __name__ == "__main__":
+    unittest.main()
