@@ -1,9 +1,14 @@
 -- The flow's home takes the packet, and it starts at once or waits.
-use Rattle.std.proofs.Common.{◌∙◌, ◌<◌, ℕ, refl, ap, sym, subst, arith, IsPermutation, ◌∷◌}
+use Rattle.std.proofs.Common.{◌≡◌, ◌∙◌, ◌<◌, ℕ, Bool, false, refl, ap, sym, subst, arith, IsPermutation, ◌∷◌}
+use Rattle.std.specs.Prelude.{Some, slice_get}
 use Rattle.std.proofs.lemmas.Grind.{common_steps}
 use Rattle.dn_flows.proofs.Places.{get-read}
+use Rattle.dn_types.specs.Trace.{pipe_of}
+use Rattle.dn_shaper.specs.declared.links.home.Home.{Home}
+use Rattle.dn_shaper.specs.Refinement.Agreement.{GivesRates, IsHomeOf}
+use Rattle.dn_shaper.specs.Refinement.Arriving.{ArrivesAt}
 use Rattle.dn_shaper.specs.Refinement.Settings.{settings_of}
-use Rattle.dn_shaper.specs.Refinement.Views.{LinkView, queue_lengths, view_of}
+use Rattle.dn_shaper.specs.Refinement.Views.{LinkView, home, queue_lengths, view_of, views_of}
 use Rattle.dn_shaper.proofs.Accepted.{same-link, same-rates, mid-within, mid-keeps, idle-kept, idle-within, idle-keeps, idle-accepts, waits-accepts, room-first, first-kept, other-kept}
 use Rattle.dn_shaper.proofs.Accepting.{can-join, few-accepted, few-waiting, home-at, may-agree, none-waits, seen-there, some-waits}
 use Rattle.dn_shaper.proofs.Alone.{goes-own}
@@ -28,20 +33,17 @@ index-link-requires c =
 -- ---- The packet can arrive there
 
 pub arrive-requires-clause-can : goal.arrive-requires-clause-can
-arrive-requires-clause-can c =
-    let may = c.requires.may in
-    let seen = view_of (queue_lengths c.args.parts.now.flows.flows) c.index-link.result.now in
-    (seen, seen-there may c.index-home.ensures c.index-link.ensures, can-join may c.index-home.ensures c.index-link.ensures)
+arrive-requires-clause-can c = (
+  view_of (queue_lengths c.args.parts.now.flows.flows) c.index-link.result.now,
+  seen-there c.requires.may c.index-home.ensures c.index-link.ensures,
+  can-join c.requires.may c.index-home.ensures c.index-link.ensures,
+)
 
 pub arrive-requires-clause-alone : goal.arrive-requires-clause-alone
-arrive-requires-clause-alone c =
-    let may = c.requires.may in
-    home-alone c.args.parts.now (may-agree may) may.within c.index-home.ensures
+arrive-requires-clause-alone c = home-alone c.args.parts.now (may-agree c.requires.may) c.requires.may.within c.index-home.ensures
 
 pub arrive-requires-clause-within : goal.arrive-requires-clause-within
-arrive-requires-clause-within c =
-    let may = c.requires.may in
-    in-table c.args.parts.now (may-agree may) may.within
+arrive-requires-clause-within c = in-table c.args.parts.now (may-agree c.requires.may) c.requires.may.within
 
 pub arrive-requires-clause-accepted : goal.arrive-requires-clause-accepted
 arrive-requires-clause-accepted c = few-accepted c.requires.may
@@ -55,47 +57,35 @@ pub pass-requires-clause-may : goal.pass-requires-clause-may
 pass-requires-clause-may c = (settings_of c.args.configured.now, c.args.heap.now, c.requires.may)
 
 pub pass-requires-clause-idle : goal.pass-requires-clause-idle
-pass-requires-clause-idle c =
-    let may = c.requires.may in
-    record {
-      link = c.index-link.result.now;
-      there =
-          get-read c.args.parts.now.links.items c.index-home.result.now.place c.index-link.result.now
-          (place-below c.args.parts.now (may-agree may) may.within c.index-home.ensures) c.index-link.ensures;
-      idle = sym c.is_idle-idle.ensures ∙ c.if-idle.true;
-    }
+pass-requires-clause-idle c = record {
+  link = c.index-link.result.now;
+  there =
+      get-read c.args.parts.now.links.items c.index-home.result.now.place c.index-link.result.now
+      (place-below c.args.parts.now (may-agree c.requires.may) c.requires.may.within c.index-home.ensures) c.index-link.ensures;
+  idle = sym c.is_idle-idle.ensures ∙ c.if-idle.true;
+}
+
+home-passed : (c : goal.After-pass) → slice_get c.args.parts.now.homes.items c.args.flow ≡ Some c.index-home.result.now
+home-passed c = home-at c.requires.may c.index-home.ensures
+
+-- The rates that were read are those of the link.
+rates : (c : goal.After-pass)
+    → GivesRates (settings_of c.args.configured.now) (pipe_of c.pass.ensures.arrives.view.link) c.rates-rates.result.bandwidth c.rates-rates.result.delay
+rates c =
+    let there = seen-there c.requires.may c.index-home.ensures c.index-link.ensures in
+    same-rates c.requires.may (home-passed c) c.pass.ensures.arrives c.index-link.result.now there c.rates-rates.ensures
 
 pub returns-then-idle-clause-accepts : goal.returns-then-idle-clause-accepts
-returns-then-idle-clause-accepts c =
-    let may = c.requires.may in
-    let home = home-at may c.index-home.ensures in
-    let passes = c.pass.ensures in
-    let rates = same-rates may home passes.arrives c.index-link.result.now (seen-there may c.index-home.ensures c.index-link.ensures) c.rates-rates.ensures in
-    idle-accepts may home passes.arrives refl passes.starts rates
+returns-then-idle-clause-accepts c = idle-accepts c.requires.may (home-passed c) c.pass.ensures.arrives refl c.pass.ensures.starts (rates c)
 
 pub returns-then-idle-clause-kept : goal.returns-then-idle-clause-kept
-returns-then-idle-clause-kept c =
-    let may = c.requires.may in
-    let home = home-at may c.index-home.ensures in
-    let passes = c.pass.ensures in
-    let rates = same-rates may home passes.arrives c.index-link.result.now (seen-there may c.index-home.ensures c.index-link.ensures) c.rates-rates.ensures in
-    idle-kept may home passes.arrives refl passes.starts rates
+returns-then-idle-clause-kept c = idle-kept c.requires.may (home-passed c) c.pass.ensures.arrives refl c.pass.ensures.starts (rates c)
 
 pub returns-then-idle-clause-within : goal.returns-then-idle-clause-within
-returns-then-idle-clause-within c =
-    let may = c.requires.may in
-    let home = home-at may c.index-home.ensures in
-    let passes = c.pass.ensures in
-    let rates = same-rates may home passes.arrives c.index-link.result.now (seen-there may c.index-home.ensures c.index-link.ensures) c.rates-rates.ensures in
-    idle-within may home passes.arrives refl passes.starts rates
+returns-then-idle-clause-within c = idle-within c.requires.may (home-passed c) c.pass.ensures.arrives refl c.pass.ensures.starts (rates c)
 
 pub returns-then-idle-clause-keeps : goal.returns-then-idle-clause-keeps
-returns-then-idle-clause-keeps c =
-    let may = c.requires.may in
-    let home = home-at may c.index-home.ensures in
-    let passes = c.pass.ensures in
-    let rates = same-rates may home passes.arrives c.index-link.result.now (seen-there may c.index-home.ensures c.index-link.ensures) c.rates-rates.ensures in
-    idle-keeps may home passes.arrives refl passes.starts rates
+returns-then-idle-clause-keeps c = idle-keeps c.requires.may (home-passed c) c.pass.ensures.arrives refl c.pass.ensures.starts (rates c)
 
 -- ---- The link still sends, and no other packet waits for it
 
@@ -109,43 +99,36 @@ push_reserved-requires-clause-reserved c =
     let none = ap {B = ℕ} (λ (x : LinkView). x.waits) same ∙ none-waits seen.waits c.has_backlog-waited.result c.has_backlog-waited.ensures c.if-not-waited.true in
     room-first may home came none
 
+home-joined : (c : goal.After-push_reserved) → slice_get c.args.parts.now.homes.items c.args.flow ≡ Some c.index-home.result.now
+home-joined c = home-at c.requires.may c.index-home.ensures
+
+came : (c : goal.After-push_reserved)
+    → ArrivesAt c.args.at c.index-home.result.now c.args.flow c.args.len c.args.how.now.weight false c.args.parts.now c.arrive.new.parts
+came c = c.arrive.ensures c.args.at _ (seen-there c.requires.may c.index-home.ensures c.index-link.ensures) (sym c.is_idle-idle.ensures ∙ c.if-idle.false)
+
 pub returns-then-not-waited-clause-accepts : goal.returns-then-not-waited-clause-accepts
-returns-then-not-waited-clause-accepts c =
-    let may = c.requires.may in
-    let came = c.arrive.ensures c.args.at _ (seen-there may c.index-home.ensures c.index-link.ensures) (sym c.is_idle-idle.ensures ∙ c.if-idle.false) in
-    waits-accepts may (home-at may c.index-home.ensures) came refl
+returns-then-not-waited-clause-accepts c = waits-accepts c.requires.may (home-joined c) (came c) refl
 
 pub returns-then-not-waited-clause-kept : goal.returns-then-not-waited-clause-kept
 returns-then-not-waited-clause-kept c =
-    let may = c.requires.may in
-    let came = c.arrive.ensures c.args.at _ (seen-there may c.index-home.ensures c.index-link.ensures) (sym c.is_idle-idle.ensures ∙ c.if-idle.false) in
-    let home = home-at may c.index-home.ensures in
-    let same = same-link may home came c.index-link.result.now (seen-there may c.index-home.ensures c.index-link.ensures) in
+    let same = same-link c.requires.may (home-joined c) (came c) c.index-link.result.now (seen-there c.requires.may c.index-home.ensures c.index-link.ensures) in
     let seen = view_of (queue_lengths c.args.parts.now.flows.flows) c.index-link.result.now in
     let none = ap {B = ℕ} (λ (x : LinkView). x.waits) same ∙ none-waits seen.waits c.has_backlog-waited.result c.has_backlog-waited.ensures c.if-not-waited.true in
     let free = c.free-free.ensures ∙ ap (λ (x : LinkView). x.value.free) (sym same) in
     let keys = subst (λ (m : ℕ). IsPermutation (record { moment = m; place = c.index-home.result.now.place } ∷ c.args.heap.now.keys) c.push_reserved.new.self.keys) free c.push_reserved.ensures.keys in
-    first-kept may home came none c.push_reserved.new.self keys c.push_reserved.ensures.room
+    first-kept c.requires.may (home-joined c) (came c) none c.push_reserved.new.self keys c.push_reserved.ensures.room
 
 pub returns-then-not-waited-clause-moves : goal.returns-then-not-waited-clause-moves
 returns-then-not-waited-clause-moves c =
-    let may = c.requires.may in
-    let came = c.arrive.ensures c.args.at _ (seen-there may c.index-home.ensures c.index-link.ensures) (sym c.is_idle-idle.ensures ∙ c.if-idle.false) in
-    let more = came.waiting in
+    let more = (came c).waiting in
     let pushes = c.push_reserved.ensures.moves in
     omega arith
 
 pub returns-then-not-waited-clause-within : goal.returns-then-not-waited-clause-within
-returns-then-not-waited-clause-within c =
-    let may = c.requires.may in
-    let came = c.arrive.ensures c.args.at _ (seen-there may c.index-home.ensures c.index-link.ensures) (sym c.is_idle-idle.ensures ∙ c.if-idle.false) in
-    mid-within may (home-at may c.index-home.ensures) came
+returns-then-not-waited-clause-within c = mid-within c.requires.may (home-joined c) (came c)
 
 pub returns-then-not-waited-clause-keeps : goal.returns-then-not-waited-clause-keeps
-returns-then-not-waited-clause-keeps c =
-    let may = c.requires.may in
-    let came = c.arrive.ensures c.args.at _ (seen-there may c.index-home.ensures c.index-link.ensures) (sym c.is_idle-idle.ensures ∙ c.if-idle.false) in
-    mid-keeps may (home-at may c.index-home.ensures) came
+returns-then-not-waited-clause-keeps c = mid-keeps c.requires.may (home-joined c) (came c)
 
 -- ---- Others wait for the link
 
@@ -187,9 +170,7 @@ returns-else-not-waited-clause-keeps c =
 -- ---- The packet joins others on its flow's own link
 
 pub join_queue-requires-clause-within : goal.join_queue-requires-clause-within
-join_queue-requires-clause-within c =
-    let may = c.requires.may in
-    in-table c.args.parts.now (may-agree may) may.within
+join_queue-requires-clause-within c = in-table c.args.parts.now (may-agree c.requires.may) c.requires.may.within
 
 pub join_queue-requires-clause-accepted : goal.join_queue-requires-clause-accepted
 join_queue-requires-clause-accepted c = few-accepted c.requires.may
@@ -197,46 +178,33 @@ join_queue-requires-clause-accepted c = few-accepted c.requires.may
 pub join_queue-requires-clause-waiting : goal.join_queue-requires-clause-waiting
 join_queue-requires-clause-waiting c = few-waiting c.requires.may
 
+there : (c : goal.After-join_queue) → (h : Home) × (slice_get c.args.parts.now.homes.items c.args.flow ≡ Some h)
+    × IsHomeOf c.args.flow (home c.args.parts.now.flows.keys c.args.flow) (views_of c.args.parts.now) h
+there c = home-there c.args.parts.now (may-agree c.requires.may) c.requires.may.within
+
+some : (c : goal.After-join_queue) → 0 < queue_lengths c.args.parts.now.flows.flows c.args.flow
+some c = some-waits (queue_lengths c.args.parts.now.flows.flows c.args.flow) c.has_backlog.result c.has_backlog.ensures c.if-has_backlog.true
+
+behind : (c : goal.After-join_queue)
+    → ArrivesAt c.args.at (there c).0 c.args.flow c.args.len c.args.how.now.weight false c.args.parts.now c.join_queue.new.parts
+behind c =
+    let its = goes-own c.args.parts.now c.args.flow c.args.how.now.target c.requires.goes c.in-Pipe.field-0 c.in-Pipe.is in
+    let inside = in-table c.args.parts.now (may-agree c.requires.may) c.requires.may.within in
+    joins-behind c.args.at c.args.how.now.weight c.join_queue.ensures c.requires.may.settled.2 (there c).2 its.1 inside (some c)
+
 pub returns-clause-accepts : goal.returns-clause-accepts
-returns-clause-accepts c =
-    let may = c.requires.may in
-    let old = c.args.parts.now in
-    let t = home-there old (may-agree may) may.within in
-    let its = goes-own old c.args.flow c.args.how.now.target c.requires.goes c.in-Pipe.field-0 c.in-Pipe.is in
-    let inside = in-table old (may-agree may) may.within in
-    let some = some-waits (queue_lengths old.flows.flows c.args.flow) c.has_backlog.result c.has_backlog.ensures c.if-has_backlog.true in
-    let behind = joins-behind c.args.at c.args.how.now.weight c.join_queue.ensures may.settled.2 t.2 its.1 inside some in
-    waits-accepts may t.1 behind refl
+returns-clause-accepts c = waits-accepts c.requires.may (there c).1 (behind c) refl
 
 pub returns-clause-kept : goal.returns-clause-kept
+unfolding behind
 returns-clause-kept c =
-    let may = c.requires.may in
-    let old = c.args.parts.now in
-    let t = home-there old (may-agree may) may.within in
-    let its = goes-own old c.args.flow c.args.how.now.target c.requires.goes c.in-Pipe.field-0 c.in-Pipe.is in
-    let inside = in-table old (may-agree may) may.within in
-    let some = some-waits (queue_lengths old.flows.flows c.args.flow) c.has_backlog.result c.has_backlog.ensures c.if-has_backlog.true in
-    let behind = joins-behind c.args.at c.args.how.now.weight c.join_queue.ensures may.settled.2 t.2 its.1 inside some in
-    other-kept may t.1 behind (others-wait c.args.at c.args.how.now.weight c.join_queue.ensures may.settled.2 t.2 its.1 inside some)
+    let its = goes-own c.args.parts.now c.args.flow c.args.how.now.target c.requires.goes c.in-Pipe.field-0 c.in-Pipe.is in
+    let inside = in-table c.args.parts.now (may-agree c.requires.may) c.requires.may.within in
+    other-kept c.requires.may (there c).1 (behind c)
+    (others-wait c.args.at c.args.how.now.weight c.join_queue.ensures c.requires.may.settled.2 (there c).2 its.1 inside (some c))
 
 pub returns-clause-within : goal.returns-clause-within
-returns-clause-within c =
-    let may = c.requires.may in
-    let old = c.args.parts.now in
-    let t = home-there old (may-agree may) may.within in
-    let its = goes-own old c.args.flow c.args.how.now.target c.requires.goes c.in-Pipe.field-0 c.in-Pipe.is in
-    let inside = in-table old (may-agree may) may.within in
-    let some = some-waits (queue_lengths old.flows.flows c.args.flow) c.has_backlog.result c.has_backlog.ensures c.if-has_backlog.true in
-    let behind = joins-behind c.args.at c.args.how.now.weight c.join_queue.ensures may.settled.2 t.2 its.1 inside some in
-    mid-within may t.1 behind
+returns-clause-within c = mid-within c.requires.may (there c).1 (behind c)
 
 pub returns-clause-keeps : goal.returns-clause-keeps
-returns-clause-keeps c =
-    let may = c.requires.may in
-    let old = c.args.parts.now in
-    let t = home-there old (may-agree may) may.within in
-    let its = goes-own old c.args.flow c.args.how.now.target c.requires.goes c.in-Pipe.field-0 c.in-Pipe.is in
-    let inside = in-table old (may-agree may) may.within in
-    let some = some-waits (queue_lengths old.flows.flows c.args.flow) c.has_backlog.result c.has_backlog.ensures c.if-has_backlog.true in
-    let behind = joins-behind c.args.at c.args.how.now.weight c.join_queue.ensures may.settled.2 t.2 its.1 inside some in
-    mid-keeps may t.1 behind
+returns-clause-keeps c = mid-keeps c.requires.may (there c).1 (behind c)
