@@ -11,7 +11,7 @@ pub(crate) fn long_at(fields: &ByteRecord, place: usize) -> Result<u64, u64>
     requires { 1 ≤ place }
     ensures { result ≡ long_at place (fields_of fields.now) }
 {
-    number_at(fields, place, 0, 18_446_744_073_709_551_615)
+    number_at(fields, place, 0, u64::MAX)
 }
 
 /// What the record with this number says.

@@ -46,9 +46,9 @@ pub(crate) fn queued_at_front(text: &[u8]) -> Option<(Reply, &[u8])>
     ensures { IfSome result (λ p. BeginsReply text.now p.0 p.1.now) }
 {
     let text = text.strip_prefix(b"r,queued,")?;
-    let (at, text) = number_until(text, b',', 0, 18_446_744_073_709_551_615)?;
-    let (flow, text) = number_until(text, b',', 0, 18_446_744_073_709_551_615)?;
-    let (packet, text) = number_at_end(text, 0, 18_446_744_073_709_551_615)?;
+    let (at, text) = number_until(text, b',', 0, u64::MAX)?;
+    let (flow, text) = number_until(text, b',', 0, u64::MAX)?;
+    let (packet, text) = number_at_end(text, 0, u64::MAX)?;
     let reply = Reply::Queued {
         at,
         flow: flow as usize,
@@ -64,10 +64,10 @@ pub(crate) fn delivery_at_front(text: &[u8]) -> Option<(Delivery, &[u8])>
     ensures { IfSome result (λ p. BeginsDelivery text.now p.0 p.1.now) }
 {
     let text = text.strip_prefix(b"d,")?;
-    let (packet, text) = number_until(text, b',', 0, 18_446_744_073_709_551_615)?;
-    let (flow, text) = number_until(text, b',', 0, 18_446_744_073_709_551_615)?;
-    let (start, text) = number_until(text, b',', 0, 18_446_744_073_709_551_615)?;
-    let (due, text) = number_at_end(text, 0, 18_446_744_073_709_551_615)?;
+    let (packet, text) = number_until(text, b',', 0, u64::MAX)?;
+    let (flow, text) = number_until(text, b',', 0, u64::MAX)?;
+    let (start, text) = number_until(text, b',', 0, u64::MAX)?;
+    let (due, text) = number_at_end(text, 0, u64::MAX)?;
     let delivery = Delivery {
         due,
         packet,
