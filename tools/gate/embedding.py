@@ -1,9 +1,9 @@
-"""The C library and the Python module as a user has them: from a prefix, and as docs/EMBEDDING.md and hingetulip(3) print them.
+"""The C library and the Python module as a user has them: from a prefix, and as docs/EMBEDDING.md, hingetulip(3) and a README print them.
 
     python3 tools/gate/embedding.py
 
 `./install --lib` puts the library of the present sources, as tools/library finds it, below a new prefix. From there the
-programs of both pages are compiled by what pkg-config says, the page's Python session and its simulation are run, and so are the
+programs of these pages are compiled by what pkg-config says, the page's Python session and its simulation are run, and so are the
 module's own tests.
 """
 
@@ -22,6 +22,7 @@ from tally import Tally
 TOP = Path(__file__).resolve().parent.parent.parent
 PAGE = (TOP / "docs" / "EMBEDDING.md").read_text()
 MANUAL = TOP / "docs" / "hingetulip.3"
+README = TOP / "crates" / "hingetulip_c" / "README.md"
 EXAMPLES = TOP / "examples" / "embed"
 FIRST, LOOP, THREADS, SIMULATION = (EXAMPLES / name for name in ("first.c", "simulate.c", "threads.c", "aimd.py"))
 PROGRAM = os.environ.get("DUMMYNET", TOP / "release" / "dummynet")
@@ -52,9 +53,9 @@ class Prefix:
         return self.run("./program") if compiled.returncode == 0 else compiled
 
 
-def blocks(language: str) -> list[str]:
+def blocks(language: str, page: str = PAGE) -> list[str]:
     """The blocks of a language on the page."""
-    return re.findall(rf"^```{language}\n(.*?)^```$", PAGE, re.M | re.S)
+    return re.findall(rf"^```{language}\n(.*?)^```$", page, re.M | re.S)
 
 
 def printed_after(command: str) -> str:
@@ -79,6 +80,10 @@ def from_c(tally: Tally, prefix: Prefix) -> None:
     source.write_text(AROUND % (example[1] if example else "").replace("\\e", "\\"))
     done = prefix.built(source, *WARNINGS)
     tally.equal("the example of hingetulip(3)", (0, "packet 0 left at 21000 us\npacket 1 left at 22000 us\n"), (done.returncode, done.stdout))
+    [sample] = blocks("c", README.read_text())
+    source.write_text(AROUND % (sample.replace("#include <hingetulip.h>\n", "") + 'printf("%d\\n", fate.outcome == DN_QUEUED);'))
+    done = prefix.built(source, *WARNINGS)
+    tally.equal("the sample of the README of hingetulip_c", (0, "1\n"), (done.returncode, done.stdout))
 
 
 def from_python(tally: Tally, prefix: Prefix) -> None:

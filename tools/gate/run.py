@@ -133,6 +133,7 @@ def parts(cases: str, seed: int) -> list[Part]:
         Part("tests in simulated time", [python, "tools/gate/testing.py"]),
         Part("the manual pages", [python, "tools/gate/manual.py", program], "mandoc"),
         Part("doc comments", [python, "tools/gate/doc_comments.py"]),
+        Part("samples of the READMEs", [python, "tools/gate/samples.py"]),
         Part("the kit", ["python/tests/kit"]),
     ]
 

@@ -89,8 +89,10 @@ fn status_of<R>(rt: &R) -> Result<u8, Refusal>
 where
     R: Env + Input + Files + Print + Eprint + AllocGlobal + Threads + Wait + Sync + RandomSource,
 {
+    // In the README of dn_command, 1:
     let words = words_of(rt)?;
     let request = request_of(rt.alloc(), words.as_slice())?;
+    // Up to here.
     Ok(done(rt, &request))
 }
 

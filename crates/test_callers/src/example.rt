@@ -16,6 +16,7 @@ fn the_example_of_the_readme(rt: HostRuntime) -> Result<(), Fail> {
         .as_slice();
     let mut file = Vec::new(alloc);
     let mut output = Vec::new(alloc);
+    // In the README of dn_replay, 1:
     let mut out = FromWriter::new(&mut output);
     let history = replay_with_key(
         alloc,
@@ -25,14 +26,24 @@ fn the_example_of_the_readme(rt: HostRuntime) -> Result<(), Fail> {
         &mut out,
     )?;
     write_report(alloc, 1, &history, &mut out)?;
+    // Up to here.
+    // In the README of dn_replay, 1, and of dn_history, 1:
     write_history(alloc, &history, &mut FromWriter::new(&mut file))?;
+    // Up to here.
+    // In the README of dn_replay, 1, and of dn_audit, 1:
     let verdict = audit_with_key(alloc, key, Rule::Ordered, &history)?;
+    // Up to here.
     assert!(rt; verdict == Verdict::Lawful);
+    // In the README of dn_replay, 1, and of dn_audit, 1:
     let same = audit_file_with_key(alloc, key, &mut FromReader::new(file.as_slice()), &mut out)?;
+    // Up to here.
     assert!(rt; same == verdict);
+    // In the README of dn_replay, 1:
     let rows = read_packets(alloc, &mut FromReader::new(packets))?;
     let commands = read_config(alloc, &mut FromReader::new(config))?;
+    // Up to here.
     assert!(rt; history.len() == commands.len() + rows.len() + 1);
+    // In the README of dn_replay, 1:
     let shared = replay_callers_with_key(
         &rt,
         alloc,
@@ -43,6 +54,7 @@ fn the_example_of_the_readme(rt: HostRuntime) -> Result<(), Fail> {
         &mut out,
         &NoGate,
     )?;
+    // Up to here.
     assert!(rt; shared.len() == history.len());
     let report = "event,row,flow,packet,at,start,due\nout,1,0,0,0,0,1000000\n";
     let written = format!(in alloc; "{report}{report}lawful 3\n{report}")?;

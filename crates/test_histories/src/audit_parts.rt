@@ -11,11 +11,13 @@ const STEPS: [usize; 6] = [1, 2, 3, 7, 64, 65_536];
 
 // What the audit of a file finds that is fed in such parts.
 fn fed(alloc: Global, file: &str, step: usize) -> Result<Verdict, ReplayFault> {
+    // In the README of dn_audit, 2:
     let mut audit = FileAudit::new(alloc, HashKey(7));
     for part in file.as_bytes().chunks(step.max(1)) {
         audit.feed(part)?;
     }
     let (verdict, _) = audit.finish()?;
+    // Up to here.
     Ok(verdict)
 }
 

@@ -21,10 +21,14 @@ fn entries_are_given_once_they_have_come(rt: HostRuntime) -> Result<(), Fail> {
     let alloc = rt.alloc();
     let text = ONE_CALLER.as_bytes();
     let mut entries = Vec::new(alloc);
+    // In the README of dn_history, 3:
     let mut parts = HistoryParts::new(alloc, &text[..CUT])?.ok_or("the line of a version")?;
+    // Up to here.
     assert!(rt; parts.rule() == Rule::Ordered);
     assert!(rt; add_given(&mut entries, &mut parts)? == 2);
+    // In the README of dn_history, 3:
     parts.feed(&text[CUT..])?;
+    // Up to here.
     assert!(rt; add_given(&mut entries, &mut parts)? == 4);
     assert!(rt; entries == one_caller(alloc)?);
     assert!(rt; parts.given() == 4);

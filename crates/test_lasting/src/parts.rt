@@ -19,20 +19,26 @@ fn parts_are_the_file_of_all(rt: HostRuntime) -> Result<(), Fail> {
     let (service, mut callers) = Service::open(alloc, 2)?;
     let mut taker = Taker::new(service.lasting(), callers.pop().ok_or("one")?);
     let mut file = Vec::new(alloc);
+    // In the README of dn_history, 2:
     let mut out = FromWriter::new(&mut file);
     write_history_front(alloc, &mut out)?;
+    // Up to here.
     let mut list = Vec::with_capacity(alloc, 100)?;
     let _ = made(&rt, &mut callers[0], advance(5));
     let _ = made(&rt, &mut callers[0], advance(4));
     assert!(rt; taker.take_into(&rt, &mut list) == 0 && list.len() == 2);
+    // In the README of dn_history, 2:
     write_history_part(alloc, list.as_slice(), &mut out)?;
+    // Up to here.
     list.clear();
     let _ = made(&rt, &mut callers[0], advance(9));
     assert!(rt; taker.take_into(&rt, &mut list) == 2 && list.len() == 1);
     // The list that was handed in before is back, with the room that it had.
     assert!(rt; list.capacity() >= 100);
     write_history_part(alloc, list.as_slice(), &mut out)?;
+    // In the README of dn_history, 2:
     write_history_end(alloc, 3, &mut out)?;
+    // Up to here.
     assert!(rt; file.as_slice() == FILE.as_bytes());
     let mut line = Vec::new(alloc);
     let _ = audit_file(

@@ -107,6 +107,7 @@ pub fn session(alloc: Global) -> Result<String, AllocError> {
 // Whether an input is served so, and this is written.
 fn serves(alloc: Global, input: &str, served: Served, session: &str) -> bool {
     let mut written = Vec::new(alloc);
+    // In the README of dn_live, 1:
     let mut reader = FromReader::new(input.as_bytes());
     let answer = live(
         alloc,
@@ -114,6 +115,7 @@ fn serves(alloc: Global, input: &str, served: Served, session: &str) -> bool {
         &mut reader,
         &mut FromWriter::new(&mut written),
     );
+    // Up to here.
     answer == Ok(served) && written.as_slice() == session.as_bytes()
 }
 

@@ -87,7 +87,9 @@ fn check_read_back(
     file: &[u8],
     entries: &[Entry],
 ) -> Result<(), ReplayFault> {
+    // In the README of dn_history, 1:
     let (rule, back) = read_history(alloc, &mut FromReader::new(file))?;
+    // Up to here.
     assert!(rt; rule == Rule::Ordered && back.as_slice() == entries);
     Ok(())
 }

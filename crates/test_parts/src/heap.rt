@@ -3,21 +3,22 @@ use dn_heap::{MinHeap, RunHeap};
 use std::alloc::{AllocError, Global};
 use std::process::Abort;
 
-/// The lines of the README's sample.
-fn sample(alloc: Global) -> Result<Option<u64>, AllocError> {
+fn first_due(alloc: Global) -> Result<Option<u64>, AllocError> {
+    // In the README of dn_heap, 1:
     let mut due: MinHeap<u64> = MinHeap::new(alloc);
     due.reserve(2)?;
     due.push_reserved(90);
     due.push_reserved(30);
     let first = due.pop();
+    // Up to here.
     Ok(first)
 }
 
 #[test]
-fn the_example_of_the_readme(rt: HostRuntime) {
-    let mut first = sample(rt.alloc());
+fn the_least_key_comes_first(rt: HostRuntime) {
+    let mut first = first_due(rt.alloc());
     if first.is_err() {
-        first = sample(rt.alloc());
+        first = first_due(rt.alloc());
     }
     assert!(rt; first == Ok(Some(30)));
 }

@@ -26,6 +26,8 @@ mod packet_parts;
 #[cfg(test)]
 mod passing;
 #[cfg(test)]
+mod readme;
+#[cfg(test)]
 mod record_example;
 #[cfg(test)]
 mod records;

@@ -12,14 +12,15 @@ fn delivery(due: u64, packet: u64) -> Delivery {
     }
 }
 
-/// The lines of the README's sample, for packet 7 of flow 0, which starts at 0.
-fn sample(
+/// The delivery of packet 7 of flow 0, which starts at 0.
+fn first_delivery(
     alloc: Global,
     len: Len,
     bandwidth: Bandwidth,
     delay: Delay,
 ) -> Result<Option<Delivery>, AllocError> {
     let (packet, flow, start) = (7, 0, 0);
+    // In the README of dn_link, 1:
     let mut line = DelayLine::new(alloc);
     line.reserve(1)?;
     let mut link = Link::new();
@@ -33,18 +34,19 @@ fn sample(
         start,
     });
     let first = line.pop_due(due);
+    // Up to here.
     Ok(first)
 }
 
 // 1,000 bytes at 8 Mbit/s take 1 ms, and the delay is 50 ms.
 #[test]
-fn the_example_of_the_readme(rt: HostRuntime) {
+fn a_packet_over_a_link(rt: HostRuntime) {
     let len = Len::new(1_000).unwrap();
     let bandwidth = Bandwidth::new(8_000_000).unwrap();
     let delay = Delay::new(50).unwrap();
-    let mut first = sample(rt.alloc(), len, bandwidth, delay);
+    let mut first = first_delivery(rt.alloc(), len, bandwidth, delay);
     if first.is_err() {
-        first = sample(rt.alloc(), len, bandwidth, delay);
+        first = first_delivery(rt.alloc(), len, bandwidth, delay);
     }
     assert_eq!(rt; first, Ok(Some(delivery(51_000_000, 7))));
 }

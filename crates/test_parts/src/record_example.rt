@@ -28,7 +28,7 @@ fn counts(alloc: Global, text: &[u8]) -> Result<Vec<u8>, AllocError> {
 }
 
 #[test]
-fn the_example_of_the_readme(rt: HostRuntime) -> Result<(), Fail> {
+fn fields_are_counted(rt: HostRuntime) -> Result<(), Fail> {
     let alloc = rt.alloc();
     let input = b"a,b\n\n1,2,3\n".as_slice();
     let text = read_whole(alloc, &mut FromReader::new(input), 1_048_576)?;

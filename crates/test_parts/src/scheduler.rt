@@ -3,27 +3,6 @@ use dn_wf2q::Sched;
 use std::alloc::{AllocError, Global};
 use std::process::Abort;
 
-/// The lines of the README's sample.
-fn sample(alloc: Global, len: Len, weight: Weight) -> Result<Option<usize>, AllocError> {
-    let mut sched = Sched::new(alloc);
-    sched.begin_busy();
-    sched.reserve_flow(0)?;
-    sched.arrive(0, len, weight);
-    let sent = sched.pick();
-    Ok(sent)
-}
-
-#[test]
-fn the_example_of_the_readme(rt: HostRuntime) {
-    let len = Len::new(1000).unwrap();
-    let weight = Weight::new(1).unwrap();
-    let mut sent = sample(rt.alloc(), len, weight);
-    if sent.is_err() {
-        sent = sample(rt.alloc(), len, weight);
-    }
-    assert!(rt; sent == Ok(Some(0)));
-}
-
 /// A step of an example, with values that were worked by hand from Bennett and Zhang's rules, and by an independent reference.
 enum Step {
     /// A busy period begins.

@@ -92,6 +92,7 @@ fn the_clock_never_goes_back(rt: HostRuntime) -> Result<(), Fail> {
     )
 }
 
+// In the README of test_shaper, 1:
 #[test]
 fn one_caller_history(rt: HostRuntime) -> Result<(), Fail> {
     holds(
@@ -105,6 +106,7 @@ fn one_caller_history(rt: HostRuntime) -> Result<(), Fail> {
         ],
     )
 }
+// Up to here.
 
 #[test]
 fn tries_of_two_callers(rt: HostRuntime) -> Result<(), Fail> {

@@ -1,0 +1,77 @@
+"""The samples of the READMEs: each is code of a test or of the program, which rt has proved and run.
+
+    python3 tools/gate/samples.py
+
+Such code is between the lines `// In the README of CRATE, N:` and `// Up to here.`, where N counts the page's samples from 1. Lines may be of
+two pages (`.., N, and of CRATE, N:`). The parts of a sample are joined, in order of files and lines. The page has the same text, without
+regard to comments and spaces, and may have `use` lines before it: of names that the files use too. It reads the sources alone.
+"""
+
+from __future__ import annotations
+
+import re
+import sys
+from pathlib import Path
+from typing import NamedTuple
+
+from tally import Tally
+
+TOP = Path(__file__).resolve().parent.parent.parent
+REGION = re.compile(r"^ *// In the README (of .*?):\n(.*?)^ *// Up to here\.$", re.M | re.S)
+PLACE = re.compile(r"of (\w+), (\d+)")
+SAMPLE = re.compile(r"^```rust\n(.*?)^```$", re.M | re.S)
+USE = re.compile(r"^use (\w+)::(?:\{(.*?)\}|(\w+));\n", re.M | re.S)
+# Libraries have a sample each, and so has a crate of tests.
+WITH_SAMPLES = ("dn_", "test_shaper")
+# Samples that are on the page alone.
+WITHOUT_TEST = {("dn_service", 1), ("dn_service", 2), ("dn_service", 3), ("dn_service", 4), ("dn_shaper", 1)}
+
+
+class Code(NamedTuple):
+    """The text of a sample in the sources, and the names that its file uses, by crate."""
+
+    text: str
+    used: set[tuple[str, str]]
+
+
+def bare(text: str) -> str:
+    """A text without comments, spaces, and commas before a closing bracket."""
+    return re.sub(r",([)\]}])", r"\1", re.sub(r"\s", "", re.sub(r"//.*", "", text)))
+
+
+def names(text: str) -> set[tuple[str, str]]:
+    """The names that `use` lines give, each with its crate."""
+    return {(crate, name) for crate, many, one in USE.findall(text) for name in re.findall(r"\w+", many or one)}
+
+
+def in_sources() -> dict[tuple[str, int], Code]:
+    found: dict[tuple[str, int], Code] = {}
+    for source in sorted(TOP.glob("crates/*/src/**/*.rt")):
+        text = source.read_text()
+        for places, lines in REGION.findall(text):
+            for crate, number in PLACE.findall(places):
+                before = found.get((crate, int(number)), Code("", set()))
+                found[crate, int(number)] = Code(before.text + lines, before.used | names(text))
+    return found
+
+
+def main() -> int:
+    tally = Tally()
+    sources = in_sources()
+    for crate in sorted(path.parent.name for path in TOP.glob("crates/*/README.md")):
+        samples = SAMPLE.findall((TOP / "crates" / crate / "README.md").read_text())
+        if crate.startswith(WITH_SAMPLES):
+            tally.note(f"{crate}/README.md", "" if samples else "has no sample")
+        for number, sample in enumerate(samples, 1):
+            if (crate, number) in WITHOUT_TEST and (crate, number) not in sources:
+                continue
+            code = sources.pop((crate, number), Code("", set()))
+            tally.note(f"{crate}/README.md, sample {number}", "" if bare(code.text) == bare(USE.sub("", sample)) else "isn't what a test has",
+                       *(f"the test doesn't use {owner}::{name}" for owner, name in sorted(names(sample) - code.used)))
+    for crate, number in sorted(sources):
+        tally.note(f"{crate}/README.md, sample {number}", "isn't there, and the sources have it")
+    return tally.end()
+
+
+if __name__ == "__main__":
+    sys.exit(main())
