@@ -1,14 +1,18 @@
 /* Linked into a program, it refuses growths of memory: the one whose number REFUSE names, counted from 1, and those after
    it, as many in a row as REFUSE_IN_A_ROW says (1). Where REFUSE is 0 it refuses none and tells in the end how many growths
-   there were. A program can also set `first_refused` itself. The scripts under bench/ link it. Compiled with PRELOADED as a
+   there were. Where COUNTED names a file, it counts them there too, as a `long`, so that the count is known however the program
+   ends. A program can also set `first_refused` itself. The scripts under bench/ link it. Compiled with PRELOADED as a
    shared library and loaded before a program that is linked already, it refuses what that program itself asks of malloc and
    realloc, and nothing that the C library asks for its own ends: tools/refused_growths.sh and tools/gate/memory.py. */
 #define _GNU_SOURCE
+#include <fcntl.h>
 #include <link.h>
 #include <stddef.h>
 #include <stdint.h>
 #include <stdio.h>
 #include <stdlib.h>
+#include <sys/mman.h>
+#include <unistd.h>
 
 typedef struct {
     uint64_t ok;
@@ -18,11 +22,18 @@ typedef struct {
 long growths = 0, first_refused = 0;
 static long in_a_row = 1;
 static int says_so = 0;
+static long *counted = NULL; /* in the file of COUNTED */
 
 static void tell(void) { fprintf(stderr, "growths %ld\n", growths); }
 
 __attribute__((constructor)) static void begin(void) {
-    const char *first = getenv("REFUSE"), *row = getenv("REFUSE_IN_A_ROW");
+    const char *first = getenv("REFUSE"), *row = getenv("REFUSE_IN_A_ROW"), *file = getenv("COUNTED");
+    int count = file ? open(file, O_RDWR | O_CREAT | O_TRUNC, 0644) : -1;
+    if (count >= 0 && ftruncate(count, sizeof *counted) == 0) {
+        void *place = mmap(NULL, sizeof *counted, PROT_READ | PROT_WRITE, MAP_SHARED, count, 0);
+        if (place != MAP_FAILED) counted = place;
+    }
+    if (count >= 0) close(count);
     if (!first) return;
     says_so = 1;
     first_refused = atol(first);
@@ -32,6 +43,7 @@ __attribute__((constructor)) static void begin(void) {
 
 static int refuses(void) {
     long number = __atomic_add_fetch(&growths, 1, __ATOMIC_RELAXED);
+    if (counted) __atomic_add_fetch(counted, 1, __ATOMIC_RELAXED);
     if (first_refused == 0 || number < first_refused || number >= first_refused + in_a_row) return 0;
     if (says_so) fprintf(stderr, "refused\n");
     return 1;

@@ -3,11 +3,14 @@
 # crate and then, if wanted, the tests that stand in for all: whole names, or `heap::` for those of a module. A test
 # passes if it tries a refused call again.
 # A Vec that is refused room for more asks again for just enough, which hides a refusal: REFUSE_IN_A_ROW=2 refuses both.
-# It takes what `rt test` or `rt ci` has built. The tests of test_shaper tell where it was the shaper that was refused.
+# So a growth that is refused is asked for once more in its place at most. A run that asks for more growths than that was told of want of
+# memory, and made a call again. In the end each growth is refused: a test that passes then never sees want of memory. It takes what
+# `rt test` or `rt ci` has built.
 set -e
 here=$(cd "$(dirname "$0")" && pwd)
 crate=$1
 shift
+row=${REFUSE_IN_A_ROW:-1}
 work=$(mktemp -d)
 trap 'rm -rf "$work"' EXIT
 cp "$here/../crates/$crate/out/${crate}_tests" "$work/tests"
@@ -26,20 +29,25 @@ for wanted; do
         exit 1
     }
 done
+asked_for() { od -An -td8 counted | tr -d ' '; }
 while read -r name; do
     # A program with threads ends without telling how many growths there were, so they are refused until none is left.
     growth=1
-    in_shaper=0
+    again=0
+    COUNTED=counted LD_PRELOAD=./refusing.so ./tests "$name" >told 2>&1 || true
+    ample=$(asked_for)
     while true; do
-        if ! REFUSE=$growth LD_PRELOAD=./refusing.so ./tests "$name" >told 2>&1; then
+        if ! COUNTED=counted REFUSE=$growth LD_PRELOAD=./refusing.so ./tests "$name" >told 2>&1; then
             echo "$name fails where growth $growth is refused: $(tail -1 told)"
             failed=$((failed + 1))
+        elif [ "$(asked_for)" -gt $((ample + row)) ]; then
+            again=$((again + 1))
         fi
         grep -q '^refused$' told || break
-        if grep -q 'a growth was refused' told; then in_shaper=$((in_shaper + 1)); fi
         growth=$((growth + 1))
     done
-    echo "$name: each of $((growth - 1)) growths refused in turn"
-    [ "$in_shaper" = 0 ] || echo "$name: $in_shaper of them answered by the shaper"
+    without=passes
+    REFUSE=1 REFUSE_IN_A_ROW=1000000000 LD_PRELOAD=./refusing.so ./tests "$name" >told 2>&1 || without=fails
+    echo "$name: each of $((growth - 1)) growths refused in turn, $row in a row; a call was made again in $again runs; $without without memory"
 done <chosen
 [ "$failed" = 0 ]

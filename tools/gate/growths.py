@@ -2,29 +2,38 @@
 
     python3 tools/gate/growths.py CRATE TESTS [IN_A_ROW]
 
-TESTS is a module, as `heap::`, or the whole name of a test. With IN_A_ROW above 1 as many are refused one after the other.
-tools/refused_growths.sh does it, over the tests that were built.
+TESTS is a module, as `heap::`, or the whole name of a test. With IN_A_ROW above 1 as many are refused one after the other. A refusal that
+nobody sees proves nothing: where each growth is refused, one test at least has to fail for want of memory. tools/refused_growths.sh does
+it, over the tests that were built.
 """
 
 from __future__ import annotations
 
 import os
+import re
 import subprocess
 import sys
 from pathlib import Path
 
+from tally import Tally
+
 TOP = Path(__file__).resolve().parent.parent.parent
+ENDED = re.compile(r"^(\S+): each of \d+ growths refused in turn, .* (fails|passes) without memory$", re.M)
 
 
 def main(crate: str, tests: str, in_a_row: str = "1") -> int:
+    tally = Tally()
     words = [TOP / "tools" / "refused_growths.sh", crate, tests]
     done = subprocess.run(words, stdout=subprocess.PIPE, stderr=subprocess.STDOUT, text=True, env={**os.environ, "REFUSE_IN_A_ROW": in_a_row})
     print(done.stdout, end="")
-    whole = {line.partition(":: ")[0].rpartition(": each of ")[0] for line in done.stdout.splitlines() if "growths refused in turn" in line}
-    broken = {line.partition(" fails where growth ")[0] for line in done.stdout.splitlines() if " fails where growth " in line}
-    failed = max(len(broken), 1 if done.returncode or not whole else 0)
-    print(f"{len(whole - broken)} passed, {failed} failed")
-    return 1 if failed else 0
+    broken = re.findall(r"^(\S+) fails where growth ", done.stdout, re.M)
+    ended = ENDED.findall(done.stdout)
+    for test, _ in ended:
+        tally.note(test, "a run fails" if test in broken else "")
+    if not ended or (done.returncode == 0) == bool(broken):
+        tally.note(f"{crate}, {tests}", f"status {done.returncode}, {len(ended)} tests")
+    tally.note(f"{crate}, {tests}, want of memory", "" if "fails" in [without for _, without in ended] else "no test sees it")
+    return tally.end()
 
 
 if __name__ == "__main__":

@@ -4,7 +4,8 @@
 
 With --built the parts are tried over what an earlier `rt ci` built, without `rt ci`: that isn't the gate. Each part is a
 command whose last line is 'N passed, M failed'; one that ends otherwise counts as one that failed. The last line is the sum.
-A part that needs what this machine lacks says so, and passes nothing. DUMMYNET names the program for those that aren't told.
+A part that needs what this machine lacks passes nothing, and the last line says how much was left out, and what is lacking. DUMMYNET
+names the program for those that aren't told.
 """
 
 from __future__ import annotations
@@ -138,9 +139,20 @@ def parts(cases: str, seed: int) -> list[Part]:
     ]
 
 
+def is_lacking(part: Part) -> bool:
+    """Whether this machine lacks what a part needs."""
+    return part.needs is not None and shutil.which(part.needs) is None
+
+
+def left_out(lacking: list[Part]) -> str:
+    """What the last line says of the parts that weren't tried."""
+    needs = sorted({part.needs or "" for part in lacking})
+    return f", {len(lacking)} parts left out for want of {', '.join(needs)}" if lacking else ""
+
+
 def tried(part: Part) -> Tally:
     """Runs a part, and prints what it said at once when it has ended."""
-    if part.needs and shutil.which(part.needs) is None:
+    if is_lacking(part):
         print(f"== {part.name}: skipped, since there is no {part.needs} on the path", flush=True)
         return Tally(0, 0)
     begun = time.monotonic()
@@ -152,7 +164,7 @@ def tried(part: Part) -> Tally:
 
 
 def main(words: list[str]) -> int:
-    tallies = [] if words == ["--built"] else [proved()]
+    tallies, lacking = [] if words == ["--built"] else [proved()], []
     if not MADE.exists():
         print("no program was built, so nothing more is tried")
         tallies.append(Tally(0, 1))
@@ -160,9 +172,11 @@ def main(words: list[str]) -> int:
         seed = secrets.randbelow(2**32)
         print(f"== parts over what was built, random ones by seed {seed}", flush=True)
         with TemporaryDirectory() as cases, ThreadPoolExecutor(len(os.sched_getaffinity(0))) as pool:
-            tallies += pool.map(tried, parts(cases, seed))
+            wanted = parts(cases, seed)
+            lacking = [part for part in wanted if is_lacking(part)]
+            tallies += pool.map(tried, wanted)
     failed = sum(t.failed for t in tallies)
-    print(f"{sum(t.passed for t in tallies)} passed, {failed} failed")
+    print(f"{sum(t.passed for t in tallies)} passed, {failed} failed{left_out(lacking)}")
     return 1 if failed else 0
 
 
