@@ -6,8 +6,14 @@ too. So for each edit of the table below the mistake is undone and the form kept
 only change a value have no entry: without the mistake they are the crate itself.
 
 Usage: tools/edit_controls.py [CRATE..] [CRATE/EDIT..]. It works in a copy of the repository, so the checkout stays as it is,
-and prints a line for each control and then 'N controls prove, M do not'. RT is the command that checks, `rt` without it.
+and prints a line for each control and then 'N controls prove, M do not'. The controls of a crate are tried together, and in
+halves where together they are refused. RT is the command that checks, `rt` without it.
+
+`tools/edit_controls.py --missing` needs no prover. It names the edits that add code and have no control, and the edits and the
+controls that no longer fit the sources, and ends with 'N passed, M failed'.
 """
+from __future__ import annotations
+
 import os
 import re
 import shlex
@@ -15,22 +21,41 @@ import shutil
 import subprocess
 import sys
 import tempfile
+from collections.abc import Iterator
+from pathlib import Path
 
-TOP = os.path.realpath(os.path.join(os.path.dirname(__file__), ".."))
+from build_program import copied, crate_of
+
+TOP = Path(__file__).resolve().parent.parent
+# An edit adds code where its new texts have more characters than this beyond the old ones, or more of these words.
+MOST_ADDED = 40
+NEW_CODE = re.compile(r"\b(?:fn|impl|trait|struct|enum|for|while|loop)\b")
+Pair = tuple[str, str, str]  # the file, the text that goes, and the text in its place
 
 LEAST = "ensures least { IfSome result (λ key. IsLeast %s key self.old.keys) } ensures keys {"
 IS_LEAST = "ghost use Rattle.dn_heap.specs.Heap.{IsLeast}; "
 
 # For each edit the pairs that undo its mistake, each applied to the text that the edit puts in.
 CONTROLS = {
+    "dn_types/a_copied_list_loses_its_last": [("items.pop()", "items.len()")],
+    "dn_types/a_list_made_without_its_last": [("items.pop()", "items.len()")],
+    "dn_types/copied_states_lose_their_last": [("items.pop()", "items.len()")],
+    "dn_types/states_made_without_the_last": [("items.pop()", "items.len()")],
     "dn_heap/pop_keeps_its_room": [("self.room = room;", "self.room = self.room;")],
     "dn_heap/reserves_without_the_keys_of_the_heap": [(".min(n))", ".max(n))")],
+    "dn_files/row_read_twice": [("self.start = start;", "let _ = start;")],
+    "dn_history/failed_write_of_a_part_as_want_of_memory": [("Err(_) => Err(ReplayFault::OutOfMemory) }", "Err(fault) => Err(fault) }")],
+    "dn_history/failed_write_of_the_end_as_want_of_memory": [("Err(_) => Err(ReplayFault::OutOfMemory) }", "Err(fault) => Err(fault) }")],
+    "dn_history/failed_write_of_the_front_as_want_of_memory": [("Err(_) => Err(ReplayFault::OutOfMemory) }", "Err(fault) => Err(fault) }")],
+    "dn_history/plain_header_left_for_the_end": [("return Ok(None);", "let _ = text.len();")],
+    "dn_wf2q/empty_heaps": [("self.arrivals", "self.eligible.moves() + self.waiting.moves()"), ("self.eligible.pop()", "self.eligible.len()"),
+                            ("self.waiting.pop()", "self.waiting.len()")],
     "dn_wf2q/last_pick_not_counted": [("self.enter(slot, head);", "self.enter(slot, head); } else { self.picks += 1;")],
     "dn_wf2q/left_in_waiting_heap": [("self.waiting.push_reserved(first);", "let _ = self.waiting.len();")],
     "dn_wf2q/picks_ineligible": [("top.tag() * 0", "top.tag() * 1")],
     "dn_wf2q/stamped_by_virtual_time": [("min(1 << 95)", "min(0)")],
     "dn_wf2q/ties_by_arrival": [(".then(self.entered.cmp(&other.entered))", ".then(self.slot().cmp(&other.slot()))")],
-    "dn_wf2q/weight_at_the_pick": [("weight.max(next.weight.min(0))", "next.weight.max(weight.min(0))")],
+    "dn_wf2q/weight_at_the_pick": [("self.behind.in_force.max(next.weight.min(0))", "next.weight.max(self.behind.in_force.min(0))")],
     "dn_wf2q/without_the_least_key": [
         ("use dn_heap::MinHeap;", IS_LEAST + "ghost use Rattle.dn_wf2q.specs.Rank.{rank_cmp}; use dn_heap::MinHeap;"),
         ("ensures keys {", LEAST % "rank_cmp")],
@@ -46,12 +71,24 @@ CONTROLS = {
     "dn_service/hands_out_from_one": [("callers.remove(0);", "let _ = callers.len();")],
     "dn_service/invented_reply": [("number == 0", "number >= 16")],
     "dn_service/memory_after_change": [("pages.history.reserve(1)?;", "let _ = pages.history.len();")],
-    "dn_service/records_twice": [("let _ = self.try_once(call);", "let _ = self.number();")],
+    "dn_service/close_always_refuses": [("callers.len() == self.count", "self.count == 0")],
+    "dn_service/records_twice": [("let _ = self.try_once(&call);", "let _ = self.number();")],
+    "dn_service/take_gives_an_entry_twice": [("let _ = list.push(again);", "drop(again);")],
+    "dn_service/take_leaves_the_last": [("list.pop()", "list.last()"), ("pages.history.push(last)", "last.caller")],
+    "dn_service/taker_calls_twice": [("let _ = self.caller.call(rt, Call::Show);", "let _ = self.caller.number();")],
+    "dn_service/taker_drops_a_segment": [("let _ = self.caller.take(rt, &mut self.lasting);", "let _ = self.caller.number();")],
+    "dn_service/taker_is_its_own_hindrance": [("self.caller.number() == 0", "self.caller.number() != self.caller.number()")],
     "dn_service/without_the_reply": [
         ("ghost use Rattle.dn_types.specs.Clock", "ghost use Rattle.dn_types.specs.Replies.{reply}; ghost use Rattle.dn_types.specs.Clock"),
         ("ensures err {", "ensures ok { IfOk result (λ r. (rule : RuleValue) (calls : List CallValue) → StandsAfter rule self.old calls"
          " → (r ≡ reply rule calls call.now) × StandsAfter rule self.new (call.now ∷ calls)) } ensures err {")],
+    "dn_shaper/busy_period_while_the_link_sends": [("shared.sched.begin_busy();", "let _ = shared.sched.is_idle();")],
+    "dn_shaper/collects_again": [("list.extend_from_slice(given)", "list.len()")],
     "dn_shaper/collects_by_submission": [("given.sort_unstable_by_key(|delivery| delivery.packet);", "given.reverse(); given.reverse();")],
+    "dn_shaper/memory_after_change_the_flow": [("find_or_make(*key)", "len()")],
+    "dn_shaper/no_flow_for_a_lost_packet": [("< drops.loss.get()", "< 0")],
+    "dn_shaper/opening_reply": [("Reply::NoTarget { at }", "reply"), ("at: moment.get()", "at: at")],
+    "dn_shaper/pipe_loss_for_its_queues": [("loss: *loss", "loss: how.drops.loss")],
     "dn_shaper/without_what_is_due": [
         ("Line.{after_due}", "Line.{after_due, due_first}"),
         ("ensures pending {", "ensures value { result ≡ due_first at self.old.pending } ensures pending {")],
@@ -77,75 +114,140 @@ CONTROLS = {
 }
 
 
-def read(path):
-    with open(path, encoding="utf-8") as file:
-        return file.read()
-
-
-def write(path, text):
-    with open(path, "w", encoding="utf-8") as file:
-        file.write(text)
-
-
-def pairs_of(edit):
-    """The edit's (file, old, new), in order."""
-    file = old = None
-    for line in edit.splitlines():
+def pairs_of(name: str) -> list[Pair]:
+    """An edit's pairs, in order."""
+    crate, edit = name.split("/")
+    pairs, file, old = [], "", ""
+    for line in (TOP / "crates" / crate / "must-fail" / f"{edit}.edit").read_text().splitlines():
         kind, _, text = line.partition(": ") if ": " in line else (line.rstrip(": "), "", "")
         if kind == "file":
             file = text.strip()
         elif kind == "old":
             old = text
         elif kind == "new":
-            yield file, old, text
+            pairs.append((file, old, text))
+    return pairs
 
 
-def controlled(name, news):
-    """The texts that an edit puts in, with its mistake undone; fails where a pair finds nothing to undo."""
+def adds_code(pairs: list[Pair]) -> bool:
+    more = sum(len(new) - len(old) for _, old, new in pairs)
+    words = sum(len(NEW_CODE.findall(new)) - len(NEW_CODE.findall(old)) for _, old, new in pairs)
+    return more > MOST_ADDED or words > 0
+
+
+class Misfit(Exception):
+    """Why a control doesn't fit its edit, or an edit the sources."""
+
+
+def controlled(name: str) -> list[Pair]:
+    """An edit's pairs with its mistake undone."""
+    pairs = pairs_of(name)
     for wrong, right in CONTROLS[name]:
-        if not any(wrong in new for new in news):
-            sys.exit(f"{name}: nothing to undo in {wrong!r}")
-        news = [new.replace(wrong, right) for new in news]
-    return news
+        if not any(wrong in new for _, _, new in pairs):
+            raise Misfit(f"nothing to undo in {wrong!r}")
+        pairs = [(file, old, new.replace(wrong, right)) for file, old, new in pairs]
+    return pairs
 
 
-def proves(folder, name):
-    """Applies the control in the copy, checks the crate, and puts the sources back."""
-    crate, edit = name.split("/")
-    crate = os.path.join(folder, "crates", crate)
-    pairs = list(pairs_of(read(os.path.join(crate, "must-fail", edit + ".edit"))))
-    news = controlled(name, [new for _, _, new in pairs])
-    before = {file: read(os.path.join(crate, file)) for file, _, _ in pairs}
-    after = dict(before)
-    for (file, old, _), new in zip(pairs, news):
-        if old not in after[file]:
-            sys.exit(f"{name}: {file} has no {old!r}")
-        after[file] = after[file].replace(old, new, 1)
-    for file, text in after.items():
-        write(os.path.join(crate, file), text)
-    check = shlex.split(os.environ.get("RT", "rt")) + ["check"]
-    told = subprocess.run(check, cwd=crate, capture_output=True, text=True)
-    for file, text in before.items():
-        write(os.path.join(crate, file), text)
-    if told.returncode == 0:
-        return True, []
-    faults = [line for line in (told.stdout + told.stderr).splitlines() if re.search(r"error|refused|not proved|gave up", line)]
-    return False, faults[:3]
+def applied(crate: Path, pairs: list[Pair], texts: dict[Path, str]) -> dict[Path, str]:
+    """The texts of a crate's files after an edit, where `texts` has those that were changed before."""
+    texts = dict(texts)
+    for file, old, new in pairs:
+        place = crate / file
+        text = texts.get(place) or place.read_text()
+        if text.count(old) != 1:
+            raise Misfit(f"{file} has {old!r} {text.count(old)} times")
+        texts[place] = text.replace(old, new, 1)
+    return texts
 
 
-def main():
-    asked = sys.argv[1:]
+def edits() -> list[str]:
+    return sorted(f"{path.parent.parent.name}/{path.stem}" for path in TOP.glob("crates/*/must-fail/*.edit"))
+
+
+def misfit(name: str) -> str:
+    """What is wrong with an edit or its control, if anything, without a prover."""
+    try:
+        pairs = controlled(name) if name in CONTROLS else pairs_of(name)
+        applied(TOP / "crates" / name.split("/")[0], pairs, {})
+    except Misfit as fault:
+        return str(fault)
+    return "it adds code and has no control" if name not in CONTROLS and adds_code(pairs) else ""
+
+
+def missing() -> int:
+    """Names the edits that lack a control, and what doesn't fit."""
+    known = edits()
+    faults = {name: misfit(name) for name in known} | {name: "there is no such edit" for name in CONTROLS if name not in known}
+    for name, fault in faults.items():
+        if fault:
+            print(f"{name}: {fault}")
+    failed = sum(1 for fault in faults.values() if fault)
+    print(f"{len(faults) - failed} passed, {failed} failed")
+    return 1 if failed else 0
+
+
+def below(crate: str) -> list[str]:
+    """The crates of this repository that a crate stands on, lowest first, and itself."""
+    done = subprocess.run([TOP / "tools" / "program_sources", "--crates", crate], stdout=subprocess.PIPE, text=True, check=True)
+    return done.stdout.split()
+
+
+def copy_of(names: set[str], folder: Path) -> None:
+    """The crates with what a check kept in out/, so that the crates below prove no more than they have to."""
+    for name in names:
+        for part in ("src", "specs", "proofs", "out"):
+            copied(TOP / "crates" / name / part, folder / "crates" / name / part)
+    lines = [line for line in (TOP / "crates.txt").read_text().splitlines() if crate_of(line) in names]
+    (folder / "crates.txt").write_text("".join(f"{line}\n" for line in lines))
+    shutil.copyfile(TOP / "HANDLES", folder / "HANDLES")
+
+
+def faults_of(crate: Path, names: list[str]) -> list[str]:
+    """Applies the controls in the copy, checks the crate, and puts the sources back."""
+    after: dict[Path, str] = {}
+    for name in names:
+        after = applied(crate, controlled(name), after)
+    before = {place: place.read_text() for place in after}
+    for place, text in after.items():
+        place.write_text(text)
+    words = [*shlex.split(os.environ.get("RT", "rt")), "check"]
+    told = subprocess.run(words, cwd=crate, stdout=subprocess.PIPE, stderr=subprocess.STDOUT, text=True, errors="replace")
+    for place, text in before.items():
+        place.write_text(text)
+    found = [line for line in told.stdout.splitlines() if re.search(r"error|it is not proved|gave up|: not proved", line)]
+    return [] if told.returncode == 0 else found[:6] or ["the check ended without a word"]
+
+
+def refused(crate: Path, names: list[str]) -> Iterator[tuple[str, list[str]]]:
+    """Each control, and why it was refused, if it was: halves of the list are tried where the whole is refused."""
+    try:
+        faults = faults_of(crate, names)
+    except Misfit as fault:
+        faults = [str(fault)]
+    if faults and len(names) > 1:
+        half = len(names) // 2
+        yield from refused(crate, names[:half])
+        yield from refused(crate, names[half:])
+    else:
+        yield from ((name, faults) for name in names)
+
+
+def main(asked: list[str]) -> int:
+    if asked == ["--missing"]:
+        return missing()
     names = [name for name in CONTROLS if not asked or name in asked or name.split("/")[0] in asked]
+    crates = list(dict.fromkeys(name.split("/")[0] for name in names))
     failed = 0
     with tempfile.TemporaryDirectory() as work:
-        folder = os.path.join(work, "controls")
-        shutil.copytree(TOP, folder, ignore=shutil.ignore_patterns("out", ".git"))
-        for name in names:
-            right, faults = proves(folder, name)
-            failed += not right
-            print("proves" if right else "REFUSED", name, *faults, sep="\n    " if faults else " ", flush=True)
+        copy_of({name for crate in crates for name in below(crate)}, Path(work))
+        for crate in crates:
+            for name, faults in refused(Path(work) / "crates" / crate, [name for name in names if name.split("/")[0] == crate]):
+                failed += bool(faults)
+                print("REFUSED" if faults else "proves", name, *faults, sep="\n    " if faults else " ", flush=True)
     print(f"{len(names) - failed} controls prove, {failed} do not")
-    sys.exit(1 if failed else 0)
+    return 1 if failed else 0
 
 
-main()
+if __name__ == "__main__":
+    sys.exit(main(sys.argv[1:]))
