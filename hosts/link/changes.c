@@ -45,7 +45,7 @@ static void begin_outage(const struct change *change) {
     struct dn_fate fate;
     if (has_waiting(change->pipe)) return;
     submit(&packet, &fate);
-    if (fate.outcome == DN_QUEUED) hold(&(struct packet){.number = fate.packet, .way = change->pipe - 1}, NULL);
+    if (fate.outcome == DN_QUEUED) hold(&(struct packet){.number = fate.packet, .way = change->pipe - 1}, NULL, 0);
 }
 
 static void make(const struct change *change) {

@@ -9,11 +9,11 @@
 enum { BUCKETS = 65536 };
 static struct packet *held[BUCKETS];
 
-void hold(const struct packet *packet, const unsigned char *bytes) {
-    struct packet *made = grown(NULL, sizeof *made + packet->len), **bucket = &held[packet->number % BUCKETS];
+void hold(const struct packet *packet, const unsigned char *bytes, size_t kept) {
+    struct packet *made = grown(NULL, sizeof *made + kept), **bucket = &held[packet->number % BUCKETS];
     *made = *packet;
     made->next = *bucket;
-    if (packet->len) memcpy(made->bytes, bytes, packet->len);
+    if (kept) memcpy(made->bytes, bytes, kept);
     *bucket = made;
     page->ways[packet->way].held++;
 }

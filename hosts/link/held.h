@@ -13,8 +13,8 @@ struct packet {
     unsigned char bytes[];
 };
 
-/* Keeps a packet of `len` bytes. */
-void hold(const struct packet *packet, const unsigned char *bytes);
+/* Keeps a packet with `kept` bytes. */
+void hold(const struct packet *packet, const unsigned char *bytes, size_t kept);
 
 /* Takes a packet out; the caller frees it. */
 struct packet *taken(uint64_t number);

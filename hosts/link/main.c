@@ -1,12 +1,13 @@
 /* hinge-link: emulated links between two ends, in the process of `hinge run`'s or `hinge udp`'s choosing.
 
-     hinge-link UP DOWN PAGE < PLAN
+     hinge-link tun UP DOWN PAGE < PLAN
      hinge-link udp FRONT ADDRESS PORT PAGE < PLAN
+     hinge-link UP DOWN PAGE < PLAN
 
    UP, DOWN, FRONT and PAGE are descriptors: the client's interface and the server's, or a bound socket of UDP, for a server at ADDRESS
-   and PORT; and the page of counts. What comes from the client is on way 0 and goes to pipe 1 where no rule says otherwise; way 1
+   and PORT; and the page of counts. Without `tun` any UP and DOWN do that keep packets whole: tests take sockets. What comes from the client is on way 0 and goes to pipe 1 where no rule says otherwise; way 1
    comes back through pipe 2. The links are libhingetulip's; each call and its reply go to the transcript, which `dummynet audit`
-   judges. Any descriptors that keep packets whole do for UP and DOWN: tests take sockets. It ends by SIGTERM. tools/hosts builds it. */
+   judges. It ends by SIGTERM. tools/hosts builds it. */
 #define _GNU_SOURCE
 #include <errno.h>
 #include <hingetulip.h>
@@ -77,11 +78,17 @@ static bool run(int ended) {
     }
 }
 
+/* The carrier that the command line names. */
+static struct carrier named_carrier(int count, char **words) {
+    if (count == 6 && strcmp(words[1], "udp") == 0) return udp_carrier(atoi(words[2]), words[3], words[4]);
+    if (count == 5 && strcmp(words[1], "tun") == 0) return tun_carrier(atoi(words[2]), atoi(words[3]));
+    return plain_carrier(atoi(words[1]), atoi(words[2]));
+}
+
 int main(int count, char **words) {
-    bool udp = count == 6 && strcmp(words[1], "udp") == 0;
-    if (!udp && count != 4) fail("usage", "hinge-link UP DOWN PAGE < PLAN, or hinge-link udp FRONT ADDRESS PORT PAGE < PLAN");
+    if (count < 4) fail("usage", "hinge-link tun UP DOWN PAGE < PLAN, or hinge-link udp FRONT ADDRESS PORT PAGE < PLAN");
     open_page(atoi(words[count - 1]));
-    carrier = udp ? udp_carrier(atoi(words[2]), words[3], words[4]) : tun_carrier(atoi(words[1]), atoi(words[2]));
+    carrier = named_carrier(count, words);
     int ended = signal_descriptor();
     prctl(PR_SET_PDEATHSIG, SIGTERM);
     prctl(PR_SET_TIMERSLACK, 1); /* else the system wakes it up to 50 us after the moment */

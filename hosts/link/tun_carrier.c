@@ -2,15 +2,24 @@
 #include <unistd.h>
 
 #include "carrier.h"
+#include "segments.h"
 
 static int interfaces[2];
+static struct whole wholes[2];
 
-static ssize_t receive(int way, unsigned char *bytes) {
-    ssize_t len = read(interfaces[way], bytes, LONGEST);
-    return len > 0 ? len : -1;
+static bool goes_on(int way) { return wholes[way].has_another; }
+
+static ssize_t receive(int way, unsigned char **packet) {
+    struct whole *whole = &wholes[way];
+    if (!whole->has_another) {
+        ssize_t len = read(interfaces[way], whole->bytes, sizeof whole->bytes);
+        if (len <= NOTE) return -1;
+        begin_cutting(whole, (size_t)len - NOTE);
+    }
+    return (ssize_t)cut_next(whole, packet);
 }
 
-static bool transmit(int way, const unsigned char *bytes, size_t len) { return write(interfaces[!way], bytes, len) >= 0; }
+static bool transmit(int way, const unsigned char *packet, size_t len) { return write(interfaces[!way], packet - NOTE, NOTE + len) >= 0; }
 
 static void look_after(uint64_t moment) { (void)moment; }
 
@@ -19,5 +28,5 @@ static void end(void) {}
 struct carrier tun_carrier(int up, int down) {
     interfaces[0] = up, interfaces[1] = down;
     for (int way = 0; way < 2; way++) fcntl(interfaces[way], F_SETFL, O_NONBLOCK);
-    return (struct carrier){{up, down}, receive, transmit, look_after, end};
+    return (struct carrier){{up, down}, NOTE, receive, goes_on, transmit, look_after, end};
 }

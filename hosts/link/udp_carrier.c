@@ -50,7 +50,13 @@ static ssize_t receive_from_server(unsigned char *bytes) {
     return -1;
 }
 
-static ssize_t receive(int way, unsigned char *bytes) { return way == 0 ? receive_from_client(bytes) : receive_from_server(bytes); }
+static ssize_t receive(int way, unsigned char **packet) {
+    static unsigned char bytes[LONGEST];
+    *packet = bytes;
+    return way == 0 ? receive_from_client(bytes) : receive_from_server(bytes);
+}
+
+static bool goes_on(int way) { return (void)way, false; }
 
 /* Sends to the server by a client's socket; once more where the first try was told of an earlier datagram's refusal. */
 static bool to_server(int socket, const unsigned char *data, size_t len) {
@@ -81,5 +87,5 @@ struct carrier udp_carrier(int descriptor, const char *address, const char *port
     else if (inet_pton(AF_INET6, address, &server.six.sin6_addr) == 1) server.six.sin6_family = AF_INET6, server.six.sin6_port = htons((uint16_t)atoi(port));
     else fail(address, "no address");
     give_room(front);
-    return (struct carrier){{front, prepare_clients(&server)}, receive, transmit, let_go_of_quiet_clients, end};
+    return (struct carrier){{front, prepare_clients(&server)}, 0, receive, goes_on, transmit, let_go_of_quiet_clients, end};
 }

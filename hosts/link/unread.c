@@ -11,7 +11,8 @@
 
 static int schedstat = -1;
 static uint64_t caught_up[2]; /* the last moment at which an interface is known to have had nothing */
-static uint64_t taken_at[2][QUEUE];
+static uint64_t taken[2], taken_at[2][QUEUE]; /* how many, and when each of the last was */
+static uint64_t lain[2];                      /* how long the last can have lain */
 static bool emptied[2] = {true, true}; /* whether all that an interface had was taken */
 
 /* ns for which this program waited for a processor since the last time that it was asked. */
@@ -34,11 +35,12 @@ void begin_unread(void) {
 }
 
 void note_taken(int way, uint64_t moment) {
-    struct way *counts = &page->ways[way];
-    uint64_t *taken_then = &taken_at[way][counts->came % QUEUE];
-    count_time(counts->unread, &counts->unread_most, moment - (*taken_then > caught_up[way] ? *taken_then : caught_up[way]));
+    uint64_t *taken_then = &taken_at[way][taken[way]++ % QUEUE];
+    lain[way] = moment - (*taken_then > caught_up[way] ? *taken_then : caught_up[way]);
     *taken_then = moment;
 }
+
+void count_unread(int way) { count_time(page->ways[way].unread, &page->ways[way].unread_most, lain[way]); }
 
 void note_empty(int way, uint64_t moment) { caught_up[way] = moment, emptied[way] = true; }
 

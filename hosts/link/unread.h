@@ -9,8 +9,11 @@ enum { QUEUE = 10000 }; /* packets that the system keeps, as rooms.py asks for *
 
 void begin_unread(void);
 
-/* A packet of a way was taken at a moment. */
+/* Something that the system kept as one packet was taken of a way at a moment. */
 void note_taken(int way, uint64_t moment);
+
+/* Counts how long a packet in it can have lain. */
+void count_unread(int way);
 
 /* The interface of a way had nothing more at a moment. */
 void note_empty(int way, uint64_t moment);

@@ -12,11 +12,11 @@
 #include "rules.h"
 #include "unread.h"
 
-enum { AT_ONCE = 32 }; /* packets that are taken of a way before the other has its turn */
+enum { AT_ONCE = 64 }; /* packets that are taken of a way before the other has its turn, and those that came together with the last */
 
 struct carrier carrier;
 
-/* Gives a packet to the link. */
+/* Gives a packet, behind its prefix, to the link. */
 static void take(int way, const unsigned char *bytes, size_t len, uint64_t moment) {
     struct way *counts = &page->ways[way];
     struct dn_packet packet = {.moment = moment, .length = (uint16_t)len};
@@ -26,13 +26,13 @@ static void take(int way, const unsigned char *bytes, size_t len, uint64_t momen
         counts->not_ip++;
         return;
     }
-    note_taken(way, moment);
+    count_unread(way);
     counts->came++, counts->came_bytes += len;
     classify(way, &headers, &packet);
     packet.word = next_word(way);
     submit(&packet, &fate);
     switch (fate.outcome) {
-    case DN_QUEUED: hold(&(struct packet){.number = fate.packet, .way = way, .came = moment, .len = len}, bytes); break;
+    case DN_QUEUED: hold(&(struct packet){.number = fate.packet, .way = way, .came = moment, .len = len}, bytes - carrier.prefix, carrier.prefix + len); break;
     case DN_LOST: counts->lost++; break;
     case DN_FULL: counts->full++; break;
     default: counts->no_target++;
@@ -40,11 +40,14 @@ static void take(int way, const unsigned char *bytes, size_t len, uint64_t momen
 }
 
 void come(int way) {
-    static unsigned char bytes[LONGEST];
+    unsigned char *bytes;
+    bool goes_on = false;
     note_unemptied(way);
-    for (int i = 0; i < AT_ONCE; i++) {
-        ssize_t len = carrier.receive(way, bytes);
+    for (int i = 0; i < AT_ONCE || goes_on; i++) {
+        ssize_t len = carrier.receive(way, &bytes);
         uint64_t moment = now();
+        if (!goes_on && len >= 0) note_taken(way, moment);
+        goes_on = carrier.goes_on(way);
         if (len < 0) {
             note_empty(way, moment);
             return;
@@ -55,7 +58,7 @@ void come(int way) {
 
 static void send_on(struct packet *packet, uint64_t due) {
     struct way *counts = &page->ways[packet->way];
-    if (carrier.transmit(packet->way, packet->bytes, packet->len)) counts->sent++, counts->sent_bytes += packet->len;
+    if (carrier.transmit(packet->way, packet->bytes + carrier.prefix, packet->len)) counts->sent++, counts->sent_bytes += packet->len;
     else counts->refused++;
     uint64_t moment = now();
     counts->stayed += moment - packet->came;

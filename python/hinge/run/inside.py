@@ -62,7 +62,7 @@ class Inside:
         server = self.started_server()
         if self.outside:
             self.outside.join(self.rooms)
-        link = Link(self.processes, self.page, [str(one) for one in self.rooms.interfaces], self.rooms.interfaces, plan_file(self.order.plan), self.order.mask)
+        link = Link(self.processes, self.page, ["tun", *map(str, self.rooms.interfaces)], self.rooms.interfaces, plan_file(self.order.plan), self.order.mask)
         failed = link.failed()
         if failed is not None:
             return failed

@@ -23,7 +23,8 @@ FREEBIND = 78  # IPV6_FREEBIND
 ADVERTISEMENT, OVERRIDE = 136, 0x20000000  # ND_NEIGHBOR_ADVERT, ND_NA_FLAG_OVERRIDE
 REJECTS = 0x200  # RTF_REJECT, in /proc/net/ipv6_route
 MAIN_TABLE, BY_BOOT, UNICAST, GATEWAY = 254, 3, 1, 5  # RT_TABLE_MAIN, RTPROT_BOOT, RTN_UNICAST, RTA_GATEWAY
-TUNSETIFF, TUN_WITHOUT_HEADER = 0x400454CA, 0x1001  # IFF_TUN | IFF_NO_PI
+TUNSETIFF, TUN_WITH_NOTE = 0x400454CA, 0x5001  # IFF_TUN | IFF_NO_PI | IFF_VNET_HDR
+TUNSETOFFLOAD, LEFT_TO_A_CARD = 0x400454D0, 7  # TUN_F_CSUM | TUN_F_TSO4 | TUN_F_TSO6
 DROPPED_OUT = 11  # the column of /proc/net/dev
 LISTENS = (("tcp", "0A"), ("tcp6", "0A"), ("udp", "07"), ("udp6", "07"))  # in /proc/net, and the state there
 QUIET = (("accept_dad", "0"), ("accept_ra", "0"), ("router_solicitations", "0"))  # of IPv6
@@ -120,7 +121,8 @@ def add_tun(address: str, address6: str, mtu: int) -> int:
     except OSError as error:
         advice = TUN_ADVICE.get(error.errno or 0, "the container or the system keeps this user from it")
         raise Missing(f"/dev/net/tun: {error.strerror}: {advice}") from None
-    fcntl.ioctl(made, TUNSETIFF, struct.pack("16sH22x", NAME.encode(), TUN_WITHOUT_HEADER))
+    fcntl.ioctl(made, TUNSETIFF, struct.pack("16sH22x", NAME.encode(), TUN_WITH_NOTE))
+    fcntl.ioctl(made, TUNSETOFFLOAD, LEFT_TO_A_CARD)
     be_silent(NAME)
     set_up(NAME, UP | MULTICAST, ((MTU, mtu), (QUEUE_LENGTH, QUEUE)))
     add_address(NAME, address, 24)

@@ -104,14 +104,15 @@ class Ended:
 class Linked:
     """The host between two sockets, which runs until `end`."""
 
-    def __init__(self, plan: str, most: int = 10**9) -> None:
+    def __init__(self, plan: str, most: int = 10**9, carrier: Optional[str] = None) -> None:
+        """With the carrier `tun` each packet is behind a note."""
         self.folder = tempfile.TemporaryDirectory()
         self.transcript = f"{self.folder.name}/session.history"
         self.near, near = socket.socketpair(socket.AF_UNIX, socket.SOCK_SEQPACKET)
         self.far, far = socket.socketpair(socket.AF_UNIX, socket.SOCK_SEQPACKET)
         self.page = Page()
         passed = [near.fileno(), far.fileno(), self.page.descriptor]
-        self.process = subprocess.Popen([program(), *map(str, passed)], pass_fds=passed, stdin=subprocess.PIPE, stderr=subprocess.PIPE)
+        self.process = subprocess.Popen([program(), *([carrier] if carrier else []), *map(str, passed)], pass_fds=passed, stdin=subprocess.PIPE, stderr=subprocess.PIPE)
         assert self.process.stdin
         self.process.stdin.write(f"transcript {most} {self.transcript}\n{plan}".encode())
         self.process.stdin.close()

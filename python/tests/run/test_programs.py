@@ -86,16 +86,36 @@ class OfTcp(Behind):
 class OfDownloads(Behind):
     @needs("curl")
     def test_a_download_from_a_server_beside_it(self) -> None:
-        """1,000,000 bytes at 8 Mbit/s take 1.036 s with their headers, after two round trips of 40 ms."""
+        """1,000,000 bytes at 8 Mbit/s take 1.036 s with their headers, after two round trips of 40 ms. They come as they are."""
+        data = os.urandom(10**6)
         with open(f"{self.folder}/data", "wb") as file:
-            file.write(bytes(10**6))
+            file.write(data)
         serve = f"cd {self.folder} && exec {sys.executable} -m http.server 8080 2>/dev/null >&2"
         done = run("--up", "20ms", "--down", "8Mbit/s 20ms queue 100", "--server", serve, "--",
-                   "curl", "-s", "-o", "/dev/null", "-w", "%{size_download} %{time_total}", "http://server:8080/data")
-        size, seconds = done.stdout.split()
-        self.assertEqual((done.returncode, size), (0, "1000000"), done.stderr)
-        self.assertGreaterEqual(float(seconds), 1.036 + 0.08)
-        self.assertLess(float(seconds), 1.6)
+                   "curl", "-s", "-o", f"{self.folder}/got", "-w", "%{time_total}", "http://server:8080/data")
+        self.assertEqual(done.returncode, 0, done.stderr)
+        with open(f"{self.folder}/got", "rb") as file:
+            self.assertTrue(file.read() == data)
+        self.assertGreaterEqual(float(done.stdout), 1.036 + 0.08)
+        self.assertLess(float(done.stdout), 1.6)
+
+    @needs("curl")
+    def test_a_fast_download_comes_as_packets_of_the_link(self) -> None:
+        """What the system hands over in one piece is cut to the interface's longest packets, in either family, and is whole at the end."""
+        data = os.urandom(2 * 10**7)
+        with open(f"{self.folder}/data", "wb") as file:
+            file.write(data)
+        serve = f"cd {self.folder} && exec {sys.executable} -m http.server 8080 --bind :: 2>/dev/null >&2"
+        for name in ("10.8.0.2", "[fd08::2]"):
+            done, told = self.summary("--up", "1ms", "--down", "1ms", "--mtu", "1400", "--transcript", f"{self.folder}/h", "--server", serve, "--",
+                                      "curl", "-s", "-o", f"{self.folder}/got", f"http://{name}:8080/data")
+            self.assertEqual(done.returncode, 0, done.stderr)
+            with open(f"{self.folder}/got", "rb") as file:
+                self.assertTrue(file.read() == data)
+            with open(f"{self.folder}/h") as history:
+                lengths = [int(text) for text in found(r"^c,0,submit,pipe,2,(?:[^,]*,){5}(\d+),", history.read())]
+            self.assertEqual((max(lengths), len(lengths)), (1400, told["down"]["came"]))
+            audited_as_lawful(self, f"{self.folder}/h")
 
     @needs("dnsmasq", "dig")
     def test_a_name_is_asked_for(self) -> None:

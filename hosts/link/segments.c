@@ -1,0 +1,76 @@
+#include "segments.h"
+
+#include <stdint.h>
+#include <string.h>
+
+enum { IPV4_LENGTH = 2, IPV4_NUMBER = 4, IPV4_CHECKSUM = 10, IPV6_HEADER = 40, IPV6_LENGTH = 4 };
+enum { TCP_SEQUENCE = 4, TCP_OFFSET = 12, TCP_FLAGS = 13, TCP_CHECKSUM = 16, TCP_SHORTEST = 20 };
+enum { FIN = 1, PUSH = 8, WINDOW_REDUCED = 128 };
+
+static unsigned two(const unsigned char *at) { return (unsigned)at[0] << 8 | at[1]; }
+
+static void put_two(unsigned char *at, unsigned number) { at[0] = (unsigned char)(number >> 8), at[1] = (unsigned char)number; }
+
+/* A sum of the checksum's kind, of 16 bits. */
+static unsigned folded(unsigned long sum) {
+    while (sum >> 16) sum = (sum & 0xffff) + (sum >> 16);
+    return (unsigned)sum;
+}
+
+static bool is_to_be_cut(const struct virtio_net_hdr *note) {
+    int kind = note->gso_type & ~VIRTIO_NET_HDR_GSO_ECN;
+    return (kind == VIRTIO_NET_HDR_GSO_TCPV4 || kind == VIRTIO_NET_HDR_GSO_TCPV6) && note->gso_size > 0;
+}
+
+/* Bytes before the data of TCP: all of what isn't cut. */
+static size_t headers_of(const struct whole *whole) {
+    size_t start = whole->note.csum_start;
+    if (!is_to_be_cut(&whole->note) || start + TCP_SHORTEST > whole->len) return whole->len;
+    size_t before = start + (whole->bytes[NOTE + start + TCP_OFFSET] >> 4) * 4u;
+    return before < whole->len && before <= LONGEST_HEADERS ? before : whole->len;
+}
+
+void begin_cutting(struct whole *whole, size_t len) {
+    memcpy(&whole->note, whole->bytes, NOTE);
+    whole->len = len, whole->cut = 0, whole->has_another = true;
+    whole->before = headers_of(whole);
+    if (whole->before < len) memcpy(whole->headers, whole->bytes + NOTE, whole->before);
+}
+
+/* The length in the IP header, the number of an IPv4 packet, and the checksum of its header. */
+static void fit_ip(unsigned char *ip, size_t len, size_t number) {
+    unsigned long sum = 0;
+    if (ip[0] >> 4 == 6) {
+        put_two(ip + IPV6_LENGTH, (unsigned)(len - IPV6_HEADER));
+        return;
+    }
+    put_two(ip + IPV4_LENGTH, (unsigned)len);
+    put_two(ip + IPV4_NUMBER, two(ip + IPV4_NUMBER) + (unsigned)number);
+    put_two(ip + IPV4_CHECKSUM, 0);
+    for (size_t at = 0; at < (ip[0] & 15) * 4u; at += 2) sum += two(ip + at);
+    put_two(ip + IPV4_CHECKSUM, ~folded(sum));
+}
+
+/* The place in the stream, the flags, and in the checksum's place the sum that a card goes on from: it has the length of TCP. */
+static void fit_tcp(unsigned char *tcp, size_t before, bool is_last, size_t whole_length, size_t length) {
+    unsigned long sequence = (unsigned long)two(tcp + TCP_SEQUENCE) << 16 | two(tcp + TCP_SEQUENCE + 2);
+    sequence += before;
+    put_two(tcp + TCP_SEQUENCE, (unsigned)(sequence >> 16)), put_two(tcp + TCP_SEQUENCE + 2, (unsigned)sequence);
+    if (!is_last) tcp[TCP_FLAGS] &= (unsigned char)~(FIN | PUSH);
+    if (before > 0) tcp[TCP_FLAGS] &= (unsigned char)~WINDOW_REDUCED;
+    put_two(tcp + TCP_CHECKSUM, folded(two(tcp + TCP_CHECKSUM) + (0xffff - whole_length % 0x10000) + length));
+}
+
+size_t cut_next(struct whole *whole, unsigned char **packet) {
+    size_t left = whole->len - whole->before - whole->cut, data = left < whole->note.gso_size ? left : whole->note.gso_size;
+    size_t start = whole->note.csum_start, len = whole->before + data;
+    struct virtio_net_hdr note = {.flags = VIRTIO_NET_HDR_F_NEEDS_CSUM, .csum_start = whole->note.csum_start, .csum_offset = whole->note.csum_offset};
+    *packet = whole->bytes + NOTE + whole->cut;
+    whole->has_another = data < left;
+    if (left == 0) return len; /* it isn't to be cut */
+    memcpy(*packet - NOTE, &note, NOTE), memcpy(*packet, whole->headers, whole->before);
+    fit_ip(*packet, len, whole->cut / whole->note.gso_size);
+    fit_tcp(*packet + start, whole->cut, data == left, whole->len - start, len - start);
+    whole->cut += data;
+    return len;
+}

@@ -1,0 +1,28 @@
+/* TCP that the system hands over as one packet, with a note of how a card would cut it. It is cut here: each of its packets has a fate
+   of its own on the link. */
+#ifndef SEGMENTS_H
+#define SEGMENTS_H
+#include <linux/virtio_net.h>
+#include <stdbool.h>
+#include <stddef.h>
+
+enum {
+    NOTE = sizeof(struct virtio_net_hdr), /* bytes before each packet: what is left to a card, as its checksum */
+    LONGEST_WHOLE = 1 << 17,              /* bytes of what the system hands over */
+    LONGEST_HEADERS = 1024                /* bytes before the data of what is cut */
+};
+
+/* What was read, of which packets are handed on where they lie: a later one has its note and headers where the data before it were. */
+struct whole {
+    unsigned char bytes[NOTE + LONGEST_WHOLE], headers[LONGEST_HEADERS]; /* to be read into; those before the data, without the note */
+    struct virtio_net_hdr note;
+    size_t len, before, cut; /* bytes of the packet, those before its data, and how many of the data have been handed on */
+    bool has_another;
+};
+
+/* Begins with what was read: a note, and a packet of `len` bytes. */
+void begin_cutting(struct whole *whole, size_t len);
+
+/* The next packet, behind its note; it is good until the next call. Returns its length. */
+size_t cut_next(struct whole *whole, unsigned char **packet);
+#endif

@@ -1,0 +1,95 @@
+"""TCP that is handed over as one packet is cut as a card would cut it: the host between two sockets, each packet behind its note."""
+
+from __future__ import annotations
+
+import os
+import socket
+import struct
+import unittest
+from typing import Callable
+
+from linked import SEEDS, Linked, audited_as_lawful, found, ip4, needs_host
+
+NOTE = struct.Struct("=BBHHHH")  # struct virtio_net_hdr: flags, kind, headers' length, size, start and offset of the checksum
+CHECKSUM, TCP4, TCP6, ECN = 1, 1, 4, 0x80
+FIN, PUSH, ACK, ECHO, REDUCED = 1, 8, 16, 64, 128
+TCP_CHECKSUM = 16
+TIMES = bytes([1, 1, 8, 10]) + bytes(range(8))  # a time stamp, as most packets have it
+Built = Callable[[int, int, bytes, int], bytes]
+
+
+def summed(data: bytes) -> int:
+    total = sum(struct.unpack(f"!{len(data) // 2}H", data))
+    while total > 0xffff:
+        total = (total & 0xffff) + (total >> 16)
+    return total
+
+
+def tcp(ends: bytes, sequence: int, flags: int, data: bytes) -> bytes:
+    """With the sum of what a card adds the packet's own to: both addresses, the protocol and the length."""
+    length = 20 + len(TIMES) + len(data)
+    begun = summed(ends + struct.pack("!HH", 6, length))
+    return struct.pack("!HHIIBBHHH", 40000, 443, sequence % 2**32, 77, (20 + len(TIMES)) // 4 << 4, flags, 500, begun, 0) + TIMES + data
+
+
+def in_ipv4(sequence: int, flags: int, data: bytes, number: int) -> bytes:
+    """With an option of IP, and a right checksum of the header."""
+    ends = socket.inet_aton("10.8.0.1") + socket.inet_aton("10.8.0.2")
+    inside = tcp(ends, sequence, flags, data)
+    head = struct.pack("!BBHHHBBH", 0x46, 2, 24 + len(inside), number % 2**16, 0x4000, 64, 6, 0) + ends + bytes([1, 1, 1, 0])
+    return head[:10] + struct.pack("!H", 0xffff - summed(head)) + head[12:] + inside
+
+
+def in_ipv6(sequence: int, flags: int, data: bytes, number: int) -> bytes:
+    ends = socket.inet_pton(socket.AF_INET6, "fd08::1") + socket.inet_pton(socket.AF_INET6, "fd08::2")
+    inside = tcp(ends, sequence, flags, data)
+    return struct.pack("!IHBB", 0x6 << 28, len(inside), 6, 64) + ends + inside
+
+
+def noted(packet: bytes, kind: int = 0, size: int = 0) -> bytes:
+    start = 24 if packet[0] >> 4 == 4 else 40
+    return NOTE.pack(CHECKSUM, kind, start + 32 if kind else 0, size, start, TCP_CHECKSUM) + packet
+
+
+@needs_host
+class OfSegments(unittest.TestCase):
+    def through(self, sent: "list[bytes]", expected: int) -> "tuple[list[bytes], str]":
+        """What comes of packets, and the link's history, which is lawful."""
+        link = Linked(SEEDS + "line pipe 1 config delay 1\n", carrier="tun")
+        for packet in sent:
+            link.near.send(packet)
+        got = [link.far.recv(70000) for _ in range(expected)]
+        ended = link.end()
+        audited_as_lawful(self, link.transcript)
+        up = ended.counts.ways[0]
+        self.assertEqual((ended.status, up["came"], sum(up.unread.bins), sum(up.late.bins)), (0, *[expected] * 3))
+        return got, ended.history
+
+    def test_each_packet_is_as_a_card_makes_it(self) -> None:
+        """The place in the stream and the number of the packet go on, beyond their ends too; FIN and PUSH are the last one's, and CWR the first's."""
+        size, sequence, number = 1448, 2**32 - 2000, 2**16 - 2
+        for build, kind, headers in ((in_ipv4, TCP4, 56), (in_ipv6, TCP6, 72)):
+            for length in (size + 1, 3 * size, 40 * size + 7):
+                data = os.urandom(length)
+                whole = build(sequence, ACK | ECHO | PUSH | FIN | REDUCED, data, number)
+                wanted = [noted(build(sequence + at, ACK | ECHO | (PUSH | FIN) * (at + size >= length) | REDUCED * (at == 0), data[at:at + size], number + at // size))
+                          for at in range(0, length, size)]
+                got, history = self.through([noted(whole, kind | ECN, size)], len(wanted))
+                self.assertEqual([NOTE.unpack(one[:10])[:4] for one in got], [(CHECKSUM, 0, 0, 0)] * len(wanted))
+                self.assertEqual(got, wanted)
+                self.assertEqual(found(r",40000,443,(\d+),", history), [str(headers + len(data[at:at + size])) for at in range(0, length, size)])
+
+    def test_segments_shorter_than_their_headers(self) -> None:
+        data = os.urandom(1000)
+        got, _ = self.through([noted(in_ipv4(5, ACK, data, 1), TCP4, 8)], 125)
+        self.assertEqual(got, [noted(in_ipv4(5 + at, ACK, data[at:at + 8], 1 + at // 8)) for at in range(0, 1000, 8)])
+
+    def test_what_is_not_to_be_cut_comes_as_it_is(self) -> None:
+        """Packets with and without a note, a whole one among them, and one whose note doesn't fit it."""
+        data = os.urandom(3000)
+        plain = NOTE.pack(0, 0, 0, 0, 0, 0) + ip4("10.8.0.1", "10.8.0.2", 17, 7, 8, 60000)
+        small, odd = noted(in_ipv4(1, ACK, b"x", 9)), NOTE.pack(CHECKSUM, TCP4, 0, 1448, 65000, TCP_CHECKSUM) + in_ipv4(1, ACK, b"x", 9)
+        sent = [plain, small, noted(in_ipv4(0, ACK, data, 3), TCP4, 1500), small, odd, plain]
+        got, _ = self.through(sent, 7)
+        cut = [noted(in_ipv4(at, ACK, data[at:at + 1500], 3 + at // 1500)) for at in (0, 1500)]
+        self.assertEqual(got, [plain, small, *cut, small, odd, plain])
