@@ -75,14 +75,16 @@ static size_t least_part(void)
 static void deal(void)
 {
     static uint16_t order[BUCKETS];
-    for (size_t bucket = 0; bucket < BUCKETS; bucket++)
-        order[bucket] = (uint16_t)bucket;
-    qsort(order, BUCKETS, sizeof *order, more_rows_first);
-    for (size_t i = 0; i < BUCKETS; i++) {
-        size_t to = order[i] == NO_LINK ? MOST_PARTS : least_part();
+    size_t count = 0;
+    for (size_t bucket = NO_LINK + 1; bucket < BUCKETS; bucket++)
+        if (rows_in[bucket])
+            order[count++] = (uint16_t)bucket;
+    qsort(order, count, sizeof *order, more_rows_first);
+    part_of[NO_LINK] = MOST_PARTS;
+    for (size_t i = 0; i < count; i++) {
+        size_t to = least_part();
         part_of[order[i]] = (uint8_t)to;
-        if (to < MOST_PARTS)
-            parts[to].count += rows_in[order[i]];
+        parts[to].count += rows_in[order[i]];
     }
 }
 

@@ -55,17 +55,38 @@ static const uint8_t *line_end(const uint8_t *at, const uint8_t *to)
     return at;
 }
 
-static void add_row(struct stretch *own, const struct dn_packet *row)
+/* The place of the next row. */
+static struct dn_packet *next_row(struct stretch *own)
 {
     if (own->count == own->room)
         own->rows = grown(own->rows, (own->room += own->room / 2) * sizeof *own->rows);
-    own->rows[own->count++] = *row;
+    return &own->rows[own->count];
+}
+
+static void note_row(struct stretch *own, const struct dn_packet *row)
+{
+    own->count++;
     if (row->moment > own->latest)
         own->latest = row->moment;
     if (!__atomic_load_n(&seen[row->kind][row->number], __ATOMIC_RELAXED))
         __atomic_store_n(&seen[row->kind][row->number], 1, __ATOMIC_RELAXED);
     if (own->count % ROWS_A_STEP == 0)
         step(ROWS_A_STEP);
+}
+
+/* Reads the row at a place, if there is one, and returns where the next one begins. */
+static const uint8_t *read_next(struct stretch *own, const uint8_t *at)
+{
+    const uint8_t *plain = NULL, *end;
+    struct dn_packet *row = next_row(own);
+    if (packets.data + packets.length - at >= LONGEST_PLAIN_ROW && (plain = read_plain_row(at, row))) {
+        note_row(own, row);
+        return plain;
+    }
+    end = line_end(at, own->to);
+    if (end > at && (own->bad_field = read_row(at, end, row)) < 0)
+        note_row(own, row);
+    return end + 1;
 }
 
 static void read_stretch(size_t index)
@@ -75,12 +96,8 @@ static void read_stretch(size_t index)
     own->quotes = memchr(own->from, '"', (size_t)(own->to - own->from)) != NULL;
     own->room = (uint64_t)(own->to - own->from) / LEAST_ROW_BYTES + 16;
     own->rows = grown(NULL, own->room * sizeof *own->rows);
-    for (const uint8_t *at = own->from, *end; at < own->to && own->bad_field < 0; at = end + 1) {
-        struct dn_packet row;
-        end = line_end(at, own->to);
-        if (end > at && (own->bad_field = read_row(at, end, &row)) < 0)
-            add_row(own, &row);
-    }
+    for (const uint8_t *at = own->from; at < own->to && own->bad_field < 0;)
+        at = read_next(own, at);
 }
 
 /* Where the header's line ends; the empty lines and the byte order mark before it are passed over. */

@@ -13,15 +13,28 @@ static const char HEADER[] = "event,row,flow,packet,at,start,due\n";
 static struct text *texts;
 static off_t written; /* -1: standard output can't be written out of order */
 
+static size_t digits_of(uint64_t value)
+{
+    static const uint64_t powers[] = {
+        0, 10, 100, 1000, 10000, 100000, 1000000, 10000000, 100000000, 1000000000, 10000000000, 100000000000, 1000000000000, 10000000000000,
+        100000000000000, 1000000000000000, 10000000000000000, 100000000000000000, 1000000000000000000, 10000000000000000000u};
+    size_t bits = 64 - (size_t)__builtin_clzll(value | 1), least = bits * 1233 >> 12; /* 1233 / 4096 is the logarithm of 2 */
+    return least + (value >= powers[least]);
+}
+
+/* Two digits at a time, from the last. */
 static char *put_digits(char *to, uint64_t value)
 {
-    char digits[24], *at = digits + sizeof digits;
-    do
-        *--at = (char)('0' + value % 10);
-    while (value /= 10);
-    size_t length = (size_t)(digits + sizeof digits - at);
-    memcpy(to, at, length);
-    return to + length;
+    static const char pairs[] = "0001020304050607080910111213141516171819202122232425262728293031323334353637383940414243444546474849"
+                                "5051525354555657585960616263646566676869707172737475767778798081828384858687888990919293949596979899";
+    char *end = to + digits_of(value), *at = end;
+    for (; value >= 100; value /= 100)
+        memcpy(at -= 2, pairs + value % 100 * 2, 2);
+    if (value >= 10)
+        memcpy(at - 2, pairs + value * 2, 2);
+    else
+        at[-1] = (char)('0' + value);
+    return end;
 }
 
 static char *put_field(char *to, uint64_t value)

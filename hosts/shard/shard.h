@@ -74,6 +74,10 @@ void parallel(void (*job)(size_t), size_t count); /* job(0) .. job(count - 1), o
 void begin_phase(const char *name, uint64_t steps);
 void step(uint64_t count); /* of the phase, told on a terminal after two seconds */
 
+/* plain.c */
+enum { LONGEST_PLAIN_ROW = 256 }; /* bytes that read_plain_row looks at, at most */
+const uint8_t *read_plain_row(const uint8_t *at, struct dn_packet *row); /* where the next row begins; NULL: read_row is to read it */
+
 /* rows.c */
 int read_row(const uint8_t *from, const uint8_t *end, struct dn_packet *row); /* -1, or the first bad field */
 
