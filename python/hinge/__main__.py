@@ -22,7 +22,7 @@ COMMANDS = {
     "shard": "a replay of any length on all processors",
     "run": "a command behind an emulated link, in real time",
     "with-clock": "a command whose C code has the simulated clock",
-    "look": "all of these of a live session's transcript",
+    "look": "table, picture and paragraphs of a live session or a history",
     "udp": "a UDP path between two programs through emulated links",
 }
 USAGE = 2  # the exit status
