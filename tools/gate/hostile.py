@@ -25,8 +25,8 @@ KIB = 1024
 Cost = Callable[[str, int, str], int]
 
 
-def written(generator: str, count: int, to: str) -> None:
-    subprocess.run([sys.executable, HOSTILE / generator, str(count), to], check=True)
+def written(generator: str, count: int, to: str, *kind: str) -> None:
+    subprocess.run([sys.executable, HOSTILE / generator, str(count), to, *kind], check=True)
 
 
 def counted(words: list[str], given: str, status: int = 0) -> int:
@@ -44,10 +44,10 @@ def chosen_keys(program: str, flows: int, folder: str) -> int:
     return counted([program, "replay", f"{folder}/chosen.config", f"{folder}/chosen.packets"], "/dev/null")
 
 
-def session(generator: str, program: str, count: int, folder: str) -> int:
+def session(generator: str, program: str, count: int, folder: str, *kind: str) -> int:
     """A live session of chosen calls."""
     calls = f"{folder}/calls"
-    written(generator, count, calls)
+    written(generator, count, calls, *kind)
     return counted([program, "live"], calls)
 
 
@@ -57,6 +57,13 @@ def queue_delete(program: str, flows: int, folder: str) -> int:
 
 def idle_deletes(program: str, count: int, folder: str) -> int:
     return session("idle_deletes.py", program, count, folder)
+
+
+def reset_flows(kind: str) -> Cost:
+    """A session of deletes, each of which reaches one flow with packets and all that were reset before."""
+    def cost(program: str, count: int, folder: str) -> int:
+        return session("reset_flows.py", program, count, folder, kind)
+    return cost
 
 
 def digits(field: str) -> Cost:
@@ -87,6 +94,8 @@ def entries(end: bytes) -> Cost:
 
 CASES: dict[str, Cost] = {
     "flows with chosen keys": chosen_keys, "flows of one deleted queue": queue_delete, "deletes that reach no flow": idle_deletes,
+    "deletes of a queue with a new flow": reset_flows("queue"), "deletes of a queue with a new mask": reset_flows("masks"),
+    "deletes of a pipe with a new flow": reset_flows("pipe"), "deletes of a flow that has sent all": reset_flows("sent"),
     "KiB of digits as a moment": digits("moment"), "KiB of digits as an address": digits("address"),
     "rows that end in CR LF": rows("returns"), "rows behind a byte order mark": rows("mark"),
     "rows behind one in quotes": rows("quoted-first"), "rows in quotes": rows("quoted"),

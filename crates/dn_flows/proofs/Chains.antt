@@ -176,6 +176,7 @@ shortens-none store q = record {
   len = refl;
   capacity = refl;
   counts = (refl, refl);
+  flags = (refl, refl, refl);
 }
 
 pub shortens-more : (old mid new : Packets) (first : Waiting) (q q₁ q' : FlowQueue) → Shortens old q mid q₁ → TakesFront first mid q₁ new q'
@@ -192,6 +193,11 @@ shortens-more old mid new first q q₁ q' s t len capacity = record {
   counts = (
     ap (λ (x : FlowQueue). x.reserved) t.queue_is.2 ∙ s.counts.0,
     ap (λ (x : FlowQueue). x.started) t.queue_is.2 ∙ s.counts.1,
+  );
+  flags = (
+    ap (λ (x : FlowQueue). x.active) t.queue_is.2 ∙ s.flags.0,
+    ap (λ (x : FlowQueue). x.on_pipe) t.queue_is.2 ∙ s.flags.1,
+    ap (λ (x : FlowQueue). x.of_queue) t.queue_is.2 ∙ s.flags.2,
   );
 }
 

@@ -9,7 +9,7 @@ use Rattle.dn_flows.specs.declared.flow_queue.FlowQueue.{FlowQueue}
 use Rattle.dn_flows.specs.declared.unsent.Unsent.{Unsent}
 use Rattle.dn_flows.specs.declared.waiting.Waiting.{Waiting}
 use Rattle.dn_flows.specs.Store.{IsCounted, IsQueue, AreStored, Appends, TakesFront, Lies, Shortens, OnlyOwnLeft, all_with_unsent, state_of, stored_at, with_unsent, waiting_from, new_queue, reserved_one, reservations}
-use Rattle.dn_flows.specs.Table.{FlowState, flow_at, new_flow, lengths, pushed, popped, popped_from, emptied}
+use Rattle.dn_flows.specs.Table.{FlowState, flow_at, new_flow, lengths, pushed, popped, popped_from, emptied, with_place}
 use Rattle.dn_flows.proofs.Appended.{Appended, appended, owner-appended, behind-appended, others-stay-appended}
 use Rattle.dn_flows.proofs.Bytes.{lengths-push, AreShort-push, no_more_than_bytes}
 use Rattle.dn_flows.proofs.Chains.{Stay, Same, stays, same-queue, SamePackets, taken, taken-queue, others-stay-taken, held-first, held-last, short-first}
@@ -47,7 +47,7 @@ stay-queue owner behind owner' behind' old new flow q is stay = (
     last = λ n e. same.keys n (omega arith) ∙ is.last n e;
     counts = subst (λ (ws : List Waiting). IsCounted ws q.len q.bytes) (sym same.waiting) is.counts;
   },
-  λ i. record { backlog = same.waiting i; reserved = q.reserved; lost = 0; full = 0; started = q.started; discarded = 0 },
+  λ i. record { backlog = same.waiting i; reserved = q.reserved; active = q.active; lost = 0; full = 0; started = q.started; discarded = 0 },
 )
   where
     same : Same owner behind owner' behind' old new flow q.front q.len
@@ -75,6 +75,12 @@ changed old new queues flow q q' are owner' behind' there stay is = record {
         let before = sym (get-set-other queues flow g q' ne) ∙ e in
         (stay-queue are.owner are.behind owner' behind' old new g x (are.queues_are g x before) (stay g x.len ne)).0
 
+-- A flow that is set as it was.
+set-read : (flows : List FlowState) (flow : ℕ) → set flows flow (flow_at flows flow) ≡ flows
+set-read [] flow = refl
+set-read (s ∷ flows) zero = refl
+set-read (s ∷ flows) (suc flow) = λ i. s ∷ set-read flows flow i
+
 -- There are as many flows as queues.
 pub as-many-flows : (store : Packets) (queues : List FlowQueue) (unsent : List Unsent) → length (all_with_unsent (map (state_of store) queues) unsent) ≡ length queues
 as-many-flows store queues unsent = length_unsent (map (state_of store) queues) unsent ∙ length-map queues (state_of store)
@@ -86,7 +92,7 @@ module _ (old : Packets) (queues : List FlowQueue) (unsent : List Unsent) (flow 
   abbrev seen : List FlowState
   seen = all_with_unsent (map (state_of old) queues) unsent
 
-  there : slice_get queues flow ≡ Some q
+  pub there : slice_get queues flow ≡ Some q
   there = get-read queues flow q (let e = as-many-flows old queues unsent in omega arith) read
 
   pub queue-is : IsQueue are.owner are.behind old flow q
@@ -176,6 +182,23 @@ module _ (old : Packets) (queues : List FlowQueue) (unsent : List Unsent) (flow 
       now : IsQueue are.owner are.behind new flow q' × (state_of new q' ≡ state_of old q')
       now = stay-queue are.owner are.behind are.owner are.behind old new flow q' (same-queue are.owner are.behind old flow q q' same queue-is) (stay flow q'.len)
 
+  -- The flow joins its lists, which callers don't see.
+  pub listing : (new : Packets) (q' : FlowQueue) → q' ≡ record q { on_pipe = q'.on_pipe; of_queue = q'.of_queue } → ((key : ℕ) → get new key ≡ get old key)
+      → AreStored new (set queues flow q') × (all_with_unsent (map (state_of new) (set queues flow q')) unsent ≡ seen)
+  listing new q' is same-packets = (a.stored, a.states ∙ set-read seen flow)
+    where
+      a : After new q' (flow_at seen flow)
+      a = counting new q' (λ s. s) (λ u s. refl) same-packets (ap (λ (x : FlowQueue). x.front) is, ap (λ (x : FlowQueue). x.back) is, ap (λ (x : FlowQueue). x.len) is, ap (λ (x : FlowQueue). x.bytes) is)
+          (λ i. record { backlog = waiting_from old (is i).front (is i).len; reserved = (is i).reserved; active = (is i).active; lost = 0; full = 0; started = (is i).started; discarded = 0 })
+
+  -- A place is reserved for it.
+  pub placing : (new : Packets) (q' : FlowQueue) → q' ≡ record q { on_pipe = q'.on_pipe; of_queue = q'.of_queue } → ((key : ℕ) → get new key ≡ get old key)
+      → After new (record q' { reserved = true }) (with_place (flow_at seen flow))
+  placing new q' is same-packets =
+      counting new (record q' { reserved = true }) with_place (λ u s. refl) same-packets
+      (ap (λ (x : FlowQueue). x.front) is, ap (λ (x : FlowQueue). x.back) is, ap (λ (x : FlowQueue). x.len) is, ap (λ (x : FlowQueue). x.bytes) is)
+      (λ i. record { backlog = waiting_from old (is i).front (is i).len; reserved = true; active = (is i).active; lost = 0; full = 0; started = (is i).started; discarded = 0 })
+
   -- A packet joins.
   pub pushing : (new : Packets) (w : Waiting) (q' : FlowQueue) → Appends w old q new q' → 1 ≤ w.len → w.len ≤ 65535
       → sum (lengths (flow_at seen flow).backlog) + w.len < 2 ^ 32 → After new q' (pushed w (flow_at seen flow))
@@ -187,6 +210,7 @@ module _ (old : Packets) (queues : List FlowQueue) (unsent : List Unsent) (flow 
       ((λ i. record {
         backlog = now.waiting i;
         reserved = (a.queue_is i).reserved;
+        active = (a.queue_is i).active;
         lost = 0;
         full = 0;
         started = (a.queue_is i).started;
@@ -217,7 +241,7 @@ module _ (old : Packets) (queues : List FlowQueue) (unsent : List Unsent) (flow 
 
   -- The first packet starts.
   pub popping : (new : Packets) (first : Waiting) (q' q'' : FlowQueue) → TakesFront first old q new q' → SamePackets q' q''
-      → (q''.reserved ≡ q.reserved) × (q''.started ≡ q.started + 1) → After new q'' (popped (flow_at seen flow))
+      → (q''.reserved ≡ q.reserved) × (q''.started ≡ q.started + 1) × (q''.active ≡ q.active) → After new q'' (popped (flow_at seen flow))
   popping new first q' q'' t same counts = after new q'' popped start-leaves
       (changed old new queues flow q q'' are are.owner are.behind there
       (λ g n ne. others-stay-taken are.owner are.behind old new first q q' flow t queue-is g n ne)
@@ -225,6 +249,7 @@ module _ (old : Packets) (queues : List FlowQueue) (unsent : List Unsent) (flow 
       ((λ i. record {
         backlog = waiting_from new (same.0 i) (same.2 i);
         reserved = counts.0 i;
+        active = counts.2 i;
         lost = 0;
         full = 0;
         started = counts.1 i;
@@ -250,19 +275,20 @@ module _ (old : Packets) (queues : List FlowQueue) (unsent : List Unsent) (flow 
   lies-here = record { owner = are.owner; behind = are.behind; flow = flow; is = queue-is }
 
   -- All packets leave, and are counted beside the queue.
-  pub emptying : (new : Packets) (q' : FlowQueue) (u : Unsent) → Shortens old q new q' → q'.len ≡ 0 → length unsent ≡ length queues
+  pub emptying : (new : Packets) (q₁ q' : FlowQueue) (u : Unsent) → Shortens old q new q₁ → q' ≡ record q₁ { active = false } → q'.len ≡ 0 → length unsent ≡ length queues
       → u ≡ get_or unsent flow u
       → AreStored new (set queues flow q') × (all_with_unsent (map (state_of new) (set queues flow q')) (set unsent flow (record u { discarded = u.discarded + q.len })) ≡ set seen flow (emptied (flow_at seen flow)))
-  emptying new q' u s none same is = (
+  emptying new q₁ q' u s after none same is = (
     there-after.stored,
     ap (λ (states : List FlowState). all_with_unsent states (set unsent flow counted)) there-after.states
         ∙ both-set (map (state_of old) queues) unsent flow counted (state_of new q') as-many
         ∙ ap (set seen flow) ((λ i. record {
           backlog = waiting_from new q'.front (none i);
-          reserved = s.counts.0 i;
+          reserved = (ap (λ (x : FlowQueue). x.reserved) after ∙ s.counts.0) i;
+          active = (after i).active;
           lost = u.lost;
           full = u.full;
-          started = s.counts.1 i;
+          started = (ap (λ (x : FlowQueue). x.started) after ∙ s.counts.1) i;
           discarded = u.discarded + queue-is.counts.many i;
         }) ∙ ap (λ (t : FlowState). emptied (with_unsent u t)) (sym read-state) ∙ ap emptied (sym (read-counts (map (state_of old) queues) unsent flow u as-many within is))),
   )
@@ -273,11 +299,16 @@ module _ (old : Packets) (queues : List FlowQueue) (unsent : List Unsent) (flow 
       as-many : length unsent ≡ length (map (state_of old) queues)
       as-many = same ∙ sym (length-map queues (state_of old))
 
-      left : OnlyOwnLeft are.owner are.behind flow new q' old
+      left : OnlyOwnLeft are.owner are.behind flow new q₁ old
       left = s.leaves are.owner are.behind flow queue-is
 
+      same-packets : SamePackets q₁ q'
+      same-packets = (ap (λ (x : FlowQueue). x.front) after, ap (λ (x : FlowQueue). x.back) after, ap (λ (x : FlowQueue). x.len) after, ap (λ (x : FlowQueue). x.bytes) after)
+
       there-after : Changed old new queues flow q'
-      there-after = changed old new queues flow q q' are are.owner are.behind there (λ g n ne key stored held own lt. (left.others key stored held (λ e. ne (sym own ∙ e)), own, refl)) left.is
+      there-after =
+          changed old new queues flow q q' are are.owner are.behind there (λ g n ne key stored held own lt. (left.others key stored held (λ e. ne (sym own ∙ e)), own, refl))
+          (same-queue are.owner are.behind new flow q₁ q' same-packets left.is)
 
 -- ---- A queue is added or taken out
 

@@ -1,11 +1,13 @@
 -- How the queues lie in the store of all packets: each is a chain, in which every packet names the key of the one behind it.
-use Rattle.std.specs.Prelude.{ℕ, zero, suc, ◌≡◌, ◌≢◌, ◌⊎◌, false, cond, nat_eq, ◌+◌, ◌<◌, ◌≤◌, ◌^◌, ⊤, List, [], ◌∷◌, Option, Some, None, length, sum, slice_get}
+use Rattle.std.specs.Prelude.{ℕ, zero, suc, ◌≡◌, ◌≢◌, ◌⊎◌, true, false, cond, nat_eq, ◌+◌, ◌<◌, ◌≤◌, ◌^◌, ⊤, List, [], ◌∷◌, Option, Some, None, length, sum, slice_get}
 use Rattle.std.specs.Option.{option_map}
 use Rattle.std.specs.List.{sum_by}
 use Rattle.dn_flows.specs.Packets.{Packets, StoredPacket, HasRoomFor, get, with_next}
 use Rattle.dn_flows.specs.declared.flow_queue.FlowQueue.{FlowQueue}
 use Rattle.dn_flows.specs.declared.unsent.Unsent.{Unsent}
 use Rattle.dn_flows.specs.declared.waiting.Waiting.{Waiting}
+use Rattle.dn_types.specs.declared.target.Target.{Target}
+use Rattle.dn_types.specs.declared.target.Target.TheVariants.{Pipe as ToPipe, Queue as ToQueue}
 use Rattle.dn_flows.specs.Table.{FlowState, lengths}
 
 -- Each packet has 1 to 65535 bytes.
@@ -40,15 +42,15 @@ key_after store key (suc n) = key_after store ((stored_at store key).next) n
 
 -- The queue without a packet, and none of whose packets started.
 abbrev pub new_queue : FlowQueue
-new_queue = record { front = 0; back = 0; len = 0; bytes = 0; reserved = false; started = 0 }
+new_queue = record { front = 0; back = 0; len = 0; bytes = 0; reserved = false; active = false; on_pipe = false; of_queue = false; started = 0 }
 
 -- What callers see of the flow with the queue, but for the counts of packets that are never sent.
 abbrev pub state_of : Packets → FlowQueue → FlowState
-state_of store q = record { backlog = waiting_from store q.front q.len; reserved = q.reserved; lost = 0; full = 0; started = q.started; discarded = 0 }
+state_of store q = record { backlog = waiting_from store q.front q.len; reserved = q.reserved; active = q.active; lost = 0; full = 0; started = q.started; discarded = 0 }
 
 -- What callers see of a flow with these counts, and of all flows by the counts that lie beside them.
 abbrev pub with_unsent : Unsent → FlowState → FlowState
-with_unsent u s = record { backlog = s.backlog; reserved = s.reserved; lost = u.lost; full = u.full; started = s.started; discarded = u.discarded }
+with_unsent u s = record { backlog = s.backlog; reserved = s.reserved; active = s.active; lost = u.lost; full = u.full; started = s.started; discarded = u.discarded }
 
 abbrev pub all_with_unsent : List FlowState → List Unsent → List FlowState
 all_with_unsent [] unsent = []
@@ -83,6 +85,11 @@ reservations queues = sum_by reserved_one queues
 abbrev pub HasReserved : Packets → List FlowQueue → ℕ → Type 0
 HasReserved store queues reserved = (reserved ≡ reservations queues) × HasRoomFor store reserved
 
+-- The queue of a flow that leaves the list of a target, and lets go of the place that was reserved.
+abbrev pub without_list : Target → FlowQueue → FlowQueue
+without_list (ToPipe pipe) q = record q { reserved = false; on_pipe = false }
+without_list (ToQueue queue) q = record q { reserved = false; of_queue = false }
+
 -- ---- What the calls on a queue do to the store
 
 -- A packet joins the end of a queue: it lies under a key that was free, and the packet before it names that key.
@@ -93,7 +100,7 @@ pub record Appends (w : Waiting) (old : Packets) (q : FlowQueue) (new : Packets)
   pub put : get new key ≡ Some (record { waiting = w; next = next })
   pub named : (n : ℕ) → q.len ≡ suc n → q.back ≢ key → get new q.back ≡ option_map (with_next key) (get old q.back)
   pub others : (other : ℕ) → other ≢ key → (q.len ≡ 0) ⊎ (other ≢ q.back) → get new other ≡ get old other
-  pub queue_is : q' ≡ record q { front = cond (nat_eq q.len 0) key q.front; back = key; len = q.len + 1; bytes = q.bytes + w.len; reserved = false }
+  pub queue_is : q' ≡ record q { front = cond (nat_eq q.len 0) key q.front; back = key; len = q.len + 1; bytes = q.bytes + w.len; reserved = false; active = true }
 
 -- The first packet of a queue leaves the store.
 pub record TakesFront (first : Waiting) (old : Packets) (q : FlowQueue) (new : Packets) (q' : FlowQueue) : Type 0 where
@@ -121,3 +128,4 @@ pub record Shortens (old : Packets) (q : FlowQueue) (new : Packets) (q' : FlowQu
   pub len : new.len + q.len ≡ old.len + q'.len
   pub capacity : new.capacity ≡ old.capacity
   pub counts : (q'.reserved ≡ q.reserved) × (q'.started ≡ q.started)
+  pub flags : (q'.active ≡ q.active) × (q'.on_pipe ≡ q.on_pipe) × (q'.of_queue ≡ q.of_queue)

@@ -15,10 +15,12 @@ use Rattle.dn_flows.specs.declared.verdict.Verdict.{Verdict}
 use Rattle.dn_flows.specs.declared.verdict.Verdict.TheVariants.{Take, Lost, Full}
 
 -- One flow: the packets that wait, in order, whether a place for one more is reserved, and the counts of its packets
--- that were lost, refused by a full queue, started, and discarded by a delete.
+-- that were lost, refused by a full queue, started, and discarded by a delete. It is active where a packet joined since its
+-- packets were last discarded.
 pub record FlowState : Type 0 where
   pub backlog : List Waiting
   pub reserved : Bool
+  pub active : Bool
   pub lost : ℕ
   pub full : ℕ
   pub started : ℕ
@@ -30,7 +32,7 @@ pub record Table : Type 0 where
 
 -- A flow without a packet and with no count.
 abbrev pub new_flow : FlowState
-new_flow = record { backlog = []; reserved = false; lost = 0; full = 0; started = 0; discarded = 0 }
+new_flow = record { backlog = []; reserved = false; active = false; lost = 0; full = 0; started = 0; discarded = 0 }
 
 -- The flow with a number, which for a number that no flow has is a new flow.
 abbrev pub flow_at : List FlowState → ℕ → FlowState
@@ -58,30 +60,30 @@ verdict_of loss limit word backlog = cond (is_lost loss word) Lost (cond (is_ful
 
 -- The flow with a place reserved.
 abbrev pub with_place : FlowState → FlowState
-with_place s = record { backlog = s.backlog; reserved = true; lost = s.lost; full = s.full; started = s.started; discarded = s.discarded }
+with_place s = record { backlog = s.backlog; reserved = true; active = s.active; lost = s.lost; full = s.full; started = s.started; discarded = s.discarded }
 
 -- The flow after a packet joined its queue, in the place that was reserved.
 abbrev pub pushed : Waiting → FlowState → FlowState
-pushed w s = record { backlog = s.backlog ++ w ∷ []; reserved = false; lost = s.lost; full = s.full; started = s.started; discarded = s.discarded }
+pushed w s = record { backlog = s.backlog ++ w ∷ []; reserved = false; active = true; lost = s.lost; full = s.full; started = s.started; discarded = s.discarded }
 
 -- The flow after the start of its first packet. Where none waits it is as it was.
 abbrev pub popped_from : List Waiting → FlowState → FlowState
 popped_from [] s = s
-popped_from (w ∷ ws) s = record { backlog = ws; reserved = s.reserved; lost = s.lost; full = s.full; started = s.started + 1; discarded = s.discarded }
+popped_from (w ∷ ws) s = record { backlog = ws; reserved = s.reserved; active = s.active; lost = s.lost; full = s.full; started = s.started + 1; discarded = s.discarded }
 
 abbrev pub popped : FlowState → FlowState
 popped s = popped_from s.backlog s
 
 -- The flow after one more of its packets was lost, or refused by its full queue.
 abbrev pub one_lost : FlowState → FlowState
-one_lost s = record { backlog = s.backlog; reserved = s.reserved; lost = s.lost + 1; full = s.full; started = s.started; discarded = s.discarded }
+one_lost s = record { backlog = s.backlog; reserved = s.reserved; active = s.active; lost = s.lost + 1; full = s.full; started = s.started; discarded = s.discarded }
 
 abbrev pub one_full : FlowState → FlowState
-one_full s = record { backlog = s.backlog; reserved = s.reserved; lost = s.lost; full = s.full + 1; started = s.started; discarded = s.discarded }
+one_full s = record { backlog = s.backlog; reserved = s.reserved; active = s.active; lost = s.lost; full = s.full + 1; started = s.started; discarded = s.discarded }
 
 -- The flow after a delete discarded all packets that waited.
 abbrev pub emptied : FlowState → FlowState
-emptied s = record { backlog = []; reserved = s.reserved; lost = s.lost; full = s.full; started = s.started; discarded = s.discarded + length s.backlog }
+emptied s = record { backlog = []; reserved = s.reserved; active = false; lost = s.lost; full = s.full; started = s.started; discarded = s.discarded + length s.backlog }
 
 -- What is told of the flow with a number and a key.
 abbrev pub status_of : ℕ → FlowKey → FlowState → FlowStatus
@@ -94,12 +96,16 @@ is_on pipe key = nat_eq key.pipe pipe
 abbrev pub is_of : ℕ → FlowKey → Bool
 is_of queue key = target_eq key.target (ToQueue queue)
 
--- Whether the flow with the key is among those of a target: on the pipe, or of the queue.
-abbrev pub is_among : Target → ℕ → FlowKey → Bool
-is_among (ToPipe number) pipe key = is_on pipe key
-is_among (ToQueue queue) pipe key = is_of queue key
+-- Whether the flow with the key is at a target: on the pipe, or of the queue.
+abbrev pub is_at : Target → FlowKey → Bool
+is_at (ToPipe pipe) key = is_on pipe key
+is_at (ToQueue queue) key = is_of queue key
 
--- The places of the elements that pass a test, in order, where the first element stands at `from`.
-abbrev pub places_where : {X : Type 0} → (X → Bool) → ℕ → List X → List ℕ
-places_where test from [] = []
-places_where test from (x ∷ xs) = cond (test x) (from ∷ places_where test (from + 1) xs) (places_where test (from + 1) xs)
+-- The flow is the same but for the place that may have been reserved.
+pub record OnlyUnreserves (old new : FlowState) : Type 0 where
+  pub backlog : new.backlog ≡ old.backlog
+  pub active : new.active ≡ old.active
+  pub lost : new.lost ≡ old.lost
+  pub full : new.full ≡ old.full
+  pub started : new.started ≡ old.started
+  pub discarded : new.discarded ≡ old.discarded

@@ -1,5 +1,5 @@
 ghost use Rattle.std.specs.Prelude.{◌≡◌, ℕ, ◌-◌, ◌<◌, ◌++◌, ◌∷◌, [], cond, length, map, nat_eq, slice_get, take, vec_capacity, vec_items, OnOk, OnErr};
-ghost use Rattle.dn_flows.specs.Members.{list_at};
+ghost use Rattle.dn_flows.specs.Members.{last_of, list_at};
 
 use dn_types::Number;
 use std::alloc::{AllocError, Global};
@@ -81,6 +81,16 @@ impl ByNumber {
         }
         let list = &mut self.lists[place];
         let _ = list.pop();
+    }
+
+    /// The last flow of the list of the number.
+    pub fn last(&self, number: Number) -> Option<usize>
+        ensures { result ≡ last_of (list_at self.now number) }
+    {
+        match self.lists.get(number.get() as usize) {
+            Some(list) => list.last().copied(),
+            None => None,
+        }
     }
 
     /// The flow at a place of the list of the number.

@@ -1,7 +1,7 @@
-ghost use Rattle.std.specs.Prelude.{◌≡◌, ◌+◌, ◌≤◌, ◌<◌, ◌^◌, List, sum, false, IfSome, IfNone, OnSome};
+ghost use Rattle.std.specs.Prelude.{◌≡◌, ◌+◌, ◌≤◌, ◌<◌, ◌^◌, List, sum, true, false, IfSome, IfNone, OnSome};
 ghost use Rattle.dn_types.specs.Drops.{is_full};
 ghost use Rattle.dn_flows.specs.Packets.{ContainsKey, HasRoomFor};
-ghost use Rattle.dn_flows.specs.Store.{Appends, IsCounted, Lies, Shortens, TakesFront, new_queue, stored_at};
+ghost use Rattle.dn_flows.specs.Store.{Appends, IsCounted, Lies, Shortens, TakesFront, new_queue, reserved_one, stored_at, without_list};
 ghost use Rattle.dn_flows.specs.Table.{lengths, verdict_of};
 ghost use Rattle.dn_flows.specs.declared.waiting.Waiting.{Waiting as WaitingValue};
 
@@ -10,7 +10,8 @@ use crate::packet_store::PacketStore;
 use crate::stored::Stored;
 use crate::verdict::Verdict;
 use crate::waiting::Waiting;
-use dn_types::{Limit, Packet};
+use dn_types::{Limit, Packet, Target};
+use std::mem;
 
 /// The queue of one flow, and the count of its packets that started.
 ///
@@ -28,6 +29,12 @@ pub struct FlowQueue {
     ///
     /// A pop and a clear leave it, so that only the push itself uses it up.
     pub reserved: bool,
+    /// Whether a packet joined since the last delete that reached the flow.
+    pub active: bool,
+    /// Whether the flow is in the list of its pipe.
+    pub on_pipe: bool,
+    /// Whether it is in the list of its queue, or of none.
+    pub of_queue: bool,
     pub started: u64,
 }
 
@@ -42,8 +49,31 @@ impl FlowQueue {
             len: 0,
             bytes: 0,
             reserved: false,
+            active: false,
+            on_pipe: false,
+            of_queue: false,
             started: 0,
         }
+    }
+
+    /// Whether the flow is in the lists of its pipe and its queue.
+    pub fn is_listed(&self) -> bool
+        ensures { result ≡ true → (self.now.on_pipe ≡ true) × (self.now.of_queue ≡ true) }
+    {
+        self.on_pipe && self.of_queue
+    }
+
+    /// Lets go of the flow's entry in the list of the target, and of the place that was reserved, and answers how many of those
+    /// there were.
+    pub fn let_go(&mut self, target: &Target) -> usize
+        ensures value { result ≡ reserved_one self.old }
+        ensures lets_go { self.new ≡ without_list target.now self.old }
+    {
+        match target {
+            Target::Pipe(_) => self.on_pipe = false,
+            Target::Queue(_) => self.of_queue = false,
+        }
+        usize::from(mem::replace(&mut self.reserved, false))
     }
 
     /// Loss comes before the limit, so that a packet that is lost anyway doesn't count as refused.
@@ -94,6 +124,7 @@ impl FlowQueue {
         self.len += 1;
         self.bytes += bytes;
         self.reserved = false;
+        self.active = true;
     }
 
     /// Takes the first packet out, if there is one.

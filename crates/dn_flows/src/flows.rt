@@ -1,8 +1,8 @@
 ghost use Rattle.std.specs.Prelude.{false, ◌≡◌, ◌+◌, ◌-◌, ◌<◌, ◌≤◌, ◌^◌, [], take, length, nat_lt, sum, slice_get, slice_set, true, Some, IfOk, OnOk, OnErr, IsOk};
 ghost use Rattle.dn_types.specs.Flows.{flow_number, with_key};
-ghost use Rattle.dn_flows.specs.Table.{flow_at, is_known, flows_with, IsUnused, lengths, verdict_of, with_place, pushed, popped, one_lost, one_full, emptied, status_of, is_of, is_on, places_where};
-ghost use Rattle.dn_flows.specs.Members.{Lists};
+ghost use Rattle.dn_flows.specs.Table.{flow_at, is_known, flows_with, IsUnused, lengths, verdict_of, with_place, pushed, popped, one_lost, one_full, emptied, status_of};
 
+mod active;
 mod find;
 mod pass;
 
@@ -11,13 +11,14 @@ use crate::flow_queue::FlowQueue;
 use crate::hash_key::HashKey;
 use crate::keyed_hash::KeyedHash;
 use crate::keys::{first_with_key, forget_last_key};
+use crate::listed::list;
 use crate::members::Members;
 use crate::packet_store::PacketStore;
 use crate::table_key::TableKey;
 use crate::unsent::Unsent;
 use crate::verdict::Verdict;
 use crate::waiting::Waiting;
-use dn_types::{FlowKey, FlowStatus, Number, Packet};
+use dn_types::{FlowKey, FlowStatus, Packet};
 use indexmap::IndexSet;
 use std::alloc::{AllocError, Global};
 use std::marker::Model;
@@ -43,7 +44,7 @@ pub struct Flows {
 
 impl Model for Flows {
     ghost use Rattle.std.specs.Prelude.{◌≡◌, length, map};
-    ghost use Rattle.dn_flows.specs.Members.{Lists};
+    ghost use Rattle.dn_flows.specs.Members.{AreListed};
     ghost use Rattle.dn_flows.specs.Store.{AreStored, HasReserved, all_with_unsent, state_of};
     ghost use Rattle.dn_flows.specs.Table.{Table};
 
@@ -51,7 +52,7 @@ impl Model for Flows {
 
     ghost view = { λ a. record { keys = a.keys.keys; flows = all_with_unsent (map (state_of a.packets) a.queues.items) a.unsent.items } };
 
-    ghost invariant = { λ a. (length a.keys.keys ≡ length a.queues.items) × HasReserved a.packets a.queues.items a.reserved × AreStored a.packets a.queues.items × (length a.unsent.items ≡ length a.queues.items) × Lists a.keys.keys a.members };
+    ghost invariant = { λ a. (length a.keys.keys ≡ length a.queues.items) × HasReserved a.packets a.queues.items a.reserved × AreStored a.packets a.queues.items × (length a.unsent.items ≡ length a.queues.items) × AreListed a.keys.keys a.queues.items a.members };
 }
 
 impl Flows {
@@ -115,7 +116,8 @@ impl Flows {
         ensures keys { self.new.keys ≡ take (length self.old.keys - 1) self.old.keys }
         ensures flows { self.new.flows ≡ take (length self.old.flows - 1) self.old.flows }
     {
-        forget_last_key(&mut self.keys, &mut self.members);
+        let flow = self.keys.len().saturating_sub(1);
+        forget_last_key(&mut self.keys, &mut self.members, flow);
         let _ = self.unsent.pop();
         if let Some(queue) = self.queues.pop()
             && queue.reserved
@@ -130,20 +132,6 @@ impl Flows {
         ensures { slice_get self.now.keys flow ≡ Some result }
     {
         self.keys.get_index(flow).unwrap().get()
-    }
-
-    /// The flow on the pipe that so many others on it come before, in order of their numbers.
-    pub fn on_pipe(&self, pipe: Number, index: usize) -> Option<usize>
-        ensures { result ≡ slice_get (places_where (is_on pipe) 0 self.now.keys) index }
-    {
-        self.members.on_pipe(pipe, index)
-    }
-
-    /// The flow of the queue that so many others of it come before, in order of their numbers.
-    pub fn of_queue(&self, queue: Number, index: usize) -> Option<usize>
-        ensures { result ≡ slice_get (places_where (is_of queue) 0 self.now.keys) index }
-    {
-        self.members.of_queue(queue, index)
     }
 
     /// The state of the flow, as `Show` answers it.
@@ -189,7 +177,8 @@ impl Flows {
         self.queues[flow].verdict(packet, rule)
     }
 
-    /// Reserves a place in the flow's queue, which stays reserved until the next push to that queue.
+    /// Reserves a place in the flow's queue, which stays reserved until the next push to that queue, or until a delete goes
+    /// through the flows of its pipe or its queue.
     pub fn reserve_place(&mut self, flow: usize) -> Result<(), AllocError>
         requires { flow < length self.old.flows }
         ensures reserved { OnOk result (self.new.flows ≡ slice_set self.old.flows flow (with_place (flow_at self.old.flows flow))) }
@@ -201,6 +190,7 @@ impl Flows {
         if queue.reserved {
             return Ok(());
         }
+        list(&mut self.members, queue, &self.keys, flow)?;
         self.packets.reserve(self.reserved + 1)?;
         queue.reserved = true;
         self.reserved += 1;
@@ -266,6 +256,7 @@ impl Flows {
         let queue = &mut self.queues[flow];
         let count = queue.len as u64;
         queue.clear(&mut self.packets);
+        queue.active = false;
         let unsent = &mut self.unsent[flow];
         unsent.discarded += count;
     }

@@ -2,13 +2,13 @@
 ghost use Rattle.std.specs.Prelude.{◌≡◌, ◌-◌, ◌<◌, false, true, length, slice_get, take, is_some, IfSome};
 ghost use Rattle.std.specs.Option.{option_map_or};
 ghost use Rattle.dn_types.specs.Flows.{flow_number, key_eq};
-ghost use Rattle.dn_flows.specs.Members.{Lists};
+ghost use Rattle.dn_flows.specs.Members.{HasDistinctKeys, KeepsOthers};
 ghost use Rattle.dn_flows.specs.Table.{is_known};
 
 use crate::keyed_hash::KeyedHash;
 use crate::members::Members;
 use crate::table_key::TableKey;
-use dn_types::FlowKey;
+use dn_types::{FlowKey, Target};
 use indexmap::IndexSet;
 
 /// Whether the flow is there and has the key.
@@ -22,7 +22,7 @@ fn has_key(keys: &IndexSet<TableKey, KeyedHash>, flow: usize, key: &TableKey) ->
     }
 }
 
-/// The first flow of the key's target, if it has the key.
+/// The first flow in the list of the key's target, if it has the key.
 ///
 /// It is found without a hash, and if the mask has no bits there is no other, unless the target was configured anew.
 #[inline(always)]
@@ -32,7 +32,7 @@ pub fn first_with_key(
     key: &FlowKey,
     table_key: &TableKey,
 ) -> Option<usize>
-    requires lists { Lists keys.now.keys members.now }
+    requires distinct { HasDistinctKeys keys.now.keys }
     requires same { table_key.now ≡ key.now }
     ensures number { IfSome result (λ flow. flow ≡ flow_number keys.now.keys key.now) }
     ensures known { IfSome result (λ flow. is_known key.now keys.now.keys ≡ true) }
@@ -56,13 +56,14 @@ pub fn flow_by_hash(keys: &IndexSet<TableKey, KeyedHash>, key: &TableKey) -> Opt
     Some(flow)
 }
 
-/// Takes out the last key.
-pub fn forget_last_key(keys: &mut IndexSet<TableKey, KeyedHash>, members: &mut Members)
-    requires { Lists keys.old.keys members.old }
+/// Takes out the last key, and the flow from the lists.
+pub fn forget_last_key(keys: &mut IndexSet<TableKey, KeyedHash>, members: &mut Members, flow: usize)
     ensures keys { keys.new.keys ≡ take (length keys.old.keys - 1) keys.old.keys }
-    ensures members { Lists keys.new.keys members.new }
+    ensures members { KeepsOthers flow members.old members.new }
 {
     if let Some(key) = keys.pop() {
-        members.pop(&key.get());
+        let key = key.get();
+        members.take_out(&Target::Pipe(key.pipe), flow);
+        members.take_out(&key.target, flow);
     }
 }

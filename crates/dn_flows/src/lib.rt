@@ -10,6 +10,7 @@ mod hash_key;
 mod keyed_hash;
 mod keyed_hasher;
 mod keys;
+mod listed;
 mod members;
 mod packet_store;
 mod stored;

@@ -1,15 +1,16 @@
-ghost use Rattle.std.specs.Prelude.{◌≡◌, ◌++◌, ◌∷◌, [], List, length, slice_get, OnOk, OnErr};
-ghost use Rattle.dn_flows.specs.Members.{Lists};
-ghost use Rattle.dn_flows.specs.Table.{is_among, is_of, is_on, places_where};
-ghost use Rattle.dn_types.specs.declared.flow_key.FlowKey.{FlowKey as Key};
+ghost use Rattle.std.specs.Prelude.{◌≡◌, ◌+◌, ◌-◌, ℕ, [], cond, length, take, false, Some, OnOk};
+ghost use Rattle.dn_flows.specs.Members.{IsMember, KeepsMembers, KeepsOthers, last_of, list_of};
+ghost use Rattle.dn_types.specs.Configuration.{target_eq};
+ghost use Rattle.dn_types.specs.declared.target.Target.{Target as TargetValue};
 
 use crate::by_number::ByNumber;
-use dn_types::{FlowKey, Number, Target};
+use dn_types::{FlowKey, Target};
 use std::alloc::{AllocError, Global};
 
-/// The flows on each pipe and those of each queue, in order of their numbers.
+/// The flows on each pipe and those of each queue that a delete goes through.
 ///
-/// So a delete finds the flows that it reaches without a pass over the others.
+/// A flow that a delete has reset leaves the list until it has a packet again, so that a delete costs the flows that have
+/// something to reset.
 #[derive(Drop)]
 pub struct Members {
     pub on_pipes: ByNumber,
@@ -19,7 +20,7 @@ pub struct Members {
 impl Members {
     /// Of no flow. It takes no memory.
     pub fn new(alloc: Global) -> Members
-        ensures { Lists [] result }
+        ensures { (target : TargetValue) → list_of target result ≡ [] }
     {
         Members {
             on_pipes: ByNumber::new(alloc),
@@ -27,53 +28,55 @@ impl Members {
         }
     }
 
-    /// Adds a flow, whose number is above those of all others.
-    pub fn push(&mut self, key: &FlowKey, flow: usize) -> Result<(), AllocError>
-        ensures ok { OnOk result ((keys : List Key) → Lists keys self.old → flow ≡ length keys → Lists (keys ++ key.now ∷ []) self.new) }
-        ensures err { OnErr result ((keys : List Key) → Lists keys self.old → Lists keys self.new) }
+    /// Puts the flow at the end of the target's list.
+    pub fn push(&mut self, target: &Target, flow: usize) -> Result<(), AllocError>
+        ensures joins { OnOk result (IsMember target.now flow self.new) }
+        ensures keeps { KeepsMembers self.old self.new }
     {
-        self.on_pipes.push(key.pipe, flow)?;
-        let Target::Queue(queue) = key.target else {
-            return Ok(());
-        };
-        if self.of_queues.push(queue, flow).is_err() {
-            self.on_pipes.pop(key.pipe);
-            return Err(AllocError);
-        }
-        Ok(())
-    }
-
-    /// Takes out the flow that was added last.
-    pub fn pop(&mut self, key: &FlowKey)
-        ensures { (keys : List Key) → Lists (keys ++ key.now ∷ []) self.old → Lists keys self.new }
-    {
-        self.on_pipes.pop(key.pipe);
-        if let Target::Queue(queue) = key.target {
-            self.of_queues.pop(queue);
+        match target {
+            Target::Pipe(pipe) => self.on_pipes.push(*pipe, flow),
+            Target::Queue(queue) => self.of_queues.push(*queue, flow),
         }
     }
 
-    /// The flow on the pipe that so many others on it come before.
-    pub fn on_pipe(&self, pipe: Number, index: usize) -> Option<usize>
-        ensures { (keys : List Key) → Lists keys self.now → result ≡ slice_get (places_where (is_on pipe) 0 keys) index }
+    /// The flow at the end of the target's list.
+    pub fn last(&self, target: &Target) -> Option<usize>
+        ensures { result ≡ last_of (list_of target.now self.now) }
     {
-        self.on_pipes.get(pipe, index)
+        match target {
+            Target::Pipe(pipe) => self.on_pipes.last(*pipe),
+            Target::Queue(queue) => self.of_queues.last(*queue),
+        }
     }
 
-    /// The flow of the queue that so many others of it come before.
-    pub fn of_queue(&self, queue: Number, index: usize) -> Option<usize>
-        ensures { (keys : List Key) → Lists keys self.now → result ≡ slice_get (places_where (is_of queue) 0 keys) index }
-    {
-        self.of_queues.get(queue, index)
-    }
-
-    /// The first flow of the key's queue or, where its target is the pipe, on that.
-    pub fn first(&self, key: &FlowKey) -> Option<usize>
-        ensures { (keys : List Key) → Lists keys self.now → result ≡ slice_get (places_where (is_among key.now.target key.now.pipe) 0 keys) 0 }
-    {
+    /// A flow of the key's target that is likely to have the key: the first in the target's list.
+    pub fn first(&self, key: &FlowKey) -> Option<usize> {
         match key.target {
-            Target::Pipe(_) => self.on_pipe(key.pipe, 0),
-            Target::Queue(queue) => self.of_queue(queue, 0),
+            Target::Pipe(_) => self.on_pipes.get(key.pipe, 0),
+            Target::Queue(queue) => self.of_queues.get(queue, 0),
+        }
+    }
+
+    /// Takes the last flow out of the list of the target.
+    fn pop(&mut self, target: &Target)
+        ensures { (other : TargetValue) → list_of other self.new ≡ cond (target_eq target.now other) (take (length (list_of other self.old) - 1) (list_of other self.old)) (list_of other self.old) }
+    {
+        match target {
+            Target::Pipe(pipe) => self.on_pipes.pop(*pipe),
+            Target::Queue(queue) => self.of_queues.pop(*queue),
+        }
+    }
+
+    /// Takes the flow out of the end of the target's list, if it is there.
+    pub fn take_out(&mut self, target: &Target, flow: usize)
+        ensures keeps { KeepsOthers flow self.old self.new }
+        ensures others { (other : TargetValue) → target_eq target.now other ≡ false → list_of other self.new ≡ list_of other self.old }
+        ensures fewer { last_of (list_of target.now self.old) ≡ Some flow → length (list_of target.now self.new) + 1 ≡ length (list_of target.now self.old) }
+    {
+        if let Some(last) = self.last(target)
+            && last == flow
+        {
+            self.pop(target);
         }
     }
 }

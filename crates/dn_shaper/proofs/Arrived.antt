@@ -1,5 +1,5 @@
 -- All parts agree with the arrival of a packet at its flow's queue.
-use Rattle.std.proofs.Common.{◌≡◌, ◌∙◌, ◌<◌, ◌⊎◌, ℕ, ◌+◌, Bool, true, false, cond, ◌&&◌, List, [], ◌∷◌, ◌++◌, map, set, refl, ap, sym, subst, length, arith, inl, inr}
+use Rattle.std.proofs.Common.{◌≡◌, ◌∙◌, ◌<◌, ◌⊎◌, ℕ, ◌+◌, Bool, true, false, cond, ◌&&◌, ◌||◌, List, [], ◌∷◌, ◌++◌, map, set, refl, ap, sym, subst, length, arith, inl, inr}
 use Rattle.std.specs.Prelude.{Some, nat_eq, slice_get}
 use Rattle.std.proofs.lemmas.Bool.{cases_eq}
 use Rattle.dn_types.specs.Wf2q.{Stamped}
@@ -14,7 +14,7 @@ use Rattle.dn_flows.specs.declared.waiting.Waiting.{Waiting}
 use Rattle.dn_flows.proofs.Views.{flow_after_set}
 use Rattle.dn_shaper.specs.declared.links.home.Home.{Home}
 use Rattle.dn_shaper.specs.Refinement.Views.{LinkView, home, as_queued, stamped_of, slotted}
-use Rattle.dn_shaper.specs.Refinement.Agreement.{AreDistinct, IsAt, IsLinkAt, IsFlowAt, IsScheduleAt, IsSlotAt, link_names}
+use Rattle.dn_shaper.specs.Refinement.Agreement.{AreDistinct, IsAt, IsLinkAt, IsFlowAt, IsScheduleAt, IsSlotAt, is_active, link_names}
 use Rattle.dn_shaper.proofs.Events.{uncounted, counted-once, read-set, append-none, length-set}
 use Rattle.dn_flows.proofs.Places.{eq-no, eq-yes, get-set, get-set-other, map-set-same, get-below}
 use Rattle.dn_types.proofs.Settled.{link_eq-refl}
@@ -169,6 +169,7 @@ module _ (rule : Rule) (accepted : ℕ) (keys : List FlowKey) (homes : List Home
               full_is = ap (λ (x : FlowState). x.full) is ∙ b.full_is ∙ sym (uncounted (is_refusal_of g) (arrived p) trace refl);
               started_is = ap (λ (x : FlowState). x.started) is ∙ b.started_is ∙ sym (uncounted (is_start_of g) (arrived p) trace refl);
               discarded_is = ap (λ (x : FlowState). x.discarded) is ∙ b.discarded_is;
+              active_is = ap (λ (x : FlowState). x.active) is ∙ sym (ap (λ t. t || is_active g trace) (ap (λ n. nat_eq n g) flow_is ∙ eq-yes flow g same));
             }
         by (inr ne) =
             let is : flow_at (set flows flow (pushed (as_queued p) (flow_at flows flow))) g ≡ flow_at flows g = now_at
@@ -183,6 +184,7 @@ module _ (rule : Rule) (accepted : ℕ) (keys : List FlowKey) (homes : List Home
               full_is = ap (λ (x : FlowState). x.full) is ∙ b.full_is ∙ sym (uncounted (is_refusal_of g) (arrived p) trace refl);
               started_is = ap (λ (x : FlowState). x.started) is ∙ b.started_is ∙ sym (uncounted (is_start_of g) (arrived p) trace refl);
               discarded_is = ap (λ (x : FlowState). x.discarded) is ∙ b.discarded_is;
+              active_is = ap (λ (x : FlowState). x.active) is ∙ b.active_is ∙ sym (ap (λ t. t || is_active g trace) (ap (λ n. nat_eq n g) flow_is ∙ eq-no flow g ne));
             }
 
     elsewhere_after : (g : ℕ) (l : Link) → link_eq (home keys g) l ≡ false → backlog l g (arrived p ∷ trace) ≡ []

@@ -25,7 +25,7 @@ nothing-agrees rule = record {
   distinct = λ i j l m e f ne. absurd cc;
   views_are = λ k v e. absurd cc;
   untouched = λ l e. record { free_is = refl; last_due_is = refl; virtual_time_is = refl };
-  flows_are = λ g. record { backlog_is = refl; lost_is = refl; full_is = refl; started_is = refl; discarded_is = refl };
+  flows_are = λ g. record { backlog_is = refl; lost_is = refl; full_is = refl; started_is = refl; discarded_is = refl; active_is = refl };
   as_many = refl;
   elsewhere = λ g l e. refl;
   bound = omega arith;

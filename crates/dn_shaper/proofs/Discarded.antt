@@ -13,7 +13,7 @@ use Rattle.dn_flows.specs.declared.waiting.Waiting.{Waiting}
 use Rattle.dn_flows.proofs.Views.{flow_after_set}
 use Rattle.dn_shaper.specs.declared.links.home.Home.{Home}
 use Rattle.dn_shaper.specs.Refinement.Views.{LinkView, home, as_queued, stamped_of, slotted}
-use Rattle.dn_shaper.specs.Refinement.Agreement.{AreDistinct, IsAt, IsLinkAt, IsFlowAt, IsScheduleAt, IsSlotAt, link_names}
+use Rattle.dn_shaper.specs.Refinement.Agreement.{AreDistinct, IsAt, IsLinkAt, IsFlowAt, IsScheduleAt, IsSlotAt, is_active, link_names}
 use Rattle.dn_shaper.proofs.Events.{uncounted, length-set}
 use Rattle.dn_flows.proofs.Places.{eq-no, eq-yes, get-set, get-set-other, map-set-same, get-below}
 use Rattle.dn_types.proofs.Settled.{link_eq-refl}
@@ -171,6 +171,7 @@ module _ (rule : Rule) (accepted : ℕ) (keys : List FlowKey) (homes : List Home
               full_is = ap (λ (x : FlowState). x.full) is ∙ b.full_is ∙ sym (uncounted (is_refusal_of g) (discarded flow) trace refl);
               started_is = ap (λ (x : FlowState). x.started) is ∙ b.started_is ∙ sym (uncounted (is_start_of g) (discarded flow) trace refl);
               discarded_is = omega arith;
+              active_is = ap (λ (x : FlowState). x.active) is ∙ sym (ap (λ t. cond t false (is_active g trace)) (eq-yes flow g same));
             }
         by (inr ne) =
             let is : flow_at (set flows flow (emptied (flow_at flows flow))) g ≡ flow_at flows g = now_at ∙ ap (λ b. cond b (emptied (flow_at flows flow)) (flow_at flows g)) (eq-no flow g ne) in
@@ -184,6 +185,7 @@ module _ (rule : Rule) (accepted : ℕ) (keys : List FlowKey) (homes : List Home
               full_is = ap (λ (x : FlowState). x.full) is ∙ b.full_is ∙ sym (uncounted (is_refusal_of g) (discarded flow) trace refl);
               started_is = ap (λ (x : FlowState). x.started) is ∙ b.started_is ∙ sym (uncounted (is_start_of g) (discarded flow) trace refl);
               discarded_is = omega arith;
+              active_is = ap (λ (x : FlowState). x.active) is ∙ b.active_is ∙ sym (ap (λ t. cond t false (is_active g trace)) (eq-no flow g ne));
             }
 
     pub discarded-agrees : IsAt rule accepted keys homes (set views k v') (set flows flow (emptied (flow_at flows flow))) pending more (discarded flow ∷ trace)

@@ -40,6 +40,7 @@ pub mod Putting
 pub mod QueueCounts
 pub mod Quiet
 pub mod Reached
+pub mod Reordered
 pub mod Replying
 pub mod Reserved
 pub mod Reserving

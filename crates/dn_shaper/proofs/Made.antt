@@ -82,6 +82,7 @@ module _ (rule : Rule) (accepted : ℕ) (keys : List FlowKey) (homes : List Home
             full_is = s.full ∙ b.full_is;
             started_is = s.started ∙ b.started_is;
             discarded_is = dc;
+            active_is = s.active ∙ b.active_is;
           }
 
           by : (g ≡ flow) ⊎ (g ≡ flow → ⊥) → IsFlowAt (home keys_now g) g trace (flow_at flows' g)

@@ -95,6 +95,7 @@ module _ (rule : Rule) (accepted : ℕ) (keys : List FlowKey) (homes : List Home
         full_is = b.full_is ∙ sym (uncounted (is_refusal_of g) (opened v.link) trace refl);
         started_is = b.started_is ∙ sym (uncounted (is_start_of g) (opened v.link) trace refl);
         discarded_is = b.discarded_is;
+        active_is = b.active_is;
       };
       as_many = a.as_many;
       elsewhere = a.elsewhere;

@@ -40,6 +40,7 @@ module _ (rule : Rule) (accepted : ℕ) (keys : List FlowKey) (homes : List Home
               full_is = ap (λ (x : FlowState). x.full) is ∙ b.full_is ∙ sym (uncounted (is_refusal_of g) (lost (home keys flow) flow) trace refl);
               started_is = ap (λ (x : FlowState). x.started) is ∙ b.started_is ∙ sym (uncounted (is_start_of g) (lost (home keys flow) flow) trace refl);
               discarded_is = ap (λ (x : FlowState). x.discarded) is ∙ b.discarded_is;
+              active_is = ap (λ (x : FlowState). x.active) is ∙ b.active_is;
             }
         by (inr ne) =
             let is : flow_at (set flows flow (one_lost (flow_at flows flow))) g ≡ flow_at flows g = now_at ∙ ap (λ b. cond b (one_lost (flow_at flows flow)) (flow_at flows g)) (eq-no flow g ne) in
@@ -50,6 +51,7 @@ module _ (rule : Rule) (accepted : ℕ) (keys : List FlowKey) (homes : List Home
               full_is = ap (λ (x : FlowState). x.full) is ∙ b.full_is ∙ sym (uncounted (is_refusal_of g) (lost (home keys flow) flow) trace refl);
               started_is = ap (λ (x : FlowState). x.started) is ∙ b.started_is ∙ sym (uncounted (is_start_of g) (lost (home keys flow) flow) trace refl);
               discarded_is = ap (λ (x : FlowState). x.discarded) is ∙ b.discarded_is;
+              active_is = ap (λ (x : FlowState). x.active) is ∙ b.active_is;
             }
 
     pub lost-agrees : IsAt rule accepted keys homes views (set flows flow (one_lost (flow_at flows flow))) pending [] (lost (home keys flow) flow ∷ trace)
@@ -102,6 +104,7 @@ module _ (rule : Rule) (accepted : ℕ) (keys : List FlowKey) (homes : List Home
               lost_is = ap (λ (x : FlowState). x.lost) is ∙ b.lost_is ∙ sym (uncounted (is_loss_of g) (refused (home keys flow) flow) trace refl);
               started_is = ap (λ (x : FlowState). x.started) is ∙ b.started_is ∙ sym (uncounted (is_start_of g) (refused (home keys flow) flow) trace refl);
               discarded_is = ap (λ (x : FlowState). x.discarded) is ∙ b.discarded_is;
+              active_is = ap (λ (x : FlowState). x.active) is ∙ b.active_is;
             }
         by (inr ne) =
             let is : flow_at (set flows flow (one_full (flow_at flows flow))) g ≡ flow_at flows g = now_at ∙ ap (λ b. cond b (one_full (flow_at flows flow)) (flow_at flows g)) (eq-no flow g ne) in
@@ -112,6 +115,7 @@ module _ (rule : Rule) (accepted : ℕ) (keys : List FlowKey) (homes : List Home
               lost_is = ap (λ (x : FlowState). x.lost) is ∙ b.lost_is ∙ sym (uncounted (is_loss_of g) (refused (home keys flow) flow) trace refl);
               started_is = ap (λ (x : FlowState). x.started) is ∙ b.started_is ∙ sym (uncounted (is_start_of g) (refused (home keys flow) flow) trace refl);
               discarded_is = ap (λ (x : FlowState). x.discarded) is ∙ b.discarded_is;
+              active_is = ap (λ (x : FlowState). x.active) is ∙ b.active_is;
             }
 
     pub refused-agrees : IsAt rule accepted keys homes views (set flows flow (one_full (flow_at flows flow))) pending [] (refused (home keys flow) flow ∷ trace)
@@ -166,6 +170,7 @@ module _ (rule : Rule) (accepted : ℕ) (keys : List FlowKey) (homes : List Home
       full_is = b.full_is ∙ sym (uncounted (is_refusal_of g) (collected at) trace refl);
       started_is = b.started_is ∙ sym (uncounted (is_start_of g) (collected at) trace refl);
       discarded_is = b.discarded_is;
+      active_is = b.active_is;
     };
     as_many = a.as_many;
     elsewhere = a.elsewhere;

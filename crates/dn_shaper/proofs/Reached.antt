@@ -1,8 +1,10 @@
 -- The flows that a delete reaches are discarded one by one, and the links that this empties leave the heap together.
-use Rattle.std.proofs.Common.{◌≡◌, ◌∙◌, ◌≤◌, ◌^◌, ℕ, zero, suc, ◌+◌, ◌<◌, Bool, true, false, cond, List, [], ◌∷◌, refl, ap, sym, subst, length, arith, IsPermutation}
-use Rattle.std.specs.Prelude.{Option, None, Some, drop, filter, slice_get}
+use Rattle.std.proofs.Common.{◌≡◌, ◌∙◌, ◌≤◌, ◌<◌, ◌^◌, ℕ, zero, suc, ◌+◌, true, false, cond, List, [], ◌∷◌, set, refl, ap, sym, subst, length, arith, IsPermutation}
+use Rattle.std.specs.Prelude.{Option, Some, filter, slice_get}
+use Rattle.std.specs.List.{count_by}
 use Rattle.std.proofs.lemmas.List.{length-map}
-use Rattle.dn_flows.specs.Table.{places_where}
+use Rattle.std.proofs.lemmas.List.Sums.{sum_by-cons}
+use Rattle.dn_flows.specs.Table.{FlowState, emptied, flow_at}
 use Rattle.dn_heap.specs.Heap.{Heap}
 use Rattle.dn_types.specs.Calls.{reaches, discard_reached}
 use Rattle.dn_types.specs.Trace.{Link, Event, discarded}
@@ -10,105 +12,97 @@ use Rattle.dn_types.specs.declared.command.Command.{Command}
 use Rattle.dn_types.specs.declared.flow_key.FlowKey.{FlowKey}
 use Rattle.dn_shaper.specs.declared.links.next_start.NextStart.{NextStart}
 use Rattle.dn_shaper.specs.declared.links.parts.Parts.{Parts}
-use Rattle.dn_shaper.specs.Refinement.Agreement.{Agrees, AgreesWith}
+use Rattle.dn_shaper.specs.Refinement.Agreement.{Agrees, is_active}
 use Rattle.dn_shaper.specs.Refinement.Arriving.{KeepsFlows}
 use Rattle.dn_shaper.specs.Refinement.Configuring.{DiscardsReached}
 use Rattle.dn_shaper.specs.Refinement.Discarding.{DiscardsFlow, OnlyEmpties}
-use Rattle.dn_shaper.specs.Refinement.NextStarts.{is_backlogged}
+use Rattle.dn_shaper.specs.Refinement.Making.{OnlyMakesRoom}
+use Rattle.dn_shaper.specs.Refinement.NextStarts.{is_backlogged, next_at}
+use Rattle.dn_shaper.specs.Refinement.Reordering.{DiscardsSome, NoneActive, ReadsSame}
 use Rattle.dn_shaper.specs.Refinement.Settling.{AreInStep}
 use Rattle.dn_shaper.specs.Refinement.Starting.{Within}
 use Rattle.dn_shaper.specs.Refinement.Views.{LinkView, next_starts, views_of}
 use Rattle.dn_shaper.proofs.Emptied.{holds-kept, counted-held}
+use Rattle.dn_shaper.proofs.Reordered.{agrees-same, none-active-reads, reached-once, same-reads, then-reads}
+use Rattle.dn_shaper.proofs.Reserved.{reserved-names, reserved-nexts, reserves-agree}
 
--- The flows that a delete reaches, in order.
-abbrev pub flows_reached : Command → Parts → List ℕ
-flows_reached command p = places_where (reaches command) 0 p.flows.keys
+-- ---- Active flows are discarded one after another, in any order
 
--- Flows are discarded one after another.
-abbrev pub discards_all : List ℕ → List Event → List Event
-discards_all [] trace = trace
-discards_all (flow ∷ flows) trace = discards_all flows (discarded flow ∷ trace)
+module _ (command : Command) (keys : List FlowKey) where
+  pub none-done : (p : Parts) → DiscardsSome command keys p p
+  none-done p more trace a = (trace, a, same-reads _)
 
--- So many of the flows that the delete reaches are done, and the rest would end at the same trace.
-abbrev pub DiscardsUpTo : ℕ → Command → Parts → Parts → Type 0
-DiscardsUpTo index command old new =
-    (more : List Link) (trace : List Event) → AgreesWith old more trace →
-    (t : List Event) × AgreesWith new more t × (discards_all (drop index (flows_reached command old)) t ≡ discard_reached command 0 old.flows.keys trace)
+  pub then-done : (old mid new : Parts) → DiscardsSome command keys old mid → DiscardsSome command keys mid new → DiscardsSome command keys old new
+  then-done old mid new first then more trace a =
+      let d = first more trace a in
+      let e = then more d.0 d.1 in
+      (e.0, e.1, then-reads _ _ _ e.2 d.2)
 
-reached-first : (b : Bool) (flow : ℕ) (flows : List ℕ) (t t' : List Event) → t' ≡ discards_all flows (cond b (discarded flow ∷ t) t) → t' ≡ discards_all (cond b (flow ∷ flows) flows) t
-reached-first true flow flows t t' e = e
-reached-first false flow flows t t' e = e
+  pub room-done : (old new : Parts) → OnlyMakesRoom old new → DiscardsSome command keys old new
+  room-done old new r more trace a = (trace, reserves-agree old new r more trace a, same-reads _)
 
-discards-are : (command : Command) (from : ℕ) (keys : List FlowKey) (t : List Event) → discard_reached command from keys t ≡ discards_all (places_where (reaches command) from keys) t
-discards-are command from [] t = refl
-discards-are command from (key ∷ keys) t =
-    reached-first (reaches command key) from (places_where (reaches command) (from + 1) keys) t _ (discards-are command (from + 1) keys (cond (reaches command key) (discarded from ∷ t) t))
+  pub one-done : (flow : ℕ) (key : FlowKey) (mid new : Parts) → slice_get keys flow ≡ Some key → reaches command key ≡ true → DiscardsFlow flow mid new → DiscardsSome command keys mid new
+  one-done flow key mid new there reaches-it discards more trace a =
+      let from-0 : 0 + flow ≡ flow = omega arith in
+      let same = subst (λ (n : ℕ). ReadsSame (discard_reached command 0 keys (discarded n ∷ trace)) (discard_reached command 0 keys trace)) from-0 (reached-once command 0 flow key keys trace there reaches-it) in
+      (discarded flow ∷ trace, discards more trace a, same)
 
--- ---- Places of elements that pass a test
+-- Where no flow is active any more, all that the delete reaches are discarded.
+pub all-done : (command : Command) (old new : Parts) → new.flows.keys ≡ old.flows.keys → DiscardsSome command old.flows.keys old new → NoneActive command new → DiscardsReached command old new
+all-done command old new keys done none more trace a =
+    let d = done more trace a in
+    let from-0 : (place : ℕ) → 0 + place ≡ place = λ place. omega arith in
+    let idle = λ (place : ℕ) (key : FlowKey) (there : slice_get old.flows.keys place ≡ Some key) (reaches-it : reaches command key ≡ true).
+    ap (λ (n : ℕ). is_active n d.0) (from-0 place) ∙ sym (d.1.flows_are place).active_is ∙ none place key (ap (λ (ks : List FlowKey). slice_get ks place) keys ∙ there) reaches-it in
+    agrees-same new.rule new.accepted new.flows.keys new.homes.items (views_of new) new.flows.flows new.line.pending more
+    (discard_reached command 0 old.flows.keys d.0) (discard_reached command 0 old.flows.keys trace) d.2
+    (agrees-same new.rule new.accepted new.flows.keys new.homes.items (views_of new) new.flows.flows new.line.pending more d.0 (discard_reached command 0 old.flows.keys d.0)
+    (none-active-reads command 0 old.flows.keys d.0 idle) d.1)
 
-pub no-places : {X : Type 0} (test : X → Bool) → ((x : X) → test x ≡ false) → (from : ℕ) (xs : List X) → places_where test from xs ≡ []
-no-places test none from [] = refl
-no-places test none from (x ∷ xs) = ap (λ b. cond b (from ∷ places_where test (from + 1) xs) (places_where test (from + 1) xs)) (none x) ∙ no-places test none (from + 1) xs
+-- ---- How many flows are active
 
-abbrev no-flows : List ℕ
-no-flows = []
+-- Each flow is as active as before.
+pub as-active : (old new : List FlowState) → length new ≡ length old → ((flow : ℕ) → (flow_at new flow).active ≡ (flow_at old flow).active)
+    → count_by (λ (s : FlowState). s.active) new ≡ count_by (λ (s : FlowState). s.active) old
+as-active [] [] many same = refl
+as-active [] (s ∷ new) many same = absurd (omega arith)
+as-active (s ∷ old) [] many same = absurd (omega arith)
+as-active (s ∷ old) (t ∷ new) many same =
+    let rest = as-active old new (omega arith) (λ flow. same (suc flow)) in
+    let a = sum_by-cons (λ (x : FlowState). cond x.active 1 0) s old in
+    let b = sum_by-cons (λ (x : FlowState). cond x.active 1 0) t new in
+    let one = ap {B = ℕ} (λ c. cond c 1 0) (same 0) in
+    omega (arith, rest, a, b, one)
 
-pub get-nil : (index : ℕ) → None ≡ slice_get no-flows index
-get-nil zero = refl
-get-nil (suc index) = refl
+abbrev active_in : List FlowState → ℕ
+active_in flows = count_by (λ (s : FlowState). s.active) flows
 
-first-below : (b : Bool) (from index i n : ℕ) (xs : List ℕ) → slice_get (cond b (from ∷ xs) xs) index ≡ Some i
-    → ((k : ℕ) → slice_get xs k ≡ Some i → i < from + 1 + n) → i < from + (n + 1)
-first-below true from zero i n xs e rest = let same : from ≡ i = cc in omega arith
-first-below true from (suc index) i n xs e rest = let lt = rest index e in omega arith
-first-below false from index i n xs e rest = let lt = rest index e in omega arith
-
-pub places-below : {X : Type 0} (test : X → Bool) (from : ℕ) (xs : List X) (index i : ℕ) → slice_get (places_where test from xs) index ≡ Some i → i < from + length xs
-places-below test from [] index i e = absurd (let z = get-nil index ∙ e in cc)
-places-below test from (x ∷ xs) index i e =
-    let lt = first-below (test x) from index i (length xs) (places_where test (from + 1) xs) e (λ k h. places-below test (from + 1) xs k i h) in
+fewer-first : (s : FlowState) (flows : List FlowState) → s.active ≡ true → active_in (emptied s ∷ flows) + 1 ≡ active_in (s ∷ flows)
+fewer-first s flows is =
+    let a : active_in (s ∷ flows) ≡ cond s.active 1 0 + active_in flows = sum_by-cons (λ (x : FlowState). cond x.active 1 0) s flows in
+    let b : active_in (emptied s ∷ flows) ≡ 0 + active_in flows = sum_by-cons (λ (x : FlowState). cond x.active 1 0) (emptied s) flows in
+    let one : ◌≡◌ {A = ℕ} (cond s.active 1 0) 1 = ap {B = ℕ} (λ c. cond c 1 0) is in
     omega arith
 
-first-few : (b : Bool) (from n : ℕ) (xs : List ℕ) → length xs ≤ n → length (cond b (from ∷ xs) xs) ≤ n + 1
-first-few true from n xs l = omega arith
-first-few false from n xs l = omega arith
+fewer-rest : (s : FlowState) (old new : List FlowState) → active_in new + 1 ≡ active_in old → active_in (s ∷ new) + 1 ≡ active_in (s ∷ old)
+fewer-rest s old new rest =
+    let a : active_in (s ∷ old) ≡ cond s.active 1 0 + active_in old = sum_by-cons (λ (x : FlowState). cond x.active 1 0) s old in
+    let b : active_in (s ∷ new) ≡ cond s.active 1 0 + active_in new = sum_by-cons (λ (x : FlowState). cond x.active 1 0) s new in
+    omega arith
 
-pub places-few : {X : Type 0} (test : X → Bool) (from : ℕ) (xs : List X) → length (places_where test from xs) ≤ length xs
-places-few test from [] = omega arith
-places-few test from (x ∷ xs) = let l = first-few (test x) from (length xs) (places_where test (from + 1) xs) (places-few test (from + 1) xs) in omega arith
+pub fewer-active : (flows : List FlowState) (flow : ℕ) → flow < length flows → (flow_at flows flow).active ≡ true
+    → active_in (set flows flow (emptied (flow_at flows flow))) + 1 ≡ active_in flows
+fewer-active [] flow lt is = absurd (omega arith)
+fewer-active (s ∷ flows) zero lt is = fewer-first s flows is
+fewer-active (s ∷ flows) (suc flow) lt is = fewer-rest s flows (set flows flow (emptied (flow_at flows flow))) (fewer-active flows flow (omega arith) is)
 
-pub none-further : (xs : List ℕ) (index : ℕ) → slice_get xs index ≡ None → length xs ≤ index
-none-further [] index e = omega arith
-none-further (x ∷ xs) zero e = absurd cc
-none-further (x ∷ xs) (suc index) e = let l = none-further xs index e in omega arith
+-- ---- Only room changes
 
-drop-one : {X : Type 0} (xs : List X) (i : ℕ) (x : X) → slice_get xs i ≡ Some x → drop i xs ≡ x ∷ drop (suc i) xs
-drop-one [] i x e = absurd cc
-drop-one (y ∷ xs) zero x e = let same : y ≡ x = cc in ap (λ z. z ∷ xs) same
-drop-one (y ∷ xs) (suc i) x e = drop-one xs i x e
+pub room-keeps : (old new : Parts) → OnlyMakesRoom old new → new.homes ≡ old.homes → KeepsFlows old new
+room-keeps old new r homes = record { rule = r.rule; keys = r.keys; homes = homes; names = reserved-names old new r }
 
-drop-all : {X : Type 0} (xs : List X) (i : ℕ) → length xs ≤ i → drop i xs ≡ []
-drop-all [] zero e = refl
-drop-all [] (suc i) e = refl
-drop-all (x ∷ xs) zero e = absurd (omega arith)
-drop-all (x ∷ xs) (suc i) e = drop-all xs i (omega arith)
-
-module _ (command : Command) (old : Parts) where
-  pub none-done : DiscardsUpTo 0 command old old
-  none-done more trace a = (trace, a, sym (discards-are command 0 old.flows.keys trace))
-
-  pub one-discarded : (index flow : ℕ) (mid new : Parts) → slice_get (flows_reached command old) index ≡ Some flow → DiscardsUpTo index command old mid
-      → DiscardsFlow flow mid new → DiscardsUpTo (index + 1) command old new
-  one-discarded index flow mid new there done discards more trace a =
-      let d = done more trace a in
-      let one_more : suc index ≡ index + 1 = omega arith in
-      let next = drop-one (flows_reached command old) index flow there ∙ (λ i. flow ∷ drop (one_more i) (flows_reached command old)) in
-      (discarded flow ∷ d.0, discards more d.0 d.1, sym (ap (λ (flows : List ℕ). discards_all flows d.0) next) ∙ d.2)
-
-  pub all-done : (index : ℕ) (new : Parts) → length (flows_reached command old) ≤ index → DiscardsUpTo index command old new → DiscardsReached command old new
-  all-done index new end done more trace a =
-      let d = done more trace a in
-      subst (λ (t : List Event). AgreesWith new more t) (ap (λ (flows : List ℕ). discards_all flows d.0) (sym (drop-all (flows_reached command old) index end)) ∙ d.2) d.1
+pub room-empties : (old new : Parts) → OnlyMakesRoom old new → OnlyEmpties old new
+room-empties old new r place moment e = ap (λ (ns : List (Option ℕ)). next_at ns place) (sym (reserved-nexts old new r)) ∙ e
 
 pub keeps-none : (p : Parts) → KeepsFlows p p
 keeps-none p = record { rule = refl; keys = refl; homes = refl; names = refl }
@@ -118,6 +112,9 @@ keeps-more old mid new a b = record { rule = b.rule ∙ a.rule; keys = b.keys �
 
 pub agrees-discarded : (flow : ℕ) (old new : Parts) → Agrees old → DiscardsFlow flow old new → Agrees new
 agrees-discarded flow old new a d = (a.0, discarded flow ∷ a.1, d a.0 a.1 a.2)
+
+pub agrees-room : (old new : Parts) → Agrees old → OnlyMakesRoom old new → Agrees new
+agrees-room old new a r = (a.0, a.1, reserves-agree old new r a.0 a.1 a.2)
 
 agrees-reached : (command : Command) (old new : Parts) → Agrees old → DiscardsReached command old new → Agrees new
 agrees-reached command old new a d = (a.0, discard_reached command 0 old.flows.keys a.1, d a.0 a.1 a.2)

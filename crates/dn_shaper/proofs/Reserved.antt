@@ -64,7 +64,7 @@ module _ (old new : Parts) (r : OnlyMakesRoom old new) where
           let b = sum_by-cons (λ (x : LinkView). x.waits) w ws in
           omega arith
 
-  reserved-nexts : next_starts (views_of new) ≡ next_starts (views_of old)
+  pub reserved-nexts : next_starts (views_of new) ≡ next_starts (views_of old)
   reserved-nexts = same-map next_start_of (λ v w k. (λ i. cond (nat_lt 0 (k.waits i)) (Some (k.value i).free) None)) (views_of old) (views_of new) r.views
 
   reserved-link : (rule : Rule) (flows : ℕ) (trace : List Event) (v w : LinkView) → KeepsLink v w → IsLinkAt rule flows trace v → IsLinkAt rule flows trace w
@@ -111,6 +111,7 @@ module _ (old new : Parts) (r : OnlyMakesRoom old new) where
           full_is = s.full ∙ b.full_is;
           started_is = s.started ∙ b.started_is;
           discarded_is = s.discarded ∙ b.discarded_is;
+          active_is = s.active ∙ b.active_is;
         };
         as_many = r.many ∙ a.as_many;
         elsewhere = a.elsewhere;

@@ -13,7 +13,7 @@ use Rattle.dn_shaper.proofs.Events.{length-set}
 use Rattle.dn_flows.proofs.Places.{eq-no, eq-yes, get-set, get-set-other}
 
 pub same-flow : (s : FlowState) → SameFlow s s
-same-flow s = record { backlog = refl; lost = refl; full = refl; started = refl; discarded = refl }
+same-flow s = record { backlog = refl; lost = refl; full = refl; started = refl; discarded = refl; active = refl }
 
 pub same-link : (v : LinkView) → KeepsLink v v
 same-link v = record { link = refl; value = refl; waits = refl; slots = refl; schedule = record { virtual_time = refl; flows = λ slot. refl; room = λ slot. omega arith; arrivals = refl } }
@@ -33,7 +33,7 @@ place-reserved flows flow g lt = by (cases_eq flow g)
     by (inl same) =
         let is : flow_at (set flows flow (with_place (flow_at flows flow))) g ≡ with_place (flow_at flows g) = now_at
         ∙ ap (λ b. cond b (with_place (flow_at flows flow)) (flow_at flows g)) (eq-yes flow g same) ∙ ap (λ i. with_place (flow_at flows i)) same in
-        subst (λ (s : FlowState). SameFlow (flow_at flows g) s) (sym is) (record { backlog = refl; lost = refl; full = refl; started = refl; discarded = refl })
+        subst (λ (s : FlowState). SameFlow (flow_at flows g) s) (sym is) (record { backlog = refl; lost = refl; full = refl; started = refl; discarded = refl; active = refl })
     by (inr ne) =
         let is : flow_at (set flows flow (with_place (flow_at flows flow))) g ≡ flow_at flows g = now_at ∙ ap (λ b. cond b (with_place (flow_at flows flow)) (flow_at flows g)) (eq-no flow g ne) in
         subst (λ (s : FlowState). SameFlow (flow_at flows g) s) (sym is) (same-flow (flow_at flows g))

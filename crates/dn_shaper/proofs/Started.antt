@@ -35,12 +35,12 @@ popped_started s w e = by s.backlog e
     by [] h = absurd cc
     by (x ∷ ws) h = refl
 
-pub popped_rest : (s : FlowState) → ((popped s).lost ≡ s.lost) × ((popped s).full ≡ s.full) × ((popped s).discarded ≡ s.discarded)
+pub popped_rest : (s : FlowState) → ((popped s).lost ≡ s.lost) × ((popped s).full ≡ s.full) × ((popped s).discarded ≡ s.discarded) × ((popped s).active ≡ s.active)
 popped_rest s = by s.backlog
   where
-    by : (ws : List Waiting) → ((popped_from ws s).lost ≡ s.lost) × ((popped_from ws s).full ≡ s.full) × ((popped_from ws s).discarded ≡ s.discarded)
-    by [] = (refl, refl, refl)
-    by (x ∷ ws) = (refl, refl, refl)
+    by : (ws : List Waiting) → ((popped_from ws s).lost ≡ s.lost) × ((popped_from ws s).full ≡ s.full) × ((popped_from ws s).discarded ≡ s.discarded) × ((popped_from ws s).active ≡ s.active)
+    by [] = (refl, refl, refl, refl)
+    by (x ∷ ws) = (refl, refl, refl, refl)
 
 module _ (rule : Rule) (accepted : ℕ) (keys : List FlowKey) (homes : List Home) (views : List LinkView) (flows : List FlowState) (pending : List Delivery)
     (more : List Link) (trace : List Event) (a : IsAt rule accepted keys homes views flows pending more trace)
@@ -254,6 +254,7 @@ module _ (rule : Rule) (accepted : ℕ) (keys : List FlowKey) (homes : List Home
                 ∙ ap (λ n. n + 1) b.started_is
                 ∙ sym (counted-once (is_start_of g) (started s) trace (ap (λ x. nat_eq x g) fr.3 ∙ eq-yes flow g same));
             discarded_is = ap (λ (x : FlowState). x.discarded) is ∙ rest.2 ∙ b.discarded_is;
+            active_is = ap (λ (x : FlowState). x.active) is ∙ rest.3 ∙ b.active_is;
           }
       by (inr ne) =
           let is : flow_at flows' g ≡ flow_at flows g = now_at ∙ ap (λ b. cond b (popped (flow_at flows flow)) (flow_at flows g)) (eq-no flow g ne) in
@@ -267,6 +268,7 @@ module _ (rule : Rule) (accepted : ℕ) (keys : List FlowKey) (homes : List Home
             full_is = ap (λ (x : FlowState). x.full) is ∙ b.full_is ∙ sym (uncounted (is_refusal_of g) (started s) trace refl);
             started_is = ap (λ (x : FlowState). x.started) is ∙ b.started_is ∙ sym (uncounted (is_start_of g) (started s) trace (ap (λ x. nat_eq x g) fr.3 ∙ eq-no flow g ne));
             discarded_is = ap (λ (x : FlowState). x.discarded) is ∙ b.discarded_is;
+            active_is = ap (λ (x : FlowState). x.active) is ∙ b.active_is;
           }
 
   pub start-agrees : IsAt rule accepted keys homes (set views k v') flows'

@@ -10,6 +10,7 @@ pub mod Making
 pub mod NextStarts
 pub mod Passing
 pub mod QueueCounts
+pub mod Reordering
 pub mod Settings
 pub mod Settling
 pub mod Slots

@@ -2,6 +2,8 @@
 #![tactic(auto)]
 
 #[cfg(test)]
+mod active;
+#[cfg(test)]
 mod config;
 #[cfg(test)]
 mod devices;

@@ -154,3 +154,28 @@ fn a_delete_that_empties_a_link_that_sends(rt: HostRuntime) -> Result<(), Fail> 
         ],
     )
 }
+
+// A delete finds the packets that came since the last one, whether or not the flow was reset before.
+#[test]
+fn a_delete_after_a_delete(rt: HostRuntime) -> Result<(), Fail> {
+    holds(
+        &rt,
+        Rule::Ordered,
+        &[
+            config("pipe 1 config bw 8Mbit/s"),
+            config("queue 1 config pipe 1"),
+            to_queue(1, 0, queued(0, 0, 0)),
+            to_queue(1, 0, queued(0, 0, 1)),
+            line("queue 1 delete", Wanted::Deleted),
+            config("queue 1 config pipe 1"),
+            line("queue 1 delete", Wanted::Deleted),
+            show(&[status(0, queue_key(1, 1), (0, 0), 1, 1)]),
+            config("queue 1 config pipe 1"),
+            to_queue(1, 0, queued(0, 0, 2)),
+            to_queue(1, 0, queued(0, 0, 3)),
+            line("queue 1 delete", Wanted::Deleted),
+            line("pipe 1 delete", Wanted::Deleted),
+            show(&[status(0, queue_key(1, 1), (0, 0), 1, 3)]),
+        ],
+    )
+}

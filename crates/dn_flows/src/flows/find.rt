@@ -44,9 +44,7 @@ impl Flows {
         self.queues.reserve(1)?;
         self.unsent.reserve(1)?;
         let flow = self.queues.len();
-        self.members.push(&key, flow)?;
         let Ok(_) = self.keys.insert_full(table_key) else {
-            self.members.pop(&key);
             return Err(AllocError);
         };
         let queue = FlowQueue::new();

@@ -18,6 +18,7 @@ impl Flows {
     {
         let queue = &mut self.queues[flow];
         queue.reserved = false;
+        queue.active = true;
         queue.started += 1;
         self.reserved -= 1;
     }

@@ -1,12 +1,12 @@
 -- When the parts agree with a trace: each reading of the trace stands in its part.
-use Rattle.std.specs.Prelude.{◌≡◌, ℕ, ◌*◌, ◌<◌, ◌≤◌, false, List, [], ◌++◌, map, length, Some, slice_get}
+use Rattle.std.specs.Prelude.{◌≡◌, ℕ, ◌*◌, ◌<◌, ◌≤◌, ◌||◌, Bool, false, cond, nat_eq, List, [], ◌∷◌, ◌++◌, map, length, Some, slice_get}
 use Rattle.std.specs.List.{count_by, list_any}
 use Rattle.dn_types.specs.Configuration.{Settings}
 use Rattle.dn_types.specs.Deliveries.{undelivered}
 use Rattle.dn_types.specs.Links.{free, last_due}
 use Rattle.dn_types.specs.SharedLinks.{waiting, virtual_time, last_finish_tag}
 use Rattle.dn_types.specs.Starts.{bandwidth_of, delay_of}
-use Rattle.dn_types.specs.Trace.{Link, shared, link_eq, Event, backlog, links, flow_bound, is_loss_of, is_refusal_of, is_start_of, discarded_count, accepted_count}
+use Rattle.dn_types.specs.Trace.{Link, shared, link_eq, Event, arrived, discarded, backlog, links, flow_bound, is_loss_of, is_refusal_of, is_start_of, discarded_count, accepted_count}
 use Rattle.dn_types.specs.declared.delivery.Delivery.{Delivery}
 use Rattle.dn_types.specs.declared.flow_key.FlowKey.{FlowKey}
 use Rattle.dn_types.specs.declared.rule.Rule.{Rule}
@@ -42,6 +42,13 @@ pub record IsLinkAt (rule : Rule) (flows : ℕ) (trace : List Event) (v : LinkVi
   pub ascends : Ascends 0 v.slots
   pub below : top 0 v.slots ≤ flows
 
+-- Whether a packet of the flow was accepted since a delete last reached it.
+abbrev pub is_active : ℕ → List Event → Bool
+is_active flow [] = false
+is_active flow (arrived p ∷ trace) = nat_eq p.stamped.flow flow || is_active flow trace
+is_active flow (discarded f ∷ trace) = cond (nat_eq f flow) false (is_active flow trace)
+is_active flow (_ ∷ trace) = is_active flow trace
+
 -- A flow at home on a link: its queue and its counts.
 pub record IsFlowAt (link : Link) (flow : ℕ) (trace : List Event) (s : FlowState) : Type 0 where
   pub backlog_is : s.backlog ≡ map as_queued (backlog link flow trace)
@@ -49,6 +56,7 @@ pub record IsFlowAt (link : Link) (flow : ℕ) (trace : List Event) (s : FlowSta
   pub full_is : s.full ≡ count_by (is_refusal_of flow) trace
   pub started_is : s.started ≡ count_by (is_start_of flow) trace
   pub discarded_is : s.discarded ≡ discarded_count link flow trace
+  pub active_is : s.active ≡ is_active flow trace
 
 -- The home of a flow: the place of its link, and on a shared link the flow's slot.
 pub record IsHomeOf (flow : ℕ) (link : Link) (views : List LinkView) (h : Home) : Type 0 where

@@ -36,6 +36,7 @@ pub record SameFlow (old new : FlowState) : Type 0 where
   pub full : new.full ≡ old.full
   pub started : new.started ≡ old.started
   pub discarded : new.discarded ≡ old.discarded
+  pub active : new.active ≡ old.active
 
 -- The links at a place are the same but for room.
 abbrev pub KeepsAt : Option LinkView → Option LinkView → Type 0

@@ -1,5 +1,8 @@
-ghost use Rattle.std.specs.Prelude.{◌≡◌, ℕ, None, ◌+◌, ◌<◌, ◌≤◌, ◌^◌, slice_get, IfOk, OnErr};
-ghost use Rattle.dn_flows.specs.Table.{places_where};
+ghost use Rattle.std.specs.Prelude.{◌≡◌, ℕ, None, Some, ◌+◌, ◌<◌, ◌≤◌, ◌^◌, true, false, length, slice_get, IfOk, IfSome, IfNone, OnErr};
+ghost use Rattle.dn_flows.specs.Table.{OnlyUnreserves, flow_at};
+ghost use Rattle.dn_types.specs.declared.flow_key.FlowKey.{FlowKey};
+ghost use Rattle.dn_shaper.specs.Refinement.Making.{OnlyMakesRoom};
+ghost use Rattle.dn_shaper.specs.Refinement.Reordering.{DiscardsSome, NoneActive, active_flows};
 ghost use Rattle.dn_types.specs.Calls.{reaches};
 ghost use Rattle.dn_types.specs.Configuration.{subject};
 ghost use Rattle.dn_types.specs.declared.call.Call.TheVariants.{Configure};
@@ -19,47 +22,81 @@ use crate::links::parts::Parts;
 use crate::state::State;
 use dn_flows::Flows;
 use dn_heap::RunHeap;
-use dn_types::{Command, Reply};
+use dn_types::{Command, Reply, Target};
 use std::alloc::AllocError;
 
-/// The flow that a delete reaches and that so many others which it reaches come before.
-///
-/// It is one of the queue, or one on the pipe.
-fn reached(flows: &Flows, command: &Command, index: usize) -> Option<usize>
-    ensures { result ≡ slice_get (places_where (reaches command.now) 0 flows.now.keys) index }
+/// An active flow that a delete reaches, if there is one: one of the queue, or one on the pipe.
+fn reached(flows: &mut Flows, command: &Command) -> Option<usize>
+    ensures keys { flows.new.keys ≡ flows.old.keys }
+    ensures many { length flows.new.flows ≡ length flows.old.flows }
+    ensures flows { (flow : ℕ) → OnlyUnreserves (flow_at flows.old.flows flow) (flow_at flows.new.flows flow) }
+    ensures within { IfSome result (λ flow. flow < length flows.new.flows) }
+    ensures active { IfSome result (λ flow. (flow_at flows.new.flows flow).active ≡ true) }
+    ensures reached { IfSome result (λ flow. (key : FlowKey) × (slice_get flows.new.keys flow ≡ Some key) × (reaches command.now key ≡ true)) }
+    ensures none { IfNone result ((flow : ℕ) (key : FlowKey) → slice_get flows.new.keys flow ≡ Some key → reaches command.now key ≡ true → (flow_at flows.new.flows flow).active ≡ false) }
 {
     match command {
-        Command::DeletePipe(number) => flows.on_pipe(*number, index),
-        Command::DeleteQueue(number) => flows.of_queue(*number, index),
+        Command::DeletePipe(number) => flows.active(Target::Pipe(*number)),
+        Command::DeleteQueue(number) => flows.active(Target::Queue(*number)),
         Command::Pipe { .. } => None,
         Command::Queue { .. } => None,
     }
 }
 
-/// Discards the packets of all flows that the delete reaches, in order of flow numbers.
-///
-/// The others cost nothing.
-fn discard_flows(parts: &mut Parts, command: &Command)
+/// The same among the parts, of which nothing else changes but room.
+fn next_reached(parts: &mut Parts, command: &Command) -> Option<usize>
+    ensures only { OnlyMakesRoom parts.old parts.new }
+    ensures homes { parts.new.homes ≡ parts.old.homes }
+    ensures count { active_flows parts.new ≡ active_flows parts.old }
+    ensures within { IfSome result (λ flow. flow < length parts.new.flows.flows) }
+    ensures active { IfSome result (λ flow. (flow_at parts.new.flows.flows flow).active ≡ true) }
+    ensures reached { IfSome result (λ flow. (key : FlowKey) × (slice_get parts.new.flows.keys flow ≡ Some key) × (reaches command.now key ≡ true)) }
+    ensures none { IfNone result (NoneActive command.now parts.new) }
+{
+    reached(&mut parts.flows, command)
+}
+
+/// Discards the packets of an active flow that the delete reaches, and answers whether there was one.
+fn discard_next(parts: &mut Parts, command: &Command) -> bool
     requires agrees { Agrees parts.old }
     requires few { Within (2 ^ 62) parts.old }
-    ensures discards { DiscardsReached command.now parts.old parts.new }
+    ensures discards { DiscardsSome command.now parts.old.flows.keys parts.old parts.new }
+    ensures fewer { result ≡ true → active_flows parts.new + 1 ≡ active_flows parts.old }
+    ensures none { result ≡ false → NoneActive command.now parts.new }
+    ensures only { result ≡ false → OnlyMakesRoom parts.old parts.new }
+    ensures agrees { Agrees parts.new }
     ensures within { (n : ℕ) → Within n parts.old → Within n parts.new }
     ensures waiting { parts.new.waiting ≤ parts.old.waiting }
     ensures keeps { KeepsFlows parts.old parts.new }
     ensures empties { OnlyEmpties parts.old parts.new }
 {
-    for index in 0..parts.flows.len() {
-        let Some(flow) = reached(&parts.flows, command, index) else {
-            return;
-        };
-        discard_flow(parts, flow);
+    match next_reached(parts, command) {
+        Some(flow) => {
+            discard_flow(parts, flow);
+            true
+        }
+        None => false,
     }
+}
+
+/// Discards the packets of all active flows that the delete reaches. The others have nothing to discard, and cost nothing.
+fn discard_flows(parts: &mut Parts, command: &Command)
+    requires agrees { Agrees parts.old }
+    requires few { Within (2 ^ 62) parts.old }
+    ensures discards { DiscardsSome command.now parts.old.flows.keys parts.old parts.new }
+    ensures none { NoneActive command.now parts.new }
+    ensures within { (n : ℕ) → Within n parts.old → Within n parts.new }
+    ensures waiting { parts.new.waiting ≤ parts.old.waiting }
+    ensures keeps { KeepsFlows parts.old parts.new }
+    ensures empties { OnlyEmpties parts.old parts.new }
+{
+    while discard_next(parts, command) {}
 }
 
 /// Discards the packets of all flows that the delete reaches.
 ///
 /// The links that this empties leave the heap together, so that a delete costs one pass over it and not one for each of
-/// them. A delete that reaches no flow costs none.
+/// them. A delete that reaches no active flow costs none.
 fn discard_reached(parts: &mut Parts, heap: &mut RunHeap<NextStart>, command: &Command)
     requires kept { AreInStep parts.old heap.old }
     ensures discards { DiscardsReached command.now parts.old parts.new }
@@ -68,9 +105,9 @@ fn discard_reached(parts: &mut Parts, heap: &mut RunHeap<NextStart>, command: &C
     ensures moves { heap.new.moves + parts.new.waiting ≤ heap.old.moves + parts.old.waiting }
     ensures keeps { KeepsFlows parts.old parts.new }
 {
-    let Some(_) = reached(&parts.flows, command, 0) else {
+    if !discard_next(parts, command) {
         return;
-    };
+    }
     discard_flows(parts, command);
     forget_emptied(heap, parts);
 }

@@ -1,9 +1,10 @@
-ghost use Rattle.std.specs.Prelude.{◌≡◌, ℕ, ◌+◌, ◌<◌, ◌≤◌, ◌^◌, filter, length, slice_get, IsPermutation, Some};
+ghost use Rattle.std.specs.Prelude.{◌≡◌, ℕ, ◌+◌, ◌<◌, ◌≤◌, ◌^◌, true, filter, length, slice_get, IsPermutation, Some};
 ghost use Rattle.dn_flows.specs.Table.{flow_at};
 ghost use Rattle.dn_shaper.specs.Refinement.Agreement.{Agrees};
 ghost use Rattle.dn_shaper.specs.Refinement.Arriving.{KeepsFlows};
 ghost use Rattle.dn_shaper.specs.Refinement.Discarding.{DiscardsFlow, DiscardsAt, HoldsCount, LeavesLink, LosesCount, OnlyEmpties};
 ghost use Rattle.dn_shaper.specs.Refinement.NextStarts.{is_backlogged};
+ghost use Rattle.dn_shaper.specs.Refinement.Reordering.{active_flows};
 ghost use Rattle.dn_shaper.specs.Refinement.Starting.{Within};
 ghost use Rattle.dn_shaper.specs.Refinement.Views.{LinkView, IsAlone, next_starts, view_of, views_of};
 
@@ -48,6 +49,7 @@ pub fn discard_flow(parts: &mut Parts, flow: usize)
     requires few { Within (2 ^ 62) parts.old }
     requires within { flow < length parts.old.flows.keys }
     ensures discards { DiscardsFlow flow parts.old parts.new }
+    ensures fewer { (flow_at parts.old.flows.flows flow).active ≡ true → active_flows parts.new + 1 ≡ active_flows parts.old }
     ensures within { (n : ℕ) → Within n parts.old → Within n parts.new }
     ensures waiting { parts.new.waiting ≤ parts.old.waiting }
     ensures keeps { KeepsFlows parts.old parts.new }

@@ -1,7 +1,7 @@
 use Rattle.std.proofs.Common.{◌∙◌, ap, map, arith}
 use Rattle.std.specs.Prelude.{vec_items}
 use Rattle.dn_flows.specs.Members.{list_at}
-use Rattle.dn_flows.proofs.Listed.{at-more}
+use Rattle.dn_flows.proofs.Lists.{at-more}
 use Rattle.dn_flows.proofs.by_number.add_lists.Goals as goal
 
 pub empty-preserved : goal.empty-preserved

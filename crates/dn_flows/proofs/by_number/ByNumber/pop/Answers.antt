@@ -2,7 +2,7 @@ use Rattle.std.proofs.Common.{◌≡◌, ◌∙◌, ◌-◌, ◌<◌, ℕ, List,
 use Rattle.std.specs.Prelude.{vec_items, vec_len}
 use Rattle.std.proofs.lemmas.List.{get_or-map, length-map, map-set}
 use Rattle.dn_flows.specs.Members.{list_at}
-use Rattle.dn_flows.proofs.Listed.{less_last, popped_at}
+use Rattle.dn_flows.proofs.Lists.{less_last, popped_at}
 use Rattle.dn_flows.proofs.by_number.ByNumber.pop.Goals as goal
 
 pub returns : goal.returns

@@ -2,7 +2,7 @@ use Rattle.std.proofs.Common.{◌≡◌, ◌∙◌, ◌<◌, ◌++◌, ◌∷◌
 use Rattle.std.specs.Prelude.{vec_items}
 use Rattle.std.proofs.lemmas.List.{get_or-map, length-map, map-set}
 use Rattle.dn_flows.specs.Members.{list_at}
-use Rattle.dn_flows.proofs.Listed.{pushed_at, same_at}
+use Rattle.dn_flows.proofs.Lists.{pushed_at, same_at}
 use Rattle.dn_flows.proofs.by_number.ByNumber.push.Goals as goal
 
 on_err : {T E : Type 0} (r : Result T E) (Q : Type 0) → Q → OnErr r Q

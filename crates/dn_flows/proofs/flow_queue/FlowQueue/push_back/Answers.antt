@@ -23,6 +23,9 @@ returns-clause-appends c = elim c.if-self-eq0.branch [
       len = (w.self-is i).len + 1;
       bytes = (w.self-is i).bytes + (c.from-bytes.ensures ∙ c.get.ensures.value) i;
       reserved = false;
+      active = true;
+      on_pipe = (w.self-is i).on_pipe;
+      of_queue = (w.self-is i).of_queue;
       started = (w.self-is i).started;
     };
   }
@@ -51,6 +54,9 @@ returns-clause-appends c = elim c.if-self-eq0.branch [
       len = (w.self-is i).len + 1;
       bytes = (w.self-is i).bytes + (c.from-bytes.ensures ∙ c.get.ensures.value) i;
       reserved = false;
+      active = true;
+      on_pipe = (w.self-is i).on_pipe;
+      of_queue = (w.self-is i).of_queue;
       started = (w.self-is i).started;
     };
   }

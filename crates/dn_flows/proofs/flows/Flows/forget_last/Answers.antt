@@ -1,13 +1,27 @@
-use Rattle.std.proofs.Common.{◌≡◌, ◌∙◌, ◌++◌, ◌∷◌, ◌-◌, [], List, cond, length, length-take, take, ap, subst, rules, arith}
+use Rattle.std.proofs.Common.{◌≡◌, ◌∙◌, ◌++◌, ◌∷◌, ◌-◌, [], ℕ, List, cond, length, length-take, take, ap, subst, sym, rules, arith}
+use Rattle.std.specs.Prelude.{slice_get}
+use Rattle.dn_types.specs.declared.flow_key.FlowKey.{FlowKey}
+use Rattle.dn_flows.specs.declared.members.Members.{Members}
+use Rattle.dn_flows.specs.Members.{AreListed, KeepsOthers}
 use Rattle.std.specs.Vec.{vec_len}
 use Rattle.dn_flows.specs.declared.flow_queue.FlowQueue.{FlowQueue}
 use Rattle.dn_flows.specs.declared.unsent.Unsent.{Unsent}
 use Rattle.dn_flows.specs.Store.{AreStored, reserved_one, reservations}
 use Rattle.dn_flows.specs.Table.{Table}
-use Rattle.dn_flows.proofs.Places.{sum-more}
+use Rattle.dn_flows.proofs.Entries.{listed-less}
+use Rattle.dn_flows.proofs.Places.{get-kept, length-more, sum-more}
 use Rattle.dn_flows.proofs.Tables.{last-out, without-last}
 use Rattle.dn_flows.proofs.flows.Flows.forget_last.Goals.{in_default-via-in-None-1, in_default-via-in-Some+else-queue}
 use Rattle.dn_flows.proofs.flows.Flows.forget_last.Goals as goal
+
+-- the last key and the last queue are out, and the flow is in no list
+listed-then : (keys : List FlowKey) (queues queues' : List FlowQueue) (m m' : Members) (flow : ℕ) (q : FlowQueue) → queues ≡ queues' ++ q ∷ [] → flow ≡ length keys - 1 → {keys' : List FlowKey}
+    → keys' ≡ take (length keys - 1) keys → KeepsOthers flow m m' → length keys ≡ length queues → AreListed keys queues m → AreListed keys' queues' m'
+listed-then keys queues queues' m m' flow q items at-end rest keeps many a =
+    let longer = ap (λ (qs : List FlowQueue). length qs) items ∙ length-more queues' q in
+    let fewer : length queues' ≡ flow = omega arith in
+    subst (λ (ks : List FlowKey). AreListed ks queues' m') (ap (λ n. take n keys) at-end ∙ sym rest)
+    (listed-less keys queues queues' m m' flow a keeps fewer (λ g x e. ap (λ (qs : List FlowQueue). slice_get qs g) items ∙ get-kept queues' q x g e))
 
 -- the flow had no place
 pub invariant_of-self-else-queue : goal.invariant_of-self-else-queue
@@ -21,13 +35,19 @@ invariant_of-self-else-queue c =
     let fewer-queues = ap (λ (qs : List FlowQueue). length qs) c.pop-2.ensures.rest ∙ length-take _ c.self.inside.queues.items in
     let counts-ok = c.self.inside.unsent.ok.0 in
     let queues-ok = c.self.inside.queues.ok.0 in
-    let before = c.self.invariant.3 in (
+    let before = c.self.invariant.3 in
+    let longer = ap (λ (qs : List FlowQueue). length qs) items ∙ length-more c.pop-2.new.self.items c.in-Some.queue in
+    let as-many = c.self.invariant.0 in
+    let there = c.len.ensures in
+    let less = c.saturating_sub-flow.ensures in
+    let at-end : c.saturating_sub-flow.result ≡ length c.self.inside.keys.keys - 1 = omega arith in (
       search rules,
       (omega arith, c.self.invariant.1.1),
       without-last c.self.inside.packets c.pop-2.new.self.items c.in-Some.queue
           (subst (AreStored c.self.inside.packets) items c.self.invariant.2),
       omega arith,
-      c.forget_last_key.ensures.members,
+      listed-then c.self.inside.keys.keys c.self.inside.queues.items c.pop-2.new.self.items c.self.inside.members c.forget_last_key.new.members c.saturating_sub-flow.result c.in-Some.queue items at-end
+          c.forget_last_key.ensures.keys c.forget_last_key.ensures.members as-many c.self.invariant.4,
     )
 
 -- the flow's place is let go
@@ -42,13 +62,19 @@ invariant_of-self-2 c =
     let fewer-queues = ap (λ (qs : List FlowQueue). length qs) c.pop-2.ensures.rest ∙ length-take _ c.self.inside.queues.items in
     let counts-ok = c.self.inside.unsent.ok.0 in
     let queues-ok = c.self.inside.queues.ok.0 in
-    let before = c.self.invariant.3 in (
+    let before = c.self.invariant.3 in
+    let longer = ap (λ (qs : List FlowQueue). length qs) items ∙ length-more c.pop-2.new.self.items c.in-Some.queue in
+    let as-many = c.self.invariant.0 in
+    let there = c.len.ensures in
+    let less = c.saturating_sub-flow.ensures in
+    let at-end : c.saturating_sub-flow.result ≡ length c.self.inside.keys.keys - 1 = omega arith in (
       search rules,
       (omega arith, omega arith),
       without-last c.self.inside.packets c.pop-2.new.self.items c.in-Some.queue
           (subst (AreStored c.self.inside.packets) items c.self.invariant.2),
       omega arith,
-      c.forget_last_key.ensures.members,
+      listed-then c.self.inside.keys.keys c.self.inside.queues.items c.pop-2.new.self.items c.self.inside.members c.forget_last_key.new.members c.saturating_sub-flow.result c.in-Some.queue items at-end
+          c.forget_last_key.ensures.keys c.forget_last_key.ensures.members as-many c.self.invariant.4,
     )
 
 -- the last flow is out

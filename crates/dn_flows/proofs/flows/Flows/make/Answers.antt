@@ -5,10 +5,11 @@ use Rattle.dn_types.specs.Flows.{with_key}
 use Rattle.dn_types.specs.declared.flow_key.FlowKey.{FlowKey}
 use Rattle.dn_flows.specs.declared.flow_queue.FlowQueue.{FlowQueue}
 use Rattle.dn_flows.specs.declared.unsent.Unsent.{Unsent}
-use Rattle.dn_flows.specs.Members.{Lists}
+use Rattle.dn_flows.specs.Members.{AreListed}
 use Rattle.dn_flows.specs.Store.{AreStored, all_with_unsent, new_queue, reserved_one, reservations, state_of}
 use Rattle.dn_flows.specs.Table.{is_known, new_flow}
 use Rattle.dn_flows.proofs.Counted.{both-more}
+use Rattle.dn_flows.proofs.Entries.{listed-more}
 use Rattle.dn_flows.proofs.Found.{next-number}
 use Rattle.dn_flows.proofs.Places.{length-more, sum-more}
 use Rattle.dn_flows.proofs.Tables.{as-many-flows, added, states_added}
@@ -24,7 +25,7 @@ invariant_of-self-2 c =
     let more-queues = ap (λ (qs : List FlowQueue). length qs) items ∙ length-more c.self.inside.queues.items new_queue in
     let more-counts = ap (λ (us : List Unsent). length us) counts ∙ length-more c.self.inside.unsent.items (record { lost = 0; full = 0; discarded = 0 }) in
     let known = c.self.inside.keys.keys in
-    let inserted : c.insert_full.new.self.keys ≡ with_key c.args.key known = search rules in
+    let inserted : c.insert_full.new.self.keys ≡ with_key c.args.key known = search (rules, c.in-Ok.ensures.keys, c.new-table_key.ensures) in
     let grown = inserted ∙ ap (λ b. cond b known (known ++ c.args.key ∷ [])) unknown in
     let more-keys = ap (λ (ks : List FlowKey). length ks) grown ∙ length-more known c.args.key in
     let as-many = c.self.invariant.0 in
@@ -38,10 +39,8 @@ invariant_of-self-2 c =
       ),
       subst (AreStored c.self.inside.packets) (sym items) (added c.self.inside.packets c.self.inside.queues.items c.self.invariant.2),
       omega arith,
-      (
-          let last : c.len-flow.result ≡ length known = omega (arith, c.len-flow.ensures, c.in_ok-reserve.ensures.len, c.self.inside.queues.ok.0, c.self.invariant.0) in
-          subst (λ (ks : List FlowKey). Lists ks c.push.new.self) (sym grown) (c.in_ok-push.ensures.ok known c.self.invariant.4 last)
-          ),
+      subst (λ (x : List FlowKey × List FlowQueue). AreListed x.0 x.1 c.self.inside.members) (λ i. (sym grown i, sym items i))
+          (listed-more known c.self.inside.queues.items c.self.inside.members c.args.key as-many unknown c.self.invariant.4),
     )
 
 pub returns-clause-flows : goal.returns-clause-flows
@@ -75,4 +74,4 @@ returns-clause-number c =
     rw (← c.self.view_is) (last ∙ sym (next-number c.args.key c.self.inside.keys.keys unknown))
 
 pub returns-clause-keys : goal.returns-clause-keys
-returns-clause-keys c = rw (← c.self.view_is) (search rules)
+returns-clause-keys c = rw (← c.self.view_is) (search (rules, c.in-Ok.ensures.keys, c.new-table_key.ensures))

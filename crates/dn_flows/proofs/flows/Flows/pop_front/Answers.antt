@@ -4,13 +4,17 @@ use Rattle.dn_flows.specs.Packets.{Packets}
 use Rattle.dn_flows.specs.declared.flow_queue.FlowQueue.{FlowQueue}
 use Rattle.dn_flows.specs.declared.waiting.Waiting.{Waiting}
 use Rattle.dn_flows.specs.Store.{TakesFront}
-use Rattle.dn_flows.proofs.Tables.{as-many-flows, first-held, first-short, popping, front, none-waits, reads, resting, same-reserved}
+use Rattle.dn_flows.proofs.Entries.{SameFlags, listed-after}
+use Rattle.dn_flows.proofs.Tables.{as-many-flows, first-held, first-short, popping, front, none-waits, reads, resting, same-reserved, there}
 use Rattle.std.proofs.lemmas.Grind.{common_steps}
 use Rattle.dn_flows.proofs.flows.Flows.pop_front.Goals as goal
 
+same-flags : {old new : Packets} {first : Waiting} {q q' : FlowQueue} → TakesFront first old q new q' → SameFlags q q'
+same-flags t = (ap (λ (x : FlowQueue). x.on_pipe) t.queue_is.2, ap (λ (x : FlowQueue). x.of_queue) t.queue_is.2, ap (λ (x : FlowQueue). x.reserved) t.queue_is.2, ap (λ (x : FlowQueue). x.active) t.queue_is.2)
+
 -- the start is counted, and nothing else
-counts-after : {old new : Packets} {first : Waiting} {q q' : FlowQueue} → TakesFront first old q new q' → (q'.reserved ≡ q.reserved) × (q'.started + 1 ≡ q.started + 1)
-counts-after t = (ap (λ (x : FlowQueue). x.reserved) t.queue_is.2, ap (λ (x : FlowQueue). x.started + 1) t.queue_is.2)
+counts-after : {old new : Packets} {first : Waiting} {q q' : FlowQueue} → TakesFront first old q new q' → (q'.reserved ≡ q.reserved) × (q'.started + 1 ≡ q.started + 1) × (q'.active ≡ q.active)
+counts-after t = (ap (λ (x : FlowQueue). x.reserved) t.queue_is.2, ap (λ (x : FlowQueue). x.started + 1) t.queue_is.2, ap (λ (x : FlowQueue). x.active) t.queue_is.2)
 
 pub pop_front-requires-clause-held : goal.pop_front-requires-clause-held
 pop_front-requires-clause-held c =
@@ -29,19 +33,14 @@ invariant_of-self-2 c =
     let len = c.in_ok-first.ensures.len in
     let capacity = c.in_ok-first.ensures.capacity in (
       c.self.invariant.0 ∙ sym (length-set c.self.inside.queues.items c.args.flow _),
-      (c.self.invariant.1.0 ∙ sym (same-reserved c.self.inside.packets c.self.inside.queues.items c.self.inside.unsent.items c.args.flow c.index_mut-queue.result.now c.self.invariant.2 (rw (← c.self.view_is) at c.requires.within) c.index_mut-queue.ensures.value (record { front = c.pop_front.new.self.front; back = c.pop_front.new.self.back; len = c.pop_front.new.self.len; bytes = c.pop_front.new.self.bytes; reserved = c.pop_front.new.self.reserved; started = c.pop_front.new.self.started + 1 }) (counts-after c.in_ok-first.ensures.takes).0), omega arith),
+      (c.self.invariant.1.0 ∙ sym (same-reserved c.self.inside.packets c.self.inside.queues.items c.self.inside.unsent.items c.args.flow c.index_mut-queue.result.now c.self.invariant.2 (rw (← c.self.view_is) at c.requires.within) c.index_mut-queue.ensures.value (record c.pop_front.new.self { started = c.pop_front.new.self.started + 1 }) (counts-after c.in_ok-first.ensures.takes).0), omega arith),
       (popping c.self.inside.packets c.self.inside.queues.items c.self.inside.unsent.items c.args.flow c.index_mut-queue.result.now c.self.invariant.2 (rw (←
-          c.self.view_is) at c.requires.within) c.index_mut-queue.ensures.value c.pop_front.new.store c.in_ok-first.first c.pop_front.new.self (record {
-            front = c.pop_front.new.self.front;
-            back = c.pop_front.new.self.back;
-            len = c.pop_front.new.self.len;
-            bytes =
-                c.pop_front.new.self.bytes;
-            reserved = c.pop_front.new.self.reserved;
-            started = c.pop_front.new.self.started + 1;
-          }) c.in_ok-first.ensures.takes (refl, refl, refl, refl) (counts-after c.in_ok-first.ensures.takes)).stored,
+          c.self.view_is) at c.requires.within) c.index_mut-queue.ensures.value c.pop_front.new.store c.in_ok-first.first c.pop_front.new.self (record c.pop_front.new.self { started = c.pop_front.new.self.started + 1 }) c.in_ok-first.ensures.takes (refl, refl, refl, refl) (counts-after c.in_ok-first.ensures.takes)).stored,
       c.self.invariant.3 ∙ sym (length-set c.self.inside.queues.items c.args.flow _),
-      c.self.invariant.4,
+      listed-after c.self.inside.keys.keys c.self.inside.queues.items c.self.inside.members c.args.flow c.index_mut-queue.result.now
+          (record c.pop_front.new.self { started = c.pop_front.new.self.started + 1 }) c.self.invariant.4
+          (there c.self.inside.packets c.self.inside.queues.items c.self.inside.unsent.items c.args.flow c.index_mut-queue.result.now c.self.invariant.2 (rw (← c.self.view_is) at c.requires.within) c.index_mut-queue.ensures.value)
+          (same-flags c.in_ok-first.ensures.takes),
     )
 
 pub returns-clause-front : goal.returns-clause-front
@@ -53,15 +52,7 @@ returns-clause-front c =
 pub returns-clause-flows : goal.returns-clause-flows
 returns-clause-flows c =
     rw (← c.self.view_is) (popping c.self.inside.packets c.self.inside.queues.items c.self.inside.unsent.items c.args.flow c.index_mut-queue.result.now c.self.invariant.2 (rw (←
-    c.self.view_is) at c.requires.within) c.index_mut-queue.ensures.value c.pop_front.new.store c.in_ok-first.first c.pop_front.new.self (record {
-      front = c.pop_front.new.self.front;
-      back = c.pop_front.new.self.back;
-      len = c.pop_front.new.self.len;
-      bytes =
-          c.pop_front.new.self.bytes;
-      reserved = c.pop_front.new.self.reserved;
-      started = c.pop_front.new.self.started + 1;
-    }) c.in_ok-first.ensures.takes (refl, refl, refl, refl) (counts-after c.in_ok-first.ensures.takes)).states
+    c.self.view_is) at c.requires.within) c.index_mut-queue.ensures.value c.pop_front.new.store c.in_ok-first.first c.pop_front.new.self (record c.pop_front.new.self { started = c.pop_front.new.self.started + 1 }) c.in_ok-first.ensures.takes (refl, refl, refl, refl) (counts-after c.in_ok-first.ensures.takes)).states
 
 pub index_mut-queue-requires : goal.index_mut-queue-requires
 index_mut-queue-requires c =

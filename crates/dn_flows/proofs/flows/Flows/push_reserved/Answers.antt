@@ -1,6 +1,7 @@
-use Rattle.std.proofs.Common.{◌∙◌, false, refl, sym, ap, length-set, arith}
+use Rattle.std.proofs.Common.{◌≡◌, ◌∙◌, true, false, refl, sym, ap, length-set, arith, inl}
 use Rattle.dn_flows.specs.declared.flow_queue.FlowQueue.{FlowQueue}
-use Rattle.dn_flows.proofs.Tables.{as-many-flows, few, fits, last-held, reads, one-less, pushing}
+use Rattle.dn_flows.proofs.Entries.{listed-q, listed-set}
+use Rattle.dn_flows.proofs.Tables.{as-many-flows, few, fits, last-held, reads, one-less, pushing, there}
 use Rattle.std.proofs.lemmas.Grind.{common_steps}
 use Rattle.dn_flows.proofs.flows.Flows.push_reserved.Goals as goal
 
@@ -9,15 +10,7 @@ pub push_back-requires-clause-room : goal.push_back-requires-clause-room
 push_back-requires-clause-room c =
     let less =
     one-less c.self.inside.packets c.self.inside.queues.items c.self.inside.unsent.items c.args.flow c.index_mut-queue.result.now c.self.invariant.2 (rw (←
-    c.self.view_is) at c.requires.within) c.index_mut-queue.ensures.value (record {
-      front = c.index_mut-queue.result.now.front;
-      back
-          = c.index_mut-queue.result.now.back;
-      len = c.index_mut-queue.result.now.len;
-      bytes = c.index_mut-queue.result.now.bytes;
-      reserved = false;
-      started = c.index_mut-queue.result.now.started;
-    }) (sym (reads c.self.inside.packets c.self.inside.queues.items
+    c.self.view_is) at c.requires.within) c.index_mut-queue.ensures.value (record c.index_mut-queue.result.now { reserved = false }) (sym (reads c.self.inside.packets c.self.inside.queues.items
     c.self.inside.unsent.items c.args.flow c.index_mut-queue.result.now c.self.invariant.2
     (rw (← c.self.view_is) at c.requires.within) c.index_mut-queue.ensures.value).reserved ∙ (rw (← c.self.view_is) at
     c.requires.reserved)) refl in
@@ -46,15 +39,7 @@ pub overflow_sub-self : goal.overflow_sub-self
 overflow_sub-self c =
     let less =
     one-less c.self.inside.packets c.self.inside.queues.items c.self.inside.unsent.items c.args.flow c.index_mut-queue.result.now c.self.invariant.2 (rw (←
-    c.self.view_is) at c.requires.within) c.index_mut-queue.ensures.value (record {
-      front = c.index_mut-queue.result.now.front;
-      back
-          = c.index_mut-queue.result.now.back;
-      len = c.index_mut-queue.result.now.len;
-      bytes = c.index_mut-queue.result.now.bytes;
-      reserved = false;
-      started = c.index_mut-queue.result.now.started;
-    }) (sym (reads c.self.inside.packets c.self.inside.queues.items
+    c.self.view_is) at c.requires.within) c.index_mut-queue.ensures.value (record c.index_mut-queue.result.now { reserved = false }) (sym (reads c.self.inside.packets c.self.inside.queues.items
     c.self.inside.unsent.items c.args.flow c.index_mut-queue.result.now c.self.invariant.2
     (rw (← c.self.view_is) at c.requires.within) c.index_mut-queue.ensures.value).reserved ∙ (rw (← c.self.view_is) at
     c.requires.reserved)) refl in
@@ -73,7 +58,14 @@ invariant_of-self c =
     let count = c.self.invariant.1.0 in
     let room = c.self.invariant.1.1 in
     let len = c.push_back.ensures.len in
-    let capacity = c.push_back.ensures.capacity in (
+    let capacity = c.push_back.ensures.capacity in
+    let t = c.self.inside in
+    let q = c.index_mut-queue.result.now in
+    let q' = c.push_back.new.self in
+    let is = c.push_back.ensures.appends.queue_is in
+    let within = rw (← c.self.view_is) at c.requires.within in
+    let at = there t.packets t.queues.items t.unsent.items c.args.flow q c.self.invariant.2 within c.index_mut-queue.ensures.value in
+    let had : q.reserved ≡ true = sym (reads t.packets t.queues.items t.unsent.items c.args.flow q c.self.invariant.2 within c.index_mut-queue.ensures.value).reserved ∙ (rw (← c.self.view_is) at c.requires.reserved) in (
       c.self.invariant.0 ∙ sym (length-set c.self.inside.queues.items c.args.flow c.push_back.new.self),
       (omega arith, omega arith),
       (pushing c.self.inside.packets c.self.inside.queues.items c.self.inside.unsent.items c.args.flow c.index_mut-queue.result.now
@@ -81,7 +73,9 @@ invariant_of-self c =
           c.args.waiting c.push_back.new.self c.push_back.ensures.appends (omega arith) (omega arith)
           (rw (← c.self.view_is) at c.requires.bytes)).stored,
       c.self.invariant.3 ∙ sym (length-set c.self.inside.queues.items c.args.flow c.push_back.new.self),
-      c.self.invariant.4,
+      listed-set t.keys.keys t.queues.items t.members c.args.flow q q' c.self.invariant.4 at (ap (λ (x : FlowQueue). x.on_pipe) is) (ap (λ (x : FlowQueue). x.of_queue) is)
+          (listed-q q q' (c.self.invariant.4.listed c.args.flow q at) (ap (λ (x : FlowQueue). x.on_pipe) is) (ap (λ (x : FlowQueue). x.of_queue) is)
+          (λ h. let wrong : false ≡ true = sym (ap (λ (x : FlowQueue). x.reserved) is) ∙ h in absurd cc) (λ h. inl had)),
     )
 
 pub returns-clause-flows : goal.returns-clause-flows

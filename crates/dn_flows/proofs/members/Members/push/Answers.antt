@@ -1,25 +1,56 @@
-use Rattle.std.proofs.Common.{◌≡◌, ◌∙◌, ◌++◌, ◌∷◌, [], Result, Ok, Err, OnOk, ap, cond, false, sym}
-use Rattle.std.specs.Prelude.{is_err}
+-- The flow joins one list, and all lists keep what they had.
+use Rattle.std.proofs.Common.{◌≡◌, ◌∙◌, ◌++◌, ◌∷◌, [], ℕ, List, Bool, true, false, Result, Ok, Err, OnOk, OnErr, ap, cond, refl, sym, subst}
+use Rattle.std.specs.Prelude.{nat_eq}
+use Rattle.std.specs.List.{list_any}
+use Rattle.dn_types.specs.declared.target.Target.{Target}
 use Rattle.dn_types.specs.declared.target.Target.TheVariants.{Pipe, Queue}
-use Rattle.dn_flows.specs.Members.{list_at}
-use Rattle.dn_flows.proofs.Listed.{of_by, put-in}
+use Rattle.dn_flows.specs.Members.{IsMember, list_at}
+use Rattle.dn_flows.proofs.Lists.{in-last, in-more}
+use Rattle.dn_flows.proofs.Places.{eq-yes}
 use Rattle.dn_flows.proofs.members.Members.push.Goals as goal
 
-ok_then : {T E : Type 0} (r : Result T E) (P : Type 0) → OnOk r P → is_err r ≡ false → P
-ok_then (Ok x) P h e = h
-ok_then (Err y) P h e = absurd cc
+abbrev Joins : List (List ℕ) → List (List ℕ) → ℕ → ℕ → Type 0
+Joins old new number flow = (other : ℕ) → list_at new other ≡ cond (nat_eq number other) (list_at old other ++ flow ∷ []) (list_at old other)
 
-pub returns-in_default-clause-ok : goal.returns-in_default-clause-ok
-returns-in_default-clause-ok c = λ keys lists last.
-    let old = c.args.self.now in
-    let flow = c.args.flow in
-    put-in keys c.args.key.now flow old _ lists last c.in_ok-push.ensures.ok
-    (λ q. ap (λ b. cond b (list_at old.of_queues q ++ flow ∷ []) (list_at old.of_queues q)) (of_by c.args.key.now (Pipe c.in_default.field-0) q c.in_default.is))
+abbrev Stays : List (List ℕ) → List (List ℕ) → Type 0
+Stays old new = (other : ℕ) → list_at new other ≡ list_at old other
 
-pub returns-clause-ok : goal.returns-clause-ok
-returns-clause-ok c = λ keys lists last.
-    let old = c.args.self.now in
-    let flow = c.args.flow in
-    let pushed = ok_then c.push-2.result _ c.push-2.ensures.ok (sym c.is_err.ensures.value ∙ c.if-is_err.false) in
-    put-in keys c.args.key.now flow old _ lists last c.in_ok-push.ensures.ok
-    (λ q. pushed q ∙ ap (λ b. cond b (list_at old.of_queues q ++ flow ∷ []) (list_at old.of_queues q)) (of_by c.args.key.now (Queue c.in-Queue.queue) q c.in-Queue.is))
+kept-by : (b : Bool) (g flow : ℕ) (old new : List ℕ) → new ≡ cond b (old ++ flow ∷ []) old → list_any (nat_eq g) old ≡ true → list_any (nat_eq g) new ≡ true
+kept-by true g flow old new is h = ap (λ (l : List ℕ). list_any (nat_eq g) l) is ∙ in-more g flow old h
+kept-by false g flow old new is h = ap (λ (l : List ℕ). list_any (nat_eq g) l) is ∙ h
+
+keeps : {T E : Type 0} (r : Result T E) (old new : List (List ℕ)) (number flow : ℕ) → OnOk r (Joins old new number flow) → OnErr r (Stays old new) → (other g : ℕ)
+    → list_any (nat_eq g) (list_at old other) ≡ true → list_any (nat_eq g) (list_at new other) ≡ true
+keeps (Ok x) old new number flow ok err other g h = kept-by (nat_eq number other) g flow (list_at old other) (list_at new other) (ok other) h
+keeps (Err e) old new number flow ok err other g h = ap (λ (l : List ℕ). list_any (nat_eq g) l) (err other) ∙ h
+
+joins : {T E : Type 0} (r : Result T E) (old new : List (List ℕ)) (number flow : ℕ) → OnOk r (Joins old new number flow) → OnOk r (list_any (nat_eq flow) (list_at new number) ≡ true)
+joins (Ok x) old new number flow ok =
+    ap (λ (l : List ℕ). list_any (nat_eq flow) l) (ok number ∙ ap (λ b. cond b (list_at old number ++ flow ∷ []) (list_at old number)) (eq-yes number number refl)) ∙ in-last flow (list_at old number)
+joins (Err e) old new number flow ok = tt
+
+pub returns-in-Pipe-clause-joins : goal.returns-in-Pipe-clause-joins
+returns-in-Pipe-clause-joins c =
+    let e = c.push.ensures in
+    rw c.in-Pipe.is (joins c.push.result c.args.self.now.on_pipes c.push.new.self c.in-Pipe.pipe c.args.flow e.ok)
+
+pub returns-in-Pipe-clause-keeps : goal.returns-in-Pipe-clause-keeps
+returns-in-Pipe-clause-keeps c =
+    let e = c.push.ensures in
+    λ target g. by target g
+  where
+    by : (target : Target) (g : ℕ) → IsMember target g c.args.self.now → IsMember target g (record c.args.self.now { on_pipes = c.push.new.self })
+    by (Pipe n) g h = keeps c.push.result c.args.self.now.on_pipes c.push.new.self c.in-Pipe.pipe c.args.flow c.push.ensures.ok c.push.ensures.err n g h
+    by (Queue n) g h = h
+
+pub returns-in-Queue-clause-joins : goal.returns-in-Queue-clause-joins
+returns-in-Queue-clause-joins c =
+    let e = c.push-in-Queue.ensures in
+    rw c.in-Queue.is (joins c.push-in-Queue.result c.args.self.now.of_queues c.push-in-Queue.new.self c.in-Queue.queue c.args.flow e.ok)
+
+pub returns-in-Queue-clause-keeps : goal.returns-in-Queue-clause-keeps
+returns-in-Queue-clause-keeps c = λ target g. by target g
+  where
+    by : (target : Target) (g : ℕ) → IsMember target g c.args.self.now → IsMember target g (record c.args.self.now { of_queues = c.push-in-Queue.new.self })
+    by (Pipe n) g h = h
+    by (Queue n) g h = keeps c.push-in-Queue.result c.args.self.now.of_queues c.push-in-Queue.new.self c.in-Queue.queue c.args.flow c.push-in-Queue.ensures.ok c.push-in-Queue.ensures.err n g h

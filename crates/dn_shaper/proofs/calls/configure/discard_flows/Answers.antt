@@ -1,64 +1,60 @@
--- Each flow that the delete reaches is discarded, one after another.
-use Rattle.std.proofs.Common.{◌≡◌, ◌∙◌, ◌^◌, List, ap, sym, arith}
-use Rattle.std.specs.Prelude.{Some, slice_get}
-use Rattle.dn_flows.specs.Table.{places_where}
-use Rattle.dn_types.specs.Calls.{reaches}
+-- Active flows are discarded one after another, until none is left.
+use Rattle.std.proofs.Common.{◌∙◌, List, ap, sym, subst, arith}
 use Rattle.dn_types.specs.declared.flow_key.FlowKey.{FlowKey}
-use Rattle.dn_shaper.proofs.Reached.{agrees-discarded, all-done, empties-more, empties-none, flows_reached, keeps-more, keeps-none, none-done, none-further, one-discarded, places-below, places-few}
+use Rattle.dn_shaper.specs.Refinement.Reordering.{DiscardsSome}
+use Rattle.dn_shaper.proofs.Reached.{empties-more, empties-none, keeps-more, keeps-none, none-done, then-done}
 use Rattle.dn_shaper.proofs.calls.configure.discard_flows.Goals as goal
 
-pub loop-index-init : goal.loop-index-init
-loop-index-init c = record {
+pub loop-init : goal.loop-init
+loop-init c = record {
   agrees = c.requires.agrees;
-  few = c.requires.few;
   within = λ n h. h;
   waiting = omega arith;
   keeps = keeps-none c.args.parts.now;
   empties = empties-none c.args.parts.now;
-  reached = none-done c.args.command.now c.args.parts.now;
+  discards = none-done c.args.command.now c.args.parts.now.flows.keys c.args.parts.now;
 }
 
-pub discard_flow-requires-clause-within : goal.discard_flow-requires-clause-within
-discard_flow-requires-clause-within c =
-    let below = places-below (reaches c.args.command.now) 0 c.loop-index.parts.flows.keys c.loop-index.index c.in-Some.flow (sym c.reached.ensures ∙ c.in-Some.is) in
-    omega arith
+pub discard_next-requires-clause-few : goal.discard_next-requires-clause-few
+discard_next-requires-clause-few c = c.loop.invariant.within _ c.requires.few
 
-pub loop-index-preserved : goal.loop-index-preserved
-loop-index-preserved c =
+pub loop-preserved : goal.loop-preserved
+loop-preserved c =
     let old = c.args.parts.now in
-    let before = c.loop-index.invariant in
-    let mid = c.loop-index.parts in
-    let new = c.discard_flow.new.parts in
-    let done = c.discard_flow.ensures in
-    let command = c.args.command.now in
-    let there : slice_get (flows_reached command old) c.loop-index.index ≡ Some c.in-Some.flow =
-    ap (λ (ks : List FlowKey). slice_get (places_where (reaches command) 0 ks) c.loop-index.index) (sym before.keeps.keys) ∙ sym c.reached.ensures ∙ c.in-Some.is in
+    let before = c.loop.invariant in
+    let mid = c.loop.parts in
+    let new = c.discard_next.new.parts in
+    let done = c.discard_next.ensures in
     record {
-      agrees = agrees-discarded c.in-Some.flow mid new before.agrees done.discards;
-      few = done.within (2 ^ 62) before.few;
+      agrees = done.agrees;
       within = λ n h. done.within n (before.within n h);
       waiting = let a = before.waiting in let b = done.waiting in omega arith;
       keeps = keeps-more old mid new before.keeps done.keeps;
       empties = empties-more old mid new before.empties done.empties;
-      reached = one-discarded command old c.loop-index.index c.in-Some.flow mid new there before.reached done.discards;
+      discards = then-done c.args.command.now old.flows.keys old mid new before.discards
+          (subst (λ (ks : List FlowKey). DiscardsSome c.args.command.now ks mid new) before.keeps.keys done.discards);
     }
 
--- No further flow is reached.
-pub returns-in_default-clause-discards : goal.returns-in_default-clause-discards
-returns-in_default-clause-discards c =
-    let old = c.args.parts.now in
-    let command = c.args.command.now in
-    let before = c.loop-index.invariant in
-    let none =
-    ap (λ (ks : List FlowKey). slice_get (places_where (reaches command) 0 ks) c.loop-index.index) (sym before.keeps.keys) ∙ sym c.reached.ensures ∙ c.in_default.is in
-    all-done command old c.loop-index.index c.loop-index.parts (none-further (flows_reached command old) c.loop-index.index none) before.reached
-
--- All flows are reached.
+-- None is left, and only room changed since the last.
 pub returns-clause-discards : goal.returns-clause-discards
 returns-clause-discards c =
     let old = c.args.parts.now in
-    let command = c.args.command.now in
-    let end = c.loop-index-test.false in
-    let all = c.len-index-end.ensures.keys in
-    let few = places-few (reaches command) 0 old.flows.keys in
-    all-done command old c.loop-index.index c.loop-index.parts (omega arith) c.loop-index.invariant.reached
+    let mid = c.loop.parts in
+    let new = c.discard_next.new.parts in
+    then-done c.args.command.now old.flows.keys old mid new c.loop.invariant.discards
+    (subst (λ (ks : List FlowKey). DiscardsSome c.args.command.now ks mid new) c.loop.invariant.keeps.keys c.discard_next.ensures.discards)
+
+pub returns-clause-none : goal.returns-clause-none
+returns-clause-none c = c.discard_next.ensures.none c.loop-test.false
+
+pub returns-clause-within : goal.returns-clause-within
+returns-clause-within c = λ n h. c.discard_next.ensures.within n (c.loop.invariant.within n h)
+
+pub returns-clause-waiting : goal.returns-clause-waiting
+returns-clause-waiting c = let a = c.loop.invariant.waiting in let b = c.discard_next.ensures.waiting in omega arith
+
+pub returns-clause-keeps : goal.returns-clause-keeps
+returns-clause-keeps c = keeps-more c.args.parts.now c.loop.parts c.discard_next.new.parts c.loop.invariant.keeps c.discard_next.ensures.keeps
+
+pub returns-clause-empties : goal.returns-clause-empties
+returns-clause-empties c = empties-more c.args.parts.now c.loop.parts c.discard_next.new.parts c.loop.invariant.empties c.discard_next.ensures.empties

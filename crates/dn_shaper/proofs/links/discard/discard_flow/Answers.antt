@@ -1,9 +1,12 @@
 -- The flow's packets leave its link.
-use Rattle.std.proofs.Common.{ℕ, ap, arith, subst, sym}
+use Rattle.std.proofs.Common.{ℕ, List, ap, arith, subst, sym}
+use Rattle.std.specs.List.{count_by}
+use Rattle.dn_flows.specs.Table.{FlowState}
+use Rattle.dn_shaper.proofs.Reached.{fewer-active}
 use Rattle.std.proofs.lemmas.Grind.{common_steps}
 use Rattle.dn_types.specs.declared.flow_status.FlowStatus.{FlowStatus}
 use Rattle.dn_shaper.specs.Refinement.Discarding.{HoldsCount}
-use Rattle.dn_shaper.proofs.Discarding.{few-there, is-home, holds, alone, enough-all, discards-agree, discards-within, discards-keeps, discards-empties}
+use Rattle.dn_shaper.proofs.Discarding.{few-there, flow-there, is-home, holds, alone, enough-all, discards-agree, discards-within, discards-keeps, discards-empties}
 use Rattle.dn_shaper.proofs.HomeRead.{at-home, home-below}
 use Rattle.dn_shaper.proofs.links.discard.discard_flow.Goals as goal
 
@@ -54,3 +57,11 @@ pub returns-clause-empties : goal.returns-clause-empties
 returns-clause-empties c =
     let home = at-home c.args.parts.now c.requires.agrees c.requires.within c.index-home.ensures in
     discards-empties c.requires.few c.requires.agrees c.requires.within home c.empty_flow.ensures
+
+pub returns-clause-fewer : goal.returns-clause-fewer
+returns-clause-fewer c = λ active.
+    let flows = c.args.parts.now.flows.flows in
+    let now = ap (λ (fs : List FlowState). count_by (λ (s : FlowState). s.active) fs) c.empty_flow.ensures.flows_are in
+    let there = flow-there c.requires.few c.requires.agrees c.requires.within in
+    let fewer = fewer-active flows c.args.flow there active in
+    omega arith
