@@ -29,7 +29,9 @@ impl Client {
         }
     }
 
-    /// Makes a call if no other caller is in one, and keeps the reply. Err is MEMORY, or BUSY with the number of the other caller.
+    /// Makes a call if no other caller is in one, and keeps the reply.
+    ///
+    /// Err is MEMORY, or BUSY with the number of the other caller.
     fn apply(&mut self, call: &Call, holder: &mut u64) -> Result<(), u32>
         ensures ok { OnOk result (IsAnswered call.now self.old self.new) }
         ensures err { OnErr result (self.new ≡ self.old) }

@@ -42,7 +42,9 @@ fn put_line(line: &[u8], text: &mut [u8])
 }
 
 impl Ledger {
-    /// Takes out all entries so far, in the place of those that were written. `Err` has the number of the caller who is in a call.
+    /// Takes out all entries so far, in the place of those that were written.
+    ///
+    /// `Err` has the number of the caller who is in a call.
     fn take(&mut self) -> Result<u64, usize>
         ensures ok { IfOk result (λ start. Takes self.old.taker.lasting self.old.taker.caller start self.new.entries.items self.new.taker.lasting self.new.taker.caller) }
         ensures written { IfOk result (λ start. self.new.written ≡ 0) }

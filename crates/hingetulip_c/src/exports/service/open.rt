@@ -85,8 +85,9 @@ pub extern "C" fn dn_service_open(
     open(alloc, service, callers, HashKey(0))
 }
 
-/// The same with a secret of 128 bits for the table of its flows, for packets that a stranger chooses. No
-/// answer depends on it.
+/// As `dn_service_open`, with a secret of 128 bits for the table of its flows, for packets that a stranger chooses.
+///
+/// No reply depends on it.
 #[unsafe(no_mangle)]
 pub extern "C" fn dn_service_open_with_key(
     alloc: Global,
