@@ -121,6 +121,7 @@ def parts(cases: str, seed: int) -> list[Part]:
         Part("the program without memory", [python, "tools/gate/memory.py", program], "cc"),
         Part("chosen keys", [python, "tools/gate/hostile.py", program], "valgrind"),
         Part("what is kept of an input", [python, "tools/gate/kept.py", program]),
+        Part("a history of sixteen threads", [python, "tools/gate/senders.py", program]),
         Part("keys of the hash", [python, "tools/gate/hash_key.py", program], "cc"),
         Part("the command line", [python, "tools/gate/command_line.py", program]),
         Part("the wrapper, ./build and ./install", [python, "tools/gate/wrapper.py", program]),

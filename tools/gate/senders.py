@@ -1,0 +1,82 @@
+"""Sixteen threads make 10^6 calls over one link, one of them writes the history to a file as they go, and memory stays flat.
+
+    python3 tools/gate/senders.py PROGRAM
+
+The program of crates/many_senders makes 10^5 calls and then 10^6. After each run PROGRAM audits the file, and the entries of each
+caller are counted. The ten times longer run may have a few MiB more in memory at most.
+"""
+
+from __future__ import annotations
+
+import os
+import re
+import subprocess
+import sys
+import time
+from collections import Counter
+from pathlib import Path
+from tempfile import TemporaryDirectory
+
+from tally import Tally
+
+SENDERS = Path(__file__).resolve().parent.parent.parent / "crates" / "many_senders" / "out" / "many_senders"
+THREADS = 16
+FEWER, MANY = 100_000, 1_000_000
+# MiB that the longer run may have more in memory: the entries that wait to be written depend on the schedule.
+MORE = 6
+# What an audit reads at most if it isn't told otherwise, in bytes.
+HISTORY_LIMIT = 2**28
+
+
+def entries_of(history: Path) -> Counter[int]:
+    """How many entries each caller has."""
+    with open(history, "rb") as lines:
+        return Counter(int(line.split(b",", 2)[1]) for line in lines if line.startswith(b"c,"))
+
+
+def verdict(program: str, history: Path) -> tuple[int, str]:
+    """The status and the line of an audit."""
+    size = history.stat().st_size
+    most = ["--most-history", str(size)] if size > HISTORY_LIMIT else []
+    done = subprocess.run([program, "audit", *most, history], capture_output=True, text=True)
+    return done.returncode, done.stdout
+
+
+def peak(words: list[str], folder: str) -> float:
+    """The most MiB that the command had in memory. The system counts them from its start, and they are read until it ends."""
+    with subprocess.Popen(words, cwd=folder, stdout=subprocess.DEVNULL) as child:
+        most, status = 0, Path(f"/proc/{child.pid}/status")
+        while child.poll() is None:
+            found = re.search(r"VmHWM:\s+(\d+) kB", status.read_text())
+            most = max(most, int(found[1]) if found else 0)
+            time.sleep(0.005)
+    if child.returncode != 0:
+        sys.exit(f"{' '.join(words)}: status {child.returncode}")
+    return most / 1024
+
+
+def run(tally: Tally, program: str, calls: int, folder: str) -> float:
+    """Makes so many calls, looks at the history, and gives the most MiB that were in memory."""
+    history = Path(folder) / "history"
+    taken = peak([str(SENDERS), str(calls), str(history)], folder)
+    rounds = calls // THREADS
+    # The last caller also configures the pipe.
+    tally.equal(f"entries of {calls} calls", {k: rounds + (k == THREADS - 1) for k in range(THREADS)}, dict(entries_of(history)))
+    tally.equal(f"audit of {calls} calls", (0, f"lawful {rounds * THREADS + 1}\n"), verdict(program, history))
+    print(f"{calls} calls by {THREADS} threads: a history of {history.stat().st_size >> 20} MiB, and {taken:.1f} MiB in memory", flush=True)
+    return taken
+
+
+def main(program: str) -> int:
+    tally = Tally()
+    if not SENDERS.exists():
+        tally.note("the program", f"{SENDERS} isn't built")
+        return tally.end()
+    with TemporaryDirectory() as folder:
+        fewer, many = [run(tally, os.path.abspath(program), calls, folder) for calls in (FEWER, MANY)]
+    tally.note("flat memory", "" if many <= fewer + MORE else f"{fewer:.1f} MiB for {FEWER} calls, and {many:.1f} MiB for {MANY}")
+    return tally.end()
+
+
+if __name__ == "__main__":
+    sys.exit(main(*sys.argv[1:]))
