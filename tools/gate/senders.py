@@ -3,7 +3,8 @@
     python3 tools/gate/senders.py PROGRAM
 
 The program of crates/many_senders makes 10^5 calls and then 10^6. After each run PROGRAM audits the file, and the entries of each
-caller are counted. The ten times longer run may have a few MiB more in memory at most.
+caller are counted. The ten times longer run may have a few MiB more in memory at most. The functions that docs/THREADS.md shows first
+are the program's.
 """
 
 from __future__ import annotations
@@ -19,7 +20,9 @@ from tempfile import TemporaryDirectory
 
 from tally import Tally
 
-SENDERS = Path(__file__).resolve().parent.parent.parent / "crates" / "many_senders" / "out" / "many_senders"
+TOP = Path(__file__).resolve().parent.parent.parent
+CRATE = TOP / "crates" / "many_senders"
+SENDERS = CRATE / "out" / "many_senders"
 THREADS = 16
 FEWER, MANY = 100_000, 1_000_000
 # MiB that the longer run may have more in memory: the entries that wait to be written depend on the schedule.
@@ -67,8 +70,16 @@ def run(tally: Tally, program: str, calls: int, folder: str) -> float:
     return taken
 
 
+def missing() -> list[str]:
+    """The functions of the first example in docs/THREADS.md that aren't in the program, by their first lines."""
+    sources = "\n\n".join(path.read_text() for path in CRATE.glob("src/*.rt"))
+    block = (TOP / "docs" / "THREADS.md").read_text().split("```rust\n")[1].split("```")[0]
+    return [shown.splitlines()[0] for shown in block.strip().split("\n\n") if f"\n\n{shown}\n" not in sources]
+
+
 def main(program: str) -> int:
     tally = Tally()
+    tally.equal("the first example in docs/THREADS.md", [], missing())
     if not SENDERS.exists():
         tally.note("the program", f"{SENDERS} isn't built")
         return tally.end()
