@@ -63,8 +63,9 @@ impl FlowQueue {
         self.on_pipe && self.of_queue
     }
 
-    /// Lets go of the flow's entry in the list of the target, and of the place that was reserved, and answers how many of those
-    /// there were.
+    /// Lets go of the flow's entry in the list of the target, and of the place that was reserved.
+    ///
+    /// It returns how many places were reserved, 0 or 1.
     pub fn let_go(&mut self, target: &Target) -> usize
         ensures value { result ≡ reserved_one self.old }
         ensures lets_go { self.new ≡ without_list target.now self.old }

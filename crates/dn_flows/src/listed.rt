@@ -1,5 +1,6 @@
-//! Which flows are in the lists of their pipes and queues. The lists hold also flows that aren't active; these are taken out
-//! as they come to the end.
+//! Which flows are in the lists of their pipes and queues.
+//!
+//! The lists hold also flows that aren't active. These are taken out as they come to the end.
 ghost use Rattle.std.specs.Prelude.{◌≡◌, ℕ, ◌<◌, ◌≤◌, List, true, false, length, slice_get, slice_set, Some, IfSome, IfNone, OnOk};
 ghost use Rattle.dn_flows.specs.Members.{AreListed, KeepQueues, LetsGo};
 ghost use Rattle.dn_flows.specs.Store.{reservations};

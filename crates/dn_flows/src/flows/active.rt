@@ -7,9 +7,10 @@ use crate::listed::last_active;
 use dn_types::Target;
 
 impl Flows {
-    /// An active flow on the pipe or of the queue: one that a packet joined since it was last discarded. None says that there
-    /// is none. Over many calls it costs the flows that became active, and not those that there are. A flow that isn't active
-    /// may lose the place that was reserved for it.
+    /// An active flow on the pipe or of the queue: one that a packet joined since it was last discarded.
+    ///
+    /// None says that there is none. Over many calls it costs the flows that became active, and not all that there are. A flow
+    /// that isn't active may lose the place that was reserved for it.
     pub fn active(&mut self, target: Target) -> Option<usize>
         ensures keys { self.new.keys ≡ self.old.keys }
         ensures many { length self.new.flows ≡ length self.old.flows }
