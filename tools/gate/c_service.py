@@ -5,7 +5,8 @@
 It takes the library of the present sources, as tools/library finds it. Each run has 1 to 15 threads. Each is made twice, with the
 sanitizers for addresses and undefined behaviour, and with the one for threads. The latter sees the program and the header alone: the
 shared library isn't made for it, and orders its threads by atomics that it doesn't see. The history has to be lawful, and each
-caller's entries have to be as many, and of the kinds, as its thread was told.
+caller's entries have to be as many, and of the kinds, as its thread was told. Then each growth of memory is refused, and arguments of
+every kind are tried.
 """
 
 from __future__ import annotations
@@ -18,7 +19,7 @@ from pathlib import Path
 from random import Random
 from tempfile import TemporaryDirectory
 
-from c_library import HEADER, SOURCES, library, scenario
+from c_library import HEADER, SOURCES, TOOLS, ends_well, library, program, scenario
 from link_library import SHARED
 from tally import Tally
 
@@ -29,7 +30,7 @@ KINDS = {"queued": "queued", "lost": "lost", "full": "full", "no-target": "witho
 TOLD = ("calls", "queued", "lost", "full", "without target", "delivered", "refused")
 
 
-def program(place: Path, name: str, sanitizer: str, *linked: str | Path) -> Path:
+def threads(place: Path, name: str, sanitizer: str, *linked: str | Path) -> Path:
     made = place / name
     subprocess.run(["gcc", *COMMON, sanitizer, f"-I{HEADER}", "-o", made, SOURCES / "service.c", *linked], check=True)
     return made
@@ -77,14 +78,17 @@ def main(audit: str, seed: str, count: str) -> int:
     print(f"seed {seed}", flush=True)
     with TemporaryDirectory() as folder:
         place = Path(folder)
-        programs = {"addresses": program(place, "addresses", "-fsanitize=address,undefined", static),
-                    "threads": program(place, "threads", "-fsanitize=thread", shared, f"-Wl,-rpath,{shared.parent}")}
+        programs = {"addresses": threads(place, "addresses", "-fsanitize=address,undefined", static),
+                    "threads": threads(place, "threads", "-fsanitize=thread", shared, f"-Wl,-rpath,{shared.parent}")}
         for number in range(int(count)):
             calls = [place / f"calls{thread}" for thread in range(rng.randint(1, MOST_CALLERS))]
             for one in calls:
                 one.write_text("".join(f"{line}\n" for line in scenario(rng) if line[0] in "fpac"))
             for name, made in programs.items():
                 entries += tried(tally, f"run {number}, {name}", made, place, audit, calls)
+        ends_well(tally, "arguments", [program(place, "service_arguments")])
+        wrapped = "-Wl,--wrap=rattle_alloc,--wrap=rattle_realloc"
+        ends_well(tally, "growths", [program(place, "service_growths", TOOLS / "refused_growths.c", wrapped)])
     print(f"{entries} entries of histories")
     return tally.end()
 
