@@ -72,7 +72,7 @@ def options() -> argparse.ArgumentParser:
                                                  "Prints `ready at HOST:PORT` once it listens. Each client has a socket of its own towards SERVER.")
     parser.add_argument("listen", type=Address.read, metavar="LISTEN", help="PORT or HOST:PORT to which the client sends; port 0 takes a free one")
     parser.add_argument("server", type=Address.read, metavar="SERVER", help="PORT or HOST:PORT of the server, of the same family")
-    parser.add_argument("links", nargs="*", metavar="LINK", help="a configuration line, or a file of such lines, as --line and --config")
+    parser.add_argument("links", nargs="*", default=[], metavar="LINK", help="a configuration line, or a file of such lines, as --line and --config")
     add_link(parser)
     add_run(parser.add_argument_group("the run"))
     return parser

@@ -3,12 +3,13 @@
 from __future__ import annotations
 
 import argparse
+import os
 import random
 from typing import Iterable, Optional
 
 from hinge.run.plan import MOST, Plan
 from hinge.run.transcripts import refuse_own_input
-from hinge.run.words import Target, duration, link_line, read_lines
+from hinge.run.words import Target, Wrong, bare, duration, link_line, read_lines, target_of
 
 BIN_LEAST = 10**6  # ns
 MTU_LEAST, MTU_MOST = 576, 65535
@@ -61,18 +62,44 @@ def inputs(asked: argparse.Namespace) -> Iterable[Optional[str]]:
     return asked.config, asked.timeline, asked.up_trace, asked.down_trace, *getattr(asked, "inputs", [])
 
 
+def lines_of(asked: argparse.Namespace) -> list[str]:
+    """The configuration lines, in their order. Those of --up and --down are behind lines that configure the same pipe, and else before
+    all lines, since queues may be of it. A direction of which nothing is said is open."""
+    given = [*(read_lines(asked.config) if asked.config else []), *(part for text in asked.line for part in text.splitlines())]
+    configured = {target_of(bare(line)) for line in given}
+    first, last = [], []
+    for number, text in ((1, asked.up), (2, asked.down)):
+        is_given = Target("pipe", number) in configured
+        if text is not None:
+            (last if is_given else first).append(link_line(number, text))
+        elif not is_given:
+            last.append(f"pipe {number} config")
+    return [*first, *given, *last]
+
+
+def refuse_lost_summary(path: Optional[str]) -> None:
+    """A file that can't be written is told before the run, whose figures it is to have."""
+    if path is not None and (os.path.isdir(path) or not os.access(path if os.path.exists(path) else os.path.dirname(path) or ".", os.W_OK)):
+        raise Wrong(f"--json {path}: it can't be written")
+
+
+def limit_of(late: Optional[str]) -> Optional[float]:
+    """The limit of --late, in ms. Without a unit it would be taken for ms by the one, and for s by the other."""
+    if late is None:
+        return None
+    if late.replace(".", "", 1).isdecimal():
+        raise Wrong(f"--late {late}: it has no unit; write {late}ms or {late}s")
+    return duration(late) / 1e6
+
+
 def plan_of(asked: argparse.Namespace, longest: int) -> Plan:
     """What the link shall do, for packets of at most so many bytes."""
     refuse_own_input(asked.transcript, inputs(asked))
     refuse_own_input(asked.json, [*inputs(asked), asked.transcript])
+    refuse_lost_summary(asked.json)
     plan = Plan(longest)
-    for line in [*(read_lines(asked.config) if asked.config else []), *(part for text in asked.line for part in text.splitlines())]:
+    for line in lines_of(asked):
         plan.link(line)
-    for number, text in ((1, asked.up), (2, asked.down)):
-        if text is not None:
-            plan.link(link_line(number, text))
-        elif Target("pipe", number) not in plan.current:
-            plan.link(f"pipe {number} config")  # a direction of which nothing is said is open
     for rule in asked.map:
         plan.rule(rule)
     for model in asked.loss:

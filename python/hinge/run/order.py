@@ -8,12 +8,11 @@ import os
 from typing import NamedTuple, Optional, Sequence
 
 from hinge.command import say
-from hinge.run.options import draws, drawn_seed, plan_of
+from hinge.run.options import draws, drawn_seed, limit_of, plan_of
 from hinge.run.page import NOT_ALLOWED, Page
 from hinge.run.processes import Mask
 from hinge.run.summary import VOID, lines, record, void
 from hinge.run.transcripts import told
-from hinge.run.words import duration
 
 
 class Order(NamedTuple):
@@ -30,8 +29,7 @@ def order_of(asked: argparse.Namespace, longest: int, mask: Mask) -> Order:
     """For packets of at most so many bytes."""
     plan, seed = plan_of(asked, longest), drawn_seed(asked)
     text = plan.text(seed, os.path.abspath(asked.transcript) if asked.transcript else None, asked.realtime, asked.most)
-    limit = duration(asked.late) / 1e6 if asked.late else None
-    return Order(asked, text, [(change.moment, change.line) for change in plan.changes.all()], limit, seed, draws(plan), mask)
+    return Order(asked, text, [(change.moment, change.line) for change in plan.changes.all()], limit_of(asked.late), seed, draws(plan), mask)
 
 
 def note_realtime(page: Page) -> None:

@@ -2,6 +2,7 @@
 
 from __future__ import annotations
 
+import argparse
 import subprocess
 import tempfile
 import time
@@ -9,6 +10,7 @@ import unittest
 from fractions import Fraction
 
 from hinge.program import dummynet
+from hinge.run.options import add_link, add_run, plan_of
 from hinge.run.page import BINS, Times
 from hinge.run.plan import Plan
 from hinge.run.spelling import spelled
@@ -119,6 +121,21 @@ class Timelines(OfFiles):
     def test_lines_that_are_wrong(self) -> None:
         for text in ("soon pipe 1 config\n", "1s outage\n", "1s outage 2s gently\n", "1s up outage 2s\n"):
             self.assertRaisesRegex(Wrong, "line 1: ", self.lines, text)
+
+
+class OfOptions(OfFiles):
+    def configured(self, *words: str) -> list[str]:
+        parser = argparse.ArgumentParser()
+        add_link(parser), add_run(parser.add_argument_group("the run"))
+        return plan_of(parser.parse_args(words), 1500).configured
+
+    def test_the_order_of_lines(self) -> None:
+        """Queues can be of the pipes of --up and --down, which go before lines that configure the same pipe; what isn't named is open."""
+        queue, up = "queue 1 config pipe 1 weight 3", "pipe 1 config bw 10Mbit/s"
+        self.assertEqual(self.configured("--line", queue, "--up", "10Mbit/s"), [up, queue, "pipe 2 config"])
+        file = self.file(f"pipe 1 config delay 3\n{queue}  # of it\n")
+        self.assertEqual(self.configured("--config", file, "--up", "10Mbit/s", "--down", "5ms"), ["pipe 2 config delay 5ms", "pipe 1 config delay 3", queue, up])
+        self.assertEqual(self.configured("--line", queue), [queue, "pipe 1 config", "pipe 2 config"])
 
 
 class OfTranscripts(OfFiles):

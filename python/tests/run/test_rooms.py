@@ -40,6 +40,8 @@ class OfCommands(unittest.TestCase):
         for words, status, told in ((["--up", "10Mbps"], 3, "hinge: pipe 1 config 10Mbps: word 4: unknown word\n"),
                                     (["--line", "queue 1 config pipe 9"], 3, "hinge: queue 1 config pipe 9: no-such-pipe\n"),
                                     (["--late", "soon"], 2, "hinge run: soon: no time, as 5s or 600ms\n"),
+                                    (["--late", "2"], 2, "hinge run: --late 2: it has no unit; write 2ms or 2s\n"),
+                                    (["--json", "/none/json"], 2, "hinge run: --json /none/json: it can't be written\n"),
                                     (["--config", "/none"], 2, "hinge run: /none: No such file or directory\n"),
                                     (["--map", "tcp"], 2, "hinge run: --map tcp: it doesn't end in `=> pipe N` or `=> queue N`\n")):
             got = run(*words, "--", "echo", "started")
