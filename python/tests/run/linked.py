@@ -62,7 +62,16 @@ def no_rooms() -> str:
     return "" if tried.returncode == 0 else tried.stderr.strip() or f"status {tried.returncode}"
 
 
+def no_mounts() -> str:
+    """Why a test can't mount what it needs, or nothing."""
+    if os.geteuid() != 0 or shutil.which("unshare") is None or shutil.which("setpriv") is None:
+        return "only root can mount, and take its rights away, by unshare and setpriv"
+    tried = subprocess.run(["unshare", "-m", "true"], capture_output=True, text=True)
+    return tried.stderr.strip()
+
+
 needs_rooms = unittest.skipIf(bool(no_rooms()), no_rooms())
+needs_mounts = unittest.skipIf(bool(no_mounts()), no_mounts())
 only_long = unittest.skipUnless(os.environ.get("HINGE_LONG"), "takes long: --long")
 
 

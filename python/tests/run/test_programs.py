@@ -16,7 +16,7 @@ from typing import Any
 
 from hinge.run.interfaces import leads_out_in_ipv6
 from hinge.run.outside import GATEWAY, GATEWAY6
-from linked import AS_IN_A_CONTAINER, HINGE, Done, audited_as_lawful, found, needs, needs_rooms, run
+from linked import AS_IN_A_CONTAINER, HINGE, Done, audited_as_lawful, found, needs, needs_mounts, needs_rooms, run
 
 PAYLOAD = 1448 / 1500  # of a TCP packet's bytes, with time stamps
 TOLERANCE = 0.05
@@ -233,8 +233,8 @@ class OfOutside(Behind):
     def test_by_slirp4netns(self) -> None:
         self.in_ipv4(os.environ["PATH"])
 
-    @needs("slirp4netns", "unshare", "setpriv")
-    @unittest.skipUnless(os.geteuid() == 0, "only root can take its rights away")
+    @needs_mounts
+    @needs("slirp4netns")
     def test_by_slirp4netns_as_in_a_container(self) -> None:
         self.asked(os.environ["PATH"], "127.0.0.1", GATEWAY, *AS_IN_A_CONTAINER)
 

@@ -11,7 +11,7 @@ import tempfile
 import time
 import unittest
 
-from linked import AS_IN_A_CONTAINER, HINGE, audited, audited_as_lawful, found, needs, needs_rooms, run
+from linked import AS_IN_A_CONTAINER, HINGE, audited, audited_as_lawful, found, needs, needs_mounts, needs_rooms, run
 
 
 CHROOTED = """mount --make-rshared / && cd "$0" || exit 99
@@ -85,8 +85,8 @@ class OfCommands(unittest.TestCase):
 
 
 @needs_rooms
-@needs("unshare", "chroot", "getent")
-@unittest.skipUnless(os.geteuid() == 0, "the kernel gives users no namespaces in a chroot")
+@needs_mounts
+@needs("chroot", "getent")
 class OfChroots(unittest.TestCase):
     def test_a_root_that_is_no_file_system_s(self) -> None:
         """The folder is in mounts that are shared, so that one that the run doesn't keep to itself would be seen from outside."""
@@ -99,8 +99,8 @@ class OfChroots(unittest.TestCase):
 
 
 @needs_rooms
-@needs("unshare", "setpriv", "ping")
-@unittest.skipUnless(os.geteuid() == 0, "only root can take its rights away")
+@needs_mounts
+@needs("ping")
 class OfContainers(unittest.TestCase):
     def test_nothing_but_the_command_speaks(self) -> None:
         """Six entries: two lines, a packet there and back, and the two moments at which they leave."""
