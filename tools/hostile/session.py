@@ -7,10 +7,18 @@ from pathlib import Path
 from typing import Callable, Iterator
 
 
-def write_session(calls: Callable[[int], Iterator[str]]) -> None:
+def session_parser() -> argparse.ArgumentParser:
     parser = argparse.ArgumentParser()
     parser.add_argument("count", type=int)
     parser.add_argument("file", type=Path)
-    a = parser.parse_args()
-    with open(a.file, "w", encoding="ascii") as out:
-        out.writelines(calls(a.count))
+    return parser
+
+
+def write_calls(file: Path, calls: Iterator[str]) -> None:
+    with open(file, "w", encoding="ascii") as out:
+        out.writelines(calls)
+
+
+def write_session(calls: Callable[[int], Iterator[str]]) -> None:
+    a = session_parser().parse_args()
+    write_calls(a.file, calls(a.count))
