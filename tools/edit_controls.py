@@ -72,12 +72,15 @@ CONTROLS = {
     "dn_service/invented_reply": [("number == 0", "number >= 16")],
     "dn_service/memory_after_change": [("pages.history.reserve(1)?;", "let _ = pages.history.len();")],
     "dn_service/close_always_refuses": [("callers.len() == self.count", "self.count == 0")],
+    "dn_service/close_leaves_nothing": [("book.take(&mut away);", "let _away: Vec<Entry> = away;")],
     "dn_service/records_twice": [("let _ = self.try_once(&call);", "let _ = self.number();")],
     "dn_service/take_gives_an_entry_twice": [("let _ = list.push(again);", "drop(again);")],
     "dn_service/take_leaves_the_last": [("list.pop()", "list.last()"), ("pages.history.push(last)", "last.caller")],
     "dn_service/taker_calls_twice": [("let _ = self.caller.call(rt, Call::Show);", "let _ = self.caller.number();")],
     "dn_service/taker_drops_a_segment": [("let _ = self.caller.take(rt, &mut self.lasting);", "let _ = self.caller.number();")],
     "dn_service/taker_is_its_own_hindrance": [("self.caller.number() == 0", "self.caller.number() != self.caller.number()")],
+    "dn_service/taker_takes_at_its_end": [("caller.try_take(&mut lasting)", "caller.number()")],
+    "dn_service/taker_takes_at_its_start": [("caller.try_take(&mut lasting)", "caller.number()")],
     "dn_service/without_the_reply": [
         ("ghost use Rattle.dn_types.specs.Clock", "ghost use Rattle.dn_types.specs.Replies.{reply}; ghost use Rattle.dn_types.specs.Clock"),
         ("ensures err {", "ensures ok { IfOk result (λ r. (rule : RuleValue) (calls : List CallValue) → StandsAfter rule self.old calls"
@@ -98,6 +101,10 @@ CONTROLS = {
     "dn_shaper/without_the_packet_pushed": [
         ("fn push_reserved(", "ghost use Rattle.std.specs.Prelude.{slice_set}; ghost use Rattle.dn_flows.specs.Table.{pushed}; fn push_reserved("),
         ("ensures keys {", "ensures flows { flows.new.flows ≡ slice_set flows.old.flows flow (pushed waiting (flow_at flows.old.flows flow)) } ensures keys {")],
+    "hingetulip_c/clears_the_next_place": [("list[given.len()].reserved = 0;", "let _ = given.len();")],
+    "hingetulip_c/hides_a_fate": [("fate.outcome == 0", "i >= packets.len()")],
+    "hingetulip_c/moves_the_next_flow": [("list[given.len()].flow = 0;", "let _ = given.len();")],
+    "hingetulip_c/takes_packets_while_closed": [("if status == 5", "if i >= packets.len()")],
     "dn_files/without_the_fault_of_a_line": [("IfOk result (λ command. Ok command ≡ answer line.now)", "result ≡ answer line.now")],
     "dn_files/short_read_ends_the_feed": [("count < PART", "count == 0")],
     "dn_replay/bad_row_before_a_failed_read": [
