@@ -44,6 +44,9 @@ fn the_plain_line_of_a_version_begins_parts(rt: HostRuntime) -> Result<(), Fail>
         ("dummynet-history,2\nend,0\n", Rule::Free),
         ("dummynet-history,3\n", Rule::Ordered),
         ("dummynet-live,1\n", Rule::Ordered),
+        ("dummynet-history,2\r\nend,0\r\n", Rule::Free),
+        ("dummynet-live,1\r\n", Rule::Ordered),
+        ("\u{feff}dummynet-history,3\n", Rule::Ordered),
     ] {
         let parts = HistoryParts::new(alloc, text.as_bytes())?.ok_or("the line of a version")?;
         assert!(rt; parts.rule() == rule);
@@ -58,12 +61,13 @@ fn another_first_line_begins_no_parts(rt: HostRuntime) -> Result<(), Fail> {
     for text in [
         "",
         "dummynet-history,3",
-        "dummynet-history,3\r\n",
+        "dummynet-history,3\r",
+        "dummynet-history,3\r3\n",
         "\"dummynet-history\",3\n",
         "dummynet-history,\"3\"\n",
         "dummynet-history,4\n",
         "dummynet-live,2\n",
-        "dummynet-live,1\r\n",
+        "dummynet-live,1\r",
         "dummynet-history,03\n",
         "dummynet-history, 3\n",
         "dummynet-history,3 \n",
