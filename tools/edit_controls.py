@@ -97,9 +97,6 @@ CONTROLS = {
     "hingetulip_c/clears_the_next_place": [("list[given.len()].reserved = 0;", "let _ = given.len();")],
     "dn_files/without_the_fault_of_a_line": [("IfOk result (λ command. Ok command ≡ answer line.now)", "result ≡ answer line.now")],
     "dn_files/short_read_ends_the_feed": [("count < PART", "count == 0")],
-    "dn_replay/bad_row_before_a_failed_read": [
-        ("let fault = replay.finish(&mut dn_records::FromWriter::new(std::io::sink())).err().unwrap_or(fault);",
-         "drop(replay.finish(&mut dn_records::FromWriter::new(std::io::sink())));")],
     "dn_replay/fault_before_a_failed_read": [("return Err(fault);", "let _ = fault;")],
     "dn_replay/without_the_answers_of_a_caller": [
         ("Prelude.{OnErr};", "Prelude.{OnErr}; ghost use Rattle.dn_service.specs.Callers.{Answered};"),
