@@ -46,10 +46,8 @@ CONTROLS = {
     "dn_files/row_read_twice": [("self.start = start;", "let _ = start;")],
     "dn_wf2q/empty_heaps": [("self.arrivals", "self.eligible.moves() + self.waiting.moves()"), ("self.eligible.pop()", "self.eligible.len()"),
                             ("self.waiting.pop()", "self.waiting.len()")],
-    "dn_wf2q/last_pick_not_counted": [("self.enter(slot, head);", "self.enter(slot, head); } else { self.picks += 1;")],
     "dn_wf2q/left_in_waiting_heap": [("self.waiting.push_reserved(first);", "let _ = self.waiting.len();")],
     "dn_wf2q/picks_ineligible": [("top.tag() * 0", "top.tag() * 1")],
-    "dn_wf2q/stamped_by_virtual_time": [("min(1 << 95)", "min(0)")],
     "dn_wf2q/ties_by_arrival": [(".then(self.entered.cmp(&other.entered))", ".then(self.slot().cmp(&other.slot()))")],
     "dn_wf2q/weight_at_the_pick": [("self.behind.in_force.max(next.weight.min(0))", "next.weight.max(self.behind.in_force.min(0))")],
     "dn_wf2q/without_the_least_key": [
