@@ -76,13 +76,9 @@ CONTROLS = {
         ("ghost use Rattle.dn_types.specs.Clock", "ghost use Rattle.dn_types.specs.Replies.{reply}; ghost use Rattle.dn_types.specs.Clock"),
         ("ensures err {", "ensures ok { IfOk result (λ r. (rule : RuleValue) (calls : List CallValue) → StandsAfter rule self.old calls"
          " → (r ≡ reply rule calls call.now) × StandsAfter rule self.new (call.now ∷ calls)) } ensures err {")],
-    "dn_shaper/busy_period_while_the_link_sends": [("shared.sched.begin_busy();", "let _ = shared.sched.is_idle();")],
     "dn_shaper/collects_again": [("list.extend_from_slice(given)", "list.len()")],
-    "dn_shaper/collects_by_submission": [("given.sort_unstable_by_key(|delivery| delivery.packet);", "given.reverse(); given.reverse();")],
     "dn_shaper/memory_after_change_the_flow": [("find_or_make(*key)", "len()")],
-    "dn_shaper/no_flow_for_a_lost_packet": [("< drops.loss.get()", "< 0")],
     "dn_shaper/opening_reply": [("Reply::NoTarget { at }", "reply"), ("at: moment.get()", "at: at")],
-    "dn_shaper/pipe_loss_for_its_queues": [("loss: *loss", "loss: how.drops.loss")],
     "dn_shaper/without_what_is_due": [
         ("Line.{after_due}", "Line.{after_due, due_first}"),
         ("ensures pending {", "ensures value { result ≡ due_first at self.old.pending } ensures pending {")],
