@@ -56,13 +56,6 @@ impl FlowQueue {
         }
     }
 
-    /// Whether the flow is in the lists of its pipe and its queue.
-    pub fn is_listed(&self) -> bool
-        ensures { result ≡ true → (self.now.on_pipe ≡ true) × (self.now.of_queue ≡ true) }
-    {
-        self.on_pipe && self.of_queue
-    }
-
     /// Lets go of the flow's entry in the list of the target, and of the place that was reserved.
     ///
     /// It returns how many places were reserved, 0 or 1.

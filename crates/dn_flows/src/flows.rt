@@ -180,6 +180,7 @@ impl Flows {
     /// Reserves a place in the flow's queue.
     ///
     /// It stays reserved until the next push to that queue, or until a delete goes through the flows of its pipe or its queue.
+    #[inline(always)]
     pub fn reserve_place(&mut self, flow: usize) -> Result<(), AllocError>
         requires { flow < length self.old.flows }
         ensures reserved { OnOk result (self.new.flows ≡ slice_set self.old.flows flow (with_place (flow_at self.old.flows flow))) }

@@ -2,7 +2,7 @@
 //!
 //! The lists hold also flows that aren't active. These are taken out as they come to the end.
 ghost use Rattle.std.specs.Prelude.{◌≡◌, ℕ, ◌<◌, ◌≤◌, List, true, false, length, slice_get, slice_set, Some, IfSome, IfNone, OnOk};
-ghost use Rattle.dn_flows.specs.Members.{AreListed, KeepQueues, LetsGo};
+ghost use Rattle.dn_flows.specs.Members.{AreListed, IsListed, KeepQueues, LetsGo};
 ghost use Rattle.dn_flows.specs.Store.{reservations};
 ghost use Rattle.dn_flows.specs.Table.{is_at};
 ghost use Rattle.dn_flows.specs.declared.flow_queue.FlowQueue.{FlowQueue as Queue};
@@ -63,19 +63,23 @@ fn list_of_queue(
 fn list_anew(
     members: &mut Members,
     queue: &mut FlowQueue,
-    key: &FlowKey,
+    keys: &IndexSet<TableKey, KeyedHash>,
     flow: usize,
 ) -> Result<(), AllocError>
-    ensures listed { (keys : List Key) (queues : List Queue) → AreListed keys queues members.old → slice_get queues flow ≡ Some queue.old → slice_get keys flow ≡ Some key.now → AreListed keys (slice_set queues flow queue.new) members.new }
+    requires { flow < length keys.now.keys }
+    ensures listed { (queues : List Queue) → AreListed keys.now.keys queues members.old → slice_get queues flow ≡ Some queue.old → AreListed keys.now.keys (slice_set queues flow queue.new) members.new }
     ensures on_pipe { OnOk result (queue.new.on_pipe ≡ true) }
     ensures of_queue { OnOk result (queue.new.of_queue ≡ true) }
     ensures same { queue.new ≡ record queue.old { on_pipe = queue.new.on_pipe; of_queue = queue.new.of_queue } }
 {
-    list_on_pipe(members, queue, key, flow)?;
-    list_of_queue(members, queue, key, flow)
+    let key = keys.get_index(flow).unwrap().get();
+    list_on_pipe(members, queue, &key, flow)?;
+    list_of_queue(members, queue, &key, flow)
 }
 
-/// Puts the flow into the lists of its pipe and its queue, where it isn't. Most flows that get a packet are there.
+/// Puts the flow into the lists of its pipe and its queue, where it isn't.
+///
+/// Most flows that get a packet are active, and so they are there.
 #[inline(always)]
 pub fn list(
     members: &mut Members,
@@ -84,16 +88,16 @@ pub fn list(
     flow: usize,
 ) -> Result<(), AllocError>
     requires within { flow < length keys.now.keys }
+    requires is_listed { IsListed queue.old }
     ensures listed { (queues : List Queue) → AreListed keys.now.keys queues members.old → slice_get queues flow ≡ Some queue.old → AreListed keys.now.keys (slice_set queues flow queue.new) members.new }
     ensures on_pipe { OnOk result (queue.new.on_pipe ≡ true) }
     ensures of_queue { OnOk result (queue.new.of_queue ≡ true) }
     ensures same { queue.new ≡ record queue.old { on_pipe = queue.new.on_pipe; of_queue = queue.new.of_queue } }
 {
-    if queue.is_listed() {
+    if queue.active {
         return Ok(());
     }
-    let key = keys.get_index(flow).unwrap().get();
-    list_anew(members, queue, &key, flow)
+    list_anew(members, queue, keys, flow)
 }
 
 /// Whether the flow is at the target and active.

@@ -1,4 +1,4 @@
-ghost use Rattle.std.specs.Prelude.{◌≡◌, ◌≢◌, ℕ, ◌+◌, ◌≤◌, Some, None, IsOk, OnOk, OnErr};
+ghost use Rattle.std.specs.Prelude.{◌≡◌, ◌≢◌, ℕ, ◌+◌, ◌<◌, ◌≤◌, Some, None, IsOk, OnOk, OnErr};
 ghost use Rattle.std.specs.Option.{option_map};
 ghost use Rattle.dn_flows.specs.Packets.{ContainsKey, HasRoomFor, Updates, get, with_next};
 
@@ -54,16 +54,28 @@ impl PacketStore {
     }
 
     /// Makes room for `additional` more packets. There are never more than 2^32.
+    #[inline(always)]
     pub fn reserve(&mut self, additional: usize) -> Result<(), AllocError>
         ensures room { OnOk result (HasRoomFor self.new additional) }
         ensures succeeds { HasRoomFor self.old additional → IsOk result }
         ensures capacity { self.old.capacity ≤ self.new.capacity }
         ensures rest_kept { self.new ≡ record self.old { capacity = self.new.capacity } }
     {
-        let wanted = self.len().saturating_add(additional);
-        if wanted <= self.capacity {
+        if additional <= self.capacity - self.len() {
             return Ok(());
         }
+        self.grow(additional)
+    }
+
+    /// Makes room for more packets than there is room for.
+    #[inline(never)]
+    fn grow(&mut self, additional: usize) -> Result<(), AllocError>
+        requires { self.old.capacity < self.old.len + additional }
+        ensures room { OnOk result (HasRoomFor self.new additional) }
+        ensures capacity { self.old.capacity ≤ self.new.capacity }
+        ensures rest_kept { self.new ≡ record self.old { capacity = self.new.capacity } }
+    {
+        let wanted = self.len().saturating_add(additional);
         if wanted > 1 << 32 {
             return Err(AllocError);
         }

@@ -1,5 +1,6 @@
 -- The flow joins one list and then the other.
-use Rattle.std.proofs.Common.{List, set, subst}
+use Rattle.std.proofs.Common.{◌≡◌, Some, List, rules, set, subst}
+use Rattle.std.specs.Prelude.{slice_get}
 use Rattle.dn_flows.specs.declared.flow_queue.FlowQueue.{FlowQueue}
 use Rattle.dn_flows.specs.Members.{AreListed}
 use Rattle.dn_flows.proofs.Entries.{set-twice}
@@ -7,7 +8,9 @@ use Rattle.dn_flows.proofs.Places.{get-set}
 use Rattle.dn_flows.proofs.listed.list_anew.Goals as goal
 
 pub returns-clause-listed : goal.returns-clause-listed
-returns-clause-listed c = λ keys queues a there its.
+returns-clause-listed c = λ queues a there.
+    let keys = c.args.keys.now.keys in
+    let its : slice_get keys c.args.flow ≡ Some c.get-key.result = search rules in
     let first = c.list_on_pipe.ensures.listed keys queues a there its in
     let q = c.list_on_pipe.new.queue in
     subst (λ (qs : List FlowQueue). AreListed keys qs c.list_of_queue.new.members) (set-twice queues c.args.flow q c.list_of_queue.new.queue)

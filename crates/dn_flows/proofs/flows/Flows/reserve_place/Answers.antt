@@ -33,12 +33,18 @@ overflow_add-self c =
     let ok = c.self.inside.queues.ok.0 in
     omega arith
 
-pub list-requires : goal.list-requires
-list-requires c =
+pub list-requires-clause-within : goal.list-requires-clause-within
+list-requires-clause-within c =
     let many = as-many-flows c.self.inside.packets c.self.inside.queues.items c.self.inside.unsent.items in
     let within = rw (← c.self.view_is) at c.requires in
     let keys = c.self.invariant.0 in
     omega arith
+
+pub list-requires-clause-is_listed : goal.list-requires-clause-is_listed
+list-requires-clause-is_listed c =
+    let t = c.self.inside in
+    let within = rw (← c.self.view_is) at c.requires in
+    c.self.invariant.4.listed c.args.flow c.index_mut-queue.result.now (there t.packets t.queues.items t.unsent.items c.args.flow c.index_mut-queue.result.now c.self.invariant.2 within c.index_mut-queue.ensures.value)
 
 -- a refusal leaves the queue
 pub invariant_of-self-in_err-list : goal.invariant_of-self-in_err-list
