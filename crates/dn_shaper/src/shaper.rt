@@ -1,4 +1,5 @@
 ghost use Rattle.std.specs.Prelude.{◌≡◌, ℕ, ◌<◌, ◌≤◌, ◌^◌, List, [], ◌∷◌, length, max, IfSome, IfOk, OnErr, IsOk};
+ghost use Rattle.std.specs.Vec.{vec_capacity};
 ghost use Rattle.dn_types.specs.Calls.{trace_of};
 ghost use Rattle.dn_types.specs.Clock.{call_limit, counted, effective_moment};
 ghost use Rattle.dn_types.specs.Flows.{keys};
@@ -11,16 +12,17 @@ ghost use Rattle.dn_shaper.specs.Shaper.{CanNeedMemory, StandsAfter, held, items
 ghost use Rattle.dn_shaper.specs.Waking.{wake_of};
 
 use crate::calls::advance::advance;
-use crate::calls::collect::collect;
+use crate::calls::collect::{collect, collect_lent};
 use crate::calls::configure::configure;
 use crate::calls::show::show;
 use crate::calls::submit::submit;
 use crate::links::wake::{earlier, first_free};
 use crate::state::{State, new_state};
 use dn_flows::HashKey;
-use dn_types::{Call, Delivery, Reply, Rule};
+use dn_types::{Call, Delivery, Moment, Reply, Rule};
 use std::alloc::{AllocError, Global};
 use std::marker::Model;
+use std::mem;
 
 /// So many calls are answered. Every further one is answered Exhausted.
 const CALL_LIMIT: u64 = 1 << 62;
@@ -106,6 +108,40 @@ impl Shaper {
                 collect(&mut self.state, &mut self.given, self.alloc, *moment)
             }
             Call::Show => show(&mut self.state, self.alloc),
+        }
+    }
+
+    /// As `apply` with a Collect, in a list that is lent. The reply's list then has its memory.
+    ///
+    /// If it has room for as many as `held` says, this takes no memory. The list's items are forgotten, and after an error the
+    /// list too.
+    pub fn collect_lent(&mut self, moment: Moment, lent: Vec<Delivery>) -> Result<Reply, AllocError>
+        ensures ok { IfOk result (λ r. (rule : RuleValue) (calls : List CallValue) → StandsAfter rule self.old calls → (r ≡ reply rule calls (Collect moment)) × StandsAfter rule self.new (Collect moment ∷ calls)) }
+        ensures err { OnErr result ((rule : RuleValue) (calls : List CallValue) → StandsAfter rule self.old calls → StandsAfter rule self.new calls) }
+        ensures needs { OnErr result ((rule : RuleValue) (calls : List CallValue) → StandsAfter rule self.old calls → CanNeedMemory (counted calls) (Collect moment)) }
+        ensures succeeds { (rule : RuleValue) (calls : List CallValue) → StandsAfter rule self.old calls → held rule (trace_of (counted calls)) ≤ vec_capacity lent → IsOk result }
+        ensures exhausted { (rule : RuleValue) (calls : List CallValue) → StandsAfter rule self.old calls → call_limit ≤ length calls → IsOk result }
+    {
+        if self.state.calls == CALL_LIMIT {
+            Ok(Reply::Exhausted)
+        } else {
+            collect_lent(&mut self.state, lent, moment)
+        }
+    }
+
+    /// Lends the list in which `apply` gathers a Collect's packets, for `collect_lent`.
+    pub fn lend(&mut self) -> Vec<Delivery>
+        ensures { self.new ≡ self.old }
+    {
+        mem::replace(&mut self.given, Vec::new(self.alloc))
+    }
+
+    /// Takes the list of a Collect's reply, to gather the next one's packets in it.
+    pub fn take_back(&mut self, reply: Reply)
+        ensures { self.new ≡ self.old }
+    {
+        if let Reply::Delivered { at: _, list } = reply {
+            self.given = list.into_vec();
         }
     }
 

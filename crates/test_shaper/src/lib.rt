@@ -18,6 +18,8 @@ mod flows;
 #[cfg(test)]
 mod key;
 #[cfg(test)]
+mod lent;
+#[cfg(test)]
 mod links;
 #[cfg(test)]
 mod refused_growths;

@@ -1,9 +1,10 @@
-ghost use Rattle.std.specs.Prelude.{◌≡◌, ◌+◌, ◌<◌, ◌≤◌, ◌^◌, ◌++◌, List, length, nat_le, nat_lt, IfOk, OnErr};
+ghost use Rattle.std.specs.Prelude.{◌≡◌, ◌+◌, ◌<◌, ◌≤◌, ◌^◌, ◌++◌, List, length, nat_le, nat_lt, IfOk, IsOk, OnErr};
 ghost use Rattle.std.specs.List.{filter};
 ghost use Rattle.std.specs.Vec.{vec_capacity};
 ghost use Rattle.dn_types.specs.Deliveries.{undelivered};
 ghost use Rattle.dn_types.specs.Trace.{Event};
 ghost use Rattle.dn_types.specs.declared.call.Call.TheVariants.{Collect};
+ghost use Rattle.dn_types.specs.declared.reply.Reply.TheVariants.{Delivered};
 ghost use Rattle.dn_types.specs.declared.rule.Rule.{Rule as RuleValue};
 ghost use Rattle.dn_shaper.specs.Refinement.Calls.{Does};
 ghost use Rattle.dn_shaper.specs.Refinement.Sound.{IsSound};
@@ -43,10 +44,31 @@ fn own_list(given: &mut Vec<Delivery>, alloc: Global) -> Vec<Delivery>
     }
 }
 
+/// Moves the clock, and gathers the packets that are due by then in the list. The result is where the clock is.
+///
+/// Room for all that wait or are under way is made first.
+fn gather(state: &mut State, list: &mut Vec<Delivery>, moment: Moment) -> Result<u64, AllocError>
+    requires sound { IsSound state.old }
+    requires few { state.old.calls < 2 ^ 62 }
+    ensures does { IfOk result (λ at. Does (Collect moment) state.old state.new (Delivered at list.new.items)) }
+    ensures succeeds { length state.old.parts.line.pending + state.old.parts.waiting ≤ vec_capacity list.old → IsOk result }
+    ensures sound { IsSound state.new }
+    ensures err { OnErr result (state.new ≡ state.old) }
+{
+    let at = state.now.max(moment.get());
+    list.clear();
+    list.reserve(state.parts.line.len() + state.parts.waiting)?;
+    settle(&mut state.parts, &mut state.heap, &state.configured, at);
+    give(&mut state.parts.line, at, list);
+    state.now = at;
+    state.calls += 1;
+    Ok(at)
+}
+
 /// Moves the clock, and gives the packets that are due by then.
 ///
-/// They are gathered in `given`, in which room for all that wait or are under way is made first. Its memory stays for the
-/// next Collect, since to ask the system for so much each time costs more than the rest of a call.
+/// They are gathered in `given`. Its memory stays for the next Collect, since to ask the system for so much each time costs
+/// more than the rest of a call.
 pub fn collect(
     state: &mut State,
     given: &mut Vec<Delivery>,
@@ -59,14 +81,29 @@ pub fn collect(
     ensures sound { IsSound state.new }
     ensures err { OnErr result (state.new ≡ state.old) }
 {
-    let at = state.now.max(moment.get());
-    given.clear();
-    given.reserve(state.parts.line.len() + state.parts.waiting)?;
-    settle(&mut state.parts, &mut state.heap, &state.configured, at);
-    give(&mut state.parts.line, at, given);
+    let at = gather(state, given, moment)?;
     let list = own_list(given, alloc);
-    state.now = at;
-    state.calls += 1;
+    Ok(Reply::Delivered {
+        at,
+        list: Deliveries::from_vec(list),
+    })
+}
+
+/// The same in a list that is lent, which is then the reply's.
+pub fn collect_lent(
+    state: &mut State,
+    lent: Vec<Delivery>,
+    moment: Moment,
+) -> Result<Reply, AllocError>
+    requires sound { IsSound state.old }
+    requires few { state.old.calls < 2 ^ 62 }
+    ensures does { IfOk result (λ reply. Does (Collect moment) state.old state.new reply) }
+    ensures succeeds { length state.old.parts.line.pending + state.old.parts.waiting ≤ vec_capacity lent → IsOk result }
+    ensures sound { IsSound state.new }
+    ensures err { OnErr result (state.new ≡ state.old) }
+{
+    let mut list = lent;
+    let at = gather(state, &mut list, moment)?;
     Ok(Reply::Delivered {
         at,
         list: Deliveries::from_vec(list),

@@ -1,25 +1,10 @@
--- What is due after the settling is given.
-use Rattle.std.proofs.Common.{◌∙◌, ◌++◌, List, ap, max, arith}
-use Rattle.std.specs.Prelude.{nat_le}
-use Rattle.std.specs.List.{filter}
+-- The reply has the list that was gathered.
+use Rattle.std.proofs.Common.{◌∙◌, List, sym, subst}
+use Rattle.dn_types.specs.declared.call.Call.TheVariants.{Collect}
 use Rattle.dn_types.specs.declared.delivery.Delivery.{Delivery}
-use Rattle.dn_shaper.proofs.Standing.{collects, collects-sound}
+use Rattle.dn_types.specs.declared.reply.Reply.TheVariants.{Delivered}
+use Rattle.dn_shaper.specs.Refinement.Calls.{Does}
 use Rattle.dn_shaper.proofs.calls.collect.collect.Goals as goal
 
-pub overflow_add-len : goal.overflow_add-len
-overflow_add-len c = let a = c.requires.sound.within.sums in let b = c.len.ensures in let f = c.requires.few in omega arith
-
 pub returns-clause-does : goal.returns-clause-does
-returns-clause-does c = collects c.args.state.now c.settle.new.parts c.settle.new.heap c.max-at.result c.args.moment
-    (c.max-at.ensures
-    ∙ ap
-    (λ n. max c.args.state.now.now n) c.get.ensures.value) c.settle.ensures.settled c.settle.ensures.only c.give.new.line c.give.ensures.rest c.give.ensures.keeps_room c.give.ensures.pushed c.from_vec.result
-    (c.from_vec.ensures ∙ c.own_list-list.ensures ∙ c.give.ensures.given
-    ∙ ap (λ (ds : List Delivery). ds ++ filter (λ d. nat_le d.due c.max-at.result) c.settle.new.parts.line.pending) (c.reserve.ensures.items ∙ c.clear.ensures.items))
-
-pub returns-clause-sound : goal.returns-clause-sound
-returns-clause-sound c = collects-sound c.args.state.now c.settle.new.parts c.settle.new.heap c.max-at.result c.args.moment
-    (c.max-at.ensures
-    ∙ ap
-    (λ n. max c.args.state.now.now n) c.get.ensures.value) c.settle.ensures.settled c.settle.ensures.only c.give.new.line c.give.ensures.rest c.give.ensures.keeps_room c.give.ensures.pushed c.requires.sound c.settle.ensures.kept
-    (let v = c.get.ensures.value in let r = c.get.ensures.in_range in omega arith)
+returns-clause-does c = subst (λ (list : List Delivery). Does (Collect c.args.moment) c.args.state.now c.gather.new.state (Delivered c.in_ok-at.at list)) (sym (c.from_vec.ensures ∙ c.own_list-list.ensures)) c.in_ok-at.ensures.does
