@@ -15,7 +15,7 @@ ghost use base.Stored.{coded_list};
 use crate::raw_box::RawBox;
 use crate::status::{CLOSED, MEMORY};
 use dn_shaper::Shaper;
-use dn_types::{Call, Reply};
+use dn_types::{Call, Moment, Reply};
 use std::alloc::Global;
 use std::marker::Model;
 
@@ -108,6 +108,38 @@ impl Handle {
         match reply {
             Ok(reply) => Ok(reply),
             Err(_) => Err(MEMORY),
+        }
+    }
+
+    /// The reply to a Collect, in the shaper's own list. The list is given back by `take_back`.
+    ///
+    /// Err is CLOSED or MEMORY, and the shaper is then after the same calls.
+    pub(crate) fn collect(&mut self, alloc: Global, moment: Moment) -> Result<Reply, u32>
+        ensures ok { IfOk result (λ r. AnswersHeld (Collect moment) self.old.held self.new.held r) }
+        ensures err { OnErr result (StillHeld self.old.held self.new.held) }
+        ensures closed { self.old.held ≡ [] → (result ≡ Err 5) × (self.new.held ≡ []) }
+        ensures why { IfErr result (λ status. ((status ≡ 5) × (self.old.held ≡ [])) ⊎ ((status ≡ 6) × ((rule : RuleValue) (calls : List CallValue) → HeldAfter rule self.old.held calls → CanLackMemory calls (Collect moment)))) }
+        ensures stays_open { self.new.held ≡ [] → self.old.held ≡ [] }
+    {
+        let Some(mut shaper) = self.take(alloc) else {
+            return Err(CLOSED);
+        };
+        let list = shaper.lend();
+        let reply = shaper.collect_lent(moment, list);
+        let _none = self.put(alloc, shaper);
+        match reply {
+            Ok(reply) => Ok(reply),
+            Err(_) => Err(MEMORY),
+        }
+    }
+
+    /// Takes back the list of a Collect's reply, for the next one.
+    pub(crate) fn take_back(&mut self, alloc: Global, reply: Reply)
+        ensures { self.new.held ≡ self.old.held }
+    {
+        if let Some(mut shaper) = self.take(alloc) {
+            shaper.take_back(reply);
+            let _none = self.put(alloc, shaper);
         }
     }
 

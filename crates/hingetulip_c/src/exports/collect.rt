@@ -11,7 +11,7 @@ use crate::copy::put_deliveries;
 use crate::handle::Handle;
 use crate::records::CDelivery;
 use crate::status::{BAD_MOMENT, CLOSED, ROOM};
-use dn_types::{Call, Moment};
+use dn_types::Moment;
 use std::alloc::Global;
 
 /// Moves the clock, and takes the packets that are due.
@@ -46,8 +46,12 @@ pub extern "C" fn dn_collect(
         *count = room as u64;
         return ROOM;
     }
-    match handle.apply(alloc, &Call::Collect(moment)) {
-        Ok(reply) => put_deliveries(&reply, list, count),
+    match handle.collect(alloc, moment) {
+        Ok(reply) => {
+            let status = put_deliveries(&reply, list, count);
+            handle.take_back(alloc, reply);
+            status
+        }
         Err(status) => status,
     }
 }

@@ -8,6 +8,6 @@ use Rattle.hingetulip_c.proofs.exports.collect.dn_collect.Goals as goal
 pub returns-in-Ok-clause-list : goal.returns-in-Ok-clause-list
 returns-in-Ok-clause-list c is rule calls stands =
     let room = c.in-Some-room_for_deliveries in
-    listed deliveries_of rule calls (Collect c.args.moment) (Collect c.in-Some.moment) c.args.handle.now.held c.room_for_deliveries.new.self.held c.apply.new.self.held c.in-Ok.reply
-    room.room (length c.args.list.now) c.put_deliveries.new.list room.ensures.same (ap Collect c.in-Some.ensures.value) c.in-Ok.ensures.ok (room.ensures.fits rule calls stands c.args.moment)
-    c.if-list-room.false c.put_deliveries.ensures.list stands
+    listed deliveries_of rule calls (Collect c.args.moment) (Collect c.in-Some.moment) c.args.handle.now.held c.room_for_deliveries.new.self.held c.collect.new.self.held c.in-Ok.reply
+    room.room (length c.args.list.now) c.put_deliveries-status.new.list room.ensures.same (ap Collect c.in-Some.ensures.value) c.in-Ok.ensures.ok (room.ensures.fits rule calls stands c.args.moment)
+    c.if-list-room.false c.put_deliveries-status.ensures.list stands
