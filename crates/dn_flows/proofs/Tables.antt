@@ -87,13 +87,22 @@ as-many-flows store queues unsent = length_unsent (map (state_of store) queues) 
 
 -- ---- A call on the flow with a queue
 
-module _ (old : Packets) (queues : List FlowQueue) (unsent : List Unsent) (flow : ℕ) (q : FlowQueue) (are : AreStored old queues)
-    (within : flow < length (all_with_unsent (map (state_of old) queues) unsent)) (read : q ≡ get_or queues flow q) where
-  abbrev seen : List FlowState
+-- The queue was read at the flow's place of the table.
+pub record IsAt (store : Packets) (queues : List FlowQueue) (unsent : List Unsent) (flow : ℕ) (q : FlowQueue) : Type 0 where
+  pub are : AreStored store queues
+  pub within : flow < length (all_with_unsent (map (state_of store) queues) unsent)
+  pub read : q ≡ get_or queues flow q
+
+module _ {old : Packets} {queues : List FlowQueue} {unsent : List Unsent} {flow : ℕ} {q : FlowQueue} (here : IsAt old queues unsent flow q) where
+  abbrev are : AreStored old queues
+  are = here.are
+
+  -- The flows as callers see them.
+  abbrev pub seen : List FlowState
   seen = all_with_unsent (map (state_of old) queues) unsent
 
   pub there : slice_get queues flow ≡ Some q
-  there = get-read queues flow q (let e = as-many-flows old queues unsent in omega arith) read
+  there = get-read queues flow q (let e = as-many-flows old queues unsent in omega arith) here.read
 
   pub queue-is : IsQueue are.owner are.behind old flow q
   queue-is = are.queues_are flow q there
@@ -290,7 +299,7 @@ module _ (old : Packets) (queues : List FlowQueue) (unsent : List Unsent) (flow 
           full = u.full;
           started = (ap (λ (x : FlowQueue). x.started) after ∙ s.counts.1) i;
           discarded = u.discarded + queue-is.counts.many i;
-        }) ∙ ap (λ (t : FlowState). emptied (with_unsent u t)) (sym read-state) ∙ ap emptied (sym (read-counts (map (state_of old) queues) unsent flow u as-many within is))),
+        }) ∙ ap (λ (t : FlowState). emptied (with_unsent u t)) (sym read-state) ∙ ap emptied (sym (read-counts (map (state_of old) queues) unsent flow u as-many here.within is))),
   )
     where
       counted : Unsent

@@ -1,48 +1,63 @@
-use Rattle.std.proofs.Common.{◌∙◌, List, map, false, refl, sym, ap, length, length-set, arith}
+use Rattle.std.proofs.Common.{◌≡◌, ◌∙◌, ◌+◌, List, map, set, false, refl, sym, ap, length, length-set, arith}
 use Rattle.std.proofs.lemmas.Grind.{common_steps}
 use Rattle.std.proofs.lemmas.List.{length-map}
+use Rattle.dn_flows.specs.declared.flow_queue.FlowQueue.{FlowQueue}
+use Rattle.dn_flows.specs.declared.unsent.Unsent.{Unsent}
 use Rattle.dn_flows.specs.declared.waiting.Waiting.{Waiting}
-use Rattle.dn_flows.specs.Store.{state_of}
-use Rattle.dn_flows.specs.Table.{FlowState}
+use Rattle.dn_flows.specs.Store.{AreStored, all_with_unsent, state_of}
+use Rattle.dn_flows.specs.Table.{FlowState, emptied, flow_at}
 use Rattle.dn_flows.proofs.Counted.{within-unsent, read-counts}
 use Rattle.dn_flows.proofs.Entries.{listed-q, listed-set}
-use Rattle.dn_flows.proofs.Tables.{as-many-flows, queue-is, reads, same-reserved, emptying, lies-here, there}
+use Rattle.dn_flows.proofs.Tables.{IsAt, as-many-flows, queue-is, reads, same-reserved, emptying, lies-here, seen, there}
+use Rattle.dn_flows.proofs.flows.Flows.discard.Goals.{After-index_mut-queue, After-index_mut-unsent}
 use Rattle.dn_flows.proofs.flows.Flows.discard.Goals as goal
 
-pub clear-requires : goal.clear-requires
-clear-requires c =
-    lies-here c.self.inside.packets c.self.inside.queues.items c.self.inside.unsent.items c.args.flow c.index_mut-queue.result.now
-    c.self.invariant.2 (rw (← c.self.view_is) at c.requires.within) c.index_mut-queue.ensures.value
+-- The queue that was read is the flow's.
+here : (c : After-index_mut-queue) → IsAt c.self.inside.packets c.self.inside.queues.items c.self.inside.unsent.items c.args.flow c.index_mut-queue.result.now
+here c = record { are = c.self.invariant.2; within = rw (← c.self.view_is) at c.requires.within; read = c.index_mut-queue.ensures.value }
 
--- as many packets are discarded as the queue counts
+pub clear-requires : goal.clear-requires
+clear-requires c = lies-here (here (goal.at.clear-requires c).After-index_mut-queue)
+
+-- As many counts as queues are kept.
+as-many : (c : After-index_mut-queue) → length c.self.inside.unsent.items ≡ length (map (state_of c.self.inside.packets) c.self.inside.queues.items)
+as-many c = c.self.invariant.3 ∙ sym (length-map c.self.inside.queues.items (state_of c.self.inside.packets))
+
 pub index_mut-unsent-requires : goal.index_mut-unsent-requires
 index_mut-unsent-requires c =
-    let within =
-    within-unsent (map (state_of c.self.inside.packets) c.self.inside.queues.items) c.self.inside.unsent.items c.args.flow
-    (c.self.invariant.3 ∙ sym (length-map c.self.inside.queues.items (state_of c.self.inside.packets)))
-    (rw (← c.self.view_is) at c.requires.within) in
+    let w = (goal.at.index_mut-unsent-requires c).After-index_mut-queue in
+    let within = within-unsent (map (state_of c.self.inside.packets) c.self.inside.queues.items) c.self.inside.unsent.items c.args.flow (as-many w) (here w).within in
     grind (arith, common_steps)
 
+-- As many packets are discarded as the queue counts.
 pub overflow_add-unsent : goal.overflow_add-unsent
 overflow_add-unsent c =
-    let many =
-    (queue-is c.self.inside.packets c.self.inside.queues.items c.self.inside.unsent.items c.args.flow c.index_mut-queue.result.now
-    c.self.invariant.2 (rw (← c.self.view_is) at c.requires.within) c.index_mut-queue.ensures.value).counts.many in
+    let w = (goal.at.overflow_add-unsent c).After-index_mut-queue in
+    let many = (queue-is (here w)).counts.many in
     let count = rw (← c.self.view_is) at c.requires.count in
     let discarded =
     ap (λ (s : FlowState). s.discarded) (read-counts (map (state_of c.self.inside.packets) c.self.inside.queues.items)
-    c.self.inside.unsent.items c.args.flow c.index_mut-unsent.result.now
-    (c.self.invariant.3 ∙ sym (length-map c.self.inside.queues.items (state_of c.self.inside.packets)))
-    (rw (← c.self.view_is) at c.requires.within) c.index_mut-unsent.ensures.value) in
-    let waits =
-    ap (λ (ws : List Waiting). length ws) (reads c.self.inside.packets c.self.inside.queues.items c.self.inside.unsent.items c.args.flow
-    c.index_mut-queue.result.now c.self.invariant.2 (rw (← c.self.view_is) at c.requires.within)
-    c.index_mut-queue.ensures.value).backlog in
+    c.self.inside.unsent.items c.args.flow c.index_mut-unsent.result.now (as-many w) (here w).within c.index_mut-unsent.ensures.value) in
+    let waits = ap (λ (ws : List Waiting). length ws) (reads (here w)).backlog in
     omega arith
 
--- the flow's chain is empty, and the others stay
+-- The flow's chain is empty, and the others stay.
+module _ (c : After-index_mut-unsent) (at : IsAt c.self.inside.packets c.self.inside.queues.items c.self.inside.unsent.items c.args.flow c.index_mut-queue.result.now) where
+  abbrev left : FlowQueue
+  left = record c.clear.new.self { active = false }
+
+  abbrev counted : Unsent
+  counted = record c.index_mut-unsent.result.now { discarded = c.index_mut-unsent.result.now.discarded + c.index_mut-queue.result.now.len }
+
+  empty : AreStored c.clear.new.store (set c.self.inside.queues.items c.args.flow left)
+      × (all_with_unsent (map (state_of c.clear.new.store) (set c.self.inside.queues.items c.args.flow left)) (set c.self.inside.unsent.items c.args.flow counted)
+      ≡ set (seen at) c.args.flow (emptied (flow_at (seen at) c.args.flow)))
+  empty = emptying at c.clear.new.store c.clear.new.self left c.index_mut-unsent.result.now c.clear.ensures.shortens refl c.clear.ensures.none c.self.invariant.3 c.index_mut-unsent.ensures.value
+
 pub invariant_of-self : goal.invariant_of-self
 invariant_of-self c =
+    let w = goal.at.invariant_of-self c in
+    let at = here w.After-index_mut-queue in
     let room = c.self.invariant.1.1 in
     let len = c.clear.ensures.shortens.len in
     let capacity = c.clear.ensures.shortens.capacity in
@@ -51,29 +66,19 @@ invariant_of-self c =
     let q = c.index_mut-queue.result.now in
     let q' = record c.clear.new.self { active = false } in
     let flags = c.clear.ensures.shortens.flags in
-    let at = there t.packets t.queues.items t.unsent.items c.args.flow q c.self.invariant.2 (rw (← c.self.view_is) at c.requires.within) c.index_mut-queue.ensures.value in (
-      c.self.invariant.0 ∙ sym (length-set c.self.inside.queues.items c.args.flow _),
-      (
-        c.self.invariant.1.0 ∙ sym (same-reserved c.self.inside.packets c.self.inside.queues.items c.self.inside.unsent.items c.args.flow
-            c.index_mut-queue.result.now c.self.invariant.2 (rw (← c.self.view_is) at c.requires.within) c.index_mut-queue.ensures.value
-            (record c.clear.new.self { active = false }) c.clear.ensures.shortens.counts.0),
-        omega arith,
-      ),
-      (emptying c.self.inside.packets c.self.inside.queues.items c.self.inside.unsent.items c.args.flow c.index_mut-queue.result.now
-          c.self.invariant.2 (rw (← c.self.view_is) at c.requires.within) c.index_mut-queue.ensures.value c.clear.new.store c.clear.new.self (record c.clear.new.self { active = false })
-          c.index_mut-unsent.result.now c.clear.ensures.shortens refl c.clear.ensures.none c.self.invariant.3
-          c.index_mut-unsent.ensures.value).0,
-      length-set c.self.inside.unsent.items c.args.flow _ ∙ c.self.invariant.3 ∙ sym (length-set c.self.inside.queues.items c.args.flow _),
-      listed-set t.keys.keys t.queues.items t.members c.args.flow q q' c.self.invariant.4 at flags.1 flags.2
-          (listed-q q q' (c.self.invariant.4.listed c.args.flow q at) flags.1 flags.2 (λ h. sym c.clear.ensures.shortens.counts.0 ∙ h) (λ h. absurd cc)),
+    let counts = c.clear.ensures.shortens.counts in (
+      c.self.invariant.0 ∙ sym (length-set t.queues.items c.args.flow _),
+      (c.self.invariant.1.0 ∙ sym (same-reserved at q' counts.0), omega arith),
+      (empty w.After-index_mut-unsent at).0,
+      length-set t.unsent.items c.args.flow _ ∙ c.self.invariant.3 ∙ sym (length-set t.queues.items c.args.flow _),
+      listed-set t.keys.keys t.queues.items t.members c.args.flow q q' c.self.invariant.4 (there at) flags.1 flags.2
+          (listed-q q q' (c.self.invariant.4.listed c.args.flow q (there at)) flags.1 flags.2 (λ h. sym counts.0 ∙ h) (λ h. absurd cc)),
     )
 
 pub returns-clause-flows : goal.returns-clause-flows
 returns-clause-flows c =
-    rw (← c.self.view_is) (emptying c.self.inside.packets c.self.inside.queues.items c.self.inside.unsent.items c.args.flow
-    c.index_mut-queue.result.now c.self.invariant.2 (rw (← c.self.view_is) at c.requires.within) c.index_mut-queue.ensures.value
-    c.clear.new.store c.clear.new.self (record c.clear.new.self { active = false }) c.index_mut-unsent.result.now c.clear.ensures.shortens refl c.clear.ensures.none c.self.invariant.3
-    c.index_mut-unsent.ensures.value).1
+    let w = goal.at.returns-clause-flows c in
+    rw (← c.self.view_is) (empty w.After-index_mut-unsent (here w.After-index_mut-queue)).1
 
 pub index_mut-queue-requires : goal.index_mut-queue-requires
 index_mut-queue-requires c =

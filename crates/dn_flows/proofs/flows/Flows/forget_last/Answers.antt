@@ -1,4 +1,4 @@
-use Rattle.std.proofs.Common.{◌≡◌, ◌∙◌, ◌++◌, ◌∷◌, ◌-◌, [], ℕ, List, cond, length, length-take, take, ap, subst, sym, rules, arith}
+use Rattle.std.proofs.Common.{◌≡◌, ◌∙◌, ◌++◌, ◌∷◌, ◌+◌, ◌-◌, [], ℕ, List, cond, length, map, length-take, take, ap, subst, sym, rules, arith}
 use Rattle.std.specs.Prelude.{slice_get}
 use Rattle.dn_types.specs.declared.flow_key.FlowKey.{FlowKey}
 use Rattle.dn_flows.specs.declared.members.Members.{Members}
@@ -6,12 +6,12 @@ use Rattle.dn_flows.specs.Members.{AreListed, KeepsOthers}
 use Rattle.std.specs.Vec.{vec_len}
 use Rattle.dn_flows.specs.declared.flow_queue.FlowQueue.{FlowQueue}
 use Rattle.dn_flows.specs.declared.unsent.Unsent.{Unsent}
-use Rattle.dn_flows.specs.Store.{AreStored, reserved_one, reservations}
+use Rattle.dn_flows.specs.Store.{AreStored, all_with_unsent, reserved_one, reservations, state_of}
 use Rattle.dn_flows.specs.Table.{Table}
 use Rattle.dn_flows.proofs.Entries.{listed-less}
 use Rattle.dn_flows.proofs.Places.{get-kept, length-more, sum-more}
 use Rattle.dn_flows.proofs.Tables.{last-out, without-last}
-use Rattle.dn_flows.proofs.flows.Flows.forget_last.Goals.{in_default-via-in-None-1, in_default-via-in-Some+else-queue}
+use Rattle.dn_flows.proofs.flows.Flows.forget_last.Goals.{After-pop-2, In-Some, in_default-via-in-None-1, in_default-via-in-Some+else-queue}
 use Rattle.dn_flows.proofs.flows.Flows.forget_last.Goals as goal
 
 -- the last key and the last queue are out, and the flow is in no list
@@ -23,82 +23,72 @@ listed-then keys queues queues' m m' flow q items at-end rest keeps many a =
     subst (λ (ks : List FlowKey). AreListed ks queues' m') (ap (λ n. take n keys) at-end ∙ sym rest)
     (listed-less keys queues queues' m m' flow a keeps fewer (λ g x e. ap (λ (qs : List FlowQueue). slice_get qs g) items ∙ get-kept queues' q x g e))
 
--- the flow had no place
+module _ (c : In-Some) where
+  -- The places that are reserved are those of the flows that stay and of the one that is out.
+  counted : c.self.inside.reserved ≡ reservations c.pop-2.new.self.items + reserved_one c.in-Some.queue
+  counted = c.self.invariant.1.0 ∙ ap reservations c.in-Some.ensures.items ∙ sum-more reserved_one c.pop-2.new.self.items c.in-Some.queue
+
+  -- What stays is as the flow's queue is out, whether or not it had a place.
+  stays : (length c.forget_last_key.new.keys.keys ≡ length c.pop-2.new.self.items) × AreStored c.self.inside.packets c.pop-2.new.self.items
+      × (length c.pop.new.self.items ≡ length c.pop-2.new.self.items) × AreListed c.forget_last_key.new.keys.keys c.pop-2.new.self.items c.forget_last_key.new.members
+  stays =
+      let items = c.in-Some.ensures.items in
+      let fewer-counts = ap (λ (us : List Unsent). length us) c.pop.ensures.rest ∙ length-take _ c.self.inside.unsent.items in
+      let fewer-queues = ap (λ (qs : List FlowQueue). length qs) c.pop-2.ensures.rest ∙ length-take _ c.self.inside.queues.items in
+      let counts-ok = c.self.inside.unsent.ok.0 in
+      let queues-ok = c.self.inside.queues.ok.0 in
+      let before = c.self.invariant.3 in
+      let longer = ap (λ (qs : List FlowQueue). length qs) items ∙ length-more c.pop-2.new.self.items c.in-Some.queue in
+      let as-many = c.self.invariant.0 in
+      let there = c.len.ensures in
+      let less = c.saturating_sub-flow.ensures in
+      let at-end : c.saturating_sub-flow.result ≡ length c.self.inside.keys.keys - 1 = omega arith in (
+        search rules,
+        without-last c.self.inside.packets c.pop-2.new.self.items c.in-Some.queue (subst (AreStored c.self.inside.packets) items c.self.invariant.2),
+        omega arith,
+        listed-then c.self.inside.keys.keys c.self.inside.queues.items c.pop-2.new.self.items c.self.inside.members c.forget_last_key.new.members
+            c.saturating_sub-flow.result c.in-Some.queue items at-end
+            c.forget_last_key.ensures.keys c.forget_last_key.ensures.members as-many c.self.invariant.4,
+      )
+
+-- The flow had no place.
 pub invariant_of-self-else-queue : goal.invariant_of-self-else-queue
 invariant_of-self-else-queue c =
-    let items = c.in-Some.ensures.items in
+    let w = (goal.at.invariant_of-self-else-queue c).In-Some in
     let none : reserved_one c.in-Some.queue ≡ 0 = ap (λ b. cond b 1 0) c.if-queue.false in
-    let count : c.self.inside.reserved ≡ reservations (c.pop-2.new.self.items ++ c.in-Some.queue ∷ []) = c.self.invariant.1.0 ∙ ap reservations items in
-    let room = c.self.invariant.1.1 in
-    let sums = sum-more reserved_one c.pop-2.new.self.items c.in-Some.queue in
-    let fewer-counts = ap (λ (us : List Unsent). length us) c.pop.ensures.rest ∙ length-take _ c.self.inside.unsent.items in
-    let fewer-queues = ap (λ (qs : List FlowQueue). length qs) c.pop-2.ensures.rest ∙ length-take _ c.self.inside.queues.items in
-    let counts-ok = c.self.inside.unsent.ok.0 in
-    let queues-ok = c.self.inside.queues.ok.0 in
-    let before = c.self.invariant.3 in
-    let longer = ap (λ (qs : List FlowQueue). length qs) items ∙ length-more c.pop-2.new.self.items c.in-Some.queue in
-    let as-many = c.self.invariant.0 in
-    let there = c.len.ensures in
-    let less = c.saturating_sub-flow.ensures in
-    let at-end : c.saturating_sub-flow.result ≡ length c.self.inside.keys.keys - 1 = omega arith in (
-      search rules,
-      (omega arith, c.self.invariant.1.1),
-      without-last c.self.inside.packets c.pop-2.new.self.items c.in-Some.queue
-          (subst (AreStored c.self.inside.packets) items c.self.invariant.2),
-      omega arith,
-      listed-then c.self.inside.keys.keys c.self.inside.queues.items c.pop-2.new.self.items c.self.inside.members c.forget_last_key.new.members c.saturating_sub-flow.result c.in-Some.queue items at-end
-          c.forget_last_key.ensures.keys c.forget_last_key.ensures.members as-many c.self.invariant.4,
-    )
+    let count = counted w in
+    let is = stays w in
+    (is.0, (omega arith, c.self.invariant.1.1), is.1, is.2, is.3)
 
--- the flow's place is let go
+-- The flow's place is let go.
 pub invariant_of-self-2 : goal.invariant_of-self-2
 invariant_of-self-2 c =
-    let items = c.in-Some.ensures.items in
+    let w = (goal.at.invariant_of-self-2 c).In-Some in
     let one : reserved_one c.in-Some.queue ≡ 1 = ap (λ b. cond b 1 0) c.if-queue.true in
-    let count : c.self.inside.reserved ≡ reservations (c.pop-2.new.self.items ++ c.in-Some.queue ∷ []) = c.self.invariant.1.0 ∙ ap reservations items in
+    let count = counted w in
     let room = c.self.invariant.1.1 in
-    let sums = sum-more reserved_one c.pop-2.new.self.items c.in-Some.queue in
-    let fewer-counts = ap (λ (us : List Unsent). length us) c.pop.ensures.rest ∙ length-take _ c.self.inside.unsent.items in
-    let fewer-queues = ap (λ (qs : List FlowQueue). length qs) c.pop-2.ensures.rest ∙ length-take _ c.self.inside.queues.items in
-    let counts-ok = c.self.inside.unsent.ok.0 in
-    let queues-ok = c.self.inside.queues.ok.0 in
-    let before = c.self.invariant.3 in
-    let longer = ap (λ (qs : List FlowQueue). length qs) items ∙ length-more c.pop-2.new.self.items c.in-Some.queue in
-    let as-many = c.self.invariant.0 in
-    let there = c.len.ensures in
-    let less = c.saturating_sub-flow.ensures in
-    let at-end : c.saturating_sub-flow.result ≡ length c.self.inside.keys.keys - 1 = omega arith in (
-      search rules,
-      (omega arith, omega arith),
-      without-last c.self.inside.packets c.pop-2.new.self.items c.in-Some.queue
-          (subst (AreStored c.self.inside.packets) items c.self.invariant.2),
-      omega arith,
-      listed-then c.self.inside.keys.keys c.self.inside.queues.items c.pop-2.new.self.items c.self.inside.members c.forget_last_key.new.members c.saturating_sub-flow.result c.in-Some.queue items at-end
-          c.forget_last_key.ensures.keys c.forget_last_key.ensures.members as-many c.self.invariant.4,
-    )
+    let is = stays w in
+    (is.0, (omega arith, omega arith), is.1, is.2, is.3)
 
--- the last flow is out
-pub returns-then-queue-clause-flows : goal.returns-then-queue-clause-flows
-returns-then-queue-clause-flows c =
+-- The last flow is out.
+out : (c : After-pop-2) → let seen = all_with_unsent (map (state_of c.self.inside.packets) c.self.inside.queues.items) c.self.inside.unsent.items in
+    all_with_unsent (map (state_of c.self.inside.packets) c.pop-2.new.self.items) c.pop.new.self.items ≡ take (length seen - 1) seen
+out c =
     let queues-ok = c.self.inside.queues.ok.0 in
     let counts-ok = c.self.inside.unsent.ok.0 in
     let queues : vec_len c.self.inside.queues ≡ length c.self.inside.queues.items = omega arith in
     let counts : vec_len c.self.inside.unsent ≡ length c.self.inside.unsent.items = omega arith in
-    rw (← c.self.view_is) (last-out c.self.inside.packets c.self.inside.queues.items c.pop-2.new.self.items c.self.inside.unsent.items
-    c.pop.new.self.items (c.pop-2.ensures.rest ∙ ap (λ n. take (n - 1) c.self.inside.queues.items) queues)
-    (c.pop.ensures.rest ∙ ap (λ n. take (n - 1) c.self.inside.unsent.items) counts) c.self.invariant.3)
+    last-out c.self.inside.packets c.self.inside.queues.items c.pop-2.new.self.items c.self.inside.unsent.items c.pop.new.self.items
+    (c.pop-2.ensures.rest ∙ ap (λ n. take (n - 1) c.self.inside.queues.items) queues)
+    (c.pop.ensures.rest ∙ ap (λ n. take (n - 1) c.self.inside.unsent.items) counts) c.self.invariant.3
+
+pub returns-then-queue-clause-flows : goal.returns-then-queue-clause-flows
+returns-then-queue-clause-flows c = rw (← c.self.view_is) (out (goal.at.returns-then-queue-clause-flows c).After-pop-2)
 
 pub returns-in_default-clause-flows : goal.returns-in_default-clause-flows
 returns-in_default-clause-flows c =
-    let queues-ok = c.self.inside.queues.ok.0 in
-    let counts-ok = c.self.inside.unsent.ok.0 in
-    let queues : vec_len c.self.inside.queues ≡ length c.self.inside.queues.items = omega arith in
-    let counts : vec_len c.self.inside.unsent ≡ length c.self.inside.unsent.items = omega arith in
-    let out =
-    (last-out c.self.inside.packets c.self.inside.queues.items c.pop-2.new.self.items c.self.inside.unsent.items c.pop.new.self.items
-    (c.pop-2.ensures.rest ∙ ap (λ n. take (n - 1) c.self.inside.queues.items) queues)
-    (c.pop.ensures.rest ∙ ap (λ n. take (n - 1) c.self.inside.unsent.items) counts) c.self.invariant.3) in
+    let less = out (goal.at.returns-in_default-clause-flows c).After-pop-2 in
     rw (← c.self.view_is) (elim c.in_default.branch [
-      | in_default-via-in-None-1 w ↦ ap (λ (t : Table). t.flows) w.self-is ∙ out
-      | in_default-via-in-Some+else-queue w ↦ ap (λ (t : Table). t.flows) w.self-is ∙ out
+      | in_default-via-in-None-1 w ↦ ap (λ (t : Table). t.flows) w.self-is ∙ less
+      | in_default-via-in-Some+else-queue w ↦ ap (λ (t : Table). t.flows) w.self-is ∙ less
     ])

@@ -1,11 +1,13 @@
-use Rattle.std.proofs.Common.{◌≡◌, ◌∙◌, ◌+◌, ℕ, List, [], ◌∷◌, map, length, true, false, refl, sym, ap, length-set, arith, inl}
+use Rattle.std.proofs.Common.{◌≡◌, ◌∙◌, ◌+◌, ℕ, List, [], ◌∷◌, map, length, set, true, false, refl, sym, ap, length-set, arith, inl}
 use Rattle.std.specs.Prelude.{slice_set}
-use Rattle.dn_flows.specs.Store.{all_with_unsent, state_of}
+use Rattle.dn_flows.specs.Store.{all_with_unsent, reservations, state_of}
 use Rattle.dn_flows.specs.Table.{FlowState, flow_at, popped, pushed}
+use Rattle.dn_flows.specs.declared.flow_queue.FlowQueue.{FlowQueue}
 use Rattle.dn_flows.specs.declared.waiting.Waiting.{Waiting}
 use Rattle.dn_flows.proofs.Entries.{listed-q, listed-set}
-use Rattle.dn_flows.proofs.Tables.{as-many-flows, counting, one-less, reads, there}
+use Rattle.dn_flows.proofs.Tables.{After, IsAt, as-many-flows, counting, one-less, reads, seen, there}
 use Rattle.std.proofs.lemmas.Grind.{common_steps}
+use Rattle.dn_flows.proofs.flows.Flows.pass.Goals.{After-index_mut-queue}
 use Rattle.dn_flows.proofs.flows.Flows.pass.Goals as goal
 
 -- A flow with one start more, and no place reserved.
@@ -33,50 +35,54 @@ index_mut-queue-requires c =
     let within = rw (← c.self.view_is) at c.requires.within in
     grind (arith, common_steps)
 
+-- The queue that was read is the flow's.
+here : (c : After-index_mut-queue) → IsAt c.self.inside.packets c.self.inside.queues.items c.self.inside.unsent.items c.args.flow c.index_mut-queue.result.now
+here c = record { are = c.self.invariant.2; within = rw (← c.self.view_is) at c.requires.within; read = c.index_mut-queue.ensures.value }
+
 pub overflow_add-queue : goal.overflow_add-queue
 overflow_add-queue c =
-    let t = c.self.inside in
     let count = rw (← c.self.view_is) at c.requires.count in
-    let before = (reads t.packets t.queues.items t.unsent.items c.args.flow c.index_mut-queue.result.now c.self.invariant.2 (rw (← c.self.view_is) at c.requires.within) c.index_mut-queue.ensures.value).started in
+    let before = (reads (here (goal.at.overflow_add-queue c).After-index_mut-queue)).started in
     omega arith
 
--- the flow's place is used up
+module _ (c : After-index_mut-queue) where
+  -- The queue as it is left.
+  abbrev left : FlowQueue
+  left = record c.index_mut-queue.result.now { reserved = false; active = true; started = c.index_mut-queue.result.now.started + 1 }
+
+  had : c.index_mut-queue.result.now.reserved ≡ true
+  had = sym (reads (here c)).reserved ∙ (rw (← c.self.view_is) at c.requires.reserved)
+
+  -- The flow's place is used up.
+  less : reservations (set c.self.inside.queues.items c.args.flow left) + 1 ≡ c.self.inside.reserved
+  less = one-less (here c) left had refl ∙ sym c.self.invariant.1.0
+
+  -- No packet moves.
+  counted : After (here c) c.self.inside.packets left (passed (flow_at (seen (here c)) c.args.flow))
+  counted = counting (here c) c.self.inside.packets left passed (λ u s. refl) (λ key. refl) (refl, refl, refl, refl) refl
+
 pub overflow_sub-self : goal.overflow_sub-self
-overflow_sub-self c =
-    let t = c.self.inside in
-    let q = c.index_mut-queue.result.now in
-    let within = rw (← c.self.view_is) at c.requires.within in
-    let had = sym (reads t.packets t.queues.items t.unsent.items c.args.flow q c.self.invariant.2 within c.index_mut-queue.ensures.value).reserved ∙ (rw (← c.self.view_is) at c.requires.reserved) in
-    let less = one-less t.packets t.queues.items t.unsent.items c.args.flow q c.self.invariant.2 within c.index_mut-queue.ensures.value (record q { reserved = false; active = true; started = q.started + 1 }) had refl in
-    let count = c.self.invariant.1.0 in
-    omega arith
+overflow_sub-self c = let fewer = less (goal.at.overflow_sub-self c).After-index_mut-queue in omega arith
 
 pub invariant_of-self : goal.invariant_of-self
 invariant_of-self c =
+    let w = (goal.at.invariant_of-self c).After-index_mut-queue in
     let t = c.self.inside in
     let q = c.index_mut-queue.result.now in
-    let within = rw (← c.self.view_is) at c.requires.within in
-    let had = sym (reads t.packets t.queues.items t.unsent.items c.args.flow q c.self.invariant.2 within c.index_mut-queue.ensures.value).reserved ∙ (rw (← c.self.view_is) at c.requires.reserved) in
-    let less = one-less t.packets t.queues.items t.unsent.items c.args.flow q c.self.invariant.2 within c.index_mut-queue.ensures.value (record q { reserved = false; active = true; started = q.started + 1 }) had refl in
-    let count = c.self.invariant.1.0 in
-    let at = there t.packets t.queues.items t.unsent.items c.args.flow q c.self.invariant.2 within c.index_mut-queue.ensures.value in
+    let fewer = less w in
+    let at = there (here w) in
     let room = c.self.invariant.1.1 in (
       c.self.invariant.0 ∙ sym (length-set t.queues.items c.args.flow _),
       (omega arith, omega arith),
-      (counting t.packets t.queues.items t.unsent.items c.args.flow q c.self.invariant.2 within c.index_mut-queue.ensures.value t.packets
-          (record q { reserved = false; active = true; started = q.started + 1 }) passed (λ u s. refl) (λ key. refl) (refl, refl, refl, refl) refl).stored,
+      (counted w).stored,
       c.self.invariant.3 ∙ sym (length-set t.queues.items c.args.flow _),
-      listed-set t.keys.keys t.queues.items t.members c.args.flow q (record q { reserved = false; active = true; started = q.started + 1 }) c.self.invariant.4 at refl refl
-          (listed-q q (record q { reserved = false; active = true; started = q.started + 1 }) (c.self.invariant.4.listed c.args.flow q at) refl refl (λ h. absurd cc) (λ h. inl had)),
+      listed-set t.keys.keys t.queues.items t.members c.args.flow q (left w) c.self.invariant.4 at refl refl
+          (listed-q q (left w) (c.self.invariant.4.listed c.args.flow q at) refl refl (λ h. absurd cc) (λ h. inl (had w))),
     )
 
--- no packet moves
 pub returns-clause-flows : goal.returns-clause-flows
 returns-clause-flows c = λ waiting.
     let t = c.self.inside in
-    let q = c.index_mut-queue.result.now in
-    let within = rw (← c.self.view_is) at c.requires.within in
     let none = rw (← c.self.view_is) at c.requires.empty in
-    let states = (counting t.packets t.queues.items t.unsent.items c.args.flow q c.self.invariant.2 within c.index_mut-queue.ensures.value t.packets
-    (record q { reserved = false; active = true; started = q.started + 1 }) passed (λ u s. refl) (λ key. refl) (refl, refl, refl, refl) refl).states in
-    rw (← c.self.view_is) (passing (all_with_unsent (map (state_of t.packets) t.queues.items) t.unsent.items) c.args.flow waiting _ states none)
+    rw (← c.self.view_is) (passing (all_with_unsent (map (state_of t.packets) t.queues.items) t.unsent.items) c.args.flow waiting _
+    (counted (goal.at.returns-clause-flows c).After-index_mut-queue).states none)

@@ -1,43 +1,49 @@
-use Rattle.std.proofs.Common.{◌∙◌, map, sym, ap, arith}
+use Rattle.std.proofs.Common.{◌≡◌, ◌∙◌, length, map, sym, ap, arith}
 use Rattle.std.proofs.lemmas.Grind.{common_steps}
 use Rattle.std.proofs.lemmas.List.{length-map}
 use Rattle.dn_flows.specs.Store.{state_of, with_unsent}
 use Rattle.dn_flows.specs.Table.{FlowState, status_of}
 use Rattle.dn_flows.proofs.Counted.{within-unsent, read-counts}
-use Rattle.dn_flows.proofs.Tables.{as-many-flows, read-state, queue-is}
+use Rattle.dn_flows.proofs.Tables.{IsAt, as-many-flows, read-state, queue-is}
+use Rattle.dn_flows.proofs.flows.Flows.status.Goals.{After-index-queue}
 use Rattle.dn_flows.proofs.flows.Flows.status.Goals as goal
+
+-- The queue that was read is the flow's.
+here : (c : After-index-queue) → IsAt c.self.inside.packets c.self.inside.queues.items c.self.inside.unsent.items c.args.flow c.index-queue.result.now
+here c = record { are = c.self.invariant.2; within = rw (← c.self.view_is) at c.requires; read = c.index-queue.ensures }
+
+-- As many counts as queues are kept.
+as-many : (c : After-index-queue) → length c.self.inside.unsent.items ≡ length (map (state_of c.self.inside.packets) c.self.inside.queues.items)
+as-many c = c.self.invariant.3 ∙ sym (length-map c.self.inside.queues.items (state_of c.self.inside.packets))
 
 pub index-unsent-requires : goal.index-unsent-requires
 index-unsent-requires c =
-    let within =
-    within-unsent (map (state_of c.self.inside.packets) c.self.inside.queues.items) c.self.inside.unsent.items c.args.flow
-    (c.self.invariant.3 ∙ sym (length-map c.self.inside.queues.items (state_of c.self.inside.packets)))
-    (rw (← c.self.view_is) at c.requires) in
+    let w = (goal.at.index-unsent-requires c).After-index-queue in
+    let within = within-unsent (map (state_of c.self.inside.packets) c.self.inside.queues.items) c.self.inside.unsent.items c.args.flow (as-many w) (here w).within in
     grind (arith, common_steps)
 
--- the queue counts the packets that wait, and their bytes, and the other counts lie beside it
+-- The queue counts the packets that wait, and their bytes, and the other counts lie beside it.
 pub returns-clause-value : goal.returns-clause-value
 returns-clause-value c =
-    let is =
-    queue-is c.self.inside.packets c.self.inside.queues.items c.self.inside.unsent.items c.args.flow c.index-queue.result.now
-    c.self.invariant.2 (rw (← c.self.view_is) at c.requires) c.index-queue.ensures in
+    let w = (goal.at.returns-clause-value c).After-index-queue in
+    let is = queue-is (here w) in
+    let states = map (state_of c.self.inside.packets) c.self.inside.queues.items in
+    let u = c.index-unsent.result.now in
     rw (← c.self.view_is) ((λ i. record {
       flow = c.args.flow;
       key = c.key-key.result;
       queued = is.counts.many i;
       bytes = (c.from.ensures ∙ is.counts.counted) i;
-      lost = c.index-unsent.result.now.lost;
-      full = c.index-unsent.result.now.full;
+      lost = u.lost;
+      full = u.full;
       started = c.index-queue.result.now.started;
-      discarded = c.index-unsent.result.now.discarded;
-    }) ∙ ap (status_of c.args.flow c.key-key.result) (sym (read-counts (map (state_of c.self.inside.packets) c.self.inside.queues.items) c.self.inside.unsent.items c.args.flow c.index-unsent.result.now (c.self.invariant.3 ∙ sym (length-map c.self.inside.queues.items (state_of c.self.inside.packets))) (rw (← c.self.view_is) at c.requires) c.index-unsent.ensures
-    ∙ ap (λ (s : FlowState). with_unsent c.index-unsent.result.now s) (read-state c.self.inside.packets c.self.inside.queues.items c.self.inside.unsent.items c.args.flow c.index-queue.result.now c.self.invariant.2 (rw (← c.self.view_is) at c.requires) c.index-queue.ensures))))
+      discarded = u.discarded;
+    }) ∙ ap (status_of c.args.flow c.key-key.result) (sym (read-counts states c.self.inside.unsent.items c.args.flow u (as-many w) (here w).within c.index-unsent.ensures
+    ∙ ap (λ (s : FlowState). with_unsent u s) (read-state (here w)))))
 
 pub returns-clause-bytes : goal.returns-clause-bytes
 returns-clause-bytes c =
-    let bounded =
-    (queue-is c.self.inside.packets c.self.inside.queues.items c.self.inside.unsent.items c.args.flow c.index-queue.result.now
-    c.self.invariant.2 (rw (← c.self.view_is) at c.requires) c.index-queue.ensures).counts.bounded in
+    let bounded = (queue-is (here (goal.at.returns-clause-bytes c).After-index-queue)).counts.bounded in
     let same = c.from.ensures in
     omega arith
 
