@@ -1,8 +1,9 @@
-use Rattle.std.proofs.Common.{◌≡◌, ◌∙◌, ℕ, List, length, length-set, ap, sym, subst, arith}
+use Rattle.std.proofs.Common.{◌≡◌, ◌∙◌, ℕ, List, [], length, length-set, ap, sym, subst, arith}
 use Rattle.std.specs.Prelude.{slice_get}
 use Rattle.dn_flows.specs.Packets.{AreFree, StoredPacket}
 use Rattle.dn_flows.proofs.Free.{under, same-but, under-all, there, not-free-now, still-free, put-here, put-elsewhere, none-at-end, none-left, other-than-last}
 use Rattle.dn_flows.proofs.Places.{get-last}
+use Rattle.dn_flows.proofs.packet_store.PacketStore.insert_reserved.Goals.{After-len-key}
 use Rattle.dn_flows.proofs.packet_store.PacketStore.insert_reserved.Goals as goal
 
 -- the last of the free keys is that of a place
@@ -40,34 +41,31 @@ returns-in-Some-clause-updates c =
           ∙ sym (ap (λ (l : List ℕ). under l c.self.inside.places.items other) c.in-Some.ensures.items ∙ same-but c.pop.new.self.items c.self.inside.places.items c.in-Some.key other ne);
     })
 
--- no place is free, so the packet lies at a new one
+-- No place is free, so the packet lies at a new one.
+none : (c : After-len-key) → c.self.inside.free.items ≡ []
+none c = none-left c.self.inside.free.items (omega (arith, c.in_default.ensures.cases, c.self.inside.free.ok.0))
+
+place : (c : After-len-key) → c.len-key.result ≡ length c.self.inside.places.items
+place c = omega (arith, c.len-key.ensures, c.self.inside.places.ok.0)
+
 pub returns-clause-was_free : goal.returns-clause-was_free
 returns-clause-was_free c =
-    let ok = c.self.inside.free.ok.0 in
-    let ok' = c.self.inside.places.ok.0 in
-    let cases = c.in_default.ensures.cases in
-    let none = none-left c.self.inside.free.items (omega arith) in
-    let place : c.len-key.result ≡ length c.self.inside.places.items = (let e = c.len-key.ensures in omega arith) in
+    let w = (goal.at.returns-clause-was_free c).After-len-key in
     rw (← c.self.view_is)
-    (under-all c.self.inside.free.items c.self.inside.places.items c.len-key.result none ∙ ap (slice_get c.self.inside.places.items) place ∙ none-at-end c.self.inside.places.items)
+    (under-all c.self.inside.free.items c.self.inside.places.items c.len-key.result (none w) ∙ ap (slice_get c.self.inside.places.items) (place w) ∙ none-at-end c.self.inside.places.items)
 
 pub returns-clause-updates : goal.returns-clause-updates
 returns-clause-updates c =
-    let ok = c.self.inside.free.ok.0 in
-    let ok' = c.self.inside.places.ok.0 in
-    let cases = c.in_default.ensures.cases in
-    let none = none-left c.self.inside.free.items (omega arith) in
-    let ok'' = c.pop.new.self.ok.0 in
-    let none_now = none-left c.pop.new.self.items (omega arith) in
-    let place : c.len-key.result ≡ length c.self.inside.places.items = (let e = c.len-key.ensures in omega arith) in
+    let w = (goal.at.returns-clause-updates c).After-len-key in
+    let none_now = none-left c.pop.new.self.items (omega (arith, c.in_default.ensures.cases, c.pop.new.self.ok.0)) in
     rw (← c.self.view_is) (record {
       changed =
           under-all c.pop.new.self.items c.push_reserved.new.self.items c.len-key.result none_now
-          ∙ (λ i. slice_get (c.push_reserved.ensures.items i) (place i))
+          ∙ (λ i. slice_get (c.push_reserved.ensures.items i) (place w i))
           ∙ get-last c.self.inside.places.items c.args.stored;
       others = λ other ne.
           under-all c.pop.new.self.items c.push_reserved.new.self.items other none_now
           ∙ ap (λ (l : List StoredPacket). slice_get l other) c.push_reserved.ensures.items
-          ∙ other-than-last c.self.inside.places.items c.args.stored other (λ e. ne (e ∙ sym place))
-          ∙ sym (under-all c.self.inside.free.items c.self.inside.places.items other none);
+          ∙ other-than-last c.self.inside.places.items c.args.stored other (λ e. ne (e ∙ sym (place w)))
+          ∙ sym (under-all c.self.inside.free.items c.self.inside.places.items other (none w));
     })
