@@ -6,7 +6,6 @@ use Rattle.dn_types.specs.declared.delivery.Delivery.{Delivery}
 use Rattle.dn_types.specs.declared.flow_key.FlowKey.{FlowKey}
 use Rattle.dn_types.specs.declared.rule.Rule.{Rule}
 use Rattle.dn_flows.specs.Table.{FlowState, Table, new_flow, flow_at, with_place}
-use Rattle.dn_flows.specs.declared.waiting.Waiting.{Waiting}
 use Rattle.dn_flows.proofs.Views.{flow_after_set}
 use Rattle.dn_wf2q.specs.Schedule.{room_at}
 use Rattle.dn_shaper.specs.declared.links.next_start.NextStart.{NextStart}
@@ -22,7 +21,7 @@ use Rattle.dn_shaper.specs.Refinement.Views.{LinkView, views_of, next_starts, wa
 use Rattle.dn_shaper.proofs.Events.{length-set}
 use Rattle.dn_flows.proofs.Places.{eq-yes, get-last, length-more}
 use Rattle.dn_shaper.proofs.Preparing.{IsOneMore, flow-more, with_flows}
-use Rattle.dn_shaper.proofs.Reserving.{place-reserved}
+use Rattle.dn_shaper.proofs.Reserving.{place-reserved, same-within}
 
 module _ (old new : State) (t : Table) (key : FlowKey) (one : IsOneMore key old.parts.flows t) (g : GivesHome key (length old.parts.flows.keys) (with_flows old t) new) where
   abbrev flow : ℕ
@@ -77,18 +76,7 @@ module _ (old new : State) (t : Table) (key : FlowKey) (one : IsOneMore key old.
       room = let a = w.room in let b = g.waiting in let c = g.room in omega arith;
       pushed = let a = w.pushed in let b = g.waiting in let c = g.pushed in omega arith;
       sums = let a = w.sums in let b = g.waiting in let c = ap {B = ℕ} (λ (ds : List Delivery). length ds) g.pending in omega arith;
-      flows_are = λ f.
-          let s = same-flows f in
-          let i = w.flows_are f in
-          let x = i.0 in
-          let y = i.1 in
-          let z = i.2 in
-          let a = s.lost in
-          let b = s.full in
-          let c = s.started in
-          let d = s.discarded in
-          let e = ap {B = ℕ} (λ (q : List Waiting). length q) s.backlog in
-          (omega arith, omega arith, omega arith);
+      flows_are = λ f. same-within (same-flows f) (w.flows_are f);
       arrivals = arrivals n w;
       accepted = let a = w.accepted in let b = g.accepted in omega arith;
     }

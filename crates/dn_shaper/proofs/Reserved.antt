@@ -12,7 +12,6 @@ use Rattle.dn_types.specs.Trace.{Link, Event}
 use Rattle.dn_types.specs.declared.delivery.Delivery.{Delivery}
 use Rattle.dn_types.specs.declared.flow_key.FlowKey.{FlowKey}
 use Rattle.dn_types.specs.declared.rule.Rule.{Rule}
-use Rattle.dn_flows.specs.declared.waiting.Waiting.{Waiting}
 use Rattle.dn_wf2q.specs.Schedule.{Flow}
 use Rattle.dn_shaper.specs.declared.links.next_start.NextStart.{NextStart}
 use Rattle.dn_shaper.specs.declared.links.home.Home.{Home}
@@ -24,6 +23,7 @@ use Rattle.dn_shaper.specs.Refinement.Settling.{AreInStep}
 use Rattle.dn_shaper.specs.Refinement.Slots.{Ascends, top}
 use Rattle.dn_shaper.specs.Refinement.Starting.{Within}
 use Rattle.dn_shaper.specs.Refinement.Views.{LinkView, views_of, home, next_starts, next_start_of, waits_in_all}
+use Rattle.dn_shaper.proofs.Reserving.{same-within}
 
 -- ---- Lists of links that are the same but for room
 
@@ -131,18 +131,7 @@ module _ (old new : Parts) (r : OnlyMakesRoom old new) where
     room = let a = w.room in let b = r.waiting in let c = r.room in omega arith;
     pushed = let a = w.pushed in let b = r.waiting in let c = r.pushed in omega arith;
     sums = let a = w.sums in let b = r.waiting in let c = ap {B = ℕ} (λ (ds : List Delivery). length ds) r.pending in omega arith;
-    flows_are = λ g.
-        let s = r.flows g in
-        let i = w.flows_are g in
-        let x = i.0 in
-        let y = i.1 in
-        let z = i.2 in
-        let a = s.lost in
-        let b = s.full in
-        let c = s.started in
-        let d = s.discarded in
-        let e = ap {B = ℕ} (λ (q : List Waiting). length q) s.backlog in
-        (omega arith, omega arith, omega arith);
+    flows_are = λ g. same-within (r.flows g) (w.flows_are g);
     arrivals = λ k v e. let o = was-there (slice_get (views_of old) k) (slice_get (views_of new) k) (r.views k) v e in let a = w.arrivals k o.0 o.1 in let b = o.2.schedule.arrivals in omega arith;
     accepted = let a = w.accepted in let b = r.accepted in omega arith;
   }

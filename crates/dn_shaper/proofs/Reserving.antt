@@ -2,11 +2,13 @@
 use Rattle.std.proofs.Common.{◌≡◌, ◌∙◌, ◌<◌, ◌⊎◌, ℕ, true, cond, List, set, refl, ap, sym, subst, length, arith, inl, inr}
 use Rattle.std.specs.Prelude.{Option, Some, None, Result, Ok, Err, OnOk, nat_eq, slice_get}
 use Rattle.std.proofs.lemmas.Bool.{cases_eq}
+use Rattle.dn_flows.specs.declared.waiting.Waiting.{Waiting}
 use Rattle.dn_flows.specs.Table.{FlowState, flow_at, with_place}
 use Rattle.dn_flows.proofs.Views.{flow_after_set}
 use Rattle.dn_types.specs.Trace.{Link, shared}
 use Rattle.dn_wf2q.specs.Schedule.{room_at}
 use Rattle.dn_shaper.specs.Refinement.Making.{KeepsLink, SameFlow, KeepsAt, HasSlotRoom}
+use Rattle.dn_shaper.specs.Refinement.Starting.{AreCountsWithin}
 use Rattle.dn_shaper.specs.Refinement.Views.{LinkView, queue_lengths}
 use Rattle.dn_shaper.proofs.Alone.{lengths-same}
 use Rattle.dn_shaper.proofs.Events.{length-set}
@@ -14,6 +16,15 @@ use Rattle.dn_flows.proofs.Places.{eq-no, eq-yes, get-set, get-set-other}
 
 pub same-flow : (s : FlowState) → SameFlow s s
 same-flow s = record { backlog = refl; lost = refl; full = refl; started = refl; discarded = refl; active = refl }
+
+-- The flow's counts are within the same limit.
+pub same-within : {n : ℕ} {s t : FlowState} → SameFlow s t → AreCountsWithin n s → AreCountsWithin n t
+same-within same within =
+    let lost = within.0 in
+    let full = within.1 in
+    let packets = within.2 in
+    let waits = ap {B = ℕ} (λ (ws : List Waiting). length ws) same.backlog in
+    (omega arith, omega arith, omega arith)
 
 pub same-link : (v : LinkView) → KeepsLink v v
 same-link v = record { link = refl; value = refl; waits = refl; slots = refl; schedule = record { virtual_time = refl; flows = λ slot. refl; room = λ slot. omega arith; arrivals = refl } }
