@@ -1,183 +1,159 @@
 -- All parts agree with the loss or the refusal of a packet, and with what a Collect gives.
-use Rattle.std.proofs.Common.{◌≡◌, ◌∙◌, ◌<◌, ◌⊎◌, ℕ, ◌+◌, cond, List, [], ◌∷◌, set, refl, ap, sym, length, arith, inl, inr}
+use Rattle.std.proofs.Common.{◌≡◌, ◌∙◌, ◌<◌, ◌⊎◌, ℕ, ◌+◌, cond, false, List, [], ◌∷◌, ◌++◌, map, set, refl, ap, sym, subst, length, arith, inl, inr}
 use Rattle.std.specs.Prelude.{nat_eq, nat_lt}
-use Rattle.std.specs.List.{filter}
+use Rattle.std.specs.List.{filter, list_any}
 use Rattle.std.proofs.lemmas.Bool.{cases_eq}
-use Rattle.dn_types.specs.Trace.{Link, Event, lost, refused, collected, links, with_link, is_start_of, is_loss_of, is_refusal_of, is_arrival}
+use Rattle.dn_types.specs.Deliveries.{undelivered}
+use Rattle.dn_types.specs.Links.{free, last_due}
+use Rattle.dn_types.specs.SharedLinks.{last_finish_tag, virtual_time, waiting}
+use Rattle.dn_types.specs.Trace.{Accepted, Link, Event, lost, refused, collected, accepted_count, backlog, flow_bound, link_eq, links, with_link, is_start_of, is_loss_of, is_refusal_of, is_arrival}
 use Rattle.dn_types.specs.declared.delivery.Delivery.{Delivery}
 use Rattle.dn_types.specs.declared.flow_key.FlowKey.{FlowKey}
 use Rattle.dn_types.specs.declared.rule.Rule.{Rule}
 use Rattle.dn_flows.specs.Table.{FlowState, flow_at, one_lost, one_full}
 use Rattle.dn_flows.proofs.Views.{flow_after_set}
 use Rattle.dn_shaper.specs.declared.links.home.Home.{Home}
-use Rattle.dn_shaper.specs.Refinement.Views.{LinkView, home}
+use Rattle.dn_shaper.specs.Refinement.Views.{LinkView, home, slotted, stamped_of}
 use Rattle.dn_shaper.specs.Refinement.Agreement.{IsAt, IsFlowAt, link_names}
 use Rattle.dn_shaper.proofs.Events.{uncounted, counted-once, append-none, length-set}
 use Rattle.dn_flows.proofs.Places.{eq-no, eq-yes}
 use Rattle.dn_shaper.proofs.Unseen.{not_with}
 
+-- No packet joins, starts or leaves by the event, and no link sends longer.
+record IsQuiet (e : Event) (trace : List Event) : Type 0 where
+  pub free_is : (l : Link) → free l (e ∷ trace) ≡ free l trace
+  pub last_due_is : (rule : Rule) (l : Link) → last_due rule l (e ∷ trace) ≡ last_due rule l trace
+  pub waits_are : (l : Link) → waiting l (e ∷ trace) ≡ waiting l trace
+  pub virtual_time_is : (l : Link) → virtual_time l (e ∷ trace) ≡ virtual_time l trace
+  pub backlog_is : (l : Link) (flow : ℕ) → backlog l flow (e ∷ trace) ≡ backlog l flow trace
+  pub last_finish_is : (l : Link) (flow : ℕ) → last_finish_tag l flow (e ∷ trace) ≡ last_finish_tag l flow trace
+  pub bound : flow_bound (e ∷ trace) ≡ flow_bound trace
+
 module _ (rule : Rule) (accepted : ℕ) (keys : List FlowKey) (homes : List Home) (views : List LinkView) (flows : List FlowState) (pending : List Delivery)
     (more : List Link) (trace : List Event) (a : IsAt rule accepted keys homes views flows pending more trace) where
-  -- A packet of the flow is lost.
-  module _ (flow : ℕ) (within : flow < length keys) (made : link_names views ≡ with_link (home keys flow) (links trace)) where
-    lost-flow : (g : ℕ) → IsFlowAt (home keys g) g (lost (home keys flow) flow ∷ trace) (flow_at (set flows flow (one_lost (flow_at flows flow))) g)
-    lost-flow g = by (cases_eq flow g)
-      where
-        in_table : flow < length flows
-        in_table = let m = a.as_many in omega arith
-
-        now_at : flow_at (set flows flow (one_lost (flow_at flows flow))) g ≡ cond (nat_eq flow g) (one_lost (flow_at flows flow)) (flow_at flows g)
-        now_at = flow_after_set flows flow g (one_lost (flow_at flows flow)) in_table
-
-        by : (flow ≡ g) ⊎ (flow ≡ g → ⊥) → IsFlowAt (home keys g) g (lost (home keys flow) flow ∷ trace) (flow_at (set flows flow (one_lost (flow_at flows flow))) g)
-        by (inl same) =
-            let is : flow_at (set flows flow (one_lost (flow_at flows flow))) g ≡ one_lost (flow_at flows g) = now_at
-            ∙ ap (λ b. cond b (one_lost (flow_at flows flow)) (flow_at flows g)) (eq-yes flow g same) ∙ ap (λ i. one_lost (flow_at flows i)) same in
-            let b = a.flows_are g in
-            record {
-              backlog_is = ap (λ (x : FlowState). x.backlog) is ∙ b.backlog_is;
-              lost_is = ap (λ (x : FlowState). x.lost) is ∙ ap (λ n. n + 1) b.lost_is ∙ sym (counted-once (is_loss_of g) (lost (home keys flow) flow) trace (eq-yes flow g same));
-              full_is = ap (λ (x : FlowState). x.full) is ∙ b.full_is ∙ sym (uncounted (is_refusal_of g) (lost (home keys flow) flow) trace refl);
-              started_is = ap (λ (x : FlowState). x.started) is ∙ b.started_is ∙ sym (uncounted (is_start_of g) (lost (home keys flow) flow) trace refl);
-              discarded_is = ap (λ (x : FlowState). x.discarded) is ∙ b.discarded_is;
-              active_is = ap (λ (x : FlowState). x.active) is ∙ b.active_is;
-            }
-        by (inr ne) =
-            let is : flow_at (set flows flow (one_lost (flow_at flows flow))) g ≡ flow_at flows g = now_at ∙ ap (λ b. cond b (one_lost (flow_at flows flow)) (flow_at flows g)) (eq-no flow g ne) in
-            let b = a.flows_are g in
-            record {
-              backlog_is = ap (λ (x : FlowState). x.backlog) is ∙ b.backlog_is;
-              lost_is = ap (λ (x : FlowState). x.lost) is ∙ b.lost_is ∙ sym (uncounted (is_loss_of g) (lost (home keys flow) flow) trace (eq-no flow g ne));
-              full_is = ap (λ (x : FlowState). x.full) is ∙ b.full_is ∙ sym (uncounted (is_refusal_of g) (lost (home keys flow) flow) trace refl);
-              started_is = ap (λ (x : FlowState). x.started) is ∙ b.started_is ∙ sym (uncounted (is_start_of g) (lost (home keys flow) flow) trace refl);
-              discarded_is = ap (λ (x : FlowState). x.discarded) is ∙ b.discarded_is;
-              active_is = ap (λ (x : FlowState). x.active) is ∙ b.active_is;
-            }
-
-    pub lost-agrees : IsAt rule accepted keys homes views (set flows flow (one_lost (flow_at flows flow))) pending [] (lost (home keys flow) flow ∷ trace)
-    lost-agrees = record {
-      links_are = made ∙ sym (append-none (with_link (home keys flow) (links trace)));
-      distinct = a.distinct;
-      views_are = λ k w e. let b = a.views_are k w e in record {
-        free_is = b.free_is;
-        last_due_is = b.last_due_is;
-        waits_are = b.waits_are;
-        schedule_is = λ pipe is. let c = b.schedule_is pipe is in record {
-          virtual_time_is = c.virtual_time_is;
-          slots_are = λ slot g eg. let s = c.slots_are slot g eg in record { backlog_is = s.backlog_is; last_finish_is = s.last_finish_is };
-          beyond = c.beyond;
-        };
-        ascends = b.ascends;
-        below = b.below;
-      };
-      untouched = λ l e. let u = a.untouched l (not_with l (home keys flow) (links trace) e).0 in record { free_is = u.free_is; last_due_is = u.last_due_is; virtual_time_is = u.virtual_time_is };
-      flows_are = lost-flow;
-      as_many = length-set flows flow (one_lost (flow_at flows flow)) ∙ a.as_many;
-      elsewhere = a.elsewhere;
-      bound = a.bound;
-      homes_are = a.homes_are;
-      as_many_homes = a.as_many_homes;
-      slots_home = a.slots_home;
-      pending_is = a.pending_is;
-      accepted_is = a.accepted_is ∙ sym (uncounted is_arrival (lost (home keys flow) flow) trace refl);
-    }
-
-  -- A packet of the flow is refused.
-  module _ (flow : ℕ) (within : flow < length keys) (made : link_names views ≡ with_link (home keys flow) (links trace)) where
-    refused-flow : (g : ℕ) → IsFlowAt (home keys g) g (refused (home keys flow) flow ∷ trace) (flow_at (set flows flow (one_full (flow_at flows flow))) g)
-    refused-flow g = by (cases_eq flow g)
-      where
-        in_table : flow < length flows
-        in_table = let m = a.as_many in omega arith
-
-        now_at : flow_at (set flows flow (one_full (flow_at flows flow))) g ≡ cond (nat_eq flow g) (one_full (flow_at flows flow)) (flow_at flows g)
-        now_at = flow_after_set flows flow g (one_full (flow_at flows flow)) in_table
-
-        by : (flow ≡ g) ⊎ (flow ≡ g → ⊥) → IsFlowAt (home keys g) g (refused (home keys flow) flow ∷ trace) (flow_at (set flows flow (one_full (flow_at flows flow))) g)
-        by (inl same) =
-            let is : flow_at (set flows flow (one_full (flow_at flows flow))) g ≡ one_full (flow_at flows g) = now_at
-            ∙ ap (λ b. cond b (one_full (flow_at flows flow)) (flow_at flows g)) (eq-yes flow g same) ∙ ap (λ i. one_full (flow_at flows i)) same in
-            let b = a.flows_are g in
-            record {
-              backlog_is = ap (λ (x : FlowState). x.backlog) is ∙ b.backlog_is;
-              full_is = ap (λ (x : FlowState). x.full) is ∙ ap (λ n. n + 1) b.full_is ∙ sym (counted-once (is_refusal_of g) (refused (home keys flow) flow) trace (eq-yes flow g same));
-              lost_is = ap (λ (x : FlowState). x.lost) is ∙ b.lost_is ∙ sym (uncounted (is_loss_of g) (refused (home keys flow) flow) trace refl);
-              started_is = ap (λ (x : FlowState). x.started) is ∙ b.started_is ∙ sym (uncounted (is_start_of g) (refused (home keys flow) flow) trace refl);
-              discarded_is = ap (λ (x : FlowState). x.discarded) is ∙ b.discarded_is;
-              active_is = ap (λ (x : FlowState). x.active) is ∙ b.active_is;
-            }
-        by (inr ne) =
-            let is : flow_at (set flows flow (one_full (flow_at flows flow))) g ≡ flow_at flows g = now_at ∙ ap (λ b. cond b (one_full (flow_at flows flow)) (flow_at flows g)) (eq-no flow g ne) in
-            let b = a.flows_are g in
-            record {
-              backlog_is = ap (λ (x : FlowState). x.backlog) is ∙ b.backlog_is;
-              full_is = ap (λ (x : FlowState). x.full) is ∙ b.full_is ∙ sym (uncounted (is_refusal_of g) (refused (home keys flow) flow) trace (eq-no flow g ne));
-              lost_is = ap (λ (x : FlowState). x.lost) is ∙ b.lost_is ∙ sym (uncounted (is_loss_of g) (refused (home keys flow) flow) trace refl);
-              started_is = ap (λ (x : FlowState). x.started) is ∙ b.started_is ∙ sym (uncounted (is_start_of g) (refused (home keys flow) flow) trace refl);
-              discarded_is = ap (λ (x : FlowState). x.discarded) is ∙ b.discarded_is;
-              active_is = ap (λ (x : FlowState). x.active) is ∙ b.active_is;
-            }
-
-    pub refused-agrees : IsAt rule accepted keys homes views (set flows flow (one_full (flow_at flows flow))) pending [] (refused (home keys flow) flow ∷ trace)
-    refused-agrees = record {
-      links_are = made ∙ sym (append-none (with_link (home keys flow) (links trace)));
-      distinct = a.distinct;
-      views_are = λ k w e. let b = a.views_are k w e in record {
-        free_is = b.free_is;
-        last_due_is = b.last_due_is;
-        waits_are = b.waits_are;
-        schedule_is = λ pipe is. let c = b.schedule_is pipe is in record {
-          virtual_time_is = c.virtual_time_is;
-          slots_are = λ slot g eg. let s = c.slots_are slot g eg in record { backlog_is = s.backlog_is; last_finish_is = s.last_finish_is };
-          beyond = c.beyond;
-        };
-        ascends = b.ascends;
-        below = b.below;
-      };
-      untouched = λ l e. let u = a.untouched l (not_with l (home keys flow) (links trace) e).0 in record { free_is = u.free_is; last_due_is = u.last_due_is; virtual_time_is = u.virtual_time_is };
-      flows_are = refused-flow;
-      as_many = length-set flows flow (one_full (flow_at flows flow)) ∙ a.as_many;
-      elsewhere = a.elsewhere;
-      bound = a.bound;
-      homes_are = a.homes_are;
-      as_many_homes = a.as_many_homes;
-      slots_home = a.slots_home;
-      pending_is = a.pending_is;
-      accepted_is = a.accepted_is ∙ sym (uncounted is_arrival (refused (home keys flow) flow) trace refl);
-    }
-
-  -- What is due is given.
-  pub collected-agrees : (at : ℕ) (rest : List Delivery) → rest ≡ filter (λ d. nat_lt at d.due) pending → IsAt rule accepted keys homes views flows rest more (collected at ∷ trace)
-  collected-agrees at rest is = record {
-    links_are = a.links_are;
+  -- The parts agree with a quiet event if the flows, what is pending and the count of arrivals do.
+  quiet-agrees : {e : Event} → IsQuiet e trace → {flows' : List FlowState} {pending' : List Delivery} {more' : List Link} → link_names views ≡ links (e ∷ trace) ++ more'
+      → ((l : Link) → list_any (link_eq l) (links (e ∷ trace)) ≡ false → list_any (link_eq l) (links trace) ≡ false)
+      → ((g : ℕ) → IsFlowAt (home keys g) g (e ∷ trace) (flow_at flows' g)) → length flows' ≡ length keys → pending' ≡ undelivered rule (e ∷ trace) → accepted_count (e ∷ trace) ≡ accepted_count trace
+      → IsAt rule accepted keys homes views flows' pending' more' (e ∷ trace)
+  quiet-agrees q names unseen flows-are many pending-is arrivals = record {
+    links_are = names;
     distinct = a.distinct;
     views_are = λ k w e. let b = a.views_are k w e in record {
-      free_is = b.free_is;
-      last_due_is = b.last_due_is;
-      waits_are = b.waits_are;
+      free_is = b.free_is ∙ sym (q.free_is w.link);
+      last_due_is = b.last_due_is ∙ sym (q.last_due_is rule w.link);
+      waits_are = b.waits_are ∙ sym (q.waits_are w.link);
       schedule_is = λ pipe is. let c = b.schedule_is pipe is in record {
-        virtual_time_is = c.virtual_time_is;
-        slots_are = λ slot g eg. let s = c.slots_are slot g eg in record { backlog_is = s.backlog_is; last_finish_is = s.last_finish_is };
+        virtual_time_is = c.virtual_time_is ∙ sym (q.virtual_time_is w.link);
+        slots_are = λ slot g eg. let s = c.slots_are slot g eg in record {
+          backlog_is = s.backlog_is ∙ ap (λ (ps : List Accepted). map (slotted slot) (stamped_of ps)) (sym (q.backlog_is w.link g));
+          last_finish_is = s.last_finish_is ∙ sym (q.last_finish_is w.link g);
+        };
         beyond = c.beyond;
       };
       ascends = b.ascends;
       below = b.below;
     };
-    untouched = λ l e. let u = a.untouched l e in record { free_is = u.free_is; last_due_is = u.last_due_is; virtual_time_is = u.virtual_time_is };
-    flows_are = λ g. let b = a.flows_are g in record {
-      backlog_is = b.backlog_is;
-      lost_is = b.lost_is ∙ sym (uncounted (is_loss_of g) (collected at) trace refl);
-      full_is = b.full_is ∙ sym (uncounted (is_refusal_of g) (collected at) trace refl);
-      started_is = b.started_is ∙ sym (uncounted (is_start_of g) (collected at) trace refl);
-      discarded_is = b.discarded_is;
-      active_is = b.active_is;
+    untouched = λ l e. let u = a.untouched l (unseen l e) in record {
+      free_is = q.free_is l ∙ u.free_is;
+      last_due_is = q.last_due_is rule l ∙ u.last_due_is;
+      virtual_time_is = q.virtual_time_is l ∙ u.virtual_time_is;
     };
-    as_many = a.as_many;
-    elsewhere = a.elsewhere;
-    bound = a.bound;
+    flows_are = flows-are;
+    as_many = many;
+    elsewhere = λ g l e. q.backlog_is l g ∙ a.elsewhere g l e;
+    bound = let b = a.bound in let s = q.bound in omega arith;
     homes_are = a.homes_are;
     as_many_homes = a.as_many_homes;
     slots_home = a.slots_home;
-    pending_is = is ∙ ap (λ (ds : List Delivery). filter (λ d. nat_lt at d.due) ds) a.pending_is;
-    accepted_is = a.accepted_is ∙ sym (uncounted is_arrival (collected at) trace refl);
+    pending_is = pending-is;
+    accepted_is = a.accepted_is ∙ sym arrivals;
   }
+
+  -- One flow changes by an event that is about it alone.
+  module _ (flow : ℕ) (within : flow < length keys) (e : Event) (change : FlowState → FlowState)
+      (here : (s : FlowState) → IsFlowAt (home keys flow) flow trace s → IsFlowAt (home keys flow) flow (e ∷ trace) (change s))
+      (other : (g : ℕ) → (flow ≡ g → ⊥) → (s : FlowState) → IsFlowAt (home keys g) g trace s → IsFlowAt (home keys g) g (e ∷ trace) s) where
+    noted-flow : (g : ℕ) → IsFlowAt (home keys g) g (e ∷ trace) (flow_at (set flows flow (change (flow_at flows flow))) g)
+    noted-flow g = by (cases_eq flow g)
+      where
+        now_at : flow_at (set flows flow (change (flow_at flows flow))) g ≡ cond (nat_eq flow g) (change (flow_at flows flow)) (flow_at flows g)
+        now_at = flow_after_set flows flow g (change (flow_at flows flow)) (let m = a.as_many in omega arith)
+
+        by : (flow ≡ g) ⊎ (flow ≡ g → ⊥) → IsFlowAt (home keys g) g (e ∷ trace) (flow_at (set flows flow (change (flow_at flows flow))) g)
+        by (inl same) =
+            let is = now_at ∙ ap (λ b. cond b (change (flow_at flows flow)) (flow_at flows g)) (eq-yes flow g same) in
+            subst (λ (s : FlowState). IsFlowAt (home keys g) g (e ∷ trace) s) (sym is)
+            (subst (λ (n : ℕ). IsFlowAt (home keys n) n (e ∷ trace) (change (flow_at flows flow))) same (here (flow_at flows flow) (a.flows_are flow)))
+        by (inr ne) =
+            let is = now_at ∙ ap (λ b. cond b (change (flow_at flows flow)) (flow_at flows g)) (eq-no flow g ne) in
+            subst (λ (s : FlowState). IsFlowAt (home keys g) g (e ∷ trace) s) (sym is) (other g ne (flow_at flows g) (a.flows_are g))
+
+  module _ (flow : ℕ) (within : flow < length keys) (made : link_names views ≡ with_link (home keys flow) (links trace)) where
+    -- A packet of the flow is lost.
+    pub lost-agrees : IsAt rule accepted keys homes views (set flows flow (one_lost (flow_at flows flow))) pending [] (lost (home keys flow) flow ∷ trace)
+    lost-agrees =
+        let e = lost (home keys flow) flow in
+        quiet-agrees {e = e}
+        (record { free_is = λ l. refl; last_due_is = λ r l. refl; waits_are = λ l. refl; virtual_time_is = λ l. refl; backlog_is = λ l f. refl; last_finish_is = λ l f. refl; bound = refl })
+        (made ∙ sym (append-none (with_link (home keys flow) (links trace)))) (λ l e. (not_with l (home keys flow) (links trace) e).0)
+        (noted-flow flow within e one_lost
+        (λ s b. record {
+          backlog_is = b.backlog_is;
+          lost_is = ap (λ n. n + 1) b.lost_is ∙ sym (counted-once (is_loss_of flow) e trace (eq-yes flow flow refl));
+          full_is = b.full_is ∙ sym (uncounted (is_refusal_of flow) e trace refl);
+          started_is = b.started_is ∙ sym (uncounted (is_start_of flow) e trace refl);
+          discarded_is = b.discarded_is;
+          active_is = b.active_is;
+        })
+        (λ g ne s b. record {
+          backlog_is = b.backlog_is;
+          lost_is = b.lost_is ∙ sym (uncounted (is_loss_of g) e trace (eq-no flow g ne));
+          full_is = b.full_is ∙ sym (uncounted (is_refusal_of g) e trace refl);
+          started_is = b.started_is ∙ sym (uncounted (is_start_of g) e trace refl);
+          discarded_is = b.discarded_is;
+          active_is = b.active_is;
+        }))
+        (length-set flows flow (one_lost (flow_at flows flow)) ∙ a.as_many) a.pending_is (uncounted is_arrival e trace refl)
+
+    -- A packet of the flow is refused.
+    pub refused-agrees : IsAt rule accepted keys homes views (set flows flow (one_full (flow_at flows flow))) pending [] (refused (home keys flow) flow ∷ trace)
+    refused-agrees =
+        let e = refused (home keys flow) flow in
+        quiet-agrees {e = e}
+        (record { free_is = λ l. refl; last_due_is = λ r l. refl; waits_are = λ l. refl; virtual_time_is = λ l. refl; backlog_is = λ l f. refl; last_finish_is = λ l f. refl; bound = refl })
+        (made ∙ sym (append-none (with_link (home keys flow) (links trace)))) (λ l e. (not_with l (home keys flow) (links trace) e).0)
+        (noted-flow flow within e one_full
+        (λ s b. record {
+          backlog_is = b.backlog_is;
+          lost_is = b.lost_is ∙ sym (uncounted (is_loss_of flow) e trace refl);
+          full_is = ap (λ n. n + 1) b.full_is ∙ sym (counted-once (is_refusal_of flow) e trace (eq-yes flow flow refl));
+          started_is = b.started_is ∙ sym (uncounted (is_start_of flow) e trace refl);
+          discarded_is = b.discarded_is;
+          active_is = b.active_is;
+        })
+        (λ g ne s b. record {
+          backlog_is = b.backlog_is;
+          lost_is = b.lost_is ∙ sym (uncounted (is_loss_of g) e trace refl);
+          full_is = b.full_is ∙ sym (uncounted (is_refusal_of g) e trace (eq-no flow g ne));
+          started_is = b.started_is ∙ sym (uncounted (is_start_of g) e trace refl);
+          discarded_is = b.discarded_is;
+          active_is = b.active_is;
+        }))
+        (length-set flows flow (one_full (flow_at flows flow)) ∙ a.as_many) a.pending_is (uncounted is_arrival e trace refl)
+
+  -- What is due is given.
+  pub collected-agrees : (at : ℕ) (rest : List Delivery) → rest ≡ filter (λ d. nat_lt at d.due) pending → IsAt rule accepted keys homes views flows rest more (collected at ∷ trace)
+  collected-agrees at rest is =
+      quiet-agrees {e = collected at}
+      (record { free_is = λ l. refl; last_due_is = λ r l. refl; waits_are = λ l. refl; virtual_time_is = λ l. refl; backlog_is = λ l f. refl; last_finish_is = λ l f. refl; bound = refl })
+      a.links_are (λ l e. e)
+      (λ g. let b = a.flows_are g in record {
+        backlog_is = b.backlog_is;
+        lost_is = b.lost_is ∙ sym (uncounted (is_loss_of g) (collected at) trace refl);
+        full_is = b.full_is ∙ sym (uncounted (is_refusal_of g) (collected at) trace refl);
+        started_is = b.started_is ∙ sym (uncounted (is_start_of g) (collected at) trace refl);
+        discarded_is = b.discarded_is;
+        active_is = b.active_is;
+      })
+      a.as_many (is ∙ ap (λ (ds : List Delivery). filter (λ d. nat_lt at d.due) ds) a.pending_is) (uncounted is_arrival (collected at) trace refl)
