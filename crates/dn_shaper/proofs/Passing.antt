@@ -1,5 +1,5 @@
 -- A packet starts at once on its flow's own link, which is idle. The parts between its arrival and its start are told here alone:
--- the flow's queue never holds it.
+-- the flow's queue never holds it. The first lemmas are of any idle link.
 use Rattle.std.proofs.Common.{◌≡◌, ◌∙◌, ◌<◌, ◌+◌, ◌^◌, ℕ, cond, List, [], ◌∷◌, ◌++◌, map, set, get_or, refl, ap, sym, subst, true, length, length-set, arith}
 use Rattle.std.specs.Prelude.{◌≤◌, ◌*◌, Some, slice_get, slice_set}
 use Rattle.dn_heap.specs.Heap.{Heap}
@@ -23,12 +23,12 @@ use Rattle.dn_shaper.specs.Refinement.Arriving.{ArrivesAt, is_idle}
 use Rattle.dn_shaper.specs.Refinement.Passing.{IsIdleAt}
 use Rattle.dn_shaper.specs.Refinement.Starting.{CanStart, Starts, Within}
 use Rattle.dn_shaper.specs.Refinement.Submitting.{MayAccept}
-use Rattle.dn_shaper.specs.Refinement.Views.{carried_link, queue_lengths, view_of, views_of}
+use Rattle.dn_shaper.specs.Refinement.Views.{LinkView, carried_link, queue_lengths, view_of, views_of}
 use Rattle.dn_shaper.proofs.Accepted.{idle-is, mid-agrees, mid-all}
 use Rattle.dn_shaper.proofs.Accepting.{home-at, may-agree}
 use Rattle.dn_shaper.proofs.Alone.{push-longer, set-seen}
 use Rattle.dn_shaper.proofs.Arriving.{set-self, set-set}
-use Rattle.dn_shaper.proofs.HomeRead.{home-alone, in-table, place-below}
+use Rattle.dn_shaper.proofs.HomeRead.{home-alone, in-table}
 use Rattle.dn_shaper.proofs.Starting.{alone-at}
 use Rattle.dn_shaper.proofs.Taking.{pops-fewer}
 
@@ -41,6 +41,63 @@ stands xs i {x = x} {y = y} there read =
 -- What the link that is read at the place carries.
 pub shared-carries : {at place : ℕ} {old : Parts} (is : IsIdleAt at place old) {l : LinkParts} → l ≡ get_or old.links.items place l → {k : Carries} → l.carries ≡ k → is.link.carries ≡ k
 shared-carries {place = place} {old = old} is read-link carries = ap (λ (x : LinkParts). x.carries) (sym (stands old.links.items place is.there read-link)) ∙ carries
+
+-- ---- An idle link, by what it carries
+
+module _ {at place : ℕ} {old : Parts} (is : IsIdleAt at place old) {carries : Carries} (on : is.link.carries ≡ carries) where
+  abbrev pub link : LinkParts
+  link = record { pipe = is.link.pipe; times = is.link.times; carries = carries }
+
+  link-is : is.link ≡ link
+  link-is = λ i. record { pipe = is.link.pipe; times = is.link.times; carries = on i }
+
+  pub there : slice_get old.links.items place ≡ Some link
+  there = is.there ∙ ap (λ (x : LinkParts). Some x) link-is
+
+  pub reads : {l : LinkParts} → l ≡ get_or old.links.items place l → l ≡ link
+  reads read-link = stands old.links.items place there read-link
+
+  abbrev pub seen : LinkView
+  seen = view_of (queue_lengths old.flows.flows) link
+
+  pub seen-there : slice_get (views_of old) place ≡ Some seen
+  seen-there = get-map (view_of (queue_lengths old.flows.flows)) old.links.items place link there
+
+  pub idle : is_idle at seen ≡ true
+  idle = subst (λ (x : LinkParts). is_idle at (view_of (queue_lengths old.flows.flows) x) ≡ true) link-is is.idle
+
+  pub free-by : is.link.times.free ≤ at
+  free-by = (idle-is at seen idle).1
+
+-- ---- A flow that no packet waits in
+
+pub few-started : {settings : Settings} {at flow : ℕ} {old : Parts} {heap : Heap NextStart} → MayAccept settings at flow old heap → (flow_at old.flows.flows flow).started < 2 ^ 62
+few-started {flow = flow} may = let lt = may.few.1 in let c = (may.few.2.flows_are flow).2 in omega arith
+
+-- One packet joins it and leaves it.
+module _ (flows : List FlowState) (flow : ℕ) (w : Waiting) where
+  abbrev pub came : FlowState
+  came = pushed w (flow_at flows flow)
+
+  abbrev pub joined : List FlowState
+  joined = slice_set flows flow came
+
+  module _ (inside : flow < length flows) where
+    pub in-joined : flow < length joined
+    in-joined = let e = length-set flows flow came in omega arith
+
+    now : flow_at joined flow ≡ came
+    now = flow_after_set flows flow flow came inside ∙ ap (λ b. cond b came (flow_at flows flow)) (eq-yes flow flow refl)
+
+    pub first-joined : length (flow_at flows flow).backlog ≡ 0 → slice_get (flow_at joined flow).backlog 0 ≡ Some w
+    first-joined none = ap (λ (s : FlowState). slice_get s.backlog 0) now ∙ first (flow_at flows flow).backlog none
+      where
+        first : (ws : List Waiting) → length ws ≡ 0 → slice_get (ws ++ w ∷ []) 0 ≡ Some w
+        first [] e = refl
+        first (x ∷ ws) e = absurd (omega arith)
+
+    pub left-then : {after : List FlowState} → after ≡ slice_set flows flow (popped came) → after ≡ slice_set joined flow (popped (flow_at joined flow))
+    left-then is = is ∙ sym (set-set flows flow came (popped came)) ∙ ap (λ (s : FlowState). slice_set joined flow (popped s)) (sym now)
 
 -- ---- The flow's own link
 
@@ -59,52 +116,31 @@ module _ {settings : Settings} {at : ℕ} {h : Home} {flow : ℕ} {old : Parts} 
       ap (λ (x : LinkParts). x.carries) (sym same) ∙ own.1 ∙ ap (λ n. Own n) one
 
   module _ (own : is.link.carries ≡ Own flow) where
-    abbrev pub link : LinkParts
-    link = record { pipe = is.link.pipe; times = is.link.times; carries = Own flow }
-
-    link-is : is.link ≡ link
-    link-is = λ i. record { pipe = is.link.pipe; times = is.link.times; carries = own i }
-
-    pub there : slice_get old.links.items h.place ≡ Some link
-    there = is.there ∙ ap (λ (x : LinkParts). Some x) link-is
-
-    idle : is_idle at (view_of (queue_lengths old.flows.flows) link) ≡ true
-    idle = subst (λ (x : LinkParts). is_idle at (view_of (queue_lengths old.flows.flows) x) ≡ true) link-is is.idle
-
-    pub reads : {l : LinkParts} → l ≡ get_or old.links.items h.place l → l ≡ link
-    reads read-link = stands old.links.items h.place there read-link
-
-    pub free-by : is.link.times.free ≤ at
-    free-by = (idle-is at (view_of (queue_lengths old.flows.flows) link) idle).1
+    abbrev here : LinkParts
+    here = link is own
 
     pub none : length (flow_at old.flows.flows flow).backlog ≡ 0
-    none = (idle-is at (view_of (queue_lengths old.flows.flows) link) idle).0
-
-    pub few-started : (flow_at old.flows.flows flow).started < 2 ^ 62
-    few-started = let lt = may.few.1 in let c = (may.few.2.flows_are flow).2 in omega arith
+    none = (idle-is at (seen is own) (idle is own)).0
 
     module _ (len : ℕ) where
       abbrev w : Waiting
       w = record { packet = old.accepted; len = len }
 
-      abbrev came : FlowState
-      came = pushed w (flow_at old.flows.flows flow)
-
       -- The parts once the packet has arrived.
       abbrev pub mid : Parts
-      mid = record old { flows = record { keys = old.flows.keys; flows = slice_set old.flows.flows flow came }; accepted = old.accepted + 1; waiting = old.waiting + 1 }
+      mid = record old { flows = record { keys = old.flows.keys; flows = joined old.flows.flows flow w }; accepted = old.accepted + 1; waiting = old.waiting + 1 }
 
       pub longer : queue_lengths mid.flows.flows flow ≡ queue_lengths old.flows.flows flow + 1
       longer = push-longer old.flows.flows flow w inside mid.flows.flows refl
 
       pub arrives : (weight : ℕ) → ArrivesAt at h flow len weight true old mid
       arrives weight = record {
-        view = view_of (queue_lengths old.flows.flows) link;
-        view' = view_of (queue_lengths mid.flows.flows) link;
-        there = get-map (view_of (queue_lengths old.flows.flows)) old.links.items h.place link there;
-        idle_is = sym idle;
-        views_are = ap (λ (ls : List LinkParts). map (view_of (queue_lengths mid.flows.flows)) ls) (sym (set-self old.links.items h.place link there))
-            ∙ set-seen old flow h.place (home-alone old (may-agree may) may.within read) inside mid.flows.flows came refl link;
+        view = seen is own;
+        view' = view_of (queue_lengths mid.flows.flows) here;
+        there = seen-there is own;
+        idle_is = sym (idle is own);
+        views_are = ap (λ (ls : List LinkParts). map (view_of (queue_lengths mid.flows.flows)) ls) (sym (set-self old.links.items h.place here (there is own)))
+            ∙ set-seen old flow h.place (home-alone old (may-agree may) may.within read) inside mid.flows.flows (came old.flows.flows flow w) refl here;
         joins = record { link = refl; value = refl; slots = refl; waits = longer; arrives = refl };
         flows_are = refl;
         rule = refl;
@@ -123,49 +159,37 @@ module _ {settings : Settings} {at : ℕ} {h : Home} {flow : ℕ} {old : Parts} 
 
       abbrev pub can : CanStart mid h.place at
       can = record {
-        view = view_of (queue_lengths mid.flows.flows) link;
-        there = get-map (view_of (queue_lengths mid.flows.flows)) old.links.items h.place link there;
+        view = view_of (queue_lengths mid.flows.flows) here;
+        there = get-map (view_of (queue_lengths mid.flows.flows)) old.links.items h.place here (there is own);
         some = let l = longer in omega arith;
-        soon = free-by;
+        soon = free-by is own;
       }
 
-      in-mid : flow < length mid.flows.flows
-      in-mid = let e = length-set old.flows.flows flow came in let i = inside in omega arith
-
-      now : flow_at mid.flows.flows flow ≡ came
-      now = flow_after_set old.flows.flows flow flow came inside ∙ ap (λ b. cond b came (flow_at old.flows.flows flow)) (eq-yes flow flow refl)
-
-      front : slice_get (flow_at mid.flows.flows flow).backlog 0 ≡ Some w
-      front = ap (λ (s : FlowState). slice_get s.backlog 0) now ∙ first (flow_at old.flows.flows flow).backlog none
-        where
-          first : (ws : List Waiting) → length ws ≡ 0 → slice_get (ws ++ w ∷ []) 0 ≡ Some w
-          first [] e = refl
-          first (x ∷ ws) e = absurd (omega arith)
-
-      module _ (flows : List FlowState) (is-now : flows ≡ slice_set old.flows.flows flow (popped came)) (t : LinkState) where
+      module _ (flows : List FlowState) (is-now : flows ≡ slice_set old.flows.flows flow (popped (came old.flows.flows flow w))) (t : LinkState) where
         flows-then : flows ≡ slice_set mid.flows.flows flow (popped (flow_at mid.flows.flows flow))
-        flows-then = is-now ∙ sym (set-set old.flows.flows flow came (popped came)) ∙ ap (λ (s : FlowState). slice_set mid.flows.flows flow (popped s)) (sym now)
+        flows-then = left-then old.flows.flows flow w inside is-now
 
         pub views : map (view_of (queue_lengths flows)) (set old.links.items h.place (record { pipe = is.link.pipe; times = t; carries = Own flow }))
             ≡ set (views_of mid) h.place (view_of (queue_lengths flows) (record { pipe = is.link.pipe; times = t; carries = Own flow }))
-        views = set-seen mid flow h.place (alone-at within agrees can flow can.view refl) in-mid flows (popped (flow_at mid.flows.flows flow)) flows-then
+        views = set-seen mid flow h.place (alone-at within agrees can flow can.view refl) (in-joined old.flows.flows flow w inside) flows (popped (flow_at mid.flows.flows flow)) flows-then
             (record { pipe = is.link.pipe; times = t; carries = Own flow })
 
         pub starts : {bandwidth delay : ℕ} {pending : List Delivery} → t.free ≡ at + transmission_time bandwidth len →
             t.last_due ≡ due_by old.rule (at + transmission_time bandwidth len + delay * 1000000) is.link.times.last_due →
             pending ≡ in_order (record { due = t.last_due; packet = old.accepted; flow = flow; start = at }) old.line.pending →
-            Starts old.rule bandwidth delay at (view_of (queue_lengths mid.flows.flows) link) mid.flows.flows old.line.pending
+            Starts old.rule bandwidth delay at (view_of (queue_lengths mid.flows.flows) here) mid.flows.flows old.line.pending
             (view_of (queue_lengths flows) (record { pipe = is.link.pipe; times = t; carries = Own flow })) flows pending
         starts free last pending = record {
           flow = flow;
           packet = w;
-          front = front;
+          front = first-joined old.flows.flows flow w inside none;
           link = refl;
           slots = refl;
           sends = refl;
           free = free;
           last_due = last;
-          waits = ap (λ (fs : List FlowState). queue_lengths fs flow + 1) flows-then ∙ pops-fewer mid.flows.flows flow w in-mid front;
+          waits = ap (λ (fs : List FlowState). queue_lengths fs flow + 1) flows-then
+              ∙ pops-fewer mid.flows.flows flow w (in-joined old.flows.flows flow w inside) (first-joined old.flows.flows flow w inside none);
           flows_are = flows-then;
           pending_is = pending;
         }

@@ -1,7 +1,7 @@
 -- A packet starts at once on an idle shared link. The parts between its arrival and its start are told here alone: neither its flow's
 -- queue nor the scheduler ever holds it.
-use Rattle.std.proofs.Common.{◌≡◌, ◌∙◌, ◌<◌, ◌+◌, ◌^◌, ℕ, cond, List, [], ◌∷◌, ◌++◌, map, set, get_or, refl, ap, sym, subst, true, length, length-set, arith, Box, Global}
-use Rattle.std.specs.Prelude.{◌≤◌, ◌*◌, Some, slice_get, slice_set}
+use Rattle.std.proofs.Common.{◌≡◌, ◌∙◌, ◌<◌, ◌+◌, ◌^◌, ℕ, List, map, set, get_or, refl, ap, sym, subst, true, length, arith, Box, Global}
+use Rattle.std.specs.Prelude.{◌*◌, Some, slice_get, slice_set}
 use Rattle.std.specs.Box.{with_value}
 use Rattle.std.specs.Vec.{with_item}
 use Rattle.std.proofs.lemmas.List.{length-map}
@@ -12,12 +12,11 @@ use Rattle.dn_types.specs.Links.{transmission_time, due_by}
 use Rattle.dn_types.specs.Trace.{Accepted, Link, backlog, shared}
 use Rattle.dn_types.specs.Wf2q.{Stamped}
 use Rattle.dn_types.specs.declared.delivery.Delivery.{Delivery}
-use Rattle.dn_flows.specs.Table.{FlowState, flow_at, popped, pushed}
+use Rattle.dn_flows.specs.Table.{FlowState, flow_at, popped}
 use Rattle.dn_flows.specs.declared.waiting.Waiting.{Waiting}
-use Rattle.dn_flows.proofs.Places.{eq-yes, get-map, get-set}
-use Rattle.dn_flows.proofs.Views.{flow_after_set}
+use Rattle.dn_flows.proofs.Places.{get-map, get-set}
 use Rattle.dn_link.specs.LinkState.{LinkState}
-use Rattle.dn_wf2q.specs.Schedule.{Schedule, IsIdle, Passes as PassesIn, Picks, arrived, flow_at as slot_at, room_at, waiting_of}
+use Rattle.dn_wf2q.specs.Schedule.{Schedule, IsIdle, Passes as PassesIn, Picks, arrived, room_at, waiting_of}
 use Rattle.dn_wf2q.proofs.Passed.{idle_slot}
 use Rattle.dn_shaper.specs.declared.links.home.Home.{Home}
 use Rattle.dn_shaper.specs.declared.links.link_parts.Carries.TheVariants.{Shared}
@@ -26,48 +25,24 @@ use Rattle.dn_shaper.specs.declared.links.next_start.NextStart.{NextStart}
 use Rattle.dn_shaper.specs.declared.links.parts.Parts.{Parts}
 use Rattle.dn_shaper.specs.declared.links.shared_link.SharedLink.{SharedLink}
 use Rattle.dn_shaper.specs.Refinement.Agreement.{Agrees}
-use Rattle.dn_shaper.specs.Refinement.Arriving.{ArrivesAt, is_idle}
+use Rattle.dn_shaper.specs.Refinement.Arriving.{ArrivesAt}
 use Rattle.dn_shaper.specs.Refinement.Passing.{CanPass, IsIdleAt}
 use Rattle.dn_shaper.specs.Refinement.Starting.{CanStart, KeepsSchedule, Starts, Within}
 use Rattle.dn_shaper.specs.Refinement.Submitting.{MayAccept}
 use Rattle.dn_shaper.specs.Refinement.Views.{IsNextToSend, LinkView, as_queued, home, queue_lengths, slotted, stamped_of, view_of, views_of}
 use Rattle.dn_shaper.proofs.Accepted.{idle-is, mid-agrees, mid-all}
 use Rattle.dn_shaper.proofs.Accepting.{home-at, may-agree}
-use Rattle.dn_shaper.proofs.Alone.{push-longer, set-seen}
+use Rattle.dn_shaper.proofs.Alone.{set-seen}
 use Rattle.dn_shaper.proofs.Arriving.{set-set}
 use Rattle.dn_shaper.proofs.HomeRead.{home-alone, in-table, is-home}
-use Rattle.dn_shaper.proofs.Passing.{stands}
+use Rattle.dn_shaper.proofs.Passing.{came, first-joined, free-by, idle, in-joined, joined, left-then, link, reads, seen, seen-there, there}
 use Rattle.dn_shaper.proofs.Scheduled.{waits_forgotten}
 use Rattle.dn_shaper.proofs.Starting.{alone-at}
 
 module _ {settings : Settings} {at : ℕ} {h : Home} {flow : ℕ} {old : Parts} {heap : Heap NextStart} (may : MayAccept settings at flow old heap)
     (read : h ≡ get_or old.homes.items flow h) (is : IsIdleAt at h.place old) (s : Box SharedLink Global) (shares : is.link.carries ≡ Shared s) where
-  abbrev pub link : LinkParts
-  link = record { pipe = is.link.pipe; times = is.link.times; carries = Shared s }
-
-  link-is : is.link ≡ link
-  link-is = λ i. record { pipe = is.link.pipe; times = is.link.times; carries = shares i }
-
-  pub there : slice_get old.links.items h.place ≡ Some link
-  there = is.there ∙ ap (λ (x : LinkParts). Some x) link-is
-
-  pub reads : {l : LinkParts} → l ≡ get_or old.links.items h.place l → l ≡ link
-  reads read-link = stands old.links.items h.place there read-link
-
-  abbrev seen : LinkView
-  seen = view_of (queue_lengths old.flows.flows) link
-
-  seen-there : slice_get (views_of old) h.place ≡ Some seen
-  seen-there = get-map (view_of (queue_lengths old.flows.flows)) old.links.items h.place link there
-
-  idle : is_idle at seen ≡ true
-  idle = subst (λ (x : LinkParts). is_idle at (view_of (queue_lengths old.flows.flows) x) ≡ true) link-is is.idle
-
-  pub free-by : is.link.times.free ≤ at
-  free-by = (idle-is at seen idle).1
-
   pub calm : IsIdle s.value.sched.flows
-  calm = (idle-is at seen idle).0
+  calm = (idle-is at (seen is shares) (idle is shares)).0
 
   inside : flow < length old.flows.flows
   inside = in-table old (may-agree may) may.within
@@ -76,15 +51,15 @@ module _ {settings : Settings} {at : ℕ} {h : Home} {flow : ℕ} {old : Parts} 
   home-is : home old.flows.keys flow ≡ shared is.link.pipe
   home-is =
       let it = is-home old (may-agree may) may.within read in
-      let both : Some it.view ≡ Some seen = sym it.there ∙ seen-there in
-      let same : it.view ≡ seen = cc in
+      let both : Some it.view ≡ Some (seen is shares) = sym it.there ∙ seen-there is shares in
+      let same : it.view ≡ seen is shares = cc in
       sym it.link_is ∙ ap (λ (v : LinkView). v.link) same
 
   slot-is : slice_get s.value.flows.items h.slot ≡ Some flow
   slot-is =
       let it = is-home old (may-agree may) may.within read in
-      let both : Some it.view ≡ Some seen = sym it.there ∙ seen-there in
-      let same : it.view ≡ seen = cc in
+      let both : Some it.view ≡ Some (seen is shares) = sym it.there ∙ seen-there is shares in
+      let same : it.view ≡ seen is shares = cc in
       ap (λ (v : LinkView). slice_get v.slots h.slot) (sym same) ∙ it.slot_is is.link.pipe home-is
 
   -- No packet of the flow waits, since none waits at its slot.
@@ -92,7 +67,7 @@ module _ {settings : Settings} {at : ℕ} {h : Home} {flow : ℕ} {old : Parts} 
   none =
       let trace = may.settled.1 in
       let a = may.settled.2 in
-      let slot = (a.views_are h.place seen seen-there).schedule_is is.link.pipe refl in
+      let slot = (a.views_are h.place (seen is shares) (seen-there is shares)).schedule_is is.link.pipe refl in
       let zero = idle_slot s.value.sched.flows calm h.slot in
       let at_slot = ap (λ (q : List Stamped). length q) (slot.slots_are h.slot flow slot-is).backlog_is in
       let queue = ap (λ (q : List Waiting). length q) (a.flows_are flow).backlog_is in
@@ -102,28 +77,22 @@ module _ {settings : Settings} {at : ℕ} {h : Home} {flow : ℕ} {old : Parts} 
       let three = length-map (backlog (home old.flows.keys flow) flow trace) as_queued in
       omega arith
 
-  pub few-started : (flow_at old.flows.flows flow).started < 2 ^ 62
-  few-started = let lt = may.few.1 in let c = (may.few.2.flows_are flow).2 in omega arith
-
   pub can-pass : CanPass h.slot s.value.sched
   can-pass =
-      let few = may.few.2.arrivals h.place seen seen-there in
+      let few = may.few.2.arrivals h.place (seen is shares) (seen-there is shares) in
       let limit = may.few.1 in
-      (calm, may.ready.slot h seen is.link.pipe (home-at may read) seen-there refl, omega arith)
+      (calm, may.ready.slot h (seen is shares) is.link.pipe (home-at may read) (seen-there is shares) refl, omega arith)
 
   -- The same of the link that is read at its place.
   pub can-block : {l : LinkParts} → l ≡ get_or old.links.items h.place l → (block : Box SharedLink Global) → l.carries ≡ Shared block → CanPass h.slot block.value.sched
   can-block {l = l} read-link block carries =
-      let both : Shared s ≡ Shared block = sym (ap (λ (x : LinkParts). x.carries) (reads read-link)) ∙ carries in
+      let both : Shared s ≡ Shared block = sym (ap (λ (x : LinkParts). x.carries) (reads is shares read-link)) ∙ carries in
       let same : s ≡ block = cc in
       subst (λ (b : Box SharedLink Global). CanPass h.slot b.value.sched) same can-pass
 
   module _ (len weight : ℕ) (t : Schedule) (passes : PassesIn h.slot len weight s.value.sched t) where
     abbrev w : Waiting
     w = record { packet = old.accepted; len = len }
-
-    abbrev came : FlowState
-    came = pushed w (flow_at old.flows.flows flow)
 
     abbrev between : Schedule
     between = arrived h.slot len weight s.value.sched t
@@ -134,7 +103,7 @@ module _ {settings : Settings} {at : ℕ} {h : Home} {flow : ℕ} {old : Parts} 
     -- The parts once the packet has arrived.
     abbrev pub mid : Parts
     mid = record old {
-      flows = record { keys = old.flows.keys; flows = slice_set old.flows.flows flow came };
+      flows = record { keys = old.flows.keys; flows = joined old.flows.flows flow w };
       links = with_item old.links h.place link-mid;
       accepted = old.accepted + 1;
       waiting = old.waiting + 1;
@@ -142,11 +111,11 @@ module _ {settings : Settings} {at : ℕ} {h : Home} {flow : ℕ} {old : Parts} 
 
     pub arrives : ArrivesAt at h flow len weight true old mid
     arrives = record {
-      view = seen;
+      view = seen is shares;
       view' = view_of (queue_lengths mid.flows.flows) link-mid;
-      there = seen-there;
-      idle_is = sym idle;
-      views_are = set-seen old flow h.place (home-alone old (may-agree may) may.within read) inside mid.flows.flows came refl link-mid;
+      there = seen-there is shares;
+      idle_is = sym (idle is shares);
+      views_are = set-seen old flow h.place (home-alone old (may-agree may) may.within read) inside mid.flows.flows (came old.flows.flows flow w) refl link-mid;
       joins = record {
         link = refl;
         value = refl;
@@ -170,34 +139,21 @@ module _ {settings : Settings} {at : ℕ} {h : Home} {flow : ℕ} {old : Parts} 
     within = mid-all may (home-at may read) arrives
 
     pub mid-there : slice_get (views_of mid) h.place ≡ Some (view_of (queue_lengths mid.flows.flows) link-mid)
-    mid-there = get-map (view_of (queue_lengths mid.flows.flows)) (set old.links.items h.place link-mid) h.place link-mid (get-set old.links.items h.place link link-mid there)
+    mid-there = get-map (view_of (queue_lengths mid.flows.flows)) (set old.links.items h.place link-mid) h.place link-mid (get-set old.links.items h.place (link is shares) link-mid (there is shares))
 
     pub some-waits : 0 < waiting_of between.flows
     some-waits = let m = passes.one_more in omega arith
 
     abbrev pub can : CanStart mid h.place at
-    can = record { view = view_of (queue_lengths mid.flows.flows) link-mid; there = mid-there; some = some-waits; soon = free-by }
+    can = record { view = view_of (queue_lengths mid.flows.flows) link-mid; there = mid-there; some = some-waits; soon = free-by is shares }
 
-    in-mid : flow < length mid.flows.flows
-    in-mid = let e = length-set old.flows.flows flow came in let i = inside in omega arith
-
-    now : flow_at mid.flows.flows flow ≡ came
-    now = flow_after_set old.flows.flows flow flow came inside ∙ ap (λ b. cond b came (flow_at old.flows.flows flow)) (eq-yes flow flow refl)
-
-    front : slice_get (flow_at mid.flows.flows flow).backlog 0 ≡ Some w
-    front = ap (λ (x : FlowState). slice_get x.backlog 0) now ∙ first (flow_at old.flows.flows flow).backlog none
-      where
-        first : (ws : List Waiting) → length ws ≡ 0 → slice_get (ws ++ w ∷ []) 0 ≡ Some w
-        first [] e = refl
-        first (x ∷ ws) e = absurd (omega arith)
-
-    module _ (flows : List FlowState) (is-now : flows ≡ slice_set old.flows.flows flow (popped came)) (u : LinkState) (block : Box SharedLink Global)
+    module _ (flows : List FlowState) (is-now : flows ≡ slice_set old.flows.flows flow (popped (came old.flows.flows flow w))) (u : LinkState) (block : Box SharedLink Global)
         (sched-is : block.value.sched ≡ t) (slots-are : block.value.flows ≡ s.value.flows) where
       abbrev pub gone : LinkParts
       gone = record { pipe = is.link.pipe; times = u; carries = Shared block }
 
       flows-then : flows ≡ slice_set mid.flows.flows flow (popped (flow_at mid.flows.flows flow))
-      flows-then = is-now ∙ sym (set-set old.flows.flows flow came (popped came)) ∙ ap (λ (x : FlowState). slice_set mid.flows.flows flow (popped x)) (sym now)
+      flows-then = left-then old.flows.flows flow w inside is-now
 
       sends : IsNextToSend flow (view_of (queue_lengths mid.flows.flows) link-mid) (view_of (queue_lengths flows) gone) (shared is.link.pipe)
       sends = (
@@ -210,7 +166,8 @@ module _ {settings : Settings} {at : ℕ} {h : Home} {flow : ℕ} {old : Parts} 
       pub views : map (view_of (queue_lengths flows)) (set old.links.items h.place gone) ≡ set (views_of mid) h.place (view_of (queue_lengths flows) gone)
       views =
           ap (λ (ls : List LinkParts). map (view_of (queue_lengths flows)) ls) (sym (set-set old.links.items h.place link-mid gone))
-          ∙ set-seen mid flow h.place (alone-at within agrees can flow (view_of (queue_lengths flows) gone) sends) in-mid flows (popped (flow_at mid.flows.flows flow)) flows-then gone
+          ∙ set-seen mid flow h.place (alone-at within agrees can flow (view_of (queue_lengths flows) gone) sends) (in-joined old.flows.flows flow w inside) flows
+          (popped (flow_at mid.flows.flows flow)) flows-then gone
 
       pub starts : {bandwidth delay : ℕ} {pending : List Delivery} → u.free ≡ at + transmission_time bandwidth len →
           u.last_due ≡ due_by old.rule (at + transmission_time bandwidth len + delay * 1000000) is.link.times.last_due →
@@ -219,7 +176,7 @@ module _ {settings : Settings} {at : ℕ} {h : Home} {flow : ℕ} {old : Parts} 
       starts free last pending = record {
         flow = flow;
         packet = w;
-        front = front;
+        front = first-joined old.flows.flows flow w inside none;
         link = refl;
         slots = ap (λ v. v.items) slots-are;
         sends = sends;

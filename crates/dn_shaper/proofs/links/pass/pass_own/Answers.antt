@@ -1,8 +1,7 @@
 -- The packet arrives in the flow's queue and leaves it at once.
-use Rattle.std.proofs.Common.{◌∙◌, ◌+◌, ◌*◌, ℕ, List, map, set, refl, ap, subst, arith}
+use Rattle.std.proofs.Common.{◌∙◌, ◌+◌, ◌*◌, ℕ, map, set, refl, ap, arith}
 use Rattle.std.proofs.lemmas.Grind.{common_steps}
 use Rattle.dn_types.specs.Links.{due_by, transmission_time}
-use Rattle.dn_flows.proofs.Places.{get-map}
 use Rattle.dn_shaper.specs.declared.links.link_parts.Carries.TheVariants.{Own}
 use Rattle.dn_shaper.specs.declared.links.link_parts.LinkParts.{LinkParts}
 use Rattle.dn_shaper.specs.Refinement.Views.{queue_lengths, view_of}
@@ -18,7 +17,7 @@ overflow_add-parts c = let few = few-accepted c.requires.may.2 in omega arith
 -- ---- The flow has no packet, and a place
 
 pub pass-requires-clause-within : goal.pass-requires-clause-within
-pass-requires-clause-within c = let may = c.requires.may.2 in in-table c.args.parts.now (may-agree may) may.within
+pass-requires-clause-within c = in-table c.args.parts.now (may-agree c.requires.may.2) c.requires.may.2.within
 
 pub pass-requires-clause-reserved : goal.pass-requires-clause-reserved
 pass-requires-clause-reserved c = c.requires.may.2.ready.place
@@ -27,20 +26,19 @@ pub pass-requires-clause-empty : goal.pass-requires-clause-empty
 pass-requires-clause-empty c = none c.requires.may.2 c.requires.home c.requires.own.0 c.requires.own.1
 
 pub pass-requires-clause-count : goal.pass-requires-clause-count
-pass-requires-clause-count c = few-started c.requires.may.2 c.requires.home c.requires.own.0 c.requires.own.1
+pass-requires-clause-count c = few-started c.requires.may.2
 
 -- ---- The link at its home sends it
 
 pub index_mut-link-requires : goal.index_mut-link-requires
 index_mut-link-requires c =
-    let may = c.requires.may.2 in
-    let below = place-below c.args.parts.now (may-agree may) may.within c.requires.home in
+    let below = place-below c.args.parts.now (may-agree c.requires.may.2) c.requires.may.2.within c.requires.home in
     grind (arith, common_steps)
 
 pub send-requires-clause-free : goal.send-requires-clause-free
 send-requires-clause-free c =
-    let same = ap {B = ℕ} (λ (x : LinkParts). x.times.free) (reads c.requires.may.2 c.requires.home c.requires.own.0 c.requires.own.1 c.index_mut-link.ensures.value) in
-    let free = free-by c.requires.may.2 c.requires.home c.requires.own.0 c.requires.own.1 in
+    let same = ap {B = ℕ} (λ (x : LinkParts). x.times.free) (reads c.requires.own.0 c.requires.own.1 c.index_mut-link.ensures.value) in
+    let free = free-by c.requires.own.0 c.requires.own.1 in
     omega arith
 
 pub send-requires-clause-room : goal.send-requires-clause-room
@@ -63,8 +61,8 @@ returns c = λ weight.
     let len = c.args.len in
     let t = c.send.new.link in
     let flows = c.pass.new.self.flows in
-    let same = reads may c.requires.home own.0 own.1 c.index_mut-link.ensures.value in
-    let here = link may c.requires.home own.0 own.1 in
+    let same = reads own.0 own.1 c.index_mut-link.ensures.value in
+    let here = link own.0 own.1 in
     let between = mid may c.requires.home own.0 own.1 len in
     let is-now = c.pass.ensures.flows (record { packet = old.accepted; len = len }) in
     record {
