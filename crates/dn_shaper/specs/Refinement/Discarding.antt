@@ -4,9 +4,10 @@ use Rattle.dn_types.specs.Trace.{Link, own, shared, Event, discarded}
 use Rattle.dn_flows.specs.Table.{flow_at, emptied}
 use Rattle.dn_wf2q.specs.Schedule.{after_discard, flow_at as slot_at}
 use Rattle.dn_shaper.specs.declared.links.home.Home.{Home}
+use Rattle.dn_shaper.specs.declared.links.link_parts.LinkParts.{LinkParts}
 use Rattle.dn_shaper.specs.declared.links.parts.Parts.{Parts}
 use Rattle.dn_shaper.specs.Refinement.NextStarts.{next_at}
-use Rattle.dn_shaper.specs.Refinement.Views.{LinkView, views_of, next_starts}
+use Rattle.dn_shaper.specs.Refinement.Views.{LinkView, next_starts, view_of, views_of}
 use Rattle.dn_shaper.specs.Refinement.Agreement.{AgreesWith}
 
 -- So many packets of a flow no longer wait: in its queue where the link is its own, and at its slot of a shared one.
@@ -30,6 +31,11 @@ pub record LeavesLink (slot count : ℕ) (old new : LinkView) : Type 0 where
   pub slots : new.slots ≡ old.slots
   pub waits : new.waits + count ≡ old.waits
   pub discards : DiscardsOn slot old new old.link
+
+-- As many packets leave the link as leave the queue of its flow, or as wait at the slot of a shared link.
+abbrev pub LeavesAtSlot : ℕ → LinkParts → LinkParts → Type 0
+LeavesAtSlot slot old new =
+    (before after : ℕ → ℕ) (count : ℕ) → LosesCount slot count before after (view_of before old) (view_of before old).link → LeavesLink slot count (view_of before old) (view_of after new)
 
 -- The packets of a flow leave, seen by all parts.
 pub record DiscardsAt (h : Home) (flow : ℕ) (old new : Parts) : Type 0 where

@@ -1,8 +1,8 @@
 -- The home that a new flow gets: the next slot of the link that its pipe's queues share, or the first of a new link.
-use Rattle.std.specs.Prelude.{◌≡◌, ℕ, ◌+◌, ◌-◌, ◌<◌, ◌≤◌, take, List, [], ◌∷◌, ◌++◌, length, Option, Some, None, slice_get, slice_set}
+use Rattle.std.specs.Prelude.{◌≡◌, ℕ, ◌+◌, ◌-◌, ◌<◌, ◌≤◌, take, List, [], ◌∷◌, ◌++◌, length, map, Option, Some, None, slice_get, slice_set}
 use Rattle.dn_heap.specs.Heap.{Heap}
 use Rattle.dn_types.specs.Calls.{link_of}
-use Rattle.dn_types.specs.Trace.{Link}
+use Rattle.dn_types.specs.Trace.{Link, shared}
 use Rattle.dn_types.specs.declared.flow_key.FlowKey.{FlowKey}
 use Rattle.dn_types.specs.declared.target.Target.{Target}
 use Rattle.dn_types.specs.declared.target.Target.TheVariants.{Pipe as ToPipe, Queue as ToQueue}
@@ -10,9 +10,11 @@ use Rattle.dn_flows.specs.Table.{flow_at, with_place}
 use Rattle.dn_wf2q.specs.Schedule.{room_at}
 use Rattle.dn_shaper.specs.declared.links.next_start.NextStart.{NextStart}
 use Rattle.dn_shaper.specs.declared.links.home.Home.{Home}
+use Rattle.dn_shaper.specs.declared.links.link_parts.LinkParts.{LinkParts}
 use Rattle.dn_shaper.specs.declared.state.State.{State}
+use Rattle.dn_shaper.specs.Refinement.Agreement.{link_names}
 use Rattle.dn_shaper.specs.Refinement.Making.{HasSlotRoom, KeepsAt, KeepsCalls, OnlyRoom, OnlyMakesRoom}
-use Rattle.dn_shaper.specs.Refinement.Views.{LinkView, no_schedule, views_of}
+use Rattle.dn_shaper.specs.Refinement.Views.{LinkView, no_schedule, view_of, views_of}
 use Rattle.dn_shaper.specs.Refinement.Settings.{Sets, at_number}
 
 -- The place of the link that a flow with the key shares, where the key is one of a queue and the link is noted.
@@ -70,6 +72,18 @@ pub record Opens (link : Link) (flow : ℕ) (h : Home) (old new : List LinkView)
 abbrev pub Houses : Option ℕ → FlowKey → ℕ → Home → List LinkView → List LinkView → Heap NextStart → List (Option ℕ) → List (Option ℕ) → Type 0
 Houses (Some place) key flow h old new heap noted noted' = Shares flow place h old new × (noted' ≡ noted)
 Houses None key flow h old new heap noted noted' = Opens (link_of key.target flow key.pipe) flow h old new heap × NotesFor key.target key.pipe h.place noted noted'
+
+-- The place that is noted for a flow with the key is that of the link which the queues on its pipe share.
+abbrev pub IsNotedAmong : FlowKey → List (Option ℕ) → List LinkView → Type 0
+IsNotedAmong key noted views = (place : ℕ) → place_for key noted ≡ Some place → slice_get (link_names views) place ≡ Some (shared key.pipe)
+
+-- The home of a flow with the key is a new link at the end, as these queues show the links.
+abbrev pub OpensFor : FlowKey → ℕ → Home → List LinkParts → List LinkParts → Heap NextStart → (ℕ → ℕ) → Type 0
+OpensFor key flow home old new heap queues = Opens (link_of key.target flow key.pipe) flow home (map (view_of queues) old) (map (view_of queues) new) heap
+
+-- A flow with the key gets a home, as these queues show the links, by the place that is noted for it.
+abbrev pub HousesFor : FlowKey → ℕ → Home → List LinkParts → List LinkParts → Heap NextStart → List (Option ℕ) → List (Option ℕ) → (ℕ → ℕ) → Type 0
+HousesFor key flow home old new heap noted noted' queues = Houses (place_for key noted) key flow home (map (view_of queues) old) (map (view_of queues) new) heap noted noted'
 
 -- Only room is made among the links with a backlog.
 pub record KeepsHeap (old new : Heap NextStart) : Type 0 where

@@ -9,8 +9,9 @@ use Rattle.dn_flows.specs.Table.{FlowState, flow_at, popped}
 use Rattle.dn_flows.specs.declared.waiting.Waiting.{Waiting}
 use Rattle.dn_wf2q.specs.Schedule.{room_at}
 use Rattle.dn_shaper.specs.declared.links.home.Home.{Home}
+use Rattle.dn_shaper.specs.declared.links.link_parts.LinkParts.{LinkParts}
 use Rattle.dn_shaper.specs.declared.links.parts.Parts.{Parts}
-use Rattle.dn_shaper.specs.Refinement.Views.{LinkView, views_of, waits_in_all, TakesNext, IsNextToSend}
+use Rattle.dn_shaper.specs.Refinement.Views.{LinkView, queue_lengths, view_of, views_of, waits_in_all, TakesNext, IsNextToSend}
 
 -- The flow that the link takes next has a packet at the front of its queue.
 abbrev pub HasFront : LinkView → List FlowState → Type 0
@@ -29,6 +30,11 @@ pub record Starts (rule : Rule) (bandwidth delay moment : ℕ) (old : LinkView) 
   pub waits : new.waits + 1 ≡ old.waits
   pub flows_are : flows' ≡ slice_set flows flow (popped (flow_at flows flow))
   pub pending_is : pending' ≡ in_order (record { due = new.value.last_due; packet = packet.packet; flow = flow; start = moment }) pending
+
+-- The same, as the backlogs of the flows show the link.
+abbrev pub StartsOn : Rule → ℕ → ℕ → ℕ → LinkParts → List FlowState → List Delivery → LinkParts → List FlowState → List Delivery → Type 0
+StartsOn rule bandwidth delay moment old flows pending new flows' pending' =
+    Starts rule bandwidth delay moment (view_of (queue_lengths flows) old) flows pending (view_of (queue_lengths flows') new) flows' pending'
 
 -- No slot has less room than before, and no packet has arrived.
 pub record KeepsSchedule (old new : LinkView) : Type 0 where

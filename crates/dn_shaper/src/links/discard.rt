@@ -2,7 +2,7 @@ ghost use Rattle.std.specs.Prelude.{◌≡◌, ℕ, ◌+◌, ◌<◌, ◌≤◌,
 ghost use Rattle.dn_flows.specs.Table.{flow_at};
 ghost use Rattle.dn_shaper.specs.Refinement.Agreement.{Agrees};
 ghost use Rattle.dn_shaper.specs.Refinement.Arriving.{KeepsFlows};
-ghost use Rattle.dn_shaper.specs.Refinement.Discarding.{DiscardsFlow, DiscardsAt, HoldsCount, LeavesLink, LosesCount, OnlyEmpties};
+ghost use Rattle.dn_shaper.specs.Refinement.Discarding.{DiscardsFlow, DiscardsAt, HoldsCount, LeavesAtSlot, OnlyEmpties};
 ghost use Rattle.dn_shaper.specs.Refinement.NextStarts.{is_backlogged};
 ghost use Rattle.dn_shaper.specs.Refinement.Reordering.{active_flows};
 ghost use Rattle.dn_shaper.specs.Refinement.Starting.{Within};
@@ -18,7 +18,7 @@ use dn_heap::RunHeap;
 ///
 /// Those of an own link wait in its flow's queue alone.
 fn leave_link(link: &mut LinkParts, slot: usize)
-    ensures { (before after : ℕ → ℕ) (count : ℕ) → LosesCount slot count before after (view_of before link.old) (view_of before link.old).link → LeavesLink slot count (view_of before link.old) (view_of after link.new) }
+    ensures { LeavesAtSlot slot link.old link.new }
 {
     if let Carries::Shared(shared) = &mut link.carries {
         shared.sched.discard(slot);

@@ -3,7 +3,7 @@ ghost use Rattle.dn_types.specs.Deliveries.{in_order};
 ghost use Rattle.dn_types.specs.Links.{transmission_time, due_by};
 ghost use Rattle.dn_shaper.specs.Refinement.Views.{queue_lengths, view_of, TakesNext, CanSend};
 ghost use Rattle.dn_shaper.specs.Refinement.Agreement.{Agrees};
-ghost use Rattle.dn_shaper.specs.Refinement.Starting.{HasFront, Starts, KeepsSchedule, Within, CanStart, StartsAt};
+ghost use Rattle.dn_shaper.specs.Refinement.Starting.{HasFront, StartsOn, KeepsSchedule, Within, CanStart, StartsAt};
 
 use crate::links::link_parts::{Carries, LinkParts};
 use crate::links::parts::Parts;
@@ -77,7 +77,7 @@ fn start_one(
     requires early { moment ≤ 2 ^ 62 }
     requires room { 0 < line.old.room }
     requires pushed { line.old.pushed < 2 ^ 62 }
-    ensures starts { Starts rule rates.now.bandwidth rates.now.delay moment (view_of (queue_lengths flows.old.flows) link.old) flows.old.flows line.old.pending (view_of (queue_lengths flows.new.flows) link.new) flows.new.flows line.new.pending }
+    ensures starts { StartsOn rule rates.now.bandwidth rates.now.delay moment link.old flows.old.flows line.old.pending link.new flows.new.flows line.new.pending }
     ensures keeps { KeepsSchedule (view_of (queue_lengths flows.old.flows) link.old) (view_of (queue_lengths flows.new.flows) link.new) }
     ensures keys { flows.new.keys ≡ flows.old.keys }
     ensures room { line.new.room + 1 ≡ line.old.room }

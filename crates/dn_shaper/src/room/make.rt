@@ -4,7 +4,7 @@ ghost use Rattle.dn_types.specs.Calls.{link_of};
 ghost use Rattle.dn_types.specs.Trace.{shared as shared_link};
 ghost use Rattle.dn_flows.specs.Table.{flow_at, IsUnused};
 ghost use Rattle.dn_shaper.specs.Refinement.Agreement.{link_names};
-ghost use Rattle.dn_shaper.specs.Refinement.Homing.{GivesHome, Houses, IsNewLink, KeepsHeap, KeepsLinks, OnlyReserves, Opens, Shares, TakesSlot, NotesFor, place_for, without_last};
+ghost use Rattle.dn_shaper.specs.Refinement.Homing.{GivesHome, HousesFor, IsNewLink, IsNotedAmong, KeepsHeap, KeepsLinks, OnlyReserves, OpensFor, Shares, TakesSlot, NotesFor, without_last};
 ghost use Rattle.dn_shaper.specs.Refinement.Making.{KeepsLink};
 ghost use Rattle.dn_shaper.specs.Refinement.Views.{queue_lengths, view_of, views_of};
 
@@ -73,7 +73,7 @@ fn make_link(
     key: &FlowKey,
     flow: usize,
 ) -> Result<Home, AllocError>
-    ensures opens { (queues : ℕ → ℕ) → queues flow ≡ 0 → IfOk result (λ home. Opens (link_of key.now.target flow key.now.pipe) flow home (map (view_of queues) links.old.items) (map (view_of queues) links.new.items) heap.new) }
+    ensures opens { (queues : ℕ → ℕ) → queues flow ≡ 0 → IfOk result (λ home. OpensFor key.now flow home links.old.items links.new.items heap.new queues) }
     ensures notes { IfOk result (λ home. NotesFor key.now.target key.now.pipe home.place shared.old shared.new) }
     ensures heap { KeepsHeap heap.old heap.new }
     ensures err { OnErr result (links.new.items ≡ links.old.items) }
@@ -99,8 +99,8 @@ fn find_home(
     key: &FlowKey,
     flow: usize,
 ) -> Result<Home, AllocError>
-    requires noted { (queues : ℕ → ℕ) × ((place : ℕ) → place_for key.now shared.old ≡ Some place → slice_get (link_names (map (view_of queues) links.old.items)) place ≡ Some (shared_link key.now.pipe)) }
-    ensures houses { (queues : ℕ → ℕ) → queues flow ≡ 0 → IfOk result (λ home. Houses (place_for key.now shared.old) key.now flow home (map (view_of queues) links.old.items) (map (view_of queues) links.new.items) heap.new shared.old shared.new) }
+    requires noted { (queues : ℕ → ℕ) × IsNotedAmong key.now shared.old (map (view_of queues) links.old.items) }
+    ensures houses { (queues : ℕ → ℕ) → queues flow ≡ 0 → IfOk result (λ home. HousesFor key.now flow home links.old.items links.new.items heap.new shared.old shared.new queues) }
     ensures heap { KeepsHeap heap.old heap.new }
     ensures err { (queues : ℕ → ℕ) → OnErr result (KeepsLinks (map (view_of queues) links.old.items) (map (view_of queues) links.new.items)) }
     ensures unnoted { OnErr result (shared.new ≡ shared.old) }
@@ -116,7 +116,7 @@ fn make_home(state: &mut State, alloc: Global, key: &FlowKey, flow: usize) -> Re
     requires within { flow < length state.old.parts.flows.flows }
     requires empty { queue_lengths state.old.parts.flows.flows flow ≡ 0 }
     requires few { state.old.parts.waiting < 2 ^ 62 }
-    requires noted { (place : ℕ) → place_for key.now state.old.shared ≡ Some place → slice_get (link_names (views_of state.old.parts)) place ≡ Some (shared_link key.now.pipe) }
+    requires noted { IsNotedAmong key.now state.old.shared (views_of state.old.parts) }
     ensures gives { OnOk result (GivesHome key.now flow state.old state.new) }
     ensures err { OnErr result (OnlyReserves state.old state.new) }
 {
@@ -147,7 +147,7 @@ pub fn house_last(
     requires last { flow + 1 ≡ length state.old.parts.flows.flows }
     requires unused { IsUnused (flow_at state.old.parts.flows.flows (length state.old.parts.flows.flows - 1)) }
     requires few { state.old.parts.waiting < 2 ^ 62 }
-    requires noted { (place : ℕ) → place_for key.now state.old.shared ≡ Some place → slice_get (link_names (views_of state.old.parts)) place ≡ Some (shared_link key.now.pipe) }
+    requires noted { IsNotedAmong key.now state.old.shared (views_of state.old.parts) }
     ensures gives { OnOk result (GivesHome key.now flow state.old state.new) }
     ensures err { OnErr result (OnlyReserves (without_last state.old) state.new) }
 {
