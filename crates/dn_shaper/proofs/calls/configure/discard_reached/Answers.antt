@@ -1,5 +1,5 @@
 -- The links that the delete emptied leave the heap together.
-use Rattle.std.proofs.Common.{◌∙◌, List, subst, sym, arith}
+use Rattle.std.proofs.Common.{◌∙◌, List, subst}
 use Rattle.dn_types.specs.declared.flow_key.FlowKey.{FlowKey}
 use Rattle.dn_shaper.specs.Refinement.Reordering.{DiscardsSome}
 use Rattle.dn_shaper.proofs.Reached.{all-done, emptied-kept, empties-more, keeps-more, then-done}
@@ -30,19 +30,12 @@ returns-clause-discards c =
 pub returns-clause-keeps : goal.returns-clause-keeps
 returns-clause-keeps c = keeps-more c.args.parts.now c.discard_next.new.parts c.discard_flows.new.parts c.discard_next.ensures.keeps c.discard_flows.ensures.keeps
 
-pub returns-clause-kept : goal.returns-clause-kept
-returns-clause-kept c =
-    let old = c.args.parts.now in
-    let mid = c.discard_next.new.parts in
-    let new = c.discard_flows.new.parts in
-    let keys = c.discard_next.ensures.keeps.keys in
-    emptied-kept c.args.command.now old new c.args.heap.now c.forget_emptied.new.heap c.requires.kept
-    (all-done c.args.command.now old new (c.discard_flows.ensures.keeps.keys ∙ keys)
-    (then-done c.args.command.now old.flows.keys old mid new c.discard_next.ensures.discards
-    (subst (λ (ks : List FlowKey). DiscardsSome c.args.command.now ks mid new) keys c.discard_flows.ensures.discards)) c.discard_flows.ensures.none)
-    (λ n w. c.discard_flows.ensures.within n (c.discard_next.ensures.within n w))
-    (keeps-more old mid new c.discard_next.ensures.keeps c.discard_flows.ensures.keeps)
-    (empties-more old mid new c.discard_next.ensures.empties c.discard_flows.ensures.empties) c.forget_emptied.ensures.keys c.forget_emptied.ensures.room
-
 pub returns-clause-within : goal.returns-clause-within
 returns-clause-within c = λ n w. c.discard_flows.ensures.within n (c.discard_next.ensures.within n w)
+
+pub returns-clause-kept : goal.returns-clause-kept
+returns-clause-kept c =
+    emptied-kept c.args.command.now c.args.parts.now c.discard_flows.new.parts c.args.heap.now c.forget_emptied.new.heap c.requires.kept
+    (returns-clause-discards c) (returns-clause-within c) (returns-clause-keeps c)
+    (empties-more c.args.parts.now c.discard_next.new.parts c.discard_flows.new.parts c.discard_next.ensures.empties c.discard_flows.ensures.empties)
+    c.forget_emptied.ensures.keys c.forget_emptied.ensures.room

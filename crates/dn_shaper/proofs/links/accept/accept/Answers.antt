@@ -1,9 +1,9 @@
 -- The flow's home takes the packet, and it starts at once or waits.
-use Rattle.std.proofs.Common.{◌≡◌, ◌∙◌, ◌<◌, ℕ, Bool, false, refl, ap, sym, subst, arith, IsPermutation, ◌∷◌}
+use Rattle.std.proofs.Common.{◌≡◌, ◌∙◌, ◌<◌, ℕ, false, length, refl, ap, sym, subst, arith, IsPermutation, ◌∷◌}
 use Rattle.std.specs.Prelude.{Some, slice_get}
 use Rattle.std.proofs.lemmas.Grind.{common_steps}
 use Rattle.dn_flows.proofs.Places.{get-read}
-use Rattle.dn_types.specs.Trace.{pipe_of}
+use Rattle.dn_types.specs.Trace.{own, pipe_of}
 use Rattle.dn_shaper.specs.declared.links.home.Home.{Home}
 use Rattle.dn_shaper.specs.Refinement.Agreement.{GivesRates, IsHomeOf}
 use Rattle.dn_shaper.specs.Refinement.Arriving.{ArrivesAt}
@@ -14,20 +14,19 @@ use Rattle.dn_shaper.proofs.Accepting.{can-join, few-accepted, few-waiting, home
 use Rattle.dn_shaper.proofs.Alone.{goes-own}
 use Rattle.dn_shaper.proofs.Behind.{joins-behind, others-wait}
 use Rattle.dn_shaper.proofs.HomeRead.{home-alone, home-below, home-there, in-table, place-below}
+use Rattle.dn_shaper.proofs.links.accept.accept.Goals.{After-arrive}
 use Rattle.dn_shaper.proofs.links.accept.accept.Goals as goal
 
 -- ---- The home and the link there are read
 
 pub index-home-requires : goal.index-home-requires
 index-home-requires c =
-    let may = c.requires.may in
-    let lt = home-below c.args.parts.now (may-agree may) may.within in
+    let lt = home-below c.args.parts.now (may-agree c.requires.may) c.requires.may.within in
     grind (arith, common_steps)
 
 pub index-link-requires : goal.index-link-requires
 index-link-requires c =
-    let may = c.requires.may in
-    let below = place-below c.args.parts.now (may-agree may) may.within c.index-home.ensures in
+    let below = place-below c.args.parts.now (may-agree c.requires.may) c.requires.may.within c.index-home.ensures in
     grind (arith, common_steps)
 
 -- ---- The packet can arrive there
@@ -87,85 +86,84 @@ returns-then-idle-clause-within c = idle-within c.requires.may (home-passed c) c
 pub returns-then-idle-clause-keeps : goal.returns-then-idle-clause-keeps
 returns-then-idle-clause-keeps c = idle-keeps c.requires.may (home-passed c) c.pass.ensures.arrives refl c.pass.ensures.starts (rates c)
 
--- ---- The link still sends, and no other packet waits for it
+-- ---- The link still sends, and the packet arrives there
+
+module _ (c : After-arrive) where
+  home-read : slice_get c.args.parts.now.homes.items c.args.flow ≡ Some c.index-home.result.now
+  home-read = home-at c.requires.may c.index-home.ensures
+
+  link-read : slice_get (views_of c.args.parts.now) c.index-home.result.now.place ≡ Some (view_of (queue_lengths c.args.parts.now.flows.flows) c.index-link.result.now)
+  link-read = seen-there c.requires.may c.index-home.ensures c.index-link.ensures
+
+  came : ArrivesAt c.args.at c.index-home.result.now c.args.flow c.args.len c.args.how.now.weight false c.args.parts.now c.arrive.new.parts
+  came = c.arrive.ensures c.args.at _ link-read (sym c.is_idle-idle.ensures ∙ c.if-idle.false)
+
+  same : came.view ≡ view_of (queue_lengths c.args.parts.now.flows.flows) c.index-link.result.now
+  same = same-link c.requires.may home-read came c.index-link.result.now link-read
+
+  -- No other packet waits for it.
+  none : c.has_backlog-waited.result ≡ false → came.view.waits ≡ 0
+  none is =
+      ap {B = ℕ} (λ (x : LinkView). x.waits) same
+      ∙ none-waits (view_of (queue_lengths c.args.parts.now.flows.flows) c.index-link.result.now).waits c.has_backlog-waited.result c.has_backlog-waited.ensures is
 
 pub push_reserved-requires-clause-reserved : goal.push_reserved-requires-clause-reserved
 push_reserved-requires-clause-reserved c =
-    let may = c.requires.may in
-    let came = c.arrive.ensures c.args.at _ (seen-there may c.index-home.ensures c.index-link.ensures) (sym c.is_idle-idle.ensures ∙ c.if-idle.false) in
-    let home = home-at may c.index-home.ensures in
-    let same = same-link may home came c.index-link.result.now (seen-there may c.index-home.ensures c.index-link.ensures) in
-    let seen = view_of (queue_lengths c.args.parts.now.flows.flows) c.index-link.result.now in
-    let none = ap {B = ℕ} (λ (x : LinkView). x.waits) same ∙ none-waits seen.waits c.has_backlog-waited.result c.has_backlog-waited.ensures c.if-not-waited.true in
-    room-first may home came none
-
-home-joined : (c : goal.After-push_reserved) → slice_get c.args.parts.now.homes.items c.args.flow ≡ Some c.index-home.result.now
-home-joined c = home-at c.requires.may c.index-home.ensures
-
-came : (c : goal.After-push_reserved)
-    → ArrivesAt c.args.at c.index-home.result.now c.args.flow c.args.len c.args.how.now.weight false c.args.parts.now c.arrive.new.parts
-came c = c.arrive.ensures c.args.at _ (seen-there c.requires.may c.index-home.ensures c.index-link.ensures) (sym c.is_idle-idle.ensures ∙ c.if-idle.false)
+    let w = (goal.at.push_reserved-requires-clause-reserved c).After-arrive in
+    room-first c.requires.may (home-read w) (came w) (none w c.if-not-waited.true)
 
 pub returns-then-not-waited-clause-accepts : goal.returns-then-not-waited-clause-accepts
-returns-then-not-waited-clause-accepts c = waits-accepts c.requires.may (home-joined c) (came c) refl
+returns-then-not-waited-clause-accepts c =
+    let w = (goal.at.returns-then-not-waited-clause-accepts c).After-arrive in
+    waits-accepts c.requires.may (home-read w) (came w) refl
 
 pub returns-then-not-waited-clause-kept : goal.returns-then-not-waited-clause-kept
 returns-then-not-waited-clause-kept c =
-    let same = same-link c.requires.may (home-joined c) (came c) c.index-link.result.now (seen-there c.requires.may c.index-home.ensures c.index-link.ensures) in
-    let seen = view_of (queue_lengths c.args.parts.now.flows.flows) c.index-link.result.now in
-    let none = ap {B = ℕ} (λ (x : LinkView). x.waits) same ∙ none-waits seen.waits c.has_backlog-waited.result c.has_backlog-waited.ensures c.if-not-waited.true in
-    let free = c.free-free.ensures ∙ ap (λ (x : LinkView). x.value.free) (sym same) in
+    let w = (goal.at.returns-then-not-waited-clause-kept c).After-arrive in
+    let free = c.free-free.ensures ∙ ap (λ (x : LinkView). x.value.free) (sym (same w)) in
     let keys = subst (λ (m : ℕ). IsPermutation (record { moment = m; place = c.index-home.result.now.place } ∷ c.args.heap.now.keys) c.push_reserved.new.self.keys) free c.push_reserved.ensures.keys in
-    first-kept c.requires.may (home-joined c) (came c) none c.push_reserved.new.self keys c.push_reserved.ensures.room
+    first-kept c.requires.may (home-read w) (came w) (none w c.if-not-waited.true) c.push_reserved.new.self keys c.push_reserved.ensures.room
 
 pub returns-then-not-waited-clause-moves : goal.returns-then-not-waited-clause-moves
 returns-then-not-waited-clause-moves c =
-    let more = (came c).waiting in
-    let pushes = c.push_reserved.ensures.moves in
-    omega arith
+    omega (arith, (came (goal.at.returns-then-not-waited-clause-moves c).After-arrive).waiting, c.push_reserved.ensures.moves)
 
 pub returns-then-not-waited-clause-within : goal.returns-then-not-waited-clause-within
-returns-then-not-waited-clause-within c = mid-within c.requires.may (home-joined c) (came c)
+returns-then-not-waited-clause-within c =
+    let w = (goal.at.returns-then-not-waited-clause-within c).After-arrive in
+    mid-within c.requires.may (home-read w) (came w)
 
 pub returns-then-not-waited-clause-keeps : goal.returns-then-not-waited-clause-keeps
-returns-then-not-waited-clause-keeps c = mid-keeps c.requires.may (home-joined c) (came c)
+returns-then-not-waited-clause-keeps c =
+    let w = (goal.at.returns-then-not-waited-clause-keeps c).After-arrive in
+    mid-keeps c.requires.may (home-read w) (came w)
 
 -- ---- Others wait for the link
 
 pub returns-else-not-waited-clause-accepts : goal.returns-else-not-waited-clause-accepts
 returns-else-not-waited-clause-accepts c =
-    let may = c.requires.may in
-    let came = c.arrive.ensures c.args.at _ (seen-there may c.index-home.ensures c.index-link.ensures) (sym c.is_idle-idle.ensures ∙ c.if-idle.false) in
-    waits-accepts may (home-at may c.index-home.ensures) came refl
+    let w = (goal.at.returns-else-not-waited-clause-accepts c).After-arrive in
+    waits-accepts c.requires.may (home-read w) (came w) refl
 
 pub returns-else-not-waited-clause-kept : goal.returns-else-not-waited-clause-kept
 returns-else-not-waited-clause-kept c =
-    let may = c.requires.may in
-    let came = c.arrive.ensures c.args.at _ (seen-there may c.index-home.ensures c.index-link.ensures) (sym c.is_idle-idle.ensures ∙ c.if-idle.false) in
-    let home = home-at may c.index-home.ensures in
-    let same = same-link may home came c.index-link.result.now (seen-there may c.index-home.ensures c.index-link.ensures) in
-    let seen = view_of (queue_lengths c.args.parts.now.flows.flows) c.index-link.result.now in
-    let some = some-waits seen.waits c.has_backlog-waited.result c.has_backlog-waited.ensures c.if-not-waited.false in
-    other-kept may home came (subst (λ (x : LinkView). 0 < x.waits) (sym same) some)
+    let w = (goal.at.returns-else-not-waited-clause-kept c).After-arrive in
+    let view = view_of (queue_lengths c.args.parts.now.flows.flows) c.index-link.result.now in
+    let some = some-waits view.waits c.has_backlog-waited.result c.has_backlog-waited.ensures c.if-not-waited.false in
+    other-kept c.requires.may (home-read w) (came w) (subst (λ (x : LinkView). 0 < x.waits) (sym (same w)) some)
 
 pub returns-else-not-waited-clause-moves : goal.returns-else-not-waited-clause-moves
-returns-else-not-waited-clause-moves c =
-    let may = c.requires.may in
-    let came = c.arrive.ensures c.args.at _ (seen-there may c.index-home.ensures c.index-link.ensures) (sym c.is_idle-idle.ensures ∙ c.if-idle.false) in
-    let more = came.waiting in
-    omega arith
+returns-else-not-waited-clause-moves c = omega (arith, (came (goal.at.returns-else-not-waited-clause-moves c).After-arrive).waiting)
 
 pub returns-else-not-waited-clause-within : goal.returns-else-not-waited-clause-within
 returns-else-not-waited-clause-within c =
-    let may = c.requires.may in
-    let came = c.arrive.ensures c.args.at _ (seen-there may c.index-home.ensures c.index-link.ensures) (sym c.is_idle-idle.ensures ∙ c.if-idle.false) in
-    mid-within may (home-at may c.index-home.ensures) came
+    let w = (goal.at.returns-else-not-waited-clause-within c).After-arrive in
+    mid-within c.requires.may (home-read w) (came w)
 
 pub returns-else-not-waited-clause-keeps : goal.returns-else-not-waited-clause-keeps
 returns-else-not-waited-clause-keeps c =
-    let may = c.requires.may in
-    let came = c.arrive.ensures c.args.at _ (seen-there may c.index-home.ensures c.index-link.ensures) (sym c.is_idle-idle.ensures ∙ c.if-idle.false) in
-    mid-keeps may (home-at may c.index-home.ensures) came
+    let w = (goal.at.returns-else-not-waited-clause-keeps c).After-arrive in
+    mid-keeps c.requires.may (home-read w) (came w)
 
 -- ---- The packet joins others on its flow's own link
 
@@ -185,12 +183,16 @@ there c = home-there c.args.parts.now (may-agree c.requires.may) c.requires.may.
 some : (c : goal.After-join_queue) → 0 < queue_lengths c.args.parts.now.flows.flows c.args.flow
 some c = some-waits (queue_lengths c.args.parts.now.flows.flows c.args.flow) c.has_backlog.result c.has_backlog.ensures c.if-has_backlog.true
 
+its-own : (c : goal.After-join_queue) → (pipe : ℕ) × (home c.args.parts.now.flows.keys c.args.flow ≡ own pipe c.args.flow)
+its-own c = goes-own c.args.parts.now c.args.flow c.args.how.now.target c.requires.goes c.in-Pipe.field-0 c.in-Pipe.is
+
+inside : (c : goal.After-join_queue) → c.args.flow < length c.args.parts.now.flows.flows
+inside c = in-table c.args.parts.now (may-agree c.requires.may) c.requires.may.within
+
 behind : (c : goal.After-join_queue)
     → ArrivesAt c.args.at (there c).0 c.args.flow c.args.len c.args.how.now.weight false c.args.parts.now c.join_queue.new.parts
 behind c =
-    let its = goes-own c.args.parts.now c.args.flow c.args.how.now.target c.requires.goes c.in-Pipe.field-0 c.in-Pipe.is in
-    let inside = in-table c.args.parts.now (may-agree c.requires.may) c.requires.may.within in
-    joins-behind c.args.at c.args.how.now.weight c.join_queue.ensures c.requires.may.settled.2 (there c).2 its.1 inside (some c)
+    joins-behind c.args.at c.args.how.now.weight c.join_queue.ensures c.requires.may.settled.2 (there c).2 (its-own c).1 (inside c) (some c)
 
 pub returns-clause-accepts : goal.returns-clause-accepts
 returns-clause-accepts c = waits-accepts c.requires.may (there c).1 (behind c) refl
@@ -198,10 +200,8 @@ returns-clause-accepts c = waits-accepts c.requires.may (there c).1 (behind c) r
 pub returns-clause-kept : goal.returns-clause-kept
 unfolding behind
 returns-clause-kept c =
-    let its = goes-own c.args.parts.now c.args.flow c.args.how.now.target c.requires.goes c.in-Pipe.field-0 c.in-Pipe.is in
-    let inside = in-table c.args.parts.now (may-agree c.requires.may) c.requires.may.within in
     other-kept c.requires.may (there c).1 (behind c)
-    (others-wait c.args.at c.args.how.now.weight c.join_queue.ensures c.requires.may.settled.2 (there c).2 its.1 inside (some c))
+    (others-wait c.args.at c.args.how.now.weight c.join_queue.ensures c.requires.may.settled.2 (there c).2 (its-own c).1 (inside c) (some c))
 
 pub returns-clause-within : goal.returns-clause-within
 returns-clause-within c = mid-within c.requires.may (there c).1 (behind c)

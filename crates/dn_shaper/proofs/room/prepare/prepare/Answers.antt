@@ -1,110 +1,88 @@
 -- The flow is known and has room, or it is new and has a home. Where memory is refused only room was made.
-use Rattle.std.proofs.Common.{◌∙◌, List, [], ap, sym, subst, arith}
+use Rattle.std.proofs.Common.{◌∙◌, ◌≤◌, ◌<◌, List, [], ap, length, sym, subst, arith}
 use Rattle.std.specs.Prelude.{slice_get}
+use Rattle.dn_types.specs.Flows.{flow_number}
 use Rattle.dn_flows.specs.Table.{Table}
 use Rattle.dn_shaper.specs.Refinement.Agreement.{AgreesWith, link_names}
+use Rattle.dn_shaper.specs.Refinement.Making.{OnlyMakesRoom}
 use Rattle.dn_shaper.specs.Refinement.Views.{LinkView, queue_lengths, views_of}
 use Rattle.dn_shaper.proofs.Alone.{all-seen-same}
 use Rattle.dn_shaper.proofs.Given.{given-ready, given-prepares, given-sound}
 use Rattle.dn_shaper.proofs.Indexed.{noted-found}
-use Rattle.dn_shaper.proofs.Preparing.{known-reserves, known-table, lengths-more, new-table, parts-sound, reserves-sound, reserves-prepares, with_table, without-new}
+use Rattle.dn_shaper.proofs.Preparing.{IsOneMore, known-reserves, known-table, lengths-more, new-table, parts-sound, reserves-sound, reserves-prepares, with_table, without-new}
 use Rattle.dn_shaper.proofs.Sending.{goes-there}
 use Rattle.dn_shaper.proofs.Sharing.{on-err}
+use Rattle.dn_shaper.proofs.room.prepare.prepare.Goals.{After-reserve_known, In_ok-flow}
 use Rattle.dn_shaper.proofs.room.prepare.prepare.Goals as goal
+
+-- A flow below the count of flows is known, and one that isn't below is one more.
+is-known : (c : In_ok-flow) → c.in_ok-flow.flow < c.len-known.result → flow_number c.args.state.now.parts.flows.keys c.args.key < length c.args.state.now.parts.flows.keys
+is-known c below = omega (arith, c.in_ok-flow.ensures.number, c.len-known.ensures.keys)
+
+one-more : (c : In_ok-flow) → c.len-known.result ≤ c.in_ok-flow.flow → IsOneMore c.args.key c.args.state.now.parts.flows c.find_or_make.new.self
+one-more c past =
+    new-table c.args.state.now.parts.flows c.find_or_make.new.self c.args.key (omega (arith, c.in_ok-flow.ensures.number, c.len-known.ensures.keys))
+    c.in_ok-flow.ensures.keys c.in_ok-flow.ensures.flows
 
 -- ---- A known flow leaves the table as it is
 
 pub reserve_known-requires-clause-agrees : goal.reserve_known-requires-clause-agrees
 reserve_known-requires-clause-agrees c =
-    let number = c.in_ok-flow.ensures.number in
-    let count = c.len-known.ensures.keys in
-    let lt = c.if-flow-known.true in
-    let same = known-table c.args.state.now.parts.flows c.find_or_make.new.self c.args.key (omega arith) c.in_ok-flow.ensures.keys c.in_ok-flow.ensures.flows in
+    let below = is-known (goal.at.reserve_known-requires-clause-agrees c).In_ok-flow c.if-flow-known.true in
+    let same = known-table c.args.state.now.parts.flows c.find_or_make.new.self c.args.key below c.in_ok-flow.ensures.keys c.in_ok-flow.ensures.flows in
     let seen = c.requires.seen in
     ([], seen.0, subst (λ (t : Table). AgreesWith (with_table c.args.state.now.parts t) [] seen.0) (sym same) seen.1)
 
+-- What is room beside the table is room.
+room : (c : After-reserve_known) → flow_number c.args.state.now.parts.flows.keys c.args.key < length c.args.state.now.parts.flows.keys
+    → OnlyMakesRoom c.args.state.now.parts c.reserve_known.new.parts
+room c below =
+    known-reserves c.args.state.now.parts c.reserve_known.new.parts c.find_or_make.new.self c.args.key below c.in_ok-flow.ensures.keys c.in_ok-flow.ensures.flows c.reserve_known.ensures.only
+
 pub returns-in_err-reserve_known-clause-err : goal.returns-in_err-reserve_known-clause-err
 returns-in_err-reserve_known-clause-err c =
-    let old = c.args.state.now in
-    let flow = c.in_ok-flow.ensures in
-    let known = c.len-known.ensures.keys in
-    let number = flow.number in
-    let lt = c.if-flow-known.true in
-    let room = known-reserves old.parts c.reserve_known.new.parts c.find_or_make.new.self c.args.key (omega arith) flow.keys flow.flows c.reserve_known.ensures.only in
-    on-err c.from_residual-in_err-reserve_known.result room
+    let w = goal.at.returns-in_err-reserve_known-clause-err c in
+    on-err c.from_residual-in_err-reserve_known.result (room w.After-reserve_known (is-known w.In_ok-flow c.if-flow-known.true))
 
 pub returns-in_err-reserve_known-clause-sound : goal.returns-in_err-reserve_known-clause-sound
 returns-in_err-reserve_known-clause-sound c =
-    let old = c.args.state.now in
-    let flow = c.in_ok-flow.ensures in
-    let known = c.len-known.ensures.keys in
-    let number = flow.number in
-    let lt = c.if-flow-known.true in
-    let room = known-reserves old.parts c.reserve_known.new.parts c.find_or_make.new.self c.args.key (omega arith) flow.keys flow.flows c.reserve_known.ensures.only in
-    parts-sound old c.reserve_known.new.parts room c.requires.sound
+    let w = goal.at.returns-in_err-reserve_known-clause-sound c in
+    parts-sound c.args.state.now c.reserve_known.new.parts (room w.After-reserve_known (is-known w.In_ok-flow c.if-flow-known.true)) c.requires.sound
 
 pub returns-in_ok-reserve_known-clause-prepares : goal.returns-in_ok-reserve_known-clause-prepares
 returns-in_ok-reserve_known-clause-prepares c =
-    let old = c.args.state.now in
-    let flow = c.in_ok-flow.ensures in
-    let known = c.len-known.ensures.keys in
-    let number = flow.number in
-    let lt = c.if-flow-known.true in
-    let room = known-reserves old.parts c.reserve_known.new.parts c.find_or_make.new.self c.args.key (omega arith) flow.keys flow.flows c.reserve_known.ensures.only in
-    reserves-prepares old.parts c.reserve_known.new.parts c.in_ok-flow.flow room (omega arith)
+    let w = goal.at.returns-in_ok-reserve_known-clause-prepares c in
+    let below = is-known w.In_ok-flow c.if-flow-known.true in
+    let number = c.in_ok-flow.ensures.number in
+    reserves-prepares c.args.state.now.parts c.reserve_known.new.parts c.in_ok-flow.flow (room w.After-reserve_known below) (omega arith)
 
 pub returns-in_ok-reserve_known-clause-sound : goal.returns-in_ok-reserve_known-clause-sound
 returns-in_ok-reserve_known-clause-sound c =
-    let old = c.args.state.now in
-    let flow = c.in_ok-flow.ensures in
-    let known = c.len-known.ensures.keys in
-    let number = flow.number in
-    let lt = c.if-flow-known.true in
-    let room = known-reserves old.parts c.reserve_known.new.parts c.find_or_make.new.self c.args.key (omega arith) flow.keys flow.flows c.reserve_known.ensures.only in
-    parts-sound old c.reserve_known.new.parts room c.requires.sound
+    let w = goal.at.returns-in_ok-reserve_known-clause-sound c in
+    parts-sound c.args.state.now c.reserve_known.new.parts (room w.After-reserve_known (is-known w.In_ok-flow c.if-flow-known.true)) c.requires.sound
 
 -- ---- A new flow is the last of the table
 
 pub returns-in_err-house_last-clause-sound : goal.returns-in_err-house_last-clause-sound
 returns-in_err-house_last-clause-sound c =
-    let old = c.args.state.now in
-    let flow = c.in_ok-flow.ensures in
-    let known = c.len-known.ensures.keys in
-    let number = flow.number in
-    let le = c.if-flow-known.false in
-    let more = new-table old.parts.flows c.find_or_make.new.self c.args.key (omega arith) flow.keys flow.flows in
-    let room = without-new old c.find_or_make.new.self c.args.key more c.house_last.new.state c.in_err-house_last.ensures.err in
-    reserves-sound old c.house_last.new.state room c.requires.sound
+    let one = one-more (goal.at.returns-in_err-house_last-clause-sound c).In_ok-flow c.if-flow-known.false in
+    reserves-sound c.args.state.now c.house_last.new.state
+    (without-new c.args.state.now c.find_or_make.new.self c.args.key one c.house_last.new.state c.in_err-house_last.ensures.err) c.requires.sound
 
 pub returns-in_ok-house_last-clause-ready : goal.returns-in_ok-house_last-clause-ready
 returns-in_ok-house_last-clause-ready c =
-    let old = c.args.state.now in
-    let flow = c.in_ok-flow.ensures in
-    let known = c.len-known.ensures.keys in
-    let number = flow.number in
-    let le = c.if-flow-known.false in
-    let more = new-table old.parts.flows c.find_or_make.new.self c.args.key (omega arith) flow.keys flow.flows in
-    given-ready c.house_last.new.state c.requires.sound more c.requires.seen.1 c.in_ok-flow.flow (number ∙ more.number) c.in_ok-house_last.ensures.gives
+    let one = one-more (goal.at.returns-in_ok-house_last-clause-ready c).In_ok-flow c.if-flow-known.false in
+    given-ready c.house_last.new.state c.requires.sound one c.requires.seen.1 c.in_ok-flow.flow (c.in_ok-flow.ensures.number ∙ one.number) c.in_ok-house_last.ensures.gives
 
 pub returns-in_ok-house_last-clause-prepares : goal.returns-in_ok-house_last-clause-prepares
 returns-in_ok-house_last-clause-prepares c =
-    let old = c.args.state.now in
-    let flow = c.in_ok-flow.ensures in
-    let known = c.len-known.ensures.keys in
-    let number = flow.number in
-    let le = c.if-flow-known.false in
-    let more = new-table old.parts.flows c.find_or_make.new.self c.args.key (omega arith) flow.keys flow.flows in
-    given-prepares c.house_last.new.state c.requires.sound more c.requires.seen.1 c.in_ok-flow.flow (number ∙ more.number) c.in_ok-house_last.ensures.gives
+    let one = one-more (goal.at.returns-in_ok-house_last-clause-prepares c).In_ok-flow c.if-flow-known.false in
+    given-prepares c.house_last.new.state c.requires.sound one c.requires.seen.1 c.in_ok-flow.flow (c.in_ok-flow.ensures.number ∙ one.number) c.in_ok-house_last.ensures.gives
 
 pub returns-in_ok-house_last-clause-sound : goal.returns-in_ok-house_last-clause-sound
 returns-in_ok-house_last-clause-sound c =
-    let old = c.args.state.now in
-    let flow = c.in_ok-flow.ensures in
-    let known = c.len-known.ensures.keys in
-    let number = flow.number in
-    let le = c.if-flow-known.false in
-    let more = new-table old.parts.flows c.find_or_make.new.self c.args.key (omega arith) flow.keys flow.flows in
-    given-sound c.house_last.new.state c.requires.sound more c.requires.seen.1 c.in_ok-flow.flow (number ∙ more.number) c.in_ok-house_last.ensures.gives
+    let one = one-more (goal.at.returns-in_ok-house_last-clause-sound c).In_ok-flow c.if-flow-known.false in
+    given-sound c.house_last.new.state c.requires.sound one c.requires.seen.1 c.in_ok-flow.flow (c.in_ok-flow.ensures.number ∙ one.number) c.in_ok-house_last.ensures.gives
 
 -- ---- The flow is at home where the packet goes
 
@@ -122,11 +100,8 @@ returns-in_ok-house_last-clause-goes c = goes-there c.args.key c.args.state.now.
 -- The links are named as they were before the flow was made.
 pub house_last-requires-clause-noted : goal.house_last-requires-clause-noted
 house_last-requires-clause-noted c place there =
-    let n = c.in_ok-flow.ensures.number in
-    let k = c.len-known.ensures.keys in
-    let le = c.if-flow-known.false in
     let old = c.args.state.now.parts in
-    let more = new-table old.flows c.find_or_make.new.self c.args.key (omega arith) c.in_ok-flow.ensures.keys c.in_ok-flow.ensures.flows in
+    let one = one-more (goal.at.house_last-requires-clause-noted c).In_ok-flow c.if-flow-known.false in
     ap (λ (vs : List LinkView). slice_get (link_names vs) place)
-    (all-seen-same old.links.items (queue_lengths old.flows.flows) (queue_lengths c.find_or_make.new.self.flows) (lengths-more c.args.key old.flows c.find_or_make.new.self more))
+    (all-seen-same old.links.items (queue_lengths old.flows.flows) (queue_lengths c.find_or_make.new.self.flows) (lengths-more c.args.key old.flows c.find_or_make.new.self one))
     ∙ (noted-found c.args.state.now (link_names (views_of old)) c.requires.sound.indexed c.args.key.target c.in_ok-flow.flow c.args.key.pipe place there).0
