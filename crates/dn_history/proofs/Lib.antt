@@ -13,8 +13,6 @@ pub mod ItemsBack
 pub mod LineBytes
 pub mod PartsRead
 pub mod PlainForms
-pub mod PlainRecords
 pub mod Remarks
 pub mod RepliesBack
 pub mod VersionLines
-pub mod WholeRecords

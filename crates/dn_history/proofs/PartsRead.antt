@@ -10,12 +10,14 @@ use Rattle.dn_types.specs.declared.entry.Entry.{Entry}
 use Rattle.dn_types.specs.declared.rule.Rule.{Rule}
 use Rattle.dn_records.specs.Reading.{records_after}
 use Rattle.dn_records.specs.Records.{Fields, records_of}
+use Rattle.dn_records.specs.WholeRecords.{BeginsRecords, IsWhole}
 use Rattle.dn_records.proofs.FirstLine.{behind-feed}
+use Rattle.dn_records.proofs.WholeRecords.{records-then}
 use Rattle.dn_files.specs.Reading.{◌>>=◌}
 use Rattle.dn_files.specs.declared.replay_fault.ReplayFault.{ReplayFault}
 use Rattle.dn_history.specs.EntriesLeft.{entries_left}
 use Rattle.dn_history.specs.HistoryFile.{before, entry_from, history_from, history_in}
-use Rattle.dn_history.specs.HistoryParts.{AreRead, BeginsHistory, BeginsRecords, HasRead, IsWhole, Unread, after_entries, entries_with, with_rule}
+use Rattle.dn_history.specs.HistoryParts.{AreRead, BeginsHistory, HasRead, Unread, after_entries, entries_with, with_rule}
 use Rattle.dn_history.specs.HistoryRecords.{live_of, rule_of, version_of}
 use Rattle.dn_history.specs.RecordsLeft.{Rest, next_record}
 use Rattle.dn_history.specs.declared.history_version.HistoryVersion.{HistoryVersion}
@@ -24,7 +26,6 @@ use Rattle.dn_history.specs.declared.read.progress.Progress.TheVariants.{Reading
 use Rattle.dn_history.proofs.EntriesBehind.{behind, entry_reads}
 use Rattle.dn_history.proofs.EntryTurns.{entries_step}
 use Rattle.dn_history.proofs.VersionLines.{version-first, version_record}
-use Rattle.dn_history.proofs.WholeRecords.{records-then}
 
 -- Nothing read.
 starts : (left : Result (List Entry) ReplayFault) → left ≡ after_entries [] left

@@ -1,8 +1,5 @@
 -- A history whose text comes in parts: what has been read of it so far, and what is left of what has come.
-use Rattle.std.specs.Prelude.{◌≡◌, ℕ, List, [], ◌∷◌, ◌++◌, ◌+◌, length, codes, Some, Result, Ok}
-use Rattle.csv.specs.Machine.{step}
-use Rattle.csv.specs.Reading.{default_config}
-use Rattle.csv.specs.declared.parser.State.{State}
+use Rattle.std.specs.Prelude.{◌≡◌, ℕ, List, ◌++◌, ◌+◌, length, codes, Some, Result, Ok}
 use Rattle.csv.specs.declared.parser.State.TheVariants as st
 use Rattle.dn_types.specs.declared.entry.Entry.{Entry}
 use Rattle.dn_types.specs.declared.rule.Rule.{Rule}
@@ -62,21 +59,6 @@ pub record BeginsHistory (text : List ℕ) (version : HistoryVersion) (rest : Li
 -- A text begins with no line that tells a version.
 abbrev pub BeginsNoHistory : List ℕ → Type 0
 BeginsNoHistory text = (version : HistoryVersion) (rest : List ℕ) → ¬ BeginsHistory text version rest
-
--- The state of csv's reader behind a text.
-unfoldable pub state_after : State → List ℕ → State
-state_after state [] = state
-state_after state (byte ∷ rest) = state_after (step default_config state byte).0 rest
-
--- Behind a text csv's reader stands at the start of a record, as at its front, so that what follows is read by itself.
-abbrev pub IsWhole : List ℕ → Type 0
-IsWhole text = state_after st.StartRecord text ≡ st.StartRecord
-
--- A text begins with whole records, and then the rest follows.
-pub record BeginsRecords (text rest : List ℕ) : Type 0 where
-  pub front : List ℕ
-  pub whole : IsWhole front
-  pub stands : text ≡ front ++ rest
 
 -- What follows entries that were read.
 abbrev pub after_entries : List Entry → Result (List Entry) ReplayFault → Result (List Entry) ReplayFault

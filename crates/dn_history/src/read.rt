@@ -10,14 +10,11 @@ mod history;
 mod history_parts;
 mod items;
 mod items_ahead;
-mod line_records;
 mod numbered_records;
 mod plain_forms;
-mod plain_line;
 mod progress;
 mod remarks;
 mod replies;
-mod whole_records;
 
 pub use calls::{is_call, read_caller, read_plain_call};
 pub use entry_reader::EntryReader;

@@ -2,7 +2,9 @@ pub mod FirstLine
 pub mod LineEnds
 pub mod Lines
 pub mod NextRecord
+pub mod PlainLines
 pub mod ReadBack
 pub mod RecordSteps
 pub mod TextSteps
+pub mod WholeRecords
 pub mod Witnesses

@@ -11,11 +11,11 @@ ghost use Rattle.dn_history.specs.declared.history_version.HistoryVersion.{Histo
 ghost use Rattle.dn_files.specs.Reading.{IsFaultOf};
 
 use crate::history_version::HistoryVersion;
-use crate::read::line_records::LineRecords;
 use crate::read::plain_forms::{delivery_at_front, queued_at_front, submit_at_front};
 use crate::read::remarks::read_past_remarks;
 use csv::ByteRecord;
 use dn_files::ReplayFault;
+use dn_records::Records;
 use dn_types::{Call, Delivery, Reply};
 use std::alloc::Global;
 use std::marker::Model;
@@ -26,7 +26,7 @@ use std::marker::Model;
 #[derive(Drop)]
 pub(crate) struct NumberedRecords<'a> {
     number: u64,
-    records: LineRecords<'a>,
+    records: Records<'a>,
 }
 
 impl<'a> Model for NumberedRecords<'a> {
@@ -48,7 +48,7 @@ impl<'a> NumberedRecords<'a> {
     {
         NumberedRecords {
             number,
-            records: LineRecords::new(alloc, text),
+            records: Records::new(alloc, text),
         }
     }
 
@@ -65,7 +65,7 @@ impl<'a> NumberedRecords<'a> {
     {
         NumberedRecords {
             number: 1,
-            records: LineRecords::new(alloc, text),
+            records: Records::new(alloc, text),
         }
     }
 

@@ -5,9 +5,9 @@ ghost use Rattle.dn_history.specs.HistoryRecords.{has_remarks};
 ghost use Rattle.dn_history.specs.Remarks.{ahead, is_remark};
 
 use crate::history_version::HistoryVersion;
-use crate::read::line_records::LineRecords;
 use csv::ByteRecord;
 use dn_files::column;
+use dn_records::Records;
 use std::alloc::AllocError;
 
 /// Whether a record is a remark.
@@ -33,7 +33,7 @@ fn is_passed_over(version: HistoryVersion, fields: &ByteRecord) -> bool
 #[tactic(auto, using(crate::proofs::Remarks::passed_over, crate::proofs::Remarks::found_plain, crate::proofs::Remarks::none_left, crate::proofs::HistoryReading::emptied))]
 pub(crate) fn read_past_remarks(
     version: HistoryVersion,
-    records: &mut LineRecords<'_>,
+    records: &mut Records<'_>,
     fields: &mut ByteRecord,
 ) -> Result<bool, AllocError>
     ensures ok { IfOk result (λ found. Takes (ahead (has_remarks version) records.old) records.new found (fields_of fields.new)) }

@@ -1,7 +1,7 @@
 use Rattle.std.proofs.Common.{arith, ◌∷◌}
 use Rattle.std.specs.Prelude.{codes}
 use Rattle.dn_history.proofs.PlainForms.{call-taken, one-counted, one-fewer}
-use Rattle.dn_history.proofs.PlainRecords.{behind-line}
+use Rattle.dn_records.proofs.PlainLines.{behind-line}
 use Rattle.dn_history.proofs.read.numbered_records.NumberedRecords.take_submit.Goals as goal
 
 pub go_on-requires : goal.go_on-requires

@@ -1,7 +1,7 @@
 ghost use Rattle.std.specs.Prelude.{◌≡◌, IfOk, IfSome};
 ghost use Rattle.csv.specs.Records.{fields_of};
 ghost use Rattle.dn_records.specs.Reading.{BeginsLine};
-ghost use Rattle.dn_history.specs.PlainRecords.{EndsField, begins_with_end};
+ghost use Rattle.dn_records.specs.PlainLines.{EndsField, begins_with_end};
 
 use csv::ByteRecord;
 use std::alloc::AllocError;

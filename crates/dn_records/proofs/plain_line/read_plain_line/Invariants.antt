@@ -1,7 +1,7 @@
 use Rattle.std.proofs.Common.{◌≡◌, [], length}
 use Rattle.csv.specs.Records.{fields_of, partial_of}
 use Rattle.dn_records.proofs.LineEnds.{BeginsFields}
-use Rattle.dn_history.proofs.read.plain_line.read_plain_line.Given as goal
+use Rattle.dn_records.proofs.plain_line.read_plain_line.Given as goal
 
 abbrev pub invariant-loop-field : goal.invariant-loop-field
 invariant-loop-field l = record {

@@ -1,8 +1,8 @@
 use Rattle.std.proofs.Common.{◌∙◌, sym, true}
 use Rattle.csv.specs.Records.{fields_of}
 use Rattle.dn_records.proofs.RecordSteps.{shorter}
-use Rattle.dn_history.proofs.PlainRecords.{behind-line, none-behind, takes-line}
-use Rattle.dn_history.proofs.read.line_records.LineRecords.read.Goals as goal
+use Rattle.dn_records.proofs.PlainLines.{behind-line, none-behind, takes-line}
+use Rattle.dn_records.proofs.records.Records.read.Goals as goal
 
 pub go_on-requires : goal.go_on-requires
 go_on-requires c = behind-line c.in-Some.text.now (fields_of c.read_plain_line.new.fields) c.in-Ok-Some.rest.now (rw c.in-Ok-Some.field-0-is at c.in-Ok-Some.ensures)

@@ -1,6 +1,6 @@
 use Rattle.std.proofs.Common.{◌∙◌, sym}
-use Rattle.dn_history.proofs.WholeRecords.{none-whole, up-to-feed}
-use Rattle.dn_history.proofs.read.whole_records.behind_records.Goals as goal
+use Rattle.dn_records.proofs.WholeRecords.{none-whole, up-to-feed}
+use Rattle.dn_records.proofs.whole_records.behind_records.Goals as goal
 
 pub returns-in_default : goal.returns-in_default
 returns-in_default c = none-whole c.args.text.now

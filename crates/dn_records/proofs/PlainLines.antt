@@ -5,6 +5,7 @@ use Rattle.std.specs.List.{list_any}
 use Rattle.std.proofs.lemmas.Bool.{false≢true, ne_eqb}
 use Rattle.std.proofs.lemmas.Bool.Decides.{nat_tests}
 use Rattle.std.proofs.lemmas.List.{drop_more, take-append-drop, take_rest}
+use Rattle.std.proofs.Math.Seq.{drop-append_seam}
 use Rattle.csv.specs.Machine.{next_record}
 use Rattle.csv.specs.Reading.{records_from, strip_bom}
 use Rattle.csv.specs.Writing.{default_writer, needs_byte}
@@ -12,10 +13,8 @@ use Rattle.csv.specs.declared.parser.State.TheVariants as st
 use Rattle.dn_records.specs.Reading.{BeginsLine, records_after}
 use Rattle.dn_records.specs.Records.{Fields, Takes, records_of}
 use Rattle.dn_records.proofs.FirstLine.{behind-feed}
-use Rattle.dn_records.proofs.LineEnds.{BeginsFields, Opens, field-begins, fields-then, line-reads, plain-writes, with_commas}
-use Rattle.dn_files.proofs.PacketParts.{cut}
-use Rattle.dn_files.proofs.PlainLines.{line-begins}
-use Rattle.dn_history.specs.PlainRecords.{Ends, EndsField, IsPlain, StandsBehindLine, begins_with_end}
+use Rattle.dn_records.proofs.LineEnds.{BeginsFields, Opens, feed-line, field-begins, fields-then, line-reads, plain-writes, return-line, with_commas}
+use Rattle.dn_records.specs.PlainLines.{Ends, EndsField, IsPlain, StandsBehindLine, begins_with_end}
 
 -- A byte that calls for no quotes.
 pub plain-byte : (byte : ℕ) → byte ≢ 44 → byte ≢ 10 → byte ≢ 34 → byte ≢ 13 → needs_byte default_writer byte ≡ false
@@ -86,7 +85,12 @@ record-begins text left front now open_field field last rest starts begins none 
     let count = ap (length {A = ℕ}) begins.stands in
     let more = commas-longer begins.written left in
     let some = ends-longer left field rest here in
-    rw now_is (line-begins text left front field field rest begins here (plain-writes field ends.plain) (opens text (omega (arith, count, more, some)) starts))
+    let there = opens text (omega (arith, count, more, some)) starts in
+    let writes = plain-writes field ends.plain in
+    rw now_is (elim here [
+      | inl feed ↦ feed-line text front field field rest (subst (BeginsFields text front) feed begins) writes there
+      | inr return ↦ return-line text front field field rest (subst (BeginsFields text front) return begins) writes there
+    ])
 
 -- What is left gets shorter.
 pub field-shorter : (left field : List ℕ) (last : Bool) (rest : List ℕ) → EndsField left field last rest → length rest < length left
@@ -112,9 +116,9 @@ rest-fits text rest behind =
 
 pub rest-is : (text rest : List ℕ) → StandsBehindLine text rest → drop (length text - length rest - 1) text ≡ 10 ∷ rest
 rest-is text rest behind =
-    let fits = rest-fits text rest behind in
-    let place : length text - length rest - 1 ≡ length text - length (10 ∷ rest) = omega arith in
-    ap (λ k. drop k text) place ∙ cut 0 text behind.line (10 ∷ rest) (omega arith) behind.stands
+    let count = ap (length {A = ℕ}) behind.stands ∙ length-append behind.line (10 ∷ rest) in
+    let place : length text - length rest - 1 ≡ length behind.line = omega (arith, count) in
+    ap (λ k. drop k text) place ∙ ap (drop (length behind.line)) behind.stands ∙ drop-append_seam behind.line (10 ∷ rest)
 
 -- A text without a byte has no record.
 pub none-in : records_of [] ≡ []

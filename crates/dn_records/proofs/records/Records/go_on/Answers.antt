@@ -2,8 +2,8 @@ use Rattle.std.proofs.Common.{◌∙◌, ◌-◌, ap, length}
 use Rattle.std.proofs.lemmas.List.{take_rest}
 use Rattle.dn_records.specs.Records.{records_of}
 use Rattle.dn_records.proofs.FirstLine.{behind-feed}
-use Rattle.dn_history.proofs.PlainRecords.{rest-is}
-use Rattle.dn_history.proofs.read.line_records.LineRecords.go_on.Goals as goal
+use Rattle.dn_records.proofs.PlainLines.{rest-is}
+use Rattle.dn_records.proofs.records.Records.go_on.Goals as goal
 
 pub returns : goal.returns
 returns c =

@@ -2,8 +2,8 @@ use Rattle.std.proofs.Common.{◌+◌, ◌∷◌, [], Some, below_more}
 use Rattle.std.proofs.lemmas.Bool.Decides.{Decides-eqb}
 use Rattle.std.proofs.lemmas.List.{take_rest}
 use Rattle.std.proofs.lemmas.Slice.Eq.{strip_prefix_is}
-use Rattle.dn_history.proofs.PlainRecords.{comma-ends, feed-ends, plain-byte, return-ends}
-use Rattle.dn_history.proofs.read.plain_line.plain_field.Goals as goal
+use Rattle.dn_records.proofs.PlainLines.{comma-ends, feed-ends, plain-byte, return-ends}
+use Rattle.dn_records.proofs.plain_line.plain_field.Goals as goal
 
 pub returns-then-byte-eq44 : goal.returns-then-byte-eq44
 returns-then-byte-eq44 c =

@@ -1,7 +1,7 @@
 use Rattle.std.proofs.Common.{◌∙◌, [], refl, sym}
 use Rattle.csv.specs.Records.{fields_of, partial_of}
-use Rattle.dn_history.proofs.PlainRecords.{field-shorter, more-fields, record-begins}
-use Rattle.dn_history.proofs.read.plain_line.read_plain_line.Goals as goal
+use Rattle.dn_records.proofs.PlainLines.{field-shorter, more-fields, record-begins}
+use Rattle.dn_records.proofs.plain_line.read_plain_line.Goals as goal
 
 pub loop-field-init : goal.loop-field-init
 loop-field-init c = record {

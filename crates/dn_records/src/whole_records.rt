@@ -1,11 +1,11 @@
-ghost use Rattle.dn_history.specs.HistoryParts.{BeginsRecords};
+ghost use Rattle.dn_records.specs.WholeRecords.{BeginsRecords};
 
 use memchr::{memchr, memrchr};
 
 /// What follows the records that have come whole of a text: those up to its last line feed, if no quote comes before that.
 ///
 /// Else that is the text.
-pub(crate) fn behind_records(text: &[u8]) -> &[u8]
+pub fn behind_records(text: &[u8]) -> &[u8]
     ensures { BeginsRecords text.now result.now }
 {
     let Some(last) = memrchr(b'\n', text) else {

@@ -14,7 +14,7 @@ use Rattle.csv.specs.declared.parser.State.TheVariants as st
 use Rattle.dn_records.proofs.NextRecord.{next-between, next-shorter, turns}
 use Rattle.dn_records.specs.Reading.{records_after}
 use Rattle.dn_records.specs.Records.{Fields}
-use Rattle.dn_history.specs.HistoryParts.{BeginsRecords, IsWhole, state_after}
+use Rattle.dn_records.specs.WholeRecords.{BeginsRecords, IsWhole, state_after}
 
 some_eq : {A : Type 0} (x y : A) → ◌≡◌ {A = Option A} (Some x) (Some y) → x ≡ y
 some_eq x y e = cc

@@ -3,11 +3,11 @@ ghost use Rattle.csv.specs.Records.{fields_of};
 ghost use Rattle.csv.specs.declared.parser.State.TheVariants as st;
 ghost use Rattle.dn_records.specs.Reading.{records_after};
 ghost use Rattle.dn_records.specs.Records.{Takes, records_of};
-ghost use Rattle.dn_history.specs.PlainRecords.{StandsBehindLine};
+ghost use Rattle.dn_records.specs.PlainLines.{StandsBehindLine};
 
-use crate::read::plain_line::read_plain_line;
+use crate::plain_line::read_plain_line;
+use crate::record_reader::RecordReader;
 use csv::ByteRecord;
-use dn_records::RecordReader;
 use std::alloc::{AllocError, Global};
 use std::marker::Model;
 
@@ -32,71 +32,70 @@ fn line_start(text: &[u8]) -> Option<&[u8]>
     Some(text)
 }
 
-/// The records of a text that are left.
+// What is left of a text.
+#[derive(Drop)]
+enum Left<'a> {
+    // While all lines that were read are plain, the text, with the line feed before it: a byte order mark would be
+    // passed over at the front of a text, and behind a line feed it isn't.
+    Plain(&'a [u8]),
+    // Then the records. csv's reader is made for the first line that isn't plain, since it builds its automaton anew.
+    Csv(RecordReader<'a>),
+}
+
+/// The records of a text that are left. Its value is the list of them.
 ///
 /// Those whose lines are written plainly are read from their bytes, and from the first other line on csv's reader reads
 /// them.
 #[derive(Drop)]
-pub(crate) struct LineRecords<'a> {
+pub struct Records<'a> {
     alloc: Global,
-    // Whether all lines that were read are plain.
-    plain: bool,
-    // Then, what is left of the text, with the line feed before it: a byte order mark would be passed over
-    // at the front of a text, and behind a line feed it isn't.
-    text: &'a [u8],
-    // Else the records that are left. csv's reader is made for the first line that isn't plain, since it builds
-    // its automaton anew.
-    rest: Option<RecordReader<'a>>,
+    left: Left<'a>,
 }
 
-impl<'a> Model for LineRecords<'a> {
+impl<'a> Model for Records<'a> {
     ghost use Rattle.std.specs.Prelude.{List};
     ghost use Rattle.dn_records.specs.Records.{Fields};
-    ghost use Rattle.dn_history.specs.PlainRecords.{records_ahead};
+    ghost use Rattle.dn_records.specs.PlainLines.{records_left};
 
     ghost Value = { List Fields };
 
-    ghost view = { λ s. records_ahead s.plain s.text.now s.rest };
+    ghost view = { λ s. records_left s.left };
 }
 
-impl<'a> LineRecords<'a> {
+impl<'a> Records<'a> {
     /// The records of a text, from the first on.
-    pub(crate) fn new(alloc: Global, text: &'a [u8]) -> LineRecords<'a>
+    pub fn new(alloc: Global, text: &'a [u8]) -> Records<'a>
         ensures { result ≡ records_of text.now }
     {
-        LineRecords {
+        Records {
             alloc,
-            plain: true,
-            text,
-            rest: None,
+            left: Left::Plain(text),
         }
     }
 
     /// The text that is left, where all lines before it are plain.
-    pub(crate) fn lines(&self) -> Option<&'a [u8]>
+    pub fn lines(&self) -> Option<&'a [u8]>
         ensures { IfSome result (λ lines. self.now ≡ records_after st.StartRecord lines.now) }
     {
-        if !self.plain {
-            return None;
+        match &self.left {
+            Left::Plain(text) => line_start(text),
+            Left::Csv(_) => None,
         }
-        line_start(self.text)
     }
 
     /// Leaves of a text what stands behind a line of it.
-    pub(crate) fn go_on(&mut self, text: &'a [u8], rest: &'a [u8])
+    pub fn go_on(&mut self, text: &'a [u8], rest: &'a [u8])
         requires { StandsBehindLine text.now rest.now }
         ensures { self.new ≡ records_after st.StartRecord rest.now }
     {
-        self.plain = true;
-        self.text = &text[text.len() - rest.len() - 1..];
+        self.left = Left::Plain(&text[text.len() - rest.len() - 1..]);
     }
 
     // Leaves no record.
     fn end(&mut self)
         ensures { self.new ≡ [] }
     {
-        self.plain = true;
-        self.text = &[];
+        self.left = Left::Plain(&[]);
     }
 
     // As `read`, by csv's reader, which reads from then on.
@@ -105,23 +104,21 @@ impl<'a> LineRecords<'a> {
         ensures shorter { IfOk result (λ found. found ≡ true → length self.new < length self.old) }
         ensures err { OnErr result (self.new ≡ []) }
     {
-        if self.plain {
-            let mut rest = RecordReader::new(self.alloc, self.text);
-            let outcome = rest.read(fields);
-            self.plain = false;
-            self.rest = Some(rest);
-            return outcome;
-        }
-        match &mut self.rest {
-            Some(rest) => rest.read(fields),
-            None => Ok(false),
+        match &mut self.left {
+            Left::Plain(text) => {
+                let mut records = RecordReader::new(self.alloc, text);
+                let outcome = records.read(fields);
+                self.left = Left::Csv(records);
+                outcome
+            }
+            Left::Csv(records) => records.read(fields),
         }
     }
 
     /// Reads the next record into `fields`, and returns whether there was one.
     ///
     /// After an error no record is left.
-    pub(crate) fn read(&mut self, fields: &mut ByteRecord) -> Result<bool, AllocError>
+    pub fn read(&mut self, fields: &mut ByteRecord) -> Result<bool, AllocError>
         ensures ok { IfOk result (λ found. Takes self.old self.new found (fields_of fields.new)) }
         ensures shorter { IfOk result (λ found. found ≡ true → length self.new < length self.old) }
         ensures err { OnErr result (self.new ≡ []) }
