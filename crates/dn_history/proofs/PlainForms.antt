@@ -22,8 +22,7 @@ use Rattle.dn_records.proofs.LineEnds.{BeginsFields, Opens, field-begins, fields
 use Rattle.dn_files.specs.LineEnd.{number_at_end}
 use Rattle.dn_files.proofs.LastNumbers.{end_parts}
 use Rattle.dn_files.specs.Fields.{or_place, packet_at, target_at, tuple_at}
-use Rattle.dn_records.specs.PlainLines.{IsPlain}
-use Rattle.dn_files.proofs.PlainFields.{BeginsTarget, BeginsTuple}
+use Rattle.dn_files.proofs.PlainFields.{BeginsTarget, BeginsTuple, IsPlain}
 use Rattle.dn_files.specs.Reading.{◌>>=◌}
 use Rattle.dn_files.proofs.PlainLines.{line-begins}
 use Rattle.dn_files.proofs.PlainRows.{digits-write, number-field}

@@ -1,12 +1,13 @@
 -- What a line asks for: a call, as a record of a history file or as a configuration line.
 use Rattle.std.specs.Prelude.{ℕ, ◌==◌, ◌||◌, ◌&&◌, Bool, true, false, not, cond, List, [], ◌∷◌, Option, Some, None, Result, Ok, Err, codes}
-use Rattle.std.specs.List.{list_any, slice_split}
+use Rattle.std.specs.List.{slice_split}
 use Rattle.std.specs.Str.{is_utf8}
 use Rattle.dn_types.specs.declared.call.Call.{Call}
 use Rattle.dn_types.specs.declared.call.Call.TheVariants.{Configure}
 use Rattle.dn_types.specs.declared.command.Command.{Command}
 use Rattle.dn_config.specs.Line.{answer}
 use Rattle.dn_config.specs.declared.fault.LineFault.{LineFault}
+use Rattle.dn_records.specs.PlainLines.{has_quotes}
 use Rattle.dn_records.specs.Records.{Fields, records_of}
 use Rattle.dn_files.specs.Fields.{column, is_form, is_name}
 use Rattle.dn_history.specs.HistoryRecords.{caller_of, is_call, plain_call}
@@ -57,10 +58,6 @@ unfoldable pub asked_by : List ℕ → Fields → Asked
 asked_by line fields =
     cond (is_name 1 fields (codes "c")) (call_asked fields (caller_of fields))
     (cond (is_form 1 (codes "next") 1 fields) Next (typed_asked (command_in line)))
-
--- Whether a line has a quote or a carriage return, which mean something to CSV.
-abbrev pub has_quotes : List ℕ → Bool
-has_quotes line = list_any (λ b. b == 34) line || list_any (λ b. b == 13) line
 
 -- The records in a line, without its line feed: one, whose fields stand between its commas, or what CSV reads where it has
 -- quotes.

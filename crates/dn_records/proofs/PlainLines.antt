@@ -1,104 +1,144 @@
 -- Records whose lines are written plainly: how a line is read from its bytes, and what is left behind it.
-use Rattle.std.proofs.Common.{◌≡◌, ◌≢◌, ◌∙◌, refl, sym, ap, subst, ℕ, zero, suc, ◌+◌, ◌-◌, ◌<◌, ◌≤◌, ◌==◌, Bool, true, false, inl, inr, List, [], ◌∷◌, ◌++◌, length, take, drop, get_or, arith, length-append}
+use Rattle.std.proofs.Common.{◌≡◌, ◌≢◌, ◌∙◌, refl, sym, ap, subst, ℕ, ◌+◌, ◌-◌, ◌<◌, ◌≤◌, ◌==◌, Bool, true, false, inl, inr, List, [], ◌∷◌, ◌++◌, Option, Some, None, length, take, drop, get_or, min, arith, append_assoc, length-append, length-take}
 use Rattle.std.specs.Prelude.{◌||◌}
-use Rattle.std.specs.List.{list_any}
-use Rattle.std.proofs.lemmas.Bool.{false≢true, ne_eqb}
+use Rattle.std.specs.List.{All, join_with_byte, list_any, onto_first, slice_split}
+use Rattle.std.specs.Option.{is_some}
+use Rattle.std.proofs.lemmas.Bool.{cases_Bool, eqb-true, false≢true, false_from_ne_true, ne_eqb, or_parts}
 use Rattle.std.proofs.lemmas.Bool.Decides.{nat_tests}
-use Rattle.std.proofs.lemmas.List.{drop_more, take-append-drop, take_rest}
+use Rattle.std.proofs.lemmas.List.{drop_more, get_or-take, take-append-drop, take_rest}
+use Rattle.std.proofs.lemmas.List.Elements.{All-from_get_or}
+use Rattle.std.proofs.lemmas.List.Folds.{list_any-append, list_any_at, list_any_none}
+use Rattle.std.proofs.lemmas.List.Splits.{join_with_byte-slice_split, slice_split_at, slice_split_none}
 use Rattle.std.proofs.Math.Seq.{drop-append_seam}
+use Rattle.memchr.specs.Find.{IsFirstByte, NoneBefore, Nowhere, Passes, is_byte, is_byte2}
 use Rattle.csv.specs.Machine.{next_record}
 use Rattle.csv.specs.Reading.{records_from, strip_bom}
 use Rattle.csv.specs.Writing.{default_writer, needs_byte}
 use Rattle.csv.specs.declared.parser.State.TheVariants as st
+use Rattle.dn_records.specs.PlainLines.{BeginsBare, StandsBehindLine, has_quotes}
 use Rattle.dn_records.specs.Reading.{BeginsLine, records_after}
 use Rattle.dn_records.specs.Records.{Fields, Takes, records_of}
 use Rattle.dn_records.proofs.FirstLine.{behind-feed}
-use Rattle.dn_records.proofs.LineEnds.{BeginsFields, Opens, feed-line, field-begins, fields-then, line-reads, plain-writes, return-line, with_commas}
-use Rattle.dn_records.specs.PlainLines.{Ends, EndsField, IsPlain, StandsBehindLine, begins_with_end}
+use Rattle.dn_records.proofs.LineEnds.{BeginsFields, Opens, Writes, feed-line, field-begins, fields-then, line-reads, plain-writes, return-line}
 
--- A byte that calls for no quotes.
-pub plain-byte : (byte : ℕ) → byte ≢ 44 → byte ≢ 10 → byte ≢ 34 → byte ≢ 13 → needs_byte default_writer byte ≡ false
-plain-byte byte comma feed quote return = rw (ne_eqb byte 44 comma, ne_eqb byte 34 quote, ne_eqb byte 13 return, ne_eqb byte 10 feed) refl
+either : (a b c d : Bool) → ((a || b) || (c || d)) ≡ ((a || c) || (b || d))
+either true b c d = refl
+either false true true d = refl
+either false true false d = refl
+either false false c d = refl
 
-unmarked : (text : List ℕ) (i : ℕ) → ((k : ℕ) → k < i → needs_byte default_writer (get_or text k 0) ≡ false) → list_any (needs_byte default_writer) (take i text) ≡ false
-unmarked text zero each = refl
-unmarked [] (suc i) each = refl
-unmarked (byte ∷ rest) (suc i) each = rw (each 0 (omega arith), unmarked rest i (λ k lt. each (suc k) (omega arith))) refl
+quotes-are : (line : List ℕ) → list_any (is_byte2 34 13) line ≡ has_quotes line
+quotes-are [] = refl
+quotes-are (byte ∷ line) = rw (quotes-are line) (either (byte == 34) (byte == 13) _ _)
 
--- The first byte that calls for quotes ends a field, where it is a comma, a line feed, or a carriage return before a line feed.
-cut-at : (text : List ℕ) (i byte : ℕ) → i < length text → get_or text i 0 ≡ byte → text ≡ take i text ++ byte ∷ drop (i + 1) text
-cut-at text i byte lt is =
-    sym (take-append-drop i text) ∙ ap (λ (t : List ℕ). take i text ++ t) (drop_more text i 0 lt) ∙ ap (λ (b : ℕ). take i text ++ b ∷ drop (i + 1) text) is
+-- Whether a quote or a carriage return was found.
+pub quotes_found : (line : List ℕ) (found : Option ℕ) → IsFirstByte (is_byte2 34 13) line found → is_some found ≡ has_quotes line
+quotes_found line None none =
+    sym (list_any_none (is_byte2 34 13) line (All-from_get_or (λ b. is_byte2 34 13 b ≡ false) line 0 (λ k lt. false_from_ne_true _ (none k (omega arith) lt)))) ∙ quotes-are line
+quotes_found line (Some k) (first, passes) = sym (list_any_at (is_byte2 34 13) line k 0 first.high passes) ∙ quotes-are line
 
-module _ (text : List ℕ) (i : ℕ) (lt : i < length text) (each : (k : ℕ) → k < i → needs_byte default_writer (get_or text k 0) ≡ false) where
-  plain-front : IsPlain (take i text)
-  plain-front = rw (unmarked text i each) refl
+-- The first byte that passes a test cuts a text.
+module _ (byte : ℕ) (text : List ℕ) (k : ℕ) (first : NoneBefore (Passes (is_byte byte) text) 0 (length text) k) (passes : Passes (is_byte byte) text k) where
+  none-before : All (λ b. is_byte byte b ≡ false) (take k text)
+  none-before = All-from_get_or (λ b. is_byte byte b ≡ false) (take k text) 0 (λ i lt.
+      let within : i < min k (length text) = rw length-take at lt in
+      let below : i < k = omega arith in
+      rw (get_or-take k text i 0 below) (false_from_ne_true _ (first.before i (omega arith) below)))
 
-  pub comma-ends : get_or text i 0 ≡ 44 → EndsField text (take i text) false (drop (i + 1) text)
-  comma-ends is = record { ends = cut-at text i 44 lt is; plain = plain-front }
+  cut-at : text ≡ take k text ++ byte ∷ drop (k + 1) text
+  cut-at =
+      sym (take-append-drop k text) ∙ ap (λ (t : List ℕ). take k text ++ t) (drop_more text k 0 first.high)
+      ∙ ap (λ (b : ℕ). take k text ++ b ∷ drop (k + 1) text) (eqb-true _ _ passes)
 
-  pub feed-ends : get_or text i 0 ≡ 10 → EndsField text (take i text) true (drop (i + 1) text)
-  feed-ends is = record { ends = inl (cut-at text i 10 lt is); plain = plain-front }
+  pub feed-ends : byte ≡ 10 → BeginsBare text (take k text) (drop (k + 1) text)
+  feed-ends is = record {
+    one = list_any_none (λ b. b == 10) (take k text) (rw is at none-before);
+    ends = inl (cut-at ∙ ap (λ (b : ℕ). take k text ++ b ∷ drop (k + 1) text) is);
+  }
 
-  pub return-ends : (rest : List ℕ) → get_or text i 0 ≡ 13 → drop (i + 1) text ≡ 10 ∷ rest → EndsField text (take i text) true rest
-  return-ends rest is behind = record { ends = inr (cut-at text i 13 lt is ∙ ap (λ (t : List ℕ). take i text ++ 13 ∷ t) behind); plain = plain-front }
+  pub return-ends : (line : List ℕ) → byte ≡ 10 → take k text ≡ line ++ 13 ∷ [] → BeginsBare text line (drop (k + 1) text)
+  return-ends line is front =
+      let none = list_any_none (λ b. b == 10) (take k text) (rw is at none-before) in
+      record {
+        one = (or_parts (list_any (λ b. b == 10) line) _ (sym (list_any-append (λ b. b == 10) line (13 ∷ [])) ∙ ap (list_any (λ b. b == 10)) (sym front) ∙ none)).0;
+        ends = inr (cut-at ∙ rw (front, is) (append_assoc line (13 ∷ []) (10 ∷ drop (k + 1) text)));
+      }
 
--- One field more.
-pub more-fields : (text left : List ℕ) (front now : Fields) (open_field field : List ℕ) (last : Bool) (rest : List ℕ) → BeginsFields text front left → open_field ≡ []
-    → EndsField left field last rest → last ≡ false → now ≡ front ++ ((open_field ++ field) ∷ []) → BeginsFields text now rest
-more-fields text left front now open_field field last rest begins none ends comma is =
-    let stands : left ≡ field ++ 44 ∷ rest = subst (λ (b : Bool). Ends b left field rest) comma ends.ends in
-    let next = field-begins left field field rest stands (plain-writes field ends.plain) in
-    let now_is : now ≡ front ++ field ∷ [] = is ∙ ap (λ (t : List ℕ). front ++ ((t ++ field) ∷ [])) none in
-    rw now_is (fields-then text front (field ∷ []) left rest begins next)
-
--- A text that does not begin with the end of a line.
-opens : (text : List ℕ) → 0 < length text → begins_with_end text ≡ false → Opens text
-opens [] some ends = absurd (omega arith)
-opens (byte ∷ rest) some ends = (or-right (byte == 10) (byte == 13) ends, or-left (byte == 10) (byte == 13) ends)
-  where
-    or-left : (a b : Bool) → (a || b) ≡ false → a ≡ false
-    or-left false b e = refl
-    or-left true b e = cc e
-
-    or-right : (a b : Bool) → (a || b) ≡ false → b ≡ false
-    or-right false b e = e
-    or-right true b e = cc e
-
-commas-longer : (written : Fields) (left : List ℕ) → length left ≤ length (with_commas written left)
-commas-longer [] left = omega arith
-commas-longer (first ∷ written) left =
-    let more = commas-longer written left in
-    let sum = length-append first (44 ∷ with_commas written left) in
-    omega (arith, more, sum)
-
-ends-longer : (left field rest : List ℕ) → Ends true left field rest → 0 < length left
-ends-longer left field rest (inl feed) = let sum = ap (length {A = ℕ}) feed ∙ length-append field (10 ∷ rest) in omega (arith, sum)
-ends-longer left field rest (inr return) = let sum = ap (length {A = ℕ}) return ∙ length-append field (13 ∷ 10 ∷ rest) in omega (arith, sum)
+-- One field more, up to the first comma.
+pub field-more : (left : List ℕ) (k : ℕ) → NoneBefore (Passes (is_byte 44) left) 0 (length left) k × Passes (is_byte 44) left k → (old new all : Fields) (open_field : List ℕ)
+    → new ≡ old ++ ((open_field ++ take k left) ∷ []) → open_field ≡ [] → old ++ slice_split (λ b. b == 44) left ≡ all → new ++ slice_split (λ b. b == 44) (drop (k + 1) left) ≡ all
+field-more left k (first, passes) old new all open_field is none so_far =
+    let cut : slice_split (λ b. b == 44) left ≡ take k left ∷ slice_split (λ b. b == 44) (drop (k + 1) left) =
+    ap (slice_split (λ b. b == 44)) (cut-at 44 left k first passes) ∙ slice_split_at (λ b. b == 44) (take k left) 44 (drop (k + 1) left) (none-before 44 left k first passes) refl in
+    rw (is, none) (append_assoc old (take k left ∷ []) (slice_split (λ b. b == 44) (drop (k + 1) left)) ∙ ap (λ (fs : Fields). old ++ fs) (sym cut) ∙ so_far)
 
 -- The last field.
-pub record-begins : (text left : List ℕ) (front now : Fields) (open_field field : List ℕ) (last : Bool) (rest : List ℕ) → begins_with_end text ≡ false → BeginsFields text front left
-    → open_field ≡ [] → EndsField left field last rest → last ≡ true → now ≡ front ++ ((open_field ++ field) ∷ []) → BeginsLine text now rest
-record-begins text left front now open_field field last rest starts begins none ends final is =
-    let here : Ends true left field rest = subst (λ (b : Bool). Ends b left field rest) final ends.ends in
-    let now_is : now ≡ front ++ field ∷ [] = is ∙ ap (λ (t : List ℕ). front ++ ((t ++ field) ∷ [])) none in
-    let count = ap (length {A = ℕ}) begins.stands in
-    let more = commas-longer begins.written left in
-    let some = ends-longer left field rest here in
-    let there = opens text (omega (arith, count, more, some)) starts in
-    let writes = plain-writes field ends.plain in
-    rw now_is (elim here [
-      | inl feed ↦ feed-line text front field field rest (subst (BeginsFields text front) feed begins) writes there
-      | inr return ↦ return-line text front field field rest (subst (BeginsFields text front) return begins) writes there
-    ])
+pub field-last : (left : List ℕ) → Nowhere (Passes (is_byte 44) left) 0 (length left) → (old new all : Fields) (open_field : List ℕ)
+    → new ≡ old ++ ((open_field ++ left) ∷ []) → open_field ≡ [] → old ++ slice_split (λ b. b == 44) left ≡ all → new ≡ all
+field-last left none old new all open_field is whole so_far =
+    let alone = slice_split_none (λ b. b == 44) left (All-from_get_or (λ b. (b == 44) ≡ false) left 0 (λ k lt. false_from_ne_true _ (none k (omega arith) lt))) in
+    rw (is, whole) (ap (λ (fs : Fields). old ++ fs) (sym alone) ∙ so_far)
 
--- What is left gets shorter.
-pub field-shorter : (left field : List ℕ) (last : Bool) (rest : List ℕ) → EndsField left field last rest → length rest < length left
-field-shorter left field false rest ends = let sum = ap (length {A = ℕ}) ends.ends ∙ length-append field (44 ∷ rest) in omega (arith, sum)
-field-shorter left field true rest ends = elim ends.ends [
-  | inl feed ↦ let sum = ap (length {A = ℕ}) feed ∙ length-append field (10 ∷ rest) in omega (arith, sum)
-  | inr return ↦ let sum = ap (length {A = ℕ}) return ∙ length-append field (13 ∷ 10 ∷ rest) in omega (arith, sum)
-]
+-- No field calls for quotes.
+abbrev AllBare : Fields → Type 0
+AllBare [] = Unit {0}
+AllBare (field ∷ fields) = (list_any (needs_byte default_writer) field ≡ false) × AllBare fields
+
+onto-bare : (b : ℕ) (fields : Fields) → needs_byte default_writer b ≡ false → AllBare fields → AllBare (onto_first b fields)
+onto-bare b [] plain all = (rw plain refl, tt)
+onto-bare b (field ∷ fields) plain all = (rw (plain, all.0) refl, all.1)
+
+-- The pieces between the commas of a line without quotes and ends of lines.
+bare-pieces : (line : List ℕ) → list_any (λ b. b == 34) line ≡ false → list_any (λ b. b == 13) line ≡ false → list_any (λ b. b == 10) line ≡ false → AllBare (slice_split (λ b. b == 44) line)
+bare-pieces [] quote return feed = (refl, tt)
+bare-pieces (b ∷ line) quote return feed =
+    let q = or_parts (b == 34) _ quote in
+    let r = or_parts (b == 13) _ return in
+    let f = or_parts (b == 10) _ feed in
+    let more = bare-pieces line q.1 r.1 f.1 in
+    elim (cases_Bool (b == 44)) [
+      | inl comma ↦ rw comma (refl, more)
+      | inr other ↦ rw other (onto-bare b (slice_split (λ c. c == 44) line) (rw (other, q.0, r.0, f.0) refl) more)
+    ]
+
+-- A text that begins with such a line.
+opens : (line tail : List ℕ) → 0 < length line → list_any (λ b. b == 13) line ≡ false → list_any (λ b. b == 10) line ≡ false → Opens (line ++ tail)
+opens [] tail some return feed = absurd (omega arith)
+opens (b ∷ line) tail some return feed = ((or_parts (b == 13) _ return).0, (or_parts (b == 10) _ feed).0)
+
+plain : (field : List ℕ) → list_any (needs_byte default_writer) field ≡ false → Writes field field
+plain field bare = plain-writes field (rw bare refl)
+
+-- A text begins with the line of some fields, where the last one and the end of the line make it that.
+module _ (text tail rest : List ℕ) (ends : (front : Fields) (last : List ℕ) → BeginsFields text front (last ++ tail) → Writes last last → BeginsLine text (front ++ last ∷ []) rest) where
+  joined-line : (front : Fields) (first : List ℕ) (fields : Fields) → BeginsFields text front (join_with_byte 44 (first ∷ fields) ++ tail) → AllBare (first ∷ fields)
+      → BeginsLine text (front ++ first ∷ fields) rest
+  joined-line front first [] begins bare = ends front first begins (plain first bare.0)
+  joined-line front first (second ∷ fields) begins bare =
+      let more = join_with_byte 44 (second ∷ fields) ++ tail in
+      let next = field-begins (first ++ 44 ∷ more) first first more refl (plain first bare.0) in
+      let here = subst (BeginsFields text front) (append_assoc first (44 ∷ join_with_byte 44 (second ∷ fields)) tail) begins in
+      rw (← append_assoc front (first ∷ []) (second ∷ fields)) (joined-line (front ++ first ∷ []) second fields (fields-then text front (first ∷ []) (first ++ 44 ∷ more) more here next) bare.1)
+
+  split-line : (line : List ℕ) (fields : Fields) → text ≡ line ++ tail → 0 < length line → join_with_byte 44 fields ≡ line → AllBare fields → BeginsLine text fields rest
+  split-line line [] stands some join bare = absurd (omega (arith, ap (length {A = ℕ}) join))
+  split-line line (first ∷ fields) stands some join bare =
+      joined-line [] first fields (record { written = []; stands = stands ∙ ap (λ (t : List ℕ). t ++ tail) (sym join); all = tt }) bare
+
+-- A line without quotes is read as its pieces.
+pub bare-line : (text line rest : List ℕ) → BeginsBare text line rest → 0 < length line → has_quotes line ≡ false → BeginsLine text (slice_split (λ b. b == 44) line) rest
+bare-line text line rest begins some none =
+    let (quote, return) = or_parts (list_any (λ b. b == 34) line) (list_any (λ b. b == 13) line) none in
+    let bare = bare-pieces line quote return begins.one in
+    let join = join_with_byte-slice_split 44 line in
+    elim begins.ends [
+      | inl feed ↦
+          let there : Opens text = rw feed (opens line (10 ∷ rest) some return begins.one) in
+          split-line text (10 ∷ rest) rest (λ front last fs writes. feed-line text front last last rest fs writes there) line (slice_split (λ b. b == 44) line) feed some join bare
+      | inr both ↦
+          let there : Opens text = rw both (opens line (13 ∷ 10 ∷ rest) some return begins.one) in
+          split-line text (13 ∷ 10 ∷ rest) rest (λ front last fs writes. return-line text front last last rest fs writes there) line (slice_split (λ b. b == 44) line) both some join bare
+    ]
 
 -- The first line is the first record.
 pub takes-line : (old new : List Fields) (text : List ℕ) (fields : Fields) (rest : List ℕ) → old ≡ records_after st.StartRecord text → BeginsLine text fields rest

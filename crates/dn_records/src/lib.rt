@@ -24,6 +24,7 @@ pub use from_writer::FromWriter;
 pub use inlet::Inlet;
 pub use line::Line;
 pub use outlet::Outlet;
+pub use plain_line::read_plain_line;
 pub use read_fault::ReadFault;
 pub use record_reader::RecordReader;
 pub use record_writer::RecordWriter;

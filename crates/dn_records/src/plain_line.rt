@@ -1,72 +1,84 @@
-ghost use Rattle.std.specs.Prelude.{◌≡◌, IfOk, IfSome};
+ghost use Rattle.std.specs.Prelude.{◌≡◌, ◌==◌, not, true, false, IfOk, IfSome, OnOk};
+ghost use Rattle.std.specs.List.{slice_split};
 ghost use Rattle.csv.specs.Records.{fields_of};
+ghost use Rattle.dn_records.specs.PlainLines.{BeginsBare, has_quotes};
 ghost use Rattle.dn_records.specs.Reading.{BeginsLine};
-ghost use Rattle.dn_records.specs.PlainLines.{EndsField, begins_with_end};
 
 use csv::ByteRecord;
+use memchr::{memchr, memchr2};
 use std::alloc::AllocError;
 
-/// Whether a text begins with the end of a line.
-fn begins_with_end(text: &[u8]) -> bool
-    ensures { result ≡ begins_with_end text.now }
+/// Whether a line has a quote or a carriage return, which mean something to CSV.
+#[tactic(auto, using(crate::proofs::PlainLines::quotes_found))]
+fn has_quotes(line: &[u8]) -> bool
+    ensures { result ≡ has_quotes line.now }
 {
-    match text {
-        [] => false,
-        [first, ..] => *first == b'\n' || *first == b'\r',
+    memchr2(b'"', b'\r', line).is_some()
+}
+
+/// Reads the pieces of a line between its commas into a record.
+fn split_line(line: &[u8], fields: &mut ByteRecord) -> Result<(), AllocError>
+    ensures { OnOk result (fields_of fields.new ≡ slice_split (λ b. b == 44) line.now) }
+{
+    fields.clear();
+    let mut left = line;
+    loop {
+        let Some(comma) = memchr(b',', left) else {
+            return fields.push_field(left);
+        };
+        match fields.push_field(&left[..comma]) {
+            Ok(()) => {}
+            Err(error) => return Err(error),
+        }
+        left = &left[comma + 1..];
     }
 }
 
-/// The field that a text begins with, whether it is the last one of its line, and what follows the bytes that end it.
+/// Reads the record of a line into `fields`, if the line has no quote and no carriage return, and returns whether it has none.
 ///
-/// None if a quote or a carriage return alone comes before that, or nothing ends it.
-fn plain_field(text: &[u8]) -> Option<(&[u8], bool, &[u8])>
-    ensures { IfSome result (λ p. EndsField text.now p.0.now p.1 p.2.now) }
+/// The line is given without its end. A line with one of them isn't read.
+pub fn read_plain_line(line: &[u8], fields: &mut ByteRecord) -> Result<bool, AllocError>
+    ensures plain { IfOk result (λ plain. has_quotes line.now ≡ not plain) }
+    ensures fields { IfOk result (λ plain. plain ≡ true → fields_of fields.new ≡ slice_split (λ b. b == 44) line.now) }
+    ensures kept { IfOk result (λ plain. plain ≡ false → fields.new ≡ fields.old) }
 {
-    for (i, byte) in text.iter().enumerate() {
-        if *byte == b',' {
-            return Some((&text[..i], false, &text[i + 1..]));
-        }
-        if *byte == b'\n' {
-            return Some((&text[..i], true, &text[i + 1..]));
-        }
-        if *byte == b'"' {
-            return None;
-        }
-        if *byte == b'\r' {
-            let Some(rest) = text[i + 1..].strip_prefix(b"\n") else {
-                return None;
-            };
-            return Some((&text[..i], true, rest));
-        }
+    if has_quotes(line) {
+        return Ok(false);
     }
-    None
+    split_line(line, fields)?;
+    Ok(true)
+}
+
+/// The line that a text begins with, without its end, and what follows it. None if it doesn't end.
+fn line_at_front(text: &[u8]) -> Option<(&[u8], &[u8])>
+    ensures { IfSome result (λ p. BeginsBare text.now p.0.now p.1.now) }
+{
+    let feed = memchr(b'\n', text)?;
+    let rest = &text[feed + 1..];
+    if let Some(line) = text[..feed].strip_suffix(b"\r") {
+        return Some((line, rest));
+    }
+    Some((&text[..feed], rest))
 }
 
 /// Reads the record of the line that a text begins with into `fields`, and returns what follows the line.
 ///
 /// None if the line is empty, has a quote or a carriage return within it, or doesn't end.
-pub(crate) fn read_plain_line<'a>(
+pub(crate) fn record_at_front<'a>(
     text: &'a [u8],
     fields: &mut ByteRecord,
 ) -> Result<Option<&'a [u8]>, AllocError>
     ensures { IfOk result (λ found. IfSome found (λ rest. BeginsLine text.now (fields_of fields.new) rest.now)) }
 {
-    fields.clear();
-    if begins_with_end(text) {
+    let Some((line, rest)) = line_at_front(text) else {
+        return Ok(None);
+    };
+    if line.is_empty() {
         return Ok(None);
     }
-    let mut left = text;
-    loop {
-        let Some((field, last, rest)) = plain_field(left) else {
-            return Ok(None);
-        };
-        match fields.push_field(field) {
-            Ok(()) => {}
-            Err(error) => return Err(error),
-        }
-        if last {
-            return Ok(Some(rest));
-        }
-        left = rest;
+    match read_plain_line(line, fields) {
+        Ok(true) => Ok(Some(rest)),
+        Ok(false) => Ok(None),
+        Err(error) => Err(error),
     }
 }

@@ -5,7 +5,7 @@ ghost use Rattle.dn_records.specs.Reading.{records_after};
 ghost use Rattle.dn_records.specs.Records.{Takes, records_of};
 ghost use Rattle.dn_records.specs.PlainLines.{StandsBehindLine};
 
-use crate::plain_line::read_plain_line;
+use crate::plain_line::record_at_front;
 use crate::record_reader::RecordReader;
 use csv::ByteRecord;
 use std::alloc::{AllocError, Global};
@@ -129,7 +129,7 @@ impl<'a> Records<'a> {
         if text.is_empty() {
             return Ok(false);
         }
-        match read_plain_line(text, fields) {
+        match record_at_front(text, fields) {
             Ok(Some(rest)) => {
                 self.go_on(text, rest);
                 Ok(true)
