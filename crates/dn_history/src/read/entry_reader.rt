@@ -57,7 +57,7 @@ impl<'a> EntryReader<'a> {
         ensures given { IfOk result (λ reader. reader.given ≡ 0) }
         ensures err { IfErr result (λ fault. IsFaultOf (history_in text.now) fault) }
     {
-        let mut records = NumberedRecords::new(alloc, text);
+        let mut records = NumberedRecords::from(alloc, text, 1);
         let mut fields = ByteRecord::new(alloc);
         match records.next(&mut fields) {
             Ok(()) => {}

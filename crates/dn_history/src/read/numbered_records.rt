@@ -59,16 +59,6 @@ impl<'a> NumberedRecords<'a> {
         self.records.lines()
     }
 
-    /// The records of a text, from the first on.
-    pub(crate) fn new(alloc: Global, text: &'a [u8]) -> NumberedRecords<'a>
-        ensures { result ≡ record { number = 1; records = records_of text.now } }
-    {
-        NumberedRecords {
-            number: 1,
-            records: Records::new(alloc, text),
-        }
-    }
-
     /// The number of the next record.
     pub(crate) fn number(&self) -> u64
         ensures { result ≡ self.now.number }

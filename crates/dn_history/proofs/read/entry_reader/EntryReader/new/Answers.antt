@@ -6,6 +6,6 @@ use Rattle.dn_history.proofs.read.entry_reader.EntryReader.new.Goals as goal
 pub invariant_of-result : goal.invariant_of-result
 invariant_of-result c =
     let few = numbered c.args.text.now in
-    let first = ap (λ (rest : Rest). length rest.records) c.new-records.ensures in
+    let first = ap (λ (rest : Rest). length rest.records) c.from-records.ensures in
     let fewer = c.in-Ok.ensures.fewer in
     omega (arith, few, first, fewer)

@@ -1,6 +1,0 @@
-use Rattle.std.proofs.Common.{arith}
-use Rattle.dn_history.proofs.HistoryReading.{numbered}
-use Rattle.dn_history.proofs.read.numbered_records.NumberedRecords.new.Goals as goal
-
-pub invariant_of-result : goal.invariant_of-result
-invariant_of-result c = let few = rw (← c.new.ensures) at (numbered c.args.text.now) in omega (arith, few)
