@@ -79,17 +79,6 @@ parts-read version given number count next lines behind_lines left text front en
       ∙ grouped (rule_of version) front entries _;
 }
 
--- A part of the text more.
-pub part-fed : (left : Unread) (text part : List ℕ) (entries : List Entry) → HasRead left text entries
-    → HasRead (record { version = left.version; given = left.given; number = left.number; text = left.text ++ part }) (text ++ part) entries
-part-fed left text part entries read = record {
-  count = read.count;
-  goes_on = λ more.
-      ap history_in (append_assoc text part more) ∙ read.goes_on (part ++ more)
-      ∙ ap (λ (t : List ℕ). entries_left Reading left.version left.given (record { number = left.number; records = records_after st.StartRecord t })
-      >>= λ last. with_rule (rule_of left.version) (entries ++ last)) (sym (append_assoc left.text part more));
-}
-
 -- The record of the header tells the version.
 pub header-tells : (version : HistoryVersion) → version_of (version_record version) ≡ Ok version
 unfolding version_of live_of field_at

@@ -1,5 +1,5 @@
 -- What a configuration line says, by whether it is text and by the grammar's answer.
-use Rattle.std.proofs.Common.{◌≡◌, refl, ℕ, Bool, true, false, List, Option, Result, Err, inl, inr}
+use Rattle.std.proofs.Common.{◌≡◌, refl, ℕ, List, Option, Result, Err, inl, inr}
 use Rattle.std.proofs.lemmas.Bool.{cases_Bool}
 use Rattle.std.proofs.lemmas.Str.{IsUtf8-from_is_utf8, is_utf8-from_IsUtf8}
 use Rattle.std.specs.Str.{IsUtf8, is_utf8}

@@ -1,7 +1,6 @@
--- The records in a line, as they are read, and what the line asks for by them.
-use Rattle.std.proofs.Common.{◌≡◌, refl, sym, ap, ℕ, Bool, true, false, not, List, [], ◌∷◌}
+-- The records in a line, as they are read.
+use Rattle.std.proofs.Common.{◌≡◌, refl, ap, Bool, true, false, not, List, [], ◌∷◌}
 use Rattle.dn_records.specs.Records.{Fields, Takes}
-use Rattle.dn_live.specs.Asked.{asked_by, asked_by_first, asked_of}
 use Rattle.dn_live.specs.LinesTaken.{has_none, IsRead}
 
 -- The line has no record.
@@ -19,8 +18,3 @@ first_read (f ∷ g ∷ more) rest fields none takes is = (rw takes.2 at is, tak
 pub none_left : (old new : List Fields) (fields : Fields) (found : Bool) → Takes old new found fields → not found ≡ has_none old
 none_left [] new fields found takes = ap not takes.0
 none_left (first ∷ rest) new fields found takes = ap not takes.0
-
-pub asked-is : (line : List ℕ) (records : List Fields) (one : Bool) (fields : Fields) → IsRead records one fields → asked_by_first line one fields ≡ asked_of line records
-asked-is line [] one fields h = rw (h.0, h.1) refl
-asked-is line (f ∷ []) one fields h = rw (h.0, h.1) refl
-asked-is line (f ∷ g ∷ rest) one fields h = rw (h.0, h.1) refl

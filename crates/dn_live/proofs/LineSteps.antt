@@ -1,31 +1,13 @@
 -- Lines taken off known bytes, step by step.
-use Rattle.std.proofs.Common.{◌≡◌, ◌∙◌, refl, sym, ap, ℕ, ◌<◌, ◌≤◌, ◌+◌, zero, suc, Bool, true, false, List, [], ◌∷◌, ◌++◌, Option, Some, None, length, take, drop, get_or, append_assoc, append-nil, take-append-drop, drop-cons, drop-drop, length-take, take_all, min, arith}
+use Rattle.std.proofs.Common.{◌≡◌, ◌∙◌, sym, ap, ℕ, ◌<◌, ◌≤◌, ◌+◌, suc, Bool, true, false, List, [], ◌∷◌, ◌++◌, Option, Some, None, length, take, drop, get_or, append_assoc, append-nil, take-append-drop, drop-cons, drop-drop, length-take, take_all, min, arith}
 use Rattle.std.proofs.lemmas.Bool.Decides.{nat_tests}
-use Rattle.std.specs.List.{position_or_len, All}
-use Rattle.std.specs.Io.KnownBytes.{Consumes, IsAtEnd, Keeps, prepend_known}
-use Rattle.std.proofs.KnownBytes.{Consumes-kept, Consumes-trans}
-use Rattle.std.proofs.lemmas.List.Elements.{All-append, All-from_get_or}
+use Rattle.std.specs.List.{position_or_len}
+use Rattle.std.specs.Io.KnownBytes.{Consumes, Keeps, prepend_known}
+use Rattle.std.proofs.lemmas.List.Elements.{All-append}
 use Rattle.std.proofs.lemmas.List.Sums.{fails_before_first, passes_at_first}
 use Rattle.std.proofs.lemmas.List.{get_or-take}
 use Rattle.dn_text.specs.Lines.{is_line_feed}
 use Rattle.dn_live.specs.LinesTaken.{HasFront, IsOneLine, IsTooLong, TakesPiece, line_limit}
-
--- Bytes that stand before the known ones are taken off.
-pub piece-taken : (piece rest : List ℕ) (known : Option (List ℕ)) → Consumes (prepend_known (piece ++ rest) known) (prepend_known rest known) piece
-piece-taken piece rest None = tt
-piece-taken piece rest (Some xs) = append_assoc piece rest xs
-
-pub kept-taken : (a b c : Option (List ℕ)) (bs : List ℕ) → Keeps a b → Consumes b c bs → Consumes a c bs
-kept-taken None b c bs p q = tt
-kept-taken (Some x) None c bs p q = absurd p
-kept-taken (Some x) (Some y) None bs p q = absurd q
-kept-taken (Some x) (Some y) (Some z) bs p q = sym p ∙ q
-
--- What a read gave stands before what is left.
-pub read-kept : (a b : Option (List ℕ)) (bs old : List ℕ) → old ≡ [] → Consumes a b bs → Keeps (prepend_known old a) (prepend_known bs b)
-read-kept None b bs old e p = tt
-read-kept (Some x) None bs old e p = absurd p
-read-kept (Some x) (Some y) bs old e p = rw e (sym p)
 
 -- The bytes before the first line feed have none.
 pub before-feed : (xs : List ℕ) (n : ℕ) → n ≡ position_or_len is_line_feed xs → IsOneLine (take n xs)

@@ -18,6 +18,7 @@ use Rattle.dn_records.specs.Records.{text_of}
 use Rattle.dn_records.proofs.TextSteps.{text-append}
 use Rattle.dn_files.specs.Reading.{IsTextOf}
 use Rattle.dn_files.specs.Writing.{IsUnwritten}
+use Rattle.dn_files.proofs.Causes.{unwritten-cases}
 use Rattle.dn_files.specs.declared.replay_fault.ReplayFault.{ReplayFault}
 use Rattle.dn_files.specs.declared.replay_fault.ReplayFault.TheVariants.{BadRow, Read, Write, TooLong, OutOfMemory, Config, ConfigText, NoSuchPipe, BadRecord, BadCount, PipeHasQueues, NoSuchQueue}
 use Rattle.dn_files.specs.declared.source.Source.TheVariants.{History}
@@ -60,10 +61,6 @@ begun-more lines line = text-append (live_header ∷ answers lines) (answer (len
 pub calls-more : (lines : List (List ℕ)) (line : List ℕ) → calls_of (line ∷ lines) ≡ calls_after (calls_of lines) (asked line)
 unfolding calls_of
 calls-more lines line = refl
-
-pub no-calls : calls_of [] ≡ []
-unfolding calls_of
-no-calls = refl
 
 pub taken-more : (lines : List (List ℕ)) (line : List ℕ) (known mid new : Option (List ℕ)) → Consumes known mid (lines_text lines) → Consumes mid new (line ++ 10 ∷ []) → Consumes known new (lines_text (line ∷ lines))
 unfolding lines_text
@@ -138,19 +135,9 @@ module _ (known : Option (List ℕ)) (read_failed : Bool) (old mid new : Option 
   pub unwritten : (fault : ReplayFault) (more : List (List ℕ)) (tail text rest : List ℕ) → begun more ++ closing more tail ≡ (begun lines ++ text) ++ rest
       → HasFront known (lines_text more ++ tail) → All IsLine (tail ∷ more) → read_failed ≡ false → Appends old mid (begun lines)
       → IsUnwritten History text mid new failed fault → IsBrokenOff known read_failed old new failed fault
-  unwritten (Write what) more tail text rest e fr one r app h =
-      (h.0, r, h.1, (more, tail, fr, one, rw e (part-more old new (begun lines ++ text) rest (part-after old mid new (begun lines) text app h.2))))
-  unwritten OutOfMemory more tail text rest e fr one r app h = (h.0, (lines, (read, all, appends-kept old mid new (begun lines) app h.1), r))
-  unwritten (Read what) more tail text rest e fr one r app h = absurd h
-  unwritten (TooLong what) more tail text rest e fr one r app h = absurd h
-  unwritten (Config l x) more tail text rest e fr one r app h = absurd h
-  unwritten (ConfigText l) more tail text rest e fr one r app h = absurd h
-  unwritten (NoSuchPipe l) more tail text rest e fr one r app h = absurd h
-  unwritten (BadRow w x) more tail text rest e fr one r app h = absurd h
-  unwritten (BadRecord n) more tail text rest e fr one r app h = absurd h
-  unwritten BadCount more tail text rest e fr one r app h = absurd h
-  unwritten (PipeHasQueues l) more tail text rest e fr one r app h = absurd h
-  unwritten (NoSuchQueue l) more tail text rest e fr one r app h = absurd h
+  unwritten fault more tail text rest e fr one r app h = unwritten-cases (IsBrokenOff known read_failed old new failed) History text mid new failed fault
+      (λ what w. (w.0, r, w.1, (more, tail, fr, one, rw e (part-more old new (begun lines ++ text) rest (part-after old mid new (begun lines) text app w.2)))))
+      (λ n. (n.0, (lines, (read, all, appends-kept old mid new (begun lines) app n.1), r))) h
 
   -- The answer to a line wasn't written.
   pub line-broken : (fault : ReplayFault) (line : List ℕ) → HasFront known (lines_text (line ∷ lines)) → IsLine line → read_failed ≡ false → Appends old mid (begun lines)
