@@ -11,6 +11,7 @@ use std::collections::BinaryHeap;
 use std::marker::Model;
 
 mod push_pop;
+mod put_back;
 
 /// A heap with the least key on top.
 ///
