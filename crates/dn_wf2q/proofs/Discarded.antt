@@ -1,11 +1,12 @@
 -- The packets of a slot are discarded.
-use Rattle.std.proofs.Common.{◌≡◌, ℕ, ◌+◌, ◌-◌, ◌<◌, ◌≤◌, Bool, List, [], length, Some, All, refl, sym, ap, ◌∙◌, subst, arith, inl, inr, slice_index_or, get_or, set, sum_by, false, true, nat_lt}
-use Rattle.std.specs.List.{filter}
+use Rattle.std.proofs.Common.{◌≡◌, ℕ, ◌+◌, ◌-◌, ◌<◌, ◌≤◌, List, [], ◌∷◌, length, Some, All, Contains, IsPermutation, refl, sym, ap, ◌∙◌, subst, arith, inl, inr, slice_index_or, get_or, set, sum_by, nat_lt}
 use Rattle.std.proofs.lemmas.List.{get_or-set_same, get_or-set_other, length-set, get_or_read, get_or_past, set_past}
+use Rattle.std.proofs.lemmas.List.Sorted.{length_permutation, All-permutation}
 use Rattle.std.proofs.lemmas.List.Sums.{sum_by-set, get_or-le-sum_by}
-use Rattle.std.proofs.lemmas.List.Elements.{All-nil, All-set, All-filter}
-use Rattle.std.proofs.lemmas.Bool.{cases_eq}
+use Rattle.std.proofs.lemmas.List.Elements.{All-nil, All-tail, All-set, Contains-get_or}
+use Rattle.std.proofs.lemmas.Bool.{cases_eq, cases_lt}
 use Rattle.std.specs.Vec.{with_item}
+use Rattle.dn_types.specs.Wf2q.{Stamped}
 use Rattle.dn_heap.specs.Heap.{Heap}
 use Rattle.dn_wf2q.specs.declared.tagged_packet.TaggedPacket.{TaggedPacket}
 use Rattle.dn_wf2q.specs.declared.tagged_queue.TaggedQueue.{TaggedQueue}
@@ -13,13 +14,19 @@ use Rattle.dn_wf2q.specs.declared.sched_parts.SchedParts.{SchedParts}
 use Rattle.dn_wf2q.specs.Rank.{RankView}
 use Rattle.dn_wf2q.specs.Schedule.{Flow, flow_at, no_packets, after_discard}
 use Rattle.dn_wf2q.specs.Queue.{first_packet, places, packets_of, IsQueueKept}
-use Rattle.dn_wf2q.specs.Kept.{Kept, IsSchedKept, IsStaleKept, IsEligible, IsWaiting, IsWithin, AreTagsWithin, presence, behind, head_weight, ranks_at, bound, flows_of, seen, tagged, by_slot, none_absent, is_live, live, swept}
+use Rattle.dn_wf2q.specs.Kept.{Kept, IsSchedKept, NoneDue, HeadIs, IsEligible, IsWaiting, IsWithin, AreTagsWithin, presence, behind, head_weight, ranks_at, bound, flows_of, seen, tagged, by_slot, none_absent}
 use Rattle.dn_wf2q.specs.Steps.{DiscardsSlot}
 use Rattle.dn_wf2q.proofs.BySlot.{length-by_slot, by_slot-set}
-use Rattle.dn_wf2q.proofs.Heads.{head_weighs, flow_at_seen, room_grows, cond_zero, next_is}
+use Rattle.dn_wf2q.proofs.Heads.{head_says, head_there, head_both, head_weighs, presence-le, flow_at_seen, room_grows, cond_zero, next_is}
 use Rattle.dn_wf2q.proofs.Counts.{waiting-set}
-use Rattle.dn_wf2q.proofs.Ranks.{no_rank_at}
-use Rattle.dn_wf2q.proofs.Swept.{LeavesKeys, elsewhere, filter_le, leaves_keys, left_keys}
+use Rattle.dn_wf2q.proofs.Payable.{Fits, fits}
+use Rattle.dn_wf2q.proofs.Ranks.{ranks_at_popped, rank_at_same, rank_at_other, no_rank_at, some_rank_at}
+
+abbrev no_rank : RankView
+no_rank = record { tag = 0; slot = 0 }
+
+same_parts : (k : RankView) (tag slot : ℕ) → k.tag ≡ tag → k.slot ≡ slot → k ≡ record { tag = tag; slot = slot }
+same_parts k tag slot t s = λ i. record { tag = t i; slot = s i }
 
 module _ {flows : List Flow} {eligible waiting : Heap RankView} {virtual_time weights arrivals picks : ℕ}
     (kept : Kept none_absent [] flows eligible waiting virtual_time weights arrivals picks) (slot : ℕ) (listed : slot < length flows) where
@@ -66,38 +73,78 @@ module _ {flows : List Flow} {eligible waiting : Heap RankView} {virtual_time we
       let c = kept.placed slot in
       forgot eligible waiting weights (omega arith) (omega arith) (λ g n. refl) kept.ready kept.waits (omega arith) (omega arith) (omega arith) refl refl refl refl (omega arith)
 
--- In heaps that may hold keys of flows without a packet, the slot's key stays.
-module _ {flows : List Flow} (eligible waiting : Heap RankView) {virtual_time weights arrivals picks : ℕ}
-    (kept : Kept none_absent [] flows (live flows eligible) (live flows waiting) virtual_time weights arrivals picks) (slot : ℕ) (listed : slot < length flows) where
-  abbrev left : Heap RankView → Heap RankView
-  left heap = live (set flows slot no_packets) heap
-
-  abbrev were : Heap RankView → List RankView
-  were heap = filter (is_live flows) heap.keys
-
-  leaves : (heap : Heap RankView) → LeavesKeys slot (were heap) (left heap).keys
-  leaves heap = subst (LeavesKeys slot (were heap)) (sym (left_keys flows slot listed heap.keys)) (leaves_keys slot (were heap))
-
-  all_left : (P : RankView → Type 0) (heap : Heap RankView) → All P (were heap) → All P (left heap).keys
-  all_left P heap all = subst (All P) (sym (left_keys flows slot listed heap.keys)) (All-filter (elsewhere slot) P (were heap) all)
-
-  pub forgot_live : (w : ℕ) → w + head_weight (flow_at flows slot).backlog ≡ weights
-      → Kept none_absent [] (set flows slot no_packets) (left eligible) (left waiting) virtual_time w arrivals picks
-  forgot_live w wq =
+  pub forgot_waiting : (k : RankView) (ws : Heap RankView) (w : ℕ) → k.slot ≡ slot → IsPermutation waiting.keys (k ∷ ws.keys)
+      → ws.moves ≡ waiting.moves → ws.room ≡ waiting.room + 1 → w + head_weight fl.backlog ≡ weights
+      → Kept none_absent [] (set flows slot no_packets) eligible ws virtual_time w arrivals picks
+  forgot_waiting k ws w same p mw rmw wq =
       let c = kept.placed slot in
-      let e = leaves eligible in
-      let x = leaves waiting in
-      let ef = e.fewer in
-      let xf = x.fewer in
-      let le = filter_le (is_live flows) eligible.keys in
-      let lx = filter_le (is_live flows) waiting.keys in
-      let me = filter_le (is_live (set flows slot no_packets)) eligible.keys in
-      let mx = filter_le (is_live (set flows slot no_packets)) waiting.keys in
-      forgot kept slot listed (left eligible) (left waiting) w e.none x.none
-      (λ g n. let a = e.others g n in let b = x.others g n in omega arith)
-      (all_left (IsEligible flows virtual_time) eligible kept.ready)
-      (all_left (IsWaiting flows) waiting kept.waits)
-      (omega arith) (omega arith) (omega arith) refl refl (omega arith) (omega arith) wq
+      let a = ranks_at_popped slot k waiting.keys ws.keys p in
+      let z = rank_at_same slot k same in
+      let m = presence-le fl.backlog in
+      let l = length_permutation waiting.keys (k ∷ ws.keys) p in
+      forgot eligible ws w (omega arith) (omega arith)
+      (λ g n. let b = ranks_at_popped g k waiting.keys ws.keys p in let y = rank_at_other g k (λ e. n (sym e ∙ same)) in omega arith)
+      kept.ready
+      (All-tail (IsWaiting flows) k ws.keys (All-permutation (IsWaiting flows) waiting.keys (k ∷ ws.keys) p kept.waits))
+      (omega arith) (omega arith) (omega arith) refl mw refl (omega arith) wq
+
+  pub forgot_eligible : (k : RankView) (es : Heap RankView) (w : ℕ) → k.slot ≡ slot → IsPermutation eligible.keys (k ∷ es.keys)
+      → es.moves ≡ eligible.moves → es.room ≡ eligible.room + 1 → w + head_weight fl.backlog ≡ weights
+      → Kept none_absent [] (set flows slot no_packets) es waiting virtual_time w arrivals picks
+  forgot_eligible k es w same p me rme wq =
+      let c = kept.placed slot in
+      let a = ranks_at_popped slot k eligible.keys es.keys p in
+      let z = rank_at_same slot k same in
+      let m = presence-le fl.backlog in
+      let l = length_permutation eligible.keys (k ∷ es.keys) p in
+      forgot es waiting w (omega arith) (omega arith)
+      (λ g n. let b = ranks_at_popped g k eligible.keys es.keys p in let y = rank_at_other g k (λ e. n (sym e ∙ same)) in omega arith)
+      (All-tail (IsEligible flows virtual_time) k es.keys (All-permutation (IsEligible flows virtual_time) eligible.keys (k ∷ es.keys) p kept.ready))
+      kept.waits
+      (omega arith) (omega arith) (omega arith) me refl (omega arith) refl wq
+
+  -- The head's key is in the heap in which it belongs.
+  module _ (h : Stamped) (is : HeadIs (λ x. x ≡ h) fl.backlog) (due : All (λ k. virtual_time < k.tag) waiting.keys) where
+    one : presence fl.backlog ≡ 1
+    one = head_there (λ x. x ≡ h) fl.backlog is
+
+    waits_late : 0 < ranks_at slot waiting.keys → (virtual_time < h.start_tag) × Contains waiting.keys (record { tag = h.start_tag; slot = slot })
+    waits_late l =
+        let i = some_rank_at slot waiting.keys l in
+        let k = slice_index_or waiting.keys i.0 no_rank in
+        let at = subst (λ x. HeadIs (λ p. k.tag ≡ p.start_tag) (flow_at flows x).backlog) (i.2 no_rank) (kept.waits i.0 no_rank i.1) in
+        let tag =
+        head_says (λ p. (k.tag ≡ p.start_tag) × (p ≡ h)) (k.tag ≡ h.start_tag) (λ p x. x.0 ∙ ap (λ (y : Stamped). y.start_tag) x.1)
+        fl.backlog
+        (head_both (λ p. k.tag ≡ p.start_tag) (λ x. x ≡ h) (λ p. (k.tag ≡ p.start_tag) × (p ≡ h)) (λ p a b. (a, b)) fl.backlog at is) in
+        let late = due i.0 no_rank i.1 in
+        let same : k ≡ record { tag = h.start_tag; slot = slot } = same_parts k h.start_tag slot tag (i.2 no_rank) in
+        (omega arith, subst (Contains waiting.keys) same (Contains-get_or waiting.keys i.0 no_rank i.1))
+
+    eligible_early : 0 < ranks_at slot eligible.keys → (h.start_tag ≤ virtual_time) × Contains eligible.keys (record { tag = h.finish_tag; slot = slot })
+    eligible_early l =
+        let i = some_rank_at slot eligible.keys l in
+        let k = slice_index_or eligible.keys i.0 no_rank in
+        let at = subst (λ x. HeadIs (λ p. (k.tag ≡ p.finish_tag) × (p.start_tag ≤ virtual_time)) (flow_at flows x).backlog) (i.2 no_rank) (kept.ready i.0 no_rank i.1) in
+        let both =
+        head_says (λ p. ((k.tag ≡ p.finish_tag) × (p.start_tag ≤ virtual_time)) × (p ≡ h)) ((k.tag ≡ h.finish_tag) × (h.start_tag ≤ virtual_time))
+        (λ p x. (x.0.0 ∙ ap (λ (y : Stamped). y.finish_tag) x.1, subst (λ (y : Stamped). y.start_tag ≤ virtual_time) x.1 x.0.1))
+        fl.backlog (head_both (λ p. (k.tag ≡ p.finish_tag) × (p.start_tag ≤ virtual_time)) (λ x. x ≡ h)
+        (λ p. ((k.tag ≡ p.finish_tag) × (p.start_tag ≤ virtual_time)) × (p ≡ h)) (λ p a b. (a, b)) fl.backlog at is) in
+        let same : k ≡ record { tag = h.finish_tag; slot = slot } = same_parts k h.finish_tag slot both.0 (i.2 no_rank) in
+        (both.1, subst (Contains eligible.keys) same (Contains-get_or eligible.keys i.0 no_rank i.1))
+
+    pub in_eligible : h.start_tag ≤ virtual_time → Contains eligible.keys (record { tag = h.finish_tag; slot = slot })
+    in_eligible early = elim (cases_lt 0 (ranks_at slot waiting.keys)) [
+      | inl l ↦ absurd (let w = (waits_late l).0 in omega arith)
+      | inr n ↦ let c = kept.placed slot in let o = one in (eligible_early (omega arith)).1
+    ]
+
+    pub in_waiting : virtual_time < h.start_tag → Contains waiting.keys (record { tag = h.start_tag; slot = slot })
+    in_waiting late = elim (cases_lt 0 (ranks_at slot eligible.keys)) [
+      | inl l ↦ absurd (let w = (eligible_early l).0 in omega arith)
+      | inr n ↦ let c = kept.placed slot in let o = one in (waits_late (omega arith)).1
+    ]
 
 -- Nothing waits beyond the slots that there are.
 pub beyond : (p : SchedParts) (slot : ℕ) → length p.flows.items ≤ slot → DiscardsSlot slot p p
@@ -114,7 +161,7 @@ beyond p slot l =
       room = λ g. omega arith;
     }
 
-module _ (p : SchedParts) (slot : ℕ) (listed : slot < length p.flows.items) (q : TaggedQueue)
+module _ (p : SchedParts) (kept : IsSchedKept p) (slot : ℕ) (listed : slot < length p.flows.items) (q : TaggedQueue)
     (at : q ≡ get_or p.flows.items slot q) (r : TaggedQueue) (packets : packets_of r ≡ []) (last : r.last_finish_tag ≡ 0)
     (arrived : r.arrived ≡ q.arrived) (whole : (b : ℕ) → IsQueueKept b r) (room : places q ≤ places r) where
   same_flow : flow_at (flows_of p) slot ≡ seen p.busy_from slot q
@@ -156,48 +203,54 @@ module _ (p : SchedParts) (slot : ℕ) (listed : slot < length p.flows.items) (q
     picks = p.picks;
   }
 
-  -- The queue is empty, whatever the heaps of the parts were.
-  made : (es ws es' ws' : Heap RankView) (w : ℕ) → IsSchedKept (record p { eligible = es; waiting = ws })
-      → Kept none_absent [] (set (flows_of p) slot no_packets) es' ws' p.virtual_time w p.arrivals p.picks → IsSchedKept (left_parts es' ws' w)
-  made es ws es' ws' w before k = record {
+  made : (es ws : Heap RankView) (w : ℕ) → Kept none_absent [] (set (flows_of p) slot no_packets) es ws p.virtual_time w p.arrivals p.picks → IsSchedKept (left_parts es ws w)
+  made es ws w k = record {
     kept = rw flows_is k;
-    few = before.few;
-    began = before.began;
-    arrived = All-set (λ x. x.arrived ≤ p.arrivals) p.flows.items slot r (rw (arrived, at) (before.arrived slot q listed)) before.arrived;
-    queues = All-set (IsQueueKept p.busy_from) p.flows.items slot r (whole p.busy_from) before.queues;
-    slots = let s = before.slots in let l = length-set p.flows.items slot r in omega arith;
+    few = kept.few;
+    began = kept.began;
+    arrived = All-set (λ x. x.arrived ≤ p.arrivals) p.flows.items slot r (rw (arrived, at) (kept.arrived slot q listed)) kept.arrived;
+    queues = All-set (IsQueueKept p.busy_from) p.flows.items slot r (whole p.busy_from) kept.queues;
+    slots = let s = kept.slots in let l = length-set p.flows.items slot r in omega arith;
   }
 
-  swept_left : IsSchedKept (swept p) → (w : ℕ) → w + head_weight (flow_at (flows_of p) slot).backlog ≡ p.weights → IsSchedKept (swept (left_parts p.eligible p.waiting w))
-  swept_left before w wq =
-      let k = forgot_live p.eligible p.waiting before.kept slot listed' w wq in
-      made _ _ _ _ w before
-      (subst (λ flows. Kept none_absent [] (set (flows_of p) slot no_packets) (live flows p.eligible) (live flows p.waiting) p.virtual_time w p.arrivals p.picks) (sym flows_is) k)
-
-  -- No packet waited, and no key is stale that wasn't.
-  pub idle_left : (stale : Bool) → IsStaleKept stale p → packets_of q ≡ [] → IsStaleKept stale (left_parts p.eligible p.waiting p.weights)
-  idle_left stale before nil =
-      let none : head_weight (flow_at (flows_of p) slot).backlog ≡ 0 = rw (same_flow, nil) refl in
-      record {
-        swept_kept = swept_left before.swept_kept p.weights (omega arith);
-        fresh_kept = λ fresh.
-            let k = before.fresh_kept fresh in
-            made p.eligible p.waiting p.eligible p.waiting p.weights k (forgot_idle k.kept slot listed' (rw (same_flow, nil) refl) none);
-      }
+  pub idle_left : packets_of q ≡ [] → IsSchedKept (left_parts p.eligible p.waiting p.weights)
+  idle_left nil = made p.eligible p.waiting p.weights (forgot_idle kept.kept slot listed' (rw (same_flow, nil) refl) (rw (same_flow, nil) refl))
 
   module _ (h : TaggedPacket) (is : first_packet (packets_of q) ≡ Some h) where
-    weight_is : head_weight (flow_at (flows_of p) slot).backlog ≡ h.weight
-    weight_is = head_weighs (tagged slot h) (flow_at (flows_of p) slot).backlog (rw same_flow (next_is slot (packets_of q) h is))
+    is' : HeadIs (λ x. x ≡ tagged slot h) (flow_at (flows_of p) slot).backlog
+    is' = rw same_flow (next_is slot (packets_of q) h is)
 
-    pub weighs : IsSchedKept (swept p) → h.weight ≤ p.weights
-    weighs before =
+    weight_is : head_weight (flow_at (flows_of p) slot).backlog ≡ h.weight
+    weight_is = head_weighs (tagged slot h) (flow_at (flows_of p) slot).backlog is'
+
+    pub weighs : h.weight ≤ p.weights
+    weighs =
         let g : head_weight (flow_at (flows_of p) slot).backlog ≤ sum_by (λ fl. head_weight fl.backlog) (flows_of p) =
         get_or-le-sum_by (λ fl. head_weight fl.backlog) (flows_of p) slot no_packets listed' in
-        let w = before.kept.weighed in
+        let w = kept.kept.weighed in
         omega (arith, weight_is)
 
-    -- The head's key is stale.
-    pub stale_left : IsSchedKept (swept p) → IsStaleKept true (left_parts p.eligible p.waiting (p.weights - h.weight))
-    stale_left before =
-        let w = weighs before in
-        record { swept_kept = swept_left before (p.weights - h.weight) (omega (arith, weight_is)); fresh_kept = λ e. absurd (let z : true ≡ false = e in cc) }
+    pub key_fits : Fits slot h.start_tag h.finish_tag
+    key_fits = fits p slot h kept is'
+
+    pub held_eligible : NoneDue p → h.start_tag ≤ p.virtual_time → Contains p.eligible.keys (record { tag = h.finish_tag; slot = slot })
+    held_eligible due early = in_eligible kept.kept slot listed' (tagged slot h) is' due early
+
+    pub held_waiting : NoneDue p → p.virtual_time < h.start_tag → Contains p.waiting.keys (record { tag = h.start_tag; slot = slot })
+    held_waiting due late = in_waiting kept.kept slot listed' (tagged slot h) is' due late
+
+    pub waiting_left : (k : RankView) (ws : Heap RankView) → k.slot ≡ slot
+        → IsPermutation p.waiting.keys (k ∷ ws.keys) → ws.moves ≡ p.waiting.moves → ws.room ≡ p.waiting.room + 1
+        → IsSchedKept (left_parts p.eligible ws (p.weights - h.weight))
+    waiting_left k ws here perm mw rmw =
+        let w = weighs in
+        made p.eligible ws (p.weights - h.weight)
+        (forgot_waiting kept.kept slot listed' k ws (p.weights - h.weight) here perm mw rmw (omega (arith, weight_is)))
+
+    pub eligible_left : (k : RankView) (es : Heap RankView) → k.slot ≡ slot
+        → IsPermutation p.eligible.keys (k ∷ es.keys) → es.moves ≡ p.eligible.moves → es.room ≡ p.eligible.room + 1
+        → IsSchedKept (left_parts es p.waiting (p.weights - h.weight))
+    eligible_left k es here perm me rme =
+        let w = weighs in
+        made es p.waiting (p.weights - h.weight)
+        (forgot_eligible kept.kept slot listed' k es (p.weights - h.weight) here perm me rme (omega (arith, weight_is)))

@@ -36,6 +36,10 @@ pub head_grows : (P : Stamped → Type 0) (q r : List Stamped) → HeadIs P q �
 head_grows P [] r h = absurd h
 head_grows P (p ∷ q) r h = h
 
+pub head_there : (P : Stamped → Type 0) (q : List Stamped) → HeadIs P q → presence q ≡ 1
+head_there P [] h = absurd h
+head_there P (p ∷ q) h = refl
+
 pub presence-le : (q : List Stamped) → presence q ≤ 1
 presence-le [] = omega arith
 presence-le (p ∷ q) = omega arith

@@ -2,6 +2,9 @@ pub mod Queues
 pub mod BySlot
 pub mod Heads
 pub mod Ranks
+pub mod Living
+pub mod Dying
+pub mod Alive
 pub mod Payable
 pub mod Counts
 pub mod Scan
@@ -14,5 +17,5 @@ pub mod Arrived
 pub mod Begun
 pub mod Passed
 pub mod Reserved
-pub mod Swept
+pub mod Calm
 pub mod Discarded

@@ -18,7 +18,7 @@ bound_fits p kept =
     let b = kept.kept.picked in
     omega arith
 
--- A head that is in no heap yet has a slot and tags for which a key has room.
+-- A head has a slot and tags for which a key has room.
 pub record Fits (slot start finish : ℕ) : Type 0 where
   pub slot_fits : slot < 2 ^ 32
   pub start_fits : start < 2 ^ 96
@@ -28,22 +28,26 @@ head_within : (b : ℕ) (h : Stamped) (q : List Stamped) → HeadIs (λ x. x ≡
 head_within b h [] is all = absurd is
 head_within b h (p ∷ ps) is all = subst (IsWithin b) is (All-head (IsWithin b) p ps all)
 
-pub head_fits : (p : SchedParts) (slot : ℕ) (h : TaggedPacket) → IsKeptWithout slot h p → Fits slot h.start_tag h.finish_tag
-head_fits p slot h kept =
+pub fits : {absent : ℕ → ℕ} {out : List Stamped} (p : SchedParts) (slot : ℕ) (h : TaggedPacket) → IsKeptBut absent out p
+    → HeadIs (λ x. x ≡ tagged slot h) (flow_at (flows_of p) slot).backlog → Fits slot h.start_tag h.finish_tag
+fits p slot h kept is =
     let b = bound p.arrivals p.picks in
     let flow = flow_at (flows_of p) slot in
-    let one = head_within b (tagged slot h) flow.backlog kept.1 (flow_within b (flows_of p) slot kept.0.kept.bounded).1 in
+    let one = head_within b (tagged slot h) flow.backlog is (flow_within b (flows_of p) slot kept.kept.bounded).1 in
     let start = one.0 in
     let finish = one.1 in
-    let fits = bound_fits p kept.0 in
-    let listed = head_listed (λ x. x ≡ tagged slot h) (flows_of p) slot kept.1 in
+    let under = bound_fits p kept in
+    let listed = head_listed (λ x. x ≡ tagged slot h) (flows_of p) slot is in
     let long = length-by_slot (seen p.busy_from) p.flows.items in
-    let few = kept.0.slots in
+    let few = kept.slots in
     record {
       slot_fits = omega arith;
       start_fits = omega arith;
       finish_fits = omega arith;
     }
+
+pub head_fits : (p : SchedParts) (slot : ℕ) (h : TaggedPacket) → IsKeptWithout slot h p → Fits slot h.start_tag h.finish_tag
+head_fits p slot h kept = fits p slot h kept.0 kept.1
 
 pub first_within : (b slot finish : ℕ) (ps : List TaggedPacket) → 0 < length ps → IfSome (first_packet ps) (λ head. head.finish_tag ≡ finish)
     → All (IsWithin b) (map (tagged slot) ps) → finish ≤ b

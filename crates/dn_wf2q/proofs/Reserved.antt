@@ -1,12 +1,11 @@
 -- Room is made, for a queue that is there or by adding queues without a packet.
 use Rattle.std.proofs.Common.{◌^◌, ◌≡◌, ℕ, zero, suc, ◌+◌, ◌-◌, ◌<◌, ◌≤◌, List, [], ◌∷◌, ◌++◌, length, map, All, refl, sym, ap, ◌∙◌, subst, arith, slice_index_or, get_or, set, sum_by, replicate, nat_lt, Result, Ok, Err, OnOk, OnErr}
 use Rattle.std.proofs.lemmas.List.{append_assoc, append-nil, length-append, length-replicate, set-get_or, get_or-map, get_or-set_same, get_or_read, length-set}
-use Rattle.std.proofs.lemmas.List.Sums.{sum_by-append, sum_by-cons}
+use Rattle.std.proofs.lemmas.List.Sums.{sum_by-append}
 use Rattle.std.proofs.lemmas.List.Folds.{sum_by-replicate}
 use Rattle.std.proofs.lemmas.List.Elements.{All-nil, All-append, All-replicate, All-weaker, All-push, All-set}
 use Rattle.std.specs.Vec.{with_item}
 use Rattle.dn_heap.specs.Heap.{Heap}
-use Rattle.dn_types.specs.Wf2q.{Stamped}
 use Rattle.dn_wf2q.specs.declared.tagged_queue.TaggedQueue.{TaggedQueue}
 use Rattle.dn_wf2q.specs.declared.sched_parts.SchedParts.{SchedParts}
 use Rattle.dn_wf2q.specs.Rank.{RankView}
@@ -103,20 +102,6 @@ module _ {flows : List Flow} {eligible waiting : Heap RankView} {virtual_time we
         eligible_room = omega arith;
         waiting_room = omega arith;
       }
-
--- Each key stands for a flow.
-presence-le : (b : List Stamped) → presence b ≤ 1
-presence-le [] = omega arith
-presence-le (x ∷ b) = omega arith
-
-pub presences : (flows : List Flow) → sum_by (λ flow. presence flow.backlog) flows ≤ length flows
-presences [] = omega arith
-presences (fl ∷ fls) = omega (arith, sum_by-cons (λ flow. presence flow.backlog) fl fls, presence-le fl.backlog, presences fls)
-
-pub keys_within : (p : SchedParts) → IsSchedKept p → length p.eligible.keys + length p.waiting.keys ≤ length p.flows.items
-keys_within p kept =
-    let c = kept.kept.counted in
-    omega (arith, presences (flows_of p), length-by_slot (seen p.busy_from) p.flows.items)
 
 pub on_ok_always : {T E : Type 0} (r : Result T E) (Q : Type 0) → Q → OnOk r Q
 on_ok_always (Ok x) Q q = q

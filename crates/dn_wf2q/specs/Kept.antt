@@ -1,6 +1,6 @@
 -- What the parts of a scheduler stand for, and what holds of them between calls.
-use Rattle.std.specs.Prelude.{◌≡◌, ℕ, suc, ◌+◌, ◌-◌, ◌*◌, ◌^◌, ◌<◌, ◌≤◌, ◌==◌, Bool, true, false, cond, List, [], ◌∷◌, length, map}
-use Rattle.std.specs.List.{sum_by, filter, All}
+use Rattle.std.specs.Prelude.{◌≡◌, ℕ, suc, ◌+◌, ◌*◌, ◌^◌, ◌<◌, ◌≤◌, ◌==◌, cond, List, [], ◌∷◌, length, map}
+use Rattle.std.specs.List.{sum_by, All}
 use Rattle.dn_types.specs.Wf2q.{Stamped, weight_sum}
 use Rattle.dn_heap.specs.Heap.{Heap}
 use Rattle.dn_wf2q.specs.declared.tagged_packet.TaggedPacket.{TaggedPacket}
@@ -112,31 +112,14 @@ none_absent slot = 0
 abbrev pub IsSchedKept : SchedParts → Type 0
 IsSchedKept p = IsKeptBut none_absent [] p
 
--- Whether a packet waits.
-abbrev pub has_packet : List Stamped → Bool
-has_packet [] = false
-has_packet (p ∷ ps) = true
+-- No head that waits is eligible: it would be in the eligible heap.
+abbrev pub NoneDue : SchedParts → Type 0
+NoneDue p = All (λ k. p.virtual_time < k.tag) p.waiting.keys
 
--- Whether a packet of a key's flow waits.
-abbrev pub is_live : List Flow → RankView → Bool
-is_live flows k = has_packet (flow_at flows k.slot).backlog
-
--- A heap without the keys of flows that have no packet. Their places are room.
-abbrev pub live : List Flow → Heap RankView → Heap RankView
-live flows heap = record {
-  keys = filter (is_live flows) heap.keys;
-  room = heap.room + (length heap.keys - length (filter (is_live flows) heap.keys));
-  moves = heap.moves;
-}
-
--- The parts without the keys that discarded flows left.
-abbrev pub swept : SchedParts → SchedParts
-swept p = record p { eligible = live (flows_of p) p.eligible; waiting = live (flows_of p) p.waiting }
-
--- Between calls all is kept but for keys that discarded flows left, and there are none where the heaps aren't stale.
-pub record IsStaleKept (stale : Bool) (p : SchedParts) : Type 0 where
-  pub swept_kept : IsSchedKept (swept p)
-  pub fresh_kept : stale ≡ false → IsSchedKept p
+-- What holds between calls.
+pub record IsCalm (p : SchedParts) : Type 0 where
+  pub kept : IsSchedKept p
+  pub none_due : NoneDue p
 
 -- The head of the flow at a slot is in no heap yet.
 abbrev pub only_absent : ℕ → ℕ → ℕ

@@ -1,5 +1,6 @@
 pub mod Schedule
 pub mod Rank
+pub mod Dead
 pub mod Queue
 pub mod Kept
 pub mod Steps

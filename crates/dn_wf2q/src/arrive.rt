@@ -1,7 +1,7 @@
 ghost use Rattle.std.specs.Prelude.{◌≡◌, ◌<◌, ◌≤◌, ◌^◌, map};
 ghost use Rattle.dn_wf2q.specs.Schedule.{room_at};
 ghost use Rattle.dn_wf2q.specs.Queue.{places};
-ghost use Rattle.dn_wf2q.specs.Kept.{IsSchedKept, IsKeptWithout};
+ghost use Rattle.dn_wf2q.specs.Kept.{IsSchedKept, IsKeptWithout, NoneDue};
 ghost use Rattle.dn_wf2q.specs.Steps.{ArrivesAtSlot, OnlyHeaps};
 
 use crate::rank::Rank;
@@ -18,6 +18,7 @@ impl SchedParts {
         requires in_range { weight ≤ 100 }
         ensures arrived { ArrivesAtSlot slot len weight self.old self.new }
         ensures kept { IsSchedKept self.new }
+        ensures none_due { NoneDue self.old → NoneDue self.new }
     {
         self.arrivals += 1;
         let q = &mut self.flows[slot];
@@ -39,6 +40,7 @@ impl SchedParts {
         requires kept { IsKeptWithout slot head self.old }
         ensures same { OnlyHeaps self.old self.new }
         ensures kept { IsSchedKept self.new }
+        ensures none_due { NoneDue self.old → NoneDue self.new }
     {
         self.weights += head.weight as u128;
         if head.start_tag <= self.virtual_time {

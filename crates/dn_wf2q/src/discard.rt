@@ -1,17 +1,19 @@
-ghost use Rattle.dn_wf2q.specs.Kept.{IsStaleKept};
+ghost use Rattle.dn_wf2q.specs.Kept.{IsSchedKept, NoneDue};
 ghost use Rattle.dn_wf2q.specs.Steps.{DiscardsSlot};
 
+use crate::rank::Rank;
 use crate::sched_parts::SchedParts;
 
 impl SchedParts {
     /// Lets all packets of a slot go, and its last finish tag.
     ///
-    /// The key of its head stays in its heap, which is then stale: to look for it would cost a pass for each flow that is
-    /// discarded.
-    pub(crate) fn discard(&mut self, slot: usize, stale: &mut bool)
-        requires kept { IsStaleKept stale.old self.old }
+    /// Its head is in the eligible heap if its start tag is at most virtual time, since no head that is waits to be moved there.
+    pub(crate) fn discard(&mut self, slot: usize)
+        requires kept { IsSchedKept self.old }
+        requires none_due { NoneDue self.old }
         ensures discarded { DiscardsSlot slot self.old self.new }
-        ensures kept { IsStaleKept stale.new self.new }
+        ensures kept { IsSchedKept self.new }
+        ensures none_due { NoneDue self.new }
     {
         if self.flows.len() <= slot {
             return;
@@ -23,6 +25,10 @@ impl SchedParts {
             return;
         };
         self.weights -= head.weight as u128;
-        *stale = true;
+        if head.start_tag <= self.virtual_time {
+            self.eligible.take_out(Rank::new(head.finish_tag, slot));
+        } else {
+            self.waiting.take_out(Rank::new(head.start_tag, slot));
+        }
     }
 }

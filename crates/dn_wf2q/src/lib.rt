@@ -3,16 +3,17 @@
 
 mod arrive;
 mod behind;
+mod dead;
 mod discard;
 mod pass;
 mod pick;
 mod queued_packet;
 mod rank;
+mod rank_heap;
 mod reserve;
 mod scaled;
 mod sched;
 mod sched_parts;
-mod sweep;
 mod tagged_packet;
 mod tagged_queue;
 

@@ -1,7 +1,7 @@
 ghost use Rattle.std.specs.Prelude.{◌≡◌, ◌<◌, ◌≤◌, ◌^◌, map};
 ghost use Rattle.dn_wf2q.specs.Schedule.{IsIdle, room_at};
 ghost use Rattle.dn_wf2q.specs.Queue.{places};
-ghost use Rattle.dn_wf2q.specs.Kept.{IsSchedKept, flows_of};
+ghost use Rattle.dn_wf2q.specs.Kept.{IsSchedKept, NoneDue, flows_of};
 ghost use Rattle.dn_wf2q.specs.Steps.{PassesSlot};
 
 use crate::rank::Rank;
@@ -22,6 +22,7 @@ impl SchedParts {
         requires in_range { weight ≤ 100 }
         ensures passes { PassesSlot slot len weight self.old self.new }
         ensures kept { IsSchedKept self.new }
+        ensures none_due { NoneDue self.new }
     {
         let finish_tag = cost(len, weight) as u128;
         self.busy_from = self.arrivals;

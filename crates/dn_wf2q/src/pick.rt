@@ -1,9 +1,9 @@
-ghost use Rattle.std.specs.Prelude.{◌≡◌, ◌+◌, ◌<◌, All, IfSome, IfNone, None, ◌↔◌, true, false, length};
+ghost use Rattle.std.specs.Prelude.{◌≡◌, ◌+◌, IfSome, IfNone, None, ◌↔◌, true, false, length};
 ghost use Rattle.std.specs.List.{filter};
 ghost use Rattle.std.specs.Option.{option_map};
 ghost use Rattle.dn_types.specs.Wf2q.{first_to_go, is_eligible, pick, raised};
 ghost use Rattle.dn_wf2q.specs.Schedule.{IsIdle, heads_of};
-ghost use Rattle.dn_wf2q.specs.Kept.{IsSchedKept, flows_of};
+ghost use Rattle.dn_wf2q.specs.Kept.{IsSchedKept, NoneDue, flows_of};
 ghost use Rattle.dn_wf2q.specs.Steps.{OnlyHeaps, SendsHead};
 
 use crate::rank::Rank;
@@ -14,32 +14,49 @@ impl SchedParts {
     /// The slot whose head is sent next; that packet leaves.
     pub(crate) fn pick(&mut self) -> Option<usize>
         requires kept { IsSchedKept self.old }
+        requires none_due { NoneDue self.old }
         ensures picks { result ≡ option_map (λ h. h.flow) (pick self.old.virtual_time (heads_of (flows_of self.old))) }
         ensures some { IfSome (pick self.old.virtual_time (heads_of (flows_of self.old))) (λ h. SendsHead h (raised self.old.virtual_time (heads_of (flows_of self.old))) self.old self.new) }
         ensures idle { (result ≡ None) ↔ IsIdle (flows_of self.old) }
         ensures none { IfNone result (self.new ≡ self.old) }
         ensures kept { IsSchedKept self.new }
+        ensures none_due { NoneDue self.new }
     {
         if self.is_idle() {
             return None;
         }
-        self.raise();
+        self.make_eligible();
+        let slot = self.send();
         self.promote();
-        self.send()
+        slot
     }
 
-    /// Raises virtual time to the least start tag of the heads.
+    /// Raises virtual time so far that a head is eligible.
     ///
-    /// A head in the eligible heap has one that is low enough already.
+    /// If one is, that is in the eligible heap, and no head waits to be moved there.
+    fn make_eligible(&mut self)
+        requires kept { IsSchedKept self.old }
+        requires none_due { NoneDue self.old }
+        ensures same { OnlyHeaps (record self.old { virtual_time = raised self.old.virtual_time (heads_of (flows_of self.old)) }) self.new }
+        ensures kept { IsSchedKept self.new }
+        ensures none_due { NoneDue self.new }
+    {
+        if !self.eligible.is_empty() {
+            return;
+        }
+        self.raise();
+        self.promote();
+    }
+
+    /// Raises virtual time to the least start tag of the heads, if none is in the eligible heap.
     fn raise(&mut self)
         requires kept { IsSchedKept self.old }
+        requires none_eligible { length self.old.eligible.keys ≡ 0 }
         ensures virtual_time { self.new ≡ record self.old { virtual_time = raised self.old.virtual_time (heads_of (flows_of self.old)) } }
         ensures kept { IsSchedKept self.new }
     {
-        if self.eligible.is_empty() {
-            if let Some(top) = self.waiting.peek() {
-                self.virtual_time = self.virtual_time.max(top.tag());
-            }
+        if let Some(top) = self.waiting.peek() {
+            self.virtual_time = self.virtual_time.max(top.tag());
         }
     }
 
@@ -47,7 +64,7 @@ impl SchedParts {
     fn promote(&mut self)
         requires kept { IsSchedKept self.old }
         ensures same { OnlyHeaps self.old self.new }
-        ensures done { All (λ k. self.new.virtual_time < k.tag) self.new.waiting.keys }
+        ensures done { NoneDue self.new }
         ensures kept { IsSchedKept self.new }
     {
         while self.promote_one() {}
@@ -58,7 +75,7 @@ impl SchedParts {
         requires kept { IsSchedKept self.old }
         ensures same { OnlyHeaps self.old self.new }
         ensures fewer { result ≡ true → length self.new.waiting.keys + 1 ≡ length self.old.waiting.keys }
-        ensures done { result ≡ false → All (λ k. self.new.virtual_time < k.tag) self.new.waiting.keys }
+        ensures done { result ≡ false → NoneDue self.new }
         ensures kept { IsSchedKept self.new }
     {
         let Some(top) = self.waiting.peek() else {
@@ -78,7 +95,7 @@ impl SchedParts {
     /// Sends the head of the first eligible flow.
     fn send(&mut self) -> Option<usize>
         requires kept { IsSchedKept self.old }
-        requires promoted { All (λ k. self.old.virtual_time < k.tag) self.old.waiting.keys }
+        requires promoted { NoneDue self.old }
         ensures picks { result ≡ option_map (λ h. h.flow) (first_to_go (filter (is_eligible self.old.virtual_time) (heads_of (flows_of self.old)))) }
         ensures some { IfSome (first_to_go (filter (is_eligible self.old.virtual_time) (heads_of (flows_of self.old)))) (λ h. SendsHead h self.old.virtual_time self.old self.new) }
         ensures none { IfNone result (self.new ≡ self.old) }

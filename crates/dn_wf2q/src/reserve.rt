@@ -21,6 +21,7 @@ impl SchedParts {
         ensures err { OnErr result (flows_of self.new ≡ flows_of self.old) }
         ensures reserves { MakesRoom self.old self.new }
         ensures kept { IsSchedKept self.new }
+        ensures keeps_waiting { self.new.waiting.keys ≡ self.old.waiting.keys }
     {
         if slot < self.flows.len() {
             return self.flows[slot].reserve_place(alloc);
@@ -41,6 +42,7 @@ impl SchedParts {
         ensures err { OnErr result (flows_of self.new ≡ flows_of self.old) }
         ensures reserves { MakesRoom self.old self.new }
         ensures kept { IsSchedKept self.new }
+        ensures keeps_waiting { self.new.waiting.keys ≡ self.old.waiting.keys }
     {
         // A key of the heaps has no room for a slot beyond these.
         if slot >= SLOTS {
@@ -50,8 +52,8 @@ impl SchedParts {
         self.flows.reserve(flows - self.flows.len())?;
         // Each heap has a place for every flow. What an earlier call got before it was refused
         // counts too, so that refusals don't add up.
-        self.eligible.reserve(flows - self.eligible.len())?;
-        self.waiting.reserve(flows - self.waiting.len())?;
+        self.eligible.reserve_places(flows)?;
+        self.waiting.reserve_places(flows)?;
         add_queues(&mut self.flows, slot);
         Ok(())
     }

@@ -3,8 +3,8 @@ ghost use Rattle.std.specs.Option.{option_map};
 ghost use Rattle.dn_types.specs.Wf2q.{pick};
 ghost use Rattle.dn_wf2q.specs.Schedule.{Passes, Picks, KeepsCounts, KeepsRoom, IsIdle, after_arrival, after_discard, flow_at, forgotten, heads_of, padded, room_at, waiting_of};
 
+use crate::rank_heap::RankHeap;
 use crate::sched_parts::SchedParts;
-use dn_heap::MinHeap;
 use dn_types::{Len, Weight};
 use std::alloc::{AllocError, Global};
 use std::marker::Model;
@@ -14,7 +14,7 @@ use std::marker::Model;
 /// Tags and virtual time are in units of 1/65536 byte per weight.
 ///
 /// A flow is named by its *slot*, its place among the flows of this link. The queues stand in one
-/// vector by slot, so the highest slot that was reserved decides the memory: about 96 bytes for
+/// vector by slot, so the highest slot that was reserved decides the memory: about 150 bytes for
 /// each slot up to it, and a block of 56 bytes or more for each flow that had room behind a packet
 /// (4 bytes for each packet beyond four). Number the flows of a link 0, 1, 2, .. as they are first
 /// seen. Ties between finish tags go to the lower slot.
@@ -24,22 +24,18 @@ use std::marker::Model;
 #[derive(Drop)]
 pub struct Sched {
     parts: SchedParts,
-    /// Whether a flow was discarded since the heaps were swept.
-    ///
-    /// Then they may hold keys of flows without a packet.
-    stale: bool,
     alloc: Global,
 }
 
 impl Model for Sched {
     ghost use Rattle.dn_wf2q.specs.Schedule.{Schedule};
-    ghost use Rattle.dn_wf2q.specs.Kept.{IsStaleKept, schedule_of};
+    ghost use Rattle.dn_wf2q.specs.Kept.{IsCalm, schedule_of};
 
     ghost Value = { Schedule };
 
     ghost view = { λ s. schedule_of s.parts };
 
-    ghost invariant = { λ s. IsStaleKept s.stale s.parts };
+    ghost invariant = { λ s. IsCalm s.parts };
 }
 
 impl Sched {
@@ -50,15 +46,14 @@ impl Sched {
         Sched {
             parts: SchedParts {
                 flows: Vec::new(alloc),
-                eligible: MinHeap::new(alloc),
-                waiting: MinHeap::new(alloc),
+                eligible: RankHeap::new(alloc),
+                waiting: RankHeap::new(alloc),
                 virtual_time: 0,
                 weights: 0,
                 busy_from: 0,
                 arrivals: 0,
                 picks: 0,
             },
-            stale: false,
             alloc,
         }
     }
@@ -81,7 +76,6 @@ impl Sched {
         ensures keeps_room { self.new.room ≡ self.old.room }
         ensures keeps_counts { KeepsCounts self.old self.new }
     {
-        self.parts.refresh(&mut self.stale);
         self.parts.begin_busy()
     }
 
@@ -99,7 +93,6 @@ impl Sched {
         ensures keeps_counts { KeepsCounts self.old self.new }
         ensures err { OnErr result (self.new.flows ≡ self.old.flows) }
     {
-        self.parts.refresh(&mut self.stale);
         self.parts.reserve_flow(self.alloc, slot)
     }
 
@@ -114,7 +107,6 @@ impl Sched {
         ensures keeps_picks { self.new.picks ≡ self.old.picks }
         ensures keeps_room { (other : ℕ) → (other ≡ slot → ⊥) → room_at self.old.room other ≤ room_at self.new.room other }
     {
-        self.parts.refresh(&mut self.stale);
         self.parts.arrive(slot, len.get(), weight.get())
     }
 
@@ -128,7 +120,6 @@ impl Sched {
         ensures passes { Passes slot len weight self.old self.new }
         ensures keeps_room { KeepsRoom self.old self.new }
     {
-        self.parts.refresh(&mut self.stale);
         self.parts.pass(slot, len.get(), weight.get())
     }
 
@@ -141,14 +132,13 @@ impl Sched {
         ensures idle { (result ≡ None) ↔ IsIdle self.old.flows }
         ensures none { IfNone result (self.new ≡ self.old) }
     {
-        self.parts.refresh(&mut self.stale);
         self.parts.pick()
     }
 
     /// Lets all packets of a slot go, and its last finish tag with them.
     ///
-    /// Virtual time and the tags of the other flows stay. It looks at no other flow: the next call that needs the heaps
-    /// sweeps them, in one pass for all flows that were discarded before it.
+    /// Virtual time and the tags of the other flows stay. It looks at no other flow. The head's key goes at once, or stays in
+    /// its heap, dead, until it comes to the top.
     pub fn discard(&mut self, slot: usize)
         ensures flows { self.new.flows ≡ after_discard self.old.flows slot }
         ensures fewer { waiting_of self.new.flows + length (flow_at self.old.flows slot).backlog ≡ waiting_of self.old.flows }
@@ -156,7 +146,7 @@ impl Sched {
         ensures keeps_room { KeepsRoom self.old self.new }
         ensures keeps_counts { KeepsCounts self.old self.new }
     {
-        self.parts.discard(slot, &mut self.stale)
+        self.parts.discard(slot)
     }
 
     /// Virtual time: the progress of an ideal link that serves all backlogged flows at once.

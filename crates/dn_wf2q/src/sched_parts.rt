@@ -1,11 +1,10 @@
 ghost use Rattle.std.specs.Prelude.{◌≡◌, ◌+◌, ◌*◌, ◌≤◌, ◌↔◌, IsTrue};
 ghost use Rattle.dn_wf2q.specs.Schedule.{IsIdle};
-ghost use Rattle.dn_wf2q.specs.Kept.{IsSchedKept, flows_of, swept};
+ghost use Rattle.dn_wf2q.specs.Kept.{IsSchedKept, NoneDue, flows_of};
 ghost use Rattle.dn_wf2q.specs.Steps.{Begins};
 
-use crate::rank::Rank;
+use crate::rank_heap::RankHeap;
 use crate::tagged_queue::TaggedQueue;
-use dn_heap::MinHeap;
 
 /// What a scheduler is made of.
 ///
@@ -14,8 +13,8 @@ use dn_heap::MinHeap;
 #[derive(Drop)]
 pub(crate) struct SchedParts {
     pub(crate) flows: Vec<TaggedQueue>,
-    pub(crate) eligible: MinHeap<Rank>,
-    pub(crate) waiting: MinHeap<Rank>,
+    pub(crate) eligible: RankHeap,
+    pub(crate) waiting: RankHeap,
     pub(crate) virtual_time: u128,
     /// The sum of the heads' weights.
     pub(crate) weights: u128,
@@ -28,14 +27,14 @@ pub(crate) struct SchedParts {
 impl SchedParts {
     /// Whether no packet waits. A head weighs at least 1.
     pub(crate) fn is_idle(&self) -> bool
-        requires kept { IsSchedKept (swept self.now) }
+        requires kept { IsSchedKept self.now }
         ensures idle { IsTrue result ↔ IsIdle (flows_of self.now) }
     {
         self.weights == 0
     }
 
     pub(crate) fn moves(&self) -> u64
-        requires kept { IsSchedKept (swept self.now) }
+        requires kept { IsSchedKept self.now }
         ensures value { result ≡ self.now.eligible.moves + self.now.waiting.moves }
         ensures least { self.now.picks ≤ result }
         ensures most { result ≤ 2 * self.now.arrivals }
@@ -48,6 +47,7 @@ impl SchedParts {
         requires idle { IsIdle (flows_of self.old) }
         ensures begun { Begins self.old self.new }
         ensures kept { IsSchedKept self.new }
+        ensures none_due { NoneDue self.new }
     {
         self.virtual_time = 0;
         self.busy_from = self.arrivals;

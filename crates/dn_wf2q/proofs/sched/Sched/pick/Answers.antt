@@ -1,5 +1,4 @@
-use Rattle.dn_wf2q.proofs.Swept.{fresh}
 use Rattle.dn_wf2q.proofs.sched.Sched.pick.Goals as goal
 
 pub invariant_of-self : goal.invariant_of-self
-invariant_of-self c = fresh c.refresh.new.stale c.pick.new.self c.pick.ensures.kept
+invariant_of-self c = record { kept = c.pick.ensures.kept; none_due = c.pick.ensures.none_due }

@@ -46,3 +46,6 @@ returns-in_default-clause-kept c =
     c.requires.room c.index_mut-q.result.now c.index_mut-q.ensures.value c.append-head.new.self c.append-head.ensures.packets
     c.append-head.ensures.last_finish_tag c.append-head.ensures.arrived c.append-head.ensures.kept c.requires.few
     (sym c.append-head.ensures.head ∙ c.in_default.is)
+
+pub returns-in-Some-clause-none_due : goal.returns-in-Some-clause-none_due
+returns-in-Some-clause-none_due c = c.enter.ensures.none_due

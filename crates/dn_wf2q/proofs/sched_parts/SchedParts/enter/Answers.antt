@@ -1,4 +1,4 @@
-use Rattle.std.proofs.Common.{ap, arith}
+use Rattle.std.proofs.Common.{◌<◌, ap, arith}
 use Rattle.std.proofs.lemmas.Bool.Decides.{nat_tests}
 use Rattle.dn_wf2q.specs.Rank.{RankView}
 use Rattle.dn_wf2q.specs.Kept.{seen, tagged}
@@ -6,6 +6,7 @@ use Rattle.dn_wf2q.proofs.BySlot.{length-by_slot}
 use Rattle.dn_wf2q.proofs.Payable.{head_fits}
 use Rattle.dn_wf2q.proofs.Steps.{weights-le}
 use Rattle.dn_wf2q.proofs.Entered.{enter_room, entered_waiting, entered_eligible}
+use Rattle.dn_wf2q.proofs.Calm.{entered_late}
 use Rattle.dn_wf2q.proofs.sched_parts.SchedParts.enter.Goals as goal
 
 -- At most 100 for each flow, of which there are fewer than 2^63.
@@ -65,3 +66,11 @@ returns-else-head-self-clause-kept c = record {
   queues = c.requires.kept.0.queues;
   slots = c.requires.kept.0.slots;
 }
+
+-- A head that waits is not eligible.
+pub returns-else-head-self-clause-none_due : goal.returns-else-head-self-clause-none_due
+returns-else-head-self-clause-none_due c = λ before.
+    let tag = ap (λ (r : RankView). r.tag) c.new-else-head-self.ensures.value in
+    let late : c.args.self.now.virtual_time < c.args.head.start_tag = grind (arith, nat_tests) in
+    entered_late c.args.self.now.virtual_time c.new-else-head-self.result c.args.self.now.waiting.keys c.push_reserved-else-head-self.new.self.keys
+    c.push_reserved-else-head-self.ensures.keys (omega arith) before

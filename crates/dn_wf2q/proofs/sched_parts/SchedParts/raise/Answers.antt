@@ -1,15 +1,14 @@
-use Rattle.std.proofs.Common.{◌≡◌, ◌<◌, length, arith, refl}
-use Rattle.std.proofs.lemmas.Bool.Decides.{nat_tests}
+use Rattle.std.proofs.Common.{length, arith, refl}
 use Rattle.dn_wf2q.proofs.Ranks.{zero_from_none}
 use Rattle.dn_wf2q.proofs.Counts.{heads_of_idle, no_heads_idle}
-use Rattle.dn_wf2q.proofs.Steps.{later_kept, raised_by_top, raised_ready, top_within}
+use Rattle.dn_wf2q.proofs.Steps.{later_kept, raised_by_top, top_within}
 use Rattle.dn_wf2q.specs.Kept.{flows_of}
 use Rattle.dn_wf2q.proofs.sched_parts.SchedParts.raise.Goals as goal
 
 -- Virtual time is raised to the least start tag.
 pub returns-in-Some-clause-virtual_time : goal.returns-in-Some-clause-virtual_time
 returns-in-Some-clause-virtual_time c =
-    let e : length c.args.self.now.eligible.keys ≡ 0 = grind (arith, nat_tests) in
+    let e = c.requires.none_eligible in
     let h = raised_by_top c.requires.kept.kept c.in-Some.top.now e c.in-Some.ensures.held c.in-Some.ensures.least in
     rw (c.max-self.ensures, h, c.tag.ensures.value) refl
 
@@ -25,14 +24,8 @@ returns-in-Some-clause-kept c =
 -- There is no head.
 pub returns-in_default-clause-virtual_time : goal.returns-in_default-clause-virtual_time
 returns-in_default-clause-virtual_time c =
-    let e : length c.args.self.now.eligible.keys ≡ 0 = grind (arith, nat_tests) in
+    let e = c.requires.none_eligible in
     let w = zero_from_none (length c.args.self.now.waiting.keys) c.in_default.ensures.some.1 in
     let n = c.requires.kept.kept.counted in
     let i = heads_of_idle (flows_of c.args.self.now) (no_heads_idle (flows_of c.args.self.now) (omega arith)) in
     rw i refl
-
--- Some head is eligible already.
-pub returns-else-is_empty-clause-virtual_time : goal.returns-else-is_empty-clause-virtual_time
-returns-else-is_empty-clause-virtual_time c =
-    let e : 0 < length c.args.self.now.eligible.keys = grind (arith, nat_tests) in
-    rw (raised_ready c.requires.kept.kept e) refl
