@@ -44,14 +44,14 @@ CONTROLS = {
     "dn_heap/pop_keeps_its_room": [("self.room = room;", "self.room = self.room;")],
     "dn_heap/reserves_without_the_keys_of_the_heap": [(".min(n))", ".max(n))")],
     "dn_files/row_read_twice": [("self.start = start;", "let _ = start;")],
-    "dn_wf2q/empty_heaps": [("self.arrivals", "self.eligible.moves() + self.waiting.moves()"), ("self.eligible.pop()", "self.eligible.len()"),
-                            ("self.waiting.pop()", "self.waiting.len()")],
-    "dn_wf2q/left_in_waiting_heap": [("self.waiting.push_reserved(first);", "let _ = self.waiting.len();")],
+    "dn_wf2q/empty_heaps": [("self.arrivals", "self.eligible.moves() + self.waiting.moves()"), ("self.eligible.pop()", "self.eligible.moves()"),
+                            ("self.waiting.pop()", "self.waiting.moves()")],
+    "dn_wf2q/left_in_waiting_heap": [("self.waiting.push_reserved(first);", "let _ = self.waiting.moves();")],
     "dn_wf2q/picks_ineligible": [("top.tag() * 0", "top.tag() * 1")],
     "dn_wf2q/ties_by_arrival": [(".then(self.entered.cmp(&other.entered))", ".then(self.slot().cmp(&other.slot()))")],
     "dn_wf2q/weight_at_the_pick": [("self.behind.in_force.max(next.weight.min(0))", "next.weight.max(self.behind.in_force.min(0))")],
     "dn_wf2q/without_the_least_key": [
-        ("use dn_heap::MinHeap;", IS_LEAST + "ghost use Rattle.dn_wf2q.specs.Rank.{rank_cmp}; use dn_heap::MinHeap;"),
+        ("use crate::rank_heap::RankHeap;", IS_LEAST + "ghost use Rattle.dn_wf2q.specs.Rank.{rank_cmp}; use crate::rank_heap::RankHeap;"),
         ("ensures keys {", LEAST % "rank_cmp")],
     "dn_link/without_the_least_key": [
         ("trait Pops", IS_LEAST + "ghost use Rattle.dn_types.specs.Deliveries.{delivery_cmp}; trait Pops"),
