@@ -9,3 +9,4 @@ pub mod Splitting
 pub mod Taking
 pub mod Tokens
 pub mod Views
+pub mod Waking

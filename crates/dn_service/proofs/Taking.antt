@@ -41,7 +41,7 @@ same_past t a b p q = ap (λ o. some_is o a) (sym p ∙ q)
 pub same_shed : (t : Option (List Entry)) (a b : List Entry) → t ≡ Some a → t ≡ Some b → a ≡ b
 same_shed t a b p q = ap (λ o. some_is o a) (sym p ∙ q)
 
-updated_some : (history : List Entry) (xs : List Account) → 0 < length (map (up_to_date history) xs) → 0 < length xs
+pub updated_some : (history : List Entry) (xs : List Account) → 0 < length (map (up_to_date history) xs) → 0 < length xs
 updated_some history [] l = l
 updated_some history (x ∷ xs) l = omega arith
 
@@ -74,7 +74,7 @@ module _ (n : ℕ) where
       (λ i. (sym (set-get_or s.words 0 0) i, sym (set_again s.views id v at) i)) r
 
   -- the seat that took the book is the one of which the word tells
-  has_book : (s : TableState) (r : SeatRule n s) (id : ℕ) (v : SeatView) (past : Past) → get_elem? s.views id ≡ some v → v.taken ≡ Some past
+  pub has_book : (s : TableState) (r : SeatRule n s) (id : ℕ) (v : SeatView) (past : Past) → get_elem? s.views id ≡ some v → v.taken ≡ Some past
       → (k : ℕ) × (get_or s.words 0 0 ≡ k + 1) × (r.seat_of k ≡ id) × (r.past ≡ past)
   has_book s r id v past at took = let x : ℕ = get_or s.words 0 0 in let f = r.seats id v at in dite (ℕ_discrete x 0)
       (λ z. let e = f.free z in absurd (cc))
@@ -88,7 +88,7 @@ module _ (n : ℕ) where
       → Each (Sits n later seat_of seat) xs
   sits_on history later seat_of seat xs f h = each_map xs (λ x t. record { below = t.below; seated = t.seated; follows = f x t.seated t.follows }) h
 
-  updated_sit : (was history : List Entry) (seat_of : ℕ → ℕ) (id : ℕ) (xs : List Account) → Each (Sits n was seat_of id) xs → Each (Sits n history seat_of id) (map (up_to_date history) xs)
+  pub updated_sit : (was history : List Entry) (seat_of : ℕ → ℕ) (id : ℕ) (xs : List Account) → Each (Sits n was seat_of id) xs → Each (Sits n history seat_of id) (map (up_to_date history) xs)
   updated_sit was history seat_of id [] h = tt
   updated_sit was history seat_of id (x ∷ xs) h = (record { below = h.0.below; seated = h.0.seated; follows = record { front = starts_all history; own = refl } }, updated_sit was history seat_of id xs h.1)
 

@@ -7,3 +7,4 @@ pub mod Rule
 pub mod Seats
 pub mod Steps
 pub mod Tokens
+pub mod Wakes

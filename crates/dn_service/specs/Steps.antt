@@ -23,6 +23,10 @@ tried st m found m' =
 abbrev pub returned : Step Slot → SeatState → ℕ → SeatState → Type 0
 returned st m found m' = m' ≡ (with_taken m.0 None, rest m.1)
 
+-- The word was given back, with the past as it was taken, which the seat's callers have now seen.
+abbrev pub read : Step Slot → SeatState → ℕ → SeatState → Type 0
+read st m found m' = (was : Past) → m.0.taken ≡ Some was → m' ≡ (with_history m.0 was.history, rest m.1)
+
 -- The word was given back, and the book in hand had these entries beside those that were taken out.
 abbrev pub published : Step Slot → SeatState → ℕ → SeatState → Type 0
 published st m found m' = (was : Past) (book : BookView) → m.0.taken ≡ Some was → m.1 ≡ (0, Some book) ∷ [] → m' ≡ (with_history m.0 (was.shed ++ book.kept), [])

@@ -1,6 +1,7 @@
 ghost use Rattle.std.specs.Prelude.{◌≡◌, ◌+◌, [], length, IfOk, OnErr};
 ghost use Rattle.dn_service.specs.Histories.{entry_of};
 ghost use Rattle.dn_service.specs.Pasts.{Past, Keeps, IsCount, no_past, with_entry};
+ghost use Rattle.dn_service.specs.Wakes.{IsWakeOf};
 
 use crate::room::Room;
 use dn_shaper::{HashKey, Shaper};
@@ -98,6 +99,13 @@ impl Book {
         ensures { IsCount (self.now.gone + length self.now.kept) result }
     {
         count_on(self.pages.gone, self.pages.history.len())
+    }
+
+    /// The moment of the next event of the shaper, as `Shaper::wake` reports it.
+    pub(crate) fn wake(&self) -> Option<u64>
+        ensures { (past : Past) → Keeps past self.now → IsWakeOf past.history result }
+    {
+        self.pages.shaper.wake()
     }
 
     pub(crate) fn into_history(self) -> Vec<Entry>

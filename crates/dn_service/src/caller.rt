@@ -1,6 +1,7 @@
 ghost use Rattle.std.specs.Prelude.{◌≡◌, ◌≢◌, ◌<◌, ◌≤◌, ◌+◌, ◌^◌, [], length, IfOk, IfErr, OnErr};
 
 mod tries;
+mod wakes;
 
 use crate::after_fault::AfterFault;
 use crate::desk::Desk;

@@ -8,7 +8,7 @@ ghost use Rattle.dn_service.specs.Steps.{Won};
 use crate::book::Book;
 use crate::desk::Desk;
 use crate::rule::{BookSeat, BookTable};
-use crate::steps::{Empty, Publish, Return, Try};
+use crate::steps::{Empty, Publish, Read, Return, Try};
 
 /// Takes the book out of the slot, which the seat has in hand.
 fn take_out(table: &BookTable, seat: &mut BookSeat) -> Book
@@ -61,6 +61,18 @@ pub(crate) fn give_back(desk: &Desk, seat: &mut BookSeat, book: Book)
 {
     put_in(&desk.table, seat, book);
     desk.table.shared.store::<Return>(seat, 0, 0);
+}
+
+/// Gives the book back as it was taken. The callers of this seat have now seen all entries.
+pub(crate) fn give_back_read(desk: &Desk, seat: &mut BookSeat, book: Book)
+    requires table { (seat.old.table_id ≡ desk.now.table.shared.table_id) × (seat.old.table_id.words ≡ 1) }
+    requires seat { seat.old.me.1 ≡ (0, None) ∷ [] }
+    requires book { (was : Past) × (seat.old.me.0.taken ≡ Some was) × Keeps was book }
+    ensures table { (seat.new.table_id ≡ seat.old.table_id) × (seat.new.id ≡ seat.old.id) }
+    ensures seat { (was : Past) → seat.old.me.0.taken ≡ Some was → seat.new.me ≡ (with_history seat.old.me.0 was.history, []) }
+{
+    put_in(&desk.table, seat, book);
+    desk.table.shared.store::<Read>(seat, 0, 0);
 }
 
 /// Gives the book back with one entry more, of a caller of this seat. Here the call happens, for all callers.

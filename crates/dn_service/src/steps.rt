@@ -21,6 +21,15 @@ impl Play<Option<Book>, View> for Return {
     ghost then = { returned };
 }
 
+/// The word becomes 0 again, with no entry more, and the seat's callers have seen all entries.
+pub(crate) struct Read;
+
+impl Play<Option<Book>, View> for Read {
+    ghost use Rattle.dn_service.specs.Steps.{read};
+
+    ghost then = { read };
+}
+
 /// The word becomes 0 again, with one entry more.
 pub(crate) struct Publish;
 
