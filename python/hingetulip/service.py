@@ -2,7 +2,7 @@
 
 from __future__ import annotations
 
-from ctypes import CDLL, byref, c_char, c_size_t, c_uint32, c_uint64, sizeof
+from ctypes import CDLL, Array, byref, c_char, c_size_t, c_uint32, c_uint64, sizeof
 from os import PathLike, urandom
 from random import Random
 from struct import error as StructError
@@ -13,14 +13,15 @@ from typing import Any, BinaryIO, Callable, NoReturn, Optional, Union
 
 from hingetulip.batches import QUEUED, make_fate, read_fate
 from hingetulip.errors import HingetulipError, LineError
-from hingetulip.layout import DELIVERY, FATE, FAULT, PACKET
-from hingetulip.library import FAULT_KINDS, LIBRARY, LINE, ROOM, Handle, failure
-from hingetulip.records import Delivery, Fate
-from hingetulip.shaper import NEITHER_OR_BOTH, SECRET, pack_moment, unpackable
+from hingetulip.layout import DELIVERY, FATE, FAULT, FLOW, PACKET, Layout
+from hingetulip.library import FAULT_KINDS, LIBRARY, LINE, NEVER, ROOM, Handle, failure
+from hingetulip.records import Delivery, Fate, FlowStatus
+from hingetulip.shaper import NEITHER_OR_BOTH, NOTHING, SECRET, pack_moment, read_flow, unpackable
 
 BUSY, NO_ENTRY = 15, 18
 FUNCTIONS = ("dn_service_open", "dn_service_open_with_key", "dn_service_close", "dn_caller_close", "dn_caller_configure", "dn_caller_submit",
-             "dn_caller_advance", "dn_caller_collect", "dn_caller_deliveries", "dn_service_take", "dn_service_text")
+             "dn_caller_advance", "dn_caller_collect", "dn_caller_deliveries", "dn_caller_show", "dn_caller_flows", "dn_caller_wake",
+             "dn_service_take", "dn_service_text")
 FRONT, END = b"dummynet-history,3\n", b"end,%d\n"
 FIRST_ROOM = 4096
 
@@ -105,12 +106,31 @@ class Caller:
         with self._lock:
             self._set_moment(moment)
             succeed(answered(self._calls.dn_caller_collect, self._self, self._moment, byref(self._number), self._holder))
-            room = self._number.value
-            if room == 0:
-                return []
-            records = (c_char * (DELIVERY.size * room))()
-            succeed(self._calls.dn_caller_deliveries(self._self, c_size_t(0), byref(records), c_size_t(room), byref(self._number)))
-            return list(map(Delivery._make, DELIVERY.record.iter_unpack(records)))
+            return list(map(Delivery._make, DELIVERY.record.iter_unpack(self._kept(self._calls.dn_caller_deliveries, DELIVERY))))
+
+    def show(self) -> list[FlowStatus]:
+        """The state of all flows, in the order of their numbers."""
+        with self._lock:
+            succeed(answered(self._calls.dn_caller_show, self._self, byref(self._number), self._holder))
+            return [read_flow(*fields) for fields in FLOW.record.iter_unpack(self._kept(self._calls.dn_caller_flows, FLOW))]
+
+    def wake(self) -> Optional[int]:
+        """When to collect, as Shaper.wake returns it, after all calls of all callers so far.
+
+        Another caller's call can come before this caller's next one. It is no call of the history, and changes nothing.
+        """
+        with self._lock:
+            succeed(answered(self._calls.dn_caller_wake, self._self, byref(self._number), self._holder))
+            return None if self._number.value == NEVER else self._number.value
+
+    def _kept(self, listed: Callable[..., int], layout: Layout) -> Union[Array[c_char], memoryview]:
+        """The records that the last call has left with the caller, as many as it counted."""
+        room = self._number.value
+        if room == 0:
+            return NOTHING
+        records = (c_char * (layout.size * room))()
+        succeed(listed(self._self, c_size_t(0), byref(records), c_size_t(room), byref(self._number)))
+        return records
 
     def _set_moment(self, moment: int) -> None:
         try:

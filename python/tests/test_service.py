@@ -12,7 +12,7 @@ from random import Random
 from tempfile import TemporaryDirectory
 
 import hingetulip
-from hingetulip import ClosedError, Delivery, Fate, LineError, Outcome, RangeError, RefusedError, Service, service
+from hingetulip import ClosedError, Delivery, Fate, FlowStatus, LineError, Outcome, RangeError, RefusedError, Service, Shaper, service
 
 TOP = Path(__file__).resolve().parents[2]
 HEADER = TOP / "crates" / "hingetulip_c" / "include" / "hingetulip_service.h"
@@ -42,6 +42,26 @@ class OneCaller(unittest.TestCase):
         self.assertEqual([], self.caller.collect(21 * MS))
         self.assertEqual([Delivery(21 * MS + 5, 0, 0, 5), Delivery(22 * MS + 5, 1, 0, MS + 5)], self.caller.collect(30 * MS))
 
+    def test_show(self) -> None:
+        self.assertEqual([], self.caller.show())
+        self.caller.configure("queue 3 config pipe 1 mask src-ip 0xff")
+        for _ in range(3):
+            self.caller.submit(0, 1000, queue=3, src=0x0A000001)
+        self.caller.submit(0, 500, pipe=1)
+        self.assertEqual([FlowStatus(0, 3, 1, 1, 0, 0, 0, 0, 2, 2000, 0, 0, 1, 0), FlowStatus(1, None, 1, 0, 0, 0, 0, 0, 0, 0, 0, 0, 1, 0)],
+                         self.caller.show())
+
+    def test_wake(self) -> None:
+        self.assertIsNone(self.caller.wake())
+        for _ in range(2):
+            self.caller.submit(0, 1000, pipe=1)
+        self.assertEqual(MS, self.caller.wake())
+        self.assertEqual([], self.caller.collect(MS))
+        self.assertEqual([21 * MS, 21 * MS], [self.caller.wake(), self.caller.wake()])
+        self.assertEqual(2, len(self.caller.collect(2**62)))
+        self.assertIsNone(self.caller.wake())
+        self.assertEqual(5, self.service.take())
+
     def test_refusals(self) -> None:
         with self.assertRaises(LineError) as raised:
             self.caller.configure("pipe 1 config bw 8Mbps")
@@ -54,7 +74,8 @@ class OneCaller(unittest.TestCase):
         self.assertRaises(TypeError, lambda: self.caller.submit(0, 1))
         self.service.close()
         self.service.close()
-        for call in (lambda: self.caller.advance(0), lambda: self.caller.configure(LINE), lambda: self.caller.collect(0), self.service.take):
+        for call in (lambda: self.caller.advance(0), lambda: self.caller.configure(LINE), lambda: self.caller.collect(0), self.caller.show,
+                     self.caller.wake, self.service.take):
             self.assertRaises(ClosedError, call)
 
     def test_history(self) -> None:
@@ -79,6 +100,26 @@ class OneCaller(unittest.TestCase):
             self.service._text = (service.c_char * 16)()
             self.service.close()
             self.assertEqual(45, path.read_text().count("\nd,"))
+
+
+class AsOneShaper(unittest.TestCase):
+    def test_two_callers_by_turns(self) -> None:
+        rng = Random(1)
+        lines = ("pipe 1 config bw 8Mbit/s delay 20ms queue 5 mask src-ip 3", "pipe 2 config bw 1Mbit/s delay 3ms",
+                 "queue 1 config pipe 2 weight 3 mask dst-port 1")
+        with Service(2) as opened, Shaper() as shaper:
+            for line in lines:
+                opened.callers[0].configure(line)
+                shaper.configure(line)
+            for turn in range(600):
+                caller, moment = rng.choice(opened.callers), turn * MS // 2
+                packet = dict(rng.choice(({"pipe": 1}, {"queue": 1})), src=rng.randrange(4), dport=rng.randrange(2), word=0)
+                self.assertEqual(shaper.submit(moment, 1000, **packet), caller.submit(moment, 1000, **packet))
+                self.assertEqual(shaper.wake(), rng.choice(opened.callers).wake())
+                if turn % 7 == 0:
+                    self.assertEqual(shaper.show(), caller.show())
+                if turn % 5 == 0:
+                    self.assertEqual(shaper.collect(moment), caller.collect(moment))
 
 
 class Counts(unittest.TestCase):
@@ -106,7 +147,12 @@ def work(shared: Service, number: int) -> int:
     caller, rng = shared.callers[number // 2], Random(number)
     under_way = 0
     for turn in range(CALLS):
-        if rng.random() < 0.7:
+        chosen = rng.random()
+        if chosen < 0.1:
+            caller.wake()
+            shown = caller.show()
+            assert [flow.flow for flow in shown] == list(range(len(shown)))
+        elif chosen < 0.7:
             under_way += caller.submit(turn * MS, rng.randint(1, 1500), pipe=rng.randint(1, 2)).outcome is Outcome.QUEUED
         else:
             under_way -= len(caller.collect(turn * MS))

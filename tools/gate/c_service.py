@@ -6,7 +6,7 @@ It takes the library of the present sources, as tools/library finds it. Each run
 sanitizers for addresses and undefined behaviour, and with the one for threads. The latter sees the program and the header alone: the
 shared library isn't made for it, and orders its threads by atomics that it doesn't see. The history has to be lawful, and each
 caller's entries have to be as many, and of the kinds, as its thread was told. Then each growth of memory is refused, and arguments of
-every kind are tried.
+every kind are tried. At last C and Python make ten times as many calls in the same memory, since entries are taken out meanwhile.
 """
 
 from __future__ import annotations
@@ -24,10 +24,12 @@ from link_library import SHARED
 from tally import Tally
 
 MOST_CALLERS = 15
+FEW, MANY = 100_000, 1_000_000  # calls
+MOST_GROWN = 3 * 1024  # KiB
 COMMON = ["-std=c99", "-g", "-O1", "-Wall", "-Wextra", "-Werror", "-fno-sanitize-recover=all", "-pthread"]
 KINDS = {"queued": "queued", "lost": "lost", "full": "full", "no-target": "without target", "no-such-pipe": "refused", "pipe-has-queues": "refused",
          "no-such-queue": "refused"}
-TOLD = ("calls", "queued", "lost", "full", "without target", "delivered", "refused")
+TOLD = ("calls", "queued", "lost", "full", "without target", "delivered", "refused", "shown")
 
 
 def threads(place: Path, name: str, sanitizer: str, *linked: str | Path) -> Path:
@@ -47,6 +49,8 @@ def told_by(history: str) -> dict[int, Counter[str]]:
             counts.setdefault(caller, Counter())["calls"] += 1
         elif fields[0] == "r" and fields[1] == "delivered":
             counts[caller]["delivered"] += int(fields[3])
+        elif fields[0] == "r" and fields[1] == "status":
+            counts[caller]["shown"] += int(fields[2])
         elif fields[0] == "r" and fields[1] in KINDS:
             counts[caller][KINDS[fields[1]]] += 1
     return counts
@@ -70,6 +74,19 @@ def tried(tally: Tally, name: str, made: Path, place: Path, audit: str, calls: l
     return entries
 
 
+def flat(tally: Tally, name: str, words: list[str | Path], history: Path, audit: str, **more: str) -> None:
+    """A program that makes calls and takes their entries out, and prints the most memory that it had: it grows with the calls by nothing."""
+    peaks = []
+    for calls in (FEW, MANY):
+        done = subprocess.run([*words, history, str(calls)], env={**os.environ, **more}, stdout=subprocess.PIPE, stderr=subprocess.STDOUT, text=True)
+        tally.note(f"{name}: {calls} calls", "" if done.returncode == 0 and done.stdout.strip().isdigit() else done.stdout)
+        peaks.append(int(done.stdout) if done.stdout.strip().isdigit() else 0)
+    judged = subprocess.run([audit, "audit", history], stdout=subprocess.PIPE, stderr=subprocess.STDOUT, text=True)
+    tally.equal(f"{name}: the audit", f"lawful {MANY + 1}", judged.stdout.strip())
+    tally.note(f"{name}: memory", "" if peaks[1] - peaks[0] <= MOST_GROWN else f"grew from {peaks[0]} to {peaks[1]} KiB")
+    print(f"memory from {name}: {peaks[0]} KiB for {FEW} calls, {peaks[1]} KiB for {MANY}")
+
+
 def main(audit: str, seed: str, count: str) -> int:
     tally, rng, entries = Tally(), Random(int(seed)), 0
     static = library()
@@ -83,9 +100,14 @@ def main(audit: str, seed: str, count: str) -> int:
         for number in range(int(count)):
             calls = [place / f"calls{thread}" for thread in range(rng.randint(1, MOST_CALLERS))]
             for one in calls:
-                one.write_text("".join(f"{line}\n" for line in scenario(rng) if line[0] in "fpac"))
+                one.write_text("".join(f"{line}\n" for line in scenario(rng) if line[0] in "fpacs"))
             for name, made in programs.items():
                 entries += tried(tally, f"run {number}, {name}", made, place, audit, calls)
+        made = place / "service_memory"
+        subprocess.run(["gcc", "-std=c99", "-O2", "-Wall", "-Wextra", "-Werror", f"-I{HEADER}", "-o", made, SOURCES / "service_memory.c", static], check=True)
+        flat(tally, "C", [made], place / "history", audit)
+        flat(tally, "Python", [sys.executable, TOOLS / "gate" / "service_memory.py"], place / "history", audit, PYTHONPATH=str(TOOLS.parent / "python"),
+             HINGETULIP_LIBRARY=str(shared))
         ends_well(tally, "arguments", [program(place, "service_arguments")])
         wrapped = "-Wl,--wrap=rattle_alloc,--wrap=rattle_realloc"
         ends_well(tally, "growths", [program(place, "service_growths", TOOLS / "refused_growths.c", wrapped)])

@@ -1,5 +1,5 @@
 /*
- * hingetulip_service.h: one link emulator that many threads call. Its statuses, packets, fates and deliveries are those of
+ * hingetulip_service.h: one link emulator that many threads call. Its statuses, packets, fates, deliveries and flows are those of
  * hingetulip.h, under the rule DN_ORDERED.
  *
  * A service is opened with its callers. One thread at a time uses a caller, and one thread at a time the service. A handle may
@@ -66,9 +66,22 @@ uint32_t dn_caller_advance(struct dn_caller *caller, uint64_t moment, uint64_t *
    keeps them until its next call that is answered. */
 uint32_t dn_caller_collect(struct dn_caller *caller, uint64_t moment, uint64_t *count, uint64_t *holder);
 
+/* Shows the state of all flows, in the order of their numbers. DN_OK: they are *count, and the caller keeps them until its next call
+   that is answered. */
+uint32_t dn_caller_show(struct dn_caller *caller, uint64_t *count, uint64_t *holder);
+
 /* Writes the packets that the caller keeps, from the place `from` on. DN_OK: *count of them are in the first places of `list`, which
-   has `room` places. They are all, if the list has room for them. It counts as no call. */
+   has `room` places. They are all, if the list has room for them. It counts as no call. A caller keeps no packets after another call
+   than a collect. */
 uint32_t dn_caller_deliveries(struct dn_caller *caller, size_t from, struct dn_delivery *list, size_t room, uint64_t *count);
+
+/* Writes the flows that the caller keeps in the same way. A caller keeps none after another call than a show. */
+uint32_t dn_caller_flows(struct dn_caller *caller, size_t from, struct dn_flow *list, size_t room, uint64_t *count);
+
+/* When to ask next. DN_OK: *moment is that of dn_wake, after all calls so far, and DN_NEVER if no packet waits or is under way. The
+   caller's next call comes after all these calls. Another caller's call can come before it. It counts as no call, and the caller keeps
+   what it keeps. It needs no memory. */
+uint32_t dn_caller_wake(struct dn_caller *caller, uint64_t *moment, uint64_t *holder);
 
 /* Takes out all entries so far. DN_OK: *count of them wait to be written, and *start were taken out before. DN_UNWRITTEN: an
    entry that was taken out before still waits. */
@@ -110,6 +123,24 @@ static inline uint32_t dn_caller_collect_wait(struct dn_caller *caller, uint64_t
     uint64_t holder;
     uint32_t status;
     while ((status = dn_caller_collect(caller, moment, count, &holder)) == DN_BUSY)
+        sched_yield();
+    return status;
+}
+
+static inline uint32_t dn_caller_show_wait(struct dn_caller *caller, uint64_t *count)
+{
+    uint64_t holder;
+    uint32_t status;
+    while ((status = dn_caller_show(caller, count, &holder)) == DN_BUSY)
+        sched_yield();
+    return status;
+}
+
+static inline uint32_t dn_caller_wake_wait(struct dn_caller *caller, uint64_t *moment)
+{
+    uint64_t holder;
+    uint32_t status;
+    while ((status = dn_caller_wake(caller, moment, &holder)) == DN_BUSY)
         sched_yield();
     return status;
 }

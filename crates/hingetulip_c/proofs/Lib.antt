@@ -1,6 +1,7 @@
 pub mod Answering
 pub mod CallerHandles
 pub mod Handles
+pub mod Listing
 pub mod Many
 pub mod RawBoxes
 pub mod ServiceHandles

@@ -3,13 +3,10 @@ use Rattle.std.proofs.Common.{◌≡◌, ◌≢◌, ◌∙◌, ◌<◌, ◌+◌,
 use Rattle.std.proofs.lemmas.List.{take_more, take_more_set, take_at, drop_at, length_push, map-append, length-take, take_min, drop_min, take-map, drop-map}
 use Rattle.std.proofs.lemmas.Grind.{replicate_next}
 use Rattle.dn_types.specs.declared.call.Call.{Call}
-use Rattle.dn_types.specs.declared.delivery.Delivery.{Delivery}
 use Rattle.dn_service.specs.Callers.{ServiceView, CallerView, new_caller, new_callers}
 use Rattle.dn_service.specs.Lasting.{LastingView, Takes}
 use Rattle.dn_service.proofs.Handing.{one_more_caller}
-use Rattle.hingetulip_c.specs.Clients.{IsAnswered, IsOther, AnsweredBy, IsBusyWith}
-use Rattle.hingetulip_c.specs.Lists.{c_delivery}
-use Rattle.hingetulip_c.specs.declared.records.c_delivery.CDelivery.{CDelivery}
+use Rattle.hingetulip_c.specs.Clients.{IsAnswered, IsOther, AnsweredBy, IsBusyWith, Woke, WokeBy}
 use Rattle.hingetulip_c.specs.Services.{all_held, held_new, waiting, IsServiceBusyWith, Opened, Taken, Written, Wrote}
 use Rattle.hingetulip_c.specs.declared.caller_handle.CallerHandle.{CallerHandle}
 use Rattle.hingetulip_c.specs.declared.client.Client.{Client}
@@ -21,6 +18,10 @@ answered_by call b a xs ys e f is =
 
 pub busy_with : (holder : ℕ) (b : Client) (xs : List Client) → xs ≡ b ∷ [] → IsOther holder b → IsBusyWith holder xs
 busy_with holder b xs e is = subst (λ (l : List Client). IsBusyWith holder l) (sym e) is
+
+pub woke_by : (moment : ℕ) (b a : Client) (xs ys : List Client) → xs ≡ b ∷ [] → ys ≡ a ∷ [] → Woke moment b a → WokeBy moment xs ys
+woke_by moment b a xs ys e f is =
+    subst (λ (l : List Client). WokeBy moment l ys) (sym e) (subst (λ (l : List Client). WokeBy moment (b ∷ []) l) (sym f) is)
 
 pub wrote : (text : List ℕ) (b a : Ledger) (xs ys : List Ledger) → xs ≡ b ∷ [] → ys ≡ a ∷ [] → Written text b a → Wrote text xs ys
 wrote text b a xs ys e f is =
@@ -84,17 +85,17 @@ opened n service l rest clients count is own none rest_is held = (
 )
 
 -- A place beyond the end is as the end.
-pub rest_of : (given : List Delivery) (from n : ℕ) → n ≡ min from (length given) → drop n given ≡ drop from given
-rest_of given from n is = ap (λ (k : ℕ). drop k given) is ∙ drop_min from given
+pub rest_of : {X : Type 0} (given : List X) (from n : ℕ) → n ≡ min from (length given) → drop n given ≡ drop from given
+rest_of {X} given from n is = ap (λ (k : ℕ). drop k given) is ∙ drop_min from given
 
-pub front_of : (given : List Delivery) (most n : ℕ) → n ≡ min most (length given) → take n given ≡ take most given
-front_of given most n is = ap (λ (k : ℕ). take k given) is ∙ take_min most given
+pub front_of : {X : Type 0} (given : List X) (most n : ℕ) → n ≡ min most (length given) → take n given ≡ take most given
+front_of {X} given most n is = ap (λ (k : ℕ). take k given) is ∙ take_min most given
 
 -- A part of a list as it is copied.
-pub part_copied : (given : List Delivery) (from room : ℕ) (part : List Delivery) (list : List CDelivery) → part ≡ take room (drop from given)
-    → take (length part) list ≡ map c_delivery part → take (length part) list ≡ take (length part) (drop from (map c_delivery given))
-part_copied given from room part list is copied =
+pub part_copied : {X Y : Type 0} (of : X → Y) (given : List X) (from room : ℕ) (part : List X) (list : List Y) → part ≡ take room (drop from given)
+    → take (length part) list ≡ map of part → take (length part) list ≡ take (length part) (drop from (map of given))
+part_copied {X} {Y} of given from room part list is copied =
     let rest = drop from given in
     let whole : take (length part) rest ≡ part =
-    ap (λ (l : List Delivery). take (length l) rest) is ∙ ap (λ (n : ℕ). take n rest) (length-take room rest) ∙ take_min room rest ∙ sym is in
-    copied ∙ sym (ap (map c_delivery) whole) ∙ sym (take-map c_delivery (length part) rest) ∙ ap (take (length part)) (sym (drop-map c_delivery from given))
+    ap (λ (l : List X). take (length l) rest) is ∙ ap (λ (n : ℕ). take n rest) (length-take room rest) ∙ take_min room rest ∙ sym is in
+    copied ∙ sym (ap (map of) whole) ∙ sym (take-map of (length part) rest) ∙ ap (take (length part)) (sym (drop-map of from given))

@@ -1,9 +1,10 @@
 -- A caller that C holds, and what a call by it does.
-use Rattle.std.specs.Prelude.{◌≢◌, ◌<◌, ℕ, List, [], ◌∷◌}
+use Rattle.std.specs.Prelude.{◌≡◌, ◌≢◌, ◌<◌, ℕ, List, [], ◌∷◌, Option, unwrap_or}
 use Rattle.dn_types.specs.declared.call.Call.{Call}
 use Rattle.dn_types.specs.declared.reply.Reply.{Reply}
 use Rattle.dn_types.specs.declared.reply.Reply.TheVariants.{Exhausted}
 use Rattle.dn_service.specs.Callers.{Answered, IsSameCaller}
+use Rattle.dn_service.specs.Wakes.{Wakes}
 use Rattle.hingetulip_c.specs.declared.client.Client.{Client}
 
 -- The caller's call was answered, and the reply is the one that is kept now.
@@ -16,10 +17,22 @@ pub record IsOther (holder : ℕ) (c : Client) : Type 0 where
   pub below : holder < c.caller.service.callers
   pub another : holder ≢ c.caller.number
 
+-- The caller was told when to ask next, which is 2^64 - 1 for never. The reply that it keeps is the same.
+pub record Woke (moment : ℕ) (b a : Client) : Type 0 where
+  pub next : Option ℕ
+  pub wakes : Wakes b.caller next a.caller
+  pub moment_is : moment ≡ unwrap_or next 18446744073709551615
+  pub same_caller : IsSameCaller b.caller a.caller
+  pub last : a.last ≡ b.last
+
 -- The same of a handle, which is open before and after.
 abbrev pub AnsweredBy : Call → List Client → List Client → Type 0
 AnsweredBy call (b ∷ []) (a ∷ []) = IsAnswered call b a
 AnsweredBy call _ _ = ⊥
+
+abbrev pub WokeBy : ℕ → List Client → List Client → Type 0
+WokeBy moment (b ∷ []) (a ∷ []) = Woke moment b a
+WokeBy moment _ _ = ⊥
 
 abbrev pub IsBusyWith : ℕ → List Client → Type 0
 IsBusyWith holder (c ∷ []) = IsOther holder c

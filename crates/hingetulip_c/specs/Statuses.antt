@@ -46,3 +46,14 @@ show_status _ = 1
 abbrev pub show_count : ℕ → Reply → ℕ
 show_count old (Status list) = length list
 show_count old _ = old
+
+-- The same for a call whose reply has a list, which a Collect and a Show are.
+abbrev pub list_status : Reply → ℕ
+list_status (Delivered at list) = 0
+list_status (Status list) = 0
+list_status _ = 1
+
+abbrev pub list_count : ℕ → Reply → ℕ
+list_count old (Delivered at list) = length list
+list_count old (Status list) = length list
+list_count old _ = old

@@ -1,12 +1,12 @@
 ghost use Rattle.std.specs.Prelude.{◌≡◌, ◌≢◌, ◌⊎◌, ℕ, OnOk, OnErr, IfErr, true, false};
 ghost use Rattle.dn_types.specs.declared.reply.Reply.TheVariants.{Exhausted};
-ghost use Rattle.hingetulip_c.specs.Clients.{IsAnswered, IsOther};
-ghost use Rattle.hingetulip_c.specs.Statuses.{answered, taken, clock_status, clock_of, collect_status, collect_count, configure_status};
+ghost use Rattle.hingetulip_c.specs.Clients.{IsAnswered, IsOther, Woke};
+ghost use Rattle.hingetulip_c.specs.Statuses.{answered, taken, clock_status, clock_of, list_status, list_count, configure_status};
 ghost use Rattle.hingetulip_c.specs.Submits.{fate_status, fate_of};
 
 use crate::records::CFate;
-use crate::status::{BUSY, MEMORY};
-use crate::written::{command_status, put_clock, put_count, put_fate};
+use crate::status::{BUSY, MEMORY, OK};
+use crate::written::{command_status, or_never, put_clock, put_count, put_fate};
 use dn_service::{Caller, TryFault};
 use dn_types::{Call, Reply};
 use std::mem;
@@ -81,14 +81,14 @@ impl Client {
         }
     }
 
-    /// Makes a Collect, and writes how many packets it gives. The reply that is kept has them.
-    pub(crate) fn collect(&mut self, call: &Call, count: &mut u64, holder: &mut u64) -> u32
+    /// Makes a Collect or a Show, and writes how many items the list of its reply has. The reply that is kept has them.
+    pub(crate) fn list(&mut self, call: &Call, count: &mut u64, holder: &mut u64) -> u32
         ensures refused { answered result ≡ false → (self.new ≡ self.old) × (count.new ≡ count.old) }
         ensures why { answered result ≡ false → (result ≡ 6) ⊎ ((result ≡ 15) × IsOther holder.new self.old) }
         ensures holder { result ≢ 15 → holder.new ≡ holder.old }
         ensures answered { answered result ≡ true → IsAnswered call.now self.old self.new }
-        ensures status { answered result ≡ true → result ≡ collect_status self.new.last }
-        ensures count { answered result ≡ true → count.new ≡ collect_count count.old self.new.last }
+        ensures status { answered result ≡ true → result ≡ list_status self.new.last }
+        ensures count { answered result ≡ true → count.new ≡ list_count count.old self.new.last }
     {
         match self.apply(call, holder) {
             Ok(()) => put_count(&self.last, count),
@@ -107,6 +107,24 @@ impl Client {
         match self.apply(call, holder) {
             Ok(()) => command_status(&self.last),
             Err(status) => status,
+        }
+    }
+
+    /// Writes when the emulator's next packet is due or starts. It makes no call, and the reply that is kept stays.
+    pub(crate) fn wake(&mut self, moment: &mut u64, holder: &mut u64) -> u32
+        ensures woke { result ≡ 0 → Woke moment.new self.old self.new }
+        ensures refused { result ≢ 0 → (result ≡ 15) × IsOther holder.new self.old × (self.new ≡ self.old) × (moment.new ≡ moment.old) }
+        ensures holder { result ≢ 15 → holder.new ≡ holder.old }
+    {
+        match self.caller.try_wake_quietly() {
+            Ok(next) => {
+                *moment = or_never(next);
+                OK
+            }
+            Err(other) => {
+                *holder = other as u64;
+                BUSY
+            }
         }
     }
 }

@@ -59,7 +59,7 @@ pub(crate) fn copy_deliveries(given: &[Delivery], list: &mut [CDelivery])
 }
 
 #[tactic(auto, using(crate::proofs::Many::others_more))]
-fn copy_flows(given: &[FlowStatus], list: &mut [CFlow])
+pub(crate) fn copy_flows(given: &[FlowStatus], list: &mut [CFlow])
     requires { length given.now ≤ length list.old }
     ensures written { take (length given.now) list.new ≡ map c_flow given.now }
     ensures others { drop (length given.now) list.new ≡ drop (length given.now) list.old }

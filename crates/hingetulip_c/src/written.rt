@@ -1,5 +1,5 @@
-ghost use Rattle.std.specs.Prelude.{◌≡◌, true};
-ghost use Rattle.hingetulip_c.specs.Statuses.{answered, taken, configure_status, clock_status, clock_of, collect_status, collect_count};
+ghost use Rattle.std.specs.Prelude.{◌≡◌, ◌<◌, ℕ, true, IfSome, unwrap_or};
+ghost use Rattle.hingetulip_c.specs.Statuses.{answered, taken, configure_status, clock_status, clock_of, list_status, list_count};
 ghost use Rattle.hingetulip_c.specs.Submits.{fate_status, fate_of};
 
 use crate::records::CFate;
@@ -51,10 +51,10 @@ pub(crate) fn put_clock(reply: &Reply, clock: &mut u64) -> u32
     }
 }
 
-/// Writes how many packets a reply gives.
+/// Writes how many items the list of a reply has.
 pub(crate) fn put_count(reply: &Reply, count: &mut u64) -> u32
-    ensures status { result ≡ collect_status reply.now }
-    ensures count { count.new ≡ collect_count count.old reply.now }
+    ensures status { result ≡ list_status reply.now }
+    ensures count { count.new ≡ list_count count.old reply.now }
     ensures answered { answered result ≡ true }
 {
     match reply {
@@ -62,7 +62,22 @@ pub(crate) fn put_count(reply: &Reply, count: &mut u64) -> u32
             *count = list.as_slice().len() as u64;
             OK
         }
+        Reply::Status { list } => {
+            *count = list.as_slice().len() as u64;
+            OK
+        }
         _ => EXHAUSTED,
+    }
+}
+
+/// The moment, and 2^64 - 1 for none.
+pub(crate) fn or_never(first: Option<u64>) -> u64
+    ensures value { result ≡ unwrap_or first 18446744073709551615 }
+    ensures before { (at : ℕ) → at < result → IfSome first (λ moment. at < moment) }
+{
+    match first {
+        Some(moment) => moment,
+        None => u64::MAX,
     }
 }
 

@@ -16,7 +16,7 @@ enum { LONGEST_LINE = 1 << 16, AT_ONCE = 3 };
 struct work {
     struct dn_caller *caller;
     const char *calls, *fault;
-    uint64_t made, outcomes[4], delivered, refused;
+    uint64_t made, outcomes[4], delivered, refused, shown;
 };
 
 static pthread_mutex_t going_lock = PTHREAD_MUTEX_INITIALIZER;
@@ -87,6 +87,30 @@ static void collect(struct work *work, const char *text) {
     work->delivered += all;
 }
 
+/* The flows are read some at a time. Between two reads the caller asks when to collect, which is no call and leaves what it keeps. */
+static void show(struct work *work) {
+    uint64_t all = 77, count = 77, moment = 77;
+    struct dn_flow list[AT_ONCE + 1];
+    want(work, "the status of a show", dn_caller_show_wait(work->caller, &all) == DN_OK);
+    for (uint64_t from = 0; from < all; from += count) {
+        memset(list, 77, sizeof list);
+        want(work, "the status of a wake", dn_caller_wake_wait(work->caller, &moment) == DN_OK && moment != 77);
+        want(work, "the status of flows", dn_caller_flows(work->caller, from, list, AT_ONCE, &count) == DN_OK);
+        want(work, "how many flows", count == (all - from < AT_ONCE ? all - from : AT_ONCE));
+        for (uint64_t i = 0; i <= AT_ONCE; i++) {
+            if (i < count) want(work, "a flow", list[i].flow == from + i && list[i].kind <= DN_QUEUE && list[i].reserved == 0 && list[i].reserved2 == 0);
+            else want(work, "a place behind the flows", list[i].flow == UINT64_C(0x4d4d4d4d4d4d4d4d));
+            if (i < count) want(work, "what waits in a flow", (list[i].queued == 0) == (list[i].bytes == 0));
+        }
+        if (work->fault) return;
+    }
+    struct dn_delivery none[1];
+    want(work, "no flow behind the last", dn_caller_flows(work->caller, all, list, AT_ONCE, &count) == DN_OK && count == 0);
+    want(work, "a show gives no packet", dn_caller_deliveries(work->caller, 0, none, 1, &count) == DN_OK && count == 0);
+    work->made++;
+    work->shown += all;
+}
+
 static void *make(void *given) {
     struct work *work = given;
     char *text = malloc(LONGEST_LINE);
@@ -98,6 +122,7 @@ static void *make(void *given) {
         case 'p': submit(work, text); break;
         case 'a': advance(work, text); break;
         case 'c': collect(work, text); break;
+        case 's': show(work); break;
         }
     }
     want(work, "the file of calls", text && calls);
@@ -174,7 +199,8 @@ int main(int words, char **word) {
         if (w->fault) printf("caller %d: %s\n", i, w->fault);
         failed |= w->fault != NULL || dn_caller_close(w->caller) != DN_OK || dn_caller_close(w->caller) != DN_CLOSED;
         printf("caller %d: %" PRIu64 " calls, %" PRIu64 " queued, %" PRIu64 " lost, %" PRIu64 " full, %" PRIu64 " without target, %" PRIu64
-               " delivered, %" PRIu64 " refused\n", i, w->made, w->outcomes[0], w->outcomes[1], w->outcomes[2], w->outcomes[3], w->delivered, w->refused);
+               " delivered, %" PRIu64 " refused, %" PRIu64 " shown\n", i, w->made, w->outcomes[0], w->outcomes[1], w->outcomes[2], w->outcomes[3],
+               w->delivered, w->refused, w->shown);
     }
     return failed || dn_service_close(&service) != DN_OK;
 }

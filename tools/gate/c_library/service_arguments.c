@@ -18,6 +18,7 @@ static uint64_t number = 77, other = 77, holder = 77;
 static struct dn_fate fate;
 static struct dn_fault fault;
 static struct dn_delivery list[4];
+static struct dn_flow flows[4];
 static uint8_t text[200];
 
 static void fill(void) {
@@ -25,6 +26,7 @@ static void fill(void) {
     memset(&fate, 77, sizeof fate);
     memset(&fault, 77, sizeof fault);
     memset(list, 77, sizeof list);
+    memset(flows, 77, sizeof flows);
     memset(text, 77, sizeof text);
 }
 
@@ -36,7 +38,7 @@ static bool are_77(const void *bytes, size_t count) {
 
 static bool untouched(void) {
     return number == 77 && other == 77 && holder == 77 && are_77(&fate, sizeof fate) && are_77(&fault, sizeof fault) &&
-           are_77(list, sizeof list) && are_77(text, sizeof text);
+           are_77(list, sizeof list) && are_77(flows, sizeof flows) && are_77(text, sizeof text);
 }
 
 static uint32_t configured(struct dn_caller *caller, const char *line) {
@@ -61,6 +63,9 @@ static void every_call_of_closed_handles(void) {
     HOLDS(dn_caller_advance(&caller, 0, &number, &holder) == DN_CLOSED);
     HOLDS(dn_caller_collect(&caller, 0, &number, &holder) == DN_CLOSED);
     HOLDS(dn_caller_deliveries(&caller, 0, list, 4, &number) == DN_CLOSED);
+    HOLDS(dn_caller_show(&caller, &number, &holder) == DN_CLOSED);
+    HOLDS(dn_caller_flows(&caller, 0, flows, 4, &number) == DN_CLOSED);
+    HOLDS(dn_caller_wake(&caller, &number, &holder) == DN_CLOSED);
     HOLDS(dn_service_take(&service, &number, &other, &holder) == DN_CLOSED);
     HOLDS(dn_service_text(&service, text, sizeof text, &number) == DN_CLOSED);
     HOLDS(untouched() && service.at == NULL && !service.open && caller.at == NULL && !caller.open);
@@ -126,6 +131,38 @@ static void fates_and_deliveries(struct dn_caller *one, struct dn_caller *two) {
     HOLDS(dn_caller_collect(two, 100000000, &number, &holder) == DN_OK && number == 0 && holder == 77);
 }
 
+/* Two packets wait for a third to be sent, which takes 1 ms. A queue of the pipe has a flow for each source. */
+static void flows_and_wakes(struct dn_caller *one, struct dn_caller *two) {
+    struct dn_packet packet = good(0);
+    fill();
+    HOLDS(dn_caller_show(one, &number, &holder) == DN_OK && number == 0 && holder == 77);
+    HOLDS(dn_caller_flows(one, 0, flows, 4, &number) == DN_OK && number == 0 && are_77(flows, sizeof flows));
+    HOLDS(dn_caller_wake(one, &number, &holder) == DN_OK && number == DN_NEVER && holder == 77);
+    HOLDS(configured(one, "pipe 1 config bw 8Mbit/s delay 20") == DN_OK && configured(two, "queue 1 config pipe 1 mask src-ip 0xff") == DN_OK);
+    packet.kind = DN_QUEUE;
+    for (packet.src = 7; packet.src < 9; packet.src++)
+        HOLDS(dn_caller_submit(one, &packet, &fate, &holder) == DN_OK && fate.outcome == DN_QUEUED && fate.flow == packet.src - 7);
+    HOLDS(dn_caller_submit(two, &packet, &fate, &holder) == DN_OK && fate.outcome == DN_QUEUED && fate.flow == 2);
+    HOLDS(dn_caller_wake(two, &number, &holder) == DN_OK && number == 1000000 && dn_caller_wake(one, &number, &holder) == DN_OK && number == 1000000);
+    fill();
+    HOLDS(dn_caller_show(two, &number, &holder) == DN_OK && number == 3 && holder == 77);
+    HOLDS(dn_caller_flows(one, 0, flows, 4, &number) == DN_OK && number == 0 && are_77(flows, sizeof flows));
+    HOLDS(dn_caller_flows(two, 1, flows, 4, &number) == DN_OK && number == 2 && are_77(flows + 2, 2 * sizeof *flows));
+    HOLDS(flows[0].flow == 1 && flows[0].queued == 1 && flows[0].bytes == 1000 && flows[0].started == 0 && flows[0].src == 8 && flows[0].dst == 0);
+    HOLDS(flows[0].kind == DN_QUEUE && flows[0].number == 1 && flows[0].pipe == 1 && flows[0].reserved == 0 && flows[0].reserved2 == 0 && flows[1].src == 9);
+    HOLDS(dn_caller_wake(two, &number, &holder) == DN_OK && dn_caller_flows(two, 0, flows, 1, &number) == DN_OK && number == 1);
+    HOLDS(flows[0].flow == 0 && flows[0].queued == 0 && flows[0].started == 1 && flows[1].src == 9);
+    HOLDS(dn_caller_flows(two, 3, flows, 4, &number) == DN_OK && number == 0 && dn_caller_flows(two, SIZE_MAX, flows, 4, &number) == DN_OK && number == 0);
+    HOLDS(dn_caller_deliveries(two, 0, list, 4, &number) == DN_OK && number == 0 && are_77(list, sizeof list));
+    HOLDS(dn_caller_collect(two, 1000000, &number, &holder) == DN_OK && number == 0);
+    HOLDS(dn_caller_flows(two, 0, flows, 4, &number) == DN_OK && number == 0);
+    HOLDS(dn_caller_wake(one, &number, &holder) == DN_OK && number == 2000000);
+    HOLDS(dn_caller_collect(one, 22000000, &number, &holder) == DN_OK && number == 2 && dn_caller_wake(two, &number, &holder) == DN_OK && number == 23000000);
+    HOLDS(dn_caller_deliveries(one, 1, list, 4, &number) == DN_OK && number == 1 && list[0].due == 22000000 && list[0].flow == 1);
+    HOLDS(dn_caller_collect(one, 23000000, &number, &holder) == DN_OK && number == 1 && dn_caller_wake(two, &number, &holder) == DN_OK && number == DN_NEVER);
+    HOLDS(holder == 77);
+}
+
 /* The entries of a new service by two callers, one after the other. */
 static void entries(void) {
     static const char first[] = "c,0,advance,7\nr,advanced,7\n", second[] = "c,1,collect,3\nr,delivered,7,0\n";
@@ -158,6 +195,8 @@ int main(void) {
     HOLDS(dn_service_open(&service, callers, 2) == DN_OK);
     refusals(&callers[0]);
     fates_and_deliveries(&callers[0], &callers[1]);
+    HOLDS(dn_service_open(&service, callers, 2) == DN_OK);
+    flows_and_wakes(&callers[0], &callers[1]);
     HOLDS(dn_service_close(&service) == DN_OK && dn_caller_close(&callers[0]) == DN_OK && dn_caller_close(&callers[1]) == DN_OK);
     entries();
     printf("%d of %d hold\n", tried - failed, tried);

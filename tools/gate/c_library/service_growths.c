@@ -46,8 +46,9 @@ static void write_history(struct dn_service *service) {
 
 static void calls(struct dn_service *service, struct dn_caller *callers) {
     static struct dn_delivery list[512];
+    static struct dn_flow flows[64];
     uint32_t random = 1;
-    uint64_t moment = 0, count = 0, holder = 0;
+    uint64_t moment = 0, count = 0, next = 0, holder = 0;
     for (int i = 0; i < CALLS; i++) {
         struct dn_caller *caller = &callers[i % CALLERS];
         random = random * 1664525 + 1013904223;
@@ -62,6 +63,13 @@ static void calls(struct dn_service *service, struct dn_caller *callers) {
             ASKED(dn_caller_deliveries(caller, 0, list, 512, &count));
             mix(list, count * sizeof *list);
         }
+        if (i % 7 == 0) {
+            ASKED(dn_caller_show(caller, &count, &holder));
+            ASKED(dn_caller_flows(caller, 0, flows, 64, &count));
+            mix(flows, count * sizeof *flows);
+        }
+        ASKED(dn_caller_wake(caller, &next, &holder));
+        mix(&next, sizeof next);
         if (i % 40 == 0) write_history(service);
     }
 }

@@ -5,4 +5,8 @@ mod close;
 mod collect;
 mod configure;
 mod deliveries;
+mod flows;
+mod listing;
+mod show;
 mod submit;
+mod wake;

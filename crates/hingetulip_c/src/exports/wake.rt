@@ -1,4 +1,4 @@
-ghost use Rattle.std.specs.Prelude.{◌≡◌, ◌<◌, ◌⊎◌, ℕ, max, List, [], IfSome, unwrap_or};
+ghost use Rattle.std.specs.Prelude.{◌≡◌, ◌<◌, ◌⊎◌, ℕ, max, List, [], unwrap_or};
 ghost use Rattle.dn_types.specs.Calls.{trace_of};
 ghost use Rattle.dn_types.specs.Clock.{counted, effective_moment};
 ghost use Rattle.dn_types.specs.Replies.{reply};
@@ -11,18 +11,8 @@ ghost use Rattle.hingetulip_c.specs.Handles.{HeldAfter};
 
 use crate::handle::Handle;
 use crate::status::{CLOSED, OK};
+use crate::written::or_never;
 use std::alloc::Global;
-
-/// The moment, and 2^64 - 1 for none.
-fn or_never(first: Option<u64>) -> u64
-    ensures value { result ≡ unwrap_or first 18446744073709551615 }
-    ensures before { (at : ℕ) → at < result → IfSome first (λ moment. at < moment) }
-{
-    match first {
-        Some(moment) => moment,
-        None => u64::MAX,
-    }
-}
 
 /// The first moment at which a packet is due or starts, if no other call comes, and 2^64 - 1 where none waits or is under way.
 #[unsafe(no_mangle)]

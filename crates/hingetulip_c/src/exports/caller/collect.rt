@@ -4,12 +4,12 @@ ghost use Rattle.hingetulip_c.specs.Clients.{AnsweredBy, IsBusyWith, last_reply}
 ghost use Rattle.hingetulip_c.specs.Statuses.{answered, collect_status, collect_count};
 
 use crate::caller_handle::CallerHandle;
-use crate::status::{BAD_MOMENT, CLOSED};
+use crate::exports::caller::listing::call_for_list;
+use crate::status::BAD_MOMENT;
 use dn_types::{Call, Moment};
 use std::alloc::Global;
 
 /// Moves the clock, takes the packets that are due, and writes how many they are.
-#[tactic(auto, using(crate::proofs::Serving::answered_by, crate::proofs::Serving::busy_with))]
 #[unsafe(no_mangle)]
 pub extern "C" fn dn_caller_collect(
     alloc: Global,
@@ -31,10 +31,5 @@ pub extern "C" fn dn_caller_collect(
         return BAD_MOMENT;
     };
     let call = Call::Collect(moment);
-    let Some(mut client) = caller.take(alloc) else {
-        return CLOSED;
-    };
-    let status = client.collect(&call, count, holder);
-    let _none = caller.put(alloc, client);
-    status
+    call_for_list(alloc, caller, &call, count, holder)
 }

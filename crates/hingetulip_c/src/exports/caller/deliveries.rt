@@ -3,7 +3,7 @@ ghost use Rattle.hingetulip_c.specs.Clients.{last_reply};
 ghost use Rattle.hingetulip_c.specs.Lists.{deliveries_of};
 
 use crate::caller_handle::CallerHandle;
-use crate::copy_part::put_from;
+use crate::copy_part::put_deliveries_from;
 use crate::records::CDelivery;
 use crate::status::{CLOSED, OK};
 use std::alloc::Global;
@@ -26,7 +26,7 @@ pub extern "C" fn dn_caller_deliveries(
     let Some(client) = caller.take(alloc) else {
         return CLOSED;
     };
-    *count = put_from(&client.last, from, list) as u64;
+    *count = put_deliveries_from(&client.last, from, list) as u64;
     let _none = caller.put(alloc, client);
     OK
 }

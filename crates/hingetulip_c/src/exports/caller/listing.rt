@@ -1,0 +1,32 @@
+ghost use Rattle.std.specs.Prelude.{◌≡◌, ◌≢◌, ◌⊎◌, [], true, false};
+ghost use Rattle.hingetulip_c.specs.Clients.{AnsweredBy, IsBusyWith, last_reply};
+ghost use Rattle.hingetulip_c.specs.Statuses.{answered, list_status, list_count};
+
+use crate::caller_handle::CallerHandle;
+use crate::status::CLOSED;
+use dn_types::Call;
+use std::alloc::Global;
+
+/// Makes a Collect or a Show, and writes how many items the list of its reply has. The caller keeps the reply.
+#[tactic(auto, using(crate::proofs::Serving::answered_by, crate::proofs::Serving::busy_with))]
+pub(crate) fn call_for_list(
+    alloc: Global,
+    caller: &mut CallerHandle,
+    call: &Call,
+    count: &mut u64,
+    holder: &mut u64,
+) -> u32
+    ensures refused { answered result ≡ false → (caller.new.held ≡ caller.old.held) × (count.new ≡ count.old) }
+    ensures why { answered result ≡ false → ((result ≡ 5) × (caller.old.held ≡ [])) ⊎ ((result ≡ 6) × (caller.old.held ≢ [])) ⊎ ((result ≡ 15) × IsBusyWith holder.new caller.old.held) }
+    ensures holder { result ≢ 15 → holder.new ≡ holder.old }
+    ensures answered { answered result ≡ true → AnsweredBy call.now caller.old.held caller.new.held }
+    ensures status { answered result ≡ true → result ≡ list_status (last_reply caller.new.held) }
+    ensures count { answered result ≡ true → count.new ≡ list_count count.old (last_reply caller.new.held) }
+{
+    let Some(mut client) = caller.take(alloc) else {
+        return CLOSED;
+    };
+    let status = client.list(call, count, holder);
+    let _none = caller.put(alloc, client);
+    status
+}

@@ -1,0 +1,27 @@
+ghost use Rattle.std.specs.Prelude.{◌≡◌, ◌≢◌, ◌⊎◌, [], true, false};
+ghost use Rattle.dn_types.specs.declared.call.Call.TheVariants.{Show as ShowCall};
+ghost use Rattle.hingetulip_c.specs.Clients.{AnsweredBy, IsBusyWith, last_reply};
+ghost use Rattle.hingetulip_c.specs.Statuses.{answered, show_status, show_count};
+
+use crate::caller_handle::CallerHandle;
+use crate::exports::caller::listing::call_for_list;
+use dn_types::Call;
+use std::alloc::Global;
+
+/// Shows the state of all flows, and writes how many they are.
+#[unsafe(no_mangle)]
+pub extern "C" fn dn_caller_show(
+    alloc: Global,
+    caller: &mut CallerHandle,
+    count: &mut u64,
+    holder: &mut u64,
+) -> u32
+    ensures refused { answered result ≡ false → (caller.new.held ≡ caller.old.held) × (count.new ≡ count.old) }
+    ensures why { answered result ≡ false → ((result ≡ 5) × (caller.old.held ≡ [])) ⊎ ((result ≡ 6) × (caller.old.held ≢ [])) ⊎ ((result ≡ 15) × IsBusyWith holder.new caller.old.held) }
+    ensures holder { result ≢ 15 → holder.new ≡ holder.old }
+    ensures answered { answered result ≡ true → AnsweredBy ShowCall caller.old.held caller.new.held }
+    ensures status { answered result ≡ true → result ≡ show_status (last_reply caller.new.held) }
+    ensures count { answered result ≡ true → count.new ≡ show_count count.old (last_reply caller.new.held) }
+{
+    call_for_list(alloc, caller, &Call::Show, count, holder)
+}

@@ -1,0 +1,28 @@
+ghost use Rattle.std.specs.Prelude.{◌≡◌, ◌≢◌, ◌⊎◌, []};
+ghost use Rattle.hingetulip_c.specs.Clients.{IsBusyWith, WokeBy};
+
+use crate::caller_handle::CallerHandle;
+use crate::status::CLOSED;
+use std::alloc::Global;
+
+/// Writes the first moment at which a packet is due or starts, if no other call comes, and 2^64 - 1 if none waits or is under way.
+#[tactic(auto, using(crate::proofs::Serving::woke_by, crate::proofs::Serving::busy_with))]
+#[unsafe(no_mangle)]
+pub extern "C" fn dn_caller_wake(
+    alloc: Global,
+    caller: &mut CallerHandle,
+    moment: &mut u64,
+    holder: &mut u64,
+) -> u32
+    ensures woke { result ≡ 0 → WokeBy moment.new caller.old.held caller.new.held }
+    ensures refused { result ≢ 0 → (caller.new.held ≡ caller.old.held) × (moment.new ≡ moment.old) }
+    ensures why { result ≢ 0 → ((result ≡ 5) × (caller.old.held ≡ [])) ⊎ ((result ≡ 15) × IsBusyWith holder.new caller.old.held) }
+    ensures holder { result ≢ 15 → holder.new ≡ holder.old }
+{
+    let Some(mut client) = caller.take(alloc) else {
+        return CLOSED;
+    };
+    let status = client.wake(moment, holder);
+    let _none = caller.put(alloc, client);
+    status
+}
