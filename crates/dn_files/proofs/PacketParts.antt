@@ -8,10 +8,10 @@ use Rattle.std.proofs.Math.Seq.{drop-append_seam}
 use Rattle.csv.specs.Records.{field_at}
 use Rattle.csv.specs.declared.parser.State.TheVariants as st
 use Rattle.dn_records.specs.Reading.{records_after}
-use Rattle.dn_records.specs.Records.{Fields, records_of}
+use Rattle.dn_records.specs.Records.{records_of}
 use Rattle.dn_records.proofs.FirstLine.{behind-feed}
 use Rattle.dn_files.specs.PacketFile.{is_header, rows_below, rows_from, rows_of}
-use Rattle.dn_files.specs.PacketParts.{HasRead, PassesRows, header, rows_left, with_front}
+use Rattle.dn_files.specs.PacketParts.{HasRead, header, rows_left, with_front}
 use Rattle.dn_files.specs.Reading.{IsFaultOf}
 use Rattle.dn_files.specs.Unread.{Unread}
 use Rattle.dn_files.specs.declared.replay_fault.ReplayFault.{ReplayFault}
@@ -21,10 +21,10 @@ use Rattle.dn_files.proofs.Inputs.{carried}
 use Rattle.dn_files.proofs.PlainRows.{ReadsRow}
 use Rattle.dn_files.proofs.Rows.{one_more, starts}
 
--- Nothing has been fed.
-pub fresh : (items : List ℕ) → items ≡ [] → HasRead (record { number = 0; text = drop 0 items }) [] []
+-- No row of a text has been taken.
+pub fresh : (items : List ℕ) → HasRead (record { number = 0; text = drop 0 items }) items []
 unfolding rows_left
-fresh items none = record { goes_on = λ more. rw none (sym (starts (rows_of more))) }
+fresh items = record { goes_on = λ more. sym (starts (rows_of (items ++ more))) }
 
 -- A part more.
 part_more : (number : ℕ) (left part text : List ℕ) (rows : List Row) → HasRead (record { number = number; text = left }) text rows
@@ -154,67 +154,8 @@ pub at_header : (number : ℕ) (left : List ℕ) → number ≡ 0 → rows_left 
 unfolding rows_left
 at_header number left none = rw none refl
 
--- No row was read yet.
-pub none_passed : (text : List ℕ) (rows : List Row) → PassesRows text text rows rows
-none_passed text rows = record { read = []; stands = refl; goes_on = λ first some. refl }
-
--- One row more.
-pub passes_more : (text left behind : List ℕ) (old new : List Row) (row : Row) → PassesRows text left old new → ReadsRow left row behind
-    → PassesRows text behind old (new ++ row ∷ [])
-passes_more text left behind old new row passes begins =
-    let front = begins.line.front in
-    let L = records_after st.StartRecord behind in
-    record {
-      read = passes.read ++ 10 ∷ front;
-      stands = passes.stands ∙ ap (λ (t : List ℕ). passes.read ++ 10 ∷ t) begins.line.stands ∙ sym (append_assoc passes.read (10 ∷ front) (10 ∷ behind));
-      goes_on = λ first some.
-          let number : first + length (new ++ row ∷ []) ≡ first + length new + 1 = omega (arith, length-append new (row ∷ [])) in
-          passes.goes_on first some
-          ∙ ap (λ (rs : List Fields). with_front new (rows_from (first + length new) rs)) (ap (records_after st.StartRecord) begins.line.stands ∙ begins.line.reads behind)
-          ∙ one_more new (first + length new) (begins.fields ∷ L) L row (begins.says, refl, refl)
-          ∙ ap (λ n. with_front (new ++ row ∷ []) (rows_from n L)) (sym number);
-    }
-
 -- What is left after a row is shorter.
 pub begins_shorter : (left behind : List ℕ) (row : Row) → ReadsRow left row behind → length behind < length left
 begins_shorter left behind row begins =
     let sum : length left ≡ length begins.line.front + length (10 ∷ behind) = ap (length {A = ℕ}) begins.line.stands ∙ length-append begins.line.front (10 ∷ behind) in
     omega arith
-
--- The text behind the header, and what plain rows leave of it.
-module _ (text below left : List ℕ) (rows : List Row) (headed : BeginsFirst text header below) (passes : PassesRows below left [] rows) where
-  pub whole-is : (front : List ℕ) × (text ≡ front ++ 10 ∷ left)
-  whole-is = (
-    headed.front ++ passes.read,
-    headed.stands ∙ ap (λ (t : List ℕ). headed.front ++ t) passes.stands ∙ sym (append_assoc headed.front passes.read (10 ∷ left)),
-  )
-
-  pub left-fits : length left + 1 ≤ length text
-  left-fits =
-      let (front, is) = whole-is in
-      let count = ap (length {A = ℕ}) is ∙ length-append front (10 ∷ left) in
-      omega arith
-
-  pub left-is : drop (length text - length left - 1) text ≡ 10 ∷ left
-  left-is =
-      let (front, is) = whole-is in
-      let fits = left-fits in
-      let place : length text - length left - 1 ≡ length text - length (10 ∷ left) = omega arith in
-      ap (λ k. drop k text) place ∙ cut 0 text front (10 ∷ left) (omega arith) is
-
-  pub rows-are : rows_of text ≡ with_front rows (rows_from (length rows + 1) (records_of (10 ∷ left)))
-  unfolding rows_below
-  rows-are =
-      let number : 1 + length rows ≡ length rows + 1 = omega arith in
-      let L = records_after st.StartRecord below in
-      let begun : rows_below (header ∷ L) ≡ with_front [] (rows_from 1 L) = rw header-is (sym (starts (rows_from 1 L))) in
-      let gone : with_front [] (rows_from 1 L) ≡ with_front rows (rows_from (1 + length rows) (records_after st.StartRecord left)) = passes.goes_on 1 (omega arith) in
-      ap rows_of headed.stands ∙ ap rows_below (headed.reads below) ∙ begun ∙ gone ∙ ap (λ n. with_front rows (rows_from n (records_after st.StartRecord left))) number
-      ∙ ap (λ (rs : List Fields). with_front rows (rows_from (length rows + 1) rs)) (sym (behind-feed left))
-
-  -- The rows of the whole are the plain ones and those that are left.
-  pub rows-done : (last all : List Row) → rows_from (length rows + 1) (records_of (10 ∷ left)) ≡ Ok last → all ≡ rows ++ last → rows_of text ≡ Ok all
-  rows-done last all read is = rows-are ∙ ap (with_front rows) read ∙ ap Ok (sym is)
-
-  pub rows-fault : (fault : ReplayFault) → IsFaultOf (rows_from (length rows + 1) (records_of (10 ∷ left))) fault → IsFaultOf (rows_of text) fault
-  rows-fault fault own = carried (rows_from (length rows + 1) (records_of (10 ∷ left))) (rows_of text) fault (λ f e. rows-are ∙ ap (with_front rows) e) own

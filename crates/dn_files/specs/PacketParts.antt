@@ -1,5 +1,5 @@
 -- A packet file that comes in parts: what has been read of it, and what is left.
-use Rattle.std.specs.Prelude.{length, ◌+◌, ◌<◌, ◌≡◌, ◌⊎◌, ℕ, zero, suc, List, [], ◌∷◌, ◌++◌, Result, Ok, codes}
+use Rattle.std.specs.Prelude.{◌≡◌, ◌⊎◌, ℕ, zero, suc, List, [], ◌∷◌, ◌++◌, Result, Ok, codes}
 use Rattle.csv.specs.Writing.{default_writer, row_body}
 use Rattle.csv.specs.declared.parser.State.TheVariants as st
 use Rattle.dn_records.specs.Reading.{records_after}
@@ -23,14 +23,6 @@ rows_left (suc n) text = rows_from (suc n) (records_after st.StartRecord text)
 -- those, and then the rows of what the reader has left and of what follows.
 pub record HasRead (reader : Unread) (text : List ℕ) (rows : List Row) : Type 0 where
   pub goes_on : (more : List ℕ) → rows_of (text ++ more) ≡ with_front rows (rows_left reader.number (reader.text ++ more))
-
--- Rows were read from the front of a text that stands behind a line feed, and what is left of it stands behind one too. The
--- rows that were read before are followed by them.
-pub record PassesRows (text left : List ℕ) (old new : List Row) : Type 0 where
-  pub read : List ℕ
-  pub stands : 10 ∷ text ≡ read ++ 10 ∷ left
-  pub goes_on : (first : ℕ) → 0 < first
-      → with_front old (rows_from (first + length old) (records_after st.StartRecord text)) ≡ with_front new (rows_from (first + length new) (records_after st.StartRecord left))
 
 -- The fields of the header.
 abbrev pub header : Fields

@@ -64,9 +64,17 @@ impl PacketReader {
         ensures read { HasRead result [] [] }
         ensures empty { result ≡ record { number = 0; text = [] } }
     {
+        PacketReader::of_text(alloc, Vec::new(alloc))
+    }
+
+    // A reader to which this text has been fed.
+    pub(crate) fn of_text(alloc: Global, text: Vec<u8>) -> PacketReader
+        ensures read { HasRead result text.items [] }
+        ensures whole { result ≡ record { number = 0; text = text.items } }
+    {
         PacketReader {
             alloc,
-            text: Vec::new(alloc),
+            text,
             start: 0,
             number: 0,
         }
@@ -114,6 +122,7 @@ impl PacketReader {
     }
 
     // Reads the next row, if it is written in a plain form.
+    #[inline(always)]
     fn take_row(&mut self) -> Option<Row>
         ensures rows { MatchOption result
             ((text : List ℕ) → (rows : List Row) → HasRead self.old text rows → HasRead self.new text rows)
@@ -140,6 +149,7 @@ impl PacketReader {
     ///
     /// Each field of such a row is written as it is or in quotes. It ends in a line feed, or in a carriage return and a
     /// line feed. More text may make the row whole; `finish` reads any other.
+    #[inline(always)]
     pub fn next(&mut self) -> Option<Row>
         ensures rows { MatchOption result
             ((text : List ℕ) → (rows : List Row) → HasRead self.old text rows → HasRead self.new text rows)
@@ -169,5 +179,25 @@ impl PacketReader {
         let front = self.start - 1;
         put_line_feed(&mut self.text, front);
         rows_from_text(self.alloc, &self.text[front..], self.number)
+    }
+
+    // The rows of the text that has been fed: those that `next` gives, and those that are left.
+    pub(crate) fn all_rows(&mut self) -> Result<Vec<Row>, ReplayFault>
+        ensures ok { IfOk result (λ rows. (text : List ℕ) → HasRead self.old text [] → rows_of text ≡ Ok rows.items) }
+        ensures err { IfErr result (λ fault. (text : List ℕ) → HasRead self.old text [] → IsFaultOf (rows_of text) fault) }
+    {
+        let mut rows = Vec::new(self.alloc);
+        while let Some(row) = self.next() {
+            // The prover has to meet the module of this type here.
+            let _target = row.target;
+            if rows.push(row).is_err() {
+                return Err(ReplayFault::OutOfMemory);
+            }
+        }
+        let last = self.finish()?;
+        if rows.extend_from_slice(last.as_slice()).is_err() {
+            return Err(ReplayFault::OutOfMemory);
+        }
+        Ok(rows)
     }
 }

@@ -1,19 +1,18 @@
 ghost use Rattle.std.specs.Prelude.{◌≡◌, ◌≤◌, ◌^◌, false, Ok, IfOk, IfErr};
 ghost use Rattle.dn_records.specs.Records.{records_of};
 ghost use Rattle.dn_files.specs.PacketFile.{TakesRow, packet_file, rows_from, rows_of};
-ghost use Rattle.dn_files.specs.PacketParts.{PassesRows};
 ghost use Rattle.dn_files.specs.Reading.{IsFaultOf, IsRefusal, ReadsAs};
 ghost use Rattle.dn_files.specs.declared.source.Source.TheVariants.{Packets};
 
 use crate::input::read_input;
-use crate::quoted_row::{behind_header, row_at_front};
+use crate::packet_reader::PacketReader;
 use crate::replay_fault::ReplayFault;
 use crate::row::Row;
 use crate::row_fields::{is_header, read_row};
 use crate::source::Source;
 use csv::ByteRecord;
 use dn_records::{Inlet, RecordReader};
-use std::alloc::{AllocError, Global};
+use std::alloc::Global;
 
 /// The greatest length of a packet file in bytes.
 pub const PACKET_LIMIT: usize = 67_108_864;
@@ -66,8 +65,11 @@ fn rows_below(
     }
 }
 
-/// The rows of the records of a packet file's text.
-fn rows_of_records(alloc: Global, text: &[u8]) -> Result<Vec<Row>, ReplayFault>
+/// The rows of a packet file's text.
+///
+/// BadRow names the first bad row, from 1 on and 0 for the header, and its first bad field. OutOfMemory says that a growth
+/// was refused.
+pub fn rows_of_text(alloc: Global, text: &[u8]) -> Result<Vec<Row>, ReplayFault>
     ensures ok { IfOk result (λ rows. rows_of text.now ≡ Ok rows.items) }
     ensures err { IfErr result (λ fault. IsFaultOf (rows_of text.now) fault) }
 {
@@ -100,51 +102,6 @@ pub(crate) fn rows_from_text(
     rows_below(alloc, &mut reader, &mut fields, first)
 }
 
-/// Appends the rows that a text begins with and that are written in a plain form, and returns what follows them.
-fn take_plain_rows<'a>(text: &'a [u8], rows: &mut Vec<Row>) -> Result<&'a [u8], AllocError>
-    ensures { IfOk result (λ left. PassesRows text.now left.now rows.old.items rows.new.items) }
-{
-    let mut left = text;
-    loop {
-        let Some((row, behind)) = row_at_front(left) else {
-            return Ok(left);
-        };
-        // The prover has to meet the module of this type here.
-        let _target = row.target;
-        if rows.push(row).is_err() {
-            return Err(AllocError);
-        }
-        left = behind;
-    }
-}
-
-/// The rows of a packet file's text.
-///
-/// BadRow names the first bad row, from 1 on and 0 for the header, and its first bad field. OutOfMemory says that a growth
-/// was refused.
-pub fn rows_of_text(alloc: Global, text: &[u8]) -> Result<Vec<Row>, ReplayFault>
-    ensures ok { IfOk result (λ rows. rows_of text.now ≡ Ok rows.items) }
-    ensures err { IfErr result (λ fault. IsFaultOf (rows_of text.now) fault) }
-{
-    let Some(below) = behind_header(text) else {
-        return rows_of_records(alloc, text);
-    };
-    let mut rows = Vec::new(alloc);
-    let Ok(left) = take_plain_rows(below, &mut rows) else {
-        return Err(ReplayFault::OutOfMemory);
-    };
-    // A byte order mark would be passed over at the front of a text, and behind a line feed it isn't.
-    let front = text.len() - left.len() - 1;
-    let last = match rows_from_text(alloc, &text[front..], rows.len() as u64 + 1) {
-        Ok(last) => last,
-        Err(fault) => return Err(fault),
-    };
-    if rows.extend_from_slice(last.as_slice()).is_err() {
-        return Err(ReplayFault::OutOfMemory);
-    }
-    Ok(rows)
-}
-
 /// The rows of a packet file of at most 67,108,864 bytes, in their order.
 ///
 /// The fault of a file is the one of its first bad row, and of the first bad field there.
@@ -156,5 +113,6 @@ pub fn read_packets<I: Inlet>(alloc: Global, reader: &mut I) -> Result<Vec<Row>,
         IsRefusal Packets packet_file (I.remaining reader.old) (I.has_failed reader.new) fault) }
 {
     let text = read_input(alloc, reader, PACKET_LIMIT, Source::Packets)?;
-    rows_of_text(alloc, text.as_slice())
+    let mut packets = PacketReader::of_text(alloc, text);
+    packets.all_rows()
 }
