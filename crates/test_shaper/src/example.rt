@@ -1,6 +1,6 @@
 //! The one way that an example is run.
 //!
-//! What is refused memory is tried once more, so that an example holds also where any one growth is refused.
+//! What is refused memory is tried twice more, so that an example holds also if any two growths in a row are refused.
 
 use crate::step::Step;
 use dn_shaper::{Shaper, run};
@@ -61,12 +61,14 @@ fn replies_by(alloc: Global, rule: Rule, calls: &[Call]) -> Result<Vec<Reply>, A
     }
 }
 
-// The reply to a call. Where it is refused, it is made again.
+// The reply to a call. If it is refused memory, it is made twice more at most.
 fn answer(rt: &impl Print, shaper: &mut Shaper, call: &Call) -> Result<Reply, Fail> {
-    if let Ok(reply) = shaper.apply(call) {
-        return Ok(reply);
+    for _ in 0..2u64 {
+        if let Ok(reply) = shaper.apply(call) {
+            return Ok(reply);
+        }
+        println!(rt; "a growth was refused")?;
     }
-    println!(rt; "a growth was refused")?;
     Ok(shaper.apply(call)?)
 }
 

@@ -31,8 +31,14 @@ impl Trial {
         }
     }
 
-    // A Show is answered as the last one was.
+    // A Show is answered as the last one was. It is made twice more if it is refused memory.
     fn is_as_shown(&mut self, rt: &impl Abort) -> Result<(), Fail> {
+        for _ in 0..2u64 {
+            if let Ok(reply) = self.shaper.apply(&Call::Show) {
+                assert!(rt; reply == self.shown);
+                return Ok(());
+            }
+        }
         let reply = self.shaper.apply(&Call::Show)?;
         assert!(rt; reply == self.shown);
         Ok(())
@@ -54,13 +60,15 @@ impl Trial {
         self.is_as_shown(rt)
     }
 
-    // The reply to a call. Where it is refused, it is made again.
+    // The reply to a call. If it is refused memory, it is made twice more at most.
     fn answer(&mut self, rt: &(impl Abort + Print), call: &Call) -> Result<Reply, Fail> {
-        let calls = self.shaper.calls();
-        if let Ok(reply) = self.shaper.apply(call) {
-            return Ok(reply);
+        for _ in 0..2u64 {
+            let calls = self.shaper.calls();
+            if let Ok(reply) = self.shaper.apply(call) {
+                return Ok(reply);
+            }
+            self.is_as_before(rt, call, calls)?;
         }
-        self.is_as_before(rt, call, calls)?;
         Ok(self.shaper.apply(call)?)
     }
 
@@ -99,7 +107,7 @@ impl Trial {
 
 /// A shaper returns the replies of the steps, by `apply`, and shows these flows after each.
 ///
-/// It does so also if any one growth is refused.
+/// It does so also if any one growth is refused, or any two in a row.
 pub fn holds_when_refused<R: Abort + Print + AllocGlobal>(
     rt: &R,
     steps: &[ShownStep<'_>],

@@ -1,6 +1,6 @@
 use crate::flow::Flow;
 use dn_types::{Deliveries, Delivery, FlowKey, Reply, Statuses, Target};
-use std::alloc::Global;
+use std::alloc::{AllocError, Global};
 use std::test::Fail;
 
 /// A reply in plain numbers and lists.
@@ -20,20 +20,25 @@ pub enum Wanted<'a> {
     Status { list: &'a [Flow] },
 }
 
-// What is refused memory here is tried once more, so that the shaper is asked all the same.
-fn deliveries(alloc: Global, list: &[Delivery]) -> Result<Deliveries, Fail> {
-    let mut items = Vec::new(alloc);
-    if items.extend_from_slice(list).is_err() {
-        items.extend_from_slice(list)?;
+// A list with room for so many items. What is refused memory here is tried twice more, so that the shaper is asked all the
+// same.
+fn with_room<T: Drop>(alloc: Global, n: usize) -> Result<Vec<T>, AllocError> {
+    for _ in 0..2u64 {
+        if let Ok(items) = Vec::with_capacity(alloc, n) {
+            return Ok(items);
+        }
     }
+    Vec::with_capacity(alloc, n)
+}
+
+fn deliveries(alloc: Global, list: &[Delivery]) -> Result<Deliveries, Fail> {
+    let mut items = with_room(alloc, list.len())?;
+    items.extend_from_slice(list)?;
     Ok(Deliveries::from_vec(items))
 }
 
 fn statuses(alloc: Global, list: &[Flow]) -> Result<Statuses, Fail> {
-    let mut items = Vec::new(alloc);
-    if items.reserve(list.len()).is_err() {
-        items.reserve(list.len())?;
-    }
+    let mut items = with_room(alloc, list.len())?;
     // The prover asks that a body that moves a state into a list names the types in it.
     let _key: Option<FlowKey> = None;
     let _target: Option<Target> = None;
