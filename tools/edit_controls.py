@@ -72,10 +72,7 @@ CONTROLS = {
     "dn_service/taker_is_its_own_hindrance": [("self.caller.number() == 0", "self.caller.number() != self.caller.number()")],
     "dn_service/taker_takes_at_its_end": [("caller.try_take(&mut lasting)", "caller.number()")],
     "dn_service/taker_takes_at_its_start": [("caller.try_take(&mut lasting)", "caller.number()")],
-    "dn_service/without_the_reply": [
-        ("ghost use Rattle.dn_types.specs.Clock", "ghost use Rattle.dn_types.specs.Replies.{reply}; ghost use Rattle.dn_types.specs.Clock"),
-        ("ensures err {", "ensures ok { IfOk result (λ r. (rule : RuleValue) (calls : List CallValue) → StandsAfter rule self.old calls"
-         " → (r ≡ reply rule calls call.now) × StandsAfter rule self.new (call.now ∷ calls)) } ensures err {")],
+    "dn_service/without_the_state_of_the_shaper": [("× ⊤)", "× StandsAfter rule self.new (call.now ∷ calls))")],
     "dn_shaper/collects_again": [("list.extend_from_slice(given)", "list.len()")],
     "dn_shaper/memory_after_change_the_flow": [("find_or_make(*key)", "len()")],
     "dn_shaper/opening_reply": [("Reply::NoTarget { at }", "reply"), ("at: moment.get()", "at: at")],
