@@ -81,7 +81,7 @@ CONTROLS = {
         ("ensures pending {", "ensures value { result ≡ due_first at self.old.pending } ensures pending {")],
     "dn_shaper/without_which_is_picked": [
         ("ghost use Rattle.dn_types.specs.Wf2q.{pick};", "ghost use Rattle.std.specs.Option.{option_map}; ghost use Rattle.dn_types.specs.Wf2q.{pick};"),
-        ("ensures some {", "ensures picks { result ≡ option_map (λ h. h.flow) (pick self.old.virtual_time (heads_of self.old.flows)) } ensures some {")],
+        ("ensures picks { ⊤ }", "ensures picks { result ≡ option_map (λ h. h.flow) (pick self.old.virtual_time (heads_of self.old.flows)) }")],
     "dn_shaper/without_the_packet_pushed": [
         ("fn push_reserved(", "ghost use Rattle.std.specs.Prelude.{slice_set}; ghost use Rattle.dn_flows.specs.Table.{pushed}; fn push_reserved("),
         ("ensures keys {", "ensures flows { flows.new.flows ≡ slice_set flows.old.flows flow (pushed waiting (flow_at flows.old.flows flow)) } ensures keys {")],
