@@ -90,8 +90,8 @@ CONTROLS = {
     "dn_files/short_read_ends_the_feed": [("count < PART", "count == 0")],
     "dn_replay/fault_before_a_failed_read": [("return Err(fault);", "let _ = fault;")],
     "dn_replay/without_the_answers_of_a_caller": [
-        ("Prelude.{OnErr};", "Prelude.{OnErr}; ghost use Rattle.dn_service.specs.Callers.{Answered};"),
-        ("ensures same_caller {", "ensures ok { IfOk result (λ reply. Answered self.old call reply self.new) } ensures same_caller {")],
+        ("Prelude.{⊤, OnErr};", "Prelude.{OnErr}; ghost use Rattle.dn_service.specs.Callers.{Answered};"),
+        ("(λ reply. ⊤)", "(λ reply. Answered self.old call reply self.new)")],
     "dn_audit/without_the_replies_of_the_shaper": [
         ("ghost use Rattle.dn_types.specs.Clock", "ghost use Rattle.std.specs.Prelude.{IfOk}; ghost use Rattle.dn_types.specs.Replies.{reply}; ghost use Rattle.dn_types.specs.Clock"),
         ("ensures err {", "ensures ok { IfOk result (λ r. (rule : RuleValue) (calls : List CallValue) → StandsAfter rule self.old calls"
