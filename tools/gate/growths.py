@@ -3,8 +3,8 @@
     python3 tools/gate/growths.py CRATE TESTS [IN_A_ROW]
 
 TESTS is a module, as `heap::`, or the whole name of a test. With IN_A_ROW above 1 as many are refused one after the other. A refusal that
-nobody sees proves nothing: where each growth is refused, one test at least has to fail for want of memory. tools/refused_growths.sh does
-it, over the tests that were built.
+nobody sees proves nothing: where each growth is refused, one test at least has to fail for want of memory, and where some in a row are, one
+at least has to make a call again. tools/refused_growths.sh does it, over the tests that were built.
 """
 
 from __future__ import annotations
@@ -18,7 +18,7 @@ from pathlib import Path
 from tally import Tally
 
 TOP = Path(__file__).resolve().parent.parent.parent
-ENDED = re.compile(r"^(\S+): each of \d+ growths refused in turn, .* (fails|passes) without memory$", re.M)
+ENDED = re.compile(r"^(\S+): each of \d+ growths refused in turn, .* made again in (\d+) runs; (fails|passes) without memory$", re.M)
 
 
 def main(crate: str, tests: str, in_a_row: str = "1") -> int:
@@ -28,11 +28,13 @@ def main(crate: str, tests: str, in_a_row: str = "1") -> int:
     print(done.stdout, end="")
     broken = re.findall(r"^(\S+) fails where growth ", done.stdout, re.M)
     ended = ENDED.findall(done.stdout)
-    for test, _ in ended:
+    for test, _, _ in ended:
         tally.note(test, "a run fails" if test in broken else "")
     if not ended or (done.returncode == 0) == bool(broken):
         tally.note(f"{crate}, {tests}", f"status {done.returncode}, {len(ended)} tests")
-    tally.note(f"{crate}, {tests}, want of memory", "" if "fails" in [without for _, without in ended] else "no test sees it")
+    tally.note(f"{crate}, {tests}, want of memory", "" if "fails" in [without for _, _, without in ended] else "no test sees it")
+    if in_a_row != "1":
+        tally.note(f"{crate}, {tests}, a call made again", "" if any(int(again) for _, again, _ in ended) else "no test makes one again")
     return tally.end()
 
 
