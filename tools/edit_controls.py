@@ -93,9 +93,8 @@ CONTROLS = {
         ("Prelude.{⊤, OnErr};", "Prelude.{OnErr}; ghost use Rattle.dn_service.specs.Callers.{Answered};"),
         ("(λ reply. ⊤)", "(λ reply. Answered self.old call reply self.new)")],
     "dn_audit/without_the_replies_of_the_shaper": [
-        ("ghost use Rattle.dn_types.specs.Clock", "ghost use Rattle.std.specs.Prelude.{IfOk}; ghost use Rattle.dn_types.specs.Replies.{reply}; ghost use Rattle.dn_types.specs.Clock"),
-        ("ensures err {", "ensures ok { IfOk result (λ r. (rule : RuleValue) (calls : List CallValue) → StandsAfter rule self.old calls"
-         " → (r ≡ reply rule calls call.now) × StandsAfter rule self.new (call.now ∷ calls)) } ensures err {")],
+        ("ghost use Rattle.dn_types.specs.Clock", "ghost use Rattle.dn_types.specs.Replies.{reply}; ghost use Rattle.dn_types.specs.Clock"),
+        ("⊤ × StandsAfter", "(r ≡ reply rule calls call.now) × StandsAfter")],
 }
 
 
