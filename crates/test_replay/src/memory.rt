@@ -3,6 +3,7 @@ use dn_records::{FromReader, FromWriter};
 use dn_replay::{HashKey, ReplayFault, replay_joined_with_key, replay_with_key};
 use dn_text::split_joined;
 use std::alloc::Global;
+use std::process::Abort;
 use std::test::Fail;
 use test_devices::with_room;
 
@@ -24,18 +25,37 @@ fn replay_two(alloc: Global, written: &mut Vec<u8>) -> Result<usize, ReplayFault
     )
 }
 
-// Run with each growth refused in turn, these tests pass for every one: a call that is refused memory has written
-// nothing, and made again it answers what it would have.
+// A replay of one input. A call that is refused memory has written nothing, and is made twice more at most.
+fn one_again<R: Abort>(rt: &R, alloc: Global, written: &mut Vec<u8>) -> Result<usize, ReplayFault> {
+    for _ in 0..2u64 {
+        let answer = replay_one(alloc, written);
+        if answer != Err(ReplayFault::OutOfMemory) {
+            return answer;
+        }
+        assert!(rt; written.is_empty());
+    }
+    replay_one(alloc, written)
+}
+
+// The same of its two parts.
+fn two_again<R: Abort>(rt: &R, alloc: Global, written: &mut Vec<u8>) -> Result<usize, ReplayFault> {
+    for _ in 0..2u64 {
+        let answer = replay_two(alloc, written);
+        if answer != Err(ReplayFault::OutOfMemory) {
+            return answer;
+        }
+        assert!(rt; written.is_empty());
+    }
+    replay_two(alloc, written)
+}
+
+// Run with each growth refused in turn, or each two in a row, these tests pass for every one: a call that is refused
+// memory has written nothing, and made again it answers what it would have.
 #[test]
 fn a_refused_replay_of_one_input_is_made_again(rt: HostRuntime) -> Result<(), Fail> {
     let alloc = rt.alloc();
     let mut written = with_room(alloc, REPORT.len())?;
-    let mut answer = replay_one(alloc, &mut written);
-    if answer == Err(ReplayFault::OutOfMemory) {
-        assert!(rt; written.is_empty());
-        answer = replay_one(alloc, &mut written);
-    }
-    assert!(rt; answer == Ok(6));
+    assert!(rt; one_again(&rt, alloc, &mut written) == Ok(6));
     assert!(rt; written.as_slice() == REPORT.as_bytes());
     Ok(())
 }
@@ -44,12 +64,7 @@ fn a_refused_replay_of_one_input_is_made_again(rt: HostRuntime) -> Result<(), Fa
 fn a_refused_replay_of_two_inputs_is_made_again(rt: HostRuntime) -> Result<(), Fail> {
     let alloc = rt.alloc();
     let mut written = with_room(alloc, REPORT.len())?;
-    let mut answer = replay_two(alloc, &mut written);
-    if answer == Err(ReplayFault::OutOfMemory) {
-        assert!(rt; written.is_empty());
-        answer = replay_two(alloc, &mut written);
-    }
-    assert!(rt; answer == Ok(6));
+    assert!(rt; two_again(&rt, alloc, &mut written) == Ok(6));
     assert!(rt; written.as_slice() == REPORT.as_bytes());
     Ok(())
 }
