@@ -103,13 +103,12 @@ def keep_program(sum: str) -> None:
 def parts(cases: str, seed: int) -> list[Part]:
     """All parts, those that take longest first."""
     python, program = sys.executable, str(MADE)
-    tests = [("test_live", "memory::"), ("test_shaper", "refused_growths::"),
+    tests = [*[(f"test_{crate}", "memory::") for crate in ("histories", "replay", "callers", "live")],
+             ("test_shaper", "refused_growths::"), ("test_parts", "scheduler::"), ("test_parts", "heap::"),
+             *[("test_parts", f"{part}::a_refused_growth_changes_nothing") for part in ("link", "flows")],
              *[("test_service", f"one_caller::a_{call}_that_memory_refuses_leaves_no_trace") for call in ("call", "try")]]
     # A list that is refused room for more asks again for just enough, so one refusal is hidden where two in a row aren't.
-    growths = [*[(f"test_{crate}", "memory::") for crate in ("histories", "replay", "callers")],
-               ("test_parts", "scheduler::"), ("test_parts", "heap::"),
-               *[("test_parts", f"{part}::a_refused_growth_changes_nothing") for part in ("link", "flows")],
-               *[(*words, row) for words in tests for row in ("2", "1")]]
+    growths = [(*words, row) for words in tests for row in ("2", "1")]
     return [
         Part("limits of input", [python, "tools/limit_checks.py", program]),
         *[Part(f"refused growths: {' '.join(words)}", [python, "tools/gate/growths.py", *words], "cc") for words in growths],

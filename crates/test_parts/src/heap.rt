@@ -14,13 +14,19 @@ fn first_due(alloc: Global) -> Result<Option<u64>, AllocError> {
     Ok(first)
 }
 
+/// The same, twice more at most if memory was refused.
+fn first_due_again(alloc: Global) -> Result<Option<u64>, AllocError> {
+    for _ in 0..2u64 {
+        if let Ok(first) = first_due(alloc) {
+            return Ok(first);
+        }
+    }
+    first_due(alloc)
+}
+
 #[test]
 fn the_least_key_comes_first(rt: HostRuntime) {
-    let mut first = first_due(rt.alloc());
-    if first.is_err() {
-        first = first_due(rt.alloc());
-    }
-    assert!(rt; first == Ok(Some(30)));
+    assert!(rt; first_due_again(rt.alloc()) == Ok(Some(30)));
 }
 
 fn check_parts<R: Abort>(rt: &R, heap: &mut MinHeap<u32>) -> Result<(), AllocError> {

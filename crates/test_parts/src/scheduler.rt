@@ -1,3 +1,6 @@
+ghost use Rattle.std.specs.Prelude.{◌<◌, OnOk};
+ghost use Rattle.dn_wf2q.specs.Schedule.{room_at};
+
 use dn_types::{Len, Weight};
 use dn_wf2q::Sched;
 use std::alloc::{AllocError, Global};
@@ -28,13 +31,23 @@ fn told(sched: &Sched) -> (bool, u128, u64, u64, u64) {
     )
 }
 
-/// A packet of 1,000 bytes arrives, at the next try if a growth is refused, which changes nothing (`--fail-alloc N`).
-fn arrive(rt: &impl Abort, sched: &mut Sched, slot: usize, weight: u8) -> Result<(), AllocError> {
+/// Makes a flow with room for a packet, twice more at most if a growth is refused, which changes nothing.
+fn reserved_again(rt: &impl Abort, sched: &mut Sched, slot: usize) -> Result<(), AllocError>
+    ensures reserved { OnOk result (0 < room_at sched.new.room slot) }
+{
     let before = told(sched);
-    if sched.reserve_flow(slot).is_err() {
+    for _ in 0..2u64 {
+        if sched.reserve_flow(slot).is_ok() {
+            return Ok(());
+        }
         assert!(rt; told(sched) == before);
-        sched.reserve_flow(slot)?;
     }
+    sched.reserve_flow(slot)
+}
+
+/// A packet of 1,000 bytes arrives.
+fn arrive(rt: &impl Abort, sched: &mut Sched, slot: usize, weight: u8) -> Result<(), AllocError> {
+    reserved_again(rt, sched, slot)?;
     if let (Some(len), Some(weight)) = (Len::new(1000), Weight::new(weight)) {
         if sched.arrivals() < 1 << 62 {
             sched.arrive(slot, len, weight);
