@@ -20,7 +20,7 @@ use Rattle.dn_files.specs.Reading.{IsTextOf}
 use Rattle.dn_files.specs.Writing.{IsUnwritten}
 use Rattle.dn_files.proofs.Causes.{unwritten-cases}
 use Rattle.dn_files.specs.declared.replay_fault.ReplayFault.{ReplayFault}
-use Rattle.dn_files.specs.declared.replay_fault.ReplayFault.TheVariants.{BadRow, Read, Write, TooLong, OutOfMemory, Config, ConfigText, NoSuchPipe, BadRecord, BadCount, PipeHasQueues, NoSuchQueue}
+use Rattle.dn_files.specs.declared.replay_fault.ReplayFault.TheVariants.{Read, Write, TooLong, OutOfMemory}
 use Rattle.dn_files.specs.declared.source.Source.TheVariants.{History}
 use Rattle.dn_live.specs.Asked.{asked}
 use Rattle.dn_live.specs.LinesTaken.{HasFront, IsLine, IsNotTaken, TakesLine}
@@ -121,15 +121,7 @@ module _ (known : Option (List ℕ)) (read_failed : Bool) (old mid new : Option 
       let (piece, begins, one, long) = h.2 in
       (f, (lines, (read, all, app), (h.0, h.1, inl (piece, front-behind known left (lines_text lines) piece took begins, one, long))))
   next-broken left OutOfMemory took app f h = (f, (lines, (read, all, app), h))
-  next-broken left (Write what) took app f h = absurd h
-  next-broken left (Config l e) took app f h = absurd h
-  next-broken left (ConfigText l) took app f h = absurd h
-  next-broken left (NoSuchPipe l) took app f h = absurd h
-  next-broken left (BadRow r e) took app f h = absurd h
-  next-broken left (BadRecord n) took app f h = absurd h
-  next-broken left BadCount took app f h = absurd h
-  next-broken left (PipeHasQueues l) took app f h = absurd h
-  next-broken left (NoSuchQueue l) took app f h = absurd h
+  next-broken left fault took app f h = absurd h
 
   -- A text behind what was written for the lines wasn't written: it begins what is written of these lines and this tail.
   pub unwritten : (fault : ReplayFault) (more : List (List ℕ)) (tail text rest : List ℕ) → begun more ++ closing more tail ≡ (begun lines ++ text) ++ rest
