@@ -57,8 +57,10 @@ pub fn number_at_end(text: &[u8], least: u64, greatest: u64) -> Option<(u64, &[u
     ensures value { option_map (λ p. (p.0, p.1.now)) result ≡ number_at_end least greatest text.now }
     ensures in_range { IfSome result (λ p. (least ≤ p.0) × (p.0 ≤ greatest)) }
 {
-    match number_until(text, b'\n', least, greatest) {
-        Some(found) => Some(found),
-        None => number_before_return(text, least, greatest),
+    if let Some(found) = number_until(text, b'\n', least, greatest) {
+        return Some(found);
     }
+    // Handed on as it is, this call's result would put the number before a line feed into memory too.
+    let (number, rest) = number_before_return(text, least, greatest)?;
+    Some((number, rest))
 }

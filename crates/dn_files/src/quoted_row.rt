@@ -207,8 +207,12 @@ fn quoted_row(text: &[u8]) -> Option<(Row, &[u8])>
 pub(crate) fn row_at_front(text: &[u8]) -> Option<(Row, &[u8])>
     ensures { option_map (λ p. (p.0, p.1.now)) result ≡ row_at_front text.now }
 {
-    match plain_row(text) {
-        Some(found) => Some(found),
-        None => quoted_row(text),
+    if let Some(found) = plain_row(text) {
+        return Some(found);
     }
+    // Taken apart for the reason of `number_at_end`.
+    let Some((row, rest)) = quoted_row(text) else {
+        return None;
+    };
+    Some((row, rest))
 }
