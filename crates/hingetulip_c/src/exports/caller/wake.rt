@@ -5,7 +5,9 @@ use crate::caller_handle::CallerHandle;
 use crate::status::CLOSED;
 use std::alloc::Global;
 
-/// Writes the first moment at which a packet is due or starts, if no other call comes, and 2^64 - 1 if none waits or is under way.
+/// Writes the first moment at which a packet is due or starts, if no other call comes.
+///
+/// It is 2^64 - 1 if no packet waits or is under way.
 #[tactic(auto, using(crate::proofs::Serving::woke_by, crate::proofs::Serving::busy_with))]
 #[unsafe(no_mangle)]
 pub extern "C" fn dn_caller_wake(
