@@ -11,3 +11,5 @@ mod replies;
 mod threads;
 #[cfg(test)]
 mod two_callers;
+#[cfg(test)]
+mod wakes;
