@@ -55,6 +55,10 @@ def queue_delete(program: str, flows: int, folder: str) -> int:
     return session("queue_delete.py", program, flows, folder)
 
 
+def delete_turns(program: str, count: int, folder: str) -> int:
+    return session("delete_turns.py", program, count, folder)
+
+
 def idle_deletes(program: str, count: int, folder: str) -> int:
     return session("idle_deletes.py", program, count, folder)
 
@@ -94,6 +98,7 @@ def entries(end: bytes) -> Cost:
 
 CASES: dict[str, Cost] = {
     "flows with chosen keys": chosen_keys, "flows of one deleted queue": queue_delete, "deletes that reach no flow": idle_deletes,
+    "flows beside deletes and arrivals by turns": delete_turns,
     "deletes of a queue with a new flow": reset_flows("queue"), "deletes of a queue with a new mask": reset_flows("masks"),
     "deletes of a pipe with a new flow": reset_flows("pipe"), "deletes of a flow that has sent all": reset_flows("sent"),
     "KiB of digits as a moment": digits("moment"), "KiB of digits as an address": digits("address"),
