@@ -6,7 +6,7 @@ use Rattle.dn_types.specs.declared.entry.Entry.{Entry}
 use Rattle.dn_records.specs.Records.{Fields}
 use Rattle.dn_files.specs.Reading.{◌>>=◌, IsFaultOf}
 use Rattle.dn_files.specs.declared.replay_fault.ReplayFault.{ReplayFault}
-use Rattle.dn_files.specs.declared.replay_fault.ReplayFault.TheVariants.{BadRow, Read as ReadFailed, Write, TooLong, OutOfMemory, Config, ConfigText, NoSuchPipe, BadRecord, BadCount, PipeHasQueues, NoSuchQueue}
+use Rattle.dn_files.specs.declared.replay_fault.ReplayFault.TheVariants.{Read as ReadFailed, Write, OutOfMemory}
 use Rattle.dn_files.proofs.Inputs.{carried}
 use Rattle.dn_history.specs.HistoryFile.{before, between, call_of, delivered_from, end_by, entries_from, entry_by, entry_from, nothing_in, reply_by, reply_from, status_from}
 use Rattle.dn_history.specs.HistoryRecords.{caller_of, has_remarks}
@@ -136,12 +136,4 @@ pub own_fault : {A : Type 0} (read : Result A ReplayFault) (fault : ReplayFault)
 own_fault read OutOfMemory is = tt
 own_fault read (ReadFailed source) is = absurd is
 own_fault read (Write source) is = absurd is
-own_fault read (Config line f) is = refl
-own_fault read (ConfigText line) is = refl
-own_fault read (NoSuchPipe line) is = refl
-own_fault read (BadRow row field) is = refl
-own_fault read (BadRecord number) is = refl
-own_fault read (TooLong source) is = refl
-own_fault read BadCount is = refl
-own_fault read (PipeHasQueues line) is = refl
-own_fault read (NoSuchQueue line) is = refl
+own_fault read fault is = refl

@@ -12,7 +12,7 @@ use Rattle.dn_files.specs.Reading.{◌>>=◌, IsRefusal, within_limit}
 use Rattle.dn_history.specs.RecordsLeft.{Rest, first_record, in_record, item_from, items_from, next_record}
 use Rattle.dn_history.specs.declared.history_version.HistoryVersion.{HistoryVersion}
 use Rattle.dn_files.specs.declared.replay_fault.ReplayFault.{ReplayFault}
-use Rattle.dn_files.specs.declared.replay_fault.ReplayFault.TheVariants.{BadRow, Read, Write, TooLong, OutOfMemory, Config, ConfigText, NoSuchPipe, BadRecord, BadCount, PipeHasQueues, NoSuchQueue}
+use Rattle.dn_files.specs.declared.replay_fault.ReplayFault.TheVariants.{Read, Write, TooLong, OutOfMemory, BadRecord}
 use Rattle.dn_files.specs.declared.source.Source.TheVariants.{History}
 
 abbrev HasFileFault : {A : Type 0} → Result A ReplayFault → Type 0
@@ -53,17 +53,7 @@ command_good : (version : HistoryVersion) (number : ℕ) (r : Result (Option Com
 command_good version number (Ok None) = record { fits = tt }
 command_good version number (Ok (Some command)) = chosen _ _ _ (record_good number) (value_good command)
 command_good version number (Err OutOfMemory) = record { fits = tt }
-command_good version number (Err (BadRecord n)) = record { fits = tt }
-command_good version number (Err (Config line f)) = record { fits = tt }
-command_good version number (Err (ConfigText line)) = record { fits = tt }
-command_good version number (Err (NoSuchPipe line)) = record { fits = tt }
-command_good version number (Err (BadRow row field)) = record { fits = tt }
-command_good version number (Err (TooLong what)) = record { fits = tt }
-command_good version number (Err (Read what)) = record { fits = tt }
-command_good version number (Err (Write what)) = record { fits = tt }
-command_good version number (Err BadCount) = record { fits = tt }
-command_good version number (Err (PipeHasQueues line)) = record { fits = tt }
-command_good version number (Err (NoSuchQueue line)) = record { fits = tt }
+command_good version number (Err fault) = record { fits = tt }
 
 call_good : (version : HistoryVersion) (number : ℕ) (fields : Fields) → IsGood (call_of version number fields)
 unfolding call_of
@@ -139,15 +129,7 @@ pub of_reading_within : (limit : ℕ) (known : Option (List ℕ)) (failed : Bool
 of_reading_within limit known failed (Read what) h = h.0
 of_reading_within limit known failed (Write what) h = absurd h
 of_reading_within limit known failed OutOfMemory h = tt
-of_reading_within limit known failed (Config line f) h = of_file limit h.1.0 (Config line f) h.1.2
-of_reading_within limit known failed (ConfigText line) h = of_file limit h.1.0 (ConfigText line) h.1.2
-of_reading_within limit known failed (NoSuchPipe line) h = of_file limit h.1.0 (NoSuchPipe line) h.1.2
-of_reading_within limit known failed (BadRow row field) h = of_file limit h.1.0 (BadRow row field) h.1.2
-of_reading_within limit known failed (BadRecord number) h = of_file limit h.1.0 (BadRecord number) h.1.2
-of_reading_within limit known failed (TooLong what) h = of_file limit h.1.0 (TooLong what) h.1.2
-of_reading_within limit known failed BadCount h = of_file limit h.1.0 BadCount h.1.2
-of_reading_within limit known failed (PipeHasQueues line) h = of_file limit h.1.0 (PipeHasQueues line) h.1.2
-of_reading_within limit known failed (NoSuchQueue line) h = of_file limit h.1.0 (NoSuchQueue line) h.1.2
+of_reading_within limit known failed fault h = of_file limit h.1.0 fault h.1.2
 
 -- The same with the limit of a history file.
 pub of_reading : (known : Option (List ℕ)) (failed : Bool) (fault : ReplayFault) → IsRefusal History history_file known failed fault → IsHistoryFault fault
