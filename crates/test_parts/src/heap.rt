@@ -108,6 +108,53 @@ fn pushes_and_pops_in_one_step(rt: HostRuntime) -> Result<(), AllocError> {
     outcome
 }
 
+/// The least key goes and comes back, if there is one.
+fn there_and_back(heap: &mut MinHeap<u32>) {
+    if let Some(least) = heap.pop() {
+        heap.put_back(least);
+    }
+}
+
+/// The keys of another heap come, if there is room for them.
+fn taken_back(heap: &mut MinHeap<u32>, other: &mut MinHeap<u32>) -> bool {
+    let fits = other.len() <= heap.room();
+    if fits {
+        heap.take_back(other);
+    }
+    fits
+}
+
+fn check_back<R: Abort>(
+    rt: &R,
+    heap: &mut MinHeap<u32>,
+    other: &mut MinHeap<u32>,
+) -> Result<(), AllocError> {
+    reserved_again(rt, heap, 4)?;
+    reserved_again(rt, other, 3)?;
+    push_all(heap, [7, 3].as_slice());
+    push_all(other, [9, 1, 5].as_slice());
+    there_and_back(heap);
+    check_told(rt, heap, (Some(3), 2, 2, 2));
+    assert!(rt; !taken_back(heap, other));
+    there_and_back(other);
+    assert!(rt; other.pop() == Some(1));
+    assert!(rt; taken_back(heap, other));
+    check_told(rt, heap, (Some(3), 4, 0, 2));
+    check_told(rt, other, (None, 0, 3, 3));
+    check_last(rt, heap, [3, 5, 7, 9].as_slice());
+    Ok(())
+}
+
+#[test]
+fn keys_come_back(rt: HostRuntime) -> Result<(), AllocError> {
+    let mut heap = MinHeap::new(rt.alloc());
+    let mut other = MinHeap::new(rt.alloc());
+    let outcome = check_back(&rt, &mut heap, &mut other);
+    drop(other);
+    drop(heap);
+    outcome
+}
+
 fn check_passing<R: Abort>(rt: &R, heap: &mut MinHeap<u32>) -> Result<(), AllocError> {
     reserved_again(rt, heap, 5)?;
     push_all(heap, [8, 3, 4, 8, 5].as_slice());

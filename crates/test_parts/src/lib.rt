@@ -8,6 +8,8 @@ mod config;
 #[cfg(test)]
 mod devices;
 #[cfg(test)]
+mod discards;
+#[cfg(test)]
 mod file_texts;
 #[cfg(test)]
 mod files;

@@ -46,7 +46,12 @@ fn reserved_again(rt: &impl Abort, sched: &mut Sched, slot: usize) -> Result<(),
 }
 
 /// A packet of 1,000 bytes arrives.
-fn arrive(rt: &impl Abort, sched: &mut Sched, slot: usize, weight: u8) -> Result<(), AllocError> {
+pub(crate) fn arrive(
+    rt: &impl Abort,
+    sched: &mut Sched,
+    slot: usize,
+    weight: u8,
+) -> Result<(), AllocError> {
     reserved_again(rt, sched, slot)?;
     if let (Some(len), Some(weight)) = (Len::new(1000), Weight::new(weight)) {
         if sched.arrivals() < 1 << 62 {
