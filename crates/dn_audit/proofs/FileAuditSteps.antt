@@ -15,7 +15,7 @@ use Rattle.dn_files.specs.Writing.{IsUnwritten}
 use Rattle.dn_files.proofs.Causes.{unwritten-cases}
 use Rattle.dn_files.proofs.Inputs.{carried}
 use Rattle.dn_files.specs.declared.replay_fault.ReplayFault.{ReplayFault}
-use Rattle.dn_files.specs.declared.replay_fault.ReplayFault.TheVariants.{BadRow, Read, Write, TooLong, OutOfMemory, Config, ConfigText, NoSuchPipe, BadRecord, BadCount, PipeHasQueues, NoSuchQueue}
+use Rattle.dn_files.specs.declared.replay_fault.ReplayFault.TheVariants.{BadRecord, OutOfMemory, Read, TooLong, Write}
 use Rattle.dn_files.specs.declared.source.Source.TheVariants.{History, Report}
 use Rattle.dn_audit.specs.declared.running_audit.RunningAudit.{RunningAudit}
 use Rattle.dn_audit.specs.declared.verdict.Verdict.{Verdict}
@@ -24,17 +24,7 @@ use Rattle.dn_audit.specs.declared.verdict.Verdict.{Verdict}
 pub unread : (limit : ℕ) (known old : Option (List ℕ)) (read_failed failed : Bool) (fault : ReplayFault)
     → failed ≡ false → IsRefusal History (history_within limit) known read_failed fault → IsUnauditedWithin limit known read_failed old old failed fault
 unread limit known old read_failed failed (Write what) sound h = absurd h
-unread limit known old read_failed failed OutOfMemory sound h = (h, (sound, Keeps-refl old))
-unread limit known old read_failed failed (Read what) sound h = (h, (sound, Keeps-refl old))
-unread limit known old read_failed failed (Config l f) sound h = (h, (sound, Keeps-refl old))
-unread limit known old read_failed failed (ConfigText l) sound h = (h, (sound, Keeps-refl old))
-unread limit known old read_failed failed (NoSuchPipe l) sound h = (h, (sound, Keeps-refl old))
-unread limit known old read_failed failed (BadRow r f) sound h = (h, (sound, Keeps-refl old))
-unread limit known old read_failed failed (BadRecord n) sound h = (h, (sound, Keeps-refl old))
-unread limit known old read_failed failed (TooLong s) sound h = (h, (sound, Keeps-refl old))
-unread limit known old read_failed failed BadCount sound h = (h, (sound, Keeps-refl old))
-unread limit known old read_failed failed (PipeHasQueues l) sound h = (h, (sound, Keeps-refl old))
-unread limit known old read_failed failed (NoSuchQueue l) sound h = (h, (sound, Keeps-refl old))
+unread limit known old read_failed failed fault sound h = (h, (sound, Keeps-refl old))
 
 -- The line of a verdict isn't written.
 pub untold : (limit : ℕ) (known old new : Option (List ℕ)) (read_failed failed : Bool) (verdict : Verdict) (line : List ℕ) (fault : ReplayFault)
@@ -84,14 +74,7 @@ of_reading (Read what) h = h
 of_reading (TooLong what) h = h
 of_reading (BadRecord number) h = tt
 of_reading OutOfMemory h = tt
-of_reading (Write what) h = absurd h
-of_reading (Config line f) h = absurd h
-of_reading (ConfigText line) h = absurd h
-of_reading (NoSuchPipe line) h = absurd h
-of_reading (BadRow row field) h = absurd h
-of_reading BadCount h = absurd h
-of_reading (PipeHasQueues line) h = absurd h
-of_reading (NoSuchQueue line) h = absurd h
+of_reading _ h = absurd h
 
 -- Why the line of a verdict isn't written.
 pub of_writing : (text : List ℕ) (old new : Option (List ℕ)) (failed : Bool) (fault : ReplayFault) → IsUnwritten Report text old new failed fault → IsAuditFault fault
