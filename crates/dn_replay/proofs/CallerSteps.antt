@@ -13,7 +13,7 @@ use Rattle.dn_replay.specs.Runs.{history_of}
 use Rattle.dn_files.specs.Writing.{IsUnwritten}
 use Rattle.dn_files.proofs.Causes.{unwritten-cases}
 use Rattle.dn_files.specs.declared.replay_fault.ReplayFault.{ReplayFault}
-use Rattle.dn_files.specs.declared.replay_fault.ReplayFault.TheVariants.{BadRow, Read, Write, TooLong, OutOfMemory, Config, ConfigText, NoSuchPipe, BadRecord, BadCount, PipeHasQueues, NoSuchQueue}
+use Rattle.dn_files.specs.declared.replay_fault.ReplayFault.TheVariants.{Write, OutOfMemory, BadCount}
 use Rattle.dn_files.specs.declared.row.Row.{Row}
 use Rattle.dn_files.specs.declared.source.Source.{Source}
 use Rattle.dn_files.specs.declared.source.Source.TheVariants.{Report}
@@ -38,32 +38,14 @@ module _ (n : ℕ) (Unread : Type 0) (ReadFailed : Option Source → Type 0) (co
       → IsUnreplayedByCallers n Unread ReadFailed config packets known known failed fault
   unopened known failed BadCount unread sound whole h = (h, unread, sound, (whole, Keeps-refl known))
   unopened known failed OutOfMemory unread sound whole h = (h, (sound, (whole, Keeps-refl known)))
-  unopened known failed (Write what) unread sound whole h = absurd h
-  unopened known failed (Read what) unread sound whole h = absurd h
-  unopened known failed (Config l f) unread sound whole h = absurd h
-  unopened known failed (ConfigText l) unread sound whole h = absurd h
-  unopened known failed (NoSuchPipe l) unread sound whole h = absurd h
-  unopened known failed (BadRow r f) unread sound whole h = absurd h
-  unopened known failed (BadRecord r) unread sound whole h = absurd h
-  unopened known failed (TooLong s) unread sound whole h = absurd h
-  unopened known failed (PipeHasQueues l) unread sound whole h = absurd h
-  unopened known failed (NoSuchQueue l) unread sound whole h = absurd h
+  unopened known failed _ unread sound whole h = absurd h
 
   -- The inputs aren't read, for a fault that is no bad count.
   pub callers_unread : (known : Option (List ℕ)) (failed : Bool) (fault : ReplayFault)
       → IsCount n → failed ≡ false → IsUnread ReadFailed (AskFor config packets) fault → IsUnreplayedByCallers n Unread ReadFailed config packets known known failed fault
   callers_unread known failed BadCount count whole h = absurd (no_count_asked config packets h.1)
   callers_unread known failed (Write what) count whole h = absurd h
-  callers_unread known failed OutOfMemory count whole h = (count, unreplayed ReadFailed (AskFor config packets) known failed OutOfMemory whole h)
-  callers_unread known failed (Read what) count whole h = (count, unreplayed ReadFailed (AskFor config packets) known failed (Read what) whole h)
-  callers_unread known failed (Config l f) count whole h = (count, unreplayed ReadFailed (AskFor config packets) known failed (Config l f) whole h)
-  callers_unread known failed (ConfigText l) count whole h = (count, unreplayed ReadFailed (AskFor config packets) known failed (ConfigText l) whole h)
-  callers_unread known failed (NoSuchPipe l) count whole h = (count, unreplayed ReadFailed (AskFor config packets) known failed (NoSuchPipe l) whole h)
-  callers_unread known failed (BadRow r f) count whole h = (count, unreplayed ReadFailed (AskFor config packets) known failed (BadRow r f) whole h)
-  callers_unread known failed (BadRecord n) count whole h = (count, unreplayed ReadFailed (AskFor config packets) known failed (BadRecord n) whole h)
-  callers_unread known failed (TooLong s) count whole h = (count, unreplayed ReadFailed (AskFor config packets) known failed (TooLong s) whole h)
-  callers_unread known failed (PipeHasQueues l) count whole h = (count, unreplayed ReadFailed (AskFor config packets) known failed (PipeHasQueues l) whole h)
-  callers_unread known failed (NoSuchQueue l) count whole h = (count, unreplayed ReadFailed (AskFor config packets) known failed (NoSuchQueue l) whole h)
+  callers_unread known failed fault count whole h = (count, unreplayed ReadFailed (AskFor config packets) known failed fault whole h)
 
   -- The report of the callers' history wasn't written.
   pub callers_unreported : (entries : List Entry) (old new : Option (List ℕ)) (failed : Bool) (fault : ReplayFault) → IsCount n → ReadFailed None → IsReplayOfCallers n config packets entries

@@ -21,16 +21,13 @@ unfolding parts_from
 dashes [] = refl
 dashes (d ∷ rest) = refl
 
-dashes_returned : (more : List ℕ) → parts_from true (45 ∷ 45 ∷ 13 ∷ 10 ∷ more) ≡ ([], more)
-unfolding parts_from
-dashes_returned more = refl
-
 mark_found : (line more : List ℕ) → is_mark line ≡ true → parts_from true (line ++ 10 ∷ more) ≡ ([], more)
+unfolding parts_from
 mark_found line more marked = elim (cases_Bool (bytes_eq line (codes "--"))) [
   | inl same ↦ let is = (bytes_eq-Decides line (codes "--")).0 same in rw is (dashes more)
   | inr other ↦
       let returned : bytes_eq line (codes "--\r") ≡ true = rw other at marked in
-      let is = (bytes_eq-Decides line (codes "--\r")).0 returned in rw is (dashes_returned more)
+      let is = (bytes_eq-Decides line (codes "--\r")).0 returned in rw is refl
 ]
 
 -- Elsewhere there is no mark at the front.

@@ -130,9 +130,8 @@ few-of-inputs config calls text reads short =
 mark-le : (text : List ℕ) → length (unwrap_or (after_mark text) []) ≤ length text
 mark-le [] = omega arith
 mark-le (a ∷ []) = omega arith
-mark-le (a ∷ b ∷ []) = grind arith
 mark-le (a ∷ b ∷ c ∷ []) = grind arith
-mark-le (a ∷ b ∷ c ∷ d ∷ rest) = grind arith
+mark-le _ = grind arith
 
 abbrev NoLonger : ℕ → List ℕ × List ℕ → Type 0
 NoLonger most parts = length parts.0 + length parts.1 ≤ most

@@ -6,7 +6,7 @@ use Rattle.dn_text.specs.Joined.{joined_parts}
 use Rattle.dn_files.specs.PacketFile.{rows_of}
 use Rattle.dn_files.specs.Reading.{◌>>=◌, IsFaultOf, IsTextOf, within_limit}
 use Rattle.dn_files.specs.declared.replay_fault.ReplayFault.{ReplayFault}
-use Rattle.dn_files.specs.declared.replay_fault.ReplayFault.TheVariants.{BadRow, Read, Write, TooLong, OutOfMemory, Config, ConfigText, NoSuchPipe, BadRecord, BadCount, PipeHasQueues, NoSuchQueue}
+use Rattle.dn_files.specs.declared.replay_fault.ReplayFault.TheVariants.{Read, Write, OutOfMemory}
 use Rattle.dn_files.specs.declared.source.Source.{Source}
 use Rattle.dn_files.specs.declared.source.Source.TheVariants.{Packets}
 use Rattle.dn_files.proofs.Inputs.{carried, short}
@@ -72,11 +72,6 @@ pub still_refused : (asked : List ℕ → Result (List Call) ReplayFault) (text 
     → (more : List ℕ) → IsFaultOf (asked ((text ++ part) ++ more)) fault
 still_refused asked text part fault own more = subst (λ (t : List ℕ). IsFaultOf (asked t) fault) (sym (append_assoc text part more)) (own (part ++ more))
 
--- The cut of a joined input at a part that has the end of its line `--`.
-pub cut_here : (asked : List ℕ → Result (List Call) ReplayFault) (text part config packets : List ℕ) → ((whole : List ℕ) → asked whole ≡ calls_of_parts (joined_parts whole))
-    → ((more : List ℕ) → joined_parts (text ++ (part ++ more)) ≡ (config, packets ++ more)) → IsCutAt asked (text ++ part) config packets
-cut_here asked text part config packets same cuts more = regroup asked text part more ∙ same (text ++ (part ++ more)) ∙ ap calls_of_parts (cuts more)
-
 pub packets_come : (asked : List ℕ → Result (List Call) ReplayFault) (text packets part : List ℕ) (calls : List Call) → ((more : List ℕ) → asked (text ++ more) ≡ calls_with calls (packets ++ more))
     → (more : List ℕ) → asked ((text ++ part) ++ more) ≡ calls_with calls ((packets ++ part) ++ more)
 packets_come asked text packets part calls asks more = regroup asked text part more ∙ asks (part ++ more) ∙ ap (calls_with calls) (sym (append_assoc packets part more))
@@ -103,15 +98,7 @@ module _ (Asked Inputs : Result (List Call) ReplayFault → Type 0) (old new : O
     unanswered_through failed (Read what) h = (failures (Some what) h.0, h.1)
     unanswered_through failed (Write what) h = (failures None h.0, (h.1.0, through (Ok h.1.0) h.1.1, h.1.2))
     unanswered_through failed OutOfMemory h = (failures None h.0, h.1)
-    unanswered_through failed (Config l f) h = (failures None h.0, through (Err (Config l f)) h.1, h.2)
-    unanswered_through failed (ConfigText l) h = (failures None h.0, through (Err (ConfigText l)) h.1, h.2)
-    unanswered_through failed (NoSuchPipe l) h = (failures None h.0, through (Err (NoSuchPipe l)) h.1, h.2)
-    unanswered_through failed (BadRow r f) h = (failures None h.0, through (Err (BadRow r f)) h.1, h.2)
-    unanswered_through failed (BadRecord n) h = (failures None h.0, through (Err (BadRecord n)) h.1, h.2)
-    unanswered_through failed (TooLong s) h = (failures None h.0, through (Err (TooLong s)) h.1, h.2)
-    unanswered_through failed BadCount h = (failures None h.0, through (Err BadCount) h.1, h.2)
-    unanswered_through failed (PipeHasQueues l) h = (failures None h.0, through (Err (PipeHasQueues l)) h.1, h.2)
-    unanswered_through failed (NoSuchQueue l) h = (failures None h.0, through (Err (NoSuchQueue l)) h.1, h.2)
+    unanswered_through failed fault h = (failures None h.0, through (Err fault) h.1, h.2)
 
 -- What is asked for behind the text of a configuration is asked for by both inputs.
 pub asked_by_both : (limit : ℕ) (config packets : Option (List ℕ)) (text rows : List ℕ) → IsTextOf config text → IsTextOf packets rows

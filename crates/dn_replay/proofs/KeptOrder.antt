@@ -165,24 +165,15 @@ queued-own row at' flow packet (Some d) = let own : nat_eq packet packet ≡ tru
 
 other-number : (row packet p : ℕ) (given : List Delivery) (f : Fate) → nat_eq p packet ≡ false → at packet_of p (outs_of row packet given f) ≡ []
 other-number row packet p given (Accepted flow at') e = queued-other row at' flow packet p (delivery_of_packet packet given) e
-other-number row packet p given (Lost flow at') e = refl
-other-number row packet p given (Full flow at') e = refl
-other-number row packet p given (NoTarget at') e = refl
-other-number row packet p given Unanswered e = refl
+other-number row packet p given _ e = refl
 
 own-number : (row packet : ℕ) (given : List Delivery) (f : Fate) → at packet_of packet (outs_of row packet given f) ≡ outs_of row packet given f
 own-number row packet given (Accepted flow at') = queued-own row at' flow packet (delivery_of_packet packet given)
-own-number row packet given (Lost flow at') = refl
-own-number row packet given (Full flow at') = refl
-own-number row packet given (NoTarget at') = refl
-own-number row packet given Unanswered = refl
+own-number row packet given _ = refl
 
 not-accepted : (row packet : ℕ) (given : List Delivery) (f : Fate) → is_accepted f ≡ false → outs_of row packet given f ≡ []
 not-accepted row packet given (Accepted flow at') e = absurd cc
-not-accepted row packet given (Lost flow at') e = refl
-not-accepted row packet given (Full flow at') e = refl
-not-accepted row packet given (NoTarget at') e = refl
-not-accepted row packet given Unanswered e = refl
+not-accepted row packet given _ e = refl
 
 -- The lines of a packet among those of one fate and of others.
 in-parts : (row packet p : ℕ) (given : List Delivery) (f : Fate) (rest : List ReportLine)
@@ -319,10 +310,7 @@ same-line accepted fates packet ahead given place_is e = by (get_or fates ahead 
         let number = found-number packet d given some in
         let next : 1 + ahead ≡ ahead + 1 = omega arith in
         rw (some, number, place_is, is, next) refl
-    by (Lost flow at') is e o of = absurd cc
-    by (Full flow at') is e o of = absurd cc
-    by (NoTarget at') is e o of = absurd cc
-    by Unanswered is e o of = absurd cc
+    by _ is e o of = absurd cc
 
 -- What a list of deliveries has to keep: numbers below the count of those accepted, each once, in order.
 pub record AreGiven (n : ℕ) (given : List Delivery) : Type 0 where

@@ -5,7 +5,7 @@ use Rattle.std.specs.List.{count_by}
 use Rattle.std.proofs.lemmas.Bool.{cases_Bool}
 use Rattle.std.proofs.lemmas.List.{append-nil, length_push}
 use Rattle.std.proofs.lemmas.List.Sums.{sum_by-cons}
-use Rattle.dn_types.specs.Calls.{Verdict, no_target, loses, refuses, takes, verdict}
+use Rattle.dn_types.specs.Calls.{Verdict, no_target, verdict}
 use Rattle.dn_types.specs.Clock.{call_limit}
 use Rattle.dn_types.specs.Configuration.{Settings, command_reply, has_queues, queue_numbers, settings, reply_to_command}
 use Rattle.dn_types.specs.Replies.{counted_reply, reply, reply_to_verdict}
@@ -18,7 +18,7 @@ use Rattle.dn_types.specs.declared.delivery.Delivery.{Delivery}
 use Rattle.dn_types.specs.declared.entry.Entry.{Entry}
 use Rattle.dn_types.specs.declared.packet.Packet.{Packet}
 use Rattle.dn_types.specs.declared.reply.Reply.{Reply}
-use Rattle.dn_types.specs.declared.reply.Reply.TheVariants.{Configured, NoSuchPipe, Deleted, PipeHasQueues, NoSuchQueue, Queued, Lost, Full, NoTarget, Advanced, Delivered, Status, Exhausted}
+use Rattle.dn_types.specs.declared.reply.Reply.TheVariants.{Configured, NoSuchPipe, Deleted, PipeHasQueues, NoSuchQueue, Queued, Exhausted}
 use Rattle.dn_types.specs.declared.rule.Rule.TheVariants.{Ordered}
 use Rattle.dn_types.specs.declared.target.Target.{Target}
 use Rattle.dn_types.specs.declared.target.Target.TheVariants.{Pipe as ToPipe, Queue as ToQueue}
@@ -88,24 +88,11 @@ places-push place (x ∷ fates) f = elim (cases_Bool (is_accepted x)) [
 line-by-fate : (row packet : ℕ) (given : List Delivery) (r : Reply) → ((at flow number : ℕ) → r ≡ Queued at flow number → number ≡ packet)
     → reply_line row given r ≡ fate_line row packet given (fate_of r)
 line-by-fate row packet given (Queued at flow number) h = rw (h at flow number refl) refl
-line-by-fate row packet given (Lost at flow) h = refl
-line-by-fate row packet given (Full at flow) h = refl
-line-by-fate row packet given (NoTarget at) h = refl
-line-by-fate row packet given Configured h = refl
-line-by-fate row packet given NoSuchPipe h = refl
-line-by-fate row packet given Deleted h = refl
-line-by-fate row packet given PipeHasQueues h = refl
-line-by-fate row packet given NoSuchQueue h = refl
-line-by-fate row packet given (Advanced at) h = refl
-line-by-fate row packet given (Delivered at list) h = refl
-line-by-fate row packet given (Status list) h = refl
-line-by-fate row packet given Exhausted h = refl
+line-by-fate row packet given _ h = refl
 
 verdict-delivers-none : (at : ℕ) (v : Verdict) (trace : List Event) → delivered (reply_to_verdict at v trace) ≡ []
 verdict-delivers-none at no_target trace = refl
-verdict-delivers-none at (loses link flow) trace = refl
-verdict-delivers-none at (refuses link flow) trace = refl
-verdict-delivers-none at (takes link flow how) trace = refl
+verdict-delivers-none at _ trace = refl
 
 -- A Submit delivers nothing, and no command does.
 submit-delivers-none : (calls : List Call) (target : Target) (packet : Packet) (moment : ℕ) → delivered (reply Ordered calls (Submit target packet moment)) ≡ []

@@ -107,9 +107,7 @@ placed-rises place x (y ∷ ys) r = elim (cases_Bool (nat_lt (place y) (place x)
 
 swap-at : {X : Type 0} (a b : Bool) (x y : X) (l : List X) → (a ≡ true → b ≡ true → ⊥) → cond b (y ∷ cond a (x ∷ l) l) (cond a (x ∷ l) l) ≡ cond a (x ∷ cond b (y ∷ l) l) (cond b (y ∷ l) l)
 swap-at true true x y l h = absurd (h refl refl)
-swap-at true false x y l h = refl
-swap-at false true x y l h = refl
-swap-at false false x y l h = refl
+swap-at _ _ x y l h = refl
 
 placed-level : {X : Type 0} (place : X → ℕ) (n : ℕ) (x : X) (ys : List X) → at place n (with_placed place x ys) ≡ at place n (x ∷ ys)
 unfolding with_placed

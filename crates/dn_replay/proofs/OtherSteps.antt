@@ -126,8 +126,7 @@ mark-more old new n i given d lt h len marked = record {
   where
     joined : (o : Option Delivery) (d : Delivery) (b : Bool) → is_some o || b ≡ is_some (option_or o (cond b (Some d) None))
     joined None d true = refl
-    joined None d false = refl
-    joined (Some x) d b = refl
+    joined _ d _ = refl
 
 pub marked : (old : List Bool) (place packet p : ℕ) → place ≡ packet → place < length old → get_or (set old place true) p false ≡ get_or old p false || nat_eq packet p
 marked old place packet p is lt = elim (cases_Bool (nat_eq packet p)) [

@@ -57,18 +57,7 @@ in_line number line = elim (is_utf8 line) as (λ b. IfErr (cond {A = Result (Opt
 
 refused : (number : ℕ) (r : Reply) (calls : List Call) → IfErr (unless (refusal number r) calls) IsOther
 refused number r.Configured calls = tt
-refused number r.NoSuchPipe calls = tt
-refused number r.Deleted calls = tt
-refused number r.PipeHasQueues calls = tt
-refused number r.NoSuchQueue calls = tt
-refused number (r.Queued at flow packet) calls = tt
-refused number (r.Lost at flow) calls = tt
-refused number (r.Full at flow) calls = tt
-refused number (r.NoTarget at) calls = tt
-refused number (r.Advanced at) calls = tt
-refused number (r.Delivered at list) calls = tt
-refused number (r.Status list) calls = tt
-refused number r.Exhausted calls = tt
+refused number _ calls = tt
 
 in_command : (number : ℕ) (calls : List Call) (command : Option Command) → IfErr (applied number calls command) IsOther
 in_command number calls None = tt

@@ -85,10 +85,8 @@ submitted-accepts calls target packet moment few =
     rw (counts calls (Submit target packet moment) few) (more ∙ ap (λ (n : ℕ). n + cond (is_accepted (fate_of (reply_to_verdict at (verdict calls target packet before) before))) 1 0) (settled-accepts (settings calls) at (trace_of calls)))
 
 numbered : (at : ℕ) (v : Verdict) (trace : List Event) (at' flow number : ℕ) → reply_to_verdict at v trace ≡ Queued at' flow number → number ≡ accepted_count trace
-numbered at no_target trace at' flow number e = absurd cc
-numbered at (loses l f) trace at' flow number e = absurd cc
-numbered at (refuses l f) trace at' flow number e = absurd cc
 numbered at (takes l f how) trace at' flow number e = cc
+numbered at _ trace at' flow number e = absurd cc
 
 -- A packet's number is the count of those accepted before it, and its call counts.
 pub number-is : (calls : List Call) (target : Target) (packet : Packet) (moment at flow number : ℕ) → reply Ordered calls (Submit target packet moment) ≡ Queued at flow number

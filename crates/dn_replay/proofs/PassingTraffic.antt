@@ -7,7 +7,7 @@ use Rattle.std.specs.Ordering.{is_lt, nat_cmp, ordering_then, MatchOrdering}
 use Rattle.std.specs.declared.cmp.Ordering.{Ordering}
 use Rattle.std.specs.declared.cmp.Ordering.TheVariants.{Less, Equal, Greater}
 use Rattle.std.proofs.lemmas.List.Elements.{All-head, All-tail}
-use Rattle.dn_types.specs.Calls.{Verdict, no_target, loses, refuses, takes}
+use Rattle.dn_types.specs.Calls.{Verdict, no_target, takes}
 use Rattle.dn_types.specs.Configuration.{Settings}
 use Rattle.dn_types.specs.Deliveries.{delivery_of, in_order, is_given_before}
 use Rattle.dn_types.specs.Flows.{Treatment}
@@ -160,9 +160,7 @@ module _ (clock count : ℕ) (given : List Delivery) (past : All (IsPast clock c
 
   pub reply-behind : (at : ℕ) (v : Verdict) (x : Traffic) → verdict_reply_in at v (with_given given x) ≡ verdict_reply_in at v x
   reply-behind at no_target x = refl
-  reply-behind at (loses link flow) x = refl
-  reply-behind at (refuses link flow) x = refl
-  reply-behind at (takes link flow how) x = refl
+  reply-behind at _ x = refl
 
   opened-behind : (b : Bool) (link : Link) (x : Traffic)
       → cond b (after_event Ordered (opened link) (with_given given x)) (with_given given x) ≡ with_given given (cond b (after_event Ordered (opened link) x) x)
@@ -184,11 +182,9 @@ module _ (clock count : ℕ) (given : List Delivery) (past : All (IsPast clock c
 
   pub after_verdict-behind : (set : Settings) (at : ℕ) (packet : Packet) (v : Verdict) (x : Traffic) → clock ≤ at → count ≤ x.accepted
       → after_verdict_in Ordered set at packet v (with_given given x) ≡ with_given given (after_verdict_in Ordered set at packet v x)
-  after_verdict-behind set at packet no_target x late number = refl
-  after_verdict-behind set at packet (loses link flow) x late number = refl
-  after_verdict-behind set at packet (refuses link flow) x late number = refl
   after_verdict-behind set at packet (takes link flow how) x late number =
       let b = nat_eq (waiting_in link x) 0 && nat_le (x.free link) at in
       let y = opening_in Ordered link at x in
       ap (λ (z : Traffic). join_in Ordered set at (accept_in link packet flow how z) z) (opened-behind b link x)
       ∙ join-behind set at (accept_in link packet flow how y) y late (opened-accepted b link x number)
+  after_verdict-behind set at packet _ x late number = refl

@@ -13,7 +13,7 @@ use Rattle.dn_replay.specs.Replays.{AskFor, AskForWithin, calls_within, config_c
 use Rattle.dn_replay.specs.Report.{report}
 use Rattle.dn_replay.specs.Runs.{entry_after, history_of}
 use Rattle.dn_files.specs.declared.replay_fault.ReplayFault.{ReplayFault}
-use Rattle.dn_files.specs.declared.replay_fault.ReplayFault.TheVariants.{BadRow, Read, Write, TooLong, OutOfMemory, Config, ConfigText, NoSuchPipe, BadRecord, BadCount, PipeHasQueues, NoSuchQueue}
+use Rattle.dn_files.specs.declared.replay_fault.ReplayFault.TheVariants.{Read, Write, OutOfMemory}
 use Rattle.dn_files.specs.declared.source.Source.{Source}
 use Rattle.dn_files.specs.declared.source.Source.TheVariants.{Report}
 use Rattle.dn_files.proofs.Causes.{unwritten-cases}
@@ -64,15 +64,7 @@ pub unread_text : {A : Type 0} (ReadFailed : Option Source → Type 0) (Asked : 
 unread_text ReadFailed Asked read (Write what) sound asked h = absurd h
 unread_text ReadFailed Asked read OutOfMemory sound asked h = sound
 unread_text ReadFailed Asked read (Read what) sound asked h = absurd h
-unread_text ReadFailed Asked read (Config l f) sound asked h = (sound, asked (Config l f) h)
-unread_text ReadFailed Asked read (ConfigText l) sound asked h = (sound, asked (ConfigText l) h)
-unread_text ReadFailed Asked read (NoSuchPipe l) sound asked h = (sound, asked (NoSuchPipe l) h)
-unread_text ReadFailed Asked read (BadRow r f) sound asked h = (sound, asked (BadRow r f) h)
-unread_text ReadFailed Asked read (BadRecord n) sound asked h = (sound, asked (BadRecord n) h)
-unread_text ReadFailed Asked read (TooLong s) sound asked h = (sound, asked (TooLong s) h)
-unread_text ReadFailed Asked read BadCount sound asked h = (sound, asked BadCount h)
-unread_text ReadFailed Asked read (PipeHasQueues l) sound asked h = (sound, asked (PipeHasQueues l) h)
-unread_text ReadFailed Asked read (NoSuchQueue l) sound asked h = (sound, asked (NoSuchQueue l) h)
+unread_text ReadFailed Asked read fault sound asked h = (sound, asked fault h)
 
 -- An input is refused.
 pub unread_input : {A : Type 0} (ReadFailed : Option Source → Type 0) (Asked : Result (List Call) ReplayFault → Type 0) (source : Source) (read : List ℕ → Result A ReplayFault)
@@ -82,15 +74,7 @@ pub unread_input : {A : Type 0} (ReadFailed : Option Source → Type 0) (Asked :
 unread_input ReadFailed Asked source read input input_failed (Write what) asked sound reads h = absurd h
 unread_input ReadFailed Asked source read input input_failed OutOfMemory asked sound reads h = sound h
 unread_input ReadFailed Asked source read input input_failed (Read what) asked sound reads h = rw h.0 (reads h.1)
-unread_input ReadFailed Asked source read input input_failed (Config l f) asked sound reads h = (sound h.0, asked (Config l f) h.1)
-unread_input ReadFailed Asked source read input input_failed (ConfigText l) asked sound reads h = (sound h.0, asked (ConfigText l) h.1)
-unread_input ReadFailed Asked source read input input_failed (NoSuchPipe l) asked sound reads h = (sound h.0, asked (NoSuchPipe l) h.1)
-unread_input ReadFailed Asked source read input input_failed (BadRow r f) asked sound reads h = (sound h.0, asked (BadRow r f) h.1)
-unread_input ReadFailed Asked source read input input_failed (BadRecord n) asked sound reads h = (sound h.0, asked (BadRecord n) h.1)
-unread_input ReadFailed Asked source read input input_failed (TooLong s) asked sound reads h = (sound h.0, asked (TooLong s) h.1)
-unread_input ReadFailed Asked source read input input_failed BadCount asked sound reads h = (sound h.0, asked BadCount h.1)
-unread_input ReadFailed Asked source read input input_failed (PipeHasQueues l) asked sound reads h = (sound h.0, asked (PipeHasQueues l) h.1)
-unread_input ReadFailed Asked source read input input_failed (NoSuchQueue l) asked sound reads h = (sound h.0, asked (NoSuchQueue l) h.1)
+unread_input ReadFailed Asked source read input input_failed fault asked sound reads h = (sound h.0, asked fault h.1)
 
 -- What isn't read isn't replayed, and nothing is written.
 pub unreplayed : (ReadFailed : Option Source → Type 0) (Asked : Result (List Call) ReplayFault → Type 0) (known : Option (List ℕ)) (failed : Bool) (fault : ReplayFault)
@@ -98,15 +82,7 @@ pub unreplayed : (ReadFailed : Option Source → Type 0) (Asked : Result (List C
 unreplayed ReadFailed Asked known failed (Write what) whole h = absurd h
 unreplayed ReadFailed Asked known failed OutOfMemory whole h = (h, (whole, Keeps-refl known))
 unreplayed ReadFailed Asked known failed (Read what) whole h = (h, (whole, Keeps-refl known))
-unreplayed ReadFailed Asked known failed (Config l f) whole h = (h.0, h.1, (whole, Keeps-refl known))
-unreplayed ReadFailed Asked known failed (ConfigText l) whole h = (h.0, h.1, (whole, Keeps-refl known))
-unreplayed ReadFailed Asked known failed (NoSuchPipe l) whole h = (h.0, h.1, (whole, Keeps-refl known))
-unreplayed ReadFailed Asked known failed (BadRow r f) whole h = (h.0, h.1, (whole, Keeps-refl known))
-unreplayed ReadFailed Asked known failed (BadRecord n) whole h = (h.0, h.1, (whole, Keeps-refl known))
-unreplayed ReadFailed Asked known failed (TooLong s) whole h = (h.0, h.1, (whole, Keeps-refl known))
-unreplayed ReadFailed Asked known failed BadCount whole h = (h.0, h.1, (whole, Keeps-refl known))
-unreplayed ReadFailed Asked known failed (PipeHasQueues l) whole h = (h.0, h.1, (whole, Keeps-refl known))
-unreplayed ReadFailed Asked known failed (NoSuchQueue l) whole h = (h.0, h.1, (whole, Keeps-refl known))
+unreplayed ReadFailed Asked known failed fault whole h = (h.0, h.1, (whole, Keeps-refl known))
 
 -- The first fault of two inputs.
 pub config_fault : (limit : ℕ) (config packets : Option (List ℕ)) (fault : ReplayFault) → IsRefusedFor config_calls config fault → AskForWithin limit config packets (Err fault)
