@@ -7,7 +7,8 @@ ghost use Rattle.dn_records.specs.Records.{line_of};
 ghost use Rattle.dn_replay.specs.Report.{line_fields, report_header};
 ghost use Rattle.dn_replay.specs.declared.report.line.ReportLine.TheVariants.{Held, NoTarget, Out};
 
-use itoa::write_digits;
+use crate::report::line::ReportLine;
+use itoa::{Buffer, write_digits};
 
 /// No line has more bytes.
 pub(crate) const LINE: usize = 160;
@@ -36,6 +37,42 @@ pub(crate) fn put_number(bytes: &mut [u8], end: usize, number: u64) -> usize
 {
     let digits = write_digits(number, bytes, end);
     put_byte(bytes, digits, b',')
+}
+
+/// Puts a comma and a number of any length before the bytes from `end` on, and returns the place of the comma.
+#[cold]
+#[inline(never)]
+fn put_long(bytes: &mut [u8], end: usize, number: u128) -> usize
+    requires room { 40 ≤ end }
+    requires within { end ≤ length bytes.old }
+    ensures below { result ≤ end }
+    ensures start { end ≤ result + 40 }
+    ensures written { drop result bytes.new ≡ 44 ∷ (decimal number ++ drop end bytes.old) }
+    ensures len { length bytes.new ≡ length bytes.old }
+{
+    let mut buffer = Buffer::new();
+    let digits = buffer.format(number).as_bytes();
+    let start = end - digits.len();
+    bytes[start..end].copy_from_slice(digits);
+    put_byte(bytes, start, b',')
+}
+
+/// Puts a comma and a row before the bytes from `end` on, and returns the place of the comma.
+///
+/// A row has more than 64 bits only if the callers are very many.
+#[inline]
+pub(crate) fn put_row(bytes: &mut [u8], end: usize, row: u128) -> usize
+    requires room { 40 ≤ end }
+    requires within { end ≤ length bytes.old }
+    ensures below { result ≤ end }
+    ensures start { end ≤ result + 40 }
+    ensures written { drop result bytes.new ≡ 44 ∷ (decimal row ++ drop end bytes.old) }
+    ensures len { length bytes.new ≡ length bytes.old }
+{
+    if row > u128::from(u64::MAX) {
+        return put_long(bytes, end, row);
+    }
+    put_number(bytes, end, row as u64)
 }
 
 /// Puts the end of a line at the end of the array, and answers where it stands.
@@ -81,7 +118,7 @@ pub(crate) fn add_header(text: &mut Vec<u8>)
 /// Adds the line of a packet that was delivered.
 pub(crate) fn add_out(
     text: &mut Vec<u8>,
-    row: usize,
+    row: u128,
     flow: usize,
     packet: u64,
     at: u64,
@@ -99,7 +136,7 @@ pub(crate) fn add_out(
     let end = put_number(&mut bytes, end, at);
     let end = put_number(&mut bytes, end, packet);
     let end = put_number(&mut bytes, end, flow as u64);
-    let end = put_number(&mut bytes, end, row as u64);
+    let end = put_row(&mut bytes, end, row);
     let end = put_byte(&mut bytes, end, b't');
     let end = put_byte(&mut bytes, end, b'u');
     let end = put_byte(&mut bytes, end, b'o');
@@ -107,7 +144,7 @@ pub(crate) fn add_out(
 }
 
 /// Adds the line of a packet that was accepted and not delivered.
-pub(crate) fn add_held(text: &mut Vec<u8>, row: usize, flow: usize, packet: u64, at: u64)
+pub(crate) fn add_held(text: &mut Vec<u8>, row: u128, flow: usize, packet: u64, at: u64)
     requires { length text.old.items + 160 ≤ vec_capacity text.old }
     ensures items { text.new.items ≡ text.old.items ++ line_of (line_fields (Held row flow packet at)) }
     ensures capacity { vec_capacity text.old ≤ vec_capacity text.new }
@@ -119,13 +156,13 @@ pub(crate) fn add_held(text: &mut Vec<u8>, row: usize, flow: usize, packet: u64,
     let end = put_number(&mut bytes, end, at);
     let end = put_number(&mut bytes, end, packet);
     let end = put_number(&mut bytes, end, flow as u64);
-    let end = put_number(&mut bytes, end, row as u64);
+    let end = put_row(&mut bytes, end, row);
     append(text, b"held");
     append_from(text, &bytes, end);
 }
 
 /// Adds the line of a packet that has a flow and was not accepted.
-pub(crate) fn add_refused(text: &mut Vec<u8>, event: &[u8], row: usize, flow: usize, at: u64)
+pub(crate) fn add_refused(text: &mut Vec<u8>, event: &[u8], row: u128, flow: usize, at: u64)
     requires room { length text.old.items + 160 ≤ vec_capacity text.old }
     requires word { length event.now ≡ 4 }
     ensures items { text.new.items ≡ text.old.items ++ (event.now
@@ -139,13 +176,13 @@ pub(crate) fn add_refused(text: &mut Vec<u8>, event: &[u8], row: usize, flow: us
     let end = put_number(&mut bytes, end, at);
     let end = put_byte(&mut bytes, end, b',');
     let end = put_number(&mut bytes, end, flow as u64);
-    let end = put_number(&mut bytes, end, row as u64);
+    let end = put_row(&mut bytes, end, row);
     append(text, event);
     append_from(text, &bytes, end);
 }
 
 /// Adds the line of a packet without a target, which has neither a flow nor a number.
-pub(crate) fn add_no_target(text: &mut Vec<u8>, row: usize, at: u64)
+pub(crate) fn add_no_target(text: &mut Vec<u8>, row: u128, at: u64)
     requires { length text.old.items + 160 ≤ vec_capacity text.old }
     ensures items { text.new.items ≡ text.old.items ++ line_of (line_fields (NoTarget row at)) }
     ensures capacity { vec_capacity text.old ≤ vec_capacity text.new }
@@ -157,7 +194,33 @@ pub(crate) fn add_no_target(text: &mut Vec<u8>, row: usize, at: u64)
     let end = put_number(&mut bytes, end, at);
     let end = put_byte(&mut bytes, end, b',');
     let end = put_byte(&mut bytes, end, b',');
-    let end = put_number(&mut bytes, end, row as u64);
+    let end = put_row(&mut bytes, end, row);
     append(text, b"none");
     append_from(text, &bytes, end);
+}
+
+/// Adds a line.
+pub(crate) fn add_line(text: &mut Vec<u8>, line: &ReportLine)
+    requires { length text.old.items + 160 ≤ vec_capacity text.old }
+    ensures { text.new.items ≡ text.old.items ++ line_of (line_fields line.now) }
+{
+    match *line {
+        ReportLine::Out {
+            row,
+            flow,
+            packet,
+            at,
+            start,
+            due,
+        } => add_out(text, row, flow, packet, at, start, due),
+        ReportLine::Held {
+            row,
+            flow,
+            packet,
+            at,
+        } => add_held(text, row, flow, packet, at),
+        ReportLine::Lost { row, flow, at } => add_refused(text, b"lost", row, flow, at),
+        ReportLine::Full { row, flow, at } => add_refused(text, b"full", row, flow, at),
+        ReportLine::NoTarget { row, at } => add_no_target(text, row, at),
+    }
 }

@@ -80,7 +80,8 @@ fn add_delivery(text: &mut Vec<u8>, accepted: &[usize], fates: &[Fate], delivery
         start,
         ..
     } = delivery;
-    add_out(text, place + 1, fate.flow(), packet, fate.at(), start, due);
+    let row = place as u128 + 1;
+    add_out(text, row, fate.flow(), packet, fate.at(), start, due);
 }
 
 /// Writes the `out` lines of deliveries, in their order.
@@ -128,7 +129,7 @@ fn is_marked(marks: &[bool], packet: usize) -> bool
 }
 
 /// Adds the line of a row by the fate of its packet, unless the packet was given.
-fn add_other(text: &mut Vec<u8>, row: usize, packet: usize, marks: &[bool], fate: Fate)
+fn add_other(text: &mut Vec<u8>, row: u128, packet: usize, marks: &[bool], fate: Fate)
     requires room { length text.old.items + 160 ≤ vec_capacity text.old }
     requires numbered { is_accepted fate ≡ true → packet < length marks.now }
     ensures items { (given : List DeliveryValue) → AreMarksOf marks.now (length marks.now) given →
@@ -190,7 +191,7 @@ fn write_others<O: Outlet>(
     let count = marks.len();
     let mut packet = 0usize;
     for (place, fate) in kept.fates.iter().enumerate() {
-        add_other(text, place + 1, packet, marks, *fate);
+        add_other(text, place as u128 + 1, packet, marks, *fate);
         packet = next_number(packet, count, *fate);
         write_full_part(text, out)?;
     }

@@ -6,10 +6,10 @@ pub returns-clause-items : goal.returns-clause-items
 returns-clause-items c =
     let line = held-line c.args.row c.args.flow c.args.packet c.args.at (omega arith) (omega arith) (omega arith) (omega arith) in
     c.append_from.ensures.items
-    ∙ ap (λ (t : List ℕ). t ++ drop c.put_number-end-4.result c.put_number-end-4.new.bytes) c.append.ensures.items
-    ∙ append_assoc c.args.text.now.items (104 ∷ 101 ∷ 108 ∷ 100 ∷ []) (drop c.put_number-end-4.result c.put_number-end-4.new.bytes)
+    ∙ ap (λ (t : List ℕ). t ++ drop c.put_row-end.result c.put_row-end.new.bytes) c.append.ensures.items
+    ∙ append_assoc c.args.text.now.items (104 ∷ 101 ∷ 108 ∷ 100 ∷ []) (drop c.put_row-end.result c.put_row-end.new.bytes)
     ∙ ap (λ (t : List ℕ). c.args.text.now.items ++ 104 ∷ 101 ∷ 108 ∷ 100 ∷ t)
-    (c.put_number-end-4.ensures.written ∙ rw (
+    (c.put_row-end.ensures.written ∙ rw (
       c.put_number-end-3.ensures.written,
       c.put_number-end-2.ensures.written,
       c.put_number-end.ensures.written,

@@ -6,10 +6,10 @@ pub returns-clause-items : goal.returns-clause-items
 returns-clause-items c =
     let line = none-line c.args.row c.args.at (omega arith) (omega arith) in
     c.append_from.ensures.items
-    ∙ ap (λ (t : List ℕ). t ++ drop c.put_number-end-2.result c.put_number-end-2.new.bytes) c.append.ensures.items
-    ∙ append_assoc c.args.text.now.items (110 ∷ 111 ∷ 110 ∷ 101 ∷ []) (drop c.put_number-end-2.result c.put_number-end-2.new.bytes)
+    ∙ ap (λ (t : List ℕ). t ++ drop c.put_row-end.result c.put_row-end.new.bytes) c.append.ensures.items
+    ∙ append_assoc c.args.text.now.items (110 ∷ 111 ∷ 110 ∷ 101 ∷ []) (drop c.put_row-end.result c.put_row-end.new.bytes)
     ∙ ap (λ (t : List ℕ). c.args.text.now.items ++ 110 ∷ 111 ∷ 110 ∷ 101 ∷ t)
-    (c.put_number-end-2.ensures.written ∙ rw (
+    (c.put_row-end.ensures.written ∙ rw (
       c.put_byte-end-4.ensures.written,
       c.put_byte-end-3.ensures.written,
       c.put_number-end.ensures.written,

@@ -11,7 +11,7 @@ returns-clause-items c =
       c.put_byte-end-3.ensures.written,
       c.put_byte-end-2.ensures.written,
       c.put_byte-end.ensures.written,
-      c.put_number-end-6.ensures.written,
+      c.put_row-end.ensures.written,
       c.put_number-end-5.ensures.written,
       c.put_number-end-4.ensures.written,
       c.put_number-end-3.ensures.written,
