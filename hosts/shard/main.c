@@ -31,6 +31,17 @@ static long most_threads(void)
     return processors < 1 ? 1 : processors > MOST_PARTS - 1 ? MOST_PARTS - 1 : processors;
 }
 
+/* There is a row, and no row has a target. */
+static bool is_untargeted(void)
+{
+    uint64_t rows = 0, targeted = 0;
+    for (size_t i = 0; i < stretch_count; i++)
+        rows += stretches[i].count;
+    for (size_t i = 0; i < part_count; i++)
+        targeted += parts[i].count;
+    return rows && !targeted;
+}
+
 int main(int count, char **words)
 {
     long threads = most_threads();
@@ -53,5 +64,7 @@ int main(int count, char **words)
     emulate();
     write_report();
     begin_phase("", 0);
+    if (is_untargeted())
+        tell("no row has a target: nothing went through a link");
     return 0;
 }

@@ -68,6 +68,7 @@ extern uint16_t pipe_of[2][65536];       /* 0: not configured */
 extern struct dn_flow mask_of[65536];    /* by pipe */
 
 /* work.c */
+void tell(const char *line); /* on standard error */
 void die(int status, const char *line);
 void *grown(void *old, size_t bytes);
 void parallel(void (*job)(size_t), size_t count); /* job(0) .. job(count - 1), on all threads */

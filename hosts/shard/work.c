@@ -10,9 +10,14 @@
 
 enum { TOLD_AFTER_MS = 2000, TOLD_EACH_MS = 500 };
 
-void die(int status, const char *line)
+void tell(const char *line)
 {
     fprintf(stderr, "%s\n", line);
+}
+
+void die(int status, const char *line)
+{
+    tell(line);
     exit(status);
 }
 

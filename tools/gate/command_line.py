@@ -24,9 +24,15 @@ ROW = "0,pipe,1,10.0.0.1,10.0.0.2,17,1000,2000,1000,0\n"
 CONFIG = "pipe 1 config bw 8Mbit/s\n"
 PACKETS = HEADER + ROW
 REPORT = "event,row,flow,packet,at,start,due\nout,1,0,0,0,0,1000000\n"
+LOST = HEADER + ROW.replace("pipe,1", "pipe,7")
+LOST_REPORT = "event,row,flow,packet,at,start,due\nnone,1,,,0,,\n"
+UNTARGETED = "no row has a target: nothing went through a link\n"
 HISTORY = ("dummynet-history,3\nc,0,configure,pipe 1 config bw 8000000bit/s\nr,configured\n"
            "c,0,submit,pipe,1,10.0.0.1,10.0.0.2,17,1000,2000,1000,0,0\nr,queued,0,0,0\n"
            "c,0,collect,4611686018427387904\nr,delivered,4611686018427387904,1\nd,0,0,0,1000000\nend,3\n")
+LOST_HISTORY = ("dummynet-history,3\nc,0,configure,pipe 1 config bw 8000000bit/s\nr,configured\n"
+                "c,0,submit,pipe,7,10.0.0.1,10.0.0.2,17,1000,2000,1000,0,0\nr,no-target,0\n"
+                "c,0,collect,4611686018427387904\nr,delivered,4611686018427387904,0\nend,3\n")
 TRANSCRIPT = HISTORY.replace("dummynet-history,3", "dummynet-live,1")
 CHANGED = HISTORY.replace("r,queued,0,0,0", "r,queued,0,0,1")
 FILES = {"c": CONFIG, "p": PACKETS, "h": HISTORY}
@@ -88,6 +94,23 @@ FORMS = [
     Case("CR LF in a history", ["audit", "h"], 0, "lawful 3\n", files={"h": HISTORY.replace("\n", "\r\n")}),
     Case("a byte order mark before packets", replay(), 0, REPORT, files={"c": CONFIG, "p": MARK + PACKETS}),
     Case("blank lines between rows", replay(), 0, REPORT, files={"c": f"\n{CONFIG}\n", "p": f"{HEADER}\n\n{ROW}\n"}),
+]
+LOST_FILES = {"c": CONFIG, "p": LOST}
+TARGETS = [
+    Case("no row of a joined input has a target", [], 0, LOST_REPORT, UNTARGETED, stdin=f"{CONFIG}--\n{LOST}"),
+    *[Case(f"no row has a target, {how}", replay(*words), 0, LOST_REPORT, UNTARGETED, files=LOST_FILES)
+      for how, words in (("two files", []), ("one caller", ["--callers", "1"]), ("two callers", ["--callers", "2"]),
+                         ("a limit", ["--most-packets", "999"]))],
+    Case("no row has a target, with a history", replay("--history", "new"), 0, LOST_REPORT, UNTARGETED, files=LOST_FILES, made={"new": LOST_HISTORY}),
+    Case("the queue of a row isn't there", replay(), 0, LOST_REPORT, UNTARGETED, files={"c": CONFIG, "p": PACKETS.replace("pipe,1", "queue,1")}),
+    Case("no row of two callers has a target", replay("--callers", "2"), 0, LOST_REPORT + "none,2,,,0,,\n", UNTARGETED,
+         files={"c": CONFIG, "p": LOST + LOST.removeprefix(HEADER)}),
+    *[Case(f"one row of two has a target, {how}", replay(*words), 0, REPORT.replace("out,1", "out,2") + "none,1,,,0,,\n", files={"c": CONFIG, "p": LOST + ROW})
+      for how, words in (("two files", []), ("two callers", ["--callers", "2"]))],
+    *[Case(f"no rows, {how}", replay(*words), 0, REPORT.partition("\n")[0] + "\n", files={"c": CONFIG, "p": HEADER})
+      for how, words in (("two files", []), ("two callers", ["--callers", "2"]))],
+    Case("a row that is lost has a target", replay(), 0, LOST_REPORT.replace("none,1,,,0", "lost,1,0,,0"), files={"c": "pipe 1 config plr 1\n", "p": PACKETS}),
+    Case("no row has a target, and a history in no folder", replay("--history", "no/new"), 6, LOST_REPORT, "cannot write history\n", files=LOST_FILES),
 ]
 FAULTS = [
     fault("a byte order mark before a configuration", replay(), 3, "config line 1, word 1: unknown word",
@@ -265,7 +288,7 @@ def rights(tally: Tally, program: str) -> None:
 
 def main(program: str) -> int:
     tally = Tally()
-    for case in [*FORMS, *FAULTS, *USAGES]:
+    for case in [*FORMS, *TARGETS, *FAULTS, *USAGES]:
         judged(tally, program, case)
     texts(tally, program)
     devices(tally, program)

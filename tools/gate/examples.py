@@ -23,7 +23,8 @@ def main(program: str) -> int:
     for report in sorted(EXAMPLES.glob("*.report")):
         name = report.stem
         done = subprocess.run([program, "replay", f"{name}.config", f"{name}.csv"], cwd=EXAMPLES, capture_output=True)
-        tally.note(name, "" if (done.returncode, done.stdout) == (0, report.read_bytes()) else f"another report: status {done.returncode}")
+        same = (done.returncode, done.stdout, done.stderr) == (0, report.read_bytes(), b"")
+        tally.note(name, "" if same else f"another report: status {done.returncode} {done.stderr!r}")
     tally.note("the count of examples", "" if len(list(EXAMPLES.glob("*.report"))) >= 10 else "fewer than ten have a report")
     with TemporaryDirectory() as folder:
         subprocess.run([sys.executable, TOP / "tools" / "examples.py", folder], check=True)

@@ -16,9 +16,10 @@ from definitions import Dummynet
 from files import LIMITS, ReplayFault, read_line, read_packets, refused_line, report, split_joined, split_lines
 from history import history_text
 from history_reader import audit_line
-from model import MAX_CALLERS, MAX_MOMENT, ORDERED, Collect, Configure, Configured, Deleted, Entry, Submit
+from model import MAX_CALLERS, MAX_MOMENT, ORDERED, Collect, Configure, Configured, Deleted, Entry, NoTarget, Submit
 
 USAGE = 2
+UNTARGETED = b"no row has a target: nothing went through a link\n"
 
 
 @dataclass(frozen=True)
@@ -85,12 +86,14 @@ def replay_files(config: Path, packets: Path) -> list[Entry]:
 def reported(history: list[Entry], folder: Path, file: Optional[str]) -> Outcome:
     """The report, and then the file of the history, where one is asked for. Its folder may not be there."""
     text = report(history).encode()
+    replies = [e.reply for e in history if isinstance(e.call, Submit)]
+    told = UNTARGETED if replies and all(isinstance(reply, NoTarget) for reply in replies) else b""
     if file is None:
-        return Outcome(text, b"", 0)
+        return Outcome(text, told, 0)
     if not (folder / file).parent.is_dir():
         return Outcome(text, b"cannot write history\n", 6)
     calls = [(e.caller, e.call) for e in history]
-    return Outcome(text, b"", 0, {file: history_text(ORDERED, calls, [e.reply for e in history]).encode()})
+    return Outcome(text, told, 0, {file: history_text(ORDERED, calls, [e.reply for e in history]).encode()})
 
 
 def audited(path: Path) -> Outcome:

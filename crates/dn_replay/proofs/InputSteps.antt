@@ -82,16 +82,16 @@ pub at_end : (asked : List ℕ → Result (List Call) ReplayFault) (text packets
 at_end asked text packets calls asks = ap asked (sym (append-nil text)) ∙ asks [] ∙ ap (calls_with calls) (append-nil packets)
 
 -- Where no history is kept, what is answered says nothing of one.
-pub answered_without : (records : Bool) (Asked : Result (List Call) ReplayFault → Type 0) (entries others : List Entry) (old new : Option (List ℕ)) → records ≡ false
-    → IsAnswered records Asked entries old new → IsAnswered records Asked others old new
-answered_without true Asked entries others old new is told = absurd cc
-answered_without false Asked entries others old new is told = told
+pub answered_without : (records : Bool) (Asked : Result (List Call) ReplayFault → Type 0) (entries others : List Entry) (untargeted : Bool) (old new : Option (List ℕ)) → records ≡ false
+    → IsAnswered records Asked entries untargeted old new → IsAnswered records Asked others untargeted old new
+answered_without true Asked entries others untargeted old new is told = absurd cc
+answered_without false Asked entries others untargeted old new is told = told
 
 -- What became of what is asked for by one became of what is asked for by another.
 module _ (Asked Inputs : Result (List Call) ReplayFault → Type 0) (old new : Option (List ℕ)) (through : (asked : Result (List Call) ReplayFault) → Asked asked → Inputs asked) where
-  pub answered_through : (records : Bool) (entries : List Entry) → IsAnswered records Asked entries old new → IsAnswered records Inputs entries old new
-  answered_through true entries told = (told.0, through (Ok told.0) told.1, told.2)
-  answered_through false entries told = (told.0, through (Ok told.0) told.1, told.2, told.3)
+  pub answered_through : (records : Bool) (entries : List Entry) (untargeted : Bool) → IsAnswered records Asked entries untargeted old new → IsAnswered records Inputs entries untargeted old new
+  answered_through true entries untargeted told = ((told.0.0, through (Ok told.0.0) told.0.1, told.0.2), told.1)
+  answered_through false entries untargeted told = (told.0, through (Ok told.0) told.1, told.2, told.3, told.4)
 
   module _ (Failed InputFailed : Option Source → Type 0) (failures : (what : Option Source) → Failed what → InputFailed what) where
     pub unanswered_through : (failed : Bool) (fault : ReplayFault) → IsUnreplayed Failed Asked old new failed fault → IsUnreplayed InputFailed Inputs old new failed fault

@@ -1,6 +1,7 @@
 -- The report of a run is that of what is kept of it.
 use Rattle.std.proofs.Common.{◌≡◌, ◌∙◌, sym, ap, refl, ℕ, ◌<◌, ◌≤◌, ◌^◌, max, arith, length, List, [], ◌∷◌, ◌++◌, map, Bool, true, false, cond}
-use Rattle.std.specs.Prelude.{filter, nat_le}
+use Rattle.std.specs.List.{list_any}
+use Rattle.std.specs.Prelude.{filter, nat_le, not}
 use Rattle.std.proofs.lemmas.Bool.Decides.{nat_tests}
 use Rattle.std.proofs.lemmas.List.{append-nil}
 use Rattle.std.proofs.lemmas.List.Elements.{All-filter, All-nil}
@@ -21,14 +22,15 @@ use Rattle.dn_types.proofs.InTurn.{gives-in-order}
 use Rattle.dn_types.proofs.Ordered.{trace-proper}
 use Rattle.dn_types.proofs.PacketCounts.{undelivered-below}
 use Rattle.dn_records.specs.Records.{text_of}
-use Rattle.dn_replay.specs.Kept.{AreKnown, CanReport, delivery_line, fate_lines, kept_lines}
+use Rattle.dn_replay.specs.Kept.{all_untargeted, are_untargeted, AreKnown, CanReport, delivery_line, fate_lines, is_row, is_untargeted, kept_lines}
 use Rattle.dn_replay.specs.Report.{delivered, deliveries, is_other, is_out, line_fields, lines_after, outs_in_order, report, report_header, row_number, sorted_by, submit_lines}
 use Rattle.dn_replay.specs.Runs.{entry_after, history_of}
+use Rattle.dn_replay.specs.declared.report.fate.Fate.{Fate}
 use Rattle.dn_replay.specs.declared.report.kept.Kept.{Kept}
 use Rattle.dn_replay.specs.declared.report.line.ReportLine.{ReportLine}
 use Rattle.dn_replay.proofs.Deliveries.{deliveries-append}
 use Rattle.dn_replay.proofs.KeptOrder.{AreGiven, others-by-row, outs-as-given}
-use Rattle.dn_replay.proofs.KeptSteps.{lines-push}
+use Rattle.dn_replay.proofs.KeptSteps.{lines-push, other-row}
 use Rattle.dn_replay.proofs.PacketNumbers.{settled-accepts}
 
 nothing-given : (n : ℕ) (given : List Delivery) → given ≡ [] → AreGiven n given
@@ -87,3 +89,11 @@ module _ (kept : Kept) (given : List Delivery) (calls : List Call) (h : CanRepor
       ap (λ (ls : List ReportLine). text_of (report_header ∷ map line_fields (outs_in_order (filter is_out ls) ++ sorted_by row_number (filter is_other ls)))) all-lines
       ∙ ap (λ (ls : List ReportLine). text_of (report_header ∷ map line_fields (ls ++ sorted_by row_number (filter is_other (fate_lines 1 0 given kept.fates.items))))) outs
       ∙ ap (λ (ls : List ReportLine). text_of (report_header ∷ map line_fields (map (delivery_line kept.accepted.items kept.fates.items) given ++ ls))) others
+
+  -- Whether no row has a target is told by what is kept.
+  pub untargeted-is-kept : all_untargeted (history_of (Collect (2 ^ 62) ∷ calls)) ≡ are_untargeted kept.fates.items
+  unfolding history_of
+  untargeted-is-kept = rw (row (λ f. not (is_untargeted f)), row is_untargeted) refl
+    where
+      row : (test : Fate → Bool) → list_any (is_row test) (history_of (Collect (2 ^ 62) ∷ calls)) ≡ list_any test kept.fates.items
+      row test = other-row test (history_of calls) (entry_after calls (Collect (2 ^ 62))) refl ∙ h.kept_is.rows test

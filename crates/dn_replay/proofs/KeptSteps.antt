@@ -1,9 +1,10 @@
 -- What is kept of a run, one call at a time.
 use Rattle.std.proofs.Common.{◌≡◌, ◌∙◌, sym, ap, refl, ℕ, suc, ◌+◌, ◌*◌, arith, length, List, [], ◌∷◌, ◌++◌, Bool, true, false, cond, inl, inr, append_assoc}
-use Rattle.std.specs.Prelude.{◌&&◌, nat_eq, nat_le, option_to_list, is_some}
-use Rattle.std.specs.List.{count_by}
+use Rattle.std.specs.Prelude.{◌&&◌, ◌||◌, nat_eq, nat_le, option_to_list, is_some}
+use Rattle.std.specs.List.{count_by, list_any}
 use Rattle.std.proofs.lemmas.Bool.{cases_Bool}
 use Rattle.std.proofs.lemmas.List.{append-nil, length_push}
+use Rattle.std.proofs.lemmas.List.Folds.{list_any-append}
 use Rattle.std.proofs.lemmas.List.Sums.{sum_by-cons}
 use Rattle.dn_types.specs.Calls.{Verdict, no_target, verdict}
 use Rattle.dn_types.specs.Clock.{call_limit}
@@ -22,7 +23,7 @@ use Rattle.dn_types.specs.declared.reply.Reply.TheVariants.{Configured, NoSuchPi
 use Rattle.dn_types.specs.declared.rule.Rule.TheVariants.{Ordered}
 use Rattle.dn_types.specs.declared.target.Target.{Target}
 use Rattle.dn_types.specs.declared.target.Target.TheVariants.{Pipe as ToPipe, Queue as ToQueue}
-use Rattle.dn_replay.specs.Kept.{HasKept, accepted_places, fate_line, fate_lines, fate_of, is_accepted}
+use Rattle.dn_replay.specs.Kept.{HasKept, accepted_places, fate_line, fate_lines, fate_of, is_accepted, is_row}
 use Rattle.dn_replay.specs.Report.{delivered, deliveries, entry_line, is_submit, lines_after, reply_line, submits_by}
 use Rattle.dn_replay.specs.Runs.{entry_after, history_of}
 use Rattle.dn_replay.specs.declared.report.fate.Fate.{Fate}
@@ -82,6 +83,14 @@ places-push place (x ∷ fates) f = elim (cases_Bool (is_accepted x)) [
       rw (other, next, places-push (place + 1) fates f) refl
 ]
 
+-- An entry that is of no row changes no test of rows.
+pub other-row : (test : Fate → Bool) (entries : List Entry) (e : Entry) → is_submit e.call ≡ false → list_any (is_row test) (entries ++ e ∷ []) ≡ list_any (is_row test) entries
+other-row test entries e other = list_any-append (is_row test) entries (e ∷ []) ∙ rw other (same (list_any (is_row test) entries))
+  where
+    same : (b : Bool) → b || false ≡ b
+    same true = refl
+    same _ = refl
+
 -- ---- Replies
 
 -- The line by a reply is that by the fate, where a packet's number is the count of those before it.
@@ -127,6 +136,7 @@ nothing-kept kept none no_place = record {
   places = rw (none, no_place) refl;
   numbers = λ few. rw no_place refl;
   undelivered = refl;
+  rows = λ test. rw none refl;
 }
 
 -- A command changes nothing of what is kept.
@@ -138,6 +148,7 @@ kept-configured kept calls command h = record {
   places = h.places;
   numbers = λ few. configured-accepts calls command ∙ h.numbers (omega arith);
   undelivered = deliveries-append (history_of calls) (entry_after calls (Configure command)) ∙ rw (h.undelivered, configure-delivers-none calls command) refl;
+  rows = λ test. other-row test (history_of calls) (entry_after calls (Configure command)) refl ∙ h.rows test;
 }
 
 places-more : (fates : List Fate) (accepted now : List ℕ) (f : Fate) → accepted ≡ accepted_places 0 fates → now ≡ accepted ++ cond (is_accepted f) (length fates ∷ []) []
@@ -167,6 +178,7 @@ kept-submitted kept now calls target packet moment h fates_are accepted_are =
       places = places-more kept.fates.items kept.accepted.items now.accepted.items fate h.places accepted_are ∙ ap (accepted_places 0) (sym fates_are);
       numbers = λ few. submitted-accepts calls target packet moment (omega arith) ∙ rw (accepted_are, h.numbers (omega arith)) (counted (is_accepted fate) kept.accepted.items (length kept.fates.items));
       undelivered = deliveries-append (history_of calls) e ∙ rw (h.undelivered, submit-delivers-none calls target packet moment) refl;
+      rows = λ test. list_any-append (is_row test) (history_of calls) (e ∷ []) ∙ rw (h.rows test, fates_are) (sym (list_any-append test kept.fates.items (fate ∷ [])));
     }
   where
     counted : (b : Bool) (xs : List ℕ) (x : ℕ) → length xs + cond b 1 0 ≡ length (xs ++ cond b (x ∷ []) [])

@@ -18,7 +18,7 @@ use Rattle.dn_files.specs.declared.replay_fault.ReplayFault.{ReplayFault}
 use Rattle.dn_files.specs.declared.row.Row.{Row}
 use Rattle.dn_files.specs.declared.source.Source.TheVariants.{Report}
 use Rattle.dn_files.proofs.Inputs.{carried}
-use Rattle.dn_replay.specs.Kept.{CanReport, HasKept}
+use Rattle.dn_replay.specs.Kept.{all_untargeted, CanReport, HasKept}
 use Rattle.dn_replay.specs.OnePass.{AreFew, calls_with, HasAnswered, HasEnded, HasNoted, IsAnswered, NoneFailed}
 use Rattle.dn_replay.specs.Replays.{IsUnreplayed}
 use Rattle.dn_replay.specs.Report.{delivered, report}
@@ -127,10 +127,13 @@ pub refused_rows : (calls : List Call) (text : List ℕ) (fault : ReplayFault) �
 refused_rows calls text fault own = carried (rows_of text) (calls_with calls text) fault (λ f e. with_fault calls text f e) own
 
 -- The report was written, and it was not.
-pub told : (records : Bool) (calls : List Call) (text : List ℕ) (rows : List Row) (entries : List Entry) (old new : Option (List ℕ)) → rows_of text ≡ Ok rows
-    → (records ≡ true → entries ≡ history_of (replayed calls rows)) → Appends old new (report 1 (history_of (replayed calls rows))) → IsAnswered records (λ asked. calls_with calls text ≡ asked) entries old new
-told true calls text rows entries old new is history written = (replayed calls rows, with_rows calls text rows is, (history refl, written))
-told false calls text rows entries old new is history written = (replayed calls rows, with_rows calls text rows is, lawful (replayed calls rows), written)
+pub told : (records : Bool) (calls : List Call) (text : List ℕ) (rows : List Row) (entries : List Entry) (untargeted : Bool) (old new : Option (List ℕ)) → rows_of text ≡ Ok rows
+    → (records ≡ true → entries ≡ history_of (replayed calls rows))
+    → Appends old new (report 1 (history_of (replayed calls rows))) × (untargeted ≡ all_untargeted (history_of (replayed calls rows)))
+    → IsAnswered records (λ asked. calls_with calls text ≡ asked) entries untargeted old new
+told true calls text rows entries untargeted old new is history written =
+    ((replayed calls rows, with_rows calls text rows is, (history refl, written.0)), written.1 ∙ ap all_untargeted (sym (history refl)))
+told false calls text rows entries untargeted old new is history written = (replayed calls rows, with_rows calls text rows is, lawful (replayed calls rows), written.0, written.1)
 
 pub untold : (calls : List Call) (text : List ℕ) (rows : List Row) (old new : Option (List ℕ)) (failed : Bool) (fault : ReplayFault) → rows_of text ≡ Ok rows
     → IsUnwritten Report (report 1 (history_of (replayed calls rows))) old new failed fault → IsUnreplayed NoneFailed (λ asked. calls_with calls text ≡ asked) old new failed fault

@@ -1,5 +1,6 @@
 -- What is kept of a run for its report: what became of the packet of each row, and at which rows packets were accepted.
-use Rattle.std.specs.Prelude.{◌≡◌, ℕ, ◌+◌, ◌<◌, ◌≤◌, ◌^◌, Bool, true, false, cond, List, [], ◌∷◌, ◌++◌, All, filter, length, map, slice_index, slice_index_or, Option, None, Some, is_some, option_to_list}
+use Rattle.std.specs.Prelude.{◌≡◌, ℕ, ◌+◌, ◌<◌, ◌≤◌, ◌^◌, ◌&&◌, not, Bool, true, false, cond, List, [], ◌∷◌, ◌++◌, All, filter, length, map, slice_index, slice_index_or, Option, None, Some, is_some, option_to_list}
+use Rattle.std.specs.List.{list_any}
 use Rattle.dn_types.specs.Calls.{trace_of}
 use Rattle.dn_types.specs.Clock.{call_limit}
 use Rattle.dn_types.specs.Replies.{reply}
@@ -7,10 +8,11 @@ use Rattle.dn_types.specs.Trace.{accepted_count}
 use Rattle.dn_types.specs.declared.call.Call.{Call}
 use Rattle.dn_types.specs.declared.call.Call.TheVariants.{Collect}
 use Rattle.dn_types.specs.declared.delivery.Delivery.{Delivery}
+use Rattle.dn_types.specs.declared.entry.Entry.{Entry}
 use Rattle.dn_types.specs.declared.reply.Reply.{Reply}
 use Rattle.dn_types.specs.declared.reply.Reply.TheVariants as r
 use Rattle.dn_types.specs.declared.rule.Rule.TheVariants.{Ordered}
-use Rattle.dn_replay.specs.Report.{delivered, deliveries, delivery_of_packet, is_other, lines_after, queued_line, submits_by}
+use Rattle.dn_replay.specs.Report.{delivered, deliveries, delivery_of_packet, is_other, is_submit, lines_after, queued_line, submits_by}
 use Rattle.dn_replay.specs.Runs.{history_of}
 use Rattle.dn_replay.specs.declared.report.fate.Fate.{Fate}
 use Rattle.dn_replay.specs.declared.report.fate.Fate.TheVariants.{Accepted, Lost, Full, NoTarget, Unanswered}
@@ -29,6 +31,23 @@ fate_of _ = Unanswered
 abbrev pub is_accepted : Fate → Bool
 is_accepted (Accepted flow at) = true
 is_accepted _ = false
+
+-- The target of a packet wasn't configured.
+abbrev pub is_untargeted : Fate → Bool
+is_untargeted (NoTarget at) = true
+is_untargeted _ = false
+
+-- An entry is a row's Submit, and the fate of the packet passes a test.
+abbrev pub is_row : (Fate → Bool) → Entry → Bool
+is_row test e = is_submit e.call && test (fate_of e.reply)
+
+-- There is a row, and the target of no row is configured.
+abbrev pub all_untargeted : List Entry → Bool
+all_untargeted entries = not (list_any (is_row (λ f. not (is_untargeted f))) entries) && list_any (is_row is_untargeted) entries
+
+-- The same by the fates of the rows' packets.
+abbrev pub are_untargeted : List Fate → Bool
+are_untargeted fates = not (list_any (λ f. not (is_untargeted f)) fates) && list_any is_untargeted fates
 
 -- The line of a row by the fate of its packet, which has this number if it was accepted.
 abbrev pub fate_line : ℕ → ℕ → List Delivery → Fate → Option ReportLine
@@ -91,6 +110,7 @@ pub record HasKept (kept : Kept) (calls : List Call) : Type 0 where
   pub places : kept.accepted.items ≡ accepted_places 0 kept.fates.items
   pub numbers : length calls ≤ call_limit → accepted_count (trace_of calls) ≡ length kept.accepted.items
   pub undelivered : deliveries (history_of calls) ≡ []
+  pub rows : (test : Fate → Bool) → list_any (is_row test) (history_of calls) ≡ list_any test kept.fates.items
 
 -- The same, and the list is what a Collect at the last moment gives after them.
 pub record CanReport (kept : Kept) (given : List Delivery) (calls : List Call) : Type 0 where

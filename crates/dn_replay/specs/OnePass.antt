@@ -17,7 +17,7 @@ use Rattle.dn_files.specs.Reading.{◌>>=◌, IsFaultOf}
 use Rattle.dn_files.specs.declared.replay_fault.ReplayFault.{ReplayFault}
 use Rattle.dn_files.specs.declared.row.Row.{Row}
 use Rattle.dn_files.specs.declared.source.Source.{Source}
-use Rattle.dn_replay.specs.Kept.{CanReport, HasKept}
+use Rattle.dn_replay.specs.Kept.{all_untargeted, CanReport, HasKept}
 use Rattle.dn_replay.specs.Passing.{HasPassed}
 use Rattle.dn_replay.specs.Replays.{calls_of_parts, IsReplayed}
 use Rattle.dn_replay.specs.Report.{report}
@@ -30,14 +30,15 @@ use Rattle.dn_replay.specs.declared.replays.input.Stage.{Stage}
 use Rattle.dn_replay.specs.declared.report.kept.Kept.{Kept}
 use Rattle.dn_replay.specs.declared.replays.input.Stage.TheVariants.{Config, Packets, Refused}
 
--- There are calls that are asked for, and the report of their history, which is lawful, was written.
-abbrev pub IsReportedFor : (Result (List Call) ReplayFault → Type 0) → Option (List ℕ) → Option (List ℕ) → Type 0
-IsReportedFor Asked old new = (calls : List Call) × Asked (Ok calls) × IsLawful Ordered (history_of calls) × Appends old new (report 1 (history_of calls))
+-- There are calls that are asked for, and the report of their history, which is lawful, was written. It is told whether no row has a target.
+abbrev pub IsReportedFor : (Result (List Call) ReplayFault → Type 0) → Bool → Option (List ℕ) → Option (List ℕ) → Type 0
+IsReportedFor Asked untargeted old new =
+    (calls : List Call) × Asked (Ok calls) × IsLawful Ordered (history_of calls) × Appends old new (report 1 (history_of calls)) × (untargeted ≡ all_untargeted (history_of calls))
 
 -- What is asked for was answered: by its report, and by its history too where that is recorded.
-abbrev pub IsAnswered : Bool → (Result (List Call) ReplayFault → Type 0) → List Entry → Option (List ℕ) → Option (List ℕ) → Type 0
-IsAnswered true Asked entries old new = IsReplayed Asked entries old new
-IsAnswered false Asked entries old new = IsReportedFor Asked old new
+abbrev pub IsAnswered : Bool → (Result (List Call) ReplayFault → Type 0) → List Entry → Bool → Option (List ℕ) → Option (List ℕ) → Type 0
+IsAnswered true Asked entries untargeted old new = IsReplayed Asked entries old new × (untargeted ≡ all_untargeted entries)
+IsAnswered false Asked entries untargeted old new = IsReportedFor Asked untargeted old new
 
 -- No read failed.
 abbrev pub NoneFailed : Option Source → Type 0

@@ -18,4 +18,4 @@ pub use replays::{
     FileReplay, replay, replay_joined, replay_joined_report, replay_joined_with_key, replay_report,
     replay_report_within, replay_with_key, replay_within,
 };
-pub use report::write_report;
+pub use report::{Outcome, write_report};

@@ -6,11 +6,13 @@ mod kept;
 mod line;
 mod line_text;
 mod order;
+mod outcome;
 mod parts;
 mod write;
 mod write_kept;
 
 pub(crate) use delivered::{delivered_by, last_delivered};
 pub(crate) use kept::Kept;
+pub use outcome::Outcome;
 pub use write::write_report;
 pub(crate) use write_kept::write_kept;

@@ -7,7 +7,7 @@ mod replays;
 use dn_command::{Audit, Refusal, Request, request_of, words_of};
 use dn_live::live;
 use dn_records::{FromReader, FromWriter};
-use dn_replay::{HISTORY_LIMIT, HashKey, ReplayFault, Source, audit_file_within};
+use dn_replay::{HISTORY_LIMIT, HashKey, Outcome, ReplayFault, Source, audit_file_within};
 use replays::{replay_files, replay_input};
 use std::process::ExitCode;
 use std::random::RandomSource;
@@ -44,19 +44,26 @@ fn serve<R: Input + Print + AllocGlobal>(rt: &R, key: HashKey) -> Result<u8, Rep
     Ok(live(rt.alloc(), key, &mut input, &mut out)?.status())
 }
 
+/// Tells of a replay in which no row has a target, and returns the status of one that was made.
+fn told<R: Eprint>(rt: &R, outcome: Outcome) -> u8 {
+    if outcome.untargeted {
+        let _ = eprintln!(rt; "no row has a target: nothing went through a link");
+    }
+    DONE
+}
+
 /// Does what is asked for, and answers its status.
-fn run<R: Input + Files + Print + AllocGlobal + Threads + Wait + Sync>(
+fn run<R: Input + Files + Print + Eprint + AllocGlobal + Threads + Wait + Sync>(
     rt: &R,
     key: HashKey,
     request: &Request<'_>,
 ) -> Result<u8, ReplayFault> {
     match request {
-        Request::Joined => replay_input(rt, key)?,
-        Request::Replay(asked) => replay_files(rt, key, asked)?,
-        Request::Audit(asked) => return audit(rt, key, asked),
-        Request::Live => return serve(rt, key),
+        Request::Joined => Ok(told(rt, replay_input(rt, key)?)),
+        Request::Replay(asked) => Ok(told(rt, replay_files(rt, key, asked)?)),
+        Request::Audit(asked) => audit(rt, key, asked),
+        Request::Live => serve(rt, key),
     }
-    Ok(DONE)
 }
 
 /// The secret by which the flow table hashes, drawn anew in each run, so that who writes a packet file can't know it.

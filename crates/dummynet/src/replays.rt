@@ -2,7 +2,7 @@ use crate::late_file::LateFile;
 use dn_command::Replay;
 use dn_records::{FromReader, FromWriter};
 use dn_replay::{
-    HashKey, NoGate, PACKET_LIMIT, ReplayFault, Source, replay_callers_with_key,
+    HashKey, NoGate, Outcome, PACKET_LIMIT, ReplayFault, Source, replay_callers_with_key,
     replay_joined_report, replay_report_within, replay_within, write_history,
 };
 use std::rt::Files;
@@ -17,7 +17,7 @@ const MOST: usize = 1 << 40;
 pub fn replay_input<R: Input + Print + AllocGlobal>(
     rt: &R,
     key: HashKey,
-) -> Result<(), ReplayFault> {
+) -> Result<Outcome, ReplayFault> {
     let mut input = FromReader::new(rt.reader());
     let mut out = FromWriter::new(io::writer(rt));
     replay_joined_report(rt.alloc(), key, &mut input, &mut out)
@@ -31,7 +31,7 @@ pub fn replay_files<R: Files + Print + AllocGlobal + Threads + Wait + Sync>(
     rt: &R,
     key: HashKey,
     asked: &Replay<'_>,
-) -> Result<(), ReplayFault> {
+) -> Result<Outcome, ReplayFault> {
     let Ok(config) = fs::open(rt, asked.config) else {
         return Err(ReplayFault::Read(Source::Config));
     };
@@ -59,12 +59,14 @@ pub fn replay_files<R: Files + Print + AllocGlobal + Threads + Wait + Sync>(
         )?,
         (None, Some(_)) => replay_within(alloc, key, limit, &mut config, &mut packets, &mut out)?,
     };
+    let outcome = Outcome::of(&entries);
     let Some(path) = asked.history else {
-        return Ok(());
+        return Ok(outcome);
     };
     write_history(
         alloc,
         &entries,
         &mut FromWriter::new(LateFile::new(rt, path)),
-    )
+    )?;
+    Ok(outcome)
 }

@@ -31,7 +31,8 @@ fn fed(
             Err(fault)
         }
     };
-    Ok(answer?.len())
+    let (history, _) = answer?;
+    Ok(history.len())
 }
 
 // What is answered and written of the worked example of a full queue, as a joined input and as two.

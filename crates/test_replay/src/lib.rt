@@ -19,3 +19,5 @@ mod passing;
 mod replays;
 #[cfg(test)]
 mod reports;
+#[cfg(test)]
+mod untargeted;

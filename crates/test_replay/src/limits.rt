@@ -35,6 +35,7 @@ fn within(
         &mut packets,
         &mut out,
     )
+    .map(|_| ())
 }
 
 #[test]

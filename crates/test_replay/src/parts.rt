@@ -27,7 +27,7 @@ fn joined(
         let history = replay_joined_with_key(alloc, HashKey(7), &mut input, &mut out);
         return history.map(|entries| Some(entries.len()));
     }
-    replay_joined_report(alloc, HashKey(7), &mut input, &mut out).map(|()| None)
+    replay_joined_report(alloc, HashKey(7), &mut input, &mut out).map(|_| None)
 }
 
 // The same of a configuration and packets.
@@ -45,7 +45,7 @@ fn both(
         let history = replay_with_key(alloc, HashKey(7), &mut config, &mut packets, &mut out);
         return history.map(|entries| Some(entries.len()));
     }
-    replay_report(alloc, HashKey(7), &mut config, &mut packets, &mut out).map(|()| None)
+    replay_report(alloc, HashKey(7), &mut config, &mut packets, &mut out).map(|_| None)
 }
 
 // Whether the report of an input is written, and its history has so many entries where it is kept, from one input

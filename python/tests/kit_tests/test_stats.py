@@ -40,12 +40,13 @@ class ByHand(unittest.TestCase):
         self.assertEqual([line.split("  ")[0] for line in done.stdout.splitlines()[1:]], ["pipe 1", "pipe 9", "all"])
 
     def test_no_row_has_a_target(self) -> None:
-        """Every command that reads such a replay says so, and the program doesn't."""
+        """Every command that reads such a replay says so, and so does the program."""
         packets = write("lost.csv", HEADER + "\n" + "".join(f"{moment},pipe,7,10.0.0.1,10.0.0.2,17,1,2,1000,0\n" for moment in (0, 1000)))
         config = write("lost.config", "pipe 1 config bw {bw}\n")
         spelled = write("lost1.config", "pipe 1 config bw 8Mbit/s\n")
         report, history = replay("lost", spelled, packets), folder() / "lost.history"
-        subprocess.run([dummynet(), "replay", spelled, packets, "--history", history], stdout=subprocess.DEVNULL, check=True)
+        done = subprocess.run([dummynet(), "replay", spelled, packets, "--history", history], stdout=subprocess.DEVNULL, stderr=subprocess.PIPE, check=True)
+        self.assertEqual(done.stderr, b"no row has a target: nothing went through a link\n")
         for words in (("stats", packets, report), ("picture", packets, report, "-o", "lost.png"), ("look", history)):
             done = run(*words)
             told = f"hinge {words[0]}: 2 rows went to pipe 7, which isn't configured\nhinge {words[0]}: no row has a target: nothing went through a link\n"

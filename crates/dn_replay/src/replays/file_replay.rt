@@ -6,6 +6,7 @@ ghost use Rattle.dn_replay.specs.OnePass.{IsAnswered, NoneFailed};
 ghost use Rattle.dn_replay.specs.Replays.{config_calls, IsUnreplayed};
 
 use crate::replays::input::{Input, Stage};
+use crate::report::Outcome;
 use dn_files::{CONFIG_LIMIT, Feed, PACKET_LIMIT, ReplayFault, Source, feed_all};
 use dn_records::{Inlet, Outlet};
 use dn_shaper::HashKey;
@@ -148,15 +149,15 @@ impl FileReplay {
         feed_all(self.alloc, inlet, self)
     }
 
-    /// Takes the end of the text: returns its first fault, or writes its report and returns its history.
+    /// Takes the end of the text: returns its first fault, or writes its report and returns its history and its outcome.
     ///
     /// The history is empty if none is kept. Before Write a part of the report was written, and before any other fault
     /// nothing.
-    pub fn finish<O: Outlet>(self, out: &mut O) -> Result<Vec<Entry>, ReplayFault>
+    pub fn finish<O: Outlet>(self, out: &mut O) -> Result<(Vec<Entry>, Outcome), ReplayFault>
         requires sound { O.has_failed out.old ≡ false }
-        ensures ok { IfOk result (λ entries. (records : Bool) (config : Option (List ℕ)) (text : List ℕ) → HasCome records self config text
-            → IsAnswered records (λ asked. calls_asked self.limit config text ≡ asked) entries.items (O.contents out.old) (O.contents out.new)) }
-        ensures unasked { IfOk result (λ entries. self.records ≡ false → entries.items ≡ []) }
+        ensures ok { IfOk result (λ both. (records : Bool) (config : Option (List ℕ)) (text : List ℕ) → HasCome records self config text
+            → IsAnswered records (λ asked. calls_asked self.limit config text ≡ asked) both.0.items both.1.untargeted (O.contents out.old) (O.contents out.new)) }
+        ensures unasked { IfOk result (λ both. self.records ≡ false → both.0.items ≡ []) }
         ensures sound { IfOk result (λ _. O.has_failed out.new ≡ false) }
         ensures err { IfErr result (λ fault. (records : Bool) (config : Option (List ℕ)) (text : List ℕ) → HasCome records self config text
             → IsUnreplayed NoneFailed (λ asked. calls_asked self.limit config text ≡ asked) (O.contents out.old) (O.contents out.new) (O.has_failed out.new) fault) }
@@ -164,15 +165,15 @@ impl FileReplay {
         let alloc = self.alloc;
         let records = self.records;
         let mut input = self.input;
-        let outcome = input.report(out);
+        let answer = input.report(out);
         let history = if records {
             input.pass.run.take_history(alloc)
         } else {
             Vec::new(alloc)
         };
         drop(input);
-        match outcome {
-            Ok(()) => Ok(history),
+        match answer {
+            Ok(outcome) => Ok((history, outcome)),
             Err(fault) => Err(fault),
         }
     }

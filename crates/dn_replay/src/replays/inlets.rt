@@ -7,6 +7,7 @@ ghost use Rattle.dn_replay.specs.OnePass.{IsAnswered, IsReportedFor};
 ghost use Rattle.dn_replay.specs.Replays.{AskFor, AskForWithin, AsksFor, EitherFailed, InputFailed, IsReplayed, IsUnreplayed, TextFailed};
 
 use crate::replays::file_replay::FileReplay;
+use crate::report::Outcome;
 use dn_files::{CONFIG_LIMIT, PACKET_LIMIT, ReplayFault, Source, read_input};
 use dn_records::{Inlet, Outlet};
 use dn_shaper::HashKey;
@@ -18,12 +19,12 @@ fn answer<I: Inlet, O: Outlet>(
     mut replay: FileReplay,
     inlet: &mut I,
     out: &mut O,
-) -> Result<Vec<Entry>, ReplayFault>
+) -> Result<(Vec<Entry>, Outcome), ReplayFault>
     requires inlet { I.has_failed inlet.old ≡ false }
     requires out { O.has_failed out.old ≡ false }
-    ensures ok { IfOk result (λ entries. (text : List ℕ) × IsTextOf (I.remaining inlet.old) text
+    ensures ok { IfOk result (λ both. (text : List ℕ) × IsTextOf (I.remaining inlet.old) text
         × ((records : Bool) (config : Option (List ℕ)) → HasCome records replay config []
-        → IsAnswered records (λ asked. calls_asked replay.limit config text ≡ asked) entries.items (O.contents out.old) (O.contents out.new))) }
+        → IsAnswered records (λ asked. calls_asked replay.limit config text ≡ asked) both.0.items both.1.untargeted (O.contents out.old) (O.contents out.new))) }
     ensures inlet { IfOk result (λ _. I.has_failed inlet.new ≡ false) }
     ensures sound { IfOk result (λ _. O.has_failed out.new ≡ false) }
     ensures err { IfErr result (λ fault. (records : Bool) (config : Option (List ℕ)) → HasCome records replay config []
@@ -49,13 +50,13 @@ fn replay_inputs<C: Inlet, P: Inlet, O: Outlet>(
     config: &mut C,
     packets: &mut P,
     out: &mut O,
-) -> Result<Vec<Entry>, ReplayFault>
+) -> Result<(Vec<Entry>, Outcome), ReplayFault>
     requires limit { IsLimit limit }
     requires config { C.has_failed config.old ≡ false }
     requires packets { P.has_failed packets.old ≡ false }
     requires out { O.has_failed out.old ≡ false }
-    ensures ok { IfOk result (λ entries. IsAnswered records (AskForWithin limit (C.remaining config.old) (P.remaining packets.old))
-        entries.items (O.contents out.old) (O.contents out.new)) }
+    ensures ok { IfOk result (λ both. IsAnswered records (AskForWithin limit (C.remaining config.old) (P.remaining packets.old))
+        both.0.items both.1.untargeted (O.contents out.old) (O.contents out.new)) }
     ensures inputs { IfOk result (λ _. EitherFailed (C.remaining config.old)
         (C.has_failed config.new) (P.has_failed packets.new) None) }
     ensures sound { IfOk result (λ _. O.has_failed out.new ≡ false) }
@@ -76,11 +77,11 @@ fn replay_input<I: Inlet, O: Outlet>(
     records: bool,
     input: &mut I,
     out: &mut O,
-) -> Result<Vec<Entry>, ReplayFault>
+) -> Result<(Vec<Entry>, Outcome), ReplayFault>
     requires input { I.has_failed input.old ≡ false }
     requires out { O.has_failed out.old ≡ false }
-    ensures ok { IfOk result (λ entries. IsAnswered records (AsksFor (I.remaining input.old))
-        entries.items (O.contents out.old) (O.contents out.new)) }
+    ensures ok { IfOk result (λ both. IsAnswered records (AsksFor (I.remaining input.old))
+        both.0.items both.1.untargeted (O.contents out.old) (O.contents out.new)) }
     ensures inputs { IfOk result (λ _. InputFailed (I.has_failed input.new) None) }
     ensures sound { IfOk result (λ _. O.has_failed out.new ≡ false) }
     ensures err { IfErr result (λ fault.
@@ -153,7 +154,10 @@ pub fn replay_within<C: Inlet, P: Inlet, O: Outlet>(
         (AskForWithin limit (C.remaining config.old) (P.remaining packets.old))
         (O.contents out.old) (O.contents out.new) (O.has_failed out.new) fault) }
 {
-    replay_inputs(alloc, key, true, limit, config, packets, out)
+    match replay_inputs(alloc, key, true, limit, config, packets, out) {
+        Ok((entries, _)) => Ok(entries),
+        Err(fault) => Err(fault),
+    }
 }
 
 /// Replays a packet file through a configuration for one caller, as [`replay`](crate::replay), and writes the report alone.
@@ -166,11 +170,11 @@ pub fn replay_report<C: Inlet, P: Inlet, O: Outlet>(
     config: &mut C,
     packets: &mut P,
     out: &mut O,
-) -> Result<(), ReplayFault>
+) -> Result<Outcome, ReplayFault>
     requires config { C.has_failed config.old ≡ false }
     requires packets { P.has_failed packets.old ≡ false }
     requires out { O.has_failed out.old ≡ false }
-    ensures ok { OnOk result (IsReportedFor (AskFor (C.remaining config.old) (P.remaining packets.old))
+    ensures ok { IfOk result (λ outcome. IsReportedFor (AskFor (C.remaining config.old) (P.remaining packets.old)) outcome.untargeted
         (O.contents out.old) (O.contents out.new)) }
 
     // No read and no write failed.
@@ -193,12 +197,12 @@ pub fn replay_report_within<C: Inlet, P: Inlet, O: Outlet>(
     config: &mut C,
     packets: &mut P,
     out: &mut O,
-) -> Result<(), ReplayFault>
+) -> Result<Outcome, ReplayFault>
     requires limit { IsLimit limit }
     requires config { C.has_failed config.old ≡ false }
     requires packets { P.has_failed packets.old ≡ false }
     requires out { O.has_failed out.old ≡ false }
-    ensures ok { OnOk result (IsReportedFor (AskForWithin limit (C.remaining config.old) (P.remaining packets.old))
+    ensures ok { IfOk result (λ outcome. IsReportedFor (AskForWithin limit (C.remaining config.old) (P.remaining packets.old)) outcome.untargeted
         (O.contents out.old) (O.contents out.new)) }
 
     // No read and no write failed.
@@ -211,7 +215,7 @@ pub fn replay_report_within<C: Inlet, P: Inlet, O: Outlet>(
         (O.contents out.old) (O.contents out.new) (O.has_failed out.new) fault) }
 {
     match replay_inputs(alloc, key, false, limit, config, packets, out) {
-        Ok(_) => Ok(()),
+        Ok((_, outcome)) => Ok(outcome),
         Err(fault) => Err(fault),
     }
 }
@@ -235,7 +239,10 @@ pub fn replay_joined_with_key<I: Inlet, O: Outlet>(
         IsUnreplayed (InputFailed (I.has_failed input.new)) (AsksFor (I.remaining input.old))
         (O.contents out.old) (O.contents out.new) (O.has_failed out.new) fault) }
 {
-    replay_input(alloc, key, true, input, out)
+    match replay_input(alloc, key, true, input, out) {
+        Ok((entries, _)) => Ok(entries),
+        Err(fault) => Err(fault),
+    }
 }
 
 /// [`replay_report`] over one such joined input.
@@ -244,10 +251,10 @@ pub fn replay_joined_report<I: Inlet, O: Outlet>(
     key: HashKey,
     input: &mut I,
     out: &mut O,
-) -> Result<(), ReplayFault>
+) -> Result<Outcome, ReplayFault>
     requires input { I.has_failed input.old ≡ false }
     requires out { O.has_failed out.old ≡ false }
-    ensures ok { OnOk result (IsReportedFor (AsksFor (I.remaining input.old))
+    ensures ok { IfOk result (λ outcome. IsReportedFor (AsksFor (I.remaining input.old)) outcome.untargeted
         (O.contents out.old) (O.contents out.new)) }
     ensures inputs { OnOk result (InputFailed (I.has_failed input.new) None) }
     ensures sound { OnOk result (O.has_failed out.new ≡ false) }
@@ -256,7 +263,7 @@ pub fn replay_joined_report<I: Inlet, O: Outlet>(
         (O.contents out.old) (O.contents out.new) (O.has_failed out.new) fault) }
 {
     match replay_input(alloc, key, false, input, out) {
-        Ok(_) => Ok(()),
+        Ok((_, outcome)) => Ok(outcome),
         Err(fault) => Err(fault),
     }
 }

@@ -1,4 +1,4 @@
-ghost use Rattle.std.specs.Prelude.{◌≡◌, ◌++◌, ℕ, Bool, List, [], Ok, Result, OnOk, IfErr, false};
+ghost use Rattle.std.specs.Prelude.{◌≡◌, ◌++◌, ℕ, Bool, List, [], Ok, Result, OnOk, IfOk, IfErr, false};
 ghost use Rattle.dn_types.specs.declared.call.Call.{Call as CallValue};
 ghost use Rattle.dn_files.specs.Reading.{IsFaultOf};
 ghost use Rattle.dn_files.specs.declared.replay_fault.ReplayFault.{ReplayFault as FaultValue};
@@ -9,6 +9,7 @@ ghost use Rattle.dn_replay.specs.Replays.{IsUnreplayed};
 use crate::config::apply_lines::configure;
 use crate::config::config_part::ConfigPart;
 use crate::replays::pass::Pass;
+use crate::report::Outcome;
 use dn_files::ReplayFault;
 use dn_records::Outlet;
 use dn_shaper::HashKey;
@@ -124,13 +125,13 @@ impl Input {
     /// Takes the end of the input, and writes the report of what it asks for.
     ///
     /// If the calls are recorded, they are all in the history then.
-    pub(crate) fn report<O: Outlet>(&mut self, out: &mut O) -> Result<(), ReplayFault>
+    pub(crate) fn report<O: Outlet>(&mut self, out: &mut O) -> Result<Outcome, ReplayFault>
         requires taken { (records : Bool) × (asked : List ℕ → Result (List CallValue) FaultValue) × (text : List ℕ)
             × HasTaken records self.old asked text × AreFew (asked text) }
         requires sound { O.has_failed out.old ≡ false }
-        ensures ok { OnOk result ((records : Bool) (asked : List ℕ → Result (List CallValue) FaultValue) (text : List ℕ)
+        ensures ok { IfOk result (λ outcome. (records : Bool) (asked : List ℕ → Result (List CallValue) FaultValue) (text : List ℕ)
             → HasTaken records self.old asked text → AreFew (asked text)
-            → IsAnswered records (λ r. asked text ≡ r) self.new.pass.run.history.items (O.contents out.old) (O.contents out.new)) }
+            → IsAnswered records (λ r. asked text ≡ r) self.new.pass.run.history.items outcome.untargeted (O.contents out.old) (O.contents out.new)) }
         ensures sound { OnOk result (O.has_failed out.new ≡ false) }
         ensures err { IfErr result (λ fault. (records : Bool) (asked : List ℕ → Result (List CallValue) FaultValue) (text : List ℕ)
             → HasTaken records self.old asked text → AreFew (asked text)

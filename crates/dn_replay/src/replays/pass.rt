@@ -1,4 +1,4 @@
-ghost use Rattle.std.specs.Prelude.{◌≡◌, ◌<◌, ◌^◌, ◌∷◌, ◌++◌, ℕ, Bool, List, length, OnOk, IfErr, false};
+ghost use Rattle.std.specs.Prelude.{◌≡◌, ◌<◌, ◌^◌, ◌∷◌, ◌++◌, ℕ, Bool, List, length, OnOk, IfOk, IfErr, false};
 ghost use Rattle.dn_types.specs.Replies.{reply as reply_to};
 ghost use Rattle.dn_types.specs.declared.call.Call.{Call as CallValue};
 ghost use Rattle.dn_types.specs.declared.call.Call.TheVariants.{Collect as CollectValue};
@@ -12,7 +12,7 @@ ghost use Rattle.dn_replay.specs.Report.{delivered};
 ghost use Rattle.dn_replay.specs.Runs.{submit as submit_of, submitted};
 
 use crate::config::run::{Run, submit};
-use crate::report::{Kept, delivered_by, last_delivered, write_kept};
+use crate::report::{Kept, Outcome, delivered_by, last_delivered, write_kept};
 use dn_files::{PacketReader, ReplayFault, Row};
 use dn_records::Outlet;
 use dn_shaper::{HashKey, Shaper};
@@ -178,11 +178,11 @@ impl Pass {
         &mut self,
         alloc: Global,
         out: &mut O,
-    ) -> Result<(), ReplayFault>
+    ) -> Result<Outcome, ReplayFault>
         requires fed { (records : Bool) × (calls : List CallValue) × (text : List ℕ) × HasFed records self.old calls text × AreFew (calls_with calls text) }
         requires sound { O.has_failed out.old ≡ false }
-        ensures ok { OnOk result ((records : Bool) (calls : List CallValue) (text : List ℕ) → HasFed records self.old calls text → AreFew (calls_with calls text)
-            → IsAnswered records (λ asked. calls_with calls text ≡ asked) self.new.run.history.items (O.contents out.old) (O.contents out.new)) }
+        ensures ok { IfOk result (λ outcome. (records : Bool) (calls : List CallValue) (text : List ℕ) → HasFed records self.old calls text → AreFew (calls_with calls text)
+            → IsAnswered records (λ asked. calls_with calls text ≡ asked) self.new.run.history.items outcome.untargeted (O.contents out.old) (O.contents out.new)) }
         ensures sound { OnOk result (O.has_failed out.new ≡ false) }
         ensures err { IfErr result (λ fault. (records : Bool) (calls : List CallValue) (text : List ℕ) → HasFed records self.old calls text → AreFew (calls_with calls text)
             → IsUnreplayed NoneFailed (λ asked. calls_with calls text ≡ asked) (O.contents out.old) (O.contents out.new) (O.has_failed out.new) fault) }

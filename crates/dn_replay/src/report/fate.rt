@@ -1,5 +1,5 @@
 ghost use Rattle.std.specs.Prelude.{◌≡◌};
-ghost use Rattle.dn_replay.specs.Kept.{fate_of, flow_of, is_accepted, moment_of};
+ghost use Rattle.dn_replay.specs.Kept.{fate_of, flow_of, is_accepted, is_untargeted, moment_of};
 
 use dn_types::Reply;
 
@@ -47,6 +47,12 @@ impl Fate {
         ensures { result ≡ is_accepted self.now }
     {
         matches!(self, Fate::Accepted { .. })
+    }
+
+    pub(crate) fn is_untargeted(&self) -> bool
+        ensures { result ≡ is_untargeted self.now }
+    {
+        matches!(self, Fate::NoTarget { .. })
     }
 
     /// The flow of a packet that has one, and 0 for others.

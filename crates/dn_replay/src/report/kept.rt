@@ -1,11 +1,12 @@
-ghost use Rattle.std.specs.Prelude.{◌≡◌, ℕ, List, [], ◌∷◌, ◌++◌, cond, OnOk};
+ghost use Rattle.std.specs.Prelude.{◌≡◌, ℕ, List, [], ◌∷◌, ◌++◌, cond, not, OnOk};
+ghost use Rattle.std.specs.List.{list_any};
 ghost use Rattle.dn_types.specs.Replies.{reply as reply_to};
 ghost use Rattle.dn_types.specs.declared.call.Call.{Call};
 ghost use Rattle.dn_types.specs.declared.call.Call.TheVariants.{Submit};
 ghost use Rattle.dn_types.specs.declared.packet.Packet.{Packet};
 ghost use Rattle.dn_types.specs.declared.rule.Rule.TheVariants.{Ordered};
 ghost use Rattle.dn_types.specs.declared.target.Target.{Target};
-ghost use Rattle.dn_replay.specs.Kept.{HasKept, is_accepted};
+ghost use Rattle.dn_replay.specs.Kept.{are_untargeted, HasKept, is_accepted, is_untargeted};
 
 use crate::report::fate::Fate;
 use dn_types::Reply;
@@ -31,6 +32,20 @@ fn add_place(places: &mut Vec<usize>, place: usize, fate: Fate) -> Result<(), Al
     Ok(())
 }
 
+/// Whether a packet had a target.
+fn has_target(fates: &[Fate]) -> bool
+    ensures { result ≡ list_any (λ f. not (is_untargeted f)) fates.now }
+{
+    fates.iter().any(|fate| !fate.is_untargeted())
+}
+
+/// Whether a packet had no target.
+fn lacks_target(fates: &[Fate]) -> bool
+    ensures { result ≡ list_any is_untargeted fates.now }
+{
+    fates.iter().any(|fate| fate.is_untargeted())
+}
+
 impl Kept {
     /// Nothing is kept before the first call.
     pub(crate) fn new(alloc: Global) -> Kept
@@ -53,5 +68,13 @@ impl Kept {
         add_place(&mut self.accepted, self.fates.len(), fate)?;
         self.fates.push(fate)?;
         Ok(())
+    }
+
+    /// Whether there is a row, and no row has a target.
+    pub(crate) fn all_untargeted(&self) -> bool
+        ensures { result ≡ are_untargeted self.now.fates.items }
+    {
+        // A row with a target ends the first search, so that the second is seldom made.
+        !has_target(self.fates.as_slice()) && lacks_target(self.fates.as_slice())
     }
 }

@@ -97,7 +97,7 @@ fn line_of_reply(
     }
 }
 
-fn is_submit(call: &Call) -> bool
+pub(crate) fn is_submit(call: &Call) -> bool
     ensures { result ≡ is_submit call.now }
 {
     matches!(call, Call::Submit { .. })

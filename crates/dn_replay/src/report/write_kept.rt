@@ -9,7 +9,7 @@ ghost use Rattle.dn_records.specs.Records.{line_of, text_of};
 ghost use Rattle.dn_types.specs.declared.call.Call.{Call};
 ghost use Rattle.dn_types.specs.declared.call.Call.TheVariants.{Collect};
 ghost use Rattle.dn_types.specs.declared.delivery.Delivery.{Delivery as DeliveryValue};
-ghost use Rattle.dn_replay.specs.Kept.{accepted_places, AreKnown, AreMarksOf, CanReport, delivery_line, fate_line, fate_lines, is_accepted, kept_lines};
+ghost use Rattle.dn_replay.specs.Kept.{accepted_places, all_untargeted, AreKnown, AreMarksOf, CanReport, delivery_line, fate_line, fate_lines, is_accepted, kept_lines};
 ghost use Rattle.dn_replay.specs.Parts.{IsUnderWay};
 ghost use Rattle.dn_replay.specs.Report.{is_other, line_fields, report, report_header};
 ghost use Rattle.dn_replay.specs.Runs.{history_of};
@@ -18,6 +18,7 @@ ghost use Rattle.dn_replay.specs.declared.report.fate.Fate.TheVariants.{Unanswer
 use crate::report::fate::Fate;
 use crate::report::kept::Kept;
 use crate::report::line_text::{LINE, add_header, add_held, add_no_target, add_out, add_refused};
+use crate::report::outcome::Outcome;
 use crate::report::parts::{PART, write_full_part, write_part};
 use dn_files::{ReplayFault, Source};
 use dn_records::{Outlet, WriteFault};
@@ -243,21 +244,24 @@ fn write_by<O: Outlet>(
     marks: Vec<bool>,
     mut text: Vec<u8>,
     out: &mut O,
-) -> Result<(), ReplayFault>
+) -> Result<Outcome, ReplayFault>
     requires kept { (calls : List Call) × CanReport kept.now given.now calls }
     requires marks { AreMarksOf marks.items (length kept.now.accepted.items) given.now }
     requires room { 65536 + 160 ≤ vec_capacity text }
     requires empty { text.items ≡ [] }
     requires sound { O.has_failed out.old ≡ false }
-    ensures ok { OnOk result ((calls : List Call) → CanReport kept.now given.now calls →
-        Appends (O.contents out.old) (O.contents out.new) (report 1 (history_of (Collect (2 ^ 62) ∷ calls)))) }
+    ensures ok { IfOk result (λ outcome. (calls : List Call) → CanReport kept.now given.now calls →
+        Appends (O.contents out.old) (O.contents out.new) (report 1 (history_of (Collect (2 ^ 62) ∷ calls)))
+        × (outcome.untargeted ≡ all_untargeted (history_of (Collect (2 ^ 62) ∷ calls)))) }
     ensures sound { OnOk result (O.has_failed out.new ≡ false) }
     ensures err { IfErr result (λ fault. (calls : List Call) → CanReport kept.now given.now calls →
         IsUnwritten Report (report 1 (history_of (Collect (2 ^ 62) ∷ calls)))
         (O.contents out.old) (O.contents out.new) (O.has_failed out.new) fault) }
 {
     match write_lines(kept, given, marks.as_slice(), &mut text, out) {
-        Ok(()) => Ok(()),
+        Ok(()) => Ok(Outcome {
+            untargeted: kept.all_untargeted(),
+        }),
         Err(_) => Err(ReplayFault::Write(Source::Report)),
     }
 }
@@ -271,11 +275,12 @@ pub(crate) fn write_kept<O: Outlet>(
     kept: &Kept,
     given: &[Delivery],
     out: &mut O,
-) -> Result<(), ReplayFault>
+) -> Result<Outcome, ReplayFault>
     requires kept { (calls : List Call) × CanReport kept.now given.now calls }
     requires sound { O.has_failed out.old ≡ false }
-    ensures ok { OnOk result ((calls : List Call) → CanReport kept.now given.now calls →
-        Appends (O.contents out.old) (O.contents out.new) (report 1 (history_of (Collect (2 ^ 62) ∷ calls)))) }
+    ensures ok { IfOk result (λ outcome. (calls : List Call) → CanReport kept.now given.now calls →
+        Appends (O.contents out.old) (O.contents out.new) (report 1 (history_of (Collect (2 ^ 62) ∷ calls)))
+        × (outcome.untargeted ≡ all_untargeted (history_of (Collect (2 ^ 62) ∷ calls)))) }
     ensures sound { OnOk result (O.has_failed out.new ≡ false) }
 
     // Before a failed write a part of the report was written, and before a want of memory nothing.

@@ -39,8 +39,8 @@ returns-clause-ok g c =
     let packets = g.P.Inlet.remaining c.args.packets.now in
     let text = c.as_slice.result.now in
     let is = rw (← c.as_slice.ensures.value) at c.in_ok-text.ensures.text in
-    IfOk-weaker c.answer.result _ _ (λ entries told. answered_through (λ asked. calls_asked c.args.limit (Some text) told.0 ≡ asked) (AskForWithin c.args.limit config packets) (g.O.Outlet.contents c.args.out.now) (g.O.Outlet.contents c.answer.new.out)
-    (λ asked e. asked_by_both c.args.limit config packets text told.0 is told.1 asked e) c.args.records entries.items (rw c.in_ok-replay.ensures.limit at (told.2 c.args.records (Some text) c.in_ok-replay.ensures.ok))) c.answer.ensures.ok
+    IfOk-weaker c.answer.result _ _ (λ both told. answered_through (λ asked. calls_asked c.args.limit (Some text) told.0 ≡ asked) (AskForWithin c.args.limit config packets) (g.O.Outlet.contents c.args.out.now) (g.O.Outlet.contents c.answer.new.out)
+    (λ asked e. asked_by_both c.args.limit config packets text told.0 is told.1 asked e) c.args.records both.0.items both.1.untargeted (rw c.in_ok-replay.ensures.limit at (told.2 c.args.records (Some text) c.in_ok-replay.ensures.ok))) c.answer.ensures.ok
 
 pub returns-clause-err : goal.returns-clause-err
 returns-clause-err g c =

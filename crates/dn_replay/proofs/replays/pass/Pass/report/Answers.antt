@@ -1,4 +1,4 @@
-use Rattle.std.proofs.lemmas.Result.{err_from_is_err_and, IfErr-weaker, on_ok_weaker}
+use Rattle.std.proofs.lemmas.Result.{err_from_is_err_and, IfErr-weaker, IfOk-weaker}
 use Rattle.dn_replay.specs.OnePass.{calls_with}
 use Rattle.dn_replay.specs.Runs.{submitted}
 use Rattle.dn_replay.proofs.PassSteps.{recorded, refused_text, told, untold}
@@ -24,9 +24,9 @@ write_kept-requires g c =
 
 pub returns-clause-ok : goal.returns-clause-ok
 returns-clause-ok g c =
-    on_ok_weaker c.write_kept.result (λ written records calls text fed few.
+    IfOk-weaker c.write_kept.result _ _ (λ outcome written records calls text fed few.
     let (rows, is, ended) = c.in_ok-finish.ensures.ok records calls text fed few in
-    told records calls text rows c.finish.new.self.run.history.items (g.O.Outlet.contents c.args.out.now) (g.O.Outlet.contents c.write_kept.new.out) is
+    told records calls text rows c.finish.new.self.run.history.items outcome.untargeted (g.O.Outlet.contents c.args.out.now) (g.O.Outlet.contents c.write_kept.new.out) is
     (recorded records c.finish.new.self (submitted calls rows) ended) (written (submitted calls rows) (c.all_given.ensures records (submitted calls rows) ended))) c.write_kept.ensures.ok
 
 pub returns-clause-err : goal.returns-clause-err
