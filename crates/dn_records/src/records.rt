@@ -3,7 +3,7 @@ ghost use Rattle.csv.specs.Records.{fields_of};
 ghost use Rattle.csv.specs.declared.parser.State.TheVariants as st;
 ghost use Rattle.dn_records.specs.Reading.{records_after};
 ghost use Rattle.dn_records.specs.Records.{Takes, records_of};
-ghost use Rattle.dn_records.specs.PlainLines.{StandsBehindLine};
+ghost use Rattle.dn_records.specs.PlainLines.{StandsBehindLine, records_left};
 
 use crate::plain_line::record_at_front;
 use crate::record_reader::RecordReader;
@@ -40,6 +40,18 @@ enum Left<'a> {
     Plain(&'a [u8]),
     // Then the records. csv's reader is made for the first line that isn't plain, since it builds its automaton anew.
     Csv(RecordReader<'a>),
+}
+
+// Leaves a text whose lines are plain.
+//
+// A reader of csv makes the enum large, so the text alone is written while there is none.
+fn put_text<'a>(left: &mut Left<'a>, text: &'a [u8])
+    ensures { records_left left.new ≡ records_of text.now }
+{
+    match left {
+        Left::Plain(before) => *before = text,
+        Left::Csv(_) => *left = Left::Plain(text),
+    }
 }
 
 /// The records of a text that are left. Its value is the list of them.
@@ -88,7 +100,7 @@ impl<'a> Records<'a> {
         requires { StandsBehindLine text.now rest.now }
         ensures { self.new ≡ records_after st.StartRecord rest.now }
     {
-        self.left = Left::Plain(&text[text.len() - rest.len() - 1..]);
+        put_text(&mut self.left, &text[text.len() - rest.len() - 1..]);
     }
 
     // Leaves no record.
