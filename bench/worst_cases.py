@@ -50,6 +50,7 @@ CASES = [
     Case("a queue of 80,000 flows on one link, two packets each, and its delete", ["queue_delete.py", "80000", "{}/calls"], session),
     Case("100,000 flows, and 100,000 deletes that reach none", ["idle_deletes.py", "100000", "{}/calls"], session),
     Case("100,000 rounds of a queue, a new flow of it, and its delete", ["reset_flows.py", "100000", "{}/calls"], session),
+    Case("64,000 flows on one link, and as many turns of a delete and an arrival there", ["delete_turns.py", "64000", "{}/calls"], session),
     Case("65,535 pipes with a queue each, 1,310,700 packets", ["many_links.py", "65535", "{}/calls"], session),
     Case("the shortest rows, 64 MiB", ["fullest.py", "rows", str(PACKETS), "{}"], replay("rows", "csv")),
     Case("the same with a history", ["fullest.py", "rows", str(PACKETS), "{}"], replay("rows", "csv", "--history", "{}/history")),
