@@ -88,9 +88,9 @@ def with_hosts(tally: Tally, copy: Path) -> None:
 
 
 def python() -> Optional[str]:
-    """A Python that can make a virtual environment, with numpy and matplotlib where there is one."""
+    """A Python that can make a virtual environment, with numpy, matplotlib and plotly where there is one."""
     asked = [word for word in ("/usr/bin/python3", sys.executable) if shutil.which(word)]
-    for modules in ("ensurepip, numpy, matplotlib", "ensurepip"):
+    for modules in ("ensurepip, numpy, matplotlib, plotly", "ensurepip"):
         for word in asked:
             if run(word, "-c", f"import {modules}").returncode == 0:
                 return word
@@ -184,8 +184,8 @@ def by_pip(tally: Tally, copy: Path, place: Path) -> None:
                                       ("run.host", "program", f"{Path(modules).parent}/run/hinge-link")):
         told = done(tally, f"hinge.{module}", own, "-c", f"from hinge.{module} import {name}; print({name}())", cwd=place)
         tally.equal("a program that hinge takes", f"{venv / where_it_is}\n", told)
-    if run(own, "-c", "import numpy, matplotlib").returncode:
-        print("the pages' commands: skipped, since no Python has numpy and matplotlib")
+    if run(own, "-c", "import numpy, matplotlib, plotly").returncode:
+        print("the pages' commands: skipped, since no Python has numpy, matplotlib and plotly")
     else:
         pages(tally, venv, place / "pages")
         behind_a_link(tally, venv, place / "pages")
