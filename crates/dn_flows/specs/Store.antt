@@ -1,5 +1,6 @@
 -- How the queues lie in the store of all packets: each is a chain, in which every packet names the key of the one behind it.
-use Rattle.std.specs.Prelude.{ℕ, zero, suc, ◌≡◌, ◌≢◌, ◌⊎◌, true, false, cond, nat_eq, ◌+◌, ◌<◌, ◌≤◌, ◌^◌, ⊤, List, [], ◌∷◌, Option, Some, None, length, sum, slice_get}
+use Rattle.std.specs.Prelude.{ℕ, zero, suc, ◌≡◌, ◌≢◌, ◌⊎◌, true, false, cond, nat_eq, min, Vec, vec_capacity, ◌-◌, ◌+◌, ◌<◌, ◌≤◌, ◌^◌, ⊤, List, [], ◌∷◌, Option, Some, None, length, sum, slice_get}
+use Rattle.std.specs.Global.{Global}
 use Rattle.std.specs.Option.{option_map}
 use Rattle.std.specs.List.{sum_by}
 use Rattle.dn_flows.specs.Packets.{Packets, StoredPacket, HasRoomFor, get, with_next}
@@ -89,6 +90,10 @@ HasReserved store queues reserved = (reserved ≡ reservations queues) × HasRoo
 abbrev pub without_list : Target → FlowQueue → FlowQueue
 without_list (ToPipe pipe) q = record q { reserved = false; on_pipe = false }
 without_list (ToQueue queue) q = record q { reserved = false; of_queue = false }
+
+-- How many new flows find room: in the list of queues, in that of counts, and among the keys.
+abbrev pub spare_of : Vec FlowQueue Global → Vec Unsent Global → ℕ → ℕ
+spare_of queues unsent keys = min (min (vec_capacity queues - length queues.items) (vec_capacity unsent - length unsent.items)) keys
 
 -- ---- What the calls on a queue do to the store
 

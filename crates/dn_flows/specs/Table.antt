@@ -26,9 +26,11 @@ pub record FlowState : Type 0 where
   pub started : ℕ
   pub discarded : ℕ
 
+-- So many new flows find room in the table. Of the room for their packets, and in the lists that a delete goes through, it says nothing.
 pub record Table : Type 0 where
   pub keys : List FlowKey
   pub flows : List FlowState
+  pub spare : ℕ
 
 -- A flow without a packet and with no count.
 abbrev pub new_flow : FlowState

@@ -45,12 +45,13 @@ pub struct Flows {
 impl Model for Flows {
     ghost use Rattle.std.specs.Prelude.{◌≡◌, length, map};
     ghost use Rattle.dn_flows.specs.Members.{AreListed};
-    ghost use Rattle.dn_flows.specs.Store.{AreStored, HasReserved, all_with_unsent, state_of};
+    ghost use Rattle.dn_flows.specs.Store.{AreStored, HasReserved, all_with_unsent, spare_of, state_of};
     ghost use Rattle.dn_flows.specs.Table.{Table};
+    ghost use Rattle.indexmap.specs.IndexSet.{spare};
 
     ghost Value = { Table };
 
-    ghost view = { λ a. record { keys = a.keys.keys; flows = all_with_unsent (map (state_of a.packets) a.queues.items) a.unsent.items } };
+    ghost view = { λ a. record { keys = a.keys.keys; flows = all_with_unsent (map (state_of a.packets) a.queues.items) a.unsent.items; spare = spare_of a.queues a.unsent (spare a.keys) } };
 
     ghost invariant = { λ a. (length a.keys.keys ≡ length a.queues.items) × HasReserved a.packets a.queues.items a.reserved × AreStored a.packets a.queues.items × (length a.unsent.items ≡ length a.queues.items) × AreListed a.keys.keys a.queues.items a.members };
 }
@@ -99,14 +100,32 @@ impl Flows {
         ensures within { IfOk result (λ flow. flow < length self.new.flows) }
         ensures keys { OnOk result (self.new.keys ≡ with_key key self.old.keys) }
         ensures flows { OnOk result (self.new.flows ≡ flows_with key self.old) }
-        ensures err { OnErr result (self.new ≡ self.old) }
+        ensures err { OnErr result ((self.new.keys ≡ self.old.keys) × (self.new.flows ≡ self.old.flows)) }
         ensures succeeds { is_known key self.old.keys ≡ true → IsOk result }
+        ensures roomy { 0 < self.old.spare → IsOk result }
+        ensures spare { OnOk result (self.old.spare ≤ self.new.spare + 1) }
+        ensures known { is_known key self.old.keys ≡ true → self.new ≡ self.old }
     {
         let table_key = TableKey::new(key);
         if let Some(flow) = first_with_key(&self.keys, &self.members, &key, &table_key) {
             return Ok(flow);
         }
         self.find_by_hash_or_make(table_key)
+    }
+
+    /// Makes room in the table for `n` new flows, which are then made without memory.
+    ///
+    /// A packet of such a flow may take memory still.
+    pub fn reserve_flows(&mut self, n: usize) -> Result<(), AllocError>
+        ensures ok { OnOk result (n ≤ self.new.spare) }
+        ensures succeeds { n ≤ self.old.spare → IsOk result }
+        ensures keys { self.new.keys ≡ self.old.keys }
+        ensures flows { self.new.flows ≡ self.old.flows }
+        ensures spare { self.old.spare ≤ self.new.spare }
+    {
+        self.queues.reserve(n)?;
+        self.unsent.reserve(n)?;
+        self.keys.reserve(n)
     }
 
     /// Takes out the flow that was made last, for a caller that made it and then found no memory.
@@ -185,7 +204,7 @@ impl Flows {
         requires { flow < length self.old.flows }
         ensures reserved { OnOk result (self.new.flows ≡ slice_set self.old.flows flow (with_place (flow_at self.old.flows flow))) }
         ensures keys { self.new.keys ≡ self.old.keys }
-        ensures err { OnErr result (self.new ≡ self.old) }
+        ensures err { OnErr result ((self.new.keys ≡ self.old.keys) × (self.new.flows ≡ self.old.flows)) }
         ensures succeeds { (flow_at self.old.flows flow).reserved ≡ true → IsOk result }
     {
         let queue = &mut self.queues[flow];

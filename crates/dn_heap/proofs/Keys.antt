@@ -1,11 +1,10 @@
 -- What the library's heap says of its reversed keys, said of the keys.
-use Rattle.std.proofs.Common.{◌≡◌, Bool, true, false, cond, List, [], ◌∷◌, ◌++◌, map, refl, ap, subst, All, IsPermutation}
+use Rattle.std.proofs.Common.{◌≡◌, Bool, true, false, cond, List, [], ◌∷◌, map, refl, ap, subst, All, IsPermutation}
 use Rattle.std.specs.Prelude.{filter}
 use Rattle.std.specs.declared.cmp.Ordering.{Ordering}
 use Rattle.std.specs.declared.cmp.Reverse.{Reverse}
 use Rattle.std.specs.BinaryHeap.{IsUpperBound}
 use Rattle.std.specs.Ordering.{is_lt}
-use Rattle.std.proofs.lemmas.List.{map-append}
 use Rattle.std.proofs.lemmas.List.Elements.{All-map, All-from_recursion, All-nil, All-cons}
 use Rattle.std.specs.List.{list_any}
 use Rattle.std.proofs.lemmas.Bool.{or_parts}
@@ -20,10 +19,6 @@ least_from_greatest cmp x xs h = All-map (λ y. is_lt (cmp y x.0) ≡ false) (λ
 
 pub keys_permuted : {K : Type 0} (xs ys : List (Reverse K)) → IsPermutation xs ys → IsPermutation (keys_of xs) (keys_of ys)
 keys_permuted xs ys h = IsPermutation-map (λ r. r.0) xs ys h
-
--- the keys of two heaps in one
-pub keys_joined : {K : Type 0} (xs ys zs : List (Reverse K)) → IsPermutation (xs ++ ys) zs → IsPermutation (keys_of xs ++ keys_of ys) (keys_of zs)
-keys_joined {K} xs ys zs h = subst (λ (ks : List K). IsPermutation ks (keys_of zs)) (map-append (λ r. r.0) xs ys) (keys_permuted (xs ++ ys) zs h)
 
 -- no element passes where the test of the whole list says so
 pub none_passes : {K : Type 0} (p : K → Bool) (xs : List (Reverse K)) → list_any (λ r. p r.0) xs ≡ false → All (λ k. p k ≡ false) (keys_of xs)

@@ -3,9 +3,13 @@
 
 mod keep;
 mod min_heap;
+mod numbered;
+mod placed_heap;
 mod remove;
 mod run;
 mod run_heap;
 
 pub use min_heap::MinHeap;
+pub use numbered::Numbered;
+pub use placed_heap::PlacedHeap;
 pub use run_heap::RunHeap;

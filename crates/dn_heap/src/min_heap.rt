@@ -10,9 +10,6 @@ use std::cmp::Reverse;
 use std::collections::BinaryHeap;
 use std::marker::Model;
 
-mod push_pop;
-mod put_back;
-
 /// A heap with the least key on top.
 ///
 /// Memory is taken by `reserve` alone: it makes room, each push uses one place of the room, and a key that leaves gives its

@@ -65,7 +65,7 @@ module _ (nexts : List (Option ℕ)) (keys : List NextStart) (h : Holds nexts ke
   }
 
 -- A list with one that has no backlog has fewer than all.
-backlogged-le : (nexts : List (Option ℕ)) → backlogged nexts ≤ length nexts
+pub backlogged-le : (nexts : List (Option ℕ)) → backlogged nexts ≤ length nexts
 backlogged-le [] = omega arith
 backlogged-le (o ∷ nexts) = let r = backlogged-le nexts in let c = sum_by-cons one_backlogged o nexts in let one = at_most o in omega arith
   where

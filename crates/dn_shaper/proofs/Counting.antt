@@ -16,7 +16,7 @@ use Rattle.dn_shaper.specs.Refinement.Calls.{Does, StillStands}
 use Rattle.dn_shaper.specs.Refinement.Sound.{IsSound}
 use Rattle.dn_shaper.specs.Standing.{StandsAt}
 
-all-count : (calls : List Call) → length calls ≤ 2 ^ 62 → counted calls ≡ calls
+pub all-count : (calls : List Call) → length calls ≤ 2 ^ 62 → counted calls ≡ calls
 all-count calls le = let none : length calls - 2 ^ 62 ≡ 0 = omega arith in ap (λ n. drop n calls) none
 
 no-more : (call : Call) (calls : List Call) → 2 ^ 62 ≤ length calls → counted (call ∷ calls) ≡ counted calls

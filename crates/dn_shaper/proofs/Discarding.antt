@@ -1,7 +1,7 @@
 -- A flow's packets are discarded: all parts agree, and a link only loses its backlog.
-use Rattle.std.proofs.Common.{◌≡◌, ◌∙◌, ◌≤◌, ◌<◌, ◌⊎◌, ◌^◌, ℕ, ◌+◌, Bool, true, false, cond, List, ◌∷◌, set, refl, ap, sym, subst, length, arith, inl, inr, get_or-set_same, get_or-set_other}
-use Rattle.std.specs.Prelude.{Option, Some, None, is_some, nat_eq, slice_get}
-use Rattle.std.proofs.lemmas.Bool.{cases_eq, cases_lt}
+use Rattle.std.proofs.Common.{◌≡◌, ◌∙◌, ◌≤◌, ◌<◌, ◌⊎◌, ◌^◌, ℕ, ◌+◌, Bool, true, false, cond, List, ◌∷◌, set, refl, ap, sym, subst, length, arith, inl, inr}
+use Rattle.std.specs.Prelude.{Option, Some, None, nat_eq, nat_lt, slice_get}
+use Rattle.std.proofs.lemmas.Bool.{cases_eq}
 use Rattle.std.proofs.lemmas.List.{length-map}
 use Rattle.dn_types.specs.Trace.{Link, own, shared, Accepted, discarded, backlog}
 use Rattle.dn_types.specs.Wf2q.{Stamped}
@@ -16,15 +16,14 @@ use Rattle.dn_shaper.specs.declared.links.home.Home.{Home}
 use Rattle.dn_shaper.specs.declared.links.parts.Parts.{Parts}
 use Rattle.dn_shaper.specs.Refinement.Agreement.{Agrees, IsAt, IsHomeOf, link_names}
 use Rattle.dn_shaper.specs.Refinement.Arriving.{KeepsFlows}
-use Rattle.dn_shaper.specs.Refinement.Discarding.{DiscardsOn, DiscardsAt, DiscardsFlow, HoldsCount, OnlyEmpties}
-use Rattle.dn_shaper.specs.Refinement.NextStarts.{next_at}
+use Rattle.dn_shaper.specs.Refinement.Discarding.{DiscardsOn, DiscardsAt, DiscardsFlow, HoldsCount}
 use Rattle.dn_shaper.specs.Refinement.Starting.{AreCountsWithin, Within}
 use Rattle.dn_shaper.specs.Refinement.Views.{LinkView, IsAlone, views_of, home, slotted, next_starts, next_start_of, stamped_of, waits_in_all}
-use Rattle.dn_shaper.proofs.Accepting.{next-some, next-none, next-listed}
+use Rattle.dn_shaper.proofs.Accepting.{next-some}
 use Rattle.dn_shaper.proofs.Alone.{is-alone}
 use Rattle.dn_shaper.proofs.Discarded.{discarded-agrees, length-waiting}
 use Rattle.dn_shaper.proofs.Next.{home-here}
-use Rattle.dn_flows.proofs.Places.{get-below, get-set, get-set-other, get-map, map-set, map-set-same, sum-set, sum-le}
+use Rattle.dn_flows.proofs.Places.{get-set, get-set-other, get-map, map-set, map-set-same, sum-set, sum-le}
 use Rattle.dn_shaper.proofs.Waiting.{waiting-discarded}
 
 module _ {p : Parts} (bound : Within (2 ^ 62) p) (agrees : Agrees p) {flow : ℕ} (within : flow < length p.flows.keys) where
@@ -148,30 +147,15 @@ module _ {h : Home} {flow : ℕ} {old new : Parts} (bound : Within (2 ^ 62) old)
           omega arith
       few_arrivals j v e (inr ne) = w.arrivals j v (sym (get-set-other (views_of old) h.place j s.view' ne) ∙ ap (λ (vs : List LinkView). slice_get vs j) (sym s.views_are) ∙ e)
 
-  discards-nexts : next_starts (views_of new) ≡ set (next_starts (views_of old)) h.place (next_start_of s.view')
+  pub discards-nexts : next_starts (views_of new) ≡ set (next_starts (views_of old)) h.place (next_start_of s.view')
   discards-nexts = ap (λ (vs : List LinkView). next_starts vs) s.views_are ∙ map-set next_start_of (views_of old) h.place s.view'
 
-  next-then : slice_get (next_starts (views_of old)) h.place ≡ Some (next_start_of s.view)
+  pub next-then : slice_get (next_starts (views_of old)) h.place ≡ Some (next_start_of s.view)
   next-then = get-map next_start_of (views_of old) h.place s.view s.there
 
-  -- A link of which packets are left is free from the same moment.
-  still-next : (m : ℕ) → next_start_of s.view' ≡ Some m → next_start_of s.view ≡ Some m
-  still-next m e = by (cases_lt 0 s.view'.waits)
-    where
-      by : (0 < s.view'.waits) ⊎ (s.view'.waits ≤ 0) → next_start_of s.view ≡ Some m
-      by (inl some) = let w = s.leaves.waits in next-some s.view (omega arith) ∙ ap (λ x. Some x.free) (sym s.leaves.value) ∙ sym (next-some s.view' some) ∙ e
-      by (inr none) = let z : Some m ≡ None = sym e ∙ next-none s.view' none in let f : true ≡ false = ap is_some z in absurd cc
-
-  pub discards-empties : OnlyEmpties old new
-  discards-empties place m e = by (cases_eq place h.place)
-    where
-      now : next_at (set (next_starts (views_of old)) h.place (next_start_of s.view')) place ≡ Some m
-      now = ap (λ (d : List (Option ℕ)). next_at d place) (sym discards-nexts) ∙ e
-
-      by : (place ≡ h.place) ⊎ (place ≡ h.place → ⊥) → next_at (next_starts (views_of old)) place ≡ Some m
-      by (inl same) =
-          let listed = get-below (next_starts (views_of old)) h.place (next_start_of s.view) next-then in
-          let here = sym (get_or-set_same (next_starts (views_of old)) h.place (next_start_of s.view') None listed)
-          ∙ ap (next_at (set (next_starts (views_of old)) h.place (next_start_of s.view'))) (sym same) ∙ now in
-          ap (next_at (next_starts (views_of old))) same ∙ next-listed (next_starts (views_of old)) h.place (next_start_of s.view) next-then ∙ still-next m here
-      by (inr ne) = sym (get_or-set_other (next_starts (views_of old)) h.place place (next_start_of s.view') None ne) ∙ now
+  -- A link starts at the same moment as before, where packets are left for it or none was discarded.
+  pub still-next : (0 < s.view'.waits) ⊎ (length (flow_at old.flows.flows flow).backlog ≡ 0) → next_start_of s.view' ≡ next_start_of s.view
+  still-next (inl some) = let w = s.leaves.waits in next-some s.view' some ∙ ap (λ x. Some x.free) s.leaves.value ∙ sym (next-some s.view (omega arith))
+  still-next (inr none) =
+      let same : s.view'.waits ≡ s.view.waits = let w = s.leaves.waits in omega arith in
+      λ i. cond (nat_lt 0 (same i)) (Some (s.leaves.value i).free) None

@@ -12,16 +12,21 @@ pub mod Counting
 pub mod Discarded
 pub mod Discarding
 pub mod Distinct
-pub mod Emptied
 pub mod Events
 pub mod FirstStart
 pub mod Given
 pub mod Heads
+pub mod HeldCounts
 pub mod Holding
 pub mod HomeRead
 pub mod Homes
 pub mod Housed
 pub mod Indexed
+pub mod KeyCounts
+pub mod LeavesKey
+pub mod Leaving
+pub mod LeftKeys
+pub mod LeftSteps
 pub mod Linked
 pub mod Made
 pub mod Needing
@@ -44,6 +49,7 @@ pub mod Reordered
 pub mod Replying
 pub mod Reserved
 pub mod Reserving
+pub mod Rooms
 pub mod Sending
 pub mod Scheduled
 pub mod Settles
@@ -58,4 +64,5 @@ pub mod Submitting
 pub mod Taking
 pub mod Unseen
 pub mod Waiting
+pub mod Wakes
 pub mod Waking

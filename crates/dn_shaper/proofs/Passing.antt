@@ -128,7 +128,7 @@ module _ {settings : Settings} {at : ℕ} {h : Home} {flow : ℕ} {old : Parts} 
 
       -- The parts once the packet has arrived.
       abbrev pub mid : Parts
-      mid = record old { flows = record { keys = old.flows.keys; flows = joined old.flows.flows flow w }; accepted = old.accepted + 1; waiting = old.waiting + 1 }
+      mid = record old { flows = record { keys = old.flows.keys; flows = joined old.flows.flows flow w; spare = old.flows.spare }; accepted = old.accepted + 1; waiting = old.waiting + 1 }
 
       pub longer : queue_lengths mid.flows.flows flow ≡ queue_lengths old.flows.flows flow + 1
       longer = push-longer old.flows.flows flow w inside mid.flows.flows refl

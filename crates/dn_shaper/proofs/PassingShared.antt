@@ -103,7 +103,7 @@ module _ {settings : Settings} {at : ℕ} {h : Home} {flow : ℕ} {old : Parts} 
     -- The parts once the packet has arrived.
     abbrev pub mid : Parts
     mid = record old {
-      flows = record { keys = old.flows.keys; flows = joined old.flows.flows flow w };
+      flows = record { keys = old.flows.keys; flows = joined old.flows.flows flow w; spare = old.flows.spare };
       links = with_item old.links h.place link-mid;
       accepted = old.accepted + 1;
       waiting = old.waiting + 1;

@@ -105,13 +105,8 @@ position-new {X = X} p (x ∷ xs) le = by (p x) (λ above. position-new p xs abo
     by true rest above = absurd (omega arith)
     by false rest above = let r = rest (omega arith) in let e = r.0 in (omega arith, r.1)
 
-pub known-table : (old t : Table) (key : FlowKey) → flow_number old.keys key < length old.keys → t.keys ≡ with_key key old.keys → t.flows ≡ flows_with key old → t ≡ old
-known-table old t key lt keys flows =
-    let known : is_known key old.keys ≡ true = position-known (key_eq key) old.keys lt in
-    λ i. record {
-      keys = (keys ∙ ap (λ b. cond b old.keys (old.keys ++ key ∷ [])) known) i;
-      flows = (flows ∙ ap (λ b. cond b old.flows (old.flows ++ new_flow ∷ [])) known) i;
-    }
+pub known-table : (old t : Table) (key : FlowKey) → flow_number old.keys key < length old.keys → (is_known key old.keys ≡ true → t ≡ old) → t ≡ old
+known-table old t key lt same = same (position-known (key_eq key) old.keys lt)
 
 pub flow-more : (flows : List FlowState) (g : ℕ) → flow_at (flows ++ new_flow ∷ []) g ≡ flow_at flows g
 flow-more [] zero = refl
@@ -149,8 +144,8 @@ same-reserves old new t e r = subst (λ (x : Table). OnlyMakesRoom (with_table o
 
 -- A known flow leaves the table as it is, so what is room beside it is room.
 pub known-reserves : (old new : Parts) (t : Table) (key : FlowKey) → flow_number old.flows.keys key < length old.flows.keys →
-    t.keys ≡ with_key key old.flows.keys → t.flows ≡ flows_with key old.flows → OnlyMakesRoom (with_table old t) new → OnlyMakesRoom old new
-known-reserves old new t key lt keys flows room = same-reserves old new t (known-table old.flows t key lt keys flows) room
+    (is_known key old.flows.keys ≡ true → t ≡ old.flows) → OnlyMakesRoom (with_table old t) new → OnlyMakesRoom old new
+known-reserves old new t key lt same room = same-reserves old new t (known-table old.flows t key lt same) room
 
 pub only-parts : (old : State) (new : Parts) → OnlyMakesRoom old.parts new →
     OnlyReserves old (record { parts = new; heap = old.heap; shared = old.shared; configured = old.configured; now = old.now; calls = old.calls })
@@ -169,10 +164,31 @@ take-last xs y = let m = length-more xs y in let e : length (xs ++ y ∷ []) - 1
 -- A table whose last flow is new and was taken out is the table before it.
 pub without-new : (old : State) (t : Table) (key : FlowKey) → IsOneMore key old.parts.flows t → (new : State) → OnlyReserves (without_last (with_flows old t)) new → OnlyReserves old new
 without-new old t key more new o =
-    subst (λ (x : Table). OnlyReserves (with_flows old x) new) (λ i. record {
+    but-for-room old t.spare new (subst (λ (x : Table). OnlyReserves (with_flows old x) new) (λ i. record {
       keys = (ap (λ (ks : List FlowKey). take (length ks - 1) ks) more.keys ∙ take-last old.parts.flows.keys key) i;
       flows = (ap (λ (fs : List FlowState). take (length fs - 1) fs) more.flows ∙ take-last old.parts.flows.flows new_flow) i;
-    }) o
+      spare = t.spare;
+    }) o)
+  where
+    but-for-room : (s : State) (n : ℕ) (new : State) → OnlyReserves (with_flows s (record { keys = s.parts.flows.keys; flows = s.parts.flows.flows; spare = n })) new → OnlyReserves s new
+    but-for-room s n new r = record {
+      parts = record {
+        rule = r.parts.rule;
+        accepted = r.parts.accepted;
+        keys = r.parts.keys;
+        homes = r.parts.homes;
+        waiting = r.parts.waiting;
+        pending = r.parts.pending;
+        pushed = r.parts.pushed;
+        room = r.parts.room;
+        flows = r.parts.flows;
+        many = r.parts.many;
+        views = r.parts.views;
+      };
+      heap = r.heap;
+      shared = r.shared;
+      keeps = record { rule = r.keeps.rule; configured = r.keeps.configured; now = r.keeps.now; calls = r.keeps.calls };
+    }
 
 module _ (old mid : State) (o : OnlyReserves old mid) (t : Table) (keys : t.keys ≡ take (length mid.parts.flows.keys - 1) mid.parts.flows.keys)
     (flows : t.flows ≡ take (length mid.parts.flows.flows - 1) mid.parts.flows.flows)

@@ -1,30 +1,23 @@
--- The flows that a delete reaches are discarded one by one, and the links that this empties leave the heap together.
-use Rattle.std.proofs.Common.{◌≡◌, ◌∙◌, ◌≤◌, ◌<◌, ◌^◌, ℕ, zero, suc, ◌+◌, true, false, cond, List, [], ◌∷◌, set, refl, ap, sym, subst, length, arith, IsPermutation}
-use Rattle.std.specs.Prelude.{Option, Some, filter, slice_get}
+-- The flows that a delete reaches are discarded one by one.
+use Rattle.std.proofs.Common.{◌≡◌, ◌∙◌, ◌<◌, ℕ, zero, suc, ◌+◌, true, false, cond, List, [], ◌∷◌, set, refl, ap, sym, subst, length, arith}
+use Rattle.std.specs.Prelude.{Some, slice_get}
 use Rattle.std.specs.List.{count_by}
-use Rattle.std.proofs.lemmas.List.{length-map}
 use Rattle.std.proofs.lemmas.List.Sums.{sum_by-cons}
 use Rattle.dn_flows.specs.Table.{FlowState, emptied, flow_at}
-use Rattle.dn_heap.specs.Heap.{Heap}
 use Rattle.dn_types.specs.Calls.{reaches, discard_reached}
 use Rattle.dn_types.specs.Trace.{Link, Event, discarded}
 use Rattle.dn_types.specs.declared.command.Command.{Command}
 use Rattle.dn_types.specs.declared.flow_key.FlowKey.{FlowKey}
-use Rattle.dn_shaper.specs.declared.links.next_start.NextStart.{NextStart}
 use Rattle.dn_shaper.specs.declared.links.parts.Parts.{Parts}
-use Rattle.dn_shaper.specs.Refinement.Agreement.{Agrees, is_active}
+use Rattle.dn_shaper.specs.Refinement.Agreement.{is_active}
 use Rattle.dn_shaper.specs.Refinement.Arriving.{KeepsFlows}
 use Rattle.dn_shaper.specs.Refinement.Configuring.{DiscardsReached}
-use Rattle.dn_shaper.specs.Refinement.Discarding.{DiscardsFlow, OnlyEmpties}
+use Rattle.dn_shaper.specs.Refinement.Discarding.{DiscardsFlow}
 use Rattle.dn_shaper.specs.Refinement.Making.{OnlyMakesRoom}
-use Rattle.dn_shaper.specs.Refinement.NextStarts.{is_backlogged, next_at}
 use Rattle.dn_shaper.specs.Refinement.Reordering.{DiscardsSome, NoneActive, ReadsSame}
-use Rattle.dn_shaper.specs.Refinement.Settling.{AreInStep}
-use Rattle.dn_shaper.specs.Refinement.Starting.{Within}
-use Rattle.dn_shaper.specs.Refinement.Views.{LinkView, next_starts, views_of}
-use Rattle.dn_shaper.proofs.Emptied.{holds-kept, counted-held}
+use Rattle.dn_shaper.specs.Refinement.Views.{views_of}
 use Rattle.dn_shaper.proofs.Reordered.{agrees-same, none-active-reads, reached-once, same-reads, then-reads}
-use Rattle.dn_shaper.proofs.Reserved.{reserved-names, reserved-nexts, reserves-agree}
+use Rattle.dn_shaper.proofs.Reserved.{reserved-names, reserves-agree}
 
 -- ---- Active flows are discarded one after another, in any order
 
@@ -101,44 +94,8 @@ fewer-active (s ∷ flows) (suc flow) lt is = fewer-rest s flows (set flows flow
 pub room-keeps : (old new : Parts) → OnlyMakesRoom old new → new.homes ≡ old.homes → KeepsFlows old new
 room-keeps old new r homes = record { rule = r.rule; keys = r.keys; homes = homes; names = reserved-names old new r }
 
-pub room-empties : (old new : Parts) → OnlyMakesRoom old new → OnlyEmpties old new
-room-empties old new r place moment e = ap (λ (ns : List (Option ℕ)). next_at ns place) (sym (reserved-nexts old new r)) ∙ e
-
 pub keeps-none : (p : Parts) → KeepsFlows p p
 keeps-none p = record { rule = refl; keys = refl; homes = refl; names = refl }
 
 pub keeps-more : (old mid new : Parts) → KeepsFlows old mid → KeepsFlows mid new → KeepsFlows old new
 keeps-more old mid new a b = record { rule = b.rule ∙ a.rule; keys = b.keys ∙ a.keys; homes = b.homes ∙ a.homes; names = b.names ∙ a.names }
-
-pub agrees-discarded : (flow : ℕ) (old new : Parts) → Agrees old → DiscardsFlow flow old new → Agrees new
-agrees-discarded flow old new a d = (a.0, discarded flow ∷ a.1, d a.0 a.1 a.2)
-
-pub agrees-room : (old new : Parts) → Agrees old → OnlyMakesRoom old new → Agrees new
-agrees-room old new a r = (a.0, a.1, reserves-agree old new r a.0 a.1 a.2)
-
-agrees-reached : (command : Command) (old new : Parts) → Agrees old → DiscardsReached command old new → Agrees new
-agrees-reached command old new a d = (a.0, discard_reached command 0 old.flows.keys a.1, d a.0 a.1 a.2)
-
-pub empties-none : (p : Parts) → OnlyEmpties p p
-empties-none p place moment e = e
-
-pub empties-more : (old mid new : Parts) → OnlyEmpties old mid → OnlyEmpties mid new → OnlyEmpties old new
-empties-more old mid new a b place moment e = a place moment (b place moment e)
-
--- The emptied links left the heap together.
-pub emptied-kept : (command : Command) (old new : Parts) (heap heap' : Heap NextStart) → AreInStep old heap → DiscardsReached command old new →
-    ((n : ℕ) → Within n old → Within n new) → KeepsFlows old new → OnlyEmpties old new →
-    IsPermutation (filter (is_backlogged (next_starts (views_of new))) heap.keys) heap'.keys → length heap'.keys + heap'.room ≡ length heap.keys + heap.room →
-    AreInStep new heap'
-emptied-kept command old new heap heap' kept discards within keeps empties perm room =
-    let held = holds-kept (next_starts (views_of old)) (next_starts (views_of new)) heap.keys heap'.keys kept.held empties perm in
-    record {
-      agrees = agrees-reached command old new kept.agrees discards;
-      within = within (2 ^ 62) kept.within;
-      held = held;
-      counted = counted-held heap'.keys (next_starts (views_of new)) held;
-      places =
-          let many = sym (length-map (views_of new) (λ (v : LinkView). v.link)) ∙ ap (λ (ls : List Link). length ls) keeps.names ∙ length-map (views_of old) (λ (v : LinkView). v.link) in
-          let p = kept.places in
-          omega (arith, many, p, room);
-    }

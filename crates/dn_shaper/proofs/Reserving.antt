@@ -5,7 +5,7 @@ use Rattle.std.proofs.lemmas.Bool.{cases_eq}
 use Rattle.dn_flows.specs.declared.waiting.Waiting.{Waiting}
 use Rattle.dn_flows.specs.Table.{FlowState, flow_at, with_place}
 use Rattle.dn_flows.proofs.Views.{flow_after_set}
-use Rattle.dn_types.specs.Trace.{Link, shared}
+use Rattle.dn_types.specs.Trace.{Link, own, shared}
 use Rattle.dn_wf2q.specs.Schedule.{room_at}
 use Rattle.dn_shaper.specs.Refinement.Making.{KeepsLink, SameFlow, KeepsAt, HasSlotRoom}
 use Rattle.dn_shaper.specs.Refinement.Starting.{AreCountsWithin}
@@ -69,6 +69,11 @@ slot-ready views k slot v w there room x pipe at is =
     let both : Some w ≡ Some x = sym (get-set views k v w there) ∙ at in
     let same : w ≡ x = cc in
     subst (λ (l : Link). HasSlotRoom slot x l) is (subst (λ (y : LinkView). HasSlotRoom slot y y.link) same room)
+
+-- A link has room at the slot where it has, or isn't shared.
+pub slot-has : (slot : ℕ) (v : LinkView) (l : Link) → ((pipe : ℕ) → l ≡ shared pipe → 0 < room_at v.schedule.room slot) → HasSlotRoom slot v l
+slot-has slot v (own pipe flow) has = tt
+slot-has slot v (shared pipe) has = has pipe refl
 
 -- ---- The flow table in which a place is reserved for one more packet of the flow
 

@@ -1,4 +1,5 @@
 pub mod Refinement
+pub mod Room
 pub mod Shaper
 pub mod Standing
 pub mod Waking

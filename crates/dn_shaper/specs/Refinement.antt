@@ -5,6 +5,7 @@ pub mod Arriving
 pub mod Calls
 pub mod Configuring
 pub mod Discarding
+pub mod Emptied
 pub mod Homing
 pub mod Making
 pub mod NextStarts

@@ -2,8 +2,11 @@
 pub mod accept;
 pub mod arrive;
 pub mod discard;
+pub mod emptied;
 pub mod home;
 pub mod judge;
+pub mod leaving;
+pub mod link_heap;
 pub mod link_parts;
 pub mod next_start;
 pub mod parts;

@@ -2,4 +2,5 @@
 pub mod make;
 pub mod prepare;
 pub mod reserve;
+pub mod reserve_packet;
 pub mod shared_places;

@@ -1,13 +1,14 @@
-ghost use Rattle.std.specs.Prelude.{◌≡◌, ℕ, ◌<◌, ◌≤◌, ◌^◌, List, [], ◌∷◌, length, max, IfSome, IfOk, OnErr, IsOk};
+ghost use Rattle.std.specs.Prelude.{◌≡◌, ℕ, ◌<◌, ◌≤◌, ◌^◌, List, [], ◌∷◌, length, max, true, false, IfSome, IfOk, OnErr, IsOk};
 ghost use Rattle.std.specs.Vec.{vec_capacity};
 ghost use Rattle.dn_types.specs.Calls.{trace_of};
 ghost use Rattle.dn_types.specs.Clock.{call_limit, counted, effective_moment};
 ghost use Rattle.dn_types.specs.Flows.{keys};
 ghost use Rattle.dn_types.specs.Replies.{reply};
 ghost use Rattle.dn_types.specs.declared.call.Call.{Call as CallValue};
-ghost use Rattle.dn_types.specs.declared.call.Call.TheVariants.{Advance, Collect, Show};
+ghost use Rattle.dn_types.specs.declared.call.Call.TheVariants.{Advance, Collect, Show, Submit};
 ghost use Rattle.dn_types.specs.declared.rule.Rule.{Rule as RuleValue};
 ghost use Rattle.dn_types.specs.declared.rule.Rule.TheVariants.{Ordered};
+ghost use Rattle.dn_shaper.specs.Room.{HasRoomFor, IsNewFlow, KeepsRoom, LeavesRoom};
 ghost use Rattle.dn_shaper.specs.Shaper.{CanNeedMemory, StandsAfter, held, items_in};
 ghost use Rattle.dn_shaper.specs.Waking.{wake_of};
 
@@ -17,9 +18,10 @@ use crate::calls::configure::configure;
 use crate::calls::show::show;
 use crate::calls::submit::submit;
 use crate::links::wake::{earlier, first_free};
+use crate::room::reserve_packet::reserve_packet;
 use crate::state::{State, new_state};
 use dn_flows::HashKey;
-use dn_types::{Call, Delivery, Moment, Reply, Rule};
+use dn_types::{Call, Delivery, Moment, Packet, Reply, Rule, Target};
 use std::alloc::{AllocError, Global};
 use std::marker::Model;
 use std::mem;
@@ -91,6 +93,8 @@ impl Shaper {
         ensures err { OnErr result ((rule : RuleValue) (calls : List CallValue) → StandsAfter rule self.old calls → StandsAfter rule self.new calls) }
         ensures needs { OnErr result ((rule : RuleValue) (calls : List CallValue) → StandsAfter rule self.old calls → CanNeedMemory (counted calls) call.now) }
         ensures advance { (moment : ℕ) → call.now ≡ Advance moment → IsOk result }
+        ensures succeeds { HasRoomFor call.now self.old → IsOk result }
+        ensures leaves { LeavesRoom call.now self.old self.new }
         ensures exhausted { (rule : RuleValue) (calls : List CallValue) → StandsAfter rule self.old calls → call_limit ≤ length calls → IsOk result }
     {
         if self.state.calls == CALL_LIMIT {
@@ -111,6 +115,22 @@ impl Shaper {
         }
     }
 
+    /// Makes room for a Submit of such a packet to the target, and says whether it is there.
+    ///
+    /// It isn't there only if the packet's flow is new, or after 2^62 calls. While it is there `apply` doesn't refuse that
+    /// Submit. An Advance, a Collect and a Show leave it. It is no call: no reply depends on it.
+    pub fn reserve(&mut self, target: Target, packet: &Packet) -> Result<bool, AllocError>
+        ensures room { IfOk result (λ there. there ≡ true → (moment : ℕ) → HasRoomFor (Submit target packet.now moment) self.new) }
+        ensures succeeds { (moment : ℕ) → HasRoomFor (Submit target packet.now moment) self.old → IsOk result }
+        ensures known { IfOk result (λ there. there ≡ false → (rule : RuleValue) (calls : List CallValue) → StandsAfter rule self.old calls → length calls < call_limit → IsNewFlow target packet.now.tuple calls) }
+        ensures same { (rule : RuleValue) (calls : List CallValue) → StandsAfter rule self.old calls → StandsAfter rule self.new calls }
+    {
+        if self.state.calls == CALL_LIMIT {
+            return Ok(false);
+        }
+        reserve_packet(&mut self.state, target, packet)
+    }
+
     /// As `apply` with a Collect, in a list that is lent. The reply's list then has its memory.
     ///
     /// If it has room for as many as `held` says, this takes no memory. The list's items are forgotten, and after an error the
@@ -119,6 +139,7 @@ impl Shaper {
         ensures ok { IfOk result (λ r. (rule : RuleValue) (calls : List CallValue) → StandsAfter rule self.old calls → (r ≡ reply rule calls (Collect moment)) × StandsAfter rule self.new (Collect moment ∷ calls)) }
         ensures err { OnErr result ((rule : RuleValue) (calls : List CallValue) → StandsAfter rule self.old calls → StandsAfter rule self.new calls) }
         ensures needs { OnErr result ((rule : RuleValue) (calls : List CallValue) → StandsAfter rule self.old calls → CanNeedMemory (counted calls) (Collect moment)) }
+        ensures leaves { KeepsRoom self.old self.new }
         ensures succeeds { (rule : RuleValue) (calls : List CallValue) → StandsAfter rule self.old calls → held rule (trace_of (counted calls)) ≤ vec_capacity lent → IsOk result }
         ensures exhausted { (rule : RuleValue) (calls : List CallValue) → StandsAfter rule self.old calls → call_limit ≤ length calls → IsOk result }
     {
@@ -157,10 +178,11 @@ impl Shaper {
     ///
     /// The Collect's effective moment counts. It is the earliest of the due moments of the packets under way and of the
     /// moments from which the links with a backlog are free. It is None if no packet waits or is under way. A Collect at it
-    /// may give none: then a packet has started, and the next result is later.
+    /// gives a packet, or else one starts by then, and the next result is later.
     pub fn wake(&self) -> Option<u64>
         ensures value { (rule : RuleValue) (calls : List CallValue) → StandsAfter rule self.now calls → result ≡ wake_of rule (trace_of (counted calls)) }
         ensures quiet { (rule : RuleValue) (calls : List CallValue) → StandsAfter rule self.now calls → (moment : ℕ) → IfSome result (λ next. max (effective_moment (counted calls)) moment < next) → items_in (reply rule calls (Collect moment)) ≡ 0 }
+        ensures wakes { (rule : RuleValue) (calls : List CallValue) → StandsAfter rule self.now calls → length calls < 2 ^ 62 → (next : ℕ) → result ≡ Some next → trace_of (Advance next ∷ calls) ≡ trace_of calls → 0 < items_in (reply rule calls (Collect next)) }
     {
         let due = self.state.parts.line.first_due();
         earlier(due, first_free(&self.state.heap))

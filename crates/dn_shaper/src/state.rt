@@ -2,12 +2,11 @@ ghost use Rattle.std.specs.Prelude.{[]};
 ghost use Rattle.dn_shaper.specs.Refinement.Sound.{IsSound};
 ghost use Rattle.dn_shaper.specs.Standing.{StandsAt};
 
-use crate::links::next_start::NextStart;
+use crate::links::link_heap::LinkHeap;
 use crate::links::parts::Parts;
 use crate::room::shared_places::SharedPlaces;
 use crate::settings::configured::Configured;
 use dn_flows::{Flows, HashKey};
-use dn_heap::RunHeap;
 use dn_link::DelayLine;
 use dn_types::Rule;
 use std::alloc::Global;
@@ -19,7 +18,7 @@ use std::alloc::Global;
 #[derive(Drop)]
 pub struct State {
     pub parts: Parts,
-    pub heap: RunHeap<NextStart>,
+    pub heap: LinkHeap,
     pub shared: SharedPlaces,
     pub configured: Configured,
     pub now: u64,
@@ -41,7 +40,7 @@ pub fn new_state(alloc: Global, rule: Rule, key: HashKey) -> State
             waiting: 0,
             line: DelayLine::new(alloc),
         },
-        heap: RunHeap::new(alloc),
+        heap: LinkHeap::new(alloc),
         shared: SharedPlaces::new(alloc),
         configured: Configured::new(alloc),
         now: 0,

@@ -30,6 +30,9 @@ after rule calls (e ∷ history) h =
 pub lawful-replies : (rule : Rule) (history : List Entry) → IsLawful rule history → replies rule (calls_of history) ≡ reverse (map (λ e. e.reply) history)
 lawful-replies rule history h = ap (replies rule) (sym (append-nil (calls_of history))) ∙ after rule [] history h ∙ append-nil (reverse (map (λ e. e.reply) history))
 
+pub own-entries-begin : (caller : ℕ) → own_entries caller [] ≡ []
+own-entries-begin caller = refl
+
 pub own-entries-grow : (caller : ℕ) (history : List Entry) (e : Entry)
     → own_entries caller (history ++ e ∷ []) ≡ cond (nat_eq e.caller caller) (own_entries caller history ++ e ∷ []) (own_entries caller history)
 own-entries-grow caller history e = filter-append (λ x. nat_eq x.caller caller) history (e ∷ []) ∙ by (nat_eq e.caller caller)

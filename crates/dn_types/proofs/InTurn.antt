@@ -7,9 +7,8 @@ use Rattle.std.specs.declared.cmp.Ordering.TheVariants.{Less, Equal, Greater}
 use Rattle.std.specs.Cmp.{ranks}
 use Rattle.std.specs.Ordering.{is_lt, nat_cmp, ordering_then, MatchOrdering}
 use Rattle.std.proofs.lemmas.List.Elements.{All-filter, All-cons, All-nil}
-use Rattle.dn_types.specs.Deliveries.{is_given_before, in_order, delivery_of, undelivered, given}
+use Rattle.dn_types.specs.Deliveries.{is_given_before, in_order, delivery_of, undelivered, given, AreInOrder}
 use Rattle.dn_types.specs.Links.{last_due}
-use Rattle.dn_types.specs.TimeLaws.{AreInOrder}
 use Rattle.dn_types.specs.Trace.{Event, opened, arrived, started, lost, refused, discarded, collected}
 use Rattle.dn_types.specs.declared.delivery.Delivery.{Delivery}
 use Rattle.dn_types.specs.declared.rule.Rule.{Rule}

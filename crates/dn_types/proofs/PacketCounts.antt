@@ -120,7 +120,7 @@ module _ (n : ℕ) where
   one-more : (p : Accepted) (trace : List Event) → accepted_count (arrived p ∷ trace) ≤ n → accepted_count trace < n
   one-more p trace few = let one = count-event is_arrival (arrived p) trace in omega (arith, one, few)
 
-  waiting-below : (link : Link) (flow : ℕ) (trace : List Event) → IsProper trace → accepted_count trace ≤ n → All IsBelow (backlog link flow trace)
+  pub waiting-below : (link : Link) (flow : ℕ) (trace : List Event) → IsProper trace → accepted_count trace ≤ n → All IsBelow (backlog link flow trace)
   waiting-below link flow [] h few = All-nil IsBelow
   waiting-below link flow (opened l ∷ trace) h few = waiting-below link flow trace h (same-count (opened l) trace refl few)
   waiting-below link flow (arrived p ∷ trace) h few =

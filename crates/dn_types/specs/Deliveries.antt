@@ -1,6 +1,6 @@
 -- Deliveries: the packets that have started and that no Collect has given, in the order in which one gives them.
-use Rattle.std.specs.Prelude.{ℕ, Bool, cond, List, [], ◌∷◌, nat_lt, nat_le}
-use Rattle.std.specs.List.{filter}
+use Rattle.std.specs.Prelude.{ℕ, ◌≡◌, ◌≤◌, ⊤, Bool, cond, List, [], ◌∷◌, nat_lt, nat_le}
+use Rattle.std.specs.List.{All, filter}
 use Rattle.std.specs.declared.cmp.Ordering.{Ordering}
 use Rattle.std.specs.Ordering.{is_lt, nat_cmp, ordering_then}
 use Rattle.dn_types.specs.Links.{arrival_time, due_by, last_due}
@@ -34,3 +34,8 @@ undelivered rule (_ ∷ trace) = undelivered rule trace
 -- What a Collect at the moment gives.
 abbrev pub given : Rule → ℕ → List Event → List Delivery
 given rule at trace = filter (λ d. nat_le d.due at) (undelivered rule trace)
+
+-- Deliveries by due moment, and where two are equal by packet number.
+abbrev pub AreInOrder : List Delivery → Type 0
+AreInOrder [] = ⊤
+AreInOrder (d ∷ ds) = All (λ e. (d.due ≤ e.due) × (d.due ≡ e.due → d.packet ≤ e.packet)) ds × AreInOrder ds

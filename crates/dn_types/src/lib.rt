@@ -13,7 +13,6 @@ mod five_tuple;
 mod flow_key;
 mod flow_status;
 mod kbyte_count;
-pub mod laws;
 mod len;
 mod limit;
 mod loss;

@@ -1,9 +1,9 @@
 -- The packets of a slot are discarded.
-use Rattle.std.proofs.Common.{◌≡◌, ℕ, ◌+◌, ◌-◌, ◌<◌, ◌≤◌, List, [], ◌∷◌, length, Some, All, Contains, IsPermutation, refl, sym, ap, ◌∙◌, subst, arith, inl, inr, slice_index_or, get_or, set, sum_by, nat_lt}
+use Rattle.std.proofs.Common.{◌≡◌, ℕ, ◌+◌, ◌-◌, ◌<◌, ◌≤◌, List, [], ◌∷◌, length, Option, Some, None, IfSome, IfNone, All, Contains, IsPermutation, refl, sym, ap, ◌∙◌, subst, arith, inl, inr, slice_index_or, get_or, set, sum_by, nat_lt}
 use Rattle.std.proofs.lemmas.List.{get_or-set_same, get_or-set_other, length-set, get_or_read, get_or_past, set_past}
 use Rattle.std.proofs.lemmas.List.Sorted.{length_permutation, All-permutation}
 use Rattle.std.proofs.lemmas.List.Sums.{sum_by-set, get_or-le-sum_by}
-use Rattle.std.proofs.lemmas.List.Elements.{All-nil, All-tail, All-set, Contains-get_or}
+use Rattle.std.proofs.lemmas.List.Elements.{All-nil, All-tail, All-set, All-contains, Contains-get_or}
 use Rattle.std.proofs.lemmas.Bool.{cases_eq, cases_lt}
 use Rattle.std.specs.Vec.{with_item}
 use Rattle.dn_types.specs.Wf2q.{Stamped}
@@ -19,7 +19,6 @@ use Rattle.dn_wf2q.specs.Steps.{DiscardsSlot}
 use Rattle.dn_wf2q.proofs.BySlot.{length-by_slot, by_slot-set}
 use Rattle.dn_wf2q.proofs.Heads.{head_says, head_there, head_both, head_weighs, presence-le, flow_at_seen, room_grows, cond_zero, next_is}
 use Rattle.dn_wf2q.proofs.Counts.{waiting-set}
-use Rattle.dn_wf2q.proofs.Payable.{Fits, fits}
 use Rattle.dn_wf2q.proofs.Ranks.{ranks_at_popped, rank_at_same, rank_at_other, no_rank_at, some_rank_at}
 
 abbrev no_rank : RankView
@@ -27,6 +26,18 @@ no_rank = record { tag = 0; slot = 0 }
 
 same_parts : (k : RankView) (tag slot : ℕ) → k.tag ≡ tag → k.slot ≡ slot → k ≡ record { tag = tag; slot = slot }
 same_parts k tag slot t s = λ i. record { tag = t i; slot = s i }
+
+-- A key of the slot left a heap that had one.
+pub record Took (slot : ℕ) (old new : Heap RankView) : Type 0 where
+  pub key : RankView
+  pub here : key.slot ≡ slot
+  pub keys : IsPermutation old.keys (key ∷ new.keys)
+  pub room : new.room ≡ old.room + 1
+
+pub took : (slot : ℕ) (old new : Heap RankView) (r : Option RankView) (held : RankView) → held.slot ≡ slot → Contains old.keys held → IfSome r (λ k. k.slot ≡ slot)
+    → IfSome r (λ k. IsPermutation old.keys (k ∷ new.keys)) → IfSome r (λ k. new.room ≡ old.room + 1) → IfNone r (All (λ k. k.slot ≡ slot → ⊥) old.keys) → Took slot old new
+took slot old new (Some k) held e within here keys room absent = record { key = k; here = here; keys = keys; room = room }
+took slot old new None held e within here keys room absent = absurd (All-contains (λ k. k.slot ≡ slot → ⊥) old.keys held absent within e)
 
 module _ {flows : List Flow} {eligible waiting : Heap RankView} {virtual_time weights arrivals picks : ℕ}
     (kept : Kept none_absent [] flows eligible waiting virtual_time weights arrivals picks) (slot : ℕ) (listed : slot < length flows) where
@@ -230,27 +241,26 @@ module _ (p : SchedParts) (kept : IsSchedKept p) (slot : ℕ) (listed : slot < l
         let w = kept.kept.weighed in
         omega (arith, weight_is)
 
-    pub key_fits : Fits slot h.start_tag h.finish_tag
-    key_fits = fits p slot h kept is'
+    pub took_eligible : NoneDue p → h.start_tag ≤ p.virtual_time → (es : Heap RankView) (r : Option RankView) → IfSome r (λ k. k.slot ≡ slot)
+        → IfSome r (λ k. IsPermutation p.eligible.keys (k ∷ es.keys)) → IfSome r (λ k. es.room ≡ p.eligible.room + 1) → IfNone r (All (λ k. k.slot ≡ slot → ⊥) p.eligible.keys) → Took slot p.eligible es
+    took_eligible due early es r here keys room absent =
+        took slot p.eligible es r (record { tag = h.finish_tag; slot = slot }) refl (in_eligible kept.kept slot listed' (tagged slot h) is' due early) here keys room absent
 
-    pub held_eligible : NoneDue p → h.start_tag ≤ p.virtual_time → Contains p.eligible.keys (record { tag = h.finish_tag; slot = slot })
-    held_eligible due early = in_eligible kept.kept slot listed' (tagged slot h) is' due early
+    pub took_waiting : NoneDue p → p.virtual_time < h.start_tag → (ws : Heap RankView) (r : Option RankView) → IfSome r (λ k. k.slot ≡ slot)
+        → IfSome r (λ k. IsPermutation p.waiting.keys (k ∷ ws.keys)) → IfSome r (λ k. ws.room ≡ p.waiting.room + 1) → IfNone r (All (λ k. k.slot ≡ slot → ⊥) p.waiting.keys) → Took slot p.waiting ws
+    took_waiting due late ws r here keys room absent =
+        took slot p.waiting ws r (record { tag = h.start_tag; slot = slot }) refl (in_waiting kept.kept slot listed' (tagged slot h) is' due late) here keys room absent
 
-    pub held_waiting : NoneDue p → p.virtual_time < h.start_tag → Contains p.waiting.keys (record { tag = h.start_tag; slot = slot })
-    held_waiting due late = in_waiting kept.kept slot listed' (tagged slot h) is' due late
-
-    pub waiting_left : (k : RankView) (ws : Heap RankView) → k.slot ≡ slot
-        → IsPermutation p.waiting.keys (k ∷ ws.keys) → ws.moves ≡ p.waiting.moves → ws.room ≡ p.waiting.room + 1
+    pub waiting_left : (ws : Heap RankView) → Took slot p.waiting ws → ws.moves ≡ p.waiting.moves
         → IsSchedKept (left_parts p.eligible ws (p.weights - h.weight))
-    waiting_left k ws here perm mw rmw =
+    waiting_left ws t mw =
         let w = weighs in
         made p.eligible ws (p.weights - h.weight)
-        (forgot_waiting kept.kept slot listed' k ws (p.weights - h.weight) here perm mw rmw (omega (arith, weight_is)))
+        (forgot_waiting kept.kept slot listed' t.key ws (p.weights - h.weight) t.here t.keys mw t.room (omega (arith, weight_is)))
 
-    pub eligible_left : (k : RankView) (es : Heap RankView) → k.slot ≡ slot
-        → IsPermutation p.eligible.keys (k ∷ es.keys) → es.moves ≡ p.eligible.moves → es.room ≡ p.eligible.room + 1
+    pub eligible_left : (es : Heap RankView) → Took slot p.eligible es → es.moves ≡ p.eligible.moves
         → IsSchedKept (left_parts es p.waiting (p.weights - h.weight))
-    eligible_left k es here perm me rme =
+    eligible_left es t me =
         let w = weighs in
         made es p.waiting (p.weights - h.weight)
-        (forgot_eligible kept.kept slot listed' k es (p.weights - h.weight) here perm me rme (omega (arith, weight_is)))
+        (forgot_eligible kept.kept slot listed' t.key es (p.weights - h.weight) t.here t.keys me t.room (omega (arith, weight_is)))

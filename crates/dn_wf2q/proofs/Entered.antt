@@ -1,5 +1,5 @@
 -- A head enters the heap in which it belongs.
-use Rattle.std.proofs.Common.{◌≡◌, ℕ, ◌+◌, ◌^◌, ◌<◌, ◌≤◌, List, [], ◌∷◌, IsPermutation, sym, ◌∙◌, arith, inl, inr}
+use Rattle.std.proofs.Common.{◌≡◌, ℕ, ◌+◌, ◌^◌, ◌<◌, ◌≤◌, List, [], ◌∷◌, length, All, IsPermutation, refl, sym, ◌∙◌, arith, inl, inr}
 use Rattle.std.proofs.lemmas.List.Sorted.{length_permutation, All-permutation}
 use Rattle.std.proofs.lemmas.List.Elements.{All-cons}
 use Rattle.std.proofs.lemmas.Bool.{cases_eq}
@@ -8,8 +8,8 @@ use Rattle.dn_heap.specs.Heap.{Heap}
 use Rattle.dn_wf2q.specs.Rank.{RankView}
 use Rattle.dn_wf2q.specs.Schedule.{Flow, flow_at}
 use Rattle.dn_wf2q.specs.Kept.{Kept, HeadIs, IsEligible, IsWaiting, ranks_at, none_absent, only_absent}
-use Rattle.dn_wf2q.proofs.Heads.{head_weaker}
-use Rattle.dn_wf2q.proofs.Ranks.{ranks_at_pushed, rank_at_same, rank_at_other, absent_same, absent_other}
+use Rattle.dn_wf2q.proofs.Heads.{head_listed, head_weaker, presence-le}
+use Rattle.dn_wf2q.proofs.Ranks.{ranks_at_pushed, rank_at_same, rank_at_other, absent_same, absent_other, no_rank_at}
 use Rattle.dn_wf2q.proofs.Steps.{ranks_at-le}
 
 module _ {flows : List Flow} {eligible waiting : Heap RankView} {virtual_time weights arrivals picks : ℕ} (slot : ℕ) (h : Stamped)
@@ -22,6 +22,27 @@ module _ {flows : List Flow} {eligible waiting : Heap RankView} {virtual_time we
       let b = kept.waiting_room in
       let c = kept.pushed in
       (omega arith, omega arith, omega arith, omega arith)
+
+  -- Neither heap has a key of the slot, and each has a place for it.
+  none : (ranks_at slot eligible.keys ≡ 0) × (ranks_at slot waiting.keys ≡ 0)
+  none =
+      let c = kept.placed slot in
+      let a = absent_same slot slot 1 refl in
+      let m = presence-le (flow_at flows slot).backlog in
+      (omega arith, omega arith)
+
+  pub free_in_eligible : All (λ k. k.slot ≡ slot → ⊥) eligible.keys
+  free_in_eligible = no_rank_at slot eligible.keys none.0
+
+  pub free_in_waiting : All (λ k. k.slot ≡ slot → ⊥) waiting.keys
+  free_in_waiting = no_rank_at slot waiting.keys none.1
+
+  pub numbered : (slot < length eligible.keys + eligible.room) × (slot < length waiting.keys + waiting.room)
+  numbered =
+      let l = head_listed (λ x. x ≡ h) flows slot is in
+      let a = kept.eligible_room in
+      let b = kept.waiting_room in
+      (omega arith, omega arith)
 
   -- What a heap gains is what was absent.
   placed : (e : RankView) → e.slot ≡ slot → (keys keys' : List RankView) → IsPermutation (e ∷ keys) keys' → (g : ℕ) → ranks_at g keys' ≡ ranks_at g keys + only_absent slot g

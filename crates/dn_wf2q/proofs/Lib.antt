@@ -2,9 +2,6 @@ pub mod Queues
 pub mod BySlot
 pub mod Heads
 pub mod Ranks
-pub mod Living
-pub mod Dying
-pub mod Alive
 pub mod Payable
 pub mod Counts
 pub mod Scan

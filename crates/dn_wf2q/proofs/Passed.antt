@@ -1,5 +1,5 @@
 -- A packet comes where none waits, and is sent at once.
-use Rattle.std.proofs.Common.{◌≡◌, ◌∙◌, ℕ, zero, suc, ◌+◌, ◌^◌, ◌<◌, ◌≤◌, max, cond, Option, Some, None, List, [], ◌∷◌, ◌++◌, length, map, take, IsPermutation, refl, sym, ap, subst, arith, inl, inr, true, get_or, set, sum_by, nat_lt}
+use Rattle.std.proofs.Common.{◌≡◌, ◌∙◌, ℕ, zero, suc, ◌+◌, ◌^◌, ◌<◌, ◌≤◌, max, cond, Option, Some, None, List, [], ◌∷◌, ◌++◌, length, map, take, All, IsPermutation, refl, sym, ap, subst, arith, inl, inr, true, get_or, set, sum_by, nat_lt}
 use Rattle.std.proofs.lemmas.Bool.{cases_eq, cases_lt}
 use Rattle.std.proofs.lemmas.Bool.Decides.{nat_tests}
 use Rattle.std.proofs.lemmas.List.{append-nil, get_or-set_same, get_or-set_other, get_or_past, length-map, length-set}
@@ -200,6 +200,12 @@ module _ (p : SchedParts) (kept : IsSchedKept p) (idle : IsIdle (flows_of p)) (s
 
   pub no_key : length p.eligible.keys ≡ 0
   no_key = let c = was.counted in let n = no_heads in omega arith
+
+  pub none_free : (n : ℕ) → All (λ k. k.slot ≡ n → ⊥) p.eligible.keys
+  none_free n = λ i d l. absurd (let z = no_key in omega arith)
+
+  pub numbered : slot < length p.eligible.keys + p.eligible.room
+  numbered = let r = kept.kept.eligible_room in let l = listed_flow in omega arith
 
   pub few_moves : p.arrivals < 2 ^ 62 → p.eligible.moves < 2 ^ 63
   few_moves few = let c = was.pushed in omega arith

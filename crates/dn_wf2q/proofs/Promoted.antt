@@ -1,5 +1,5 @@
 -- A flow moves from the waiting heap to the eligible one.
-use Rattle.std.proofs.Common.{◌≡◌, ℕ, ◌+◌, ◌<◌, ◌≤◌, ◌^◌, ◌∷◌, length, map, IfSome, IsPermutation, sym, ap, ◌∙◌, arith, get_or}
+use Rattle.std.proofs.Common.{◌≡◌, ℕ, ◌+◌, ◌<◌, ◌≤◌, ◌^◌, ◌∷◌, length, map, All, IfSome, IsPermutation, sym, ap, ◌∙◌, arith, get_or}
 use Rattle.std.proofs.lemmas.List.Sorted.{length_permutation}
 use Rattle.dn_heap.specs.Heap.{Heap}
 use Rattle.dn_wf2q.specs.declared.tagged_queue.TaggedQueue.{TaggedQueue}
@@ -9,8 +9,9 @@ use Rattle.dn_wf2q.specs.Schedule.{flow_at}
 use Rattle.dn_wf2q.specs.Queue.{first_packet, packets_of}
 use Rattle.dn_wf2q.specs.Kept.{IsSchedKept, HeadIs, bound, flows_of, seen, tagged}
 use Rattle.dn_wf2q.proofs.BySlot.{length-by_slot}
-use Rattle.dn_wf2q.proofs.Heads.{head_listed, flow_at_seen, flow_within, some_packets, head_weaker, first_finishes}
+use Rattle.dn_wf2q.proofs.Heads.{head_listed, presence-le, flow_at_seen, flow_within, some_packets, head_weaker, first_finishes}
 use Rattle.dn_wf2q.proofs.Payable.{bound_fits, first_within}
+use Rattle.dn_wf2q.proofs.Ranks.{no_rank_at, rank_at_same, ranks_at_popped}
 use Rattle.dn_wf2q.proofs.Steps.{popped_waits, promoted_kept, ranks_at-le}
 
 -- The key k of this slot left the waiting heap.
@@ -29,6 +30,21 @@ module _ (p : SchedParts) (kept : IsSchedKept p) (k : RankView) (slot : ℕ) (th
       let s = ranks_at-le kept.kept in
       let r = kept.kept.eligible_room in
       omega arith
+
+  -- The eligible heap has a place for the slot, and no key of it.
+  pub numbered : slot < length p.eligible.keys + p.eligible.room
+  numbered =
+      let l = listed in
+      let r = kept.kept.eligible_room in
+      omega (arith, length-by_slot (seen p.busy_from) p.flows.items)
+
+  pub free : All (λ x. x.slot ≡ slot → ⊥) p.eligible.keys
+  free =
+      let c = kept.kept.placed slot in
+      let a = ranks_at_popped slot k p.waiting.keys ws.keys perm in
+      let z = rank_at_same slot k (sym this) in
+      let m = presence-le (flow_at (flows_of p) slot).backlog in
+      no_rank_at slot p.eligible.keys (omega arith)
 
   module _ (q : TaggedQueue) (at : q ≡ get_or p.flows.items slot q) where
     same_flow : flow_at (flows_of p) slot ≡ seen p.busy_from slot q

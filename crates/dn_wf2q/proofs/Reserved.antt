@@ -1,5 +1,5 @@
 -- Room is made, for a queue that is there or by adding queues without a packet.
-use Rattle.std.proofs.Common.{◌^◌, ◌≡◌, ℕ, zero, suc, ◌+◌, ◌-◌, ◌<◌, ◌≤◌, List, [], ◌∷◌, ◌++◌, length, map, All, refl, sym, ap, ◌∙◌, subst, arith, slice_index_or, get_or, set, sum_by, replicate, nat_lt, Result, Ok, Err, OnOk, OnErr}
+use Rattle.std.proofs.Common.{◌^◌, ◌≡◌, ℕ, zero, suc, ◌+◌, ◌-◌, ◌<◌, ◌≤◌, List, [], ◌∷◌, ◌++◌, length, map, All, refl, sym, ap, ◌∙◌, subst, arith, max, slice_index_or, get_or, set, sum_by, replicate, nat_lt, Result, Ok, Err, OnOk, OnErr}
 use Rattle.std.proofs.lemmas.List.{append_assoc, append-nil, length-append, length-replicate, set-get_or, get_or-map, get_or-set_same, get_or_read, length-set}
 use Rattle.std.proofs.lemmas.List.Sums.{sum_by-append}
 use Rattle.std.proofs.lemmas.List.Folds.{sum_by-replicate}
@@ -15,6 +15,10 @@ use Rattle.dn_wf2q.specs.Kept.{Kept, IsSchedKept, IsWithin, AreTagsWithin, flows
 use Rattle.dn_wf2q.specs.Steps.{MakesRoom, IsBlank, IsExtended}
 use Rattle.dn_wf2q.proofs.BySlot.{length-by_slot, by_slot-set, by_slot-append}
 use Rattle.dn_wf2q.proofs.Heads.{flow_at_seen, room_grows, cond_zero}
+
+-- Places for n keys, those that are in with them.
+pub grown : (keys keys' : List RankView) (room room' n : ℕ) → keys' ≡ keys → length keys' + room' ≡ max (length keys + room) n → (room ≤ room') × (n ≤ length keys' + room')
+grown keys keys' room room' n same e = let l = ap length same in (omega arith, omega arith)
 
 pub one_added : (xs ys : List TaggedQueue) (q : TaggedQueue) → IsExtended xs ys → IsBlank q → IsExtended xs (ys ++ q ∷ [])
 one_added xs ys q e b = record {

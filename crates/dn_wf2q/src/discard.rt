@@ -1,7 +1,6 @@
 ghost use Rattle.dn_wf2q.specs.Kept.{IsSchedKept, NoneDue};
 ghost use Rattle.dn_wf2q.specs.Steps.{DiscardsSlot};
 
-use crate::rank::Rank;
 use crate::sched_parts::SchedParts;
 
 impl SchedParts {
@@ -26,9 +25,9 @@ impl SchedParts {
         };
         self.weights -= head.weight as u128;
         if head.start_tag <= self.virtual_time {
-            self.eligible.take_out(Rank::new(head.finish_tag, slot));
+            let _ = self.eligible.take_number(slot);
         } else {
-            self.waiting.take_out(Rank::new(head.start_tag, slot));
+            let _ = self.waiting.take_number(slot);
         }
     }
 }

@@ -3,13 +3,11 @@
 
 mod arrive;
 mod behind;
-mod dead;
 mod discard;
 mod pass;
 mod pick;
 mod queued_packet;
 mod rank;
-mod rank_heap;
 mod reserve;
 mod scaled;
 mod sched;

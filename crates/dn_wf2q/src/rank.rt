@@ -5,6 +5,7 @@ ghost use Rattle.std.specs.Cmp.Rules.{comparing};
 ghost use Rattle.std.proofs.Common.{rules};
 ghost use Rattle.dn_wf2q.specs.Rank.{rank_cmp, rank_eq};
 
+use dn_heap::Numbered;
 use std::cmp::Ordering;
 use std::marker::Model;
 
@@ -17,19 +18,24 @@ pub(crate) const SLOTS: usize = 1 << 32;
 ///
 /// Both stand in one number, since most of a scheduler's time goes into comparing and moving keys
 /// within the heaps: so two are compared in one step, and a key takes 16 bytes.
-#[derive(Drop)]
+#[derive(Clone, Copy)]
 pub(crate) struct Rank {
     /// The slot in the lowest 32 bits, and above them the tag.
     key: u128,
 }
 
 impl Model for Rank {
-    ghost use Rattle.std.specs.Prelude.{◌/◌, ◌%◌};
+    ghost use Rattle.std.specs.Prelude.{◌≡◌, ◌+◌, ◌*◌, ◌/◌, ◌%◌};
+    ghost use Rattle.std.proofs.Common.{arith};
     ghost use Rattle.dn_wf2q.specs.Rank.{RankView};
 
     ghost Value = { RankView };
 
     ghost view = { λ r. record { tag = r.key / 4294967296; slot = r.key % 4294967296 } };
+
+    ghost inverse = { λ r. record { key = r.tag * 4294967296 + r.slot } };
+
+    ghost inverse_ok = { λ r h i. let same : r.key / 4294967296 * 4294967296 + r.key % 4294967296 ≡ r.key = omega arith in record { key = same i } };
 }
 
 impl Rank {
@@ -53,6 +59,14 @@ impl Rank {
         ensures value { result ≡ self.now.slot }
     {
         (self.key % SLOTS as u128) as usize
+    }
+}
+
+impl Numbered for Rank {
+    ghost number = { λ r. r.slot };
+
+    fn number(&self) -> usize {
+        self.slot()
     }
 }
 

@@ -52,8 +52,8 @@ impl SchedParts {
         self.flows.reserve(flows - self.flows.len())?;
         // Each heap has a place for every flow. What an earlier call got before it was refused
         // counts too, so that refusals don't add up.
-        self.eligible.reserve_places(flows)?;
-        self.waiting.reserve_places(flows)?;
+        self.eligible.reserve_numbers(flows)?;
+        self.waiting.reserve_numbers(flows)?;
         add_queues(&mut self.flows, slot);
         Ok(())
     }

@@ -3,8 +3,8 @@ ghost use Rattle.std.specs.Option.{option_map};
 ghost use Rattle.dn_types.specs.Wf2q.{pick};
 ghost use Rattle.dn_wf2q.specs.Schedule.{Passes, Picks, KeepsCounts, KeepsRoom, IsIdle, after_arrival, after_discard, flow_at, forgotten, heads_of, padded, room_at, waiting_of};
 
-use crate::rank_heap::RankHeap;
 use crate::sched_parts::SchedParts;
+use dn_heap::PlacedHeap;
 use dn_types::{Len, Weight};
 use std::alloc::{AllocError, Global};
 use std::marker::Model;
@@ -14,7 +14,7 @@ use std::marker::Model;
 /// Tags and virtual time are in units of 1/65536 byte per weight.
 ///
 /// A flow is named by its *slot*, its place among the flows of this link. The queues stand in one
-/// vector by slot, so the highest slot that was reserved decides the memory: about 150 bytes for
+/// vector by slot, so the highest slot that was reserved decides the memory: about 112 bytes for
 /// each slot up to it, and a block of 56 bytes or more for each flow that had room behind a packet
 /// (4 bytes for each packet beyond four). Number the flows of a link 0, 1, 2, .. as they are first
 /// seen. Ties between finish tags go to the lower slot.
@@ -46,8 +46,8 @@ impl Sched {
         Sched {
             parts: SchedParts {
                 flows: Vec::new(alloc),
-                eligible: RankHeap::new(alloc),
-                waiting: RankHeap::new(alloc),
+                eligible: PlacedHeap::new(alloc),
+                waiting: PlacedHeap::new(alloc),
                 virtual_time: 0,
                 weights: 0,
                 busy_from: 0,
@@ -137,8 +137,8 @@ impl Sched {
 
     /// Lets all packets of a slot go, and its last finish tag with them.
     ///
-    /// Virtual time and the tags of the other flows stay. It looks at no other flow. The head's key goes at once, or stays in
-    /// its heap, dead, until it comes to the top.
+    /// Virtual time and the tags of the other flows stay. It looks at no other flow. The head's key leaves its heap, which
+    /// isn't a push.
     pub fn discard(&mut self, slot: usize)
         ensures flows { self.new.flows ≡ after_discard self.old.flows slot }
         ensures fewer { waiting_of self.new.flows + length (flow_at self.old.flows slot).backlog ≡ waiting_of self.old.flows }

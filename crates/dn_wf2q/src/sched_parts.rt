@@ -3,8 +3,9 @@ ghost use Rattle.dn_wf2q.specs.Schedule.{IsIdle};
 ghost use Rattle.dn_wf2q.specs.Kept.{IsSchedKept, NoneDue, flows_of};
 ghost use Rattle.dn_wf2q.specs.Steps.{Begins};
 
-use crate::rank_heap::RankHeap;
+use crate::rank::Rank;
 use crate::tagged_queue::TaggedQueue;
+use dn_heap::PlacedHeap;
 
 /// What a scheduler is made of.
 ///
@@ -13,8 +14,8 @@ use crate::tagged_queue::TaggedQueue;
 #[derive(Drop)]
 pub(crate) struct SchedParts {
     pub(crate) flows: Vec<TaggedQueue>,
-    pub(crate) eligible: RankHeap,
-    pub(crate) waiting: RankHeap,
+    pub(crate) eligible: PlacedHeap<Rank>,
+    pub(crate) waiting: PlacedHeap<Rank>,
     pub(crate) virtual_time: u128,
     /// The sum of the heads' weights.
     pub(crate) weights: u128,

@@ -1,16 +1,8 @@
 //! Samples of the READMEs, each run: their lines stand between marks, and tools/gate/samples.py compares them with the pages.
-use crate::given::{at_most, key, packet};
-use csv::ByteRecord;
 use dn_config::{LineFault, parse_line, print_command};
-use dn_files::{PacketReader, read_config, read_packets};
-use dn_flows::{DropRule, Flows, HashKey, Verdict, Waiting};
-use dn_records::{
-    Field, FromReader, FromWriter, RecordReader, RecordWriter, read_whole, write_whole,
-};
 use dn_text::{NumberFault, Words, number_until, read_address, read_number, split_joined};
-use dn_types::{Call, FiveTuple, FlowKey, Len, Limit, Moment, Number, Packet, Target, Weight};
-use dn_wf2q::Sched;
-use std::alloc::{AllocError, Global};
+use dn_types::{Call, FiveTuple, Len, Moment, Number, Packet, Target};
+use std::alloc::AllocError;
 use std::test::Fail;
 
 fn packet_to_pipe() -> Result<Call, &'static str> {
@@ -44,75 +36,6 @@ fn the_types(rt: HostRuntime) -> Result<(), Fail> {
     };
     assert!(rt; (packet.len.get(), moment.get()) == (1_000, 1_000_000));
     Ok(())
-}
-
-fn slot_picked(alloc: Global, len: Len, weight: Weight) -> Result<Option<usize>, AllocError> {
-    // In the README of dn_wf2q, 1:
-    let mut sched = Sched::new(alloc);
-    sched.begin_busy();
-    sched.reserve_flow(0)?;
-    sched.arrive(0, len, weight);
-    let sent = sched.pick();
-    // Up to here.
-    Ok(sent)
-}
-
-#[test]
-fn the_scheduler(rt: HostRuntime) {
-    let len = Len::new(1000).unwrap();
-    let weight = Weight::new(1).unwrap();
-    let mut sent = slot_picked(rt.alloc(), len, weight);
-    if sent.is_err() {
-        sent = slot_picked(rt.alloc(), len, weight);
-    }
-    assert!(rt; sent == Ok(Some(0)));
-}
-
-#[test]
-fn the_flow_table(rt: HostRuntime) -> Result<(), AllocError> {
-    let (alloc, hash_key) = (rt.alloc(), HashKey(7));
-    // In the README of dn_flows, 1:
-    let mut flows = Flows::with_key(alloc, hash_key);
-    // Up to here.
-    let len = Len::new(1_000).unwrap();
-    let rule = at_most(Limit::slots(1).unwrap());
-    let outcome = first_of_flow(&mut flows, key(1), &packet(len, 0), &rule);
-    drop(flows);
-    assert!(rt; outcome? == Some(Waiting { packet: 7, len }));
-    Ok(())
-}
-
-/// Makes the flow and judges the packet, and then the flow's first packet starts.
-fn first_of_flow(
-    flows: &mut Flows,
-    flow_key: FlowKey,
-    packet: &Packet,
-    rule: &DropRule,
-) -> Result<Option<Waiting>, AllocError> {
-    // In the README of dn_flows, 1:
-    let flow = flows.find_or_make(flow_key)?;
-    flows.reserve_place(flow)?;
-    // Up to here.
-    let counts = flows.status(flow);
-    if counts.lost > 100 || counts.full > 100 || counts.started > 100 {
-        return Ok(None);
-    }
-    let number = 7;
-    // In the README of dn_flows, 1:
-    match flows.verdict(flow, packet, rule) {
-        Verdict::Take => flows.push_reserved(
-            flow,
-            Waiting {
-                packet: number,
-                len: packet.len,
-            },
-        ),
-        Verdict::Lost => flows.note_lost(flow),
-        Verdict::Full => flows.note_full(flow),
-    }
-    let next = flows.pop_front(flow);
-    // Up to here.
-    Ok(next)
 }
 
 #[test]
@@ -154,46 +77,4 @@ fn lines_of_a_configuration(rt: HostRuntime) -> Result<(), AllocError> {
     }
     // Up to here.
     panic!(rt; "no command")
-}
-
-#[test]
-fn a_configuration_and_its_packets(rt: HostRuntime) -> Result<(), Fail> {
-    let alloc = rt.alloc();
-    let config = b"pipe 1 config\n\nqueue 2 config pipe 1\n".as_slice();
-    let packets = b"moment,target,number,src,dst,proto,sport,dport,len,word\n\
-        0,pipe,1,10.0.0.1,10.0.0.2,17,1000,2000,1000,0\n\
-        1,\"pipe\",1,10.0.0.1,10.0.0.2,17,1000,2000,1000,0\n"
-        .as_slice();
-    // In the README of dn_files, 1:
-    let commands = read_config(alloc, &mut FromReader::new(config))?;
-    let rows = read_packets(alloc, &mut FromReader::new(packets))?;
-    // Up to here.
-    assert!(rt; commands.len() == 2 && rows.len() == 2);
-    let part = packets;
-    // In the README of dn_files, 2:
-    let mut reader = PacketReader::new(alloc);
-    reader.feed(part)?;
-    let first = reader.next();
-    let last = reader.finish()?;
-    // Up to here.
-    assert!(rt; first.is_some() && last.len() == 1);
-    Ok(())
-}
-
-#[test]
-fn a_record_is_read_and_written(rt: HostRuntime) -> Result<(), Fail> {
-    let alloc = rt.alloc();
-    let input = b"a,b\n".as_slice();
-    let mut output = Vec::new(alloc);
-    // In the README of dn_records, 1:
-    let text = read_whole(alloc, &mut FromReader::new(input), 1_048_576)?;
-    let mut records = RecordReader::new(alloc, &text);
-    let mut row = ByteRecord::new(alloc);
-    let is_there = records.read(&mut row)?;
-    let mut lines = RecordWriter::new(alloc);
-    lines.write(&[Field::Number(row.len() as u128), Field::Text("fields")])?;
-    write_whole(&mut FromWriter::new(&mut output), &lines.into_text())?;
-    // Up to here.
-    assert!(rt; is_there && output.as_slice() == b"2,fields\n".as_slice());
-    Ok(())
 }

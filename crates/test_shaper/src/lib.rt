@@ -26,6 +26,8 @@ mod refused_growths;
 #[cfg(test)]
 mod reply_room;
 #[cfg(test)]
+mod reserve;
+#[cfg(test)]
 mod sent;
 #[cfg(test)]
 mod shared_links;

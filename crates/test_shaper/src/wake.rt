@@ -1,8 +1,8 @@
 //! When to ask next by itself: the earliest of the due moments and of the moments at which links with a backlog are free.
 
 use crate::example::answers_step;
-use crate::step::{Step, collect, config, to_pipe};
-use crate::wanted::{delivery, queued};
+use crate::step::{Step, collect, config, line, to_pipe};
+use crate::wanted::{Wanted, delivery, queued};
 use dn_shaper::Shaper;
 use dn_types::Delivery;
 use std::alloc::Global;
@@ -68,6 +68,30 @@ fn the_link_that_is_free_first(rt: HostRuntime) -> Result<(), Fail> {
         (to_pipe(1, 0, queued(0, 0, 1)), Some(1_000_000)),
         (to_pipe(2, 0, queued(0, 1, 2)), Some(1_000_000)),
         (to_pipe(2, 0, queued(0, 1, 3)), Some(500_000)),
+    ];
+    check_all(&rt, rt.alloc(), &steps)
+}
+
+// A link that a delete empties is not asked for, although it is free first, until a packet waits for it again.
+#[test]
+fn an_emptied_link(rt: HostRuntime) -> Result<(), Fail> {
+    let both = [delivery(0, 0, 0, 50_500_000), delivery(2, 1, 0, 51_000_000)];
+    let steps = [
+        (config("pipe 1 config bw 16Mbit/s delay 50ms"), None),
+        (config("pipe 2 config bw 8Mbit/s delay 50ms"), None),
+        (to_pipe(1, 0, queued(0, 0, 0)), Some(50_500_000)),
+        (to_pipe(1, 0, queued(0, 0, 1)), Some(500_000)),
+        (to_pipe(2, 0, queued(0, 1, 2)), Some(500_000)),
+        (to_pipe(2, 0, queued(0, 1, 3)), Some(500_000)),
+        (line("pipe delete 1", Wanted::Deleted), Some(1_000_000)),
+        (
+            config("pipe 1 config bw 16Mbit/s delay 50ms"),
+            Some(1_000_000),
+        ),
+        (to_pipe(1, 0, queued(0, 0, 4)), Some(500_000)),
+        (line("pipe delete 1", Wanted::Deleted), Some(1_000_000)),
+        (line("pipe delete 2", Wanted::Deleted), Some(50_500_000)),
+        (collect(51_000_000, &both), None),
     ];
     check_all(&rt, rt.alloc(), &steps)
 }

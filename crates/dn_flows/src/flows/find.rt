@@ -1,4 +1,4 @@
-ghost use Rattle.std.specs.Prelude.{false, ◌≡◌, ◌<◌, length, true, IfOk, OnOk, OnErr, IsOk};
+ghost use Rattle.std.specs.Prelude.{false, ◌≡◌, ◌+◌, ◌<◌, ◌≤◌, length, true, is_some, IfOk, IfSome, OnOk, OnErr, IsOk};
 ghost use Rattle.dn_types.specs.Flows.{flow_number, with_key};
 ghost use Rattle.dn_flows.specs.Table.{is_known, flows_with};
 
@@ -11,6 +11,15 @@ use dn_types::FlowKey;
 use std::alloc::AllocError;
 
 impl Flows {
+    /// The number of the flow with the key, if a flow has it. It is found by its hash.
+    pub fn find(&self, key: &FlowKey) -> Option<usize>
+        ensures number { IfSome result (λ flow. flow ≡ flow_number self.now.keys key.now) }
+        ensures known { is_some result ≡ is_known key.now self.now.keys }
+        ensures within { IfSome result (λ flow. flow < length self.now.keys) }
+    {
+        flow_by_hash(&self.keys, &TableKey::new(*key))
+    }
+
     /// The number of the flow with the key, which is found by its hash, or made if no flow has the key.
     ///
     /// It isn't inlined, since most keys are found without.
@@ -20,8 +29,11 @@ impl Flows {
         ensures within { IfOk result (λ flow. flow < length self.new.flows) }
         ensures keys { OnOk result (self.new.keys ≡ with_key key self.old.keys) }
         ensures flows { OnOk result (self.new.flows ≡ flows_with key self.old) }
-        ensures err { OnErr result (self.new ≡ self.old) }
+        ensures err { OnErr result ((self.new.keys ≡ self.old.keys) × (self.new.flows ≡ self.old.flows)) }
         ensures succeeds { is_known key self.old.keys ≡ true → IsOk result }
+        ensures roomy { 0 < self.old.spare → IsOk result }
+        ensures spare { OnOk result (self.old.spare ≤ self.new.spare + 1) }
+        ensures known { is_known key self.old.keys ≡ true → self.new ≡ self.old }
     {
         if let Some(flow) = flow_by_hash(&self.keys, &key) {
             return Ok(flow);
@@ -37,7 +49,9 @@ impl Flows {
         ensures within { IfOk result (λ flow. flow < length self.new.flows) }
         ensures keys { OnOk result (self.new.keys ≡ with_key key self.old.keys) }
         ensures flows { OnOk result (self.new.flows ≡ flows_with key self.old) }
-        ensures err { OnErr result (self.new ≡ self.old) }
+        ensures err { OnErr result ((self.new.keys ≡ self.old.keys) × (self.new.flows ≡ self.old.flows)) }
+        ensures roomy { 0 < self.old.spare → IsOk result }
+        ensures spare { OnOk result (self.old.spare ≤ self.new.spare + 1) }
     {
         let table_key = TableKey::new(key);
         // The places beside the key come first, so that nothing can fail once the key is in.

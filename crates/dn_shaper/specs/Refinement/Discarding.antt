@@ -6,8 +6,7 @@ use Rattle.dn_wf2q.specs.Schedule.{after_discard, flow_at as slot_at}
 use Rattle.dn_shaper.specs.declared.links.home.Home.{Home}
 use Rattle.dn_shaper.specs.declared.links.link_parts.LinkParts.{LinkParts}
 use Rattle.dn_shaper.specs.declared.links.parts.Parts.{Parts}
-use Rattle.dn_shaper.specs.Refinement.NextStarts.{next_at}
-use Rattle.dn_shaper.specs.Refinement.Views.{LinkView, next_starts, view_of, views_of}
+use Rattle.dn_shaper.specs.Refinement.Views.{LinkView, view_of, views_of}
 use Rattle.dn_shaper.specs.Refinement.Agreement.{AgreesWith}
 
 -- So many packets of a flow no longer wait: in its queue where the link is its own, and at its slot of a shared one.
@@ -55,7 +54,3 @@ pub record DiscardsAt (h : Home) (flow : ℕ) (old new : Parts) : Type 0 where
 -- Whatever trace the parts agree with, they agree with it and the flow discarded.
 abbrev pub DiscardsFlow : ℕ → Parts → Parts → Type 0
 DiscardsFlow flow old new = (more : List Link) (trace : List Event) → AgreesWith old more trace → AgreesWith new more (discarded flow ∷ trace)
-
--- No link has a backlog that had none, and one that still has a backlog is free from the same moment.
-abbrev pub OnlyEmpties : Parts → Parts → Type 0
-OnlyEmpties old new = (place moment : ℕ) → next_at (next_starts (views_of new)) place ≡ Some moment → next_at (next_starts (views_of old)) place ≡ Some moment

@@ -119,6 +119,7 @@ without_last s =
         flows = record {
           keys = take (length s.parts.flows.keys - 1) s.parts.flows.keys;
           flows = take (length s.parts.flows.flows - 1) s.parts.flows.flows;
+          spare = s.parts.flows.spare;
         };
       };
     }

@@ -21,10 +21,6 @@ one_at place k = cond (k.place == place) 1 0
 abbrev pub keys_at : ℕ → List NextStart → ℕ
 keys_at place keys = sum_by (one_at place) keys
 
--- Whether the link of the key has a backlog.
-abbrev pub is_backlogged : List (Option ℕ) → NextStart → Bool
-is_backlogged nexts k = is_some (next_at nexts k.place)
-
 -- Whether a link has a backlog, counted.
 abbrev pub one_backlogged : Option ℕ → ℕ
 one_backlogged next = cond (is_some next) 1 0

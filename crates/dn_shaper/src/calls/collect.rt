@@ -8,6 +8,7 @@ ghost use Rattle.dn_types.specs.declared.reply.Reply.TheVariants.{Delivered};
 ghost use Rattle.dn_types.specs.declared.rule.Rule.{Rule as RuleValue};
 ghost use Rattle.dn_shaper.specs.Refinement.Calls.{Does};
 ghost use Rattle.dn_shaper.specs.Refinement.Sound.{IsSound};
+ghost use Rattle.dn_shaper.specs.Room.{KeepsRoom};
 
 use crate::links::settle::settle;
 use crate::state::State;
@@ -54,6 +55,7 @@ fn gather(state: &mut State, list: &mut Vec<Delivery>, moment: Moment) -> Result
     ensures succeeds { length state.old.parts.line.pending + state.old.parts.waiting ≤ vec_capacity list.old → IsOk result }
     ensures sound { IsSound state.new }
     ensures err { OnErr result (state.new ≡ state.old) }
+    ensures leaves { KeepsRoom state.old state.new }
 {
     let at = state.now.max(moment.get());
     list.clear();
@@ -80,6 +82,7 @@ pub fn collect(
     ensures does { IfOk result (λ reply. Does (Collect moment) state.old state.new reply) }
     ensures sound { IsSound state.new }
     ensures err { OnErr result (state.new ≡ state.old) }
+    ensures leaves { KeepsRoom state.old state.new }
 {
     let at = gather(state, given, moment)?;
     let list = own_list(given, alloc);
@@ -101,6 +104,7 @@ pub fn collect_lent(
     ensures succeeds { length state.old.parts.line.pending + state.old.parts.waiting ≤ vec_capacity lent → IsOk result }
     ensures sound { IsSound state.new }
     ensures err { OnErr result (state.new ≡ state.old) }
+    ensures leaves { KeepsRoom state.old state.new }
 {
     let mut list = lent;
     let at = gather(state, &mut list, moment)?;

@@ -6,22 +6,19 @@ ghost use Rattle.dn_shaper.specs.Refinement.Reordering.{DiscardsSome, NoneActive
 ghost use Rattle.dn_types.specs.Calls.{reaches};
 ghost use Rattle.dn_types.specs.Configuration.{subject};
 ghost use Rattle.dn_types.specs.declared.call.Call.TheVariants.{Configure};
-ghost use Rattle.dn_shaper.specs.Refinement.Agreement.{Agrees};
 ghost use Rattle.dn_shaper.specs.Refinement.Arriving.{KeepsFlows};
 ghost use Rattle.dn_shaper.specs.Refinement.Configuring.{DiscardsReached, IsAnswered};
-ghost use Rattle.dn_shaper.specs.Refinement.Discarding.{OnlyEmpties};
 ghost use Rattle.dn_shaper.specs.Refinement.Settings.{settings_of};
 ghost use Rattle.dn_shaper.specs.Refinement.Settling.{AreInStep};
 ghost use Rattle.dn_shaper.specs.Refinement.Calls.{Does, StillStands};
 ghost use Rattle.dn_shaper.specs.Refinement.Sound.{IsSound};
 ghost use Rattle.dn_shaper.specs.Refinement.Starting.{Within};
 
-use crate::links::discard::{discard_flow, forget_emptied};
-use crate::links::next_start::NextStart;
+use crate::links::discard::discard_flow;
+use crate::links::link_heap::LinkHeap;
 use crate::links::parts::Parts;
 use crate::state::State;
 use dn_flows::Flows;
-use dn_heap::RunHeap;
 use dn_types::{Command, Reply, Target};
 use std::alloc::AllocError;
 
@@ -57,47 +54,29 @@ fn next_reached(parts: &mut Parts, command: &Command) -> Option<usize>
 }
 
 /// Discards the packets of an active flow that the delete reaches, and answers whether there was one.
-fn discard_next(parts: &mut Parts, command: &Command) -> bool
-    requires agrees { Agrees parts.old }
-    requires few { Within (2 ^ 62) parts.old }
+fn discard_next(parts: &mut Parts, heap: &mut LinkHeap, command: &Command) -> bool
+    requires kept { AreInStep parts.old heap.old }
     ensures discards { DiscardsSome command.now parts.old.flows.keys parts.old parts.new }
     ensures fewer { result ≡ true → active_flows parts.new + 1 ≡ active_flows parts.old }
     ensures none { result ≡ false → NoneActive command.now parts.new }
-    ensures only { result ≡ false → OnlyMakesRoom parts.old parts.new }
-    ensures agrees { Agrees parts.new }
+    ensures kept { AreInStep parts.new heap.new }
     ensures within { (n : ℕ) → Within n parts.old → Within n parts.new }
-    ensures waiting { parts.new.waiting ≤ parts.old.waiting }
+    ensures moves { heap.new.moves + parts.new.waiting ≤ heap.old.moves + parts.old.waiting }
     ensures keeps { KeepsFlows parts.old parts.new }
-    ensures empties { OnlyEmpties parts.old parts.new }
 {
     match next_reached(parts, command) {
         Some(flow) => {
-            discard_flow(parts, flow);
+            discard_flow(parts, heap, flow);
             true
         }
         None => false,
     }
 }
 
-/// Discards the packets of all active flows that the delete reaches. The others have nothing to discard, and cost nothing.
-fn discard_flows(parts: &mut Parts, command: &Command)
-    requires agrees { Agrees parts.old }
-    requires few { Within (2 ^ 62) parts.old }
-    ensures discards { DiscardsSome command.now parts.old.flows.keys parts.old parts.new }
-    ensures none { NoneActive command.now parts.new }
-    ensures within { (n : ℕ) → Within n parts.old → Within n parts.new }
-    ensures waiting { parts.new.waiting ≤ parts.old.waiting }
-    ensures keeps { KeepsFlows parts.old parts.new }
-    ensures empties { OnlyEmpties parts.old parts.new }
-{
-    while discard_next(parts, command) {}
-}
-
 /// Discards the packets of all flows that the delete reaches.
 ///
-/// The links that this empties leave the heap together, so that a delete costs one pass over it and not one for each of
-/// them. A delete that reaches no active flow costs none.
-fn discard_reached(parts: &mut Parts, heap: &mut RunHeap<NextStart>, command: &Command)
+/// The flows that aren't active have nothing to discard, and cost nothing. Neither do the links that it doesn't reach.
+fn discard_reached(parts: &mut Parts, heap: &mut LinkHeap, command: &Command)
     requires kept { AreInStep parts.old heap.old }
     ensures discards { DiscardsReached command.now parts.old parts.new }
     ensures kept { AreInStep parts.new heap.new }
@@ -105,11 +84,7 @@ fn discard_reached(parts: &mut Parts, heap: &mut RunHeap<NextStart>, command: &C
     ensures moves { heap.new.moves + parts.new.waiting ≤ heap.old.moves + parts.old.waiting }
     ensures keeps { KeepsFlows parts.old parts.new }
 {
-    if !discard_next(parts, command) {
-        return;
-    }
-    discard_flows(parts, command);
-    forget_emptied(heap, parts);
+    while discard_next(parts, heap, command) {}
 }
 
 /// Returns the reply to a command, and changes what an accepted one changes.

@@ -2,6 +2,7 @@ ghost use Rattle.std.specs.Prelude.{◌≡◌, ◌<◌, ◌^◌, IfOk, OnErr};
 ghost use Rattle.dn_types.specs.declared.call.Call.TheVariants.{Show};
 ghost use Rattle.dn_shaper.specs.Refinement.Calls.{told_from, Does};
 ghost use Rattle.dn_shaper.specs.Refinement.Sound.{IsSound};
+ghost use Rattle.dn_shaper.specs.Room.{KeepsRoom};
 
 use crate::state::State;
 use dn_flows::Flows;
@@ -30,6 +31,7 @@ pub fn show(state: &mut State, alloc: Global) -> Result<Reply, AllocError>
     ensures does { IfOk result (λ reply. Does Show state.old state.new reply) }
     ensures sound { IsSound state.new }
     ensures err { OnErr result (state.new ≡ state.old) }
+    ensures leaves { KeepsRoom state.old state.new }
 {
     let list = statuses(&state.parts.flows, alloc)?;
     state.calls += 1;

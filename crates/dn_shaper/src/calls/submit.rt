@@ -1,4 +1,4 @@
-ghost use Rattle.std.specs.Prelude.{◌≡◌, ℕ, ◌<◌, ◌≤◌, ◌^◌, max, true, List, [], is_some, IfOk, OnErr};
+ghost use Rattle.std.specs.Prelude.{◌≡◌, ℕ, ◌<◌, ◌≤◌, ◌^◌, max, true, List, [], is_some, IfOk, IsOk, OnErr};
 ghost use Rattle.dn_types.specs.Flows.{treatment};
 ghost use Rattle.dn_types.specs.Trace.{Event};
 ghost use Rattle.dn_types.specs.declared.call.Call.{Call as CallValue};
@@ -8,6 +8,7 @@ ghost use Rattle.dn_shaper.specs.Refinement.Agreement.{AgreesWith};
 ghost use Rattle.dn_shaper.specs.Refinement.Calls.{counted_at, Does, StillStands};
 ghost use Rattle.dn_shaper.specs.Refinement.Settings.{settings_of};
 ghost use Rattle.dn_shaper.specs.Refinement.Sound.{IsSound};
+ghost use Rattle.dn_shaper.specs.Room.{HasRoomBy};
 ghost use Rattle.dn_shaper.specs.Standing.{StandsAt};
 
 use crate::links::judge::judge;
@@ -38,6 +39,7 @@ fn send_packet(
     ensures err { OnErr result (StillStands state.old state.new) }
     ensures still_sound { OnErr result (IsSound state.new) }
     ensures only_treated { OnErr result (is_some (treatment (settings_of state.old.configured target.now)) ≡ true) }
+    ensures succeeds { HasRoomBy (treatment (settings_of state.old.configured target.now)) target.now packet.now.tuple state.old.parts → IsOk result }
 {
     match state.configured.treatment(*target) {
         None => {
@@ -77,6 +79,7 @@ pub fn submit(
     ensures sound { IsSound state.new }
     ensures err { OnErr result (StillStands state.old state.new) }
     ensures only_treated { OnErr result (is_some (treatment (settings_of state.old.configured target)) ≡ true) }
+    ensures succeeds { HasRoomBy (treatment (settings_of state.old.configured target)) target packet.now.tuple state.old.parts → IsOk result }
 {
     let at = state.now.max(moment.get());
     let reply = send_packet(state, alloc, &target, packet, at)?;

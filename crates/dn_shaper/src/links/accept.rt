@@ -7,12 +7,12 @@ ghost use Rattle.dn_shaper.specs.Refinement.Starting.{Within};
 ghost use Rattle.dn_shaper.specs.Refinement.Submitting.{GoesTo, MayAccept};
 
 use crate::links::arrive::{arrive, is_idle, join_queue};
+use crate::links::link_heap::LinkHeap;
 use crate::links::next_start::NextStart;
 use crate::links::parts::Parts;
 use crate::links::pass::pass;
 use crate::settings::configured::Configured;
 use crate::settings::treatment::Treatment;
-use dn_heap::RunHeap;
 use dn_types::{Len, Target};
 
 /// Accepts a packet of the flow after a settling, in the room that was reserved, and returns its number.
@@ -20,7 +20,7 @@ use dn_types::{Len, Target};
 /// It starts at once if its link is idle.
 pub fn accept(
     parts: &mut Parts,
-    heap: &mut RunHeap<NextStart>,
+    heap: &mut LinkHeap,
     configured: &Configured,
     flow: usize,
     len: Len,

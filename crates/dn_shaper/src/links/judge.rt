@@ -9,13 +9,12 @@ ghost use Rattle.dn_heap.specs.Heap.{Heap as HeapValue};
 ghost use Rattle.dn_shaper.specs.declared.links.next_start.NextStart.{NextStart as NextStartValue};
 
 use crate::links::accept::accept;
-use crate::links::next_start::NextStart;
+use crate::links::link_heap::LinkHeap;
 use crate::links::parts::Parts;
 use crate::links::settle::settle;
 use crate::settings::configured::Configured;
 use crate::settings::treatment::Treatment;
 use dn_flows::Verdict;
-use dn_heap::RunHeap;
 use dn_types::{Packet, Reply};
 
 /// A packet of the flow is lost by the loss rate.
@@ -49,7 +48,7 @@ fn note_full(parts: &mut Parts, flow: usize)
 /// Settles, and then a packet of the flow is lost, or finds its queue full, or is accepted in reserved room.
 pub fn judge(
     parts: &mut Parts,
-    heap: &mut RunHeap<NextStart>,
+    heap: &mut LinkHeap,
     configured: &Configured,
     flow: usize,
     packet: &Packet,

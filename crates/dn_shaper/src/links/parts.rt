@@ -1,7 +1,3 @@
-ghost use Rattle.std.specs.Prelude.{◌≡◌, is_some};
-ghost use Rattle.dn_shaper.specs.Refinement.NextStarts.{next_at};
-ghost use Rattle.dn_shaper.specs.Refinement.Views.{next_starts, views_of};
-
 use crate::links::home::Home;
 use crate::links::link_parts::LinkParts;
 use dn_flows::Flows;
@@ -21,16 +17,4 @@ pub struct Parts {
     /// The count of the packets that wait for all links.
     pub waiting: usize,
     pub line: DelayLine,
-}
-
-impl Parts {
-    /// Whether a packet waits for the link at the place.
-    pub fn has_backlog(&self, place: usize) -> bool
-        ensures { result ≡ is_some (next_at (next_starts (views_of self.now)) place) }
-    {
-        match self.links.get(place) {
-            Some(link) => link.has_backlog(&self.flows),
-            None => false,
-        }
-    }
 }

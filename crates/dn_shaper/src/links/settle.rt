@@ -2,19 +2,14 @@ ghost use Rattle.std.specs.Prelude.{◌≡◌, ℕ, ◌+◌, ◌^◌, ◌<◌, �
 ghost use Rattle.dn_shaper.specs.Refinement.Settings.{settings_of};
 ghost use Rattle.dn_shaper.specs.Refinement.Settling.{AreInStep, OnlyStarts, StartsFirst, HasNoStart, SettlesAll};
 
+use crate::links::link_heap::LinkHeap;
 use crate::links::next_start::NextStart;
 use crate::links::parts::Parts;
 use crate::links::start::start_next;
 use crate::settings::configured::Configured;
-use dn_heap::RunHeap;
 
 /// Starts the packet that is next in time, where it starts by the moment.
-fn settle_one(
-    parts: &mut Parts,
-    heap: &mut RunHeap<NextStart>,
-    configured: &Configured,
-    at: u64,
-) -> bool
+fn settle_one(parts: &mut Parts, heap: &mut LinkHeap, configured: &Configured, at: u64) -> bool
     requires kept { AreInStep parts.old heap.old }
     requires early { at ≤ 2 ^ 62 }
     requires moves { heap.old.moves + parts.old.waiting ≤ 2 ^ 63 }
@@ -44,7 +39,7 @@ fn settle_one(
 
 /// Whether the first of the links with a backlog is free by the moment.
 #[inline(always)]
-fn is_due(heap: &RunHeap<NextStart>, at: u64) -> bool
+fn is_due(heap: &LinkHeap, at: u64) -> bool
     ensures late { result ≡ false → All (λ k. at < k.moment) heap.now.keys }
 {
     match heap.peek() {
@@ -54,7 +49,7 @@ fn is_due(heap: &RunHeap<NextStart>, at: u64) -> bool
 }
 
 /// Starts all packets that start up to the moment, in order of time, where one does.
-fn settle_due(parts: &mut Parts, heap: &mut RunHeap<NextStart>, configured: &Configured, at: u64)
+fn settle_due(parts: &mut Parts, heap: &mut LinkHeap, configured: &Configured, at: u64)
     requires kept { AreInStep parts.old heap.old }
     requires early { at ≤ 2 ^ 62 }
     requires moves { heap.old.moves + parts.old.waiting ≤ 2 ^ 63 }
@@ -70,7 +65,7 @@ fn settle_due(parts: &mut Parts, heap: &mut RunHeap<NextStart>, configured: &Con
 /// It costs the starts that are due, and not the links that there are. It is inlined, so that if none is due no call is
 /// made.
 #[inline(always)]
-pub fn settle(parts: &mut Parts, heap: &mut RunHeap<NextStart>, configured: &Configured, at: u64)
+pub fn settle(parts: &mut Parts, heap: &mut LinkHeap, configured: &Configured, at: u64)
     requires kept { AreInStep parts.old heap.old }
     requires early { at ≤ 2 ^ 62 }
     requires moves { heap.old.moves + parts.old.waiting ≤ 2 ^ 63 }

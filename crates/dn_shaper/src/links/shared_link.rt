@@ -1,4 +1,4 @@
-ghost use Rattle.std.specs.Prelude.{◌≡◌, ◌<◌, [], ◌∷◌, ◌++◌, length, IfOk, OnErr, OnOk};
+ghost use Rattle.std.specs.Prelude.{◌≡◌, ◌<◌, [], ◌∷◌, ◌++◌, length, IfOk, IsOk, OnErr, OnOk};
 ghost use Rattle.dn_wf2q.specs.Schedule.{room_at};
 ghost use Rattle.dn_shaper.specs.Refinement.Making.{OnlyRoom};
 ghost use Rattle.dn_shaper.specs.Refinement.Views.{no_schedule};
@@ -43,6 +43,7 @@ impl SharedLink {
     /// Makes room for one more packet at the slot.
     pub fn reserve_slot(&mut self, slot: usize) -> Result<(), AllocError>
         ensures room { OnOk result (0 < room_at self.new.sched.room slot) }
+        ensures succeeds { 0 < room_at self.old.sched.room slot → IsOk result }
         ensures only { OnlyRoom self.old.sched self.new.sched }
         ensures flows { self.new.flows ≡ self.old.flows }
     {

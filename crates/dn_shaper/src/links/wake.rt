@@ -2,8 +2,7 @@ ghost use Rattle.std.specs.Prelude.{◌≡◌, ℕ, List, Option};
 ghost use Rattle.dn_shaper.specs.Refinement.NextStarts.{Holds};
 ghost use Rattle.dn_shaper.specs.Waking.{earlier as earlier_of, earliest};
 
-use crate::links::next_start::NextStart;
-use dn_heap::RunHeap;
+use crate::links::link_heap::LinkHeap;
 
 /// The earlier of two moments, where there are both.
 pub fn earlier(one: Option<u64>, other: Option<u64>) -> Option<u64>
@@ -17,7 +16,7 @@ pub fn earlier(one: Option<u64>, other: Option<u64>) -> Option<u64>
 }
 
 /// The moment from which a link with a backlog is free, of the one that is free first.
-pub fn first_free(heap: &RunHeap<NextStart>) -> Option<u64>
+pub fn first_free(heap: &LinkHeap) -> Option<u64>
     ensures { (nexts : List (Option ℕ)) → Holds nexts heap.now.keys → result ≡ earliest nexts }
 {
     match heap.peek() {

@@ -9,12 +9,11 @@ ghost use Rattle.dn_shaper.specs.Refinement.Making.{KeepsLink};
 ghost use Rattle.dn_shaper.specs.Refinement.Views.{queue_lengths, view_of, views_of};
 
 use crate::links::home::Home;
+use crate::links::link_heap::LinkHeap;
 use crate::links::link_parts::{Carries, LinkParts};
-use crate::links::next_start::NextStart;
 use crate::links::shared_link::SharedLink;
 use crate::room::shared_places::SharedPlaces;
 use crate::state::State;
-use dn_heap::RunHeap;
 use dn_link::Link;
 use dn_types::{FlowKey, Target};
 use std::alloc::{AllocError, Global};
@@ -67,7 +66,7 @@ fn new_link(alloc: Global, key: &FlowKey, flow: usize) -> Result<LinkParts, Allo
 /// A new flow gets its home on a link that is made for it at the end.
 fn make_link(
     links: &mut Vec<LinkParts>,
-    heap: &mut RunHeap<NextStart>,
+    heap: &mut LinkHeap,
     shared: &mut SharedPlaces,
     alloc: Global,
     key: &FlowKey,
@@ -93,7 +92,7 @@ fn make_link(
 /// The home is on the link that it shares, if there is one, and else on one that is made.
 fn find_home(
     links: &mut Vec<LinkParts>,
-    heap: &mut RunHeap<NextStart>,
+    heap: &mut LinkHeap,
     shared: &mut SharedPlaces,
     alloc: Global,
     key: &FlowKey,

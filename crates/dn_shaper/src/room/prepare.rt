@@ -1,4 +1,4 @@
-ghost use Rattle.std.specs.Prelude.{◌≡◌, ◌<◌, ◌^◌, List, [], length, IfOk, OnOk, OnErr};
+ghost use Rattle.std.specs.Prelude.{◌≡◌, ◌<◌, ◌^◌, List, [], length, IfOk, IsOk, OnOk, OnErr};
 ghost use Rattle.dn_types.specs.Flows.{flow_number, with_key};
 ghost use Rattle.dn_types.specs.Trace.{Event};
 ghost use Rattle.dn_shaper.specs.Refinement.Agreement.{AgreesWith};
@@ -6,6 +6,7 @@ ghost use Rattle.dn_shaper.specs.Refinement.Making.{KeepsCalls, Prepares, OnlyMa
 ghost use Rattle.dn_shaper.specs.Refinement.Sound.{IsSound};
 ghost use Rattle.dn_shaper.specs.Refinement.Starting.{IsReady};
 ghost use Rattle.dn_shaper.specs.Refinement.Submitting.{GoesTo};
+ghost use Rattle.dn_shaper.specs.Room.{HasRoomOf};
 
 use crate::room::make::house_last;
 use crate::room::reserve::reserve_known;
@@ -27,6 +28,7 @@ pub fn prepare(state: &mut State, alloc: Global, key: FlowKey) -> Result<usize, 
     ensures ready { IfOk result (λ flow. IsReady flow state.new.parts) }
     ensures prepares { IfOk result (λ flow. Prepares flow state.old.parts state.new.parts) }
     ensures err { OnErr result (OnlyMakesRoom state.old.parts state.new.parts) }
+    ensures succeeds { HasRoomOf key state.old.parts → IsOk result }
     ensures sound { IsSound state.new }
     ensures keeps { KeepsCalls state.old state.new }
 {

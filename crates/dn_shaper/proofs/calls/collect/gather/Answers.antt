@@ -1,8 +1,9 @@
 -- What is due after the settling is given.
-use Rattle.std.proofs.Common.{◌∙◌, ◌++◌, List, ap, max, arith}
+use Rattle.std.proofs.Common.{◌∙◌, ◌++◌, ◌+◌, List, ap, max, refl, arith}
 use Rattle.std.specs.Prelude.{nat_le}
 use Rattle.std.specs.List.{filter}
 use Rattle.dn_types.specs.declared.delivery.Delivery.{Delivery}
+use Rattle.dn_shaper.proofs.Rooms.{keeps-room, wider}
 use Rattle.dn_shaper.proofs.Standing.{collects, collects-sound}
 use Rattle.dn_shaper.proofs.calls.collect.gather.Goals as goal
 
@@ -23,3 +24,10 @@ returns-clause-sound c = collects-sound c.args.state.now c.settle.new.parts c.se
     ∙ ap
     (λ n. max c.args.state.now.now n) c.get.ensures.value) c.settle.ensures.settled c.settle.ensures.only c.give.new.line c.give.ensures.rest c.give.ensures.keeps_room c.give.ensures.pushed c.requires.sound c.settle.ensures.kept
     (let v = c.get.ensures.value in let r = c.get.ensures.in_range in omega arith)
+
+pub returns-clause-leaves : goal.returns-clause-leaves
+returns-clause-leaves c =
+    let p = c.settle.new.parts in
+    keeps-room c.args.state.now
+    (record { parts = record { rule = p.rule; accepted = p.accepted; flows = p.flows; homes = p.homes; links = p.links; waiting = p.waiting; line = c.give.new.line }; heap = c.settle.new.heap; shared = c.args.state.now.shared; configured = c.args.state.now.configured; now = c.max-at.result; calls = c.args.state.now.calls + 1 })
+    refl c.settle.ensures.only.keys (λ flow ready. wider p c.give.new.line flow c.give.ensures.keeps_room (c.settle.ensures.only.ready flow ready))

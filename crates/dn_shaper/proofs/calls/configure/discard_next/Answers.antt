@@ -1,20 +1,19 @@
 -- One active flow is discarded, or there is none.
 use Rattle.std.proofs.Common.{◌≡◌, ◌∙◌, ap, sym, subst, arith, List, length}
+use Rattle.dn_heap.specs.Heap.{Heap}
 use Rattle.dn_types.specs.declared.flow_key.FlowKey.{FlowKey}
 use Rattle.dn_shaper.specs.Refinement.Reordering.{DiscardsSome}
-use Rattle.dn_shaper.proofs.Reached.{agrees-discarded, agrees-room, empties-more, keeps-more, one-done, room-done, room-empties, room-keeps, then-done}
-use Rattle.dn_shaper.proofs.Reserved.{reserves-within}
+use Rattle.dn_shaper.specs.Refinement.Settling.{AreInStep}
+use Rattle.dn_shaper.proofs.Reached.{keeps-more, one-done, room-done, room-keeps, then-done}
+use Rattle.dn_shaper.proofs.Reserved.{reserves-kept, reserves-within}
 use Rattle.dn_shaper.proofs.calls.configure.discard_next.Goals as goal
 
-pub discard_flow-requires-clause-agrees : goal.discard_flow-requires-clause-agrees
-discard_flow-requires-clause-agrees c = agrees-room c.args.parts.now c.next_reached.new.parts c.requires.agrees c.next_reached.ensures.only
-
-pub discard_flow-requires-clause-few : goal.discard_flow-requires-clause-few
-discard_flow-requires-clause-few c = reserves-within c.args.parts.now c.next_reached.new.parts c.next_reached.ensures.only _ c.requires.few
+pub discard_flow-requires-clause-kept : goal.discard_flow-requires-clause-kept
+discard_flow-requires-clause-kept c = reserves-kept c.args.parts.now c.next_reached.new.parts c.next_reached.ensures.only c.args.heap.now c.requires.kept
 
 pub discard_flow-requires-clause-within : goal.discard_flow-requires-clause-within
 discard_flow-requires-clause-within c =
-    let many = (agrees-room c.args.parts.now c.next_reached.new.parts c.requires.agrees c.next_reached.ensures.only).2.as_many in
+    let many = (reserves-kept c.args.parts.now c.next_reached.new.parts c.next_reached.ensures.only c.args.heap.now c.requires.kept).agrees.2.as_many in
     let lt = c.in-Some.ensures.within in
     omega arith
 
@@ -31,40 +30,32 @@ returns-in-Some-clause-discards c =
 pub returns-in-Some-clause-fewer : goal.returns-in-Some-clause-fewer
 returns-in-Some-clause-fewer c = λ t. c.discard_flow.ensures.fewer c.in-Some.ensures.active ∙ c.next_reached.ensures.count
 
-pub returns-in-Some-clause-agrees : goal.returns-in-Some-clause-agrees
-returns-in-Some-clause-agrees c =
-    agrees-discarded c.in-Some.flow c.next_reached.new.parts c.discard_flow.new.parts
-    (agrees-room c.args.parts.now c.next_reached.new.parts c.requires.agrees c.next_reached.ensures.only) c.discard_flow.ensures.discards
-
 pub returns-in-Some-clause-within : goal.returns-in-Some-clause-within
 returns-in-Some-clause-within c = λ n w. c.discard_flow.ensures.within n (reserves-within c.args.parts.now c.next_reached.new.parts c.next_reached.ensures.only n w)
 
-pub returns-in-Some-clause-waiting : goal.returns-in-Some-clause-waiting
-returns-in-Some-clause-waiting c = let a = c.next_reached.ensures.only.waiting in let b = c.discard_flow.ensures.waiting in omega arith
+pub returns-in-Some-clause-moves : goal.returns-in-Some-clause-moves
+returns-in-Some-clause-moves c =
+    let a = c.next_reached.ensures.only.waiting in
+    let b = c.discard_flow.ensures.waiting in
+    let m = c.discard_flow.ensures.moves in
+    omega arith
 
 pub returns-in-Some-clause-keeps : goal.returns-in-Some-clause-keeps
 returns-in-Some-clause-keeps c =
     keeps-more c.args.parts.now c.next_reached.new.parts c.discard_flow.new.parts (room-keeps c.args.parts.now c.next_reached.new.parts c.next_reached.ensures.only c.next_reached.ensures.homes)
     c.discard_flow.ensures.keeps
 
-pub returns-in-Some-clause-empties : goal.returns-in-Some-clause-empties
-returns-in-Some-clause-empties c =
-    empties-more c.args.parts.now c.next_reached.new.parts c.discard_flow.new.parts (room-empties c.args.parts.now c.next_reached.new.parts c.next_reached.ensures.only) c.discard_flow.ensures.empties
-
 pub returns-in-None-clause-discards : goal.returns-in-None-clause-discards
 returns-in-None-clause-discards c = room-done c.args.command.now c.args.parts.now.flows.keys c.args.parts.now c.next_reached.new.parts c.next_reached.ensures.only
 
-pub returns-in-None-clause-agrees : goal.returns-in-None-clause-agrees
-returns-in-None-clause-agrees c = agrees-room c.args.parts.now c.next_reached.new.parts c.requires.agrees c.next_reached.ensures.only
+pub returns-in-None-clause-kept : goal.returns-in-None-clause-kept
+returns-in-None-clause-kept c = reserves-kept c.args.parts.now c.next_reached.new.parts c.next_reached.ensures.only c.args.heap.now c.requires.kept
 
 pub returns-in-None-clause-within : goal.returns-in-None-clause-within
 returns-in-None-clause-within c = reserves-within c.args.parts.now c.next_reached.new.parts c.next_reached.ensures.only
 
-pub returns-in-None-clause-waiting : goal.returns-in-None-clause-waiting
-returns-in-None-clause-waiting c = let a = c.next_reached.ensures.only.waiting in omega arith
+pub returns-in-None-clause-moves : goal.returns-in-None-clause-moves
+returns-in-None-clause-moves c = let a = c.next_reached.ensures.only.waiting in omega arith
 
 pub returns-in-None-clause-keeps : goal.returns-in-None-clause-keeps
 returns-in-None-clause-keeps c = room-keeps c.args.parts.now c.next_reached.new.parts c.next_reached.ensures.only c.next_reached.ensures.homes
-
-pub returns-in-None-clause-empties : goal.returns-in-None-clause-empties
-returns-in-None-clause-empties c = room-empties c.args.parts.now c.next_reached.new.parts c.next_reached.ensures.only

@@ -1,41 +1,51 @@
--- The links that the delete emptied leave the heap together.
-use Rattle.std.proofs.Common.{◌∙◌, List, subst}
+-- Active flows are discarded one after another, until none is left.
+use Rattle.std.proofs.Common.{◌∙◌, List, arith, subst}
 use Rattle.dn_types.specs.declared.flow_key.FlowKey.{FlowKey}
 use Rattle.dn_shaper.specs.Refinement.Reordering.{DiscardsSome}
-use Rattle.dn_shaper.proofs.Reached.{all-done, emptied-kept, empties-more, keeps-more, then-done}
-use Rattle.dn_shaper.proofs.Reserved.{reserves-kept}
+use Rattle.dn_shaper.proofs.Reached.{all-done, keeps-more, keeps-none, none-done, then-done}
 use Rattle.dn_shaper.proofs.calls.configure.discard_reached.Goals as goal
 
--- No flow is active that is reached.
-pub returns-then-not-discard_next-clause-discards : goal.returns-then-not-discard_next-clause-discards
-returns-then-not-discard_next-clause-discards c =
-    all-done c.args.command.now c.args.parts.now c.discard_next.new.parts c.discard_next.ensures.keeps.keys c.discard_next.ensures.discards (c.discard_next.ensures.none c.if-not-discard_next.true)
+pub loop-init : goal.loop-init
+loop-init c = record {
+  kept = c.requires.kept;
+  within = λ n h. h;
+  moves = omega arith;
+  keeps = keeps-none c.args.parts.now;
+  discards = none-done c.args.command.now c.args.parts.now.flows.keys c.args.parts.now;
+}
 
-pub returns-then-not-discard_next-clause-kept : goal.returns-then-not-discard_next-clause-kept
-returns-then-not-discard_next-clause-kept c = reserves-kept c.args.parts.now c.discard_next.new.parts (c.discard_next.ensures.only c.if-not-discard_next.true) c.args.heap.now c.requires.kept
+pub loop-preserved : goal.loop-preserved
+loop-preserved c =
+    let old = c.args.parts.now in
+    let before = c.loop.invariant in
+    let mid = c.loop.parts in
+    let new = c.discard_next.new.parts in
+    let done = c.discard_next.ensures in
+    record {
+      kept = done.kept;
+      within = λ n h. done.within n (before.within n h);
+      moves = let a = before.moves in let b = done.moves in omega arith;
+      keeps = keeps-more old mid new before.keeps done.keeps;
+      discards = then-done c.args.command.now old.flows.keys old mid new before.discards
+          (subst (λ (ks : List FlowKey). DiscardsSome c.args.command.now ks mid new) before.keeps.keys done.discards);
+    }
 
-pub discard_flows-requires-clause-few : goal.discard_flows-requires-clause-few
-discard_flows-requires-clause-few c = c.discard_next.ensures.within _ c.requires.kept.within
-
+-- None is left, and only room changed since the last.
 pub returns-clause-discards : goal.returns-clause-discards
 returns-clause-discards c =
     let old = c.args.parts.now in
-    let mid = c.discard_next.new.parts in
-    let new = c.discard_flows.new.parts in
-    let keys = c.discard_next.ensures.keeps.keys in
-    all-done c.args.command.now old new (c.discard_flows.ensures.keeps.keys ∙ keys)
-    (then-done c.args.command.now old.flows.keys old mid new c.discard_next.ensures.discards
-    (subst (λ (ks : List FlowKey). DiscardsSome c.args.command.now ks mid new) keys c.discard_flows.ensures.discards)) c.discard_flows.ensures.none
-
-pub returns-clause-keeps : goal.returns-clause-keeps
-returns-clause-keeps c = keeps-more c.args.parts.now c.discard_next.new.parts c.discard_flows.new.parts c.discard_next.ensures.keeps c.discard_flows.ensures.keeps
+    let mid = c.loop.parts in
+    let new = c.discard_next.new.parts in
+    let keys = c.loop.invariant.keeps.keys in
+    all-done c.args.command.now old new (c.discard_next.ensures.keeps.keys ∙ keys)
+    (then-done c.args.command.now old.flows.keys old mid new c.loop.invariant.discards
+    (subst (λ (ks : List FlowKey). DiscardsSome c.args.command.now ks mid new) keys c.discard_next.ensures.discards)) (c.discard_next.ensures.none c.loop-test.false)
 
 pub returns-clause-within : goal.returns-clause-within
-returns-clause-within c = λ n w. c.discard_flows.ensures.within n (c.discard_next.ensures.within n w)
+returns-clause-within c = λ n h. c.discard_next.ensures.within n (c.loop.invariant.within n h)
 
-pub returns-clause-kept : goal.returns-clause-kept
-returns-clause-kept c =
-    emptied-kept c.args.command.now c.args.parts.now c.discard_flows.new.parts c.args.heap.now c.forget_emptied.new.heap c.requires.kept
-    (returns-clause-discards c) (returns-clause-within c) (returns-clause-keeps c)
-    (empties-more c.args.parts.now c.discard_next.new.parts c.discard_flows.new.parts c.discard_next.ensures.empties c.discard_flows.ensures.empties)
-    c.forget_emptied.ensures.keys c.forget_emptied.ensures.room
+pub returns-clause-moves : goal.returns-clause-moves
+returns-clause-moves c = let a = c.loop.invariant.moves in let b = c.discard_next.ensures.moves in omega arith
+
+pub returns-clause-keeps : goal.returns-clause-keeps
+returns-clause-keeps c = keeps-more c.args.parts.now c.loop.parts c.discard_next.new.parts c.loop.invariant.keeps c.discard_next.ensures.keeps

@@ -29,7 +29,7 @@ one-more c past =
 pub reserve_known-requires-clause-agrees : goal.reserve_known-requires-clause-agrees
 reserve_known-requires-clause-agrees c =
     let below = is-known (goal.at.reserve_known-requires-clause-agrees c).In_ok-flow c.if-flow-known.true in
-    let same = known-table c.args.state.now.parts.flows c.find_or_make.new.self c.args.key below c.in_ok-flow.ensures.keys c.in_ok-flow.ensures.flows in
+    let same = known-table c.args.state.now.parts.flows c.find_or_make.new.self c.args.key below c.find_or_make.ensures.known in
     let seen = c.requires.seen in
     ([], seen.0, subst (λ (t : Table). AgreesWith (with_table c.args.state.now.parts t) [] seen.0) (sym same) seen.1)
 
@@ -37,7 +37,7 @@ reserve_known-requires-clause-agrees c =
 room : (c : After-reserve_known) → flow_number c.args.state.now.parts.flows.keys c.args.key < length c.args.state.now.parts.flows.keys
     → OnlyMakesRoom c.args.state.now.parts c.reserve_known.new.parts
 room c below =
-    known-reserves c.args.state.now.parts c.reserve_known.new.parts c.find_or_make.new.self c.args.key below c.in_ok-flow.ensures.keys c.in_ok-flow.ensures.flows c.reserve_known.ensures.only
+    known-reserves c.args.state.now.parts c.reserve_known.new.parts c.find_or_make.new.self c.args.key below c.find_or_make.ensures.known c.reserve_known.ensures.only
 
 pub returns-in_err-reserve_known-clause-err : goal.returns-in_err-reserve_known-clause-err
 returns-in_err-reserve_known-clause-err c =

@@ -12,7 +12,7 @@ use Rattle.dn_shaper.specs.Refinement.Making.{KeepsAt}
 use Rattle.dn_shaper.specs.Refinement.Views.{LinkView, queue_lengths, view_of, views_of}
 use Rattle.dn_shaper.proofs.Alone.{all-seen-same, goes-own}
 use Rattle.dn_shaper.proofs.HomeRead.{at-home, in-table, link-there, place-below}
-use Rattle.dn_shaper.proofs.Reserving.{flows-placed, lengths-placed, link-reserved, many-placed, on-ok, place-ready, same-at, slot-ready}
+use Rattle.dn_shaper.proofs.Reserving.{flows-placed, lengths-placed, link-reserved, many-placed, on-ok, place-ready, same-at, slot-has, slot-ready}
 use Rattle.dn_shaper.proofs.room.reserve.reserve_known.Goals.{After-index_mut, After-reserve_at, After-reserve_place}
 use Rattle.dn_shaper.proofs.room.reserve.reserve_known.Goals as goal
 
@@ -130,3 +130,13 @@ returns-in-Queue-clause-ready c =
           (link-read w.After-index_mut) has v pipe read is_shared);
       line = omega (arith, c.in_ok-reserve.ensures.room);
     }) (c.reserve_at.ensures.ok before)
+
+-- The slot has room where the flow is ready.
+pub returns-in-Queue-clause-succeeds : goal.returns-in-Queue-clause-succeeds
+returns-in-Queue-clause-succeeds c ready =
+    let w = goal.at.returns-in-Queue-clause-succeeds c in
+    let before = queue_lengths c.args.parts.now.flows.flows in
+    let its = c.index-home.result.now in
+    let v : LinkView = view_of before c.index_mut.result.now in
+    c.reserve_at.ensures.succeeds before (slot-has its.slot v v.link (λ pipe is.
+    ready.slot its v pipe (at-home c.args.parts.now c.requires.agrees c.requires.within c.index-home.ensures) (link-read w.After-index_mut) is))

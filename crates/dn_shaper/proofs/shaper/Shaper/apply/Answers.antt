@@ -3,6 +3,7 @@ use Rattle.dn_types.specs.declared.call.Call.TheVariants.{Configure, Submit, Adv
 use Rattle.dn_wf2q.proofs.Reserved.{on_err_always}
 use Rattle.dn_shaper.proofs.Counting.{exhausted, answers, answers-ok, never-full, refuses, holds-then, holds-ok, needs, same-stands}
 use Rattle.dn_shaper.proofs.Needing.{configure-needs, submit-needs}
+use Rattle.dn_shaper.proofs.Rooms.{leaves-of}
 use Rattle.dn_shaper.proofs.shaper.Shaper.apply.Goals as goal
 
 pub returns-then-self-eq-CALL_LIMIT-clause-ok : goal.returns-then-self-eq-CALL_LIMIT-clause-ok
@@ -83,3 +84,12 @@ returns-in-Collect-clause-needs c = needs
 
 pub returns-in-Show-clause-needs : goal.returns-in-Show-clause-needs
 returns-in-Show-clause-needs c = needs Show c.args.call.now c.self.inside.state c.args.self.now c.show.result c.in-Show.is c.self.view_is (on_err_always c.show.result _ (λ rule calls stands. tt))
+
+pub returns-in-Advance-clause-leaves : goal.returns-in-Advance-clause-leaves
+returns-in-Advance-clause-leaves c = leaves-of (Advance c.in-Advance.moment) c.args.call.now c.self.inside.state c.args.self.now c.advance.new.state c.in-Advance.is c.self.view_is c.advance.ensures.leaves
+
+pub returns-in-Collect-clause-leaves : goal.returns-in-Collect-clause-leaves
+returns-in-Collect-clause-leaves c = leaves-of (Collect c.in-Collect.moment) c.args.call.now c.self.inside.state c.args.self.now c.collect.new.state c.in-Collect.is c.self.view_is c.collect.ensures.leaves
+
+pub returns-in-Show-clause-leaves : goal.returns-in-Show-clause-leaves
+returns-in-Show-clause-leaves c = leaves-of Show c.args.call.now c.self.inside.state c.args.self.now c.show.new.state c.in-Show.is c.self.view_is c.show.ensures.leaves

@@ -4,6 +4,7 @@ use Rattle.dn_types.specs.Clock.{counted, effective_moment}
 use Rattle.dn_shaper.specs.declared.state.State.{State}
 use Rattle.dn_shaper.specs.Refinement.Views.{views_of, next_starts}
 use Rattle.dn_shaper.specs.Standing.{StandsAt}
+use Rattle.dn_shaper.proofs.Wakes.{wakes}
 use Rattle.dn_shaper.proofs.Waking.{wake-is, quiet}
 use Rattle.dn_shaper.proofs.shaper.Shaper.wake.Goals as goal
 
@@ -21,3 +22,6 @@ returns-clause-quiet c rule calls stands moment before =
     let is = returns-clause-value c rule calls stands in
     quiet c.self.inside.state rule calls c.self.invariant.0 (subst (λ (t : State). StandsAt rule t (counted calls)) (sym c.self.view_is) stands) moment
     (subst (λ (o : Option ℕ). IfSome o (λ next. max (effective_moment (counted calls)) moment < next)) is before)
+
+pub returns-clause-wakes : goal.returns-clause-wakes
+returns-clause-wakes c rule calls stands few next is same = wakes rule calls few next (sym (returns-clause-value c rule calls stands) ∙ is) same

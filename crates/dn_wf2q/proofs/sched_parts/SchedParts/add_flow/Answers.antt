@@ -1,5 +1,5 @@
 use Rattle.std.proofs.Common.{◌+◌, refl, arith}
-use Rattle.dn_wf2q.proofs.Reserved.{kept_extended, extended_seen, room_added}
+use Rattle.dn_wf2q.proofs.Reserved.{kept_extended, extended_seen, grown, room_added}
 use Rattle.dn_wf2q.proofs.sched_parts.SchedParts.add_flow.Goals as goal
 
 pub returns-clause-reserves : goal.returns-clause-reserves
@@ -7,8 +7,8 @@ returns-clause-reserves c = record {
   virtual_time = refl;
   arrivals = refl;
   picks = refl;
-  eligible = c.in_ok-reserve_places.ensures.keeps_moves;
-  waiting = c.in_ok-reserve_places-2.ensures.keeps_moves;
+  eligible = c.in_ok-reserve_numbers.ensures.keeps_moves;
+  waiting = c.in_ok-reserve_numbers-2.ensures.keeps_moves;
   room = room_added c.args.self.now.flows.items c.add_queues.new.flows.items (rw c.in_ok-reserve.ensures.items at c.add_queues.ensures.extended);
 }
 
@@ -20,10 +20,10 @@ returns-clause-ok c =
 pub returns-clause-kept : goal.returns-clause-kept
 returns-clause-kept c =
     let f = c.args.self.now.flows.ok.0 in
-    let a = c.in_ok-reserve_places.ensures in
-    let b = c.in_ok-reserve_places-2.ensures in
-    let ao = a.ok in
-    let bo = b.ok in
+    let a = c.in_ok-reserve_numbers.ensures in
+    let b = c.in_ok-reserve_numbers-2.ensures in
+    let ao = grown _ _ _ _ _ a.keeps_keys a.ok in
+    let bo = grown _ _ _ _ _ b.keeps_keys b.ok in
     kept_extended c.args.self.now _ c.requires.kept (c.args.slot + 1) (rw c.in_ok-reserve.ensures.items at c.add_queues.ensures.extended)
-    c.add_queues.ensures.len (omega arith) (omega arith) a.keeps_keys b.keeps_keys a.keeps_moves b.keeps_moves a.room b.room (omega arith) (omega arith)
+    c.add_queues.ensures.len (omega arith) (omega arith) a.keeps_keys b.keeps_keys a.keeps_moves b.keeps_moves ao.0 bo.0 ao.1 bo.1
     refl refl refl refl refl

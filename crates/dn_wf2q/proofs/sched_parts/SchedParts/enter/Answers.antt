@@ -5,7 +5,7 @@ use Rattle.dn_wf2q.specs.Kept.{seen, tagged}
 use Rattle.dn_wf2q.proofs.BySlot.{length-by_slot}
 use Rattle.dn_wf2q.proofs.Payable.{head_fits}
 use Rattle.dn_wf2q.proofs.Steps.{weights-le}
-use Rattle.dn_wf2q.proofs.Entered.{enter_room, entered_waiting, entered_eligible}
+use Rattle.dn_wf2q.proofs.Entered.{enter_room, entered_waiting, entered_eligible, free_in_eligible, free_in_waiting, numbered}
 use Rattle.dn_wf2q.proofs.Calm.{entered_late}
 use Rattle.dn_wf2q.proofs.sched_parts.SchedParts.enter.Goals as goal
 
@@ -37,6 +37,18 @@ push_reserved-requires-clause-reserved c = (enter_room c.args.slot (tagged c.arg
 
 pub push_reserved-requires-else-head-self-clause-reserved : goal.push_reserved-requires-else-head-self-clause-reserved
 push_reserved-requires-else-head-self-clause-reserved c = (enter_room c.args.slot (tagged c.args.slot c.args.head) c.requires.kept.0.kept c.requires.kept.1 c.requires.kept.0.few).1
+
+pub push_reserved-requires-clause-numbered : goal.push_reserved-requires-clause-numbered
+push_reserved-requires-clause-numbered c = rw c.new.ensures.value (numbered c.args.slot (tagged c.args.slot c.args.head) c.requires.kept.0.kept c.requires.kept.1).0
+
+pub push_reserved-requires-clause-free : goal.push_reserved-requires-clause-free
+push_reserved-requires-clause-free c = rw c.new.ensures.value (free_in_eligible c.args.slot (tagged c.args.slot c.args.head) c.requires.kept.0.kept c.requires.kept.1)
+
+pub push_reserved-requires-else-head-self-clause-numbered : goal.push_reserved-requires-else-head-self-clause-numbered
+push_reserved-requires-else-head-self-clause-numbered c = rw c.new-else-head-self.ensures.value (numbered c.args.slot (tagged c.args.slot c.args.head) c.requires.kept.0.kept c.requires.kept.1).1
+
+pub push_reserved-requires-else-head-self-clause-free : goal.push_reserved-requires-else-head-self-clause-free
+push_reserved-requires-else-head-self-clause-free c = rw c.new-else-head-self.ensures.value (free_in_waiting c.args.slot (tagged c.args.slot c.args.head) c.requires.kept.0.kept c.requires.kept.1)
 
 -- The head is eligible.
 pub returns-then-head-self-clause-kept : goal.returns-then-head-self-clause-kept

@@ -1,5 +1,5 @@
 use Rattle.std.proofs.Common.{refl, arith}
-use Rattle.dn_wf2q.proofs.Passed.{few_moves, listed_queue, no_key, passed, passed_kept, through}
+use Rattle.dn_wf2q.proofs.Passed.{few_moves, listed_queue, no_key, none_free, numbered, passed, passed_kept, through}
 use Rattle.dn_wf2q.proofs.Calm.{none_waits}
 use Rattle.dn_wf2q.proofs.sched_parts.SchedParts.pass.Goals as goal
 
@@ -8,8 +8,14 @@ index_mut-q-requires c =
     let l = listed_queue c.args.self.now c.requires.kept c.requires.idle c.args.slot c.args.len c.args.weight (omega arith) c.requires.room in
     omega (arith, c.args.self.now.flows.ok.0)
 
-pub push_pop-requires : goal.push_pop-requires
-push_pop-requires c = record { few = few_moves c.args.self.now c.requires.kept c.requires.idle c.args.slot c.args.len c.args.weight (omega arith) c.requires.room c.requires.few }
+pub push_pop-requires-clause-few : goal.push_pop-requires-clause-few
+push_pop-requires-clause-few c = few_moves c.args.self.now c.requires.kept c.requires.idle c.args.slot c.args.len c.args.weight (omega arith) c.requires.room c.requires.few
+
+pub push_pop-requires-clause-numbered : goal.push_pop-requires-clause-numbered
+push_pop-requires-clause-numbered c = rw c.new.ensures.value (numbered c.args.self.now c.requires.kept c.requires.idle c.args.slot c.args.len c.args.weight (omega arith) c.requires.room)
+
+pub push_pop-requires-clause-free : goal.push_pop-requires-clause-free
+push_pop-requires-clause-free c = rw c.new.ensures.value (none_free c.args.self.now c.requires.kept c.requires.idle c.args.slot c.args.len c.args.weight (omega arith) c.requires.room c.args.slot)
 
 pub returns-clause-passes : goal.returns-clause-passes
 returns-clause-passes c =

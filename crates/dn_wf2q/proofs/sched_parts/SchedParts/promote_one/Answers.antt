@@ -4,7 +4,7 @@ use Rattle.std.proofs.lemmas.List.Elements.{All-contains}
 use Rattle.std.specs.Ordering.{is_lt}
 use Rattle.dn_wf2q.specs.Rank.{RankView, rank_cmp}
 use Rattle.dn_wf2q.proofs.Ranks.{not_before}
-use Rattle.dn_wf2q.proofs.Promoted.{listed, has_room, moved, tag_fits}
+use Rattle.dn_wf2q.proofs.Promoted.{free, listed, has_room, moved, numbered, tag_fits}
 use Rattle.dn_wf2q.proofs.sched_parts.SchedParts.promote_one.Goals as goal
 
 pub index-requires : goal.index-requires
@@ -20,6 +20,14 @@ new-requires-clause-tag c =
 
 pub push_reserved-requires-clause-reserved : goal.push_reserved-requires-clause-reserved
 push_reserved-requires-clause-reserved c = has_room c.args.self.now c.requires.kept c.in-Some-pop.first c.slot-slot.result c.slot-slot.ensures.value c.pop.new.self c.in-Some-pop.ensures.keys
+
+pub push_reserved-requires-clause-numbered : goal.push_reserved-requires-clause-numbered
+push_reserved-requires-clause-numbered c =
+    rw c.new.ensures.value (numbered c.args.self.now c.requires.kept c.in-Some-pop.first c.slot-slot.result c.slot-slot.ensures.value c.pop.new.self c.in-Some-pop.ensures.keys)
+
+pub push_reserved-requires-clause-free : goal.push_reserved-requires-clause-free
+push_reserved-requires-clause-free c =
+    rw c.new.ensures.value (free c.args.self.now c.requires.kept c.in-Some-pop.first c.slot-slot.result c.slot-slot.ensures.value c.pop.new.self c.in-Some-pop.ensures.keys)
 
 -- The key that left is not above the one that was looked at.
 pub returns-in-Some-pop-clause-kept : goal.returns-in-Some-pop-clause-kept

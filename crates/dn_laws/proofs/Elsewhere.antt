@@ -1,0 +1,172 @@
+-- While calls are about other pipes, the links of a pipe go by the clock alone.
+use Rattle.std.proofs.Common.{◌≡◌, ◌∙◌, ◌≤◌, ◌<◌, ⊎_elim, ℕ, max, Bool, true, false, cond, List, [], ◌∷◌, ◌++◌, refl, ap, sym, subst, length, arith}
+use Rattle.std.specs.Prelude.{Option, Some, None, nat_le, nat_eq, slice_get, option_map}
+use Rattle.std.proofs.lemmas.Bool.{eqb-true}
+use Rattle.std.proofs.lemmas.Bool.Decides.{nat_tests, leb_tells}
+use Rattle.dn_types.specs.Calls.{verdict_by, after_verdict, reaches, after_command, trace_of}
+use Rattle.dn_types.specs.Clock.{effective_moment}
+use Rattle.dn_types.specs.Configuration.{settings, subject, target_eq, setting_after, reply_to_command}
+use Rattle.dn_types.specs.Flows.{treatment, keys}
+use Rattle.dn_types.specs.Links.{free, last_due}
+use Rattle.dn_laws.specs.OtherPipes.{IsCommandElsewhere, IsElsewhere, AreElsewhere}
+use Rattle.dn_types.specs.SharedLinks.{virtual_time, last_finish_tag, next_packet}
+use Rattle.dn_types.specs.Starts.{start_at, next_start, settled}
+use Rattle.dn_types.specs.Trace.{Link, pipe_of, Accepted, Event, backlog}
+use Rattle.dn_types.specs.declared.call.Call.{Call}
+use Rattle.dn_types.specs.declared.call.Call.TheVariants.{Configure, Submit, Advance, Collect, Show}
+use Rattle.dn_types.specs.declared.command.Command.{Command}
+use Rattle.dn_types.specs.declared.command.Command.TheVariants.{Pipe, Queue, DeletePipe, DeleteQueue}
+use Rattle.dn_types.specs.declared.flow_key.FlowKey.{FlowKey}
+use Rattle.dn_types.specs.declared.packet.Packet.{Packet}
+use Rattle.dn_types.specs.declared.reply.Reply.{Reply}
+use Rattle.dn_types.specs.declared.reply.Reply.TheVariants.{Deleted}
+use Rattle.dn_types.specs.declared.rule.Rule.{Rule}
+use Rattle.dn_types.specs.declared.target.Target.{Target}
+use Rattle.dn_types.specs.declared.target.Target.TheVariants.{Pipe as ToPipe, Queue as ToQueue}
+use Rattle.dn_types.proofs.Conserving.{busy-link}
+use Rattle.dn_types.proofs.InForce.{IsKept, settings-kept, target_eq-true}
+use Rattle.dn_laws.proofs.Isolation.{false-if, none-left, spared-by, commands-move-nothing, packets-keep-apart}
+use Rattle.dn_types.proofs.Known.{IsKnown, all-known, fewer-discarded, pipe_of-link}
+use Rattle.dn_laws.proofs.OneLink.{IsAlike, alike-refl, alike-sym, alike-then, settled-alike, settled-still, settled-twice}
+use Rattle.dn_types.proofs.Settling.{next_packet-first}
+use Rattle.dn_laws.proofs.TagsElsewhere.{tags-elsewhere}
+use Rattle.dn_laws.proofs.Timely.{clock-later}
+
+some-first : (q : List Accepted) (p : Accepted) → slice_get q 0 ≡ Some p → 0 < length q
+some-first [] p h = absurd cc
+some-first (x ∷ q) p h = omega arith
+
+module _ (rule : Rule) (link : Link) where
+  -- By the clock none starts any more.
+  quiet : (calls : List Call) → next_start (settings calls) (effective_moment calls) link (trace_of calls) ≡ None
+  quiet calls = by (nat_le (free link (trace_of calls)) (effective_moment calls)) refl (next_packet link (trace_of calls)) refl
+    where
+      by : (b : Bool) → nat_le (free link (trace_of calls)) (effective_moment calls) ≡ b → (o : Option Accepted) → next_packet link (trace_of calls) ≡ o →
+          cond b (option_map (λ p. start_at (settings calls) link p (free link (trace_of calls))) o) None ≡ None
+      by false is o next = refl
+      by true is None next = refl
+      by true is (Some p) next =
+          let first = next_packet-first link (trace_of calls) p next in
+          let busy = busy-link calls link first.0 (some-first (backlog link first.0 (trace_of calls)) p first.1) in
+          let soon : free link (trace_of calls) ≤ effective_moment calls = grind (arith, nat_tests) in
+          absurd (omega (arith, busy, soon))
+
+  -- ---- Commands
+
+  subject-elsewhere : (calls : List Call) (command : Command) → IsCommandElsewhere (pipe_of link) calls command → target_eq (subject command) (ToPipe (pipe_of link)) ≡ false
+  subject-elsewhere calls (Pipe number bw delay limit loss buckets mask) h = false-if (nat_eq number (pipe_of link)) (λ same. h (eqb-true number (pipe_of link) same))
+  subject-elsewhere calls (Queue number carrier weight limit loss buckets mask) h = refl
+  subject-elsewhere calls (DeletePipe number) h = false-if (nat_eq number (pipe_of link)) (λ same. h (eqb-true number (pipe_of link) same))
+  subject-elsewhere calls (DeleteQueue number) h = refl
+
+  -- A flow with a packet for the link isn't reached.
+  kept-elsewhere : (calls : List Call) (command : Command) (flow : ℕ) (k : IsKnown (settings calls) (keys calls) link flow) → IsCommandElsewhere (pipe_of link) calls command →
+      reaches command k.key ≡ false
+  kept-elsewhere calls (Pipe number bw delay limit loss buckets mask) flow k h = refl
+  kept-elsewhere calls (Queue number carrier weight limit loss buckets mask) flow k h = refl
+  kept-elsewhere calls (DeletePipe number) flow k h =
+      false-if (nat_eq k.key.pipe number) (λ same. h (sym (eqb-true k.key.pipe number same) ∙ sym (pipe_of-link k.key.target flow k.key.pipe) ∙ ap pipe_of (sym k.link_is)))
+  kept-elsewhere calls (DeleteQueue number) flow k h =
+      false-if (target_eq k.key.target (ToQueue number)) (λ same. h k.at.before k.at.behind k.key k.at.parts (target_eq-true k.key.target (ToQueue number) same) (sym (pipe_of-link k.key.target flow k.key.pipe) ∙ ap pipe_of (sym k.link_is)))
+
+  command-backlog : (calls : List Call) (command : Command) → IsCommandElsewhere (pipe_of link) calls command → (flow : ℕ) →
+      backlog link flow (trace_of (Configure command ∷ calls)) ≡ backlog link flow (trace_of calls)
+  command-backlog calls command h flow = ⊎_elim (λ none. empty none.1) (λ some. full some.1) (leb_tells (length (backlog link flow (trace_of calls))) 0)
+    where
+      fewer : (r : Reply) → 0 < length (backlog link flow (after_command r command (keys calls) (trace_of calls))) → 0 < length (backlog link flow (trace_of calls))
+      fewer Deleted some = fewer-discarded link flow command 0 (keys calls) (trace_of calls) some
+      fewer _ some = some
+
+      empty : length (backlog link flow (trace_of calls)) ≤ 0 → backlog link flow (trace_of (Configure command ∷ calls)) ≡ backlog link flow (trace_of calls)
+      empty none =
+          none-left (backlog link flow (trace_of (Configure command ∷ calls))) (λ some. let before = fewer (reply_to_command calls command) some in omega (arith, none, before))
+          ∙ sym (none-left (backlog link flow (trace_of calls)) (λ some. omega (arith, none, some)))
+
+      full : 0 < length (backlog link flow (trace_of calls)) → backlog link flow (trace_of (Configure command ∷ calls)) ≡ backlog link flow (trace_of calls)
+      full some =
+          let k = all-known calls link flow some in
+          subst (λ (n : ℕ). backlog link n (trace_of (Configure command ∷ calls)) ≡ backlog link n (trace_of calls)) k.at.place
+          (spared-by calls command link k.at.before k.at.behind k.key k.at.parts (kept-elsewhere calls command flow k h) (reply_to_command calls command))
+
+  command-alike : (calls : List Call) (command : Command) → IsCommandElsewhere (pipe_of link) calls command → IsAlike rule link (trace_of (Configure command ∷ calls)) (trace_of calls)
+  command-alike calls command h = let still = commands-move-nothing rule calls command link in (λ flow. command-backlog calls command h flow, still.0, still.1, still.2)
+
+  -- ---- Packets
+
+  packet-alike : (calls : List Call) (target : Target) (packet : Packet) (moment : ℕ) → IsElsewhere (pipe_of link) calls (Submit target packet moment) →
+      IsAlike rule link (trace_of (Submit target packet moment ∷ calls)) (trace_of (Advance moment ∷ calls))
+  packet-alike calls target packet moment h = by target (settings calls target) refl (settings-kept calls target) h
+    where
+      before : List Event
+      before = settled (settings calls) (max (effective_moment calls) moment) (trace_of calls)
+
+      by : (t : Target) (o : Option Command) → settings calls target ≡ o → IsKept t o → IsElsewhere (pipe_of link) calls (Submit target packet moment) →
+          IsAlike rule link (trace_of (Submit target packet moment ∷ calls)) (trace_of (Advance moment ∷ calls))
+      by t None set kept other =
+          subst (λ (o : Option Command). IsAlike rule link (after_verdict (settings calls) (max (effective_moment calls) moment) packet (verdict_by (keys calls) target packet (treatment o) before) before) before) (sym set) (alike-refl rule link before)
+      by t (Some (Pipe number bw delay limit loss buckets mask)) set kept other =
+          packets-keep-apart rule calls target packet moment (Pipe number bw delay limit loss buckets mask) loss limit number link set (refl, refl, refl)
+          (λ same. other (Pipe number bw delay limit loss buckets mask) loss limit number set (refl, refl, refl) (sym same))
+      by t (Some (Queue number carrier weight limit loss buckets mask)) set kept other =
+          packets-keep-apart rule calls target packet moment (Queue number carrier weight limit loss buckets mask) loss limit carrier link set (refl, refl, refl)
+          (λ same. other (Queue number carrier weight limit loss buckets mask) loss limit carrier set (refl, refl, refl) (sym same))
+      by (ToPipe n) (Some (DeletePipe number)) set kept other = absurd kept
+      by (ToPipe n) (Some (DeleteQueue number)) set kept other = absurd kept
+      by (ToQueue n) (Some (DeletePipe number)) set kept other = absurd kept
+      by (ToQueue n) (Some (DeleteQueue number)) set kept other = absurd kept
+
+  -- ---- Calls
+
+  setting-stays : (calls : List Call) (c : Call) → IsElsewhere (pipe_of link) calls c → settings (c ∷ calls) (ToPipe (pipe_of link)) ≡ settings calls (ToPipe (pipe_of link))
+  setting-stays calls (Configure command) h =
+      ap (λ b. cond b (setting_after (reply_to_command calls command) command (settings calls (ToPipe (pipe_of link)))) (settings calls (ToPipe (pipe_of link)))) (subject-elsewhere calls command h)
+  setting-stays calls (Submit target packet moment) h = refl
+  setting-stays calls (Advance moment) h = refl
+  setting-stays calls (Collect moment) h = refl
+  setting-stays calls Show h = refl
+
+  -- What a list of calls leaves, and one settling up to its clock.
+  abbrev Follows : List Call → List Call → Type 0
+  Follows now calls = (settings now (ToPipe (pipe_of link)) ≡ settings calls (ToPipe (pipe_of link)))
+      × IsAlike rule link (trace_of now) (settled (settings calls) (effective_moment now) (trace_of calls))
+
+  advanced : (now calls : List Call) (to : ℕ) → effective_moment now ≤ to → Follows now calls →
+      IsAlike rule link (settled (settings now) to (trace_of now)) (settled (settings calls) to (trace_of calls))
+  advanced now calls to le h =
+      alike-then rule link (settled (settings now) to (trace_of now)) (settled (settings calls) to (settled (settings calls) (effective_moment now) (trace_of calls))) (settled (settings calls) to (trace_of calls))
+      (settled-alike rule link (settings now) (settings calls) to (trace_of now) (settled (settings calls) (effective_moment now) (trace_of calls)) h.0 h.1)
+      (settled-twice rule link (settings calls) (effective_moment now) to (trace_of calls) le)
+
+  untimed : (now calls : List Call) (t : List Event) (to : ℕ) → effective_moment now ≡ to → IsAlike rule link t (trace_of now) → Follows now calls →
+      IsAlike rule link t (settled (settings calls) to (trace_of calls))
+  untimed now calls t to e same h =
+      subst (λ (m : ℕ). IsAlike rule link t (settled (settings calls) m (trace_of calls))) e (alike-then rule link t (trace_of now) (settled (settings calls) (effective_moment now) (trace_of calls)) same h.1)
+
+  followed : (now calls : List Call) (c : Call) → IsElsewhere (pipe_of link) now c → Follows now calls →
+      IsAlike rule link (trace_of (c ∷ now)) (settled (settings calls) (effective_moment (c ∷ now)) (trace_of calls))
+  followed now calls (Configure command) h f =
+      untimed now calls (trace_of (Configure command ∷ now)) (effective_moment (Configure command ∷ now)) (omega arith) (command-alike now command h) f
+  followed now calls (Submit target packet moment) h f =
+      alike-then rule link (trace_of (Submit target packet moment ∷ now)) (trace_of (Advance moment ∷ now)) (settled (settings calls) (max (effective_moment now) moment) (trace_of calls))
+      (packet-alike now target packet moment h) (advanced now calls (max (effective_moment now) moment) (omega arith) f)
+  followed now calls (Advance moment) h f = advanced now calls (max (effective_moment now) moment) (omega arith) f
+  followed now calls (Collect moment) h f = advanced now calls (max (effective_moment now) moment) (omega arith) f
+  followed now calls Show h f = untimed now calls (trace_of now) (effective_moment (Show ∷ now)) (omega arith) (alike-refl rule link (trace_of now)) f
+
+  all-followed : (after calls : List Call) → AreElsewhere (pipe_of link) after calls → Follows (after ++ calls) calls
+  all-followed [] calls h =
+      (refl, alike-sym rule link (settled (settings calls) (effective_moment calls) (trace_of calls)) (trace_of calls) (settled-still rule link (settings calls) (effective_moment calls) (trace_of calls) (quiet calls)))
+  all-followed (c ∷ after) calls h = let rest = all-followed after calls h.1 in (setting-stays (after ++ calls) c h.0 ∙ rest.0, followed (after ++ calls) calls c h.0 rest)
+
+pub other-pipes-change-nothing : (rule : Rule) (after calls : List Call) (link : Link) → AreElsewhere (pipe_of link) after calls →
+    let with_them = trace_of (after ++ calls) in
+    let without = trace_of (Advance (effective_moment (after ++ calls)) ∷ calls) in
+    ((flow : ℕ) → backlog link flow with_them ≡ backlog link flow without) × (free link with_them ≡ free link without)
+    × (last_due rule link with_them ≡ last_due rule link without) × (virtual_time link with_them ≡ virtual_time link without)
+    × ((flow : ℕ) (key : FlowKey) → slice_get (keys (after ++ calls)) flow ≡ Some key → key.pipe ≡ pipe_of link →
+    last_finish_tag link flow with_them ≡ last_finish_tag link flow without)
+other-pipes-change-nothing rule after calls link h =
+    let rises = clock-later after calls in
+    let same : effective_moment (after ++ calls) ≡ max (effective_moment calls) (effective_moment (after ++ calls)) = omega (arith, rises) in
+    let alike = subst (λ (m : ℕ). IsAlike rule link (trace_of (after ++ calls)) (settled (settings calls) m (trace_of calls))) same (all-followed rule link after calls h).1 in
+    (alike.0, alike.1, alike.2, alike.3, λ flow key e on. tags-elsewhere rule link flow after calls h key e on (effective_moment (after ++ calls)))

@@ -1,0 +1,91 @@
+-- Nothing but a start moves the moment at which a link is free, its last due moment and, in a busy period, its virtual time.
+use Rattle.std.proofs.Common.{◌≡◌, ◌∙◌, ℕ, ◌+◌, true, false, cond, List, [], ◌∷◌, ◌++◌, refl, ap, sym, subst}
+use Rattle.std.specs.List.{All}
+use Rattle.std.proofs.lemmas.List.Elements.{All-head, All-tail}
+use Rattle.dn_laws.specs.Explained.{IsDueBy}
+use Rattle.dn_laws.specs.KeptLaws.{IsNoStart, IsNoOpening}
+use Rattle.dn_types.specs.Links.{free, last_due, arrival_time, due_by}
+use Rattle.dn_types.specs.SharedLinks.{virtual_time, link_heads}
+use Rattle.dn_types.specs.Trace.{Link, link_eq, Start, Event, opened, arrived, started, lost, refused, discarded, collected}
+use Rattle.dn_types.specs.Wf2q.{grown}
+use Rattle.dn_types.specs.declared.rule.Rule.{Rule}
+use Rattle.dn_types.specs.declared.rule.Rule.TheVariants.{Free, Ordered}
+use Rattle.dn_laws.proofs.Isolation.{false-if}
+use Rattle.dn_types.proofs.Settled.{link_eq-true, link_eq-refl}
+
+module _ (rule : Rule) (link : Link) where
+  other : (s : Start) → IsNoStart link (started s) → link_eq s.packet.link link ≡ false
+  other s h = false-if (link_eq s.packet.link link) (λ same. h (link_eq-true s.packet.link link same))
+
+  free-kept : (later earlier : List Event) → All (IsNoStart link) later → free link (later ++ earlier) ≡ free link earlier
+  free-kept [] earlier h = refl
+  free-kept (e ∷ later) earlier h = one e (All-head (IsNoStart link) e later h) ∙ free-kept later earlier (All-tail (IsNoStart link) e later h)
+    where
+      one : (e : Event) → IsNoStart link e → free link (e ∷ later ++ earlier) ≡ free link (later ++ earlier)
+      one (started s) h = ap {B = ℕ} (λ b. cond b (s.moment + s.transmission) (free link (later ++ earlier))) (other s h)
+      one (opened l) h = refl
+      one (arrived p) h = refl
+      one (lost l f) h = refl
+      one (refused l f) h = refl
+      one (discarded f) h = refl
+      one (collected m) h = refl
+
+  due-kept : (later earlier : List Event) → All (IsNoStart link) later → last_due rule link (later ++ earlier) ≡ last_due rule link earlier
+  due-kept [] earlier h = refl
+  due-kept (e ∷ later) earlier h = one e (All-head (IsNoStart link) e later h) ∙ due-kept later earlier (All-tail (IsNoStart link) e later h)
+    where
+      one : (e : Event) → IsNoStart link e → last_due rule link (e ∷ later ++ earlier) ≡ last_due rule link (later ++ earlier)
+      one (started s) h = ap {B = ℕ} (λ b. cond b (due_by rule (arrival_time s) (last_due rule link (later ++ earlier))) (last_due rule link (later ++ earlier))) (other s h)
+      one (opened l) h = refl
+      one (arrived p) h = refl
+      one (lost l f) h = refl
+      one (refused l f) h = refl
+      one (discarded f) h = refl
+      one (collected m) h = refl
+
+  virtual-kept : (later earlier : List Event) → All (IsNoStart link) later → All (IsNoOpening link) later → virtual_time link (later ++ earlier) ≡ virtual_time link earlier
+  virtual-kept [] earlier h k = refl
+  virtual-kept (e ∷ later) earlier h k =
+      one e (All-head (IsNoStart link) e later h) (All-head (IsNoOpening link) e later k)
+      ∙ virtual-kept later earlier (All-tail (IsNoStart link) e later h) (All-tail (IsNoOpening link) e later k)
+    where
+      one : (e : Event) → IsNoStart link e → IsNoOpening link e → virtual_time link (e ∷ later ++ earlier) ≡ virtual_time link (later ++ earlier)
+      one (started s) h k = ap {B = ℕ} (λ b. cond b (grown (virtual_time link (later ++ earlier)) (link_heads link (later ++ earlier)) s.packet.stamped.len) (virtual_time link (later ++ earlier))) (other s h)
+      one (opened l) h k = ap {B = ℕ} (λ b. cond b 0 (virtual_time link (later ++ earlier))) (false-if (link_eq l link) (λ same. k (link_eq-true l link same)))
+      one (arrived p) h k = refl
+      one (lost l f) h k = refl
+      one (refused l f) h k = refl
+      one (discarded f) h k = refl
+      one (collected m) h k = refl
+
+  none-after : (later : List Event) → later ++ [] ≡ later
+  none-after [] = refl
+  none-after (e ∷ later) = ap (λ (r : List Event). e ∷ r) (none-after later)
+
+  here : (s : Start) → s.packet.link ≡ link → link_eq s.packet.link link ≡ true
+  here s same = ap (λ (l : Link). link_eq l link) same ∙ link_eq-refl link
+
+  due-is : (r : Rule) (s : Start) (last : ℕ) → IsDueBy r s last (due_by r (arrival_time s) last)
+  due-is Free s last = refl
+  due-is Ordered s last = refl
+
+pub links-are-kept : (rule : Rule) (link : Link) (later earlier : List Event) → All (IsNoStart link) later →
+    ((s : Start) → s.packet.link ≡ link → (free link (later ++ (started s ∷ earlier)) ≡ s.moment + s.transmission)
+    × IsDueBy rule s (last_due rule link earlier) (last_due rule link (later ++ (started s ∷ earlier))))
+    × (free link later ≡ 0) × (last_due rule link later ≡ 0)
+links-are-kept rule link later earlier h = (
+  λ s same. (
+    free-kept rule link later (started s ∷ earlier) h ∙ ap {B = ℕ} (λ b. cond b (s.moment + s.transmission) (free link earlier)) (here rule link s same),
+    subst (λ (n : ℕ). IsDueBy rule s (last_due rule link earlier) n)
+        (sym (due-kept rule link later (started s ∷ earlier) h ∙ ap {B = ℕ} (λ b. cond b (due_by rule (arrival_time s) (last_due rule link earlier)) (last_due rule link earlier)) (here rule link s same)))
+        (due-is rule link rule s (last_due rule link earlier)),
+  ),
+  ap (free link) (sym (none-after rule link later)) ∙ free-kept rule link later [] h,
+  ap (last_due rule link) (sym (none-after rule link later)) ∙ due-kept rule link later [] h,
+)
+
+pub virtual-time-is-kept : (link : Link) (later earlier : List Event) → All (IsNoStart link) later → All (IsNoOpening link) later →
+    (virtual_time link (later ++ earlier) ≡ virtual_time link earlier) × (virtual_time link (opened link ∷ earlier) ≡ 0)
+    × (virtual_time link [] ≡ 0)
+virtual-time-is-kept link later earlier h k =
+    (virtual-kept Free link later earlier h k, ap {B = ℕ} (λ b. cond b 0 (virtual_time link earlier)) (link_eq-refl link), refl)

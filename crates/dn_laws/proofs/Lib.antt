@@ -1,0 +1,62 @@
+pub mod Acceptance
+pub mod Advances
+pub mod Ahead
+pub mod AtHome
+pub mod Begun
+pub mod BoundedCounts
+pub mod ByWeight
+pub mod Comes
+pub mod ConfiguredRate
+pub mod DelayBound
+pub mod Delays
+mod DeleteWitnesses
+pub mod Delivered
+pub mod DropLaws
+pub mod EachHead
+pub mod Elsewhere
+pub mod Exactly
+pub mod Fair
+mod FairWitness
+pub mod Fates
+pub mod Heads
+pub mod Isolation
+pub mod Kept
+mod LawWitnesses
+pub mod Least
+pub mod Masks
+pub mod Obeyed
+pub mod OneLink
+pub mod PartCalls
+pub mod PartGiven
+pub mod PartReplays
+pub mod PartReplies
+pub mod Parts
+pub mod PartSettings
+pub mod PartStarts
+pub mod PartsWhole
+mod PartWitnesses
+pub mod Pauses
+pub mod PickLaws
+pub mod Places
+pub mod QueuesRate
+pub mod Rates
+pub mod Readings
+mod ReadingWitnesses
+mod ReplyWitnesses
+pub mod Resets
+pub mod Seen
+pub mod Shares
+pub mod Spares
+pub mod StartLaws
+pub mod Steady
+pub mod Sums
+pub mod Tags
+pub mod TagsElsewhere
+pub mod Timely
+pub mod ToldCommands
+pub mod ToldCounts
+pub mod ToldDeliveries
+pub mod WaitBounds
+pub mod Waits
+mod WaitWitnesses
+mod Witnesses

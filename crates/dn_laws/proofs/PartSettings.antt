@@ -1,0 +1,354 @@
+-- A pipe's part of a replay rests on what is in force for the pipe and for the packets' targets.
+use Rattle.std.proofs.Common.{◌≡◌, ◌∙◌, ◌≤◌, ◌<◌, ℕ, zero, suc, ◌+◌, max, Bool, true, false, cond, ◌&&◌, List, [], ◌∷◌, ◌++◌, map, refl, ap, sym, subst, length, take, arith}
+use Rattle.std.specs.Prelude.{Option, Some, None, nat_eq, nat_le, option_map, ⊤}
+use Rattle.std.specs.List.{list_any}
+use Rattle.dn_types.specs.Calls.{link_of, Verdict, no_target, loses, refuses, takes, verdict_by, accept, join, after_verdict, reaches, discard_reached, after_command, trace_of}
+use Rattle.dn_types.specs.Clock.{effective_moment, call_limit}
+use Rattle.dn_types.specs.Configuration.{Settings, settings, reply_to_command}
+use Rattle.dn_types.specs.Deliveries.{given}
+use Rattle.dn_types.specs.Drops.{is_lost, is_full}
+use Rattle.dn_types.specs.Flows.{Treatment, treatment, key_of, keys, keys_with, flow_number}
+use Rattle.dn_types.specs.Links.{free, transmission_time}
+use Rattle.dn_laws.specs.PartLaws.{AreAlike, emptied, IsUntimed, AreMatched}
+use Rattle.dn_laws.specs.Parts.{of_pipe, calls_on, part_of}
+use Rattle.dn_laws.specs.Replays.{AreCommands}
+use Rattle.dn_types.specs.Replies.{reply_to_verdict, counted_reply, reply, replies}
+use Rattle.dn_types.specs.SharedLinks.{waiting, opening, next_packet}
+use Rattle.dn_types.specs.Starts.{bandwidth_of, delay_of, start_at, sooner, first_start, settle, settled, waiting_all}
+use Rattle.dn_types.specs.Trace.{Link, pipe_of, link_eq, Accepted, Start, Event, opened, arrived, started, discarded, collected, backlog, with_link, links}
+use Rattle.dn_types.specs.declared.call.Call.{Call}
+use Rattle.dn_types.specs.declared.call.Call.TheVariants.{Configure, Submit, Advance, Collect, Show}
+use Rattle.dn_types.specs.declared.flow_key.FlowKey.{FlowKey}
+use Rattle.dn_types.specs.declared.command.Command.{Command}
+use Rattle.dn_types.specs.declared.packet.Packet.{Packet}
+use Rattle.dn_types.specs.declared.reply.Reply.{Reply}
+use Rattle.dn_types.specs.declared.reply.Reply.TheVariants.{Deleted, Delivered}
+use Rattle.dn_types.specs.declared.rule.Rule.{Rule}
+use Rattle.dn_types.specs.declared.rule.Rule.TheVariants.{Ordered}
+use Rattle.dn_types.specs.declared.target.Target.{Target}
+use Rattle.dn_types.specs.declared.target.Target.TheVariants.{Pipe as ToPipe}
+use Rattle.dn_types.proofs.Known.{pipe_of-link}
+use Rattle.dn_laws.proofs.PartCalls.{other-links-change-nothing}
+use Rattle.dn_laws.proofs.PartReplays.{counts}
+
+module _ (pipe : ℕ) where
+  -- All links are the pipe's.
+  abbrev AreOn : List Link → Type 0
+  AreOn [] = ⊤
+  AreOn (l ∷ ls) = (pipe_of l ≡ pipe) × AreOn ls
+
+  push-on : (k : Link) (ls : List Link) → pipe_of k ≡ pipe → AreOn ls → AreOn (ls ++ k ∷ [])
+  push-on k [] e h = (e, tt)
+  push-on k (l ∷ ls) e h = (h.0, push-on k ls e h.1)
+
+  with-on : (k : Link) (ls : List Link) → pipe_of k ≡ pipe → AreOn ls → AreOn (with_link k ls)
+  with-on k ls e h = by (list_any (link_eq k) ls)
+    where
+      by : (b : Bool) → AreOn (cond b ls (ls ++ k ∷ []))
+      by true = h
+      by false = push-on k ls e h
+
+  settle-on : (set : Settings) (most at : ℕ) (t : List Event) → AreOn (links t) → AreOn (links (settle most set at t))
+  settle-on set zero at t h = h
+  settle-on set (suc most) at t h = step (first_start set at (links t) t) (λ x. settle-on set most at (started x ∷ t) h)
+    where
+      step : (o : Option Start) → ((x : Start) → AreOn (links (settle most set at (started x ∷ t))))
+          → AreOn (links (elim o as (λ _. List Event) [ None ↦ t | Some s ↦ settle most set at (started s ∷ t) ]))
+      step None rest = h
+      step (Some s) rest = rest s
+
+  module _ (set other : Settings) (same : set (ToPipe pipe) ≡ other (ToPipe pipe)) where
+    pipe-same : (l : Link) → pipe_of l ≡ pipe → set (ToPipe (pipe_of l)) ≡ other (ToPipe (pipe_of l))
+    pipe-same l e = ap (λ n. set (ToPipe n)) e ∙ same ∙ sym (ap (λ n. other (ToPipe n)) e)
+
+    start-same : (l : Link) (p : Accepted) (m : ℕ) → pipe_of l ≡ pipe → start_at set l p m ≡ start_at other l p m
+    start-same l p m e = let s = pipe-same l e in λ i. record { packet = p; moment = m; transmission = transmission_time (bandwidth_of (s i)) p.stamped.len; delay = delay_of (s i) }
+
+    first-same : (at : ℕ) (ls : List Link) (t : List Event) → AreOn ls → first_start set at ls t ≡ first_start other at ls t
+    first-same at [] t h = refl
+    first-same at (l ∷ ls) t h = let rest = first-same at ls t h.1 in
+        λ i. sooner (cond (nat_le (free l t) at) (option_map (λ (p : Accepted). start-same l p (free l t) h.0 i) (next_packet l t)) None) (rest i)
+
+    settle-same : (most at : ℕ) (t : List Event) → AreOn (links t) → settle most set at t ≡ settle most other at t
+    settle-same zero at t h = refl
+    settle-same (suc most) at t h =
+        step (first_start set at (links t) t) (λ x. settle-same most at (started x ∷ t) h)
+        ∙ ap (λ (o : Option Start). elim o as (λ _. List Event) [ None ↦ t | Some s ↦ settle most other at (started s ∷ t) ]) (first-same at (links t) t h)
+      where
+        step : (o : Option Start) → ((x : Start) → settle most set at (started x ∷ t) ≡ settle most other at (started x ∷ t)) →
+            elim o as (λ _. List Event) [ None ↦ t | Some s ↦ settle most set at (started s ∷ t) ] ≡ elim o as (λ _. List Event) [ None ↦ t | Some s ↦ settle most other at (started s ∷ t) ]
+        step None rest = refl
+        step (Some s) rest = rest s
+
+    settled-same : (at : ℕ) (t : List Event) → AreOn (links t) → settled set at t ≡ settled other at t
+    settled-same at t h = settle-same (waiting_all (links t) t) at t h
+
+    -- ---- A packet
+
+    abbrev IsOn : Verdict → Type 0
+    IsOn no_target = ⊤
+    IsOn (loses l f) = pipe_of l ≡ pipe
+    IsOn (refuses l f) = pipe_of l ≡ pipe
+    IsOn (takes l f how) = pipe_of l ≡ pipe
+
+    verdict-on : (known : List FlowKey) (target : Target) (packet : Packet) (o : Option Treatment) (t : List Event)
+        → ((how : Treatment) → o ≡ Some how → how.pipe ≡ pipe) → IsOn (verdict_by known target packet o t)
+    verdict-on known target packet None t h = tt
+    verdict-on known target packet (Some how) t h =
+        let flow = flow_number known (key_of target packet.tuple how) in
+        let link = link_of target flow how.pipe in
+        by link flow (pipe_of-link target flow how.pipe ∙ h how refl) (is_lost how.loss packet.word) (is_full how.limit (map (λ p. p.stamped.len) (backlog link flow t)))
+      where
+        by : (l : Link) (f : ℕ) → pipe_of l ≡ pipe → (b c : Bool) → IsOn (cond b (loses l f) (cond c (refuses l f) (takes l f how)))
+        by l f e true c = e
+        by l f e false true = e
+        by l f e false false = e
+
+    after-same : (at : ℕ) (packet : Packet) (v : Verdict) (t : List Event) → IsOn v → after_verdict set at packet v t ≡ after_verdict other at packet v t
+    after-same at packet no_target t h = refl
+    after-same at packet (loses l f) t h = refl
+    after-same at packet (refuses l f) t h = refl
+    after-same at packet (takes l f how) t h =
+        let before = opening l at t in
+        let p = accept l packet f how before in
+        let s = start-same l p at h in
+        λ i. cond (nat_le (free l (opening l at t)) at) (started (s i) ∷ arrived (accept l packet f how (opening l at t)) ∷ opening l at t) (arrived (accept l packet f how (opening l at t)) ∷ opening l at t)
+
+    opened-on : (b : Bool) (l : Link) (t : List Event) → AreOn (links t) → AreOn (links (cond b (opened l ∷ t) t))
+    opened-on true l t h = h
+    opened-on false l t h = h
+
+    join-on : (at : ℕ) (p : Accepted) (t : List Event) → pipe_of p.link ≡ pipe → AreOn (links t) → AreOn (links (join set at p t))
+    join-on at p t e h = by (nat_le (free p.link t) at)
+      where
+        by : (b : Bool) → AreOn (links (cond b (started (start_at set p.link p at) ∷ arrived p ∷ t) (arrived p ∷ t)))
+        by true = with-on p.link (links t) e h
+        by false = with-on p.link (links t) e h
+
+    after-on : (at : ℕ) (packet : Packet) (v : Verdict) (t : List Event) → IsOn v → AreOn (links t) → AreOn (links (after_verdict set at packet v t))
+    after-on at packet no_target t e h = h
+    after-on at packet (loses l f) t e h = with-on l (links t) e h
+    after-on at packet (refuses l f) t e h = with-on l (links t) e h
+    after-on at packet (takes l f how) t e h =
+        join-on at (accept l packet f how (opening l at t)) (opening l at t) e (opened-on (nat_eq (waiting l t) 0 && nat_le (free l t) at) l t h)
+
+-- ---- Commands alone
+
+no-trace : (calls : List Call) → AreCommands calls → (trace_of calls ≡ []) × (keys calls ≡ []) × (effective_moment calls ≡ 0)
+no-trace [] h = (refl, refl, refl)
+no-trace (Configure command ∷ calls) h =
+    let rest = no-trace calls h in
+    let clock = rest.2 in (
+      (λ i. after_command (reply_to_command calls command) command (rest.1 i) (rest.0 i)) ∙ none (reply_to_command calls command),
+      rest.1,
+      omega (arith, clock),
+    )
+  where
+    none : (r : Reply) → after_command r command [] [] ≡ []
+    none Deleted = refl
+    none _ = refl
+no-trace (Submit target packet moment ∷ calls) h = absurd h
+no-trace (Advance moment ∷ calls) h = absurd h
+no-trace (Collect moment ∷ calls) h = absurd h
+no-trace (Show ∷ calls) h = absurd h
+
+-- ---- Packets
+
+module _ (rule : Rule) (pipe : ℕ) where
+  record AreSame (mine theirs : List Call) : Type 0 where
+    pub pipe_is : settings mine (ToPipe pipe) ≡ settings theirs (ToPipe pipe)
+    pub keys_are : keys mine ≡ keys theirs
+    pub clock_is : effective_moment mine ≡ effective_moment theirs
+    pub trace_is : trace_of mine ≡ trace_of theirs
+    pub links_are : AreOn pipe (links (trace_of mine))
+
+  settled-alike : (mine theirs : List Call) (moment : ℕ) → AreSame mine theirs →
+      settled (settings mine) (max (effective_moment mine) moment) (trace_of mine) ≡ settled (settings theirs) (max (effective_moment theirs) moment) (trace_of theirs)
+  settled-alike mine theirs moment h =
+      let c = h.clock_is in
+      let t = h.trace_is in
+      settled-same pipe (settings mine) (settings theirs) h.pipe_is (max (effective_moment mine) moment) (trace_of mine) h.links_are ∙ (λ i. settled (settings theirs) (max (c i) moment) (t i))
+
+  settled-links : (mine theirs : List Call) (moment : ℕ) → AreSame mine theirs → AreOn pipe (links (settled (settings mine) (max (effective_moment mine) moment) (trace_of mine)))
+  settled-links mine theirs moment h = settle-on pipe (settings mine) (waiting_all (links (trace_of mine)) (trace_of mine)) (max (effective_moment mine) moment) (trace_of mine) h.links_are
+
+  submit-same : (mine theirs : List Call) (target : Target) (packet : Packet) (moment : ℕ) → AreSame mine theirs → settings mine target ≡ settings theirs target →
+      ((how : Treatment) → treatment (settings mine target) ≡ Some how → how.pipe ≡ pipe) →
+      AreSame (Submit target packet moment ∷ mine) (Submit target packet moment ∷ theirs)
+      × (counted_reply rule mine (Submit target packet moment) ≡ counted_reply rule theirs (Submit target packet moment))
+  submit-same mine theirs target packet moment h to on =
+      let c = h.clock_is in
+      let ks = h.keys_are in
+      let at = max (effective_moment mine) moment in
+      let before = settled (settings mine) at (trace_of mine) in
+      let u = settled-alike mine theirs moment h in
+      let v = verdict_by (keys mine) target packet (treatment (settings mine target)) before in
+      let good = verdict-on pipe (settings mine) (settings theirs) h.pipe_is (keys mine) target packet (treatment (settings mine target)) before on in (
+        record {
+          pipe_is = h.pipe_is;
+          keys_are = (λ i. keys_with target packet.tuple (treatment (to i)) (ks i));
+          clock_is = (λ i. max (c i) moment);
+          trace_is = after-same pipe (settings mine) (settings theirs) h.pipe_is at packet v before good
+              ∙ (λ i. after_verdict (settings theirs) (max (c i) moment) packet (verdict_by (ks i) target packet (treatment (to i)) (u i)) (u i));
+          links_are = after-on pipe (settings mine) (settings theirs) h.pipe_is at packet v before good (settled-links mine theirs moment h);
+        },
+        (λ i. reply_to_verdict (max (c i) moment) (verdict_by (ks i) target packet (treatment (to i)) (u i)) (u i)),
+      )
+
+  advance-same : (mine theirs : List Call) (moment : ℕ) → AreSame mine theirs → AreSame (Advance moment ∷ mine) (Advance moment ∷ theirs)
+  advance-same mine theirs moment h =
+      let c = h.clock_is in
+      record { pipe_is = h.pipe_is; keys_are = h.keys_are; clock_is = (λ i. max (c i) moment); trace_is = settled-alike mine theirs moment h; links_are = settled-links mine theirs moment h }
+
+  collect-same : (mine theirs : List Call) (moment : ℕ) → AreSame mine theirs →
+      AreSame (Collect moment ∷ mine) (Collect moment ∷ theirs) × (counted_reply rule mine (Collect moment) ≡ counted_reply rule theirs (Collect moment))
+  collect-same mine theirs moment h =
+      let c = h.clock_is in
+      let u = settled-alike mine theirs moment h in (
+        record {
+          pipe_is = h.pipe_is;
+          keys_are = h.keys_are;
+          clock_is = (λ i. max (c i) moment);
+          trace_is = (λ i. collected (max (c i) moment) ∷ u i);
+          links_are = settled-links mine theirs moment h;
+        },
+        (λ i. Delivered (max (c i) moment) (given rule (max (c i) moment) (u i))),
+      )
+
+  -- ---- Commands among the packets
+
+  discard-append : (command : Command) (from : ℕ) (known : List FlowKey) (xs t : List Event) → discard_reached command from known (xs ++ t) ≡ discard_reached command from known xs ++ t
+  discard-append command from [] xs t = refl
+  discard-append command from (key ∷ known) xs t =
+      ap (discard_reached command (from + 1) known) (by (reaches command key)) ∙ discard-append command (from + 1) known (cond (reaches command key) (discarded from ∷ xs) xs) t
+    where
+      by : (b : Bool) → cond b (discarded from ∷ (xs ++ t)) (xs ++ t) ≡ cond b (discarded from ∷ xs) xs ++ t
+      by true = refl
+      by false = refl
+
+  after-append : (r : Reply) (command : Command) (known : List FlowKey) (t : List Event) → after_command r command known t ≡ after_command r command known [] ++ t
+  after-append Deleted command known t = discard-append command 0 known [] t
+  after-append _ command known t = refl
+
+  discard-links : (command : Command) (from : ℕ) (known : List FlowKey) (t : List Event) → AreOn pipe (links t) → AreOn pipe (links (discard_reached command from known t))
+  discard-links command from [] t h = h
+  discard-links command from (key ∷ known) t h = discard-links command (from + 1) known (cond (reaches command key) (discarded from ∷ t) t) (by (reaches command key))
+    where
+      by : (b : Bool) → AreOn pipe (links (cond b (discarded from ∷ t) t))
+      by true = h
+      by false = h
+
+  after-links : (r : Reply) (command : Command) (known : List FlowKey) (t : List Event) → AreOn pipe (links t) → AreOn pipe (links (after_command r command known t))
+  after-links Deleted command known t h = discard-links command 0 known t h
+  after-links _ command known t h = h
+
+  -- What a command or a Show leaves.
+  untimed : (c : Call) (calls : List Call) → IsUntimed c
+      → (trace_of (c ∷ calls) ≡ emptied calls c ++ trace_of calls) × (keys (c ∷ calls) ≡ keys calls) × (effective_moment (c ∷ calls) ≡ effective_moment calls)
+      × (AreOn pipe (links (trace_of calls)) → AreOn pipe (links (trace_of (c ∷ calls))))
+  untimed (Configure command) calls h =
+      (after-append (reply_to_command calls command) command (keys calls) (trace_of calls), refl, omega arith, λ on. after-links (reply_to_command calls command) command (keys calls) (trace_of calls) on)
+  untimed Show calls h = (refl, refl, omega arith, λ on. on)
+  untimed (Submit target packet moment) calls h = absurd h
+  untimed (Advance moment) calls h = absurd h
+  untimed (Collect moment) calls h = absurd h
+
+  untimed-same : (c d : Call) (mine theirs : List Call) → IsUntimed c → IsUntimed d → emptied mine c ≡ emptied theirs d
+      → settings (c ∷ mine) (ToPipe pipe) ≡ settings (d ∷ theirs) (ToPipe pipe) → AreSame mine theirs →
+      AreSame (c ∷ mine) (d ∷ theirs)
+  untimed-same c d mine theirs uc ud gone force h =
+      let a = untimed c mine uc in
+      let b = untimed d theirs ud in
+      let t = h.trace_is in
+      record {
+        pipe_is = force;
+        keys_are = a.1 ∙ h.keys_are ∙ sym b.1;
+        clock_is = a.2 ∙ h.clock_is ∙ sym b.2;
+        trace_is = a.0 ∙ (λ i. gone i ++ t i) ∙ sym b.0;
+        links_are = a.3 h.links_are;
+      }
+
+  matched-same : (mine theirs : List Call) → AreMatched pipe mine theirs → AreSame mine theirs
+  matched-same [] [] h = record { pipe_is = refl; keys_are = refl; clock_is = refl; trace_is = refl; links_are = tt }
+  matched-same (Submit target packet moment ∷ mine) (d ∷ theirs) h =
+      subst (λ (x : Call). AreSame (Submit target packet moment ∷ mine) (x ∷ theirs)) (sym h.0.0) (submit-same mine theirs target packet moment (matched-same mine theirs h.3) h.0.1 h.0.2).0
+  matched-same (Advance moment ∷ mine) (d ∷ theirs) h =
+      subst (λ (x : Call). AreSame (Advance moment ∷ mine) (x ∷ theirs)) (sym h.0) (advance-same mine theirs moment (matched-same mine theirs h.3))
+  matched-same (Collect moment ∷ mine) (d ∷ theirs) h =
+      subst (λ (x : Call). AreSame (Collect moment ∷ mine) (x ∷ theirs)) (sym h.0) (collect-same mine theirs moment (matched-same mine theirs h.3)).0
+  matched-same (Configure command ∷ mine) (d ∷ theirs) h = untimed-same (Configure command) d mine theirs tt h.0 h.1 h.2 (matched-same mine theirs h.3)
+  matched-same (Show ∷ mine) (d ∷ theirs) h = untimed-same Show d mine theirs tt h.0 h.1 h.2 (matched-same mine theirs h.3)
+  matched-same [] (d ∷ theirs) h = absurd h
+  matched-same (Submit target packet moment ∷ mine) [] h = absurd h
+  matched-same (Advance moment ∷ mine) [] h = absurd h
+  matched-same (Collect moment ∷ mine) [] h = absurd h
+  matched-same (Configure command ∷ mine) [] h = absurd h
+  matched-same (Show ∷ mine) [] h = absurd h
+
+pub commands-act-by-force : (pipe : ℕ) (calls others : List Call) → AreMatched pipe (calls_on (of_pipe pipe) calls) (calls_on (of_pipe pipe) others)
+    → part_of (of_pipe pipe) calls ≡ part_of (of_pipe pipe) others
+commands-act-by-force pipe calls others h =
+    let same = matched-same Ordered pipe (calls_on (of_pipe pipe) calls) (calls_on (of_pipe pipe) others) h in
+    sym (other-links-change-nothing (of_pipe pipe) calls) ∙ same.trace_is ∙ other-links-change-nothing (of_pipe pipe) others
+
+-- ---- Replays
+
+module _ (rule : Rule) (pipe : ℕ) (commands others : List Call) (commands_are : AreCommands commands) (others_are : AreCommands others) (same : settings commands (ToPipe pipe) ≡ settings others (ToPipe pipe)) where
+  abbrev here : Settings
+  here = settings commands
+
+  abbrev there : Settings
+  there = settings others
+
+  at-first : AreSame rule pipe commands others
+  at-first =
+      let a = no-trace commands commands_are in
+      let b = no-trace others others_are in
+      record {
+        pipe_is = same;
+        keys_are = a.1 ∙ sym b.1;
+        clock_is = a.2 ∙ sym b.2;
+        trace_is = a.0 ∙ sym b.0;
+        links_are = subst (λ (t : List Event). AreOn pipe (links t)) (sym a.0) tt;
+      }
+
+  -- Packets leave in force what the commands did.
+  forces : (old packets : List Call) → AreAlike pipe here there packets → settings (packets ++ old) ≡ settings old
+  forces old [] h = refl
+  forces old (Submit target packet moment ∷ packets) h = (λ i t. settings (packets ++ old) t) ∙ forces old packets h.2
+  forces old (Collect moment ∷ packets) h = (λ i t. settings (packets ++ old) t) ∙ forces old packets h
+  forces old (Configure command ∷ packets) h = absurd h
+  forces old (Advance moment ∷ packets) h = absurd h
+  forces old (Show ∷ packets) h = absurd h
+
+  answered : (mine theirs : List Call) (c : Call) → length mine < call_limit → length theirs < call_limit
+      → counted_reply rule mine c ≡ counted_reply rule theirs c → reply rule mine c ≡ reply rule theirs c
+  answered mine theirs c few less e = counts rule mine c few ∙ e ∙ sym (counts rule theirs c less)
+
+  all-same : (packets : List Call) → AreAlike pipe here there packets → length (packets ++ commands) ≤ call_limit → length (packets ++ others) ≤ call_limit →
+      AreSame rule pipe (packets ++ commands) (packets ++ others) × (take (length packets) (replies rule (packets ++ commands)) ≡ take (length packets) (replies rule (packets ++ others)))
+  all-same [] h few less = (at-first, refl)
+  all-same (Submit target packet moment ∷ packets) h few less =
+      let rest = all-same packets h.2 (omega (arith, few)) (omega (arith, less)) in
+      let a = forces commands packets h.2 in
+      let b = forces others packets h.2 in
+      let to : settings (packets ++ commands) target ≡ settings (packets ++ others) target = (λ i. a i target) ∙ h.0 ∙ sym (λ i. b i target) in
+      let one = submit-same rule pipe (packets ++ commands) (packets ++ others) target packet moment rest.0 to (λ how e. h.1 how (sym (ap (λ (s : Settings). treatment (s target)) a) ∙ e)) in
+      let told = answered (packets ++ commands) (packets ++ others) (Submit target packet moment) (omega (arith, few)) (omega (arith, less)) one.1 in
+      let older = rest.1 in
+      (one.0, (λ i. told i ∷ older i))
+  all-same (Collect moment ∷ packets) h few less =
+      let rest = all-same packets h (omega (arith, few)) (omega (arith, less)) in
+      let one = collect-same rule pipe (packets ++ commands) (packets ++ others) moment rest.0 in
+      let told = answered (packets ++ commands) (packets ++ others) (Collect moment) (omega (arith, few)) (omega (arith, less)) one.1 in
+      let older = rest.1 in
+      (one.0, (λ i. told i ∷ older i))
+  all-same (Configure command ∷ packets) h few less = absurd h
+  all-same (Advance moment ∷ packets) h few less = absurd h
+  all-same (Show ∷ packets) h few less = absurd h
+
+pub parts-rest-on-their-pipe : (rule : Rule) (pipe : ℕ) (commands others packets : List Call) → AreCommands commands → AreCommands others →
+    settings commands (ToPipe pipe) ≡ settings others (ToPipe pipe) → AreAlike pipe (settings commands) (settings others) packets →
+    length (packets ++ commands) ≤ call_limit → length (packets ++ others) ≤ call_limit →
+    take (length packets) (replies rule (packets ++ commands)) ≡ take (length packets) (replies rule (packets ++ others))
+parts-rest-on-their-pipe rule pipe commands others packets c o same h few less = (all-same rule pipe commands others c o same packets h few less).1

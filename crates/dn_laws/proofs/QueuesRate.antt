@@ -1,0 +1,101 @@
+-- All queues of a pipe together keep its rate, since they are on one link.
+use Rattle.std.proofs.Common.{◌≡◌, ◌∙◌, ◌≤◌, ◌<◌, ℕ, ◌+◌, ◌*◌, Bool, true, false, cond, List, [], ◌∷◌, ◌++◌, refl, ap, sym, subst, arith}
+use Rattle.std.specs.Prelude.{◌^◌, Option, nat_eq, slice_get}
+use Rattle.dn_types.specs.Calls.{link_of, trace_of}
+use Rattle.dn_laws.specs.Explained.{sent}
+use Rattle.dn_types.specs.Flows.{keys}
+use Rattle.dn_laws.specs.PacketLaws.{is_of_queues, sent_by_queues}
+use Rattle.dn_laws.specs.RateLaws.{StaysInForce}
+use Rattle.dn_types.specs.Trace.{Link, shared, link_eq, pipe_of, Start, Event, opened, arrived, started, lost, refused, discarded, collected}
+use Rattle.dn_types.specs.declared.call.Call.{Call}
+use Rattle.dn_types.specs.declared.command.Command.TheVariants.{Pipe}
+use Rattle.dn_types.specs.declared.flow_key.FlowKey.{FlowKey}
+use Rattle.dn_types.specs.declared.limit.Limit.{Limit}
+use Rattle.dn_types.specs.declared.mask.Mask.{Mask}
+use Rattle.dn_types.specs.declared.target.Target.{Target}
+use Rattle.dn_types.specs.declared.target.Target.TheVariants.{Pipe as ToPipe, Queue as ToQueue}
+use Rattle.dn_laws.proofs.AtHome.{IsHomeOf, HaveHomes, have-homes, start-home}
+use Rattle.dn_laws.proofs.ConfiguredRate.{keeps-the-configured-rate}
+use Rattle.dn_types.proofs.Fifo.{IsProper}
+use Rattle.dn_types.proofs.Ordered.{suffix-proper, trace-proper}
+use Rattle.dn_types.proofs.Settled.{link_eq-true}
+
+suffix-homes : (known : List FlowKey) (later earlier : List Event) → HaveHomes known (later ++ earlier) → HaveHomes known earlier
+suffix-homes known [] earlier h = h
+suffix-homes known (arrived p ∷ later) earlier h = suffix-homes known later earlier h.1
+suffix-homes known (opened l ∷ later) earlier h = suffix-homes known later earlier h
+suffix-homes known (started s ∷ later) earlier h = suffix-homes known later earlier h
+suffix-homes known (lost l f ∷ later) earlier h = suffix-homes known later earlier h
+suffix-homes known (refused l f ∷ later) earlier h = suffix-homes known later earlier h
+suffix-homes known (discarded f ∷ later) earlier h = suffix-homes known later earlier h
+suffix-homes known (collected m ∷ later) earlier h = suffix-homes known later earlier h
+
+module _ (number : ℕ) (known : List FlowKey) where
+  -- A packet is on the pipe's shared link where its flow is of a queue on the pipe.
+  on-shared : (link : Link) (flow : ℕ) → IsHomeOf known link flow → link_eq link (shared number) ≡ is_of_queues number (slice_get known flow)
+  on-shared link flow h = ap (λ (l : Link). link_eq l (shared number)) h.is ∙ by h.key.target ∙ ap (is_of_queues number) (sym h.at)
+    where
+      by : (t : Target) → link_eq (link_of t flow h.key.pipe) (shared number) ≡ elim t as (λ _. Bool) [ ToPipe n ↦ false | ToQueue n ↦ nat_eq h.key.pipe number ]
+      by (ToPipe n) = refl
+      by (ToQueue n) = refl
+
+  same-sent : (f rest : List Event) → IsProper (f ++ rest) → HaveHomes known (f ++ rest) → sent_by_queues number known f ≡ sent (shared number) f
+  same-sent [] rest proper h = refl
+  same-sent (started s ∷ f) rest proper h =
+      let more = same-sent f rest proper.2 h in
+      let same = on-shared s.packet.link s.packet.stamped.flow (start-home known s (f ++ rest) proper h) in
+      let one : cond (link_eq s.packet.link (shared number)) s.packet.stamped.len 0 ≡ cond (is_of_queues number (slice_get known s.packet.stamped.flow)) s.packet.stamped.len 0 =
+      ap {B = ℕ} (λ b. cond b s.packet.stamped.len 0) same in
+      omega (arith, more, one)
+  same-sent (arrived p ∷ f) rest proper h = same-sent f rest proper.1 h.1
+  same-sent (opened l ∷ f) rest proper h = same-sent f rest proper h
+  same-sent (lost l n ∷ f) rest proper h = same-sent f rest proper h
+  same-sent (refused l n ∷ f) rest proper h = same-sent f rest proper h
+  same-sent (discarded n ∷ f) rest proper h = same-sent f rest proper h
+  same-sent (collected m ∷ f) rest proper h = same-sent f rest proper h
+
+assoc : (xs ys zs : List Event) → (xs ++ ys) ++ zs ≡ xs ++ (ys ++ zs)
+assoc [] ys zs = refl
+assoc (x ∷ xs) ys zs = ap (λ (r : List Event). x ∷ r) (assoc xs ys zs)
+
+pub queues-share-the-rate : (after calls : List Call) (number bw delay : ℕ) (limit : Limit) (loss : ℕ) (buckets : Option ℕ) (mask : Mask) (later between earlier : List Event) (s r : Start) →
+    StaysInForce (ToPipe number) (Pipe number bw delay limit loss buckets mask) after calls → 0 < bw →
+    trace_of (after ++ calls) ≡ (later ++ (started s ∷ (between ++ (started r ∷ earlier)))) ++ trace_of calls →
+    is_of_queues number (slice_get (keys (after ++ calls)) r.packet.stamped.flow) ≡ true →
+    is_of_queues number (slice_get (keys (after ++ calls)) s.packet.stamped.flow) ≡ true →
+    sent_by_queues number (keys (after ++ calls)) (between ++ started r ∷ []) * 8 * 10 ^ 9 + r.moment * bw ≤ s.moment * bw
+queues-share-the-rate after calls number bw delay limit loss buckets mask later between earlier s r stays some e of_r of_s =
+    subst (λ (n : ℕ). n * 8 * 10 ^ 9 + r.moment * bw ≤ s.moment * bw) (ap (λ (l : Link). sent l (between ++ started r ∷ [])) on_r ∙ sym same)
+    (keeps-the-configured-rate after calls number bw delay limit loss buckets mask later between earlier s r stays some e (ap pipe_of on_r) (on_s ∙ sym on_r))
+  where
+    known : List FlowKey
+    known = keys (after ++ calls)
+
+    rest : List Event
+    rest = earlier ++ trace_of calls
+
+    stretch : List Event
+    stretch = between ++ started r ∷ []
+
+    parts : trace_of (after ++ calls) ≡ later ++ (started s ∷ ((between ++ started r ∷ []) ++ (earlier ++ trace_of calls)))
+    parts = e ∙ assoc later (started s ∷ (between ++ (started r ∷ earlier))) (trace_of calls)
+        ∙ ap (λ (t : List Event). later ++ (started s ∷ t)) (assoc between (started r ∷ earlier) (trace_of calls) ∙ sym (assoc between (started r ∷ []) (earlier ++ trace_of calls)))
+
+    proper : IsProper (started s ∷ ((between ++ started r ∷ []) ++ (earlier ++ trace_of calls)))
+    proper = suffix-proper later (started s ∷ (stretch ++ rest)) (subst IsProper parts (trace-proper (after ++ calls)))
+
+    homes : HaveHomes (keys (after ++ calls)) ((between ++ started r ∷ []) ++ (earlier ++ trace_of calls))
+    homes = suffix-homes known later (started s ∷ (stretch ++ rest)) (subst (HaveHomes known) parts (have-homes (after ++ calls)))
+
+    on_s : s.packet.link ≡ shared number
+    on_s = link_eq-true s.packet.link (shared number) (on-shared number known s.packet.link s.packet.stamped.flow (start-home known s (stretch ++ rest) proper homes) ∙ of_s)
+
+    shape : (between ++ started r ∷ []) ++ (earlier ++ trace_of calls) ≡ between ++ (started r ∷ (earlier ++ trace_of calls))
+    shape = assoc between (started r ∷ []) (earlier ++ trace_of calls)
+
+    on_r : r.packet.link ≡ shared number
+    on_r = link_eq-true r.packet.link (shared number)
+        (on-shared number known r.packet.link r.packet.stamped.flow (start-home known r rest (suffix-proper between (started r ∷ rest) (subst IsProper shape proper.2)) (suffix-homes known between (started r ∷ rest) (subst (HaveHomes known) shape homes))) ∙ of_r)
+
+    same : sent_by_queues number (keys (after ++ calls)) (between ++ started r ∷ []) ≡ sent (shared number) (between ++ started r ∷ [])
+    same = same-sent number known stretch rest proper.2 homes

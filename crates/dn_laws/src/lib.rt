@@ -1,0 +1,4 @@
+//! The laws of the definitions of dn_types, which hold for all lists of calls.
+#![tactic(auto)]
+
+pub mod laws;

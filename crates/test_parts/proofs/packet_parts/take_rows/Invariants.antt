@@ -1,5 +1,0 @@
-use Rattle.std.proofs.Common.{length}
-use Rattle.test_parts.proofs.packet_parts.take_rows.Given as goal
-
-abbrev pub decreases-loop-row : goal.decreases-loop-row
-decreases-loop-row l = length l.reader.text
