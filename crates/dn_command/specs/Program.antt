@@ -17,6 +17,14 @@ callers_rule = record (new_rule (codes "callers")) {
   parser = Some (Unsigned 1 16);
 }
 
+-- --threads N, of 1 to 64.
+abbrev pub threads_rule : Rule
+threads_rule = record (new_rule (codes "threads")) {
+  long = Some (codes "threads");
+  value_names = 1;
+  parser = Some (Unsigned 1 64);
+}
+
 -- --history FILE
 abbrev pub history_rule : Rule
 history_rule = record (new_rule (codes "history")) {
@@ -42,8 +50,12 @@ unlimited_form =
     history_rule
 
 -- The same with --most-packets
+abbrev pub limited_form : App
+limited_form = with_rule unlimited_form (most_rule (codes "most-packets"))
+
+-- The same with --threads
 abbrev pub replay_form : App
-replay_form = with_rule unlimited_form (most_rule (codes "most-packets"))
+replay_form = with_rule limited_form threads_rule
 
 -- audit HISTORY, with its option
 abbrev pub audit_form : App

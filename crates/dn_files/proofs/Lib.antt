@@ -1,4 +1,5 @@
 pub mod Causes
+pub mod ChunkRows
 pub mod Commands
 pub mod Headers
 pub mod Inputs

@@ -1,6 +1,7 @@
 pub mod ConfigFile
 pub mod Faults
 pub mod Fields
+pub mod InChunks
 pub mod LineEnd
 pub mod PacketFile
 pub mod PacketParts

@@ -6,8 +6,8 @@ use Rattle.std.proofs.lemmas.Bool.Decides.{nat_tests}
 use Rattle.std.proofs.lemmas.List.{append-nil}
 use Rattle.std.proofs.lemmas.List.Elements.{All-head, All-tail, filter-append}
 use Rattle.std.proofs.lemmas.List.Sums.{sum_by-cons}
+use Rattle.dn_types.specs.Deliveries.{AreInOrder}
 use Rattle.dn_types.specs.Given.{is_packet}
-use Rattle.dn_types.specs.TimeLaws.{AreInOrder}
 use Rattle.dn_types.specs.declared.delivery.Delivery.{Delivery}
 use Rattle.dn_replay.specs.Kept.{accepted_places, delivery_line, fate_line, fate_lines, is_accepted}
 use Rattle.dn_replay.specs.Report.{delivery_of_packet, due_of, is_other, is_out, outs_in_order, packet_of, queued_line, row_number, sorted_by}

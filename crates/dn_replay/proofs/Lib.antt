@@ -11,8 +11,10 @@ pub mod KeptReport
 pub mod KeptSteps
 pub mod LineBytes
 pub mod LineSteps
+pub mod ListRows
 pub mod Orders
 pub mod OtherSteps
+pub mod OutTexts
 pub mod OwnFaults
 pub mod PacketNumbers
 pub mod PartSteps

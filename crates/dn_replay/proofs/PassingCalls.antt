@@ -7,14 +7,13 @@ use Rattle.std.proofs.lemmas.List.Elements.{All-append, All-cons, All-head, All-
 use Rattle.dn_types.specs.Calls.{Verdict, trace_of, verdict}
 use Rattle.dn_types.specs.Clock.{call_limit, effective_moment}
 use Rattle.dn_types.specs.Configuration.{Settings, settings}
-use Rattle.dn_types.specs.Deliveries.{given as given_at, undelivered}
+use Rattle.dn_types.specs.Deliveries.{given as given_at, undelivered, AreInOrder}
 use Rattle.dn_types.specs.Flows.{Treatment, keys, treatment}
 use Rattle.dn_types.specs.Links.{free}
 use Rattle.dn_types.specs.Replies.{counted_reply, reply}
 use Rattle.dn_types.specs.SharedLinks.{next_packet}
 use Rattle.dn_types.specs.Standing.{Standing, Traffic, standing_of_counted, traffic}
 use Rattle.dn_types.specs.Starts.{first_start, next_start, settle, settled, start_at, waiting_all}
-use Rattle.dn_types.specs.TimeLaws.{AreInOrder}
 use Rattle.dn_types.specs.Trace.{Link, Accepted, Event, Start, accepted_count, collected, is_arrival, is_loss_of, is_refusal_of, is_start_of, links, started}
 use Rattle.dn_types.specs.declared.call.Call.{Call}
 use Rattle.dn_types.specs.declared.call.Call.TheVariants.{Collect, Submit}

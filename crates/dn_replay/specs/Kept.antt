@@ -12,7 +12,8 @@ use Rattle.dn_types.specs.declared.entry.Entry.{Entry}
 use Rattle.dn_types.specs.declared.reply.Reply.{Reply}
 use Rattle.dn_types.specs.declared.reply.Reply.TheVariants as r
 use Rattle.dn_types.specs.declared.rule.Rule.TheVariants.{Ordered}
-use Rattle.dn_replay.specs.Report.{delivered, deliveries, delivery_of_packet, is_other, is_submit, lines_after, queued_line, submits_by}
+use Rattle.dn_records.specs.Records.{text_of}
+use Rattle.dn_replay.specs.Report.{delivered, deliveries, delivery_of_packet, is_other, is_submit, line_fields, lines_after, queued_line, submits_by}
 use Rattle.dn_replay.specs.Runs.{history_of}
 use Rattle.dn_replay.specs.declared.report.fate.Fate.{Fate}
 use Rattle.dn_replay.specs.declared.report.fate.Fate.TheVariants.{Accepted, Lost, Full, NoTarget, Unanswered}
@@ -87,6 +88,10 @@ delivery_line accepted fates d =
     let place = slice_index accepted d.packet in
     let fate = slice_index_or fates place Unanswered in
     line.Out (place + 1) (flow_of fate) d.packet (moment_of fate) d.start d.due
+
+-- The text of the `out` lines of deliveries, in their order.
+abbrev pub out_text : Kept → List Delivery → List ℕ
+out_text kept given = text_of (map line_fields (map (delivery_line kept.accepted.items kept.fates.items) given))
 
 -- The lines of a report from what is kept: those of the deliveries in their order, and the others in the order of rows.
 abbrev pub kept_lines : Kept → List Delivery → List ReportLine

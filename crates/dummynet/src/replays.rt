@@ -2,8 +2,9 @@ use crate::late_file::LateFile;
 use dn_command::Replay;
 use dn_records::{FromReader, FromWriter};
 use dn_replay::{
-    HashKey, NoGate, Outcome, PACKET_LIMIT, ReplayFault, Source, replay_callers_with_key,
-    replay_joined_report, replay_report_within, replay_within, write_history,
+    HashKey, NoGate, Outcome, PACKET_LIMIT, ReplayFault, Source, replay_by_threads,
+    replay_callers_with_key, replay_joined_report, replay_report_by_threads, replay_report_within,
+    replay_within, write_history,
 };
 use std::rt::Files;
 use std::sync::Wait;
@@ -43,11 +44,23 @@ pub fn replay_files<R: Files + Print + AllocGlobal + Threads + Wait + Sync>(
     let mut out = FromWriter::new(io::writer(rt));
     let alloc = rt.alloc();
     let limit = asked.most_packets.unwrap_or(PACKET_LIMIT).min(MOST);
-    let entries = match (asked.callers, asked.history) {
-        (None, None) => {
+    let entries = match (asked.callers, asked.threads, asked.history) {
+        (None, None, None) => {
             return replay_report_within(alloc, key, limit, &mut config, &mut packets, &mut out);
         }
-        (Some(n), _) => replay_callers_with_key(
+        (None, Some(threads), None) => {
+            return replay_report_by_threads(
+                rt,
+                alloc,
+                threads,
+                key,
+                limit,
+                &mut config,
+                &mut packets,
+                &mut out,
+            );
+        }
+        (Some(n), _, _) => replay_callers_with_key(
             rt,
             alloc,
             key,
@@ -57,7 +70,19 @@ pub fn replay_files<R: Files + Print + AllocGlobal + Threads + Wait + Sync>(
             &mut out,
             &NoGate,
         )?,
-        (None, Some(_)) => replay_within(alloc, key, limit, &mut config, &mut packets, &mut out)?,
+        (None, None, Some(_)) => {
+            replay_within(alloc, key, limit, &mut config, &mut packets, &mut out)?
+        }
+        (None, Some(threads), Some(_)) => replay_by_threads(
+            rt,
+            alloc,
+            threads,
+            key,
+            limit,
+            &mut config,
+            &mut packets,
+            &mut out,
+        )?,
     };
     let outcome = Outcome::of(&entries);
     let Some(path) = asked.history else {

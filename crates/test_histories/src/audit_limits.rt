@@ -1,7 +1,8 @@
 use crate::history::ONE_CALLER;
-use dn_replay::{
-    FileAudit, FromReader, FromWriter, HashKey, ReplayFault, Source, Verdict, audit_file_within,
-};
+use dn_audit::{FileAudit, Verdict, audit_file_within};
+use dn_files::{ReplayFault, Source};
+use dn_records::{FromReader, FromWriter};
+use dn_shaper::HashKey;
 use std::alloc::Global;
 
 // What the audit of a file answers that has at most so many bytes, and whether those can be fed.

@@ -1,7 +1,8 @@
 use crate::history::ONE_CALLER;
-use dn_replay::{
-    FileAudit, FromReader, FromWriter, HashKey, ReplayFault, Verdict, audit_file_with_key,
-};
+use dn_audit::{FileAudit, Verdict, audit_file_with_key};
+use dn_files::ReplayFault;
+use dn_records::{FromReader, FromWriter};
+use dn_shaper::HashKey;
 use std::alloc::Global;
 use std::test::Fail;
 use test_devices::Parts;

@@ -1,13 +1,15 @@
-//! What a service leaves is written, read, audited and reported.
+//! What a service leaves is written, read and audited.
 ghost use Rattle.std.specs.Prelude.{◌<◌, All, IfOk};
 ghost use Rattle.dn_service.specs.Callers.{IsOf, IsSameCaller};
 
 use crate::histories::one_caller;
 use crate::history::ONE_CALLER;
 use crate::history_files::is_read_as;
+use dn_audit::{Verdict, audit_with_key};
+use dn_history::write_history;
 use dn_records::FromWriter;
-use dn_replay::{HashKey, Verdict, audit_with_key, write_history, write_report};
 use dn_service::{Caller, CloseFault, Service};
+use dn_shaper::HashKey;
 use dn_types::{Entry, Rule};
 use std::alloc::{AllocError, Global};
 use std::sync::Wait;
@@ -56,11 +58,7 @@ fn one_caller_history(rt: HostRuntime) -> Result<(), Fail> {
     assert!(rt; is_read_as(alloc, ONE_CALLER.as_bytes(), &history)?);
     assert!(rt; audit_with_key(alloc, HashKey(7), Rule::Ordered, &history) == Ok(Verdict::Lawful));
     let mut file = Vec::new(alloc);
-    let mut report = Vec::new(alloc);
     write_history(alloc, &history, &mut FromWriter::new(&mut file))?;
-    write_report(alloc, 1, &history, &mut FromWriter::new(&mut report))?;
     assert!(rt; file.as_slice() == ONE_CALLER.as_bytes());
-    let lines = "event,row,flow,packet,at,start,due\nout,1,0,0,0,0,1000000\n";
-    assert!(rt; report.as_slice() == lines.as_bytes());
     Ok(())
 }

@@ -1,9 +1,9 @@
 use crate::history::ONE_CALLER;
 use crate::history_files::text_with;
-use dn_replay::{
-    FromReader, FromWriter, HashKey, Inlet, Outlet, ReplayFault, Source, Verdict, audit_file,
-    audit_file_with_key,
-};
+use dn_audit::{Verdict, audit_file, audit_file_with_key};
+use dn_files::{ReplayFault, Source};
+use dn_records::{FromReader, FromWriter, Inlet, Outlet};
+use dn_shaper::HashKey;
 use std::alloc::Global;
 use std::test::Fail;
 use test_devices::{Parts, Sink, WhenFull};

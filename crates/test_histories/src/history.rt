@@ -1,5 +1,7 @@
 use crate::histories::{NO_BITS, entry, flow_state, number, one_caller, pipe_one, submit};
-use dn_replay::{FromReader, FromWriter, Outlet, ReplayFault, Source, read_history, write_history};
+use dn_files::{ReplayFault, Source};
+use dn_history::{read_history, write_history};
+use dn_records::{FromReader, FromWriter, Outlet};
 use dn_types::{
     Bandwidth, Buckets, Call, Command, Delay, Deliveries, Delivery, Entry, FlowKey, FlowStatus,
     Limit, Loss, Mask, Moment, Number, Reply, Rule, Statuses, Target, Weight,

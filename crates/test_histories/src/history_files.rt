@@ -1,5 +1,7 @@
 use crate::histories::one_caller;
-use dn_replay::{FromReader, Inlet, ReplayFault, Source, read_history};
+use dn_files::{ReplayFault, Source};
+use dn_history::read_history;
+use dn_records::{FromReader, Inlet};
 use dn_types::{Deliveries, Delivery, Entry, FlowKey, FlowStatus, Reply, Rule, Statuses, Target};
 use std::alloc::Global;
 use std::io;

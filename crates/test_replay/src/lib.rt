@@ -4,6 +4,8 @@
 #[cfg(test)]
 mod broken;
 #[cfg(test)]
+mod by_threads;
+#[cfg(test)]
 mod fed;
 #[cfg(test)]
 mod headers;

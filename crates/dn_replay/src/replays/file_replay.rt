@@ -6,7 +6,8 @@ ghost use Rattle.dn_replay.specs.OnePass.{IsAnswered, NoneFailed};
 ghost use Rattle.dn_replay.specs.Replays.{config_calls, IsUnreplayed};
 
 use crate::replays::input::{Input, Stage};
-use crate::report::Outcome;
+use crate::replays::threading::{OneThread, Threading};
+use crate::report::{Outcome, Printing};
 use dn_files::{CONFIG_LIMIT, Feed, PACKET_LIMIT, ReplayFault, Source, feed_all};
 use dn_records::{Inlet, Outlet};
 use dn_shaper::HashKey;
@@ -123,10 +124,22 @@ impl FileReplay {
         ensures err { IfErr result (λ fault. (records : Bool) (config : Option (List ℕ)) (text more : List ℕ)
             → HasCome records self.old config text → IsFaultOf (calls_asked self.old.limit config (text ++ (part.now ++ more))) fault) }
     {
+        self.feed_by(&OneThread, part)
+    }
+
+    /// Takes the next part, whose rows are read by these threads.
+    pub(crate) fn feed_by<T: Threading>(&mut self, by: &T, part: &[u8]) -> Result<(), ReplayFault>
+        ensures ok { OnOk result ((records : Bool) (config : Option (List ℕ)) (text : List ℕ)
+            → HasCome records self.old config text → HasCome records self.new config (text ++ part.now)) }
+        ensures limit { self.new.limit ≡ self.old.limit }
+        ensures room { OnOk result (length part.now + (self.new.limit - self.new.length) ≤ self.old.limit - self.old.length) }
+        ensures err { IfErr result (λ fault. (records : Bool) (config : Option (List ℕ)) (text more : List ℕ)
+            → HasCome records self.old config text → IsFaultOf (calls_asked self.old.limit config (text ++ (part.now ++ more))) fault) }
+    {
         if part.len() > self.limit - self.length {
             return Err(ReplayFault::TooLong(self.source));
         }
-        let Ok(()) = self.input.take(part) else {
+        let Ok(()) = self.input.take(by, part) else {
             self.input.stage = Stage::Refused(ReplayFault::OutOfMemory);
             return Err(ReplayFault::OutOfMemory);
         };
@@ -162,10 +175,27 @@ impl FileReplay {
         ensures err { IfErr result (λ fault. (records : Bool) (config : Option (List ℕ)) (text : List ℕ) → HasCome records self config text
             → IsUnreplayed NoneFailed (λ asked. calls_asked self.limit config text ≡ asked) (O.contents out.old) (O.contents out.new) (O.has_failed out.new) fault) }
     {
+        self.finish_by(&OneThread, out)
+    }
+
+    /// The same with the lines of the report made by these threads.
+    pub(crate) fn finish_by<P: Printing, O: Outlet>(
+        self,
+        by: &P,
+        out: &mut O,
+    ) -> Result<(Vec<Entry>, Outcome), ReplayFault>
+        requires sound { O.has_failed out.old ≡ false }
+        ensures ok { IfOk result (λ both. (records : Bool) (config : Option (List ℕ)) (text : List ℕ) → HasCome records self config text
+            → IsAnswered records (λ asked. calls_asked self.limit config text ≡ asked) both.0.items both.1.untargeted (O.contents out.old) (O.contents out.new)) }
+        ensures unasked { IfOk result (λ both. self.records ≡ false → both.0.items ≡ []) }
+        ensures sound { IfOk result (λ _. O.has_failed out.new ≡ false) }
+        ensures err { IfErr result (λ fault. (records : Bool) (config : Option (List ℕ)) (text : List ℕ) → HasCome records self config text
+            → IsUnreplayed NoneFailed (λ asked. calls_asked self.limit config text ≡ asked) (O.contents out.old) (O.contents out.new) (O.has_failed out.new) fault) }
+    {
         let alloc = self.alloc;
         let records = self.records;
         let mut input = self.input;
-        let answer = input.report(out);
+        let answer = input.report(by, out);
         let history = if records {
             input.pass.run.take_history(alloc)
         } else {

@@ -6,17 +6,21 @@ ghost use Rattle.dn_replay.specs.InParts.{calls_asked, HasCome, IsAskedBehind, I
 ghost use Rattle.dn_replay.specs.OnePass.{IsAnswered, IsReportedFor};
 ghost use Rattle.dn_replay.specs.Replays.{AskFor, AskForWithin, AsksFor, EitherFailed, InputFailed, IsReplayed, IsUnreplayed, TextFailed};
 
+use crate::replays::feeding::Feeding;
 use crate::replays::file_replay::FileReplay;
+use crate::replays::threading::{OneThread, Threading};
 use crate::report::Outcome;
-use dn_files::{CONFIG_LIMIT, PACKET_LIMIT, ReplayFault, Source, read_input};
+use dn_files::{CONFIG_LIMIT, PACKET_LIMIT, ReplayFault, Source, feed_steps, read_input};
 use dn_records::{Inlet, Outlet};
 use dn_shaper::HashKey;
 use dn_types::Entry;
 use std::alloc::Global;
 
 /// Feeds a replay of which nothing has come what an inlet has left, and answers it.
-fn answer<I: Inlet, O: Outlet>(
-    mut replay: FileReplay,
+fn answer<T: Threading, I: Inlet, O: Outlet>(
+    alloc: Global,
+    by: &T,
+    replay: FileReplay,
     inlet: &mut I,
     out: &mut O,
 ) -> Result<(Vec<Entry>, Outcome), ReplayFault>
@@ -31,19 +35,21 @@ fn answer<I: Inlet, O: Outlet>(
         → IsUnreplayed (TextFailed (source_of config) (I.has_failed inlet.new)) (IsAskedBehind replay.limit config (I.remaining inlet.old))
         (O.contents out.old) (O.contents out.new) (O.has_failed out.new) fault) }
 {
-    match replay.read(inlet) {
-        Ok(()) => replay.finish(out),
+    let mut feeding = Feeding { replay, by };
+    match feed_steps(alloc, inlet, &mut feeding, by.step()) {
+        Ok(()) => feeding.replay.finish_by(by, out),
         Err(fault) => {
             // The proof of a drop by a call has one step, where that of a drop at the end has one for each field.
-            drop(replay);
+            drop(feeding);
             Err(fault)
         }
     }
 }
 
-/// Two inputs are read and what they ask for is answered.
-fn replay_inputs<C: Inlet, P: Inlet, O: Outlet>(
+/// Two inputs are read, the rows of the packets by these threads, and what they ask for is answered.
+pub(crate) fn replay_inputs<T: Threading, C: Inlet, P: Inlet, O: Outlet>(
     alloc: Global,
+    by: &T,
     key: HashKey,
     records: bool,
     limit: usize,
@@ -67,7 +73,7 @@ fn replay_inputs<C: Inlet, P: Inlet, O: Outlet>(
 {
     let text = read_input(alloc, config, CONFIG_LIMIT, Source::Config)?;
     let replay = FileReplay::behind_within(alloc, key, records, limit, text.as_slice())?;
-    answer(replay, packets, out)
+    answer(alloc, by, replay, packets, out)
 }
 
 /// A joined input is read and what it asks for is answered.
@@ -88,7 +94,8 @@ fn replay_input<I: Inlet, O: Outlet>(
         IsUnreplayed (InputFailed (I.has_failed input.new)) (AsksFor (I.remaining input.old))
         (O.contents out.old) (O.contents out.new) (O.has_failed out.new) fault) }
 {
-    answer(FileReplay::joined(alloc, key, records), input, out)
+    let replay = FileReplay::joined(alloc, key, records);
+    answer(alloc, &OneThread, replay, input, out)
 }
 
 /// [`replay`](crate::replay) with a secret for the flow table's hash, for packets that a stranger chose.
@@ -154,7 +161,7 @@ pub fn replay_within<C: Inlet, P: Inlet, O: Outlet>(
         (AskForWithin limit (C.remaining config.old) (P.remaining packets.old))
         (O.contents out.old) (O.contents out.new) (O.has_failed out.new) fault) }
 {
-    match replay_inputs(alloc, key, true, limit, config, packets, out) {
+    match replay_inputs(alloc, &OneThread, key, true, limit, config, packets, out) {
         Ok((entries, _)) => Ok(entries),
         Err(fault) => Err(fault),
     }
@@ -214,7 +221,7 @@ pub fn replay_report_within<C: Inlet, P: Inlet, O: Outlet>(
         (AskForWithin limit (C.remaining config.old) (P.remaining packets.old))
         (O.contents out.old) (O.contents out.new) (O.has_failed out.new) fault) }
 {
-    match replay_inputs(alloc, key, false, limit, config, packets, out) {
+    match replay_inputs(alloc, &OneThread, key, false, limit, config, packets, out) {
         Ok((_, outcome)) => Ok(outcome),
         Err(fault) => Err(fault),
     }

@@ -9,7 +9,8 @@ ghost use Rattle.dn_replay.specs.Replays.{IsUnreplayed};
 use crate::config::apply_lines::configure;
 use crate::config::config_part::ConfigPart;
 use crate::replays::pass::Pass;
-use crate::report::Outcome;
+use crate::replays::threading::Threading;
+use crate::report::{Outcome, Printing};
 use dn_files::ReplayFault;
 use dn_records::Outlet;
 use dn_shaper::HashKey;
@@ -69,7 +70,7 @@ impl Input {
     }
 
     /// Makes the commands of the configuration, which has come whole, and takes the first bytes behind it.
-    fn begin(&mut self, packets: &[u8]) -> Result<(), AllocError>
+    fn begin<T: Threading>(&mut self, by: &T, packets: &[u8]) -> Result<(), AllocError>
         requires { IsFresh self.old.pass }
         ensures { OnOk result ((asked : List ℕ → Result (List CallValue) FaultValue) (text : List ℕ)
             → IsCutAt asked text self.old.config.lines.items packets.now → HasTaken self.old.pass.records self.new asked text) }
@@ -77,7 +78,7 @@ impl Input {
         match configure(&mut self.pass.run, self.config.lines.as_slice()) {
             Ok(()) => {
                 self.stage = Stage::Packets;
-                self.pass.feed(packets)
+                by.feed(&mut self.pass, packets)
             }
             Err(fault) => {
                 self.stage = Stage::Refused(fault);
@@ -86,18 +87,18 @@ impl Input {
         }
     }
 
-    /// Takes a part of the input.
-    pub(crate) fn take(&mut self, part: &[u8]) -> Result<(), AllocError>
+    /// Takes a part of the input, whose rows are read by these threads.
+    pub(crate) fn take<T: Threading>(&mut self, by: &T, part: &[u8]) -> Result<(), AllocError>
         requires { (records : Bool) × (asked : List ℕ → Result (List CallValue) FaultValue) × (text : List ℕ) × HasTaken records self.old asked text }
         ensures { OnOk result ((records : Bool) (asked : List ℕ → Result (List CallValue) FaultValue) (text : List ℕ)
             → HasTaken records self.old asked text → HasTaken records self.new asked (text ++ part.now)) }
     {
         match self.stage {
             Stage::Config => match self.config.take(part)? {
-                Some(packets) => self.begin(packets),
+                Some(packets) => self.begin(by, packets),
                 None => Ok(()),
             },
-            Stage::Packets => self.pass.feed(part),
+            Stage::Packets => by.feed(&mut self.pass, part),
             Stage::Refused(_) => Ok(()),
         }
     }
@@ -125,7 +126,11 @@ impl Input {
     /// Takes the end of the input, and writes the report of what it asks for.
     ///
     /// If the calls are recorded, they are all in the history then.
-    pub(crate) fn report<O: Outlet>(&mut self, out: &mut O) -> Result<Outcome, ReplayFault>
+    pub(crate) fn report<P: Printing, O: Outlet>(
+        &mut self,
+        by: &P,
+        out: &mut O,
+    ) -> Result<Outcome, ReplayFault>
         requires taken { (records : Bool) × (asked : List ℕ → Result (List CallValue) FaultValue) × (text : List ℕ)
             × HasTaken records self.old asked text × AreFew (asked text) }
         requires sound { O.has_failed out.old ≡ false }
@@ -138,6 +143,6 @@ impl Input {
             → IsUnreplayed NoneFailed (λ r. asked text ≡ r) (O.contents out.old) (O.contents out.new) (O.has_failed out.new) fault) }
     {
         self.end()?;
-        self.pass.report(self.alloc, out)
+        self.pass.report(self.alloc, by, out)
     }
 }

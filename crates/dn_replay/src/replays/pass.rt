@@ -12,7 +12,7 @@ ghost use Rattle.dn_replay.specs.Report.{delivered};
 ghost use Rattle.dn_replay.specs.Runs.{submit as submit_of, submitted};
 
 use crate::config::run::{Run, submit};
-use crate::report::{Kept, Outcome, delivered_by, last_delivered, write_kept};
+use crate::report::{Kept, Outcome, Printing, delivered_by, last_delivered, write_kept};
 use dn_files::{PacketReader, ReplayFault, Row};
 use dn_records::Outlet;
 use dn_shaper::{HashKey, Shaper};
@@ -74,7 +74,7 @@ fn submit_row(
 }
 
 /// Submits the packet of each row.
-fn submit_rows(
+pub(crate) fn submit_rows(
     run: &mut Run,
     kept: &mut Kept,
     given: &mut Vec<Delivery>,
@@ -174,9 +174,10 @@ impl Pass {
     }
 
     /// Takes the end of the packets' text and all packets that are due by the last moment, and writes the report.
-    pub(crate) fn report<O: Outlet>(
+    pub(crate) fn report<P: Printing, O: Outlet>(
         &mut self,
         alloc: Global,
+        by: &P,
         out: &mut O,
     ) -> Result<Outcome, ReplayFault>
         requires fed { (records : Bool) × (calls : List CallValue) × (text : List ℕ) × HasFed records self.old calls text × AreFew (calls_with calls text) }
@@ -188,6 +189,6 @@ impl Pass {
             → IsUnreplayed NoneFailed (λ asked. calls_with calls text ≡ asked) (O.contents out.old) (O.contents out.new) (O.has_failed out.new) fault) }
     {
         self.finish()?;
-        write_kept(alloc, &self.kept, self.all_given(), out)
+        write_kept(alloc, by, &self.kept, self.all_given(), out)
     }
 }

@@ -17,9 +17,10 @@ ghost use Rattle.dn_replay.specs.declared.report.fate.Fate.TheVariants.{Unanswer
 
 use crate::report::fate::Fate;
 use crate::report::kept::Kept;
-use crate::report::line_text::{LINE, add_header, add_held, add_no_target, add_out, add_refused};
+use crate::report::line_text::{LINE, add_header, add_held, add_no_target, add_refused};
 use crate::report::outcome::Outcome;
 use crate::report::parts::{PART, write_full_part, write_part};
+use crate::report::printing::Printing;
 use dn_files::{ReplayFault, Source};
 use dn_records::{Outlet, WriteFault};
 use dn_types::Delivery;
@@ -47,78 +48,6 @@ fn given_marks(alloc: Global, kept: &Kept, given: &[Delivery]) -> Result<Vec<boo
         mark(&mut marks, delivery.packet);
     }
     Ok(marks)
-}
-
-/// The place of the row whose packet has a number.
-fn place_of(accepted: &[usize], packet: u64) -> usize
-    requires { packet < length accepted.now }
-    ensures { result ≡ slice_index accepted.now packet }
-{
-    accepted[packet as usize]
-}
-
-/// The fate of the packet of a row.
-fn fate_at(fates: &[Fate], place: usize) -> Fate
-    requires { place < length fates.now }
-    ensures { result ≡ slice_index_or fates.now place Unanswered }
-{
-    fates[place]
-}
-
-/// Adds the `out` line of a delivery.
-fn add_delivery(text: &mut Vec<u8>, accepted: &[usize], fates: &[Fate], delivery: Delivery)
-    requires room { length text.old.items + 160 ≤ vec_capacity text.old }
-    requires known { delivery.packet < length accepted.now }
-    requires placed { slice_index accepted.now delivery.packet < length fates.now }
-    ensures items { text.new.items ≡ text.old.items ++ line_of (line_fields (delivery_line accepted.now fates.now delivery)) }
-    ensures capacity { vec_capacity text.old ≤ vec_capacity text.new }
-{
-    let place = place_of(accepted, delivery.packet);
-    let fate = fate_at(fates, place);
-    let Delivery {
-        due,
-        packet,
-        start,
-        ..
-    } = delivery;
-    let row = place as u128 + 1;
-    add_out(text, row, fate.flow(), packet, fate.at(), start, due);
-}
-
-/// Writes the `out` lines of deliveries, in their order.
-fn write_outs<O: Outlet>(
-    kept: &Kept,
-    given: &[Delivery],
-    text: &mut Vec<u8>,
-    out: &mut O,
-) -> Result<(), WriteFault>
-    requires known { AreKnown kept.now given.now }
-    requires room { 65536 + 160 ≤ vec_capacity text.old }
-    requires short { length text.old.items < 65536 }
-    requires sound { O.has_failed out.old ≡ false }
-    ensures ok { OnOk result ((start : Option (List ℕ)) (before : List ℕ) →
-        IsUnderWay start (O.contents out.old) text.old.items before →
-        IsUnderWay start (O.contents out.new) text.new.items
-        (before ++ text_of (map line_fields (map (delivery_line kept.now.accepted.items kept.now.fates.items) given.now)))) }
-    ensures room { OnOk result (65536 + 160 ≤ vec_capacity text.new) }
-    ensures short { OnOk result (length text.new.items < 65536) }
-    ensures sound { OnOk result (O.has_failed out.new ≡ false) }
-    ensures part { OnErr result ((start : Option (List ℕ)) (before rest : List ℕ) →
-        IsUnderWay start (O.contents out.old) text.old.items before →
-        AppendsPart start (O.contents out.new)
-        ((before ++ text_of (map line_fields (map (delivery_line kept.now.accepted.items kept.now.fates.items) given.now))) ++ rest)) }
-    ensures failed { OnErr result (O.has_failed out.new ≡ true) }
-{
-    for delivery in given {
-        add_delivery(
-            text,
-            kept.accepted.as_slice(),
-            kept.fates.as_slice(),
-            *delivery,
-        );
-        write_full_part(text, out)?;
-    }
-    Ok(())
 }
 
 /// Whether a packet is marked.
@@ -211,7 +140,8 @@ fn begin(text: &mut Vec<u8>)
 }
 
 /// Writes the header, the lines of the deliveries and the others.
-fn write_lines<O: Outlet>(
+fn write_lines<P: Printing, O: Outlet>(
+    by: &P,
     kept: &Kept,
     given: &[Delivery],
     marks: &[bool],
@@ -231,14 +161,15 @@ fn write_lines<O: Outlet>(
     ensures failed { OnErr result (O.has_failed out.new ≡ true) }
 {
     begin(text);
-    write_outs(kept, given, text, out)?;
+    by.write_outs(kept, given, text, out)?;
     write_others(kept, marks, text, out)?;
     write_part(text, out)?;
     Ok(())
 }
 
 /// Writes the report of what is kept by way of an empty text with room.
-fn write_by<O: Outlet>(
+fn write_by<P: Printing, O: Outlet>(
+    by: &P,
     kept: &Kept,
     given: &[Delivery],
     marks: Vec<bool>,
@@ -258,7 +189,7 @@ fn write_by<O: Outlet>(
         IsUnwritten Report (report 1 (history_of (Collect (2 ^ 62) ∷ calls)))
         (O.contents out.old) (O.contents out.new) (O.has_failed out.new) fault) }
 {
-    match write_lines(kept, given, marks.as_slice(), &mut text, out) {
+    match write_lines(by, kept, given, marks.as_slice(), &mut text, out) {
         Ok(()) => Ok(Outcome {
             untargeted: kept.all_untargeted(),
         }),
@@ -270,8 +201,9 @@ fn write_by<O: Outlet>(
 ///
 /// `given` is what a Collect at the last moment gave: its lines follow the deliveries in their order. The text is written
 /// in parts, for which room is made before the first is written.
-pub(crate) fn write_kept<O: Outlet>(
+pub(crate) fn write_kept<P: Printing, O: Outlet>(
     alloc: Global,
+    by: &P,
     kept: &Kept,
     given: &[Delivery],
     out: &mut O,
@@ -294,5 +226,5 @@ pub(crate) fn write_kept<O: Outlet>(
     let Ok(text) = Vec::with_capacity(alloc, PART + LINE) else {
         return Err(ReplayFault::OutOfMemory);
     };
-    write_by(kept, given, marks, text, out)
+    write_by(by, kept, given, marks, text, out)
 }

@@ -6,7 +6,7 @@ use Rattle.dn_replay.proofs.PassSteps.{answered-first}
 use Rattle.dn_replay.proofs.replays.input.Input.begin.Goals as goal
 
 pub returns-in-Ok : goal.returns-in-Ok
-returns-in-Ok c =
+returns-in-Ok g c =
     let (calls, accepted, made) = rw c.as_slice.ensures.value at c.in-Ok.ensures.ok in
     on_ok_weaker c.feed.result (λ fed asked text cut. (
       calls,
@@ -22,5 +22,5 @@ returns-in-Ok c =
     )) c.feed.ensures
 
 pub returns-in-Err : goal.returns-in-Err
-returns-in-Err c = λ asked text cut more.
+returns-in-Err g c = λ asked text cut more.
     not_begun asked text c.args.self.now.config.lines.items c.args.packets.now c.in-Err.fault (rw c.as_slice.ensures.value at c.in-Err.ensures.err) cut more

@@ -1,0 +1,12 @@
+-- A packet file that is read in chunks by many threads.
+use Rattle.std.specs.Prelude.{◌≡◌, ℕ, ◌+◌, List, ◌++◌, length}
+use Rattle.csv.specs.declared.parser.State.TheVariants as st
+use Rattle.dn_records.specs.Reading.{records_after}
+use Rattle.dn_files.specs.PacketFile.{rows_from}
+use Rattle.dn_files.specs.PacketParts.{with_front}
+use Rattle.dn_files.specs.declared.row.Row.{Row}
+
+-- A chunk of a packet file, behind the header, has these rows and nothing else: whatever follows it, and whatever its first row's
+-- number is, they are read first.
+pub record HasRows (chunk : List ℕ) (rows : List Row) : Type 0 where
+  pub first : (number : ℕ) (more : List ℕ) → with_front rows (rows_from (number + length rows) (records_after st.StartRecord more)) ≡ rows_from number (records_after st.StartRecord (chunk ++ more))

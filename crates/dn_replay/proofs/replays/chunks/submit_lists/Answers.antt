@@ -1,0 +1,14 @@
+use Rattle.std.proofs.Common.{flat_map, take}
+use Rattle.dn_replay.specs.Runs.{submitted}
+use Rattle.dn_replay.proofs.ListRows.{answered_more}
+use Rattle.dn_replay.proofs.Runs.{no-row}
+use Rattle.dn_replay.proofs.replays.chunks.submit_lists.Goals as goal
+
+pub loop-list-init : goal.loop-list-init
+loop-list-init c = λ calls noted. rw (← no-row calls) noted
+
+pub loop-list-preserved : goal.loop-list-preserved
+loop-list-preserved c = λ calls noted.
+    answered_more (λ l. l.items) c.args.lists.now c.loop-list.list-index c.list-item.result c.loop-list-test.true c.list-item.is c.args.records c.submit_rows.new.run c.submit_rows.new.kept
+    c.submit_rows.new.given.items calls
+    (rw c.as_slice.ensures.value at (c.in_ok-submit_rows.ensures (submitted calls (flat_map (λ l. l.items) (take c.loop-list.list-index c.args.lists.now))) (c.loop-list.invariant calls noted)))

@@ -1,0 +1,86 @@
+ghost use Rattle.std.specs.Prelude.{◌<◌, ◌++◌, ℕ, Bool, List, OnOk};
+ghost use Rattle.dn_types.specs.declared.call.Call.{Call as CallValue};
+ghost use Rattle.dn_replay.specs.OnePass.{HasFed};
+
+use crate::replays::pass::Pass;
+use crate::report::{Kept, Printing, write_outs, write_outs_by_threads};
+use dn_records::{Outlet, WriteFault};
+use dn_types::Delivery;
+use std::alloc::{AllocError, Global};
+use std::thread::Threads;
+
+// How many bytes one read asks for at most, by one thread and for each of many.
+const PART: usize = 65_536;
+
+const SHARE: usize = 1_048_576;
+
+// No more threads read.
+const MOST: usize = 64;
+
+/// The threads that read the rows of a replay. No result depends on them.
+pub(crate) trait Threading: Printing {
+    /// A pass takes a part of the packets' text, and submits the rows that are whole.
+    fn feed(&self, pass: &mut Pass, part: &[u8]) -> Result<(), AllocError>
+        ensures { OnOk result ((records : Bool) (calls : List CallValue) (text : List ℕ)
+            → HasFed records pass.old calls text → HasFed records pass.new calls (text ++ part.now)) };
+
+    /// How many bytes one read asks for at most.
+    fn step(&self) -> usize
+        ensures { 0 < result };
+}
+
+/// The thread of the caller.
+pub(crate) struct OneThread;
+
+impl Printing for OneThread {
+    fn write_outs<O: Outlet>(
+        &self,
+        kept: &Kept,
+        given: &[Delivery],
+        text: &mut Vec<u8>,
+        out: &mut O,
+    ) -> Result<(), WriteFault> {
+        write_outs(kept, given, text, out)
+    }
+}
+
+impl Threading for OneThread {
+    fn feed(&self, pass: &mut Pass, part: &[u8]) -> Result<(), AllocError> {
+        pass.feed(part)
+    }
+
+    fn step(&self) -> usize {
+        PART
+    }
+}
+
+/// So many threads, of which 1 to 64 are used. They read the rows, and the caller's submits them.
+#[derive(Drop)]
+pub(crate) struct ManyThreads<'a, R> {
+    pub(crate) rt: &'a R,
+    pub(crate) alloc: Global,
+    pub(crate) count: usize,
+}
+
+impl<'a, R: Threads> Printing for ManyThreads<'a, R> {
+    fn write_outs<O: Outlet>(
+        &self,
+        kept: &Kept,
+        given: &[Delivery],
+        text: &mut Vec<u8>,
+        out: &mut O,
+    ) -> Result<(), WriteFault> {
+        let threads = self.count.min(MOST);
+        write_outs_by_threads(self.rt, self.alloc, threads, kept, given, text, out)
+    }
+}
+
+impl<'a, R: Threads> Threading for ManyThreads<'a, R> {
+    fn feed(&self, pass: &mut Pass, part: &[u8]) -> Result<(), AllocError> {
+        pass.feed_by_threads(self.rt, self.alloc, self.count.min(MOST), part)
+    }
+
+    fn step(&self) -> usize {
+        self.count.clamp(1, MOST) * SHARE
+    }
+}

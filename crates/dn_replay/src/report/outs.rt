@@ -1,0 +1,93 @@
+//! The `out` lines of deliveries.
+
+ghost use Rattle.std.specs.Prelude.{◌≡◌, ◌<◌, ◌≤◌, ◌+◌, ◌++◌, ℕ, List, Option, slice_index, slice_index_or, false, true, length, vec_capacity, OnOk, OnErr};
+ghost use Rattle.dn_records.specs.Devices.{AppendsPart};
+ghost use Rattle.dn_records.specs.Records.{line_of};
+ghost use Rattle.dn_replay.specs.Kept.{AreKnown, delivery_line, out_text};
+ghost use Rattle.dn_replay.specs.Parts.{IsUnderWay};
+ghost use Rattle.dn_replay.specs.Report.{line_fields};
+ghost use Rattle.dn_replay.specs.declared.report.fate.Fate.TheVariants.{Unanswered};
+
+use crate::report::fate::Fate;
+use crate::report::kept::Kept;
+use crate::report::line_text::add_out;
+use crate::report::parts::write_full_part;
+use dn_records::{Outlet, WriteFault};
+use dn_types::Delivery;
+
+/// The place of the row whose packet has a number.
+fn place_of(accepted: &[usize], packet: u64) -> usize
+    requires { packet < length accepted.now }
+    ensures { result ≡ slice_index accepted.now packet }
+{
+    accepted[packet as usize]
+}
+
+/// The fate of the packet of a row.
+fn fate_at(fates: &[Fate], place: usize) -> Fate
+    requires { place < length fates.now }
+    ensures { result ≡ slice_index_or fates.now place Unanswered }
+{
+    fates[place]
+}
+
+/// Adds the `out` line of a delivery.
+pub(crate) fn add_delivery(
+    text: &mut Vec<u8>,
+    accepted: &[usize],
+    fates: &[Fate],
+    delivery: Delivery,
+)
+    requires room { length text.old.items + 160 ≤ vec_capacity text.old }
+    requires known { delivery.packet < length accepted.now }
+    requires placed { slice_index accepted.now delivery.packet < length fates.now }
+    ensures items { text.new.items ≡ text.old.items ++ line_of (line_fields (delivery_line accepted.now fates.now delivery)) }
+    ensures capacity { vec_capacity text.old ≤ vec_capacity text.new }
+{
+    let place = place_of(accepted, delivery.packet);
+    let fate = fate_at(fates, place);
+    let Delivery {
+        due,
+        packet,
+        start,
+        ..
+    } = delivery;
+    let row = place as u128 + 1;
+    add_out(text, row, fate.flow(), packet, fate.at(), start, due);
+}
+
+/// Writes the `out` lines of deliveries, in their order.
+pub(crate) fn write_outs<O: Outlet>(
+    kept: &Kept,
+    given: &[Delivery],
+    text: &mut Vec<u8>,
+    out: &mut O,
+) -> Result<(), WriteFault>
+    requires known { AreKnown kept.now given.now }
+    requires room { 65536 + 160 ≤ vec_capacity text.old }
+    requires short { length text.old.items < 65536 }
+    requires sound { O.has_failed out.old ≡ false }
+    ensures ok { OnOk result ((start : Option (List ℕ)) (before : List ℕ) →
+        IsUnderWay start (O.contents out.old) text.old.items before →
+        IsUnderWay start (O.contents out.new) text.new.items
+        (before ++ out_text kept.now given.now)) }
+    ensures room { OnOk result (65536 + 160 ≤ vec_capacity text.new) }
+    ensures short { OnOk result (length text.new.items < 65536) }
+    ensures sound { OnOk result (O.has_failed out.new ≡ false) }
+    ensures part { OnErr result ((start : Option (List ℕ)) (before rest : List ℕ) →
+        IsUnderWay start (O.contents out.old) text.old.items before →
+        AppendsPart start (O.contents out.new)
+        ((before ++ out_text kept.now given.now) ++ rest)) }
+    ensures failed { OnErr result (O.has_failed out.new ≡ true) }
+{
+    for delivery in given {
+        add_delivery(
+            text,
+            kept.accepted.as_slice(),
+            kept.fates.as_slice(),
+            *delivery,
+        );
+        write_full_part(text, out)?;
+    }
+    Ok(())
+}
