@@ -3,7 +3,7 @@ use Rattle.std.proofs.Common.{◌≡◌, ℕ, zero, suc, ◌+◌, ◌<◌, ◌�
 use mathlib.Core.Logic.{dite}
 use native.Mathlib.Decide.{ℕ_discrete}
 use Rattle.dn_types.specs.declared.entry.Entry.{Entry}
-use Rattle.dn_service.specs.Seats.{Account, Each, Has, new_accounts, up_to_date}
+use Rattle.dn_service.specs.Accounts.{Account, Each, Has, new_accounts, up_to_date}
 
 module _ {P Q : Account → Type 0} where
   pub each_map : (xs : List Account) → ((x : Account) → P x → Q x) → Each P xs → Each Q xs
@@ -22,9 +22,9 @@ pub has_some : (xs : List Account) (k : ℕ) → Has k xs → 0 < length xs
 has_some [] k has = absurd has
 has_some (x ∷ xs) k has = omega arith
 
-pub has_updated : (history : List Entry) (xs : List Account) (k : ℕ) → Has k xs → Has k (map (up_to_date history) xs)
-has_updated history [] k has = has
-has_updated history (x ∷ xs) k has = ⊎_elim (λ (e : x.number ≡ k). inl e) (λ (t : Has k xs). inr (has_updated history xs k t)) has
+pub has_updated : (history : List Entry) (f : ℕ → ℕ) (xs : List Account) (k : ℕ) → Has k xs → Has k (map (up_to_date history f) xs)
+has_updated history f [] k has = has
+has_updated history f (x ∷ xs) k has = ⊎_elim (λ (e : x.number ≡ k). inl e) (λ (t : Has k xs). inr (has_updated history f xs k t)) has
 
 pub has_left : (xs ys : List Account) (k : ℕ) → Has k xs → Has k (xs ++ ys)
 has_left [] ys k h = absurd h

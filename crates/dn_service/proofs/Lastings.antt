@@ -10,7 +10,8 @@ use Rattle.dn_service.specs.Histories.{StartsWith}
 use Rattle.dn_service.specs.Lasting.{SeenView, Learns, caller_at}
 use Rattle.dn_service.specs.Pasts.{IsCount}
 use Rattle.dn_service.specs.Rule.{Follows, SeatRule}
-use Rattle.dn_service.specs.Seats.{Account, SeatState, SeatView, Each, keeping, sitting, with_shed, without_first, only_first, spent, shed_in, front_in, own_in, IsKeeperOf}
+use Rattle.dn_service.specs.Accounts.{Account, Each, front_in, own_in, lost_in, faced_in}
+use Rattle.dn_service.specs.Seats.{SeatState, SeatView, keeping, sitting, with_loss, with_shed, without_first, only_first, spent, shed_in, IsKeeperOf, IsCallerSeat}
 use Rattle.dn_service.specs.Tokens.{witness, witness_of, as_it_was, told_of, learned, longer}
 use Rattle.dn_service.proofs.HistoryLaws.{starts_all, begins_longer}
 use Rattle.dn_service.proofs.Splitting.{splits}
@@ -18,7 +19,7 @@ use Rattle.dn_service.proofs.Tokens.{witnesses, tells}
 
 -- the account of the caller k, by its seat
 abbrev pub account_of : ℕ → SeatState → Account
-account_of k m = record { number = k; front = front_in m.0.accounts; own = own_in m.0.accounts }
+account_of k m = record { number = k; front = front_in m.0.accounts; own = own_in m.0.accounts; lost = lost_in m.0.accounts; faced = faced_in m.0.accounts }
 
 -- a seat that stands for one caller and has entries taken out can be split
 pub hands_back : (n id k : ℕ) (m : SeatState) → IsKeeperOf k m → Splits (SeatRule n) id m.0 (without_first m.0) (only_first m.0)
@@ -43,18 +44,18 @@ both_begin history xs ys p q = by (nat_le (length xs) (length ys)) refl
     by false e = let less : length ys ≤ length xs = grind (arith, nat_tests) in let h = begins_longer ys xs q.0 p.0 (sym q.1 ∙ p.1) less in (starts_all xs, h, inl (h, refl))
 
 -- the seat of a caller after it learned from a token
-pub learns_at : (k b : ℕ) (seen : List Entry) (m m' m'' w : SeatState) → m ≡ (sitting m.0.count k (front_in m.0.accounts) (own_in m.0.accounts), [])
+pub learns_at : (k b : ℕ) (seen : List Entry) (m m' m'' w : SeatState) → m ≡ (sitting m.0.count k (front_in m.0.accounts) (own_in m.0.accounts) (lost_in m.0.accounts) (faced_in m.0.accounts), [])
     → w ≡ (witness b seen, []) → m' ≡ (told_of m.0 w.0, m.1) → m'' ≡ (learned m'.0, m'.1)
-    → m'' ≡ (sitting m.0.count k (longer (front_in m.0.accounts) seen) (own_in m.0.accounts), [])
+    → m'' ≡ (sitting m.0.count k (longer (front_in m.0.accounts) seen) (own_in m.0.accounts) (lost_in m.0.accounts) (faced_in m.0.accounts), [])
 learns_at k b seen m m' m'' w sits is did after = after ∙ (λ i. (learned (did i).0, (did i).1)) ∙ (λ i. (learned (told_of (sits i).0 (is i).0), (sits i).1))
 
 pub learned_from : (k b : ℕ) (seen : List Entry) (m m' m'' w : SeatState) (table table' : TableId) (token : SeenView) (history : List Entry)
-    → m ≡ (sitting m.0.count k (front_in m.0.accounts) (own_in m.0.accounts), []) → w ≡ (witness b seen, []) → m' ≡ (told_of m.0 w.0, m.1) → m'' ≡ (learned m'.0, m'.1)
+    → m ≡ (sitting m.0.count k (front_in m.0.accounts) (own_in m.0.accounts) (lost_in m.0.accounts) (faced_in m.0.accounts), []) → w ≡ (witness b seen, []) → m' ≡ (told_of m.0 w.0, m.1) → m'' ≡ (learned m'.0, m'.1)
     → Each (Follows history) m'.0.accounts → StartsWith history m'.0.seen → token.front ≡ seen
     → Learns (caller_at table k m) token (caller_at table' k m'')
 learned_from k b seen m m' m'' w table table' token history sits is did after follows starts same =
     let now = learns_at k b seen m m' m'' w sits is did after in
-    let at : m' ≡ (told_of (sitting m.0.count k (front_in m.0.accounts) (own_in m.0.accounts)) (witness b seen), []) = did ∙ (λ i. (told_of (sits i).0 (is i).0, (sits i).1)) in
+    let at : m' ≡ (told_of (sitting m.0.count k (front_in m.0.accounts) (own_in m.0.accounts) (lost_in m.0.accounts) (faced_in m.0.accounts)) (witness b seen), []) = did ∙ (λ i. (told_of (sits i).0 (is i).0, (sits i).1)) in
     let f = (subst (λ (z : SeatState). Each (Follows history) z.0.accounts) at follows).0 in
     let g : StartsWith history seen = subst (λ (z : SeatState). StartsWith history z.0.seen) at starts in
     let both = both_begin history (front_in m.0.accounts) seen f.front g in
@@ -64,30 +65,49 @@ learned_from k b seen m m' m'' w table table' token history sits is did after fo
       one = subst (IsOneOf (front_in m.0.accounts) token.front) (sym front)
           (subst (λ t. IsOneOf (front_in m.0.accounts) t (longer (front_in m.0.accounts) seen)) (sym same) both.2);
       own = ap (λ x. own_in x.0.accounts) now;
+      lost = ap (λ x. lost_in x.0.accounts) now;
+      faced = ap (λ x. faced_in x.0.accounts) now;
     }
 
 -- a caller's seat can be split from a seat that knows of what the caller has seen
-pub shows : (n id k : ℕ) (m : SeatState) → m ≡ (sitting m.0.count k (front_in m.0.accounts) (own_in m.0.accounts), []) → Splits (SeatRule n) id m.0 (as_it_was m.0) (witness_of m.0)
+pub shows : (n id k : ℕ) (m : SeatState) → m ≡ (sitting m.0.count k (front_in m.0.accounts) (own_in m.0.accounts) (lost_in m.0.accounts) (faced_in m.0.accounts), []) → Splits (SeatRule n) id m.0 (as_it_was m.0) (witness_of m.0)
 shows n id k m is =
     subst (λ v. Splits (SeatRule n) id v (as_it_was v) (witness_of v)) (sym (ap (λ x. x.0) is))
-    (witnesses n id m.0.count k (front_in m.0.accounts) (own_in m.0.accounts))
+    (witnesses n id m.0.count k (front_in m.0.accounts) (own_in m.0.accounts) (lost_in m.0.accounts) (faced_in m.0.accounts))
 
 -- a seat can be told of what another knows
 pub is_told : (n id other b : ℕ) (seen : List Entry) (v : SeatView) (w : SeatState) → w ≡ (witness b seen, []) → Joins (SeatRule n) id v other w.0 (told_of v w.0) spent
 is_told n id other b seen v w is = subst (λ u. Joins (SeatRule n) id v other u (told_of v u) spent) (sym (ap (λ x. x.0) is)) (tells n id other b seen v)
 
 -- a seat that is said to be one that stands for one caller is told by its own words
-pub is_keeper : (k n : ℕ) (s front own : List Entry) (m : SeatState) → m ≡ (keeping n s (record { number = k; front = front; own = own } ∷ []), []) → IsKeeperOf k m
-is_keeper k n s front own m e = e ∙ (λ i. let z = sym e i in (keeping z.0.count (shed_in z.0.shed) (account_of k z ∷ []), []))
+pub is_keeper : (k n : ℕ) (s front own : List Entry) (lost : List ℕ) (faced : ℕ) (m : SeatState) → m ≡ (keeping n s (record { number = k; front = front; own = own; lost = lost; faced = faced } ∷ []), []) → IsKeeperOf k m
+is_keeper k n s front own lost faced m e = e ∙ (λ i. let z = sym e i in (keeping z.0.count (shed_in z.0.shed) (account_of k z ∷ []), []))
 
-pub is_sitting : (k n : ℕ) (front own : List Entry) (m : SeatState) → m ≡ (sitting n k front own, []) → m ≡ (sitting m.0.count k (front_in m.0.accounts) (own_in m.0.accounts), [])
-is_sitting k n front own m e = e ∙ (λ i. let z = sym e i in (sitting z.0.count k (front_in z.0.accounts) (own_in z.0.accounts), []))
+pub is_sitting : (k n : ℕ) (front own : List Entry) (lost : List ℕ) (faced : ℕ) (m : SeatState) → m ≡ (sitting n k front own lost faced, []) → m ≡ (sitting m.0.count k (front_in m.0.accounts) (own_in m.0.accounts) (lost_in m.0.accounts) (faced_in m.0.accounts), [])
+is_sitting k n front own lost faced m e = e ∙ (λ i. let z = sym e i in (sitting z.0.count k (front_in z.0.accounts) (own_in z.0.accounts) (lost_in z.0.accounts) (faced_in z.0.accounts), []))
+
+-- a caller's seat after a step that leaves the table and the count
+pub is_seat : (table seat seat' : TableId) (k : ℕ) (m m' : SeatState) (front own : List Entry) (lost : List ℕ) (faced : ℕ) → IsCallerSeat table k seat m → seat' ≡ seat
+    → m' ≡ (sitting m.0.count k front own lost faced, []) → IsCallerSeat table k seat' m'
+is_seat table seat seat' k m m' front own lost faced was t now =
+    let count : m'.0.count ≡ m.0.count = ap (λ (x : SeatState). x.0.count) now in record {
+      at_table = t ∙ was.at_table;
+      one_word = ap (λ (z : TableId). z.words) t ∙ was.one_word;
+      below = subst (λ n. k < n) (sym count) was.below;
+      few = subst (λ n. n ≤ 16) (sym count) was.few;
+      sits = is_sitting k m.0.count front own lost faced m' now;
+    }
 
 pub is_waiting : (n : ℕ) (s : List Entry) (m : SeatState) → m ≡ (keeping n s [], []) → m ≡ (keeping n (shed_in m.0.shed) [], [])
 is_waiting n s m e = e ∙ (λ i. let z = sym e i in (keeping n (shed_in z.0.shed) [], []))
 
-pub empties_keeper : (k : ℕ) (m m' : SeatState) (h : List Entry) → IsKeeperOf k m → m' ≡ (with_shed m.0 h, []) → IsKeeperOf k m'
-empties_keeper k m m' h is e = is_keeper k m.0.count h h (own_entries k h) m' (e ∙ (λ i. (with_shed (is i).0 h, [])))
+pub empties_keeper : (k : ℕ) (m m' : SeatState) (f : ℕ → ℕ) (h : List Entry) → IsKeeperOf k m → m' ≡ (with_shed m.0 f h, []) → IsKeeperOf k m'
+empties_keeper k m m' f h is e = is_keeper k m.0.count h h (own_entries k h) (lost_in m.0.accounts) (f k) m' (e ∙ (λ i. (with_shed (is i).0 f h, [])))
+
+-- the keeper's seat after its try found caller j in a call
+pub loses_keeper : (k : ℕ) (m m' : SeatState) (j : ℕ) → IsKeeperOf k m → m' ≡ (with_loss m.0 j, m.1) → IsKeeperOf k m'
+loses_keeper k m m' j is e = is_keeper k m.0.count (shed_in m.0.shed) (front_in m.0.accounts) (own_in m.0.accounts) (lost_in m.0.accounts ++ j ∷ []) (faced_in m.0.accounts) m'
+    (e ∙ (λ i. (with_loss (is i).0 j, (is i).1)))
 
 -- the greatest count stays the greatest
 counts_top : (k gone gone' : ℕ) → IsCount (gone + k) gone' → gone + 1 ≡ 2 ^ 64 → gone' + 1 ≡ 2 ^ 64

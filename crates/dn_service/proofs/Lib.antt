@@ -1,8 +1,10 @@
 pub mod Accounts
 pub mod Calling
+pub mod Causes
 pub mod Handing
 pub mod HistoryLaws
 pub mod Lastings
+pub mod Losses
 pub mod Outcomes
 pub mod Replying
 pub mod Splitting

@@ -9,10 +9,12 @@ use Rattle.atomic_table.specs.Table.{Splits, Joins, opening}
 use Rattle.atomic_table.proofs.Lists.{at_set, set_else, at_longer, at_last}
 use Rattle.dn_types.specs.declared.entry.Entry.{Entry}
 use Rattle.dn_service.specs.Pasts.{Past, BookView, Keeps, no_past}
-use Rattle.dn_service.specs.Rule.{Sits, SeatFits, SeatRule}
-use Rattle.dn_service.specs.Seats.{Account, SeatView, Each, Has, new_accounts, first_seat, seat_with, keeping, spent}
+use Rattle.dn_service.specs.Rule.{Sits, Faces, SeatFits, SeatRule}
+use Rattle.dn_service.specs.Accounts.{Account, Each, Has, new_accounts}
+use Rattle.dn_service.specs.Seats.{SeatView, first_seat, seat_with, keeping, spent}
 use Rattle.dn_service.proofs.Accounts.{each_join, has_left, has_right, has_new}
 use Rattle.dn_service.proofs.HistoryLaws.{below_none, starts_none}
+use Rattle.dn_service.proofs.Losses.{met_set, met_last, met_join, met_new, faces_new}
 use Rattle.dn_service.proofs.Taking.{TableState, same_shed}
 use Rattle.dn_service.proofs.Views.{set_there, seats_set, held_set, at_inside, added_last}
 
@@ -32,12 +34,13 @@ module _ (n : ℕ) where
   )
 
   -- a seat that has not taken the book, and whose callers another seat may stand for
-  refit : (w : ℕ) (past : Past) (seat_of seat_of' : ℕ → ℕ) (seat : ℕ) (u : SeatView)
+  refit : (w : ℕ) (tally : ℕ → ℕ) (past : Past) (seat_of seat_of' : ℕ → ℕ) (seat : ℕ) (u : SeatView)
       → ((k : ℕ) → w ≡ k + 1 → seat_of' k ≡ seat_of k) → ((k : ℕ) → seat_of k ≡ seat → seat_of' k ≡ seat)
-      → SeatFits n w past seat_of seat u → SeatFits n w past seat_of' seat u
-  refit w past seat_of seat_of' seat u at_word keep f = record {
+      → SeatFits n w tally past seat_of seat u → SeatFits n w tally past seat_of' seat u
+  refit w tally past seat_of seat_of' seat u at_word keep f = record {
     count = f.count;
     accounts = rehold past.history seat_of seat_of' seat seat u.accounts (λ k _ e. keep k e) f.accounts;
+    faced = f.faced;
     free = f.free;
     taken = λ k e h. f.taken k e (sym (at_word k e) ∙ h);
     idle = λ k e h. f.idle k e (λ q. h (at_word k e ∙ q));
@@ -62,20 +65,22 @@ module _ (n : ℕ) where
       let count : m ≡ n = f.count (omega arith) in
       let seated : r.seat_of x.number ≡ id = f.accounts.0.seated in
       let at_word : (k : ℕ) → get_or s.words 0 0 ≡ k + 1 → seat_of k ≡ r.seat_of k = λ k e. same_seat_of k (λ q. let t = f.taken k e (ap r.seat_of q ∙ seated) in absurd (cc)) in
-      let fits : (j : ℕ) (a : SeatView) → get_elem? vs j ≡ some a → SeatFits n (get_or s.words 0 0) r.past seat_of j a = seats_set (SeatFits n (get_or s.words 0 0) r.past seat_of) s.views id u
+      let fits : (j : ℕ) (a : SeatView) → get_elem? vs j ≡ some a → SeatFits n (get_or s.words 0 0) r.tally r.past seat_of j a = seats_set (SeatFits n (get_or s.words 0 0) r.tally r.past seat_of) s.views id u
       record {
         count = λ _. count;
         accounts = rehold r.past.history r.seat_of seat_of id id xs (λ k has e. same_seat_of k (λ q. once (subst (λ (z : ℕ). Has z xs) q has)) ∙ e) f.accounts.1;
+        faced = f.faced.1;
         free = λ _. refl;
         taken = λ k e h. f.taken k e (sym (at_word k e) ∙ h);
         idle = λ _ _ _. refl;
         seen = f.seen;
         shed = f.shed;
       }
-      (λ j a other there. refit (get_or s.words 0 0) r.past r.seat_of seat_of j a at_word (λ k e. same_seat_of k (λ q. other (sym e ∙ (ap r.seat_of q ∙ seated))) ∙ e) (r.seats j a there)) in
-      let fresh : SeatFits n (get_or s.words 0 0) r.past seat_of new w = record {
+      (λ j a other there. refit (get_or s.words 0 0) r.tally r.past r.seat_of seat_of j a at_word (λ k e. same_seat_of k (λ q. other (sym e ∙ (ap r.seat_of q ∙ seated))) ∙ e) (r.seats j a there)) in
+      let fresh : SeatFits n (get_or s.words 0 0) r.tally r.past seat_of new w = record {
         count = λ _. count;
         accounts = (record { below = f.accounts.0.below; seated = new_seat_of x.number refl; follows = f.accounts.0.follows }, tt);
+        faced = (f.faced.0, tt);
         free = λ _. refl;
         taken = λ k e h. let b = r.word in let l = seat_below s r k (omega arith) in let q : r.seat_of k ≡ new = sym (at_word k e) ∙ h in absurd (omega arith);
         idle = λ _ _ _. refl;
@@ -84,13 +89,15 @@ module _ (n : ℕ) where
       } in record {
         past = r.past;
         seat_of = seat_of;
+        tally = r.tally;
+        met = λ k. let e = met_last k vs w in let d = met_set k s.views id (keeping m out (x ∷ xs)) u at in let f = r.met k in omega arith;
         one_word = r.one_word;
         one_slot = r.one_slot;
         word = r.word;
         lawful = r.lawful;
         below = r.below;
         home = r.home;
-        seats = added_last vs w (SeatFits n (get_or s.words 0 0) r.past seat_of) fits fresh;
+        seats = added_last vs w (SeatFits n (get_or s.words 0 0) r.tally r.past seat_of) fits fresh;
         held = λ k l. dite (ℕ_discrete k x.number)
             (λ e. (w, subst (λ (z : ℕ). get_elem? (vs ++ w ∷ []) z ≡ some w) (sym (new_seat_of k e)) (at_last vs w new refl), inl (sym e)))
             (λ ne. let t = held_set s.views id (keeping m out (x ∷ xs)) u at (r.seat_of k) k (λ has. ⊎_elim (λ (e : x.number ≡ k). absurd (ne (sym e))) (λ (h : Has k xs). h) has) (r.held k l) in
@@ -110,21 +117,23 @@ module _ (n : ℕ) where
       let new_seat_of = λ (k : ℕ) (e : r.seat_of k ≡ other). ap (λ c. either c id (r.seat_of k)) (eq-eqb (r.seat_of k) other e) in
       let at_word : (k : ℕ) → x ≡ k + 1 → seat_of k ≡ r.seat_of k = λ k e. same_seat_of k (λ q. let t = g.taken k e q in absurd (cc)) in
       let count : b ≡ n = g.count some_there in
-      let mine : SeatFits n x r.past seat_of id u = record {
+      let mine : SeatFits n x r.tally r.past seat_of id u = record {
         count = λ _. count;
         accounts =
             each_join (Sits n r.past.history seat_of id) ys zs
             (rehold r.past.history r.seat_of seat_of id id ys (λ k _ e. same_seat_of k (λ q. apart (sym q ∙ e)) ∙ e) f.accounts)
             (rehold r.past.history r.seat_of seat_of other id zs (λ k _ e. new_seat_of k e) g.accounts);
+        faced = each_join (Faces x r.tally) ys zs f.faced g.faced;
         free = λ _. refl;
         taken = λ k e h. f.taken k e (sym (at_word k e) ∙ h);
         idle = λ _ _ _. refl;
         seen = f.seen;
         shed = f.shed;
       } in
-      let gone : SeatFits n x r.past seat_of other spent = record {
+      let gone : SeatFits n x r.tally r.past seat_of other spent = record {
         count = λ l. absurd (omega arith);
         accounts = tt;
+        faced = tt;
         free = λ _. refl;
         taken = λ k e h. g.taken k e (sym (at_word k e) ∙ h);
         idle = λ _ _ _. refl;
@@ -133,6 +142,8 @@ module _ (n : ℕ) where
       } in record {
         past = r.past;
         seat_of = seat_of;
+        tally = r.tally;
+        met = λ k. let e = met_set k vs other w spent there in let d = met_set k s.views id v u at in let f = met_join k ys zs in let g = r.met k in omega arith;
         one_word = r.one_word;
         one_slot = r.one_slot;
         word = r.word;
@@ -140,9 +151,9 @@ module _ (n : ℕ) where
         below = r.below;
         home = r.home;
         seats =
-            seats_set (SeatFits n x r.past seat_of) vs other spent gone (λ j c ne e. seats_two (SeatFits n x r.past seat_of) j c ne e
+            seats_set (SeatFits n x r.tally r.past seat_of) vs other spent gone (λ j c ne e. seats_two (SeatFits n x r.tally r.past seat_of) j c ne e
             mine
-            (λ i d not_id not_other e'. refit x r.past r.seat_of seat_of i d at_word (λ k q. same_seat_of k (λ z. not_other (sym q ∙ z)) ∙ q) (r.seats i d e')));
+            (λ i d not_id not_other e'. refit x r.tally r.past r.seat_of seat_of i d at_word (λ k q. same_seat_of k (λ z. not_other (sym q ∙ z)) ∙ q) (r.seats i d e')));
         held = λ k l. dite (ℕ_discrete (r.seat_of k) other)
             (λ e. (
               u,
@@ -163,6 +174,8 @@ module _ (n : ℕ) where
   opens book kept = record {
     past = no_past;
     seat_of = λ _. 0;
+    tally = λ _. 0;
+    met = λ k. let e = met_new k 0 n in omega arith;
     one_word = refl;
     one_slot = refl;
     word = omega arith;
@@ -173,10 +186,11 @@ module _ (n : ℕ) where
     held = λ k l. (first_seat n, refl, has_new 0 n k (omega arith) (omega arith));
   }
     where
-      first_fits : SeatFits n 0 no_past (λ _. 0) 0 (first_seat n)
+      first_fits : SeatFits n 0 (λ _. 0) no_past (λ _. 0) 0 (first_seat n)
       first_fits = record {
         count = λ _. refl;
         accounts = each_new 0 n (omega arith);
+        faced = faces_new 0 n;
         free = λ _. refl;
         taken = λ k e _. absurd (omega arith);
         idle = λ _ _ _. refl;
@@ -184,6 +198,6 @@ module _ (n : ℕ) where
         shed = λ s e. (refl, sym (same_shed (Some []) [] s refl e));
       }
 
-      only_first : (j : ℕ) (v : SeatView) → get_elem? (first_seat n ∷ []) j ≡ some v → SeatFits n 0 no_past (λ _. 0) j v
-      only_first zero v e = subst (SeatFits n 0 no_past (λ _. 0) 0) (some-injective (first_seat n) v e) first_fits
+      only_first : (j : ℕ) (v : SeatView) → get_elem? (first_seat n ∷ []) j ≡ some v → SeatFits n 0 (λ _. 0) no_past (λ _. 0) j v
+      only_first zero v e = subst (SeatFits n 0 (λ _. 0) no_past (λ _. 0) 0) (some-injective (first_seat n) v e) first_fits
       only_first (suc j) v e = absurd (some-ne-none v (sym e))

@@ -15,10 +15,12 @@ use Rattle.dn_types.specs.declared.rule.Rule.TheVariants.{Ordered}
 use Rattle.dn_service.specs.Histories.{StartsWith, AreBelow}
 use Rattle.dn_service.specs.Pasts.{Past, BookView, Keeps, with_entry, all_shed}
 use Rattle.dn_service.specs.Rule.{Follows, Sits, SeatFits, IsHome, SeatRule}
-use Rattle.dn_service.specs.Seats.{Account, SeatState, SeatView, Slot, Each, Has, with_taken, with_history, with_shed, up_to_date}
+use Rattle.dn_service.specs.Accounts.{Account, Each, Has, up_to_date, faces}
+use Rattle.dn_service.specs.Seats.{SeatState, SeatView, Slot, with_taken, with_loss, with_faced, with_history, with_shed, met_in_all}
 use Rattle.dn_service.specs.Steps.{tried, returned, published, emptied}
 use Rattle.dn_service.proofs.Accounts.{each_map, each_at, has_some, has_updated}
 use Rattle.dn_service.proofs.HistoryLaws.{own-other, below_more, starts_more, starts_all}
+use Rattle.dn_service.proofs.Losses.{met_alone, met_none, faces_all, met_set, met_kept, met_map, met_note, noted_some, noted_sit, noted_faces, has_noted, faced_some, faced_sit, has_faced, one_more, faces_more, faces_taken, faces_free, faces_now, faces_known}
 use Rattle.dn_service.proofs.Views.{one_home, seats_set, held_set}
 
 abbrev pub TableState : Type 0
@@ -41,20 +43,22 @@ same_past t a b p q = ap (λ o. some_is o a) (sym p ∙ q)
 pub same_shed : (t : Option (List Entry)) (a b : List Entry) → t ≡ Some a → t ≡ Some b → a ≡ b
 same_shed t a b p q = ap (λ o. some_is o a) (sym p ∙ q)
 
-pub updated_some : (history : List Entry) (xs : List Account) → 0 < length (map (up_to_date history) xs) → 0 < length xs
-updated_some history [] l = l
-updated_some history (x ∷ xs) l = omega arith
+pub updated_some : (history : List Entry) (f : ℕ → ℕ) (xs : List Account) → 0 < length (map (up_to_date history f) xs) → 0 < length xs
+updated_some history f [] l = l
+updated_some history f (x ∷ xs) l = omega arith
 
 module _ (n : ℕ) where
   -- a step of the seat id, after which the word is `word` and the past `past`
-  pub moved : (s : TableState) (r : SeatRule n s) (id : ℕ) (v w : SeatView) (word : ℕ) (homes' : List (maybe.Option Slot)) (past : Past)
+  pub moved : (s : TableState) (r : SeatRule n s) (id : ℕ) (v w : SeatView) (word : ℕ) (homes' : List (maybe.Option Slot)) (past : Past) (tally : ℕ → ℕ)
       → get_elem? s.views id ≡ some v → word ≤ n → length homes' ≡ 1 → IsLawful Ordered past.history → AreBelow n past.history → (word ≡ 0 → IsHome past homes')
-      → SeatFits n word past r.seat_of id w → ((j : ℕ) (u : SeatView) → j ≢ id → get_elem? s.views j ≡ some u → SeatFits n word past r.seat_of j u)
-      → ((k : ℕ) → Has k v.accounts → Has k w.accounts) → SeatRule n record { words = set s.words 0 word; homes = homes'; views = set s.views id w }
-  moved s r id v w word homes' past at small one lawful below home mine theirs keep =
+      → SeatFits n word tally past r.seat_of id w → ((j : ℕ) (u : SeatView) → j ≢ id → get_elem? s.views j ≡ some u → SeatFits n word tally past r.seat_of j u)
+      → ((k : ℕ) → Has k v.accounts → Has k w.accounts) → ((k : ℕ) → met_in_all k (set s.views id w) ≡ tally k) → SeatRule n record { words = set s.words 0 word; homes = homes'; views = set s.views id w }
+  moved s r id v w word homes' past tally at small one lawful below home mine theirs keep met =
       let wide = r.one_word in let now : get_or (set s.words 0 word) 0 0 ≡ word = get_or-set_same s.words 0 word 0 (omega arith) in record {
         past = past;
         seat_of = r.seat_of;
+        tally = tally;
+        met = met;
         one_word = length-set s.words 0 word ∙ r.one_word;
         one_slot = one;
         word = subst (λ (z : ℕ). z ≤ n) (sym now) small;
@@ -62,8 +66,8 @@ module _ (n : ℕ) where
         below = below;
         home = λ e. home (sym now ∙ e);
         seats =
-            subst (λ (z : ℕ). (j : ℕ) (u : SeatView) → get_elem? (set s.views id w) j ≡ some u → SeatFits n z past r.seat_of j u)
-            (sym now) (seats_set (SeatFits n word past r.seat_of) s.views id w mine theirs);
+            subst (λ (z : ℕ). (j : ℕ) (u : SeatView) → get_elem? (set s.views id w) j ≡ some u → SeatFits n z tally past r.seat_of j u)
+            (sym now) (seats_set (SeatFits n word tally past r.seat_of) s.views id w mine theirs);
         held = λ k l. held_set s.views id v w at (r.seat_of k) k (keep k) (r.held k l);
       }
 
@@ -88,9 +92,9 @@ module _ (n : ℕ) where
       → Each (Sits n later seat_of seat) xs
   sits_on history later seat_of seat xs f h = each_map xs (λ x t. record { below = t.below; seated = t.seated; follows = f x t.seated t.follows }) h
 
-  pub updated_sit : (was history : List Entry) (seat_of : ℕ → ℕ) (id : ℕ) (xs : List Account) → Each (Sits n was seat_of id) xs → Each (Sits n history seat_of id) (map (up_to_date history) xs)
-  updated_sit was history seat_of id [] h = tt
-  updated_sit was history seat_of id (x ∷ xs) h = (record { below = h.0.below; seated = h.0.seated; follows = record { front = starts_all history; own = refl } }, updated_sit was history seat_of id xs h.1)
+  pub updated_sit : (was history : List Entry) (f seat_of : ℕ → ℕ) (id : ℕ) (xs : List Account) → Each (Sits n was seat_of id) xs → Each (Sits n history seat_of id) (map (up_to_date history f) xs)
+  updated_sit was history f seat_of id [] h = tt
+  updated_sit was history f seat_of id (x ∷ xs) h = (record { below = h.0.below; seated = h.0.seated; follows = record { front = starts_all history; own = refl } }, updated_sit was history f seat_of id xs h.1)
 
   pub tries : (slots id : ℕ) (me : SeatState) (k : ℕ) → me.0.taken ≡ None → Has k me.0.accounts
       → Allows (SeatRule n) slots id me 0 (λ x. either (eqb x 0) (k + 1) x) (tried (step slots 0 0 (k + 1) none) me)
@@ -106,11 +110,12 @@ module _ (n : ℕ) where
         takes 0 (Some there.0),
         there.1,
         subst (λ b. SeatRule n (stepped s 0 (either b (k + 1) x) id me.1 (with_taken me.0 (Some r.past)) (takes 0 (Some there.0)))) (sym (eq-eqb x 0 hit))
-            (moved s r id me.0 (with_taken me.0 (Some r.past)) (k + 1) (set s.homes 0 none) r.past at (omega arith)
+            (moved s r id me.0 (with_taken me.0 (Some r.past)) (k + 1) (set s.homes 0 none) r.past r.tally at (omega arith)
             (length-set s.homes 0 none ∙ r.one_slot) r.lawful r.below (λ z. absurd (omega arith))
             record {
               count = f.count;
               accounts = f.accounts;
+              faced = faces_taken x (k + 1) r.tally me.0.accounts hit f.faced;
               free = λ z. absurd (omega arith);
               taken = λ j e h. refl;
               idle = λ j e h. absurd (h (ap r.seat_of (let q : j ≡ k = omega arith in q) ∙ seated));
@@ -120,29 +125,71 @@ module _ (n : ℕ) where
             (λ j u other there. let g = r.seats j u there in record {
               count = g.count;
               accounts = g.accounts;
+              faced = faces_taken x (k + 1) r.tally u.accounts hit g.faced;
               free = λ z. absurd (omega arith);
               taken = λ i e h. absurd (other (sym h ∙ (ap r.seat_of (let q : i ≡ k = omega arith in q) ∙ seated)));
               idle = λ i e h. g.free hit;
               seen = g.seen;
               shed = g.shed;
             })
-            (λ j h. h)),
+            (λ j h. h) (λ j. met_kept j s.views id me.0 (with_taken me.0 (Some r.past)) at refl ∙ r.met j)),
         (
-          (λ _. (r.past, there.0, refl, there.2, subst (λ (z : ℕ). AreBelow z r.past.history) (sym count) r.below, each_map me.0.accounts (λ y t. t.follows) f.accounts, λ s' e. (f.shed s' e).1)),
+          (λ _. (
+            r.past,
+            there.0,
+            refl,
+            there.2,
+            subst (λ (z : ℕ). AreBelow z r.past.history) (sym count) r.below,
+            each_map me.0.accounts (λ y t. t.follows) f.accounts,
+            λ s' e. (f.shed s' e).1,
+            (
+              r.tally,
+              faces_all x r.tally me.0.accounts hit f.faced,
+              λ all j. sym (met_alone j s.views id me.0 at (λ i u other there. met_none j u.accounts
+                  (λ y sits. let here = each_at _ me.0.accounts y.number f.accounts (all y.number (let b = sits.below in omega arith)) in
+                  other (sym sits.seated ∙ (ap r.seat_of (sym here.2) ∙ here.1.seated))) (r.seats i u there).accounts)) ∙ r.met j,
+            ),
+          )),
           λ miss. absurd (miss hit),
         ),
       ))
-      (λ miss. (
-        me.0,
+      (λ miss. let h : ℕ = x - 1 in let is : x ≡ h + 1 = omega arith in
+      let w : SeatView = with_loss me.0 h in let tally : ℕ → ℕ = one_more r.tally h in (
+        w,
         keeps,
         tt,
-        subst (λ b. SeatRule n (stepped s 0 (either b (k + 1) x) id me.1 me.0 keeps)) (sym (ne_eqb x 0 miss)) (same s id me.0 me.1 r at),
+        subst (λ b. SeatRule n (stepped s 0 (either b (k + 1) x) id me.1 w keeps)) (sym (ne_eqb x 0 miss))
+            (moved s r id me.0 w x s.homes r.past tally at r.word r.one_slot r.lawful r.below r.home
+            record {
+              count = λ l. f.count (noted_some h me.0.accounts l);
+              accounts = noted_sit n r.past.history r.seat_of id h me.0.accounts f.accounts;
+              faced = noted_faces x tally h me.0.accounts (faces_more x h r.tally me.0.accounts is f.faced);
+              free = f.free;
+              taken = f.taken;
+              idle = f.idle;
+              seen = f.seen;
+              shed = f.shed;
+            }
+            (λ j u other there. let g = r.seats j u there in record {
+              count = g.count;
+              accounts = g.accounts;
+              faced = faces_more x h r.tally u.accounts is g.faced;
+              free = g.free;
+              taken = g.taken;
+              idle = g.idle;
+              seen = g.seen;
+              shed = g.shed;
+            })
+            (λ j t. has_noted h me.0.accounts j t)
+            (λ j. let e = met_set j s.views id me.0 w at in let d = met_note j h me.0.accounts (has_some me.0.accounts k has) in let t = r.met j in omega arith)),
         (
           (λ hit. absurd (miss hit)),
           λ _. (
-            refl,
-            (let w = r.word in omega arith),
-            λ j is there. let other = each_at _ me.0.accounts j f.accounts there in let took = f.taken j is (ap r.seat_of (sym other.2) ∙ other.1.seated) in absurd (cc),
+            (let l = r.word in omega arith),
+            λ j is'. (
+              (let e : h ≡ j = omega arith in ap (λ (i : ℕ). (with_loss me.0 i, me.1)) e),
+              λ there. let other = each_at _ me.0.accounts j f.accounts there in let took = f.taken j is' (ap r.seat_of (sym other.2) ∙ other.1.seated) in absurd (cc),
+            ),
           ),
         ),
       ))
@@ -150,16 +197,17 @@ module _ (n : ℕ) where
   pub gives_back : (slots id : ℕ) (me : SeatState) (was : Past) (book : BookView) → me.0.taken ≡ Some was → me.1 ≡ (0, Some book) ∷ [] → Keeps was book
       → Allows (SeatRule n) slots id me 0 (λ _. 0) (λ _. returned (step slots 0 0 0 none) me 0)
   gives_back slots id me was book took carried kept s r deep at _ =
-      let f = r.seats id me.0 at in let b = has_book s r id me.0 was at took in let w = with_taken me.0 None in (
+      let f = r.seats id me.0 at in let b = has_book s r id me.0 was at took in let w = with_faced me.0 r.tally in (
         w,
         gives,
         tt,
         subst (λ (cs : List (ℕ × Slot)). SeatRule n (stepped s 0 0 id cs w gives)) (sym carried)
-            (moved s r id me.0 w 0 (set s.homes 0 (some (Some book))) r.past at (omega arith) (length-set s.homes 0 (some (Some book)) ∙ r.one_slot) r.lawful r.below
+            (moved s r id me.0 w 0 (set s.homes 0 (some (Some book))) r.past r.tally at (omega arith) (length-set s.homes 0 (some (Some book)) ∙ r.one_slot) r.lawful r.below
             (λ _. (book, one_home s.homes (some (Some book)) r.one_slot, subst (λ (p : Past). Keeps p book) (sym b.3) kept))
             record {
-              count = f.count;
-              accounts = f.accounts;
+              count = λ l. f.count (faced_some r.tally me.0.accounts l);
+              accounts = faced_sit n r.past.history r.seat_of id r.tally me.0.accounts f.accounts;
+              faced = faces_known 0 r.tally me.0.accounts;
               free = λ _. refl;
               taken = λ j e h. absurd (omega arith);
               idle = λ j e h. refl;
@@ -169,14 +217,16 @@ module _ (n : ℕ) where
             (λ j u other there. let g = r.seats j u there in record {
               count = g.count;
               accounts = g.accounts;
+              faced = faces_free n (get_or s.words 0 0) b.0 r.past.history r.tally r.seat_of id j u.accounts b.1 b.2 other g.accounts g.faced;
               free = λ _. g.idle b.0 b.1 (λ e. other (sym e ∙ b.2));
               taken = λ i e h. absurd (omega arith);
               idle = λ i e h. absurd (omega arith);
               seen = g.seen;
               shed = g.shed;
             })
-            (λ j h. h)),
-        refl,
+            (λ j h. has_faced r.tally me.0.accounts j h)
+            (λ j. met_kept j s.views id me.0 w at (met_map j (faces r.tally) me.0.accounts (λ _. refl)) ∙ r.met j)),
+        (r.tally, refl),
       )
 
   pub publishes : (slots id : ℕ) (me : SeatState) (was : Past) (e : Entry) (book : BookView) → me.0.taken ≡ Some was
@@ -185,7 +235,7 @@ module _ (n : ℕ) where
   publishes slots id me was e book took carried kept has s r deep at _ =
       let f = r.seats id me.0 at in let b = has_book s r id me.0 was at took in
       let now : Past = with_entry was e in
-      let w : SeatView = with_history me.0 now.history in
+      let w : SeatView = with_history me.0 r.tally now.history in
       let mine = each_at _ me.0.accounts e.caller f.accounts has in
       let seated : r.seat_of e.caller ≡ id = ap r.seat_of (sym mine.2) ∙ mine.1.seated in
       let small : e.caller < n = (let l = mine.1.below in let q = mine.2 in omega arith) in
@@ -197,13 +247,14 @@ module _ (n : ℕ) where
         gives,
         tt,
         subst (λ (cs : List (ℕ × Slot)). SeatRule n (stepped s 0 0 id cs w gives)) (sym carried)
-            (moved s r id me.0 w 0 (set s.homes 0 (some (Some book))) now at (omega arith)
+            (moved s r id me.0 w 0 (set s.homes 0 (some (Some book))) now r.tally at (omega arith)
             (length-set s.homes 0 (some (Some book)) ∙ r.one_slot) kept.lawful
             (subst (AreBelow n) more (below_more n r.past.history e r.below small))
             (λ _. (book, one_home s.homes (some (Some book)) r.one_slot, kept))
             record {
-              count = λ l. f.count (updated_some now.history me.0.accounts l);
-              accounts = updated_sit r.past.history now.history r.seat_of id me.0.accounts f.accounts;
+              count = λ l. f.count (updated_some now.history r.tally me.0.accounts l);
+              accounts = updated_sit r.past.history now.history r.tally r.seat_of id me.0.accounts f.accounts;
+              faced = faces_now 0 r.tally now.history me.0.accounts;
               free = λ _. refl;
               taken = λ j q h. absurd (omega arith);
               idle = λ j q h. refl;
@@ -217,18 +268,23 @@ module _ (n : ℕ) where
                     front = starts_more r.past.history y.front e t.front;
                     own = t.own ∙ sym (own-other y.number r.past.history e (λ q. other (sym at_j ∙ (ap r.seat_of (sym q) ∙ seated))));
                   }) g.accounts;
+              faced = faces_free n (get_or s.words 0 0) b.0 r.past.history r.tally r.seat_of id j u.accounts b.1 b.2 other g.accounts g.faced;
               free = λ _. g.idle b.0 b.1 (λ q. other (sym q ∙ b.2));
               taken = λ i q h. absurd (omega arith);
               idle = λ i q h. absurd (omega arith);
               seen = longer u.seen g.seen;
               shed = λ s' q. let h = g.shed s' q in (h.0, h.1 ∙ shed);
             })
-            (λ j h. has_updated now.history me.0.accounts j h)),
-        λ was' book' is is'.
-            let same_book : book' ≡ book = ap (λ (l : List (ℕ × Slot)). slot_in book l) (sym is' ∙ carried) in
-            let same_was : was' ≡ was = same_past me.0.taken was' was is took in
-            let whole : now.history ≡ was'.shed ++ book'.kept = kept.whole ∙ (λ i. (sym same_was i).shed ++ (sym same_book i).kept) in
-            (λ i. (with_history me.0 (whole i), ap rest carried i)),
+            (λ j h. has_updated now.history r.tally me.0.accounts j h)
+            (λ j. met_kept j s.views id me.0 w at (met_map j (up_to_date now.history r.tally) me.0.accounts (λ _. refl)) ∙ r.met j)),
+        (
+          r.tally,
+          λ was' book' is is'.
+              let same_book : book' ≡ book = ap (λ (l : List (ℕ × Slot)). slot_in book l) (sym is' ∙ carried) in
+              let same_was : was' ≡ was = same_past me.0.taken was' was is took in
+              let whole : now.history ≡ was'.shed ++ book'.kept = kept.whole ∙ (λ i. (sym same_was i).shed ++ (sym same_book i).kept) in
+              (λ i. (with_history me.0 r.tally (whole i), ap rest carried i)),
+        ),
       )
 
   pub empties : (slots id : ℕ) (me : SeatState) (was : Past) (book : BookView) (shed : List Entry) → me.0.taken ≡ Some was
@@ -237,20 +293,21 @@ module _ (n : ℕ) where
   empties slots id me was book shed took carried kept keeper s r deep at _ =
       let f = r.seats id me.0 at in let b = has_book s r id me.0 was at took in
       let now : Past = all_shed was in
-      let w : SeatView = with_shed me.0 now.history in
+      let w : SeatView = with_shed me.0 r.tally now.history in
       let first : id ≡ 0 = (f.shed shed keeper).0 in
       let still : r.past.history ≡ now.history = ap (λ (p : Past). p.history) b.3 in (
         w,
         gives,
         tt,
         subst (λ (cs : List (ℕ × Slot)). SeatRule n (stepped s 0 0 id cs w gives)) (sym carried)
-            (moved s r id me.0 w 0 (set s.homes 0 (some (Some book))) now at (omega arith)
+            (moved s r id me.0 w 0 (set s.homes 0 (some (Some book))) now r.tally at (omega arith)
             (length-set s.homes 0 (some (Some book)) ∙ r.one_slot) kept.lawful
             (subst (AreBelow n) still r.below)
             (λ _. (book, one_home s.homes (some (Some book)) r.one_slot, kept))
             record {
-              count = λ l. f.count (updated_some now.history me.0.accounts l);
-              accounts = updated_sit r.past.history now.history r.seat_of id me.0.accounts f.accounts;
+              count = λ l. f.count (updated_some now.history r.tally me.0.accounts l);
+              accounts = updated_sit r.past.history now.history r.tally r.seat_of id me.0.accounts f.accounts;
+              faced = faces_now 0 r.tally now.history me.0.accounts;
               free = λ _. refl;
               taken = λ j q h. absurd (omega arith);
               idle = λ j q h. refl;
@@ -260,13 +317,18 @@ module _ (n : ℕ) where
             (λ j u other there. let g = r.seats j u there in record {
               count = g.count;
               accounts = sits_on r.past.history now.history r.seat_of j u.accounts (λ y _ t. subst (λ (h : List Entry). Follows h y) still t) g.accounts;
+              faced = faces_free n (get_or s.words 0 0) b.0 r.past.history r.tally r.seat_of id j u.accounts b.1 b.2 other g.accounts g.faced;
               free = λ _. g.idle b.0 b.1 (λ q. other (sym q ∙ b.2));
               taken = λ i q h. absurd (omega arith);
               idle = λ i q h. absurd (omega arith);
               seen = subst (λ (l : List Entry). StartsWith l u.seen) still g.seen;
               shed = λ s' q. absurd (other ((g.shed s' q).0 ∙ sym first));
             })
-            (λ j h. has_updated now.history me.0.accounts j h)),
-        λ was' is. let same_was : was' ≡ was = same_past me.0.taken was' was is took in
-            (λ i. (with_shed me.0 (sym same_was i).history, ap rest carried i)),
+            (λ j h. has_updated now.history r.tally me.0.accounts j h)
+            (λ j. met_kept j s.views id me.0 w at (met_map j (up_to_date now.history r.tally) me.0.accounts (λ _. refl)) ∙ r.met j)),
+        (
+          r.tally,
+          λ was' is. let same_was : was' ≡ was = same_past me.0.taken was' was is took in
+              (λ i. (with_shed me.0 r.tally (sym same_was i).history, ap rest carried i)),
+        ),
       )

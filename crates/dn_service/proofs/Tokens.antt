@@ -10,11 +10,13 @@ use Rattle.atomic_table.proofs.Lists.{set_again, set_else, at_longer}
 use Rattle.dn_types.specs.declared.entry.Entry.{Entry}
 use Rattle.dn_service.specs.Histories.{StartsWith}
 use Rattle.dn_service.specs.Rule.{Sits, SeatFits, SeatRule}
-use Rattle.dn_service.specs.Seats.{Account, SeatState, SeatView, Each, Has, sitting, spent}
+use Rattle.dn_service.specs.Accounts.{Account, Each, Has}
+use Rattle.dn_service.specs.Seats.{SeatState, SeatView, sitting, spent}
 use Rattle.dn_service.specs.Tokens.{witness, told_of, having_seen, learned, longer}
 use Rattle.dn_service.specs.Steps.{learnt, vacant}
 use Rattle.dn_service.proofs.Accounts.{each_map}
 use Rattle.dn_service.proofs.HistoryLaws.{starts_none}
+use Rattle.dn_service.proofs.Losses.{met_last, met_kept, met_map, faces_learned}
 use Rattle.dn_service.proofs.Splitting.{seat_below}
 use Rattle.dn_service.proofs.Taking.{TableState, moved}
 use Rattle.dn_service.proofs.Views.{seats_set, held_set, added_last}
@@ -38,10 +40,11 @@ learned_some seen (x ∷ xs) l = omega arith
 module _ (n : ℕ) where
   -- a seat that stands for no caller comes to the table
   newcomer : (s : TableState) (r : SeatRule n s) (count : ℕ) (seen : List Entry) → StartsWith r.past.history seen
-      → SeatFits n (get_or s.words 0 0) r.past r.seat_of (length s.views) (witness count seen)
+      → SeatFits n (get_or s.words 0 0) r.tally r.past r.seat_of (length s.views) (witness count seen)
   newcomer s r count seen h = record {
     count = λ l. absurd (omega arith);
     accounts = tt;
+    faced = tt;
     free = λ _. refl;
     taken = λ k e q. let b = r.word in let l = seat_below n s r k (omega arith) in absurd (omega arith);
     idle = λ _ _ _. refl;
@@ -54,22 +57,24 @@ module _ (n : ℕ) where
   comes s r count seen h = let w : SeatView = witness count seen in record {
     past = r.past;
     seat_of = r.seat_of;
+    tally = r.tally;
+    met = λ k. let e = met_last k s.views w in let f = r.met k in omega arith;
     one_word = r.one_word;
     one_slot = r.one_slot;
     word = r.word;
     lawful = r.lawful;
     below = r.below;
     home = r.home;
-    seats = added_last s.views w (SeatFits n (get_or s.words 0 0) r.past r.seat_of) r.seats (newcomer s r count seen h);
+    seats = added_last s.views w (SeatFits n (get_or s.words 0 0) r.tally r.past r.seat_of) r.seats (newcomer s r count seen h);
     held = λ k l. let t = r.held k l in (t.0, at_longer s.views (w ∷ []) (r.seat_of k) t.0 t.1, t.2);
   }
 
   pub vacates : (slots : ℕ) (m : SeatState) → Enters (SeatRule n) slots 0 (λ x w. vacant (step slots 0 0 0 none) m x (w, []))
   vacates slots m s r deep _ = (spent, comes s r 0 [] (starts_none r.past.history), refl)
 
-  pub witnesses : (id m k : ℕ) (front own : List Entry) → Splits (SeatRule n) id (sitting m k front own) (sitting m k front own) (witness m front)
-  witnesses id m k front own s r at =
-      let v : SeatView = sitting m k front own in let f = r.seats id v at in
+  pub witnesses : (id m k : ℕ) (front own : List Entry) (lost : List ℕ) (faced : ℕ) → Splits (SeatRule n) id (sitting m k front own lost faced) (sitting m k front own lost faced) (witness m front)
+  witnesses id m k front own lost faced s r at =
+      let v : SeatView = sitting m k front own lost faced in let f = r.seats id v at in
       subst (λ (vs : List SeatView). SeatRule n record { words = s.words; homes = s.homes; views = vs ++ witness m front ∷ [] })
       (sym (set_again s.views id v at)) (comes s r m front f.accounts.0.follows.front)
 
@@ -79,18 +84,20 @@ module _ (n : ℕ) where
       let vs : List SeatView = set s.views id u in
       let there' : get_elem? s.views other ≡ some w = sym (set_else s.views id other u apart) ∙ there in
       let f = r.seats id v at in let g = r.seats other w there' in
-      let mine : SeatFits n x r.past r.seat_of id u = record {
+      let mine : SeatFits n x r.tally r.past r.seat_of id u = record {
         count = f.count;
         accounts = f.accounts;
+        faced = f.faced;
         free = f.free;
         taken = f.taken;
         idle = f.idle;
         seen = g.seen;
         shed = f.shed;
       } in
-      let gone : SeatFits n x r.past r.seat_of other spent = record {
+      let gone : SeatFits n x r.tally r.past r.seat_of other spent = record {
         count = λ l. absurd (omega arith);
         accounts = tt;
+        faced = tt;
         free = λ _. refl;
         taken = g.taken;
         idle = λ _ _ _. refl;
@@ -99,6 +106,8 @@ module _ (n : ℕ) where
       } in record {
         past = r.past;
         seat_of = r.seat_of;
+        tally = r.tally;
+        met = λ k. met_kept k vs other w spent there refl ∙ (met_kept k s.views id v u at refl ∙ r.met k);
         one_word = r.one_word;
         one_slot = r.one_slot;
         word = r.word;
@@ -106,8 +115,8 @@ module _ (n : ℕ) where
         below = r.below;
         home = r.home;
         seats =
-            seats_set (SeatFits n x r.past r.seat_of) vs other spent gone
-            (λ j c _ e. seats_set (SeatFits n x r.past r.seat_of) s.views id u mine (λ i d _ q. r.seats i d q) j c e);
+            seats_set (SeatFits n x r.tally r.past r.seat_of) vs other spent gone
+            (λ j c _ e. seats_set (SeatFits n x r.tally r.past r.seat_of) s.views id u mine (λ i d _ q. r.seats i d q) j c e);
         held = λ k l. let t = r.held k l in dite (ℕ_discrete (r.seat_of k) other)
             (λ e. absurd (subst (λ (z : SeatView). Has k z.accounts) (some-injective t.0 w (sym t.1 ∙ (ap (get_elem? s.views) e ∙ there'))) t.2))
             (λ ne. let h = held_set s.views id v u at (r.seat_of k) k (λ q. q) t in (h.0, set_else vs other (r.seat_of k) spent ne ∙ h.1, h.2));
@@ -126,16 +135,18 @@ module _ (n : ℕ) where
         learned me.0,
         keeps,
         tt,
-        moved n s r id me.0 (learned me.0) x s.homes r.past at r.word r.one_slot r.lawful r.below r.home
+        moved n s r id me.0 (learned me.0) x s.homes r.past r.tally at r.word r.one_slot r.lawful r.below r.home
             record {
               count = λ l. f.count (learned_some me.0.seen me.0.accounts l);
               accounts = learned_sit r.past.history me.0.seen r.seat_of id me.0.accounts f.seen f.accounts;
+              faced = faces_learned x r.tally me.0.seen me.0.accounts f.faced;
               free = f.free;
               taken = f.taken;
               idle = f.idle;
               seen = starts_none r.past.history;
               shed = f.shed;
             }
-            (λ j u _ there. r.seats j u there) (λ j h. has_learned me.0.seen me.0.accounts j h),
+            (λ j u _ there. r.seats j u there) (λ j h. has_learned me.0.seen me.0.accounts j h)
+            (λ k. met_kept k s.views id me.0 (learned me.0) at (met_map k (having_seen me.0.seen) me.0.accounts (λ _. refl)) ∙ r.met k),
         (r.past.history, refl, each_map me.0.accounts (λ y t. t.follows) f.accounts, f.seen),
       )

@@ -5,7 +5,8 @@ use mathlib.Core.Option.{some, some-ne-none, some-injective}
 use native.Mathlib.Decide.{ℕ_discrete}
 use lib.ListN.{get_elem?}
 use Rattle.atomic_table.proofs.Lists.{at_set, set_else}
-use Rattle.dn_service.specs.Seats.{SeatView, Has}
+use Rattle.dn_service.specs.Accounts.{Has}
+use Rattle.dn_service.specs.Seats.{SeatView}
 
 module _ {A : Type 0} where
   pub set_there : (l : List A) (i : ℕ) (a b : A) → get_elem? l i ≡ some a → get_elem? (set l i b) i ≡ some b

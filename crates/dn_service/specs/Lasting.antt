@@ -8,9 +8,10 @@ use Rattle.dn_service.specs.declared.after_fault.AfterFault.{AfterFault}
 use Rattle.dn_service.specs.declared.after_fault.AfterFault.TheVariants.{OutOfMemory as NoMemory, Ahead as TooFew}
 use Rattle.dn_service.specs.declared.try_after_fault.TryAfterFault.{TryAfterFault}
 use Rattle.dn_service.specs.declared.try_after_fault.TryAfterFault.TheVariants.{Busy, OutOfMemory, Ahead}
-use Rattle.dn_service.specs.Callers.{ServiceView, CallerView, Closes}
+use Rattle.dn_service.specs.Callers.{ServiceView, CallerView, Closes, having_lost, having_faced}
 use Rattle.dn_service.specs.Histories.{StartsWith, AreBelow}
-use Rattle.dn_service.specs.Seats.{SeatState, front_in, own_in}
+use Rattle.dn_service.specs.Accounts.{front_in, own_in, lost_in, faced_in}
+use Rattle.dn_service.specs.Seats.{SeatState}
 
 -- A service, and all entries that were taken out of it so far, in order.
 pub record LastingView : Type 0 where
@@ -46,6 +47,12 @@ IsTryAfterFault caller after (Busy holder) = (holder < caller.service.callers) �
 IsTryAfterFault caller after OutOfMemory = ⊤
 IsTryAfterFault caller after Ahead = length caller.front < after
 
+-- A try was refused. It found caller k in a call, and that is noted; or it had the book.
+abbrev pub RefusesAfter : CallerView → TryAfterFault → CallerView → Type 0
+RefusesAfter before (Busy k) after = after ≡ having_lost k before
+RefusesAfter before OutOfMemory after = after ≡ having_faced after.faced before
+RefusesAfter before Ahead after = after ≡ having_faced after.faced before
+
 abbrev pub IsAfterFault : CallerView → ℕ → AfterFault → Type 0
 IsAfterFault caller after NoMemory = ⊤
 IsAfterFault caller after TooFew = length caller.front < after
@@ -62,7 +69,9 @@ pub record Learns (before : CallerView) (seen : SeenView) (after : CallerView) :
   pub told : StartsWith after.front seen.front
   pub one : (StartsWith before.front seen.front × (after.front ≡ before.front)) ⊎ (StartsWith seen.front before.front × (after.front ≡ seen.front))
   pub own : after.own ≡ before.own
+  pub lost : after.lost ≡ before.lost
+  pub faced : after.faced ≡ before.faced
 
 -- The caller of this number, by its seat at the table.
 abbrev pub caller_at : TableId → ℕ → SeatState → CallerView
-caller_at table number me = record { service = record { table = table; callers = me.0.count }; number = number; front = front_in me.0.accounts; own = own_in me.0.accounts }
+caller_at table number me = record { service = record { table = table; callers = me.0.count }; number = number; front = front_in me.0.accounts; own = own_in me.0.accounts; lost = lost_in me.0.accounts; faced = faced_in me.0.accounts }

@@ -1,3 +1,4 @@
+pub mod Accounts
 pub mod Callers
 pub mod Histories
 pub mod Lasting

@@ -1,16 +1,10 @@
 -- What a seat at the table of the book knows: an account of each caller that it stands for, and the past that it took with the book.
-use Rattle.std.specs.Prelude.{◌≡◌, ⊤, ◌⊎◌, ℕ, zero, suc, ◌+◌, ◌<◌, ◌≤◌, List, [], ◌∷◌, ◌++◌, map, take, drop, Option, Some, None}
+use Rattle.std.specs.Prelude.{◌≡◌, ℕ, ◌+◌, ◌<◌, ◌≤◌, List, [], ◌∷◌, ◌++◌, map, take, drop, Option, Some, None}
 use Rattle.atomic_table.specs.Seated.{TableId}
 use Rattle.atomic_table.specs.Table.{Me}
-use Rattle.dn_types.specs.History.{own_entries}
 use Rattle.dn_types.specs.declared.entry.Entry.{Entry}
+use Rattle.dn_service.specs.Accounts.{Account, new_accounts, up_to_date, faces, note, met_by, front_in, own_in, lost_in, faced_in}
 use Rattle.dn_service.specs.Pasts.{Past, BookView}
-
--- One caller: its number, the history that it has seen, and its own entries.
-pub record Account : Type 0 where
-  pub number : ℕ
-  pub front : List Entry
-  pub own : List Entry
 
 -- A seat: the number of all callers, the accounts of those that it stands for, the past that came with the book where
 -- the seat has taken it, a history that it was told of, and, of the one seat that has entries taken out, these.
@@ -26,28 +20,10 @@ pub record SeatView : Type 0 where
 abbrev pub Slot : Type 0
 Slot = Option BookView
 
--- The fact holds of each account.
-abbrev pub Each : (Account → Type 0) → List Account → Type 0
-Each P [] = ⊤
-Each P (a ∷ accounts) = P a × Each P accounts
-
--- One of the accounts is that of caller k.
-abbrev pub Has : ℕ → List Account → Type 0
-Has k [] = ⊥
-Has k (a ∷ accounts) = (a.number ≡ k) ⊎ Has k accounts
-
--- The account of caller k, who has seen nothing.
-abbrev pub new_account : ℕ → Account
-new_account k = record { number = k; front = []; own = [] }
-
--- The accounts of n callers from k on.
-abbrev pub new_accounts : ℕ → ℕ → List Account
-new_accounts k zero = []
-new_accounts k (suc n) = new_account k ∷ new_accounts (k + 1) n
-
--- The account after its caller has seen the history.
-abbrev pub up_to_date : List Entry → Account → Account
-up_to_date history a = record { number = a.number; front = history; own = own_entries a.number history }
+-- The same of all seats.
+abbrev pub met_in_all : ℕ → List SeatView → ℕ
+met_in_all k [] = 0
+met_in_all k (v ∷ views) = met_by k v.accounts + met_in_all k views
 
 -- A seat that has not taken the book.
 abbrev pub seat_with : ℕ → List Account → SeatView
@@ -58,8 +34,8 @@ abbrev pub keeping : ℕ → List Entry → List Account → SeatView
 keeping n shed accounts = record { count = n; accounts = accounts; taken = None; seen = []; shed = Some shed }
 
 -- The seat of one caller, which has not taken the book.
-abbrev pub sitting : ℕ → ℕ → List Entry → List Entry → SeatView
-sitting n k front own = seat_with n (record { number = k; front = front; own = own } ∷ [])
+abbrev pub sitting : ℕ → ℕ → List Entry → List Entry → List ℕ → ℕ → SeatView
+sitting n k front own lost faced = seat_with n (record { number = k; front = front; own = own; lost = lost; faced = faced } ∷ [])
 
 -- The first seat stands for all callers.
 abbrev pub first_seat : ℕ → SeatView
@@ -73,13 +49,21 @@ spent = seat_with 0 []
 abbrev pub with_taken : SeatView → Option Past → SeatView
 with_taken v t = record { count = v.count; accounts = v.accounts; taken = t; seen = v.seen; shed = v.shed }
 
--- The seat after it gave the book back with this history, which each of its callers has seen.
-abbrev pub with_history : SeatView → List Entry → SeatView
-with_history v history = record { count = v.count; accounts = map (up_to_date history) v.accounts; taken = None; seen = v.seen; shed = v.shed }
+-- The seat after its first caller found caller j in a call.
+abbrev pub with_loss : SeatView → ℕ → SeatView
+with_loss v j = record { count = v.count; accounts = note j v.accounts; taken = v.taken; seen = v.seen; shed = v.shed }
+
+-- The seat after it gave the book back, when its callers had been faced so often.
+abbrev pub with_faced : SeatView → (ℕ → ℕ) → SeatView
+with_faced v faced = record { count = v.count; accounts = map (faces faced) v.accounts; taken = None; seen = v.seen; shed = v.shed }
+
+-- The same with this history, which each of its callers has seen.
+abbrev pub with_history : SeatView → (ℕ → ℕ) → List Entry → SeatView
+with_history v faced history = record { count = v.count; accounts = map (up_to_date history faced) v.accounts; taken = None; seen = v.seen; shed = v.shed }
 
 -- The same after it took all entries out.
-abbrev pub with_shed : SeatView → List Entry → SeatView
-with_shed v history = record { count = v.count; accounts = map (up_to_date history) v.accounts; taken = None; seen = v.seen; shed = Some history }
+abbrev pub with_shed : SeatView → (ℕ → ℕ) → List Entry → SeatView
+with_shed v faced history = record { count = v.count; accounts = map (up_to_date history faced) v.accounts; taken = None; seen = v.seen; shed = Some history }
 
 -- The seat after its first caller got a seat of its own, and that seat.
 abbrev pub without_first : SeatView → SeatView
@@ -91,15 +75,6 @@ only_first v = seat_with v.count (take 1 v.accounts)
 -- Two seats in one, which keeps each caller's own account.
 abbrev pub joined : SeatView → SeatView → SeatView
 joined v w = record { count = w.count; accounts = v.accounts ++ w.accounts; taken = v.taken; seen = v.seen; shed = v.shed }
-
--- The front and the own entries of the first account.
-abbrev pub front_in : List Account → List Entry
-front_in [] = []
-front_in (a ∷ accounts) = a.front
-
-abbrev pub own_in : List Account → List Entry
-own_in [] = []
-own_in (a ∷ accounts) = a.own
 
 -- What the seat has taken out.
 abbrev pub shed_in : Option (List Entry) → List Entry
@@ -116,7 +91,7 @@ pub record IsCallerSeat (table : TableId) (number : ℕ) (seat : TableId) (me : 
   pub one_word : seat.words ≡ 1
   pub below : number < me.0.count
   pub few : me.0.count ≤ 16
-  pub sits : me ≡ (sitting me.0.count number (front_in me.0.accounts) (own_in me.0.accounts), [])
+  pub sits : me ≡ (sitting me.0.count number (front_in me.0.accounts) (own_in me.0.accounts) (lost_in me.0.accounts) (faced_in me.0.accounts), [])
 
 -- The seat that the service keeps, which stands for no caller until the service is closed.
 pub record IsServiceSeat (table : TableId) (count : ℕ) (seat : TableId) (me : SeatState) : Type 0 where
@@ -136,4 +111,4 @@ pub record IsLastingSeat (table : TableId) (count : ℕ) (seat : TableId) (me : 
 
 -- The seat stands for the caller of this number alone, and has entries taken out.
 abbrev pub IsKeeperOf : ℕ → SeatState → Type 0
-IsKeeperOf number m = m ≡ (keeping m.0.count (shed_in m.0.shed) (record { number = number; front = front_in m.0.accounts; own = own_in m.0.accounts } ∷ []), [])
+IsKeeperOf number m = m ≡ (keeping m.0.count (shed_in m.0.shed) (record { number = number; front = front_in m.0.accounts; own = own_in m.0.accounts; lost = lost_in m.0.accounts; faced = faced_in m.0.accounts } ∷ []), [])

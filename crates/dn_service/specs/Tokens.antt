@@ -2,7 +2,8 @@
 use Rattle.std.specs.Prelude.{◌≡◌, ℕ, List, [], map, length, nat_le, cond, None}
 use Rattle.atomic_table.specs.Seated.{TableId}
 use Rattle.dn_types.specs.declared.entry.Entry.{Entry}
-use Rattle.dn_service.specs.Seats.{Account, SeatView, SeatState, front_in}
+use Rattle.dn_service.specs.Accounts.{Account, front_in}
+use Rattle.dn_service.specs.Seats.{SeatView, SeatState}
 
 -- The longer of two lists.
 abbrev pub longer : List Entry → List Entry → List Entry
@@ -25,7 +26,7 @@ told_of v w = record { count = v.count; accounts = v.accounts; taken = v.taken; 
 
 -- The account of a caller who has seen this history too.
 abbrev pub having_seen : List Entry → Account → Account
-having_seen seen a = record { number = a.number; front = longer a.front seen; own = a.own }
+having_seen seen a = record { number = a.number; front = longer a.front seen; own = a.own; lost = a.lost; faced = a.faced }
 
 -- The seat after its callers have seen what it was told of.
 abbrev pub learned : SeatView → SeatView

@@ -1,4 +1,4 @@
-ghost use Rattle.std.specs.Prelude.{◌≡◌, ◌≢◌, ◌<◌, ◌≤◌, ◌+◌, ◌^◌, [], length, IfOk, IfErr, OnErr};
+ghost use Rattle.std.specs.Prelude.{◌≡◌, ◌≢◌, ◌<◌, ◌≤◌, ◌+◌, ◌^◌, [], length, IfOk, IfErr, OnOk, OnErr};
 
 mod tries;
 mod wakes;
@@ -34,7 +34,8 @@ pub struct Caller {
 impl Model for Caller {
     ghost use Rattle.std.specs.Arc.{arc_value};
     ghost use Rattle.dn_service.specs.Callers.{CallerView};
-    ghost use Rattle.dn_service.specs.Seats.{IsCallerSeat, front_in, own_in};
+    ghost use Rattle.dn_service.specs.Accounts.{front_in, own_in, lost_in, faced_in};
+    ghost use Rattle.dn_service.specs.Seats.{IsCallerSeat};
 
     ghost Value = { CallerView };
 
@@ -43,6 +44,8 @@ impl Model for Caller {
       number = c.number;
       front = front_in c.seat.me.0.accounts;
       own = own_in c.seat.me.0.accounts;
+      lost = lost_in c.seat.me.0.accounts;
+      faced = faced_in c.seat.me.0.accounts;
     } };
 
     ghost invariant = { λ c. IsCallerSeat (arc_value c.desk).table.shared.table_id c.number c.seat.table_id c.seat.me };
@@ -50,15 +53,15 @@ impl Model for Caller {
 
 impl Caller {
     ghost use Rattle.std.specs.Arc.{arc_value};
-    ghost use Rattle.dn_service.specs.Callers.{new_caller, IsSameCaller, Answered, IsOf};
-    ghost use Rattle.dn_service.specs.Lasting.{Takes, Learns, IsTryAfterFault, IsAfterFault};
+    ghost use Rattle.dn_service.specs.Callers.{new_caller, IsSameCaller, KeepsSeen, Answered, IsOf, having_lost};
+    ghost use Rattle.dn_service.specs.Lasting.{Takes, Learns, IsTryAfterFault, IsAfterFault, RefusesAfter};
     ghost use Rattle.dn_service.specs.Seats.{sitting};
 
     /// The caller of this number, who sits at the seat.
     pub(crate) fn new(desk: Arc<Desk>, seat: BookSeat, number: usize) -> Caller
         requires table { (seat.table_id ≡ (arc_value desk).table.shared.table_id) × (seat.table_id.words ≡ 1) }
         requires number { (number < seat.me.0.count) × (seat.me.0.count ≤ 16) }
-        requires seat { seat.me ≡ (sitting seat.me.0.count number [] [], []) }
+        requires seat { seat.me ≡ (sitting seat.me.0.count number [] [] [] 0, []) }
         ensures { result ≡ new_caller (record { table = seat.table_id; callers = seat.me.0.count }) number }
     {
         Caller { desk, seat, number }
@@ -66,7 +69,7 @@ impl Caller {
 
     pub(crate) fn into_seat(self) -> BookSeat
         ensures table { result.table_id ≡ self.service.table }
-        ensures seat { result.me ≡ (sitting self.service.callers self.number self.front self.own, []) }
+        ensures seat { result.me ≡ (sitting self.service.callers self.number self.front self.own self.lost self.faced, []) }
     {
         let Caller {
             desk: _desk,
@@ -93,7 +96,8 @@ impl Caller {
         ensures place { IfOk result (λ placed. length self.new.front < 2 ^ 64 → length self.new.front ≡ placed.place + 1) }
         ensures after { IfOk result (λ placed. after ≤ placed.place) }
         ensures same_caller { IsSameCaller self.old self.new }
-        ensures err { OnErr result (self.new ≡ self.old) }
+        ensures lost { OnOk result (self.new.lost ≡ self.old.lost) }
+        ensures err { IfErr result (λ fault. RefusesAfter self.old fault self.new) }
         ensures cause { IfErr result (λ fault. IsTryAfterFault self.old after fault) }
     {
         let caller = self.number;
@@ -123,6 +127,7 @@ impl Caller {
     }
 
     /// Makes a call that comes after `after` others, as `try_call_after` does, and waits while other callers are in a call.
+    #[tactic(auto, using(crate::proofs::Outcomes::answered_on, crate::proofs::Outcomes::same_on, crate::proofs::Outcomes::same_lost, crate::proofs::Outcomes::keeps_lost, crate::proofs::Outcomes::keeps_faced))]
     pub fn call_after<R: Wait>(
         &mut self,
         rt: &R,
@@ -133,7 +138,7 @@ impl Caller {
         ensures place { IfOk result (λ placed. length self.new.front < 2 ^ 64 → length self.new.front ≡ placed.place + 1) }
         ensures after { IfOk result (λ placed. after ≤ placed.place) }
         ensures same_caller { IsSameCaller self.old self.new }
-        ensures err { OnErr result (self.new ≡ self.old) }
+        ensures err { OnErr result (KeepsSeen self.old self.new) }
         ensures cause { IfErr result (λ fault. IsAfterFault self.old after fault) }
     {
         let asked = &call;
@@ -153,10 +158,11 @@ impl Caller {
     ///
     /// It spins between its first tries, and then sleeps until a call has ended. If memory is refused, for the call or for
     /// its place in the history, nothing has changed.
+    #[tactic(auto, using(crate::proofs::Outcomes::answered_on, crate::proofs::Outcomes::same_on, crate::proofs::Outcomes::same_lost, crate::proofs::Outcomes::keeps_lost, crate::proofs::Outcomes::keeps_faced))]
     pub fn call<R: Wait>(&mut self, rt: &R, call: Call) -> Result<Reply, AllocError>
         ensures ok { IfOk result (λ reply. Answered self.old call reply self.new) }
         ensures same_caller { IsSameCaller self.old self.new }
-        ensures err { OnErr result (self.new ≡ self.old) }
+        ensures err { OnErr result (KeepsSeen self.old self.new) }
     {
         let mut patience = Patience::new();
         for _ in rt.forever() {
@@ -176,7 +182,8 @@ impl Caller {
         requires { IsOf lasting.old.service self.old }
         ensures ok { IfOk result (λ s. Takes lasting.old self.old s.start s.entries.items lasting.new self.new) }
         ensures same_caller { IsSameCaller self.old self.new }
-        ensures err { OnErr result ((self.new ≡ self.old) × (lasting.new ≡ lasting.old)) }
+        ensures lost { OnOk result (self.new.lost ≡ self.old.lost) }
+        ensures err { IfErr result (λ k. (self.new ≡ having_lost k self.old) × (lasting.new ≡ lasting.old)) }
         ensures same_service { lasting.new.service ≡ lasting.old.service }
         ensures busy { IfErr result (λ k. (k < self.old.service.callers) × (k ≢ self.old.number)) }
     {
@@ -199,7 +206,8 @@ impl Caller {
         requires list { list.old.items ≡ [] }
         ensures ok { IfOk result (λ start. Takes lasting.old self.old start list.new.items lasting.new self.new) }
         ensures same_caller { IsSameCaller self.old self.new }
-        ensures err { OnErr result ((self.new ≡ self.old) × (lasting.new ≡ lasting.old) × (list.new ≡ list.old)) }
+        ensures lost { OnOk result (self.new.lost ≡ self.old.lost) }
+        ensures err { IfErr result (λ k. (self.new ≡ having_lost k self.old) × (lasting.new ≡ lasting.old) × (list.new ≡ list.old)) }
         ensures same_service { lasting.new.service ≡ lasting.old.service }
         ensures busy { IfErr result (λ k. (k < self.old.service.callers) × (k ≢ self.old.number)) }
     {
@@ -227,6 +235,7 @@ impl Caller {
     /// Takes as `take` does, into an empty list, whose memory the next entries take.
     ///
     /// It reports how many entries were taken out before.
+    #[tactic(auto, using(crate::proofs::Outcomes::takes_on, crate::proofs::Outcomes::same_on, crate::proofs::Outcomes::same_lost, crate::proofs::Outcomes::keeps_lost))]
     pub fn take_into<R: Wait>(
         &mut self,
         rt: &R,

@@ -1,7 +1,8 @@
 ghost use Rattle.std.specs.Prelude.{◌≡◌, ◌≤◌, [], IfOk};
 ghost use Rattle.std.specs.Arc.{arc_value};
 ghost use Rattle.dn_service.specs.Callers.{new_callers};
-ghost use Rattle.dn_service.specs.Seats.{keeping, new_accounts};
+ghost use Rattle.dn_service.specs.Accounts.{new_accounts};
+ghost use Rattle.dn_service.specs.Seats.{keeping};
 
 use crate::caller::Caller;
 use crate::desk::Desk;

@@ -1,5 +1,5 @@
-ghost use Rattle.std.specs.Prelude.{◌≡◌, ◌≢◌, ◌+◌, ◌^◌, ◌<◌, [], All, IfOk, OnOk, OnErr, IfErr};
-ghost use Rattle.dn_service.specs.Seats.{IsKeeperOf};
+ghost use Rattle.std.specs.Prelude.{◌≡◌, ◌≢◌, ◌+◌, ◌^◌, ◌<◌, [], All, IfOk, OnOk, IfErr};
+ghost use Rattle.dn_service.specs.Seats.{IsKeeperOf, with_loss};
 ghost use Rattle.dn_service.specs.Steps.{Emptied};
 
 use crate::caller::Caller;
@@ -61,7 +61,7 @@ fn empty(
     ensures count { seat.new.me.0.count ≡ seat.old.me.0.count }
     ensures seat { IsKeeperOf number seat.new.me }
     ensures ok { OnOk result (Emptied seat.old.me list.new.items seat.new.me) }
-    ensures err { OnErr result ((seat.new.me ≡ seat.old.me) × (list.new ≡ list.old)) }
+    ensures err { IfErr result (λ k. (seat.new.me ≡ (with_loss seat.old.me.0 k, [])) × (list.new ≡ list.old)) }
     ensures busy { IfErr result (λ k. (k < seat.old.me.0.count) × (k ≢ number)) }
 {
     match enter(desk, seat, number) {
@@ -77,7 +77,8 @@ fn empty(
 impl Lasting {
     ghost use Rattle.dn_service.specs.Callers.{IsOf, IsCloseFault};
     ghost use Rattle.dn_service.specs.Lasting.{Takes, ClosesAfter, caller_at};
-    ghost use Rattle.dn_service.specs.Seats.{IsCallerSeat, IsServiceSeat};
+    ghost use Rattle.dn_service.specs.Accounts.{lost_in};
+    ghost use Rattle.dn_service.specs.Seats.{IsCallerSeat, IsServiceSeat, with_loss};
     ghost use Rattle.std.specs.Arc.{arc_value};
 
     pub(crate) fn new(desk: Arc<Desk>, seat: BookSeat, count: usize) -> Lasting
@@ -116,7 +117,8 @@ impl Lasting {
         ensures count { seat.new.me.0.count ≡ seat.old.me.0.count }
         ensures ok { IfOk result (λ start. Takes self.old (caller_at seat.old.table_id number seat.old.me) start list.new.items
             self.new (caller_at seat.new.table_id number seat.new.me)) }
-        ensures err { OnErr result ((seat.new.me ≡ seat.old.me) × (self.new ≡ self.old) × (list.new ≡ list.old)) }
+        ensures lost { OnOk result (lost_in seat.new.me.0.accounts ≡ lost_in seat.old.me.0.accounts) }
+        ensures err { IfErr result (λ k. (seat.new.me ≡ (with_loss seat.old.me.0 k, [])) × (self.new ≡ self.old) × (list.new ≡ list.old)) }
         ensures busy { IfErr result (λ k. (k < seat.old.me.0.count) × (k ≢ number)) }
     {
         let desk: &Desk = &self.desk;

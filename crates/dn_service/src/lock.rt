@@ -1,8 +1,9 @@
 //! The lock of the book: how a seat takes the book, and gives it back. Nothing here wakes a caller that waits.
-ghost use Rattle.std.specs.Prelude.{◌≡◌, ◌+◌, ◌^◌, ◌<◌, List, [], ◌∷◌, ◌++◌, MatchResult, Some, None};
+ghost use Rattle.std.specs.Prelude.{◌≡◌, ℕ, ◌+◌, ◌^◌, ◌<◌, List, [], ◌∷◌, ◌++◌, MatchResult, Some, None};
 ghost use Rattle.dn_types.specs.declared.entry.Entry.{Entry};
 ghost use Rattle.dn_service.specs.Pasts.{Past, BookView, Keeps, with_entry, all_shed};
-ghost use Rattle.dn_service.specs.Seats.{Has, with_taken, with_history, with_shed};
+ghost use Rattle.dn_service.specs.Accounts.{Has};
+ghost use Rattle.dn_service.specs.Seats.{with_loss, with_faced, with_history, with_shed};
 ghost use Rattle.dn_service.specs.Steps.{Won};
 
 use crate::book::Book;
@@ -31,7 +32,7 @@ fn put_in(table: &BookTable, seat: &mut BookSeat, book: Book)
     table.shared.exchange(seat, 0, Some(book));
 }
 
-/// Tries once to take the word and the book for the caller `number`. `Err` names the caller that has them.
+/// Tries once to take the word and the book for the caller `number`. `Err` names the caller that has them, which the seat notes.
 pub(crate) fn enter(desk: &Desk, seat: &mut BookSeat, number: usize) -> Result<Book, usize>
     requires table { (seat.old.table_id ≡ desk.now.table.shared.table_id) × (seat.old.table_id.words ≡ 1) }
     requires number { number + 1 < 2 ^ 64 }
@@ -39,7 +40,7 @@ pub(crate) fn enter(desk: &Desk, seat: &mut BookSeat, number: usize) -> Result<B
     ensures table { (seat.new.table_id ≡ seat.old.table_id) × (seat.new.id ≡ seat.old.id) }
     ensures taken { MatchResult result
         (λ book. Won seat.old.me seat.new.me book)
-        (λ holder. (seat.new.me ≡ seat.old.me) × (holder < seat.old.me.0.count) × (¬ Has holder seat.old.me.0.accounts)) }
+        (λ holder. (seat.new.me ≡ (with_loss seat.old.me.0 holder, seat.old.me.1)) × (holder < seat.old.me.0.count) × (¬ Has holder seat.old.me.0.accounts)) }
 {
     let found = desk
         .table
@@ -57,7 +58,7 @@ pub(crate) fn give_back(desk: &Desk, seat: &mut BookSeat, book: Book)
     requires seat { seat.old.me.1 ≡ (0, None) ∷ [] }
     requires book { (was : Past) × (seat.old.me.0.taken ≡ Some was) × Keeps was book }
     ensures table { (seat.new.table_id ≡ seat.old.table_id) × (seat.new.id ≡ seat.old.id) }
-    ensures seat { seat.new.me ≡ (with_taken seat.old.me.0 None, []) }
+    ensures seat { (faced : ℕ → ℕ) × (seat.new.me ≡ (with_faced seat.old.me.0 faced, [])) }
 {
     put_in(&desk.table, seat, book);
     desk.table.shared.store::<Return>(seat, 0, 0);
@@ -69,7 +70,7 @@ pub(crate) fn give_back_read(desk: &Desk, seat: &mut BookSeat, book: Book)
     requires seat { seat.old.me.1 ≡ (0, None) ∷ [] }
     requires book { (was : Past) × (seat.old.me.0.taken ≡ Some was) × Keeps was book }
     ensures table { (seat.new.table_id ≡ seat.old.table_id) × (seat.new.id ≡ seat.old.id) }
-    ensures seat { (was : Past) → seat.old.me.0.taken ≡ Some was → seat.new.me ≡ (with_history seat.old.me.0 was.history, []) }
+    ensures seat { (faced : ℕ → ℕ) × ((was : Past) → seat.old.me.0.taken ≡ Some was → seat.new.me ≡ (with_history seat.old.me.0 faced was.history, [])) }
 {
     put_in(&desk.table, seat, book);
     desk.table.shared.store::<Read>(seat, 0, 0);
@@ -82,8 +83,8 @@ pub(crate) fn publish(desk: &Desk, seat: &mut BookSeat, book: Book)
     requires book { (was : Past) × (e : Entry) × (seat.old.me.0.taken ≡ Some was)
         × Keeps (with_entry was e) book × Has e.caller seat.old.me.0.accounts }
     ensures table { (seat.new.table_id ≡ seat.old.table_id) × (seat.new.id ≡ seat.old.id) }
-    ensures seat { (was : Past) → seat.old.me.0.taken ≡ Some was
-        → seat.new.me ≡ (with_history seat.old.me.0 (was.shed ++ book.kept), []) }
+    ensures seat { (faced : ℕ → ℕ) × ((was : Past) → seat.old.me.0.taken ≡ Some was
+        → seat.new.me ≡ (with_history seat.old.me.0 faced (was.shed ++ book.kept), [])) }
 {
     put_in(&desk.table, seat, book);
     desk.table.shared.store::<Publish>(seat, 0, 0);
@@ -96,7 +97,7 @@ pub(crate) fn give_empty(desk: &Desk, seat: &mut BookSeat, book: Book)
     requires shed { (shed : List Entry) × (seat.old.me.0.shed ≡ Some shed) }
     requires book { (was : Past) × (seat.old.me.0.taken ≡ Some was) × Keeps (all_shed was) book }
     ensures table { (seat.new.table_id ≡ seat.old.table_id) × (seat.new.id ≡ seat.old.id) }
-    ensures seat { (was : Past) → seat.old.me.0.taken ≡ Some was → seat.new.me ≡ (with_shed seat.old.me.0 was.history, []) }
+    ensures seat { (faced : ℕ → ℕ) × ((was : Past) → seat.old.me.0.taken ≡ Some was → seat.new.me ≡ (with_shed seat.old.me.0 faced was.history, [])) }
 {
     put_in(&desk.table, seat, book);
     desk.table.shared.store::<Empty>(seat, 0, 0);

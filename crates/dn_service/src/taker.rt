@@ -1,4 +1,4 @@
-ghost use Rattle.std.specs.Prelude.{◌≡◌, ◌≢◌, ◌<◌, [], IfOk, IfErr, OnErr};
+ghost use Rattle.std.specs.Prelude.{◌≡◌, ◌≢◌, ◌<◌, [], IfOk, IfErr, OnOk, OnErr};
 
 use crate::caller::Caller;
 use crate::lasting::Lasting;
@@ -31,7 +31,7 @@ impl Model for Taker {
 }
 
 impl Taker {
-    ghost use Rattle.dn_service.specs.Callers.{IsOf, IsSameCaller, Answered};
+    ghost use Rattle.dn_service.specs.Callers.{IsOf, IsSameCaller, KeepsSeen, Answered, having_lost};
     ghost use Rattle.dn_service.specs.Lasting.{Takes, TakerView};
 
     /// The taker of the service by this caller of it.
@@ -56,7 +56,7 @@ impl Taker {
         ensures ok { IfOk result (λ reply. Answered self.old.caller call reply self.new.caller) }
         ensures same_caller { IsSameCaller self.old.caller self.new.caller }
         ensures same_service { self.new.lasting ≡ self.old.lasting }
-        ensures err { OnErr result (self.new ≡ self.old) }
+        ensures err { OnErr result (KeepsSeen self.old.caller self.new.caller) }
     {
         self.caller.call(rt, call)
     }
@@ -84,7 +84,8 @@ impl Taker {
     pub fn try_take(&mut self) -> Result<Segment, usize>
         ensures ok { IfOk result (λ s. Takes self.old.lasting self.old.caller s.start s.entries.items self.new.lasting self.new.caller) }
         ensures same_caller { IsSameCaller self.old.caller self.new.caller }
-        ensures err { OnErr result (self.new ≡ self.old) }
+        ensures lost { OnOk result (self.new.caller.lost ≡ self.old.caller.lost) }
+        ensures err { IfErr result (λ k. (self.new.caller ≡ having_lost k self.old.caller) × (self.new.lasting ≡ self.old.lasting)) }
         ensures busy { IfErr result (λ k. (k < self.old.caller.service.callers) × (k ≢ self.old.caller.number)) }
     {
         self.caller.try_take(&mut self.lasting)
@@ -93,7 +94,8 @@ impl Taker {
     pub fn try_take_quietly(&mut self) -> Result<Segment, usize>
         ensures ok { IfOk result (λ s. Takes self.old.lasting self.old.caller s.start s.entries.items self.new.lasting self.new.caller) }
         ensures same_caller { IsSameCaller self.old.caller self.new.caller }
-        ensures err { OnErr result (self.new ≡ self.old) }
+        ensures lost { OnOk result (self.new.caller.lost ≡ self.old.caller.lost) }
+        ensures err { IfErr result (λ k. (self.new.caller ≡ having_lost k self.old.caller) × (self.new.lasting ≡ self.old.lasting)) }
         ensures busy { IfErr result (λ k. (k < self.old.caller.service.callers) × (k ≢ self.old.caller.number)) }
     {
         self.caller.try_take_quietly(&mut self.lasting)

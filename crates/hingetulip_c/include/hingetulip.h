@@ -1,9 +1,10 @@
 /*
  * hingetulip.h: the link emulator dummynet, as ipfw(8) configures it, in the caller's own process.
  *
- * Handles. A handle is closed where it is {0}, as in `struct dn_handle h = {0};`, and the library has no other state. One
- * thread at a time uses a handle, the one that opened it; handles don't know of one another. An open handle isn't copied, and
- * its fields are the library's alone. What a handle owns is let go by dn_close, or by dn_open on it again.
+ * Handles. A handle is closed where it is {0}, as in `struct dn_handle h = {0};`, and the library has no other state, of a
+ * thread neither. One thread at a time uses a handle, which may pass to another one by a lock, by a thread's start or by its end.
+ * Handles don't know of one another. An open handle isn't copied, and its fields are the library's alone. What a handle owns is
+ * let go by dn_close, or by dn_open on it again.
  *
  * Moments are in nanoseconds, from 0 to DN_LAST_MOMENT, on a clock of the caller's own. A call at an earlier moment than the
  * last call counts as one at the last, and the reply says which moment counted.
@@ -28,7 +29,7 @@ extern "C" {
 #endif
 
 /* The version of this header: its three numbers, as major * 1000000 + minor * 1000 + patch. */
-#define DN_VERSION 1001000u
+#define DN_VERSION 1002000u
 
 /* The last moment of a call: 2^62 ns. */
 #define DN_LAST_MOMENT ((uint64_t)1 << 62)
@@ -51,7 +52,8 @@ enum dn_status {
     DN_BAD_KIND = 11,       /* no enum dn_kind */
     DN_BAD_NUMBER = 12,     /* a pipe or a queue numbered 0 */
     DN_BAD_LENGTH = 13,     /* a packet of 0 bytes */
-    DN_BAD_RESERVED = 14    /* a field `reserved` that isn't 0 */
+    DN_BAD_RESERVED = 14,   /* a field `reserved` that isn't 0 */
+    DN_NEW_FLOW = 19        /* the packet's flow is new, so that no room was made for it; 15 to 18 are hingetulip_service.h's */
 };
 
 /* How the due moments of the packets on one link follow one another. */
@@ -174,6 +176,12 @@ uint32_t dn_submit(struct dn_handle *handle, const struct dn_packet *packet, str
    are as they were. With `room` below `count` the answer is DN_ROOM, and no packet arrives. */
 uint32_t dn_submit_many(struct dn_handle *handle, const struct dn_packet *packets, size_t count, struct dn_fate *fates, size_t room,
                         uint64_t *done);
+
+/* Makes room for a packet to come, whose moment, length and word may be any in range. DN_OK: dn_submit doesn't answer DN_MEMORY to a
+   packet to the same pipe or queue with the same addresses, ports and protocol, if at most dn_advance, dn_collect, dn_show and dn_wake
+   are called before it. DN_NEW_FLOW: no packet of its flow came before, or the handle answered 2^62 calls. It changes nothing else,
+   and counts as no call. */
+uint32_t dn_reserve(struct dn_handle *handle, const struct dn_packet *packet);
 
 /* Moves the clock. DN_OK writes *at: where the clock stands, ns. */
 uint32_t dn_advance(struct dn_handle *handle, uint64_t moment, uint64_t *at);

@@ -10,13 +10,14 @@
  * service takes this sequence out as entries of a history file, which `dummynet audit` checks.
  *
  * No function of the library waits. DN_BUSY: another caller, *holder, was in a call, and nothing has changed. The functions with
- * `_wait` in their names are written here in C and are no part of what is proved: each makes a call until it isn't DN_BUSY.
+ * `_wait` in their names are written here in C and are no part of what is proved: each makes a call until it isn't DN_BUSY, and
+ * spins or sleeps between two tries.
  */
 #ifndef HINGETULIP_SERVICE_H
 #define HINGETULIP_SERVICE_H
 
 #include <hingetulip.h>
-#include <sched.h>
+#include <sys/select.h>
 
 #ifdef __cplusplus
 extern "C" {
@@ -91,12 +92,33 @@ uint32_t dn_service_take(struct dn_service *service, uint64_t *start, uint64_t *
    and the entry waits no more. DN_ROOM: the entry has *length bytes, and still waits. DN_NO_ENTRY: none waits. */
 uint32_t dn_service_text(struct dn_service *service, uint8_t *text, size_t room, uint64_t *length);
 
+/* Passes the time between two tries of a call, of which *tries is 0 at first. After the first four it spins, twice as long each time, and
+   after the fifth it sleeps for 20 us and begins anew. A lock that is tried without a pause changes hands slowly. */
+static inline void dn_service_patience(unsigned *tries)
+{
+    struct timeval rest = {0, 20};
+    if (*tries == 4) {
+        select(0, NULL, NULL, NULL, &rest);
+        *tries = 0;
+        return;
+    }
+    for (unsigned turn = 0; turn < 256u << *tries; turn++) {
+#if defined(__x86_64__) || defined(__i386__)
+        __builtin_ia32_pause();
+#else
+        __asm__ volatile("");
+#endif
+    }
+    ++*tries;
+}
+
 static inline uint32_t dn_caller_configure_wait(struct dn_caller *caller, const uint8_t *line, size_t length, struct dn_fault *fault)
 {
     uint64_t holder;
     uint32_t status;
+    unsigned tries = 0;
     while ((status = dn_caller_configure(caller, line, length, fault, &holder)) == DN_BUSY)
-        sched_yield();
+        dn_service_patience(&tries);
     return status;
 }
 
@@ -104,8 +126,9 @@ static inline uint32_t dn_caller_submit_wait(struct dn_caller *caller, const str
 {
     uint64_t holder;
     uint32_t status;
+    unsigned tries = 0;
     while ((status = dn_caller_submit(caller, packet, fate, &holder)) == DN_BUSY)
-        sched_yield();
+        dn_service_patience(&tries);
     return status;
 }
 
@@ -113,8 +136,9 @@ static inline uint32_t dn_caller_advance_wait(struct dn_caller *caller, uint64_t
 {
     uint64_t holder;
     uint32_t status;
+    unsigned tries = 0;
     while ((status = dn_caller_advance(caller, moment, at, &holder)) == DN_BUSY)
-        sched_yield();
+        dn_service_patience(&tries);
     return status;
 }
 
@@ -122,8 +146,9 @@ static inline uint32_t dn_caller_collect_wait(struct dn_caller *caller, uint64_t
 {
     uint64_t holder;
     uint32_t status;
+    unsigned tries = 0;
     while ((status = dn_caller_collect(caller, moment, count, &holder)) == DN_BUSY)
-        sched_yield();
+        dn_service_patience(&tries);
     return status;
 }
 
@@ -131,8 +156,9 @@ static inline uint32_t dn_caller_show_wait(struct dn_caller *caller, uint64_t *c
 {
     uint64_t holder;
     uint32_t status;
+    unsigned tries = 0;
     while ((status = dn_caller_show(caller, count, &holder)) == DN_BUSY)
-        sched_yield();
+        dn_service_patience(&tries);
     return status;
 }
 
@@ -140,8 +166,9 @@ static inline uint32_t dn_caller_wake_wait(struct dn_caller *caller, uint64_t *m
 {
     uint64_t holder;
     uint32_t status;
+    unsigned tries = 0;
     while ((status = dn_caller_wake(caller, moment, &holder)) == DN_BUSY)
-        sched_yield();
+        dn_service_patience(&tries);
     return status;
 }
 
@@ -149,8 +176,9 @@ static inline uint32_t dn_service_take_wait(struct dn_service *service, uint64_t
 {
     uint64_t holder;
     uint32_t status;
+    unsigned tries = 0;
     while ((status = dn_service_take(service, start, count, &holder)) == DN_BUSY)
-        sched_yield();
+        dn_service_patience(&tries);
     return status;
 }
 

@@ -4,5 +4,6 @@ pub mod Handles
 pub mod Listing
 pub mod Many
 pub mod RawBoxes
+pub mod Rooms
 pub mod ServiceHandles
 pub mod Serving

@@ -3,11 +3,11 @@ use Rattle.std.proofs.Common.{◌≡◌, ◌≢◌, ◌∙◌, ◌<◌, ◌+◌,
 use Rattle.std.proofs.lemmas.List.{take_more, take_more_set, take_at, drop_at, length_push, map-append, length-take, take_min, drop_min, take-map, drop-map}
 use Rattle.std.proofs.lemmas.Grind.{replicate_next}
 use Rattle.dn_types.specs.declared.call.Call.{Call}
-use Rattle.dn_service.specs.Callers.{ServiceView, CallerView, new_caller, new_callers}
+use Rattle.dn_service.specs.Callers.{ServiceView, CallerView, having_lost, having_faced, new_caller, new_callers}
 use Rattle.dn_service.specs.Lasting.{LastingView, Takes}
 use Rattle.dn_service.proofs.Handing.{one_more_caller}
-use Rattle.hingetulip_c.specs.Clients.{IsAnswered, IsOther, AnsweredBy, IsBusyWith, Woke, WokeBy}
-use Rattle.hingetulip_c.specs.Services.{all_held, held_new, waiting, IsServiceBusyWith, Opened, Taken, Written, Wrote}
+use Rattle.hingetulip_c.specs.Clients.{IsAnswered, IsOther, AnsweredBy, RefusedBy, IsBusyWith, Woke, WokeBy}
+use Rattle.hingetulip_c.specs.Services.{all_held, held_new, waiting, IsServiceBusyWith, NotTaken, Opened, Taken, Written, Wrote}
 use Rattle.hingetulip_c.specs.declared.caller_handle.CallerHandle.{CallerHandle}
 use Rattle.hingetulip_c.specs.declared.client.Client.{Client}
 use Rattle.hingetulip_c.specs.declared.ledger.Ledger.{Ledger}
@@ -19,6 +19,27 @@ answered_by call b a xs ys e f is =
 pub busy_with : (holder : ℕ) (b : Client) (xs : List Client) → xs ≡ b ∷ [] → IsOther holder b → IsBusyWith holder xs
 busy_with holder b xs e is = subst (λ (l : List Client). IsBusyWith holder l) (sym e) is
 
+-- The call found caller k in a call.
+pub lost_to : (k : ℕ) (b : Client) (c : CallerView) → c ≡ having_lost k b.caller → RefusedBy 15 k (b ∷ []) (record { caller = c; last = b.last } ∷ [])
+lost_to k b c is = record {
+  busy = λ at. ap (λ (x : CallerView). record { caller = x; last = b.last } ∷ []) is;
+  memory = λ at. absurd (omega (arith, at));
+  other = λ at more. absurd (at refl);
+}
+
+-- The caller was in a call, and memory was refused.
+pub lacked : (holder : ℕ) (b : Client) (c : CallerView) → c ≡ having_faced c.faced b.caller → RefusedBy 6 holder (b ∷ []) (record { caller = c; last = b.last } ∷ [])
+lacked holder b c is = record {
+  busy = λ at. absurd (omega (arith, at));
+  memory = λ at. (c.faced, ap (λ (x : CallerView). record { caller = x; last = b.last } ∷ []) is);
+  other = λ at more. absurd (more refl);
+}
+
+pub refused_by : (status holder : ℕ) (b a : Client) (xs ys : List Client) → xs ≡ b ∷ [] → ys ≡ a ∷ [] → RefusedBy status holder (b ∷ []) (a ∷ [])
+    → RefusedBy status holder xs ys
+refused_by status holder b a xs ys e f is =
+    subst (λ (l : List Client). RefusedBy status holder l ys) (sym e) (subst (λ (l : List Client). RefusedBy status holder (b ∷ []) l) (sym f) is)
+
 pub woke_by : (moment : ℕ) (b a : Client) (xs ys : List Client) → xs ≡ b ∷ [] → ys ≡ a ∷ [] → Woke moment b a → WokeBy moment xs ys
 woke_by moment b a xs ys e f is =
     subst (λ (l : List Client). WokeBy moment l ys) (sym e) (subst (λ (l : List Client). WokeBy moment (b ∷ []) l) (sym f) is)
@@ -28,9 +49,15 @@ wrote text b a xs ys e f is =
     subst (λ (l : List Ledger). Wrote text l ys) (sym e) (subst (λ (l : List Ledger). Wrote text (b ∷ []) l) (sym f) is)
 
 pub taken_out : (start : ℕ) (b a : Ledger) (xs ys : List Ledger) → xs ≡ b ∷ [] → ys ≡ a ∷ []
-    → (waiting b ≡ []) × Takes b.taker.lasting b.taker.caller start (waiting a) a.taker.lasting a.taker.caller → Taken start xs ys
+    → (waiting b ≡ []) × Takes b.taker.lasting b.taker.caller start (waiting a) a.taker.lasting a.taker.caller × (a.taker.caller.lost ≡ b.taker.caller.lost)
+    → Taken start xs ys
 taken_out start b a xs ys e f is =
     subst (λ (l : List Ledger). Taken start l ys) (sym e) (subst (λ (l : List Ledger). Taken start (b ∷ []) l) (sym f) is)
+
+pub not_taken : (status holder : ℕ) (b a : Ledger) (xs ys : List Ledger) → xs ≡ b ∷ [] → ys ≡ a ∷ [] → NotTaken status holder (b ∷ []) (a ∷ [])
+    → NotTaken status holder xs ys
+not_taken status holder b a xs ys e f is =
+    subst (λ (l : List Ledger). NotTaken status holder l ys) (sym e) (subst (λ (l : List Ledger). NotTaken status holder (b ∷ []) l) (sym f) is)
 
 -- One handle more holds its caller.
 pub held_more : (handles : List CallerHandle) (callers : List CallerView) (place : ℕ) (h : CallerHandle) (c d : CallerView)

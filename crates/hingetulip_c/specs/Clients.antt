@@ -1,16 +1,17 @@
 -- A caller that C holds, and what a call by it does.
-use Rattle.std.specs.Prelude.{◌≡◌, ◌≢◌, ◌<◌, ℕ, List, [], ◌∷◌, Option, unwrap_or}
+use Rattle.std.specs.Prelude.{◌≡◌, ◌≢◌, ◌<◌, ℕ, List, [], ◌∷◌, map, Option, unwrap_or}
 use Rattle.dn_types.specs.declared.call.Call.{Call}
 use Rattle.dn_types.specs.declared.reply.Reply.{Reply}
 use Rattle.dn_types.specs.declared.reply.Reply.TheVariants.{Exhausted}
-use Rattle.dn_service.specs.Callers.{Answered, IsSameCaller}
+use Rattle.dn_service.specs.Callers.{Answered, IsSameCaller, having_lost, having_faced}
 use Rattle.dn_service.specs.Wakes.{Wakes}
 use Rattle.hingetulip_c.specs.declared.client.Client.{Client}
 
--- The caller's call was answered, and the reply is the one that is kept now.
+-- The caller's call was answered, and the reply is the one that is kept now. No call of another was noted.
 pub record IsAnswered (call : Call) (b a : Client) : Type 0 where
   pub answer : Answered b.caller call a.last a.caller
   pub same_caller : IsSameCaller b.caller a.caller
+  pub lost : a.caller.lost ≡ b.caller.lost
 
 -- This is the number of another caller of the service.
 pub record IsOther (holder : ℕ) (c : Client) : Type 0 where
@@ -23,9 +24,25 @@ pub record Woke (moment : ℕ) (b a : Client) : Type 0 where
   pub wakes : Wakes b.caller next a.caller
   pub moment_is : moment ≡ unwrap_or next 18446744073709551615
   pub same_caller : IsSameCaller b.caller a.caller
+  pub lost : a.caller.lost ≡ b.caller.lost
   pub last : a.last ≡ b.last
 
--- The same of a handle, which is open before and after.
+-- The caller after its call found caller k in a call.
+abbrev pub losing : ℕ → Client → Client
+losing k c = record { caller = having_lost k c.caller; last = c.last }
+
+-- The caller after it was in a call itself, in which it was faced so often by then.
+abbrev pub facing : ℕ → Client → Client
+facing n c = record { caller = having_faced n c.caller; last = c.last }
+
+-- A call on a handle was refused by the status: another caller was in a call, which is noted (15); memory was refused to the caller, which
+-- was in a call then (6); or nothing has changed. The caller has seen, and keeps, what it had.
+pub record RefusedBy (status holder : ℕ) (b a : List Client) : Type 0 where
+  pub busy : status ≡ 15 → a ≡ map (losing holder) b
+  pub memory : status ≡ 6 → (faced : ℕ) × (a ≡ map (facing faced) b)
+  pub other : status ≢ 15 → status ≢ 6 → a ≡ b
+
+-- An answer on a handle, which is open before and after.
 abbrev pub AnsweredBy : Call → List Client → List Client → Type 0
 AnsweredBy call (b ∷ []) (a ∷ []) = IsAnswered call b a
 AnsweredBy call _ _ = ⊥

@@ -3,6 +3,7 @@ pub mod Faults
 pub mod Handles
 pub mod Lists
 pub mod Many
+pub mod Room
 pub mod Services
 pub mod Statuses
 pub mod Submits

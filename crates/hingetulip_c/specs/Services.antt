@@ -4,7 +4,7 @@ use Rattle.dn_types.specs.declared.entry.Entry.{Entry}
 use Rattle.dn_types.specs.declared.reply.Reply.TheVariants.{Exhausted}
 use Rattle.dn_records.specs.Records.{text_of}
 use Rattle.dn_history.specs.HistoryText.{entry_records}
-use Rattle.dn_service.specs.Callers.{CallerView, new_caller, new_callers}
+use Rattle.dn_service.specs.Callers.{CallerView, having_lost, new_caller, new_callers}
 use Rattle.dn_service.specs.Lasting.{Takes}
 use Rattle.hingetulip_c.specs.declared.caller_handle.CallerHandle.{CallerHandle}
 use Rattle.hingetulip_c.specs.declared.client.Client.{Client}
@@ -28,10 +28,21 @@ Opened n (l ∷ []) clients = (l.taker.lasting.service.callers ≡ n + 1) × (l.
     × (l.taker.lasting.taken ≡ []) × (waiting l ≡ []) × (clients ≡ map held_new (new_callers l.taker.lasting.service 0 n))
 Opened n _ clients = ⊥
 
--- The handle is open before and after, no entry waited, and those that now wait were taken out. The first has this place.
+-- The handle is open before and after, no entry waited, and those that now wait were taken out. The first has this place. No call of
+-- another was noted.
 abbrev pub Taken : ℕ → List Ledger → List Ledger → Type 0
 Taken start (b ∷ []) (a ∷ []) = (waiting b ≡ []) × Takes b.taker.lasting b.taker.caller start (waiting a) a.taker.lasting a.taker.caller
+    × (a.taker.caller.lost ≡ b.taker.caller.lost)
 Taken start _ _ = ⊥
+
+-- The service after its own caller found caller k in a call.
+abbrev pub service_losing : ℕ → Ledger → Ledger
+service_losing k l = record { taker = record { lasting = l.taker.lasting; caller = having_lost k l.taker.caller }; entries = l.entries; written = l.written }
+
+-- Nothing was taken out: another caller was in a call, which is noted (15), or nothing has changed.
+pub record NotTaken (status holder : ℕ) (b a : List Ledger) : Type 0 where
+  pub busy : status ≡ 15 → a ≡ map (service_losing holder) b
+  pub other : status ≢ 15 → a ≡ b
 
 -- The number of the entries that wait.
 abbrev pub count_waiting : List Ledger → ℕ

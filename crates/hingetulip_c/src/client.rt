@@ -1,6 +1,6 @@
-ghost use Rattle.std.specs.Prelude.{◌≡◌, ◌≢◌, ◌⊎◌, ℕ, OnOk, OnErr, IfErr, true, false};
+ghost use Rattle.std.specs.Prelude.{◌≡◌, ◌≢◌, ◌⊎◌, ℕ, [], ◌∷◌, OnOk, IfErr, true, false};
 ghost use Rattle.dn_types.specs.declared.reply.Reply.TheVariants.{Exhausted};
-ghost use Rattle.hingetulip_c.specs.Clients.{IsAnswered, IsOther, Woke};
+ghost use Rattle.hingetulip_c.specs.Clients.{IsAnswered, IsOther, RefusedBy, Woke};
 ghost use Rattle.hingetulip_c.specs.Statuses.{answered, taken, clock_status, clock_of, list_status, list_count, configure_status};
 ghost use Rattle.hingetulip_c.specs.Submits.{fate_status, fate_of};
 
@@ -32,9 +32,10 @@ impl Client {
     /// Makes a call if no other caller is in one, and keeps the reply.
     ///
     /// Err is MEMORY, or BUSY with the number of the other caller.
+    #[tactic(auto, using(crate::proofs::Serving::lost_to, crate::proofs::Serving::lacked))]
     fn apply(&mut self, call: &Call, holder: &mut u64) -> Result<(), u32>
         ensures ok { OnOk result (IsAnswered call.now self.old self.new) }
-        ensures err { OnErr result (self.new ≡ self.old) }
+        ensures err { IfErr result (λ status. RefusedBy status holder.new (self.old ∷ []) (self.new ∷ [])) }
         ensures why { IfErr result (λ status. ((status ≡ 6) × (holder.new ≡ holder.old)) ⊎ ((status ≡ 15) × IsOther holder.new self.old)) }
         ensures same_holder { OnOk result (holder.new ≡ holder.old) }
     {
@@ -53,7 +54,7 @@ impl Client {
 
     /// Makes a Submit, and writes the fate.
     pub(crate) fn submit(&mut self, call: &Call, fate: &mut CFate, holder: &mut u64) -> u32
-        ensures refused { answered result ≡ false → (self.new ≡ self.old) × (fate.new ≡ fate.old) }
+        ensures refused { answered result ≡ false → RefusedBy result holder.new (self.old ∷ []) (self.new ∷ []) × (fate.new ≡ fate.old) }
         ensures why { answered result ≡ false → (result ≡ 6) ⊎ ((result ≡ 15) × IsOther holder.new self.old) }
         ensures holder { result ≢ 15 → holder.new ≡ holder.old }
         ensures answered { answered result ≡ true → IsAnswered call.now self.old self.new }
@@ -68,7 +69,7 @@ impl Client {
 
     /// Makes an Advance, and writes where the clock is.
     pub(crate) fn advance(&mut self, call: &Call, at: &mut u64, holder: &mut u64) -> u32
-        ensures refused { answered result ≡ false → (self.new ≡ self.old) × (at.new ≡ at.old) }
+        ensures refused { answered result ≡ false → RefusedBy result holder.new (self.old ∷ []) (self.new ∷ []) × (at.new ≡ at.old) }
         ensures why { answered result ≡ false → (result ≡ 6) ⊎ ((result ≡ 15) × IsOther holder.new self.old) }
         ensures holder { result ≢ 15 → holder.new ≡ holder.old }
         ensures answered { answered result ≡ true → IsAnswered call.now self.old self.new }
@@ -83,7 +84,7 @@ impl Client {
 
     /// Makes a Collect or a Show, and writes how many items the list of its reply has. The reply that is kept has them.
     pub(crate) fn list(&mut self, call: &Call, count: &mut u64, holder: &mut u64) -> u32
-        ensures refused { answered result ≡ false → (self.new ≡ self.old) × (count.new ≡ count.old) }
+        ensures refused { answered result ≡ false → RefusedBy result holder.new (self.old ∷ []) (self.new ∷ []) × (count.new ≡ count.old) }
         ensures why { answered result ≡ false → (result ≡ 6) ⊎ ((result ≡ 15) × IsOther holder.new self.old) }
         ensures holder { result ≢ 15 → holder.new ≡ holder.old }
         ensures answered { answered result ≡ true → IsAnswered call.now self.old self.new }
@@ -98,7 +99,7 @@ impl Client {
 
     /// Makes a Configure.
     pub(crate) fn configure(&mut self, call: &Call, holder: &mut u64) -> u32
-        ensures refused { taken result ≡ false → self.new ≡ self.old }
+        ensures refused { taken result ≡ false → RefusedBy result holder.new (self.old ∷ []) (self.new ∷ []) }
         ensures why { taken result ≡ false → (result ≡ 6) ⊎ ((result ≡ 15) × IsOther holder.new self.old) }
         ensures holder { result ≢ 15 → holder.new ≡ holder.old }
         ensures answered { taken result ≡ true → IsAnswered call.now self.old self.new }
@@ -111,9 +112,10 @@ impl Client {
     }
 
     /// Writes when the emulator's next packet is due or starts. It makes no call, and the reply that is kept stays.
+    #[tactic(auto, using(crate::proofs::Serving::lost_to))]
     pub(crate) fn wake(&mut self, moment: &mut u64, holder: &mut u64) -> u32
         ensures woke { result ≡ 0 → Woke moment.new self.old self.new }
-        ensures refused { result ≢ 0 → (result ≡ 15) × IsOther holder.new self.old × (self.new ≡ self.old) × (moment.new ≡ moment.old) }
+        ensures refused { result ≢ 0 → (result ≡ 15) × IsOther holder.new self.old × RefusedBy result holder.new (self.old ∷ []) (self.new ∷ []) × (moment.new ≡ moment.old) }
         ensures holder { result ≢ 15 → holder.new ≡ holder.old }
     {
         match self.caller.try_wake_quietly() {

@@ -1,4 +1,5 @@
 ghost use Rattle.std.specs.Prelude.{◌≡◌, ◌≤◌, ◌<◌, ◌⊎◌, IfOk, IfErr, cond, false, nat_eq};
+ghost use Rattle.dn_types.specs.declared.call.Call.TheVariants.{Submit};
 ghost use Rattle.dn_types.specs.declared.target.Target.TheVariants.{Pipe, Queue};
 ghost use Rattle.hingetulip_c.specs.Statuses.{answered};
 ghost use Rattle.hingetulip_c.specs.Submits.{InRange, Faulty, submit_of};
@@ -25,9 +26,17 @@ fn target_of(kind: u8, number: u16) -> Result<Target, u32>
     }
 }
 
-/// The call that a packet makes, or the status of the first of its numbers that is out of range.
-pub(crate) fn submit_of(packet: &CPacket) -> Result<Call, u32>
-    ensures ok { IfOk result (λ call. (call ≡ submit_of packet.now) × InRange packet.now) }
+/// A packet, the pipe or the queue to which it is sent, and when.
+#[derive(Clone, Copy)]
+pub(crate) struct Sent {
+    pub(crate) target: Target,
+    pub(crate) packet: Packet,
+    pub(crate) moment: Moment,
+}
+
+/// What C's packet says, or the status of the first of its numbers that is out of range.
+pub(crate) fn sent_of(packet: &CPacket) -> Result<Sent, u32>
+    ensures ok { IfOk result (λ sent. (Submit sent.target sent.packet sent.moment ≡ submit_of packet.now) × InRange packet.now) }
     ensures err { IfErr result (λ status. Faulty packet.now status) }
     ensures unanswered { IfErr result (λ status. answered status ≡ false) }
 {
@@ -53,9 +62,31 @@ pub(crate) fn submit_of(packet: &CPacket) -> Result<Call, u32>
     };
     let word = packet.word;
     let packet = Packet { tuple, len, word };
-    Ok(Call::Submit {
+    Ok(Sent {
         target,
         packet,
         moment,
     })
+}
+
+/// The call that a packet makes, or the status of the first of its numbers that is out of range.
+pub(crate) fn submit_of(packet: &CPacket) -> Result<Call, u32>
+    ensures ok { IfOk result (λ call. (call ≡ submit_of packet.now) × InRange packet.now) }
+    ensures err { IfErr result (λ status. Faulty packet.now status) }
+    ensures unanswered { IfErr result (λ status. answered status ≡ false) }
+{
+    match sent_of(packet) {
+        Err(status) => Err(status),
+        Ok(
+            Sent {
+                target,
+                packet,
+                moment,
+            },
+        ) => Ok(Call::Submit {
+            target,
+            packet,
+            moment,
+        }),
+    }
 }

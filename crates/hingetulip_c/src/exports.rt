@@ -5,6 +5,7 @@ mod caller;
 mod collect;
 mod configure;
 mod lifetime;
+mod reserve;
 mod service;
 mod show;
 mod submit;

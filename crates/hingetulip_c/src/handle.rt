@@ -1,8 +1,9 @@
-ghost use Rattle.std.specs.Prelude.{◌≡◌, ◌≢◌, ◌≤◌, ℕ, List, [], ◌∷◌, Err, IfOk, OnErr, IfErr, IfSome, IfNone, ◌⊎◌};
+ghost use Rattle.std.specs.Prelude.{◌≡◌, ◌≢◌, ◌≤◌, ◌<◌, ℕ, true, false, length, IsOk, List, [], ◌∷◌, Err, IfOk, OnErr, IfErr, IfSome, IfNone, ◌⊎◌};
 ghost use Rattle.std.specs.Option.{MatchOption};
 ghost use Rattle.std_alloc.specs.Box.Ownership.{box_owns};
+ghost use Rattle.dn_types.specs.Clock.{call_limit};
 ghost use Rattle.dn_types.specs.declared.call.Call.{Call as CallValue};
-ghost use Rattle.dn_types.specs.declared.call.Call.TheVariants.{Advance, Collect, Show};
+ghost use Rattle.dn_types.specs.declared.call.Call.TheVariants.{Advance, Collect, Show, Submit};
 ghost use Rattle.dn_types.specs.declared.rule.Rule.{Rule as RuleValue};
 ghost use Rattle.dn_shaper.specs.Shaper.{items_in};
 ghost use Rattle.dn_types.specs.Replies.{reply};
@@ -10,12 +11,13 @@ ghost use Rattle.dn_shaper.specs.contracts.shaper.Shaper.{the_row};
 ghost use Rattle.dn_shaper.specs.declared.state.State.{State};
 ghost use Rattle.hingetulip_c.specs.Handles.{freed, owned_by, HeldAfter, StillHeld, AnswersHeld, CanLackMemory};
 ghost use Rattle.hingetulip_c.specs.Lists.{held_after, flows_after};
+ghost use Rattle.hingetulip_c.specs.Room.{HoldsRoomFor, IsOfNewFlow, StillRoomy};
 ghost use base.Stored.{coded_list};
 
 use crate::raw_box::RawBox;
 use crate::status::{CLOSED, MEMORY};
 use dn_shaper::Shaper;
-use dn_types::{Call, Moment, Reply};
+use dn_types::{Call, Moment, Packet, Reply, Target};
 use std::alloc::Global;
 use std::marker::Model;
 
@@ -92,6 +94,7 @@ impl Handle {
     }
 
     /// Answers a call. Err is CLOSED or MEMORY, and the shaper stands as it stood.
+    #[tactic(auto, using(crate::proofs::Rooms::still_roomy, crate::proofs::Rooms::kept_by_call, crate::proofs::Rooms::roomy_closed))]
     pub(crate) fn apply(&mut self, alloc: Global, call: &Call) -> Result<Reply, u32>
         ensures ok { IfOk result (λ r. AnswersHeld call.now self.old.held self.new.held r) }
         ensures err { OnErr result (StillHeld self.old.held self.new.held) }
@@ -99,6 +102,8 @@ impl Handle {
         ensures why { IfErr result (λ status. ((status ≡ 5) × (self.old.held ≡ [])) ⊎ ((status ≡ 6) × ((rule : RuleValue) (calls : List CallValue) → HeldAfter rule self.old.held calls → CanLackMemory calls call.now))) }
         ensures stays_open { self.new.held ≡ [] → self.old.held ≡ [] }
         ensures advance { (moment : ℕ) → call.now ≡ Advance moment → IfErr result (λ status. status ≡ 5) }
+        ensures succeeds { HoldsRoomFor call.now self.old.held → IsOk result }
+        ensures leaves { (moment : ℕ) → (call.now ≡ Advance moment) ⊎ (call.now ≡ Show) → StillRoomy self.old.held self.new.held }
     {
         let Some(mut shaper) = self.take(alloc) else {
             return Err(CLOSED);
@@ -111,15 +116,46 @@ impl Handle {
         }
     }
 
+    /// Makes room for a packet's Submit, and says whether it is there. It counts as no call.
+    ///
+    /// Err is CLOSED or MEMORY.
+    #[tactic(auto, using(crate::proofs::Rooms::room_closed, crate::proofs::Rooms::room_none))]
+    pub(crate) fn reserve(
+        &mut self,
+        alloc: Global,
+        target: Target,
+        packet: &Packet,
+    ) -> Result<bool, u32>
+        ensures room { IfOk result (λ there. there ≡ true → (moment : ℕ) → HoldsRoomFor (Submit target packet.now moment) self.new.held) }
+        ensures succeeds { (moment : ℕ) → HoldsRoomFor (Submit target packet.now moment) self.old.held → IsOk result }
+        ensures new_flow { IfOk result (λ there. there ≡ false → (rule : RuleValue) (calls : List CallValue) → HeldAfter rule self.old.held calls → length calls < call_limit → (moment : ℕ) → IsOfNewFlow (Submit target packet.now moment) calls) }
+        ensures same { StillHeld self.old.held self.new.held }
+        ensures why { IfErr result (λ status. ((status ≡ 5) × (self.old.held ≡ [])) ⊎ ((status ≡ 6) × (self.old.held ≢ []))) }
+        ensures closed { self.old.held ≡ [] → (result ≡ Err 5) × (self.new.held ≡ []) }
+        ensures stays_open { self.new.held ≡ [] → self.old.held ≡ [] }
+    {
+        let Some(mut shaper) = self.take(alloc) else {
+            return Err(CLOSED);
+        };
+        let there = shaper.reserve(target, packet);
+        let _none = self.put(alloc, shaper);
+        match there {
+            Ok(there) => Ok(there),
+            Err(_) => Err(MEMORY),
+        }
+    }
+
     /// The reply to a Collect, in the shaper's own list. The list is given back by `take_back`.
     ///
     /// Err is CLOSED or MEMORY, and the shaper is then after the same calls.
+    #[tactic(auto, using(crate::proofs::Rooms::still_roomy, crate::proofs::Rooms::roomy_closed))]
     pub(crate) fn collect(&mut self, alloc: Global, moment: Moment) -> Result<Reply, u32>
         ensures ok { IfOk result (λ r. AnswersHeld (Collect moment) self.old.held self.new.held r) }
         ensures err { OnErr result (StillHeld self.old.held self.new.held) }
         ensures closed { self.old.held ≡ [] → (result ≡ Err 5) × (self.new.held ≡ []) }
         ensures why { IfErr result (λ status. ((status ≡ 5) × (self.old.held ≡ [])) ⊎ ((status ≡ 6) × ((rule : RuleValue) (calls : List CallValue) → HeldAfter rule self.old.held calls → CanLackMemory calls (Collect moment)))) }
         ensures stays_open { self.new.held ≡ [] → self.old.held ≡ [] }
+        ensures leaves { StillRoomy self.old.held self.new.held }
     {
         let Some(mut shaper) = self.take(alloc) else {
             return Err(CLOSED);

@@ -1,10 +1,10 @@
-ghost use Rattle.std.specs.Prelude.{◌≡◌, ◌≢◌, ◌⊎◌, ◌<◌, ◌+◌, [], ◌∷◌, ◌≤◌, drop, take, length, vec_len, IfOk, IfErr, OnErr};
+ghost use Rattle.std.specs.Prelude.{◌≡◌, ◌≢◌, ◌⊎◌, ◌<◌, ◌+◌, [], ◌∷◌, ◌≤◌, drop, take, length, vec_len, IfOk, IfErr, OnOk, OnErr};
 ghost use Rattle.std.specs.Option.{MatchOption};
 ghost use Rattle.dn_history.specs.HistoryText.{entry_records};
 ghost use Rattle.dn_records.specs.Records.{text_of};
 ghost use Rattle.dn_service.specs.Lasting.{Takes};
 ghost use Rattle.dn_types.specs.declared.entry.Entry.{Entry as EntryValue};
-ghost use Rattle.hingetulip_c.specs.Services.{next_text, waiting, Written};
+ghost use Rattle.hingetulip_c.specs.Services.{next_text, service_losing, waiting, NotTaken, Written};
 
 use crate::status::{BUSY, MEMORY, NO_ENTRY, OK, ROOM, UNWRITTEN};
 use dn_history::write_entry;
@@ -48,7 +48,8 @@ impl Ledger {
     fn take(&mut self) -> Result<u64, usize>
         ensures ok { IfOk result (λ start. Takes self.old.taker.lasting self.old.taker.caller start self.new.entries.items self.new.taker.lasting self.new.taker.caller) }
         ensures written { IfOk result (λ start. self.new.written ≡ 0) }
-        ensures err { OnErr result (self.new ≡ self.old) }
+        ensures lost { OnOk result (self.new.taker.caller.lost ≡ self.old.taker.caller.lost) }
+        ensures err { IfErr result (λ k. self.new ≡ service_losing k self.old) }
         ensures busy { IfErr result (λ k. (k < self.old.taker.caller.service.callers) × (k ≢ self.old.taker.caller.number)) }
     {
         match self.taker.try_take_quietly() {
@@ -63,9 +64,9 @@ impl Ledger {
 
     /// Takes out all entries so far if none waits, and writes the place of the first and how many they are.
     pub(crate) fn take_out(&mut self, start: &mut u64, count: &mut u64, holder: &mut u64) -> u32
-        ensures ok { result ≡ 0 → (waiting self.old ≡ []) × Takes self.old.taker.lasting self.old.taker.caller start.new (waiting self.new) self.new.taker.lasting self.new.taker.caller }
+        ensures ok { result ≡ 0 → (waiting self.old ≡ []) × Takes self.old.taker.lasting self.old.taker.caller start.new (waiting self.new) self.new.taker.lasting self.new.taker.caller × (self.new.taker.caller.lost ≡ self.old.taker.caller.lost) }
         ensures count { result ≡ 0 → count.new ≡ length (waiting self.new) }
-        ensures refused { result ≢ 0 → (self.new ≡ self.old) × (start.new ≡ start.old) × (count.new ≡ count.old) }
+        ensures refused { result ≢ 0 → NotTaken result holder.new (self.old ∷ []) (self.new ∷ []) × (start.new ≡ start.old) × (count.new ≡ count.old) }
         ensures why { result ≢ 0 → ((result ≡ 17) × (length (waiting self.old) ≢ 0)) ⊎ ((result ≡ 15) × (holder.new < self.old.taker.caller.service.callers) × (holder.new ≢ self.old.taker.caller.number)) }
         ensures holder { result ≢ 15 → holder.new ≡ holder.old }
     {
@@ -87,8 +88,9 @@ impl Ledger {
 
     /// The text of the first entry that was not written, if there is one.
     fn next_text(&self, alloc: Global) -> Result<Option<Vec<u8>>, AllocError>
-        ensures { IfOk result (λ found. MatchOption found (waiting self.now ≡ [])
+        ensures text { IfOk result (λ found. MatchOption found (waiting self.now ≡ [])
             (λ text. (entry : EntryValue) × (waiting self.now ≡ entry ∷ drop (self.now.written + 1) self.now.entries.items) × (text.items ≡ text_of (entry_records entry)) × (self.now.written < vec_len self.now.entries))) }
+        ensures memory { OnErr result (length (waiting self.now) ≢ 0) }
     {
         match self.entries.get(self.written) {
             Some(entry) => match entry_text(alloc, entry) {
@@ -108,6 +110,7 @@ impl Ledger {
         ensures room { result ≡ 7 → (length text.old < size.new) × (size.new ≡ length (next_text (waiting self.old))) }
         ensures size { result ≢ 0 → result ≢ 7 → size.new ≡ size.old }
         ensures none { result ≡ 18 → waiting self.old ≡ [] }
+        ensures memory { result ≡ 6 → length (waiting self.old) ≢ 0 }
     {
         match self.next_text(alloc) {
             Err(_) => MEMORY,

@@ -37,3 +37,5 @@ pub(crate) const BAD_COUNT: u32 = 16;
 pub(crate) const UNWRITTEN: u32 = 17;
 
 pub(crate) const NO_ENTRY: u32 = 18;
+
+pub(crate) const NEW_FLOW: u32 = 19;

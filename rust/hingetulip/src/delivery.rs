@@ -3,6 +3,7 @@ use crate::{raw, Result, Shaper};
 
 /// A packet that leaves.
 #[derive(Debug, Clone, Copy, PartialEq, Eq, Hash)]
+#[non_exhaustive]
 pub struct Delivery {
     /// When it leaves, ns.
     pub due: u64,

@@ -39,6 +39,8 @@ pub enum Error {
     Number,
     /// A packet of 0 bytes.
     Length,
+    /// The number of a service's callers isn't in 1 to [`MOST_CALLERS`](crate::MOST_CALLERS).
+    Count,
     /// Memory was refused; the same call may be made again.
     Memory,
     /// The shaper has replied to 2^62 calls.
@@ -58,6 +60,7 @@ impl Error {
             9 => Self::Moment,
             12 => Self::Number,
             13 => Self::Length,
+            16 => Self::Count,
             other => Self::Status(other),
         }
     }
@@ -94,6 +97,7 @@ impl fmt::Display for Error {
             Self::Moment => to.write_str("a moment isn't in 0 to 2^62 ns"),
             Self::Number => to.write_str("the number of a pipe or queue isn't in 1 to 65535"),
             Self::Length => to.write_str("a length isn't in 1 to 65535 bytes"),
+            Self::Count => to.write_str("the number of callers isn't in 1 to 15"),
             Self::Memory => to.write_str("out of memory"),
             Self::Exhausted => to.write_str("the shaper answered 2^62 calls before"),
             Self::Status(status) => write!(to, "status {status}"),

@@ -4,6 +4,7 @@ use crate::raw;
 /// What became of a packet.
 #[derive(Debug, Clone, Copy, PartialEq, Eq, Hash)]
 #[must_use]
+#[non_exhaustive]
 pub enum Outcome {
     /// It was accepted under this number, which counts those before it, and will be delivered.
     Queued(u64),
@@ -17,6 +18,7 @@ pub enum Outcome {
 
 /// The reply to a packet.
 #[derive(Debug, Clone, Copy, PartialEq, Eq, Hash)]
+#[non_exhaustive]
 pub struct Fate {
     /// The moment that counted, ns.
     pub at: u64,

@@ -4,6 +4,7 @@ use std::net::Ipv4Addr;
 
 /// The state of a flow.
 #[derive(Debug, Clone, Copy, PartialEq, Eq, Hash)]
+#[non_exhaustive]
 pub struct Flow {
     /// Its number.
     pub flow: u64,

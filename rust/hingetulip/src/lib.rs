@@ -18,21 +18,30 @@
 //!
 //! Moments are whole nanoseconds from 0 to [`LAST_MOMENT`], on a clock of your own. A call at an earlier moment than the last one
 //! counts as one at the last.
+//!
+//! Threads share one link by a [`Service`], and its [`History`] is one that `dummynet audit` reads.
 #![deny(missing_docs, unsafe_op_in_unsafe_fn)]
 
+mod caller;
 mod delivery;
 mod error;
 mod fate;
 mod flow;
+mod history;
 mod packet;
 mod raw;
+mod raw_service;
+mod service;
 mod shaper;
 
+pub use caller::Caller;
 pub use delivery::{Deliveries, Delivery};
 pub use error::{Error, FaultKind};
 pub use fate::{Fate, Outcome};
 pub use flow::Flow;
+pub use history::History;
 pub use packet::{Packet, Target};
+pub use service::{Service, MOST_CALLERS};
 pub use shaper::{Rule, Shaper};
 
 /// The last moment of a call: 2^62 ns.
@@ -41,7 +50,7 @@ pub const LAST_MOMENT: u64 = 1 << 62;
 /// What a call returns: its value, or why it wasn't obeyed.
 pub type Result<T> = std::result::Result<T, Error>;
 
-/// The version of the library that is linked, as `1.1.0`.
+/// The version of the library that is linked, as `1.2.0`.
 ///
 /// ```
 /// assert_eq!(hingetulip::version().split('.').count(), 3);

@@ -4,6 +4,7 @@ use core::ffi::c_void;
 pub const OK: u32 = 0;
 pub const ROOM: u32 = 7;
 pub const LINE: u32 = 8;
+pub const NEW_FLOW: u32 = 19;
 pub const NEVER: u64 = u64::MAX;
 
 #[repr(C)]
@@ -85,6 +86,7 @@ extern "C" {
     pub fn dn_configure(handle: *mut Handle, line: *const u8, length: usize, fault: *mut Fault) -> u32;
     pub fn dn_submit(handle: *mut Handle, packet: *const Packet, fate: *mut Fate) -> u32;
     pub fn dn_submit_many(handle: *mut Handle, packets: *const Packet, count: usize, fates: *mut Fate, room: usize, done: *mut u64) -> u32;
+    pub fn dn_reserve(handle: *mut Handle, packet: *const Packet) -> u32;
     pub fn dn_advance(handle: *mut Handle, moment: u64, at: *mut u64) -> u32;
     pub fn dn_collect(handle: *mut Handle, moment: u64, list: *mut Delivery, room: usize, count: *mut u64) -> u32;
     pub fn dn_show(handle: *mut Handle, list: *mut Flow, room: usize, count: *mut u64) -> u32;

@@ -3,11 +3,11 @@ use crate::{raw, Deliveries, Delivery, Error, Fate, Flow, Packet, Result};
 use std::collections::{hash_map::RandomState, VecDeque};
 use std::fmt;
 use std::hash::{BuildHasher, Hasher};
-use std::marker::PhantomData;
 use std::ptr;
 
 /// How the due moments of the packets on one link follow one another.
 #[derive(Debug, Clone, Copy, PartialEq, Eq, Hash, Default)]
+#[non_exhaustive]
 pub enum Rule {
     /// A packet is due no sooner than the one before it.
     #[default]
@@ -16,16 +16,24 @@ pub enum Rule {
     Free,
 }
 
-/// An emulator of its own. It stays with the thread that made it.
+/// An emulator of its own. One thread at a time uses it, and it may pass to another thread.
 pub struct Shaper {
     handle: Box<raw::Handle>, // the library asks that it stays where it is
     room: Vec<raw::Delivery>,
     pub(crate) taken: VecDeque<Delivery>, // out of the library, and not asked for yet
-    stays: PhantomData<*mut ()>,
+}
+
+// SAFETY: one thread at a time uses a handle, as the header asks, since all calls take `&mut`. It may pass to another thread: the library
+// keeps nothing for a thread, and its memory is malloc's.
+unsafe impl Send for Shaper {}
+
+/// A secret that is drawn anew.
+pub(crate) fn secret() -> u64 {
+    RandomState::new().build_hasher().finish()
 }
 
 /// The result of a call by its status.
-fn answered(status: u32) -> Result<()> {
+pub(crate) fn answered(status: u32) -> Result<()> {
     if status == raw::OK { Ok(()) } else { Err(Error::of(status)) }
 }
 
@@ -45,11 +53,10 @@ impl Shaper {
     /// # Errors
     /// [`Error::Memory`].
     pub fn with_rule(rule: Rule) -> Result<Self> {
-        let secret = || RandomState::new().build_hasher().finish();
         let mut handle = Box::new(raw::Handle { at: ptr::null_mut(), open: false });
         // SAFETY: the handle is closed and lies on the heap, where it stays.
         answered(unsafe { raw::dn_open_with_key(&mut *handle, rule as u32, secret(), secret()) })?;
-        Ok(Self { handle, room: Vec::new(), taken: VecDeque::new(), stays: PhantomData })
+        Ok(Self { handle, room: Vec::new(), taken: VecDeque::new() })
     }
 
     /// Obeys a line of a configuration. A line without words changes nothing.
@@ -114,6 +121,31 @@ impl Shaper {
         };
         fates.extend(room[..done as usize].iter().map(Fate::of));
         answered(status)
+    }
+
+    /// Makes room for a packet to come, and returns whether it is there: it isn't before the first packet of a flow.
+    ///
+    /// The library then takes no memory for [`submit`](Self::submit) of a packet to the same pipe or queue with the same addresses,
+    /// ports and protocol, if at most `advance`, `collect`, `flows` and `wake` are called before it. The call changes nothing else.
+    ///
+    /// ```
+    /// use hingetulip::{Packet, Shaper, Target};
+    ///
+    /// let mut shaper = Shaper::new()?;
+    /// shaper.configure("pipe 1 config bw 8Mbit/s")?;
+    /// let packet = Packet::new(0, Target::Pipe(1), 1000);
+    /// assert!(!shaper.reserve(&packet)?);
+    /// shaper.submit(&packet)?;
+    /// assert!(shaper.reserve(&packet)?);
+    /// # Ok::<(), hingetulip::Error>(())
+    /// ```
+    ///
+    /// # Errors
+    /// Those of [`submit`](Self::submit).
+    pub fn reserve(&mut self, packet: &Packet) -> Result<bool> {
+        // SAFETY: the handle is open, and the packet is the header's.
+        let status = unsafe { raw::dn_reserve(&mut *self.handle, &packet.raw()) };
+        if status == raw::NEW_FLOW { Ok(false) } else { answered(status).map(|()| true) }
     }
 
     /// Moves the clock, and returns the moment to which it has come, ns.

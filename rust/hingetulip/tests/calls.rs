@@ -38,6 +38,18 @@ fn errors() {
 }
 
 #[test]
+fn room_is_there_for_a_known_flow() {
+    let mut it = Shaper::new().unwrap();
+    it.configure("pipe 1 config bw 8Mbit/s mask src-port 0xffff").unwrap();
+    assert_eq!(it.reserve(&thousand(0, 1)), Ok(false));
+    assert_eq!(it.submit(&thousand(0, 1)).unwrap().flow, Some(0));
+    let room = [thousand(5, 1), Packet { sport: 1, ..thousand(0, 1) }, thousand(0, 9)].map(|packet| it.reserve(&packet));
+    assert_eq!(room, [Ok(true), Ok(false), Ok(true)]);
+    assert_eq!(it.reserve(&thousand(0, 0)), Err(Error::Number));
+    assert_eq!(it.flows().unwrap().len(), 1, "it is no call");
+}
+
+#[test]
 fn many_flows_and_packets() {
     let mut it = Shaper::new().unwrap();
     it.configure("pipe 1 config bw 8Mbit/s queue 100 mask src-port 0xffff").unwrap();

@@ -1,6 +1,6 @@
 //! A caller's call by one try, and its tries that wake nobody.
-ghost use Rattle.std.specs.Prelude.{◌≡◌, ◌≢◌, ◌<◌, [], IfOk, IfErr, OnErr};
-ghost use Rattle.dn_service.specs.Callers.{IsSameCaller, Answered, NamesAnother, IsOf};
+ghost use Rattle.std.specs.Prelude.{◌≡◌, ◌≢◌, ◌<◌, [], IfOk, IfErr, OnOk};
+ghost use Rattle.dn_service.specs.Callers.{IsSameCaller, Answered, NamesAnother, Refuses, IsOf, having_lost};
 ghost use Rattle.dn_service.specs.Lasting.{Takes};
 
 use crate::caller::Caller;
@@ -19,7 +19,8 @@ impl Caller {
     pub fn try_call(&mut self, call: Call) -> Result<Reply, TryFault>
         ensures ok { IfOk result (λ reply. Answered self.old call reply self.new) }
         ensures same_caller { IsSameCaller self.old self.new }
-        ensures err { OnErr result (self.new ≡ self.old) }
+        ensures lost { OnOk result (self.new.lost ≡ self.old.lost) }
+        ensures err { IfErr result (λ fault. Refuses self.old fault self.new) }
         ensures busy { IfErr result (λ fault. NamesAnother self.old fault) }
     {
         self.try_once(&call)
@@ -29,7 +30,8 @@ impl Caller {
     pub(crate) fn try_once(&mut self, call: &Call) -> Result<Reply, TryFault>
         ensures ok { IfOk result (λ reply. Answered self.old call.now reply self.new) }
         ensures same_caller { IsSameCaller self.old self.new }
-        ensures err { OnErr result (self.new ≡ self.old) }
+        ensures lost { OnOk result (self.new.lost ≡ self.old.lost) }
+        ensures err { IfErr result (λ fault. Refuses self.old fault self.new) }
         ensures busy { IfErr result (λ fault. NamesAnother self.old fault) }
     {
         match self.try_call_quietly(call) {
@@ -51,7 +53,8 @@ impl Caller {
     pub fn try_call_quietly(&mut self, call: &Call) -> Result<Reply, TryFault>
         ensures ok { IfOk result (λ reply. Answered self.old call.now reply self.new) }
         ensures same_caller { IsSameCaller self.old self.new }
-        ensures err { OnErr result (self.new ≡ self.old) }
+        ensures lost { OnOk result (self.new.lost ≡ self.old.lost) }
+        ensures err { IfErr result (λ fault. Refuses self.old fault self.new) }
         ensures busy { IfErr result (λ fault. NamesAnother self.old fault) }
     {
         let number = self.number;
@@ -77,7 +80,8 @@ impl Caller {
         requires { IsOf lasting.old.service self.old }
         ensures ok { IfOk result (λ s. Takes lasting.old self.old s.start s.entries.items lasting.new self.new) }
         ensures same_caller { IsSameCaller self.old self.new }
-        ensures err { OnErr result ((self.new ≡ self.old) × (lasting.new ≡ lasting.old)) }
+        ensures lost { OnOk result (self.new.lost ≡ self.old.lost) }
+        ensures err { IfErr result (λ k. (self.new ≡ having_lost k self.old) × (lasting.new ≡ lasting.old)) }
         ensures same_service { lasting.new.service ≡ lasting.old.service }
         ensures busy { IfErr result (λ k. (k < self.old.service.callers) × (k ≢ self.old.number)) }
     {
@@ -98,7 +102,8 @@ impl Caller {
         requires list { list.old.items ≡ [] }
         ensures ok { IfOk result (λ start. Takes lasting.old self.old start list.new.items lasting.new self.new) }
         ensures same_caller { IsSameCaller self.old self.new }
-        ensures err { OnErr result ((self.new ≡ self.old) × (lasting.new ≡ lasting.old) × (list.new ≡ list.old)) }
+        ensures lost { OnOk result (self.new.lost ≡ self.old.lost) }
+        ensures err { IfErr result (λ k. (self.new ≡ having_lost k self.old) × (lasting.new ≡ lasting.old) × (list.new ≡ list.old)) }
         ensures same_service { lasting.new.service ≡ lasting.old.service }
         ensures busy { IfErr result (λ k. (k < self.old.service.callers) × (k ≢ self.old.number)) }
     {

@@ -1,6 +1,6 @@
 //! When a caller is to ask next.
-ghost use Rattle.std.specs.Prelude.{◌≡◌, ◌≢◌, ◌<◌, IfOk, IfErr, OnErr};
-ghost use Rattle.dn_service.specs.Callers.{IsSameCaller};
+ghost use Rattle.std.specs.Prelude.{◌≡◌, ◌≢◌, ◌<◌, IfOk, IfErr, OnOk};
+ghost use Rattle.dn_service.specs.Callers.{IsSameCaller, having_lost};
 ghost use Rattle.dn_service.specs.Wakes.{Wakes};
 
 use crate::caller::Caller;
@@ -15,7 +15,8 @@ impl Caller {
     pub fn try_wake(&mut self) -> Result<Option<u64>, usize>
         ensures ok { IfOk result (λ next. Wakes self.old next self.new) }
         ensures same_caller { IsSameCaller self.old self.new }
-        ensures err { OnErr result (self.new ≡ self.old) }
+        ensures lost { OnOk result (self.new.lost ≡ self.old.lost) }
+        ensures err { IfErr result (λ k. self.new ≡ having_lost k self.old) }
         ensures busy { IfErr result (λ k. (k < self.old.service.callers) × (k ≢ self.old.number)) }
     {
         match self.try_wake_quietly() {
@@ -31,7 +32,8 @@ impl Caller {
     pub fn try_wake_quietly(&mut self) -> Result<Option<u64>, usize>
         ensures ok { IfOk result (λ next. Wakes self.old next self.new) }
         ensures same_caller { IsSameCaller self.old self.new }
-        ensures err { OnErr result (self.new ≡ self.old) }
+        ensures lost { OnOk result (self.new.lost ≡ self.old.lost) }
+        ensures err { IfErr result (λ k. self.new ≡ having_lost k self.old) }
         ensures busy { IfErr result (λ k. (k < self.old.service.callers) × (k ≢ self.old.number)) }
     {
         let number = self.number;

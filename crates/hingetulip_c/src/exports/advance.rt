@@ -4,6 +4,7 @@ ghost use Rattle.dn_types.specs.declared.call.Call.{Call as CallValue};
 ghost use Rattle.dn_types.specs.declared.call.Call.TheVariants.{Advance};
 ghost use Rattle.dn_types.specs.declared.rule.Rule.{Rule as RuleValue};
 ghost use Rattle.hingetulip_c.specs.Handles.{HeldAfter, StillHeld};
+ghost use Rattle.hingetulip_c.specs.Room.{StillRoomy};
 ghost use Rattle.hingetulip_c.specs.Statuses.{answered, clock_status, clock_of};
 
 use crate::handle::Handle;
@@ -13,6 +14,7 @@ use dn_types::{Call, Moment};
 use std::alloc::Global;
 
 /// Moves the clock, and says where it stands.
+#[tactic(auto, using(crate::proofs::Rooms::roomy_same))]
 #[unsafe(no_mangle)]
 pub extern "C" fn dn_advance(alloc: Global, handle: &mut Handle, moment: u64, at: &mut u64) -> u32
     ensures closed { handle.old.held ≡ [] → (answered result ≡ false) × (handle.new.held ≡ []) }
@@ -23,6 +25,7 @@ pub extern "C" fn dn_advance(alloc: Global, handle: &mut Handle, moment: u64, at
     ensures status { answered result ≡ true → (rule : RuleValue) (calls : List CallValue) → HeldAfter rule handle.old.held calls → result ≡ clock_status (reply rule calls (Advance moment)) }
     ensures clock { answered result ≡ true → (rule : RuleValue) (calls : List CallValue) → HeldAfter rule handle.old.held calls → at.new ≡ clock_of at.old (reply rule calls (Advance moment)) }
     ensures stands { answered result ≡ true → (rule : RuleValue) (calls : List CallValue) → HeldAfter rule handle.old.held calls → HeldAfter rule handle.new.held (Advance moment ∷ calls) }
+    ensures leaves { StillRoomy handle.old.held handle.new.held }
 {
     let Some(moment) = Moment::new(moment) else {
         return BAD_MOMENT;

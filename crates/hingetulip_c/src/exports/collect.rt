@@ -5,6 +5,7 @@ ghost use Rattle.dn_types.specs.declared.call.Call.TheVariants.{Collect};
 ghost use Rattle.dn_types.specs.declared.rule.Rule.{Rule as RuleValue};
 ghost use Rattle.hingetulip_c.specs.Handles.{HeldAfter, StillHeld, CanLackMemory};
 ghost use Rattle.hingetulip_c.specs.Lists.{deliveries_of, held_after};
+ghost use Rattle.hingetulip_c.specs.Room.{StillRoomy};
 ghost use Rattle.hingetulip_c.specs.Statuses.{answered, collect_status, collect_count};
 
 use crate::copy::put_deliveries;
@@ -15,6 +16,7 @@ use dn_types::Moment;
 use std::alloc::Global;
 
 /// Moves the clock, and takes the packets that are due.
+#[tactic(auto, using(crate::proofs::Rooms::roomy_same))]
 #[unsafe(no_mangle)]
 pub extern "C" fn dn_collect(
     alloc: Global,
@@ -35,6 +37,7 @@ pub extern "C" fn dn_collect(
     ensures list { answered result ≡ true → (rule : RuleValue) (calls : List CallValue) → HeldAfter rule handle.old.held calls → take (length (deliveries_of (reply rule calls (Collect moment)))) list.new ≡ deliveries_of (reply rule calls (Collect moment)) }
     ensures others { result ≡ 0 → drop count.new list.new ≡ drop count.new list.old }
     ensures stands { answered result ≡ true → (rule : RuleValue) (calls : List CallValue) → HeldAfter rule handle.old.held calls → HeldAfter rule handle.new.held (Collect moment ∷ calls) }
+    ensures leaves { StillRoomy handle.old.held handle.new.held }
 {
     let Some(moment) = Moment::new(moment) else {
         return BAD_MOMENT;

@@ -5,6 +5,7 @@ ghost use Rattle.dn_types.specs.declared.call.Call.TheVariants.{Show as ShowCall
 ghost use Rattle.dn_types.specs.declared.rule.Rule.{Rule as RuleValue};
 ghost use Rattle.hingetulip_c.specs.Handles.{HeldAfter, StillHeld, CanLackMemory};
 ghost use Rattle.hingetulip_c.specs.Lists.{flows_after, flows_of};
+ghost use Rattle.hingetulip_c.specs.Room.{StillRoomy};
 ghost use Rattle.hingetulip_c.specs.Statuses.{answered, show_status, show_count};
 
 use crate::copy::put_flows;
@@ -15,6 +16,7 @@ use dn_types::Call;
 use std::alloc::Global;
 
 /// Tells the state of all flows.
+#[tactic(auto, using(crate::proofs::Rooms::roomy_same))]
 #[unsafe(no_mangle)]
 pub extern "C" fn dn_show(
     alloc: Global,
@@ -33,6 +35,7 @@ pub extern "C" fn dn_show(
     ensures list { answered result ≡ true → (rule : RuleValue) (calls : List CallValue) → HeldAfter rule handle.old.held calls → take (length (flows_of (reply rule calls ShowCall))) list.new ≡ flows_of (reply rule calls ShowCall) }
     ensures others { result ≡ 0 → drop count.new list.new ≡ drop count.new list.old }
     ensures stands { answered result ≡ true → (rule : RuleValue) (calls : List CallValue) → HeldAfter rule handle.old.held calls → HeldAfter rule handle.new.held (ShowCall ∷ calls) }
+    ensures leaves { StillRoomy handle.old.held handle.new.held }
 {
     let Some(room) = handle.room_for_flows(alloc) else {
         return CLOSED;

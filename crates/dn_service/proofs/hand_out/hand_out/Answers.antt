@@ -10,16 +10,16 @@ split_seat-one-requires c = (search rules, search rules, hands_out _ _ c.args.co
 pub new-requires-clause-seat : goal.new-requires-clause-seat
 new-requires-clause-seat c =
     let count = c.args.count in let k = c.loop-number.number in
-    let alone : c.split_seat-one.result.me.0 ≡ sitting count k [] [] =
+    let alone : c.split_seat-one.result.me.0 ≡ sitting count k [] [] [] 0 =
     ap (λ x. x.0) c.split_seat-one.ensures.4 ∙ handed count k c.loop-number.seat.me c.loop-number-test.true c.loop-number.invariant.1 in
     c.split_seat-one.ensures.4 ∙ (λ i. (handed count k c.loop-number.seat.me c.loop-number-test.true c.loop-number.invariant.1 i, []))
-    ∙ ap (λ n. (sitting n k [] [], [])) (sym (ap (λ v. v.count) alone))
+    ∙ ap (λ n. (sitting n k [] [] [] 0, [])) (sym (ap (λ v. v.count) alone))
 
 pub loop-number-preserved : goal.loop-number-preserved
 loop-number-preserved c =
     let count = c.args.count in let k = c.loop-number.number in let was = c.loop-number.invariant in let did = c.split_seat-one.ensures in
     let service : ServiceView = record { table = c.args.seat.now.table_id; callers = count } in
-    let alone : c.split_seat-one.result.me.0 ≡ sitting count k [] [] = ap (λ x. x.0) did.4 ∙ handed count k c.loop-number.seat.me c.loop-number-test.true was.1 in
+    let alone : c.split_seat-one.result.me.0 ≡ sitting count k [] [] [] 0 = ap (λ x. x.0) did.4 ∙ handed count k c.loop-number.seat.me c.loop-number-test.true was.1 in
     let one : c.new.result ≡ new_caller service k = search rules in (
       did.0 ∙ was.0,
       did.2 ∙ (λ i. (left_over count k c.loop-number.seat.me c.loop-number-test.true was.1 i, (ap (λ x. x.1) was.1) i)),

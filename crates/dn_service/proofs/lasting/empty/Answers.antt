@@ -4,8 +4,9 @@ use Rattle.dn_types.specs.declared.rule.Rule.TheVariants.{Ordered}
 use Rattle.dn_shaper.specs.Shaper.{StandsAfter}
 use Rattle.dn_service.specs.Histories.{AreBelow}
 use Rattle.dn_service.specs.Rule.{Follows}
-use Rattle.dn_service.specs.Seats.{Each, Has, with_shed, shed_in}
-use Rattle.dn_service.proofs.Lastings.{empties_keeper, gone_all}
+use Rattle.dn_service.specs.Accounts.{Each, Has}
+use Rattle.dn_service.specs.Seats.{with_shed, shed_in}
+use Rattle.dn_service.proofs.Lastings.{empties_keeper, loses_keeper, gone_all}
 use Rattle.dn_service.proofs.lasting.empty.Goals as goal
 
 pub enter-requires-clause-seat : goal.enter-requires-clause-seat
@@ -30,14 +31,15 @@ give_empty-requires-clause-book c = let won = c.in-Ok.ensures.taken in let did =
 
 pub returns-in-Ok-clause-seat : goal.returns-in-Ok-clause-seat
 returns-in-Ok-clause-seat c = let won = c.in-Ok.ensures.taken in
-    empties_keeper c.args.number c.args.seat.now.me _ won.past.history c.requires.seat
-    (c.give_empty.ensures.seat won.past (ap (λ v. v.taken) won.view) ∙ ap (λ v. (with_shed v won.past.history, [])) won.view)
+    empties_keeper c.args.number c.args.seat.now.me _ c.give_empty.ensures.seat.0 won.past.history c.requires.seat
+    (c.give_empty.ensures.seat.1 won.past (ap (λ v. v.taken) won.view) ∙ ap (λ v. (with_shed v c.give_empty.ensures.seat.0 won.past.history, [])) won.view)
 
 pub returns-in-Ok-clause-ok : goal.returns-in-Ok-clause-ok
 returns-in-Ok-clause-ok c = let won = c.in-Ok.ensures.taken in let m = c.args.seat.now.me in
     let whole : won.past.history ≡ shed_in m.0.shed ++ c.take.new.list.items =
     won.keeps.whole ∙ (λ i. sym (won.shed (shed_in m.0.shed) (ap (λ x. x.0.shed) c.requires.seat)) i ++ sym c.take.ensures.entries i) in record {
-      now = c.give_empty.ensures.seat won.past (ap (λ v. v.taken) won.view) ∙ ap (λ v. (with_shed v won.past.history, [])) won.view ∙ ap (λ h. (with_shed m.0 h, [])) whole;
+      faced = c.give_empty.ensures.seat.0;
+      now = c.give_empty.ensures.seat.1 won.past (ap (λ v. v.taken) won.view) ∙ ap (λ v. (with_shed v c.give_empty.ensures.seat.0 won.past.history, [])) won.view ∙ ap (λ h. (with_shed m.0 c.give_empty.ensures.seat.0 h, [])) whole;
       lawful = subst (IsLawful Ordered) whole won.keeps.lawful;
       below = subst (AreBelow m.0.count) whole won.below;
       follows = subst (λ h. Each (Follows h) m.0.accounts) whole won.follows;
@@ -45,4 +47,7 @@ returns-in-Ok-clause-ok c = let won = c.in-Ok.ensures.taken in let m = c.args.se
 
 pub returns-in-Ok-clause-count : goal.returns-in-Ok-clause-count
 returns-in-Ok-clause-count c = let won = c.in-Ok.ensures.taken in
-    ap (λ x. x.0.count) (c.give_empty.ensures.seat won.past (ap (λ v. v.taken) won.view)) ∙ ap (λ v. v.count) won.view
+    ap (λ x. x.0.count) (c.give_empty.ensures.seat.1 won.past (ap (λ v. v.taken) won.view)) ∙ ap (λ v. v.count) won.view
+
+pub returns-in-Err-clause-seat : goal.returns-in-Err-clause-seat
+returns-in-Err-clause-seat c = loses_keeper c.args.number c.args.seat.now.me _ _ c.requires.seat c.in-Err.ensures.taken.0

@@ -27,10 +27,11 @@ returns-clause-taken c =
       below = won.4;
       follows = won.5;
       shed = won.6;
+      knows = won.7;
     }
 
 pub returns-then-found-ne0-clause-taken : goal.returns-then-found-ne0-clause-taken
 returns-then-found-ne0-clause-taken c =
     let some_one : c.compare_exchange-found.result ≢ 0 = c.if-found-ne0.true in
-    let told = c.compare_exchange-found.ensures.2.1 some_one in let le = told.1 in
-    (told.0, omega arith, told.2 _ (omega arith))
+    let told = c.compare_exchange-found.ensures.2.1 some_one in let le = told.0 in
+    ((told.1 _ (omega arith)).0, omega arith, (told.1 _ (omega arith)).1)

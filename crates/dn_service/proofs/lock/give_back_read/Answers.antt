@@ -13,5 +13,5 @@ store-requires c =
     )
 
 pub returns-clause-seat : goal.returns-clause-seat
-returns-clause-seat c = λ was is. let put = c.put_in.ensures.seat in
-    c.store.ensures.2 was (ap (λ x. x.0.taken) put ∙ is) ∙ (λ i. (with_history (put i).0 was.history, rest (put i).1))
+returns-clause-seat c = let put = c.put_in.ensures.seat in let told = c.store.ensures.2 in
+    (told.0, λ was is. told.1 was (ap (λ x. x.0.taken) put ∙ is) ∙ (λ i. (with_history (put i).0 told.0 was.history, rest (put i).1)))

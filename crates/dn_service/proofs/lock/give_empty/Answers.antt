@@ -12,5 +12,5 @@ store-requires c = let put = c.put_in.ensures.seat in let b = c.requires.book in
 )
 
 pub returns-clause-seat : goal.returns-clause-seat
-returns-clause-seat c = λ was is. let put = c.put_in.ensures.seat in
-    c.store.ensures.2 was (ap (λ x. x.0.taken) put ∙ is) ∙ ap (λ v. (with_shed v was.history, [])) (ap (λ x. x.0) put)
+returns-clause-seat c = let put = c.put_in.ensures.seat in let told = c.store.ensures.2 in
+    (told.0, λ was is. told.1 was (ap (λ x. x.0.taken) put ∙ is) ∙ ap (λ v. (with_shed v told.0 was.history, [])) (ap (λ x. x.0) put))

@@ -1,5 +1,6 @@
 use Rattle.std.proofs.Common.{rules, sym, ap, ◌∙◌, subst, ◌++◌, []}
-use Rattle.dn_service.specs.Seats.{Has, SeatView, with_history}
+use Rattle.dn_service.specs.Accounts.{Has}
+use Rattle.dn_service.specs.Seats.{SeatView, with_history}
 use Rattle.dn_service.proofs.Taking.{publishes}
 use Rattle.dn_service.proofs.lock.publish.Goals as goal
 
@@ -12,6 +13,8 @@ store-requires c = let put = c.put_in.ensures.seat in let b = c.requires.book in
 )
 
 pub returns-clause-seat : goal.returns-clause-seat
-returns-clause-seat c = λ was is. let put = c.put_in.ensures.seat in
-    c.store.ensures.2 was c.args.book (ap (λ x. x.0.taken) put ∙ is) (ap (λ x. x.1) put)
-    ∙ ap (λ v. (with_history v (was.shed ++ c.args.book.kept), [])) (ap (λ x. x.0) put)
+returns-clause-seat c = let put = c.put_in.ensures.seat in let told = c.store.ensures.2 in (
+  told.0,
+  λ was is. told.1 was c.args.book (ap (λ x. x.0.taken) put ∙ is) (ap (λ x. x.1) put)
+      ∙ ap (λ v. (with_history v told.0 (was.shed ++ c.args.book.kept), [])) (ap (λ x. x.0) put),
+)

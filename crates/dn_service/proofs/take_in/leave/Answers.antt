@@ -1,9 +1,11 @@
 use Rattle.std.proofs.Common.{arith, ◌≡◌, ◌<◌, ◌++◌, true, sym, ap, ◌∙◌, subst}
-use Rattle.dn_service.specs.Callers.{has_number, Closes}
+use Rattle.dn_service.specs.Callers.{has_number, accounts_of, Closes}
 use Rattle.dn_service.specs.Histories.{AreBelow}
 use Rattle.dn_service.specs.Rule.{Follows}
-use Rattle.dn_service.specs.Seats.{Has, Each, shed_in}
-use Rattle.dn_service.proofs.Handing.{account_there, accounted}
+use Rattle.dn_service.specs.Accounts.{Has, Each}
+use Rattle.dn_service.specs.Seats.{keeping, shed_in}
+use Rattle.dn_service.specs.Steps.{Knows}
+use Rattle.dn_service.proofs.Handing.{account_there, accounted, faced_all}
 use Rattle.dn_service.proofs.take_in.leave.Goals as goal
 
 pub enter-requires-clause-seat : goal.enter-requires-clause-seat
@@ -26,9 +28,13 @@ returns c = λ service same.
     let count : c.take_in.new.seat.me.0.count ≡ service.callers = ap (λ x. x.0.count) is ∙ sym same in
     let whole : won.past.history ≡ shed_in c.args.seat.now.me.0.shed ++ c.into_history.result.items =
     won.keeps.whole ∙ (λ i. sym (won.shed (shed_in c.args.seat.now.me.0.shed) (ap (λ x. x.0.shed) is)) i ++ sym c.into_history.ensures i) in
+    let at : c.take_in.new.seat.me.0 ≡ keeping c.args.seat.now.me.0.count (shed_in c.args.seat.now.me.0.shed) (accounts_of cs) = ap (λ x. x.0) is in
     subst (Closes service cs) whole record {
       lawful = won.keeps.lawful;
       below = subst (λ n. AreBelow n won.past.history) count won.below;
       accounts = accounted won.past.history cs (subst (Each (Follows won.past.history)) (ap (λ x. x.0.accounts) is) won.follows);
+      faced =
+          let knows = subst Knows at won.knows in
+          faced_all knows.0 cs cs (knows.2 (λ k l. account_there k cs (c.requires.whole.1 k l))) knows.1;
       whole = λ k l. c.requires.whole.1 k (subst (λ n. k < n) same l);
     }

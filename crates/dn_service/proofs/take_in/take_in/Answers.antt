@@ -14,7 +14,7 @@ join_seat-requires c =
       c.into_seat.ensures.table ∙ (ap (λ s. s.table) of ∙ (r.1 ∙ c.requires.table.0)),
       ap (λ x. x.1) c.into_seat.ensures.seat,
       search rules,
-      takes_in _ _ _ _ one.service.callers one.number _ _ one.front one.own _ _ (ap (λ x. x.0) was.3) (ap (λ x. x.0) c.into_seat.ensures.seat),
+      takes_in _ _ _ _ one.service.callers one.number _ _ one.front one.own one.lost one.faced _ _ (ap (λ x. x.0) was.3) (ap (λ x. x.0) c.into_seat.ensures.seat),
     )
 
 pub loop-caller-preserved : goal.loop-caller-preserved

@@ -1,6 +1,6 @@
 ghost use Rattle.std.specs.Prelude.{◌≡◌, ◌≢◌, ◌^◌, ◌<◌, ◌≤◌, ◌⊎◌, [], true, false};
 ghost use Rattle.dn_types.specs.declared.call.Call.TheVariants.{Advance};
-ghost use Rattle.hingetulip_c.specs.Clients.{AnsweredBy, IsBusyWith, last_reply};
+ghost use Rattle.hingetulip_c.specs.Clients.{AnsweredBy, IsBusyWith, RefusedBy, last_reply};
 ghost use Rattle.hingetulip_c.specs.Statuses.{answered, clock_status, clock_of};
 
 use crate::caller_handle::CallerHandle;
@@ -9,7 +9,7 @@ use dn_types::{Call, Moment};
 use std::alloc::Global;
 
 /// Moves the clock, and writes where it is.
-#[tactic(auto, using(crate::proofs::Serving::answered_by, crate::proofs::Serving::busy_with))]
+#[tactic(auto, using(crate::proofs::Serving::answered_by, crate::proofs::Serving::busy_with, crate::proofs::Serving::refused_by))]
 #[unsafe(no_mangle)]
 pub extern "C" fn dn_caller_advance(
     alloc: Global,
@@ -19,7 +19,7 @@ pub extern "C" fn dn_caller_advance(
     holder: &mut u64,
 ) -> u32
     ensures in_range { answered result ≡ true → moment ≤ 2 ^ 62 }
-    ensures refused { answered result ≡ false → (caller.new.held ≡ caller.old.held) × (at.new ≡ at.old) }
+    ensures refused { answered result ≡ false → RefusedBy result holder.new caller.old.held caller.new.held × (at.new ≡ at.old) }
     ensures why { answered result ≡ false → ((result ≡ 9) × (2 ^ 62 < moment)) ⊎ ((moment ≤ 2 ^ 62) × (((result ≡ 5) × (caller.old.held ≡ []))
         ⊎ ((result ≡ 6) × (caller.old.held ≢ [])) ⊎ ((result ≡ 15) × IsBusyWith holder.new caller.old.held))) }
     ensures holder { result ≢ 15 → holder.new ≡ holder.old }

@@ -1,6 +1,6 @@
 ghost use Rattle.std.specs.Prelude.{◌≡◌, ◌≢◌, ◌^◌, ◌<◌, ◌≤◌, ◌⊎◌, [], true, false};
 ghost use Rattle.dn_types.specs.declared.call.Call.TheVariants.{Collect};
-ghost use Rattle.hingetulip_c.specs.Clients.{AnsweredBy, IsBusyWith, last_reply};
+ghost use Rattle.hingetulip_c.specs.Clients.{AnsweredBy, IsBusyWith, RefusedBy, last_reply};
 ghost use Rattle.hingetulip_c.specs.Statuses.{answered, collect_status, collect_count};
 
 use crate::caller_handle::CallerHandle;
@@ -19,7 +19,7 @@ pub extern "C" fn dn_caller_collect(
     holder: &mut u64,
 ) -> u32
     ensures in_range { answered result ≡ true → moment ≤ 2 ^ 62 }
-    ensures refused { answered result ≡ false → (caller.new.held ≡ caller.old.held) × (count.new ≡ count.old) }
+    ensures refused { answered result ≡ false → RefusedBy result holder.new caller.old.held caller.new.held × (count.new ≡ count.old) }
     ensures why { answered result ≡ false → ((result ≡ 9) × (2 ^ 62 < moment)) ⊎ ((moment ≤ 2 ^ 62) × (((result ≡ 5) × (caller.old.held ≡ []))
         ⊎ ((result ≡ 6) × (caller.old.held ≢ [])) ⊎ ((result ≡ 15) × IsBusyWith holder.new caller.old.held))) }
     ensures holder { result ≢ 15 → holder.new ≡ holder.old }

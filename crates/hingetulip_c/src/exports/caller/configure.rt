@@ -3,7 +3,7 @@ ghost use Rattle.dn_config.specs.Line.{answer};
 ghost use Rattle.dn_config.specs.declared.fault.LineFault.{LineFault as FaultValue};
 ghost use Rattle.dn_types.specs.declared.call.Call.TheVariants.{Configure};
 ghost use Rattle.dn_types.specs.declared.command.Command.{Command as CommandValue};
-ghost use Rattle.hingetulip_c.specs.Clients.{AnsweredBy, IsBusyWith, last_reply};
+ghost use Rattle.hingetulip_c.specs.Clients.{AnsweredBy, IsBusyWith, RefusedBy, last_reply};
 ghost use Rattle.hingetulip_c.specs.Faults.{fault_of, no_text};
 ghost use Rattle.hingetulip_c.specs.Statuses.{taken, configure_status};
 
@@ -16,9 +16,9 @@ use dn_types::{Call, Command};
 use std::alloc::Global;
 
 /// Makes the call of a command.
-#[tactic(auto, using(crate::proofs::Serving::answered_by, crate::proofs::Serving::busy_with))]
+#[tactic(auto, using(crate::proofs::Serving::answered_by, crate::proofs::Serving::busy_with, crate::proofs::Serving::refused_by))]
 fn obey(alloc: Global, caller: &mut CallerHandle, command: Command, holder: &mut u64) -> u32
-    ensures refused { taken result ≡ false → caller.new.held ≡ caller.old.held }
+    ensures refused { taken result ≡ false → RefusedBy result holder.new caller.old.held caller.new.held }
     ensures why { taken result ≡ false → ((result ≡ 5) × (caller.old.held ≡ [])) ⊎ ((result ≡ 6) × (caller.old.held ≢ [])) ⊎ ((result ≡ 15) × IsBusyWith holder.new caller.old.held) }
     ensures holder { result ≢ 15 → holder.new ≡ holder.old }
     ensures answered { taken result ≡ true → AnsweredBy (Configure command) caller.old.held caller.new.held }
@@ -42,7 +42,7 @@ pub extern "C" fn dn_caller_configure(
     fault: &mut CFault,
     holder: &mut u64,
 ) -> u32
-    ensures refused { taken result ≡ false → caller.new.held ≡ caller.old.held }
+    ensures refused { taken result ≡ false → RefusedBy result holder.new caller.old.held caller.new.held }
     ensures no_text { ¬ (IsUtf8 line.now) → (result ≡ 8) × (fault.new ≡ no_text) }
     ensures fault { IsUtf8 line.now → (found : FaultValue) → answer line.now ≡ Err found → (result ≡ 8) × (fault.new ≡ fault_of found) }
     ensures no_fault { result ≢ 8 → fault.new ≡ fault.old }

@@ -1,5 +1,5 @@
 ghost use Rattle.std.specs.Prelude.{◌≡◌, ◌≢◌, ◌⊎◌, [], true, false};
-ghost use Rattle.hingetulip_c.specs.Clients.{AnsweredBy, IsBusyWith, last_reply};
+ghost use Rattle.hingetulip_c.specs.Clients.{AnsweredBy, IsBusyWith, RefusedBy, last_reply};
 ghost use Rattle.hingetulip_c.specs.Statuses.{answered};
 ghost use Rattle.hingetulip_c.specs.Submits.{InRange, Faulty, submit_of as call_of, fate_status, fate_of};
 
@@ -10,7 +10,7 @@ use crate::status::CLOSED;
 use std::alloc::Global;
 
 /// A packet arrives.
-#[tactic(auto, using(crate::proofs::Serving::answered_by, crate::proofs::Serving::busy_with))]
+#[tactic(auto, using(crate::proofs::Serving::answered_by, crate::proofs::Serving::busy_with, crate::proofs::Serving::refused_by))]
 #[unsafe(no_mangle)]
 pub extern "C" fn dn_caller_submit(
     alloc: Global,
@@ -20,7 +20,7 @@ pub extern "C" fn dn_caller_submit(
     holder: &mut u64,
 ) -> u32
     ensures in_range { answered result ≡ true → InRange packet.now }
-    ensures refused { answered result ≡ false → (caller.new.held ≡ caller.old.held) × (fate.new ≡ fate.old) }
+    ensures refused { answered result ≡ false → RefusedBy result holder.new caller.old.held caller.new.held × (fate.new ≡ fate.old) }
     ensures why { answered result ≡ false → Faulty packet.now result ⊎ (InRange packet.now × (((result ≡ 5) × (caller.old.held ≡ []))
         ⊎ ((result ≡ 6) × (caller.old.held ≢ [])) ⊎ ((result ≡ 15) × IsBusyWith holder.new caller.old.held))) }
     ensures holder { result ≢ 15 → holder.new ≡ holder.old }

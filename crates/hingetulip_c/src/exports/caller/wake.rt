@@ -1,5 +1,5 @@
 ghost use Rattle.std.specs.Prelude.{◌≡◌, ◌≢◌, ◌⊎◌, []};
-ghost use Rattle.hingetulip_c.specs.Clients.{IsBusyWith, WokeBy};
+ghost use Rattle.hingetulip_c.specs.Clients.{IsBusyWith, RefusedBy, WokeBy};
 
 use crate::caller_handle::CallerHandle;
 use crate::status::CLOSED;
@@ -8,7 +8,7 @@ use std::alloc::Global;
 /// Writes the first moment at which a packet is due or starts, if no other call comes.
 ///
 /// It is 2^64 - 1 if no packet waits or is under way.
-#[tactic(auto, using(crate::proofs::Serving::woke_by, crate::proofs::Serving::busy_with))]
+#[tactic(auto, using(crate::proofs::Serving::woke_by, crate::proofs::Serving::busy_with, crate::proofs::Serving::refused_by))]
 #[unsafe(no_mangle)]
 pub extern "C" fn dn_caller_wake(
     alloc: Global,
@@ -17,7 +17,7 @@ pub extern "C" fn dn_caller_wake(
     holder: &mut u64,
 ) -> u32
     ensures woke { result ≡ 0 → WokeBy moment.new caller.old.held caller.new.held }
-    ensures refused { result ≢ 0 → (caller.new.held ≡ caller.old.held) × (moment.new ≡ moment.old) }
+    ensures refused { result ≢ 0 → RefusedBy result holder.new caller.old.held caller.new.held × (moment.new ≡ moment.old) }
     ensures why { result ≢ 0 → ((result ≡ 5) × (caller.old.held ≡ [])) ⊎ ((result ≡ 15) × IsBusyWith holder.new caller.old.held) }
     ensures holder { result ≢ 15 → holder.new ≡ holder.old }
 {

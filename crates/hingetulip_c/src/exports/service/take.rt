@@ -1,12 +1,12 @@
 ghost use Rattle.std.specs.Prelude.{◌≡◌, ◌≢◌, ◌⊎◌, []};
-ghost use Rattle.hingetulip_c.specs.Services.{Taken, IsServiceBusyWith, count_waiting};
+ghost use Rattle.hingetulip_c.specs.Services.{NotTaken, Taken, IsServiceBusyWith, count_waiting};
 
 use crate::service_handle::ServiceHandle;
 use crate::status::CLOSED;
 use std::alloc::Global;
 
 /// Takes out all entries so far, which then wait to be written.
-#[tactic(auto, using(crate::proofs::Serving::taken_out, crate::proofs::Serving::service_busy_with))]
+#[tactic(auto, using(crate::proofs::Serving::taken_out, crate::proofs::Serving::service_busy_with, crate::proofs::Serving::not_taken))]
 #[unsafe(no_mangle)]
 pub extern "C" fn dn_service_take(
     alloc: Global,
@@ -17,7 +17,7 @@ pub extern "C" fn dn_service_take(
 ) -> u32
     ensures taken { result ≡ 0 → Taken start.new service.old.held service.new.held }
     ensures count { result ≡ 0 → count.new ≡ count_waiting service.new.held }
-    ensures refused { result ≢ 0 → (service.new.held ≡ service.old.held) × (start.new ≡ start.old) × (count.new ≡ count.old) }
+    ensures refused { result ≢ 0 → NotTaken result holder.new service.old.held service.new.held × (start.new ≡ start.old) × (count.new ≡ count.old) }
     ensures why { result ≢ 0 → ((result ≡ 5) × (service.old.held ≡ [])) ⊎ ((result ≡ 17) × (count_waiting service.old.held ≢ 0)) ⊎ ((result ≡ 15) × IsServiceBusyWith holder.new service.old.held) }
     ensures holder { result ≢ 15 → holder.new ≡ holder.old }
 {

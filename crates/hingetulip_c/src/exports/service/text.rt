@@ -19,6 +19,7 @@ pub extern "C" fn dn_service_text(
     ensures refused { result ≢ 0 → (service.new.held ≡ service.old.held) × (text.new ≡ text.old) }
     ensures why { result ≢ 0 → ((result ≡ 5) × (service.old.held ≡ [])) ⊎ ((result ≡ 6) × (service.old.held ≢ []))
         ⊎ ((result ≡ 7) × (size.new ≡ next_length service.old.held) × (length text.old < size.new)) ⊎ ((result ≡ 18) × (service.old.held ≢ []) × (count_waiting service.old.held ≡ 0)) }
+    ensures memory { result ≡ 6 → count_waiting service.old.held ≢ 0 }
     ensures size { result ≢ 0 → result ≢ 7 → size.new ≡ size.old }
 {
     let Some(mut ledger) = service.take(alloc) else {

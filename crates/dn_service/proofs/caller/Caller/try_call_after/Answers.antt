@@ -2,7 +2,8 @@ use Rattle.std.proofs.Common.{length, length-append, arith, ◌+◌, ◌^◌, �
 use Rattle.dn_types.specs.declared.entry.Entry.{Entry}
 use Rattle.dn_service.specs.Callers.{Answered, IsSameCaller}
 use Rattle.dn_service.specs.Histories.{entry_of}
-use Rattle.dn_service.specs.Seats.{Has, with_history, front_in}
+use Rattle.dn_service.specs.Accounts.{Has, front_in, lost_in}
+use Rattle.dn_service.specs.Seats.{with_history}
 use Rattle.dn_service.proofs.Calling.{now_sitting, seen_from, answers, stands_for, has_seen}
 use Rattle.dn_service.proofs.Lastings.{is_sitting, gone_all, seen_less}
 use Rattle.dn_service.proofs.caller.Caller.try_call_after.Goals as goal
@@ -30,15 +31,15 @@ invariant_of-self-in-Ok-apply c =
     let m = c.self.inside.seat.me in let k = c.self.inside.number in let is = c.self.invariant.sits in
     let won = c.in-Ok.ensures.taken in
     let now =
-    now_sitting k m c.publish.new.seat.me c.enter.new.seat.me.0 won.past (won.past.shed ++ c.apply.new.self.kept) is won.view
-    (c.publish.ensures.seat won.past (ap (λ v. v.taken) won.view)) in
+    now_sitting k m c.publish.new.seat.me c.enter.new.seat.me.0 won.past c.publish.ensures.seat.0 (won.past.shed ++ c.apply.new.self.kept) is won.view
+    (c.publish.ensures.seat.1 won.past (ap (λ v. v.taken) won.view)) in
     let count : c.publish.new.seat.me.0.count ≡ m.0.count = ap (λ x. x.0.count) now in
     let table : c.publish.new.seat.table_id ≡ c.self.inside.seat.table_id = c.publish.ensures.table.0 ∙ c.enter.ensures.table.0 in record {
       at_table = table ∙ c.self.invariant.at_table;
       one_word = ap (λ t. t.words) table ∙ c.self.invariant.one_word;
       below = subst (λ n. k < n) (sym count) c.self.invariant.below;
       few = subst (λ n. n ≤ 16) (sym count) c.self.invariant.few;
-      sits = is_sitting k m.0.count _ _ c.publish.new.seat.me now;
+      sits = is_sitting k m.0.count _ _ _ _ c.publish.new.seat.me now;
     }
 
 pub returns-in-Ok-apply-clause-same_caller : goal.returns-in-Ok-apply-clause-same_caller
@@ -46,8 +47,8 @@ returns-in-Ok-apply-clause-same_caller c =
     let m = c.self.inside.seat.me in let k = c.self.inside.number in let is = c.self.invariant.sits in
     let won = c.in-Ok.ensures.taken in
     let now =
-    now_sitting k m c.publish.new.seat.me c.enter.new.seat.me.0 won.past (won.past.shed ++ c.apply.new.self.kept) is won.view
-    (c.publish.ensures.seat won.past (ap (λ v. v.taken) won.view)) in
+    now_sitting k m c.publish.new.seat.me c.enter.new.seat.me.0 won.past c.publish.ensures.seat.0 (won.past.shed ++ c.apply.new.self.kept) is won.view
+    (c.publish.ensures.seat.1 won.past (ap (λ v. v.taken) won.view)) in
     let count : c.publish.new.seat.me.0.count ≡ m.0.count = ap (λ x. x.0.count) now in
     let table : c.publish.new.seat.table_id ≡ c.self.inside.seat.table_id = c.publish.ensures.table.0 ∙ c.enter.ensures.table.0 in
     subst (λ v. IsSameCaller v (seen_from c.publish.new.seat.table_id k c.publish.new.seat.me)) c.self.view_is
@@ -61,11 +62,11 @@ returns-in-Ok-apply-clause-ok c =
     let kept = c.in-Ok-apply.ensures.ok won.past won.keeps in
     let later : history ++ e ∷ [] ≡ won.past.shed ++ c.apply.new.self.kept = kept.whole in
     let now =
-    now_sitting k m c.publish.new.seat.me c.enter.new.seat.me.0 won.past (history ++ e ∷ []) is won.view
-    (c.publish.ensures.seat won.past (ap (λ v. v.taken) won.view) ∙ ap (λ h. (with_history c.enter.new.seat.me.0 h, [])) (sym later)) in
+    now_sitting k m c.publish.new.seat.me c.enter.new.seat.me.0 won.past c.publish.ensures.seat.0 (history ++ e ∷ []) is won.view
+    (c.publish.ensures.seat.1 won.past (ap (λ v. v.taken) won.view) ∙ ap (λ h. (with_history c.enter.new.seat.me.0 c.publish.ensures.seat.0 h, [])) (sym later)) in
     subst (λ v. Answered v c.args.call c.in-Ok-apply.reply (seen_from c.publish.new.seat.table_id k c.publish.new.seat.me)) c.self.view_is
     (answers c.self.inside.seat.table_id k m c.publish.new.seat.me c.publish.new.seat.table_id history c.args.call c.in-Ok-apply.reply is c.self.invariant.below
-    kept.lawful won.below won.follows now)
+    kept.lawful won.below won.follows (c.publish.ensures.seat.0 k) now)
 
 pub returns-in-Ok-apply-clause-place : goal.returns-in-Ok-apply-clause-place
 returns-in-Ok-apply-clause-place c = λ few.
@@ -74,8 +75,8 @@ returns-in-Ok-apply-clause-place c = λ few.
     let e : Entry = entry_of k c.args.call c.in-Ok-apply.reply in
     let kept = c.in-Ok-apply.ensures.ok won.past won.keeps in
     let now =
-    now_sitting k m c.publish.new.seat.me c.enter.new.seat.me.0 won.past (won.past.shed ++ c.apply.new.self.kept) is won.view
-    (c.publish.ensures.seat won.past (ap (λ v. v.taken) won.view)) in
+    now_sitting k m c.publish.new.seat.me c.enter.new.seat.me.0 won.past c.publish.ensures.seat.0 (won.past.shed ++ c.apply.new.self.kept) is won.view
+    (c.publish.ensures.seat.1 won.past (ap (λ v. v.taken) won.view)) in
     let front : front_in c.publish.new.seat.me.0.accounts ≡ history ++ e ∷ [] = ap (λ x. front_in x.0.accounts) now ∙ sym kept.whole in
     let size : length (front_in c.publish.new.seat.me.0.accounts) ≡ length history + 1 = ap length front ∙ length-append history (e ∷ []) in
     let place : length history < 2 ^ 64 → c.place-place.result ≡ length history =
@@ -91,3 +92,12 @@ returns-then-place-after-clause-cause c =
     (seen_less won.past.history (front_in m.0.accounts) c.place-place.result c.args.after (has_seen k m is won.past.history won.follows).front
     (gone_all won.past.history won.past.shed c.in-Ok.book.kept c.in-Ok.book.gone c.place-place.result won.keeps.whole won.keeps.gone c.place-place.ensures)
     (omega arith) (omega arith))
+
+pub returns-in-Ok-apply-clause-lost : goal.returns-in-Ok-apply-clause-lost
+returns-in-Ok-apply-clause-lost c =
+    let m = c.self.inside.seat.me in let k = c.self.inside.number in let is = c.self.invariant.sits in
+    let won = c.in-Ok.ensures.taken in
+    let now =
+    now_sitting k m c.publish.new.seat.me c.enter.new.seat.me.0 won.past c.publish.ensures.seat.0 (won.past.shed ++ c.apply.new.self.kept) is won.view
+    (c.publish.ensures.seat.1 won.past (ap (λ v. v.taken) won.view)) in
+    ap (λ x. lost_in x.0.accounts) now ∙ ap (λ v. v.lost) c.self.view_is
