@@ -1,4 +1,6 @@
-/* What carries packets to the link and away from it: two tun interfaces, or UDP sockets. Way 0 is from the client to the server. */
+/* What carries packets to the links and away from them: tun interfaces, or UDP sockets. Each link has two ends and two ways: what comes
+   at end W goes on way W and leaves at the other end. Of the first link way 0 is from the client to the server, and way 1 comes back; the
+   second has ways 2 and 3, and so on. */
 #ifndef CARRIER_H
 #define CARRIER_H
 #include <stdbool.h>
@@ -8,9 +10,16 @@
 
 enum { LONGEST = 65535 }; /* bytes of a packet */
 
+/* A packet, which is behind its prefix. */
+struct bytes {
+    unsigned char *at;
+    size_t len;
+};
+
 struct carrier {
-    int polled[2]; /* a descriptor for each way, which can be read where a packet has come */
-    size_t prefix; /* bytes before each packet that are the carrier's own */
+    int ways;
+    const int *polled; /* a descriptor for each way, which can be read where a packet has come */
+    size_t prefix;     /* bytes before each packet that are the carrier's own */
 
     /* Takes an IP packet of a way, which is behind its prefix and good until the next call, and returns its length: 0 for one that was
        turned away, -1 where none has come. */
@@ -19,19 +28,25 @@ struct carrier {
     /* Whether the next packet of a way came together with the one before. */
     bool (*goes_on)(int way);
 
-    /* Sends one on, which is behind its prefix; false where the system refuses it. */
-    bool (*transmit)(int way, const unsigned char *packet, size_t len);
+    /* Whether a packet can go to the system in one write with so many of its way, behind them. */
+    bool (*joins)(const struct bytes *packets, int count, const struct bytes *next);
+
+    /* Sends some on in one write, whose bytes it may change; false where the system refuses it. */
+    bool (*transmit)(int way, const struct bytes *packets, int count);
 
     /* What is to be done at each turn and at the end. */
     void (*look_after)(uint64_t moment);
     void (*end)(void);
 };
 
-/* The packets of two descriptors that keep them whole. */
-struct carrier plain_carrier(int up, int down);
+/* The way back, whose packets come where those of a way leave. */
+static inline int back(int way) { return way ^ 1; }
 
-/* Those of two tun interfaces, which leave checksums and the cutting of TCP to a card. */
-struct carrier tun_carrier(int up, int down);
+/* The packets of so many descriptors, one for each end, that keep them whole. */
+struct carrier plain_carrier(int count, const int *descriptors);
+
+/* Those of tun interfaces, which leave checksums and the cutting of TCP to a card. */
+struct carrier tun_carrier(int count, const int *descriptors);
 
 /* The datagrams of a bound socket and those of a server, with headers before them as they have on the way from the client to the
    server. The server's address is of the socket's family. */

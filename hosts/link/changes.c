@@ -9,6 +9,7 @@
 #include "held.h"
 #include "links.h"
 #include "losses.h"
+#include "pacing.h"
 
 enum { OUTAGE_PROTOCOL = 255 }; /* of the packet that nobody sent, as no IP packet has it */
 
@@ -31,6 +32,14 @@ void add_line(uint64_t moment, const char *line) {
     add((struct change){.moment = moment, .line = text});
 }
 
+void insert_line(uint64_t moment, const char *line) {
+    add_line(moment, line);
+    for (size_t at = count - 1; at > done && changes[at - 1].moment > moment; at--) {
+        struct change later = changes[at - 1];
+        changes[at - 1] = changes[at], changes[at] = later;
+    }
+}
+
 void add_outage(uint64_t moment, int pipe, uint16_t length) {
     add((struct change){.moment = moment, .pipe = pipe, .length = length});
 }
@@ -43,21 +52,23 @@ static void begin_outage(const struct change *change) {
     struct dn_packet packet = {.moment = change->moment, .length = change->length, .kind = DN_PIPE, .number = (uint16_t)change->pipe,
                                .proto = OUTAGE_PROTOCOL, .word = WORD_OF_NONE};
     struct dn_fate fate;
-    if (has_waiting(change->pipe)) return;
-    submit(&packet, &fate);
+    if (is_paced(change->pipe) ? !is_drained(change->pipe) : has_waiting(change->pipe)) return;
+    submit_paced(&packet, &fate);
     if (fate.outcome == DN_QUEUED) hold(&(struct packet){.number = fate.packet, .way = change->pipe - 1}, NULL, 0);
 }
 
 static void make(const struct change *change) {
+    catch_up(change->moment);
     if (!change->line) {
         begin_outage(change);
         return;
     }
     advance(change->moment);
     const char *wrong = obey(change->line);
+    if (!wrong) note_configured(change->line);
     if (wrong) fprintf(stderr, "hinge: at %.3f s: %s: %s\n", (double)change->moment / 1e9, change->line, wrong);
 }
 
-void make_changes(void) {
-    while (next_change() <= now()) make(&changes[done++]);
+void make_changes(uint64_t moment) {
+    while (next_change() <= moment) make(&changes[done++]);
 }

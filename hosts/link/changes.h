@@ -6,12 +6,15 @@
 /* A line that is obeyed at a moment. Moments don't fall from one of these calls to the next. */
 void add_line(uint64_t moment, const char *line);
 
-/* An outage of a pipe, 1 or 2, that begins at a moment, with the length of the longest packet; a line before it has lowered the rate. */
+/* The same in the midst of the others, after those of its moment. */
+void insert_line(uint64_t moment, const char *line);
+
+/* An outage of the pipe of a way that begins at a moment, with the length of the longest packet; a line before it has lowered the rate. */
 void add_outage(uint64_t moment, int pipe, uint16_t length);
 
 /* The moment of the next change, or DN_NEVER. */
 uint64_t next_change(void);
 
-/* Makes the changes whose moments have come. */
-void make_changes(void);
+/* Makes the changes that are due at a moment. */
+void make_changes(uint64_t moment);
 #endif

@@ -7,6 +7,7 @@
 #include <stdlib.h>
 #include <string.h>
 #include <sys/epoll.h>
+#include <sys/random.h>
 #include <sys/resource.h>
 #include <unistd.h>
 
@@ -29,6 +30,7 @@ static struct client *buckets[BUCKETS], *oldest, *newest;
 static size_t count, most;
 static struct epoll_event ready[AT_ONCE];
 static int ready_count, ready_next;
+static uint64_t keys[2];
 
 int prepare_clients(const union end *to) {
     struct rlimit limit;
@@ -37,6 +39,7 @@ int prepare_clients(const union end *to) {
     setrlimit(RLIMIT_NOFILE, &limit);
     most = limit.rlim_cur <= OTHERS ? 1 : limit.rlim_cur - OTHERS < MOST ? (size_t)limit.rlim_cur - OTHERS : MOST;
     server = *to;
+    if (getrandom(keys, sizeof keys, 0) != sizeof keys) fail("getrandom", strerror(errno));
     if ((waiting = epoll_create1(EPOLL_CLOEXEC)) < 0) fail("epoll", strerror(errno));
     return waiting;
 }
@@ -46,13 +49,15 @@ static bool same(const union end *one, const union end *other) {
     return one->six.sin6_port == other->six.sin6_port && memcmp(&one->six.sin6_addr, &other->six.sin6_addr, 16) == 0;
 }
 
+/* By keys that are drawn for each run, so that nobody can choose ends that share a bucket. */
 static struct client **bucket_of(const union end *end) {
     uint64_t half[2] = {end->four.sin_addr.s_addr, end->four.sin_port};
     if (end->any.sa_family == AF_INET6) {
         memcpy(half, &end->six.sin6_addr, 16);
-        half[1] ^= end->six.sin6_port;
+        half[1] ^= (uint64_t)end->six.sin6_port << 48;
     }
-    return &buckets[(half[0] * 0x9e3779b97f4a7c15 ^ half[1]) * 0x9e3779b97f4a7c15 >> 50];
+    unsigned __int128 product = (unsigned __int128)(half[0] ^ keys[0]) * (half[1] ^ keys[1]);
+    return &buckets[((uint64_t)product ^ (uint64_t)(product >> 64)) % BUCKETS];
 }
 
 static void take_out(struct client *client) {
@@ -135,7 +140,7 @@ struct client *client_of(const union end *end) {
         return NULL;
     }
     client = grown(NULL, sizeof *client);
-    *client = (struct client){.end = *end, .active = now(), .in_bucket = *bucket_of(end)};
+    *client = (struct client){.end = *end, .active = last_moment(), .in_bucket = *bucket_of(end)};
     if ((client->socket = opened(client)) < 0) {
         free(client);
         return NULL;

@@ -9,13 +9,18 @@
 enum { BUCKETS = 65536 };
 static struct packet *held[BUCKETS];
 
-void hold(const struct packet *packet, const unsigned char *bytes, size_t kept) {
-    struct packet *made = grown(NULL, sizeof *made + kept), **bucket = &held[packet->number % BUCKETS];
-    *made = *packet;
-    made->next = *bucket;
-    if (kept) memcpy(made->bytes, bytes, kept);
-    *bucket = made;
+void hold_again(struct packet *packet, uint64_t number) {
+    struct packet **bucket = &held[number % BUCKETS];
+    packet->number = number, packet->next = *bucket;
+    *bucket = packet;
     page->ways[packet->way].held++;
+}
+
+void hold(const struct packet *packet, const unsigned char *bytes, size_t kept) {
+    struct packet *made = grown(NULL, sizeof *made + kept);
+    *made = *packet;
+    if (kept) memcpy(made->bytes, bytes, kept);
+    hold_again(made, packet->number);
 }
 
 struct packet *taken(uint64_t number) {

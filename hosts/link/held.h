@@ -1,6 +1,7 @@
 /* The packets that are in the link, by the number that the library told. */
 #ifndef HELD_H
 #define HELD_H
+#include <stdbool.h>
 #include <stddef.h>
 #include <stdint.h>
 
@@ -8,13 +9,18 @@ struct packet {
     struct packet *next; /* in its bucket */
     uint64_t number;
     int way;
-    uint64_t came; /* the moment */
+    uint64_t came;   /* the moment */
+    uint64_t behind; /* ns by which its first pass was late */
+    bool again;      /* it is in its second pass */
     size_t len; /* 0 for the packet of an outage, which nobody sent */
     unsigned char bytes[];
 };
 
 /* Keeps a packet with `kept` bytes. */
 void hold(const struct packet *packet, const unsigned char *bytes, size_t kept);
+
+/* Puts a packet that was taken back, with another number. */
+void hold_again(struct packet *packet, uint64_t number);
 
 /* Takes a packet out; the caller frees it. */
 struct packet *taken(uint64_t number);

@@ -14,15 +14,19 @@ static struct model {
     uint32_t chances[4];
     bool bad;
     uint64_t *list, length, passed; /* of the list: its numbers, how many there are, and how many lie behind */
-} models[2];
+} *models; /* by ways */
 
-/* splitmix64 of the seed, the way and the number of the word, as hinge/words.py has it. */
-static uint32_t draw(struct model *model) {
-    uint64_t z = model->seed * 0x9e3779b97f4a7c15 + ++model->drawn * 0xd1b54a32d192ed03 + (uint64_t)(model - models) * 0x8cb92ba72f3d8dd7;
+/* splitmix64 of the seed, the stream and the number of the word, as hinge/captures/random_words.py has it. */
+uint32_t drawn_word(uint64_t seed, uint64_t stream, uint64_t number) {
+    uint64_t z = seed * 0x9e3779b97f4a7c15 + number * 0xd1b54a32d192ed03 + stream * 0x8cb92ba72f3d8dd7;
     z = (z ^ z >> 30) * 0xbf58476d1ce4e5b9;
     z = (z ^ z >> 27) * 0x94d049bb133111eb;
     return (uint32_t)((z ^ z >> 31) & WORD_OF_NONE);
 }
+
+static uint32_t draw(struct model *model) { return drawn_word(model->seed, (uint64_t)(model - models), ++model->drawn); }
+
+void prepare_losses(int ways) { models = zeroed((size_t)ways * sizeof *models); }
 
 void set_seed(int way, uint64_t seed) { models[way].seed = seed; }
 

@@ -6,6 +6,9 @@
 /* What a word decides: the first is lost by any loss rate above 0, and the other by none below 1. */
 enum { WORD_OF_A_LOSS = 0, WORD_OF_NONE = 0x7fffffff };
 
+/* To be called once, before all others. */
+void prepare_losses(int ways);
+
 /* Draws from now on as the seed says, each way by itself. */
 void set_seed(int way, uint64_t seed);
 
@@ -17,4 +20,7 @@ void add_to_list(int way, uint64_t number);
 
 /* The random word of the next packet of a way, of 31 bits. */
 uint32_t next_word(int way);
+
+/* The random word with a number, from 1, of a stream. Those of ways have the numbers of the ways. */
+uint32_t drawn_word(uint64_t seed, uint64_t stream, uint64_t number);
 #endif

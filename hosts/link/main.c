@@ -1,35 +1,42 @@
-/* hinge-link: emulated links between two ends, in the process of `hinge run`'s or `hinge udp`'s choosing.
+/* hinge-link: emulated links, each between two ends, in the process of `hinge run`'s, `hinge net`'s or `hinge udp`'s choosing.
 
-     hinge-link tun UP DOWN PAGE < PLAN
+     hinge-link tun END END [END END ..] PAGE < PLAN
      hinge-link udp FRONT ADDRESS PORT PAGE < PLAN
-     hinge-link UP DOWN PAGE < PLAN
+     hinge-link END END [END END ..] PAGE < PLAN
 
-   UP, DOWN, FRONT and PAGE are descriptors: the client's interface and the server's, or a bound socket of UDP, for a server at ADDRESS
-   and PORT; and the page of counts. Without `tun` any UP and DOWN do that keep packets whole: tests take sockets. What comes from the client is on way 0 and goes to pipe 1 where no rule says otherwise; way 1
-   comes back through pipe 2. The links are libhingetulip's; each call and its reply go to the transcript, which `dummynet audit`
-   judges. It ends by SIGTERM. tools/hosts builds it. */
+   END, FRONT and PAGE are descriptors: the interfaces of each link, of the first the client's and the server's; or a bound socket of
+   UDP, for a server at ADDRESS and PORT; and the page of counts. Without `tun` any ends do that keep packets whole: tests take sockets.
+   What comes at the first end, from the client, is on way 0 and goes to pipe 1 where no rule says otherwise; way 1 comes back through
+   pipe 2; of the second link ways 2 and 3 go through pipes 3 and 4, and so on. The links are libhingetulip's, pipes of one shaper; each
+   call and its reply go to one transcript, which `dummynet audit` judges. It ends by SIGTERM. tools/hosts builds it. */
 #define _GNU_SOURCE
 #include <errno.h>
 #include <hingetulip.h>
-#include <poll.h>
 #include <signal.h>
 #include <stdio.h>
 #include <stdlib.h>
 #include <string.h>
 #include <sys/prctl.h>
 #include <sys/signalfd.h>
-#include <time.h>
 #include <unistd.h>
 
 #include "basics.h"
 #include "carrier.h"
 #include "changes.h"
+#include "control.h"
+#include "lateness.h"
 #include "links.h"
+#include "losses.h"
+#include "pacing.h"
 #include "page.h"
+#include "passes.h"
 #include "plan.h"
 #include "transcript.h"
 #include "unread.h"
+#include "waits.h"
 #include "ways.h"
+
+#define USAGE "hinge-link tun END END [END END ..] PAGE < PLAN, or hinge-link udp FRONT ADDRESS PORT PAGE < PLAN"
 
 /* Blocks SIGTERM and returns a descriptor that can be read once it has come. It is polled as the interfaces are: a ppoll that lets
    signals in doesn't do so while an interface has packets. */
@@ -43,60 +50,65 @@ static int signal_descriptor(void) {
     return made;
 }
 
-/* Waits until an interface has a packet, the signal has come, or a moment is there; whether it had to wait. */
-static bool waited(struct pollfd polled[3], uint64_t until) {
-    uint64_t at = now(), wait = until > at ? until - at : 0;
-    struct timespec left = {(time_t)(wait / SECOND), (long)(wait % SECOND)};
-    if (ppoll(polled, 3, until == DN_NEVER ? NULL : &left, NULL) < 0) fail("ppoll", strerror(errno));
-    return wait > 0;
-}
-
-/* One turn at the links, behind a wait that has ended. */
-static void turn(const struct pollfd polled[3], bool slept, uint64_t woken) {
-    bool ready[2] = {polled[0].revents, polled[1].revents};
+/* One turn at the links, behind a wait that has ended. What is due at a moment leaves between the ways. */
+static void turn(const struct wait *wait, uint64_t due) {
     uint64_t moment = now();
-    page->turns++, page->wakes += slept;
-    note_wait(moment, slept, ready);
+    page->turns++, page->wakes += wait->slept;
+    note_wait(moment, wait->slept, wait->ready, wait->count);
     carrier.look_after(moment);
-    make_changes();
-    for (int way = 0; way < 2; way++)
-        if (ready[way]) come(way);
-    if (woken <= now()) leave();
+    make_changes(moment);
+    for (int i = 0; i < wait->count; i++) {
+        come(wait->ready[i]);
+        if (i + 1 < wait->count && due <= last_moment()) leave(), due = wake();
+    }
+    if (due <= last_moment()) leave();
+    remark_lateness(moment);
     page->moment = moment;
 }
 
 /* Goes from moment to moment until the signal comes; false where an interface went away. */
-static bool run(int ended) {
-    struct pollfd polled[3] = {{carrier.polled[0], POLLIN, 0}, {carrier.polled[1], POLLIN, 0}, {ended, POLLIN, 0}};
+static bool run(void) {
     while (true) {
-        uint64_t woken = wake(), changes = next_change();
-        if (woken == DN_NEVER && transcript_is_long()) begin_next_part();
-        bool slept = waited(polled, changes < woken ? changes : woken);
-        if ((polled[0].revents | polled[1].revents) & (POLLERR | POLLHUP | POLLNVAL)) return false;
-        if (polled[2].revents) return true;
-        turn(polled, slept, woken);
+        uint64_t due = wake(), changes = next_change();
+        if (due == DN_NEVER && transcript_is_long()) begin_next_part();
+        struct wait wait = wait_until(changes < due ? changes : due);
+        if (wait.end != PACKETS_OR_MOMENT) return wait.end == SIGNAL;
+        turn(&wait, due);
+        if (wait.control) take_control();
+        hand_on_transcript();
     }
+}
+
+static int *descriptors(int count, char **words) {
+    int *made = grown(NULL, (size_t)count * sizeof *made);
+    for (int i = 0; i < count; i++) made[i] = atoi(words[i]);
+    return made;
 }
 
 /* The carrier that the command line names. */
 static struct carrier named_carrier(int count, char **words) {
+    bool tun = strcmp(words[1], "tun") == 0;
     if (count == 6 && strcmp(words[1], "udp") == 0) return udp_carrier(atoi(words[2]), words[3], words[4]);
-    if (count == 5 && strcmp(words[1], "tun") == 0) return tun_carrier(atoi(words[2]), atoi(words[3]));
-    return plain_carrier(atoi(words[1]), atoi(words[2]));
+    int ends = count - 2 - tun;
+    if (ends < 2 || ends % 2) fail("usage", USAGE);
+    return (tun ? tun_carrier : plain_carrier)(ends, descriptors(ends, words + 1 + tun));
 }
 
 int main(int count, char **words) {
-    if (count < 4) fail("usage", "hinge-link tun UP DOWN PAGE < PLAN, or hinge-link udp FRONT ADDRESS PORT PAGE < PLAN");
-    open_page(atoi(words[count - 1]));
+    if (count < 4) fail("usage", USAGE);
     carrier = named_carrier(count, words);
+    open_page(atoi(words[count - 1]), carrier.ways);
     int ended = signal_descriptor();
     prctl(PR_SET_PDEATHSIG, SIGTERM);
     prctl(PR_SET_TIMERSLACK, 1); /* else the system wakes it up to 50 us after the moment */
     open_links();
+    prepare_losses(carrier.ways), prepare_passes(carrier.ways), prepare_lateness(carrier.ways), prepare_pacing(carrier.ways);
     read_plan();
-    begin_unread();
+    begin_unread(carrier.ways);
+    begin_waits(carrier.polled, carrier.ways, ended, control_descriptor());
     page->state = RUNNING;
-    bool whole = run(ended);
+    bool whole = run();
+    remark_last_lateness(now());
     count_the_rest();
     carrier.end();
     bool kept = close_transcript();

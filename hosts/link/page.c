@@ -8,8 +8,8 @@
 
 struct page *page;
 
-void open_page(int descriptor) {
-    page = mmap(NULL, sizeof *page, PROT_READ | PROT_WRITE, MAP_SHARED, descriptor, 0);
+void open_page(int descriptor, int ways) {
+    page = mmap(NULL, sizeof *page + (size_t)ways * sizeof *page->ways, PROT_READ | PROT_WRITE, MAP_SHARED, descriptor, 0);
     if (page == MAP_FAILED) fail("the page of counts", strerror(errno));
 }
 

@@ -10,12 +10,12 @@ enum {
 enum state { STARTING, RUNNING, ENDED_WELL };
 enum realtime { NOT_ASKED, HAS_IT, NOT_ALLOWED };
 
-/* One direction: way 0 is up, from the client to the server, and way 1 is down. */
+/* One direction of a link. */
 struct way {
     uint64_t came, came_bytes, sent, sent_bytes;
     uint64_t lost, full, no_target; /* by the link */
     uint64_t refused;               /* by the system, behind the link */
-    uint64_t not_ip, turned_away;   /* turned away: of more clients than there can be */
+    uint64_t not_ip, turned_away;   /* turned away: of more clients than there can be, or longer than LONGEST */
     uint64_t dropped;               /* by the system, before the link, as far as this program can see */
     uint64_t held, discarded;       /* packets in the link; those that a delete took out of it */
     uint64_t stayed;                /* ns: the sum of the times that the packets that were sent were in the link */
@@ -25,12 +25,13 @@ struct way {
 
 struct page {
     uint64_t state, moment, wakes, turns, underway, realtime, parts; /* parts: files of the transcript */
-    struct way ways[2];
+    struct way ways[]; /* as carrier.h numbers them: of a link up, from the client to the server, and then down */
 };
 
 extern struct page *page;
 
-void open_page(int descriptor);
+/* Opens the page for so many ways. */
+void open_page(int descriptor, int ways);
 
 /* Counts a time in its bin. */
 void count_time(uint64_t bins[BINS], uint64_t *most, uint64_t ns);

@@ -3,7 +3,7 @@
 
 #include "carrier.h"
 
-static int ends[2];
+static const int *ends;
 
 static ssize_t receive(int way, unsigned char **packet) {
     static unsigned char bytes[LONGEST];
@@ -13,14 +13,16 @@ static ssize_t receive(int way, unsigned char **packet) {
 
 static bool goes_on(int way) { return (void)way, false; }
 
-static bool transmit(int way, const unsigned char *packet, size_t len) { return write(ends[!way], packet, len) >= 0; }
+static bool joins(const struct bytes *packets, int count, const struct bytes *next) { return (void)packets, (void)count, (void)next, false; }
+
+static bool transmit(int way, const struct bytes *packets, int count) { return (void)count, write(ends[back(way)], packets->at, packets->len) >= 0; }
 
 static void look_after(uint64_t moment) { (void)moment; }
 
 static void end(void) {}
 
-struct carrier plain_carrier(int up, int down) {
-    ends[0] = up, ends[1] = down;
-    for (int way = 0; way < 2; way++) fcntl(ends[way], F_SETFL, O_NONBLOCK);
-    return (struct carrier){{up, down}, 0, receive, goes_on, transmit, look_after, end};
+struct carrier plain_carrier(int count, const int *descriptors) {
+    ends = descriptors;
+    for (int way = 0; way < count; way++) fcntl(ends[way], F_SETFL, O_NONBLOCK);
+    return (struct carrier){count, ends, 0, receive, goes_on, joins, transmit, look_after, end};
 }

@@ -10,13 +10,17 @@
 
 #include "basics.h"
 #include "changes.h"
+#include "control.h"
 #include "links.h"
 #include "losses.h"
+#include "pacing.h"
 #include "page.h"
+#include "passes.h"
 #include "rules.h"
 #include "transcript.h"
+#include "ways.h"
 
-enum { PRIORITY = 10 }; /* of the scheduler's first-in-first-out class */
+enum { PRIORITY = 10, MOST_PIPE = 65535 }; /* of the scheduler's first-in-first-out class; a pipe's greatest number */
 
 _Noreturn static void refuse(const char *line, const char *wrong) {
     fprintf(stderr, "hinge: %s: %s\n", line, wrong);
@@ -37,6 +41,7 @@ static bool read_line(const char *rest) {
     const char *wrong = wrong_with(rest);
     if (wrong) refuse(rest, wrong);
     obey(rest);
+    note_configured(rest);
     return true;
 }
 
@@ -56,8 +61,33 @@ static bool read_outage(const char *rest) {
     uint64_t moment;
     int pipe;
     uint16_t length;
-    if (sscanf(rest, "%" SCNu64 " %d %" SCNu16, &moment, &pipe, &length) != 3 || (pipe != 1 && pipe != 2)) return false;
+    if (sscanf(rest, "%" SCNu64 " %d %" SCNu16, &moment, &pipe, &length) != 3 || pipe < 1 || pipe > carrier.ways) return false;
     add_outage(moment, pipe, length);
+    return true;
+}
+
+/* hold PIPE FROM TO: an outage, in ns. */
+static bool read_hold(const char *rest) {
+    int pipe;
+    uint64_t from, to;
+    if (sscanf(rest, "%d %" SCNu64 " %" SCNu64, &pipe, &from, &to) != 3 || pipe < 1 || pipe > carrier.ways || to < from) return false;
+    add_hold(pipe, from, to);
+    return true;
+}
+
+/* slots PIPE MS ..: the moments of a trace, ascending, of which the last isn't 0. */
+static bool read_slots(const char *rest) {
+    char *end;
+    size_t count = 0, room = strlen(rest);
+    long pipe = strtol(rest, &end, 10);
+    uint32_t *moments = grown(NULL, (room + 1) * sizeof *moments);
+    if (pipe < 1 || pipe > carrier.ways) return false;
+    for (char *at = end; *at; at = end, count++) {
+        moments[count] = (uint32_t)strtoul(at, &end, 10);
+        if (end == at || (count && moments[count] < moments[count - 1])) return false;
+    }
+    if (!count || !moments[count - 1]) return false;
+    add_slots((int)pipe, moments, count);
     return true;
 }
 
@@ -82,7 +112,7 @@ static bool read_map(const char *rest) {
 /* The way at the front of a text, and what is behind it; NULL for none. */
 static const char *read_way(const char *rest, int *way) {
     int at;
-    return sscanf(rest, "%d %n", way, &at) == 1 && (*way == 0 || *way == 1) ? rest + at : NULL;
+    return sscanf(rest, "%d %n", way, &at) == 1 && *way >= 0 && *way < carrier.ways ? rest + at : NULL;
 }
 
 /* seed WAY N */
@@ -90,6 +120,7 @@ static bool read_seed(const char *rest) {
     int way;
     const char *number = read_way(rest, &way);
     if (number) set_seed(way, strtoull(number, NULL, 10));
+    if (number && way == 0) remark_seed(strtoull(number, NULL, 10)); /* both ways have the same, and draw apart */
     return number;
 }
 
@@ -108,8 +139,33 @@ static bool read_gilbert(const char *rest) {
 static bool read_list(const char *rest) {
     int way;
     const char *text = read_way(rest, &way);
-    for (char *end; text && *text; text = end) add_to_list(way, strtoull(text, &end, 10));
+    for (char *end; text && *text; text = end) {
+        uint64_t number = strtoull(text, &end, 10);
+        if (end == text) return false;
+        add_to_list(way, number);
+    }
     return text;
+}
+
+/* jitter WAY FIRST COUNT SEED: the pipes of a second pass. */
+static bool read_jitter(const char *rest) {
+    int way, first, count;
+    uint64_t seed;
+    const char *text = read_way(rest, &way);
+    if (!text || sscanf(text, "%d %d %" SCNu64, &first, &count, &seed) != 3 || first < 1 || count < 1 || first + count > MOST_PIPE + 1) return false;
+    set_jitter(way, first, count, seed);
+    return true;
+}
+
+/* copies WAY CHANCE SEED: the chance of 2^31 that a packet enters twice. */
+static bool read_copies(const char *rest) {
+    int way;
+    uint32_t chance;
+    uint64_t seed;
+    const char *text = read_way(rest, &way);
+    if (!text || sscanf(text, "%" SCNu32 " %" SCNu64, &chance, &seed) != 2) return false;
+    set_copies(way, chance, seed);
+    return true;
 }
 
 static bool read_realtime(const char *rest) {
@@ -118,11 +174,34 @@ static bool read_realtime(const char *rest) {
     return *rest == 0;
 }
 
+/* simulated: time passes only while all wait. So none passes in a turn of this program, if it comes before all others. */
+static bool read_simulated(const char *rest) {
+    if (page->realtime == HAS_IT) let_time_stand();
+    return *rest == 0;
+}
+
+/* epoch NS: the time at which moments begin, by the system's monotonic clock. */
+static bool read_epoch(const char *rest) {
+    char *end;
+    begin_at(strtoull(rest, &end, 10));
+    return end > rest && *end == 0;
+}
+
+static bool read_remark(const char *rest) { return remark(rest), true; }
+
+/* control DESCRIPTOR: where lines come from while packets pass. */
+static bool read_control(const char *rest) { return open_control(atoi(rest)), atoi(rest) > 0; }
+
+/* contents: each packet is told by its content, as path audits need it. */
+static bool read_contents(const char *rest) { return tell_contents(), *rest == 0; }
+
 static bool read_one(const char *line) {
     static const struct { const char *word; bool (*read)(const char *rest); } kinds[] = {
-        {"transcript ", read_transcript}, {"line ", read_line},       {"at ", read_change},  {"outage ", read_outage},
-        {"map ", read_map},               {"seed ", read_seed},       {"gilbert ", read_gilbert}, {"list ", read_list},
-        {"realtime", read_realtime},
+        {"transcript ", read_transcript}, {"line ", read_line},     {"at ", read_change},         {"outage ", read_outage},
+        {"map ", read_map},               {"seed ", read_seed},     {"gilbert ", read_gilbert},   {"list ", read_list},
+        {"realtime", read_realtime},      {"epoch ", read_epoch},   {"remark ", read_remark},     {"contents", read_contents},
+        {"hold ", read_hold},             {"slots ", read_slots},   {"control ", read_control},
+        {"jitter ", read_jitter},         {"copies ", read_copies}, {"simulated", read_simulated},
     };
     for (size_t i = 0; i < sizeof kinds / sizeof *kinds; i++)
         if (strncmp(line, kinds[i].word, strlen(kinds[i].word)) == 0) return kinds[i].read(line + strlen(kinds[i].word));

@@ -15,6 +15,6 @@ struct rule {
 
 void add_rule(const struct rule *rule);
 
-/* Sends a packet to what the first rule that fits names, else to the pipe of its way: 1 up, 2 down. */
+/* Sends a packet to what the first rule that fits names, else to the pipe of its way, whose number is by 1 above the way's. */
 void classify(int way, const struct headers *headers, struct dn_packet *packet);
 #endif

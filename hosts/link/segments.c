@@ -37,8 +37,7 @@ void begin_cutting(struct whole *whole, size_t len) {
     if (whole->before < len) memcpy(whole->headers, whole->bytes + NOTE, whole->before);
 }
 
-/* The length in the IP header, the number of an IPv4 packet, and the checksum of its header. */
-static void fit_ip(unsigned char *ip, size_t len, size_t number) {
+void fit_ip(unsigned char *ip, size_t len, size_t number) {
     unsigned long sum = 0;
     if (ip[0] >> 4 == 6) {
         put_two(ip + IPV6_LENGTH, (unsigned)(len - IPV6_HEADER));
@@ -51,14 +50,18 @@ static void fit_ip(unsigned char *ip, size_t len, size_t number) {
     put_two(ip + IPV4_CHECKSUM, ~folded(sum));
 }
 
-/* The place in the stream, the flags, and in the checksum's place the sum that a card goes on from: it has the length of TCP. */
+void fit_tcp_length(unsigned char *tcp, size_t was, size_t is) {
+    put_two(tcp + TCP_CHECKSUM, folded(two(tcp + TCP_CHECKSUM) + (0xffff - was % 0x10000) + is));
+}
+
+/* The place in the stream, the flags, and what the checksum goes on from. */
 static void fit_tcp(unsigned char *tcp, size_t before, bool is_last, size_t whole_length, size_t length) {
     unsigned long sequence = (unsigned long)two(tcp + TCP_SEQUENCE) << 16 | two(tcp + TCP_SEQUENCE + 2);
     sequence += before;
     put_two(tcp + TCP_SEQUENCE, (unsigned)(sequence >> 16)), put_two(tcp + TCP_SEQUENCE + 2, (unsigned)sequence);
     if (!is_last) tcp[TCP_FLAGS] &= (unsigned char)~(FIN | PUSH);
     if (before > 0) tcp[TCP_FLAGS] &= (unsigned char)~WINDOW_REDUCED;
-    put_two(tcp + TCP_CHECKSUM, folded(two(tcp + TCP_CHECKSUM) + (0xffff - whole_length % 0x10000) + length));
+    fit_tcp_length(tcp, whole_length, length);
 }
 
 size_t cut_next(struct whole *whole, unsigned char **packet) {

@@ -6,8 +6,10 @@
 #include <inttypes.h>
 #include <signal.h>
 #include <stdio.h>
+#include <stdio_ext.h>
 #include <stdlib.h>
 #include <string.h>
+#include <sys/file.h>
 #include <sys/wait.h>
 #include <unistd.h>
 
@@ -34,10 +36,13 @@ _Noreturn static void write_file(int from, int to, const char *path) {
     _exit(0);
 }
 
-/* Begins a part. A process of its own writes it, so that a slow disk keeps no packet waiting. */
+/* Begins a part. A process of its own writes it, so that a slow disk keeps no packet waiting. It is locked against other runs before it is
+   emptied. */
 static void begin(const char *path) {
-    int made = open(path, O_WRONLY | O_CREAT | O_TRUNC | O_CLOEXEC, 0666), ends[2];
+    int made = open(path, O_WRONLY | O_CREAT | O_CLOEXEC, 0666), ends[2];
     if (made < 0) fail(path, strerror(errno));
+    if (flock(made, LOCK_EX | LOCK_NB) < 0 && errno == EWOULDBLOCK) fail(path, "another run writes it"); /* until its writer ends */
+    if (ftruncate(made, 0) < 0 && errno != EINVAL) fail(path, strerror(errno)); /* a pipe has no length */
     if (pipe2(ends, O_CLOEXEC) < 0 || (writer = fork()) < 0) fail("the transcript", strerror(errno));
     if (writer == 0) {
         close(ends[1]);
@@ -55,6 +60,10 @@ static void begin(const char *path) {
 void open_transcript(const char *path, uint64_t most) {
     name = strdup(path), longest = most;
     begin(path);
+}
+
+void hand_on_transcript(void) {
+    if (file && __fpending(file) > BUFFER / 2) fflush(file);
 }
 
 bool transcript_is_long(void) { return file && submits && bytes > longest; }
@@ -135,10 +144,38 @@ void keep_configure(const char *line, const char *reply) {
     put("c,0,configure,"), put(line), put("\nr,"), put(reply), put("\n");
 }
 
+void remark(const char *words) {
+    if (file) put("#,"), put(words), put("\n");
+}
+
+void remark_content(uint64_t content) {
+    static const char digits[] = "0123456789abcdef";
+    char text[] = "#,content,0123456789abcdef\n";
+    if (!file) return;
+    for (char *at = text + sizeof text - 2; *--at != ','; content >>= 4) *at = digits[content & 15];
+    put(text);
+}
+
+void remark_refused(uint64_t packet) {
+    if (file) put("#,refused"), put_number(',', packet), put("\n");
+}
+
 void remark_address(uint32_t stand_in, const unsigned char address[16]) {
     char text[8];
     if (!file) return;
     put("#,address"), put_address(stand_in), put(",");
     for (int i = 0; i < 16; i++) snprintf(text, sizeof text, i % 2 || !i ? "%02x" : ":%02x", address[i]), put(text);
+    put("\n");
+}
+
+void remark_seed(uint64_t seed) {
+    if (!file) return;
+    put("#,seed"), put_number(',', seed), put("\n");
+}
+
+void remark_late(uint64_t moment, const uint64_t *most, size_t count) {
+    if (!file) return;
+    put("#,late"), put_number(',', moment);
+    for (size_t i = 0; i < count; i++) put_number(',', most[i]);
     put("\n");
 }

@@ -8,6 +8,9 @@
 /* Opens a transcript of that name, whose parts are not much longer than `most` bytes where the link is ever idle. */
 void open_transcript(const char *path, uint64_t most);
 
+/* Hands much that was kept on to the process that writes it, which may have this program wait. Called between turns. */
+void hand_on_transcript(void);
+
 /* Whether the present part is longer than a part should be, and has a packet. */
 bool transcript_is_long(void);
 
@@ -22,6 +25,19 @@ void keep_collect(uint64_t moment, const struct dn_delivery *list, uint64_t coun
 void keep_advance(uint64_t moment, uint64_t at);
 void keep_configure(const char *line, const char *reply);
 
+/* A remark of any words. */
+void remark(const char *words);
+
+/* A remark on the packet of the next submit, and one on a packet that was delivered and that the system refused. */
+void remark_content(uint64_t content);
+void remark_refused(uint64_t packet);
+
 /* A remark: which IPv6 address one of IPv4 stands for. */
 void remark_address(uint32_t stand_in, const unsigned char address[16]);
+
+/* A remark: the seed of what is drawn. */
+void remark_seed(uint64_t seed);
+
+/* A remark: until this moment, since the one before it, the most that each way was late and unread, in ns. */
+void remark_late(uint64_t moment, const uint64_t *most, size_t count);
 #endif

@@ -11,22 +11,23 @@
 #include "datagram.h"
 #include "page.h"
 
-static int front;
+static int front, polled[2];
 static union end server;
 
-/* A datagram of a client. Those of clients that there can't be are turned away. */
+/* Turns a datagram away. It is dropped whole, and counted. */
+static ssize_t turn_away(int way) { return page->ways[way].turned_away++, 0; }
+
+/* A datagram of a client. Those of clients that there can't be are turned away, and those longer than a packet of a link, with its headers:
+   IPv6 has some. MSG_TRUNC has their true length told. */
 static ssize_t receive_from_client(unsigned char *bytes) {
     size_t headers = headers_length(server.any.sa_family);
     union end from;
     socklen_t length = sizeof from;
-    ssize_t data = recvfrom(front, bytes + headers, LONGEST - headers, MSG_DONTWAIT, &from.any, &length);
+    ssize_t data = recvfrom(front, bytes + headers, LONGEST - headers, MSG_DONTWAIT | MSG_TRUNC, &from.any, &length);
     if (data < 0) return -1;
-    struct client *client = client_of(&from);
-    if (!client) {
-        page->ways[0].turned_away++;
-        return 0;
-    }
-    note_active(client, now());
+    struct client *client = (size_t)data > LONGEST - headers ? NULL : client_of(&from);
+    if (!client) return turn_away(0);
+    note_active(client, last_moment());
     write_headers(bytes, (size_t)data, &from, &server);
     return (ssize_t)headers + data;
 }
@@ -39,9 +40,10 @@ static void note_refused(void) {
 static ssize_t receive_from_server(unsigned char *bytes) {
     size_t headers = headers_length(server.any.sa_family);
     for (struct client *client; (client = ready_client());) {
-        ssize_t data = recv(client->socket, bytes + headers, LONGEST - headers, MSG_DONTWAIT);
+        ssize_t data = recv(client->socket, bytes + headers, LONGEST - headers, MSG_DONTWAIT | MSG_TRUNC);
+        if (data >= 0 && (size_t)data > LONGEST - headers) return turn_away(1);
         if (data >= 0) {
-            note_active(client, now());
+            note_active(client, last_moment());
             write_headers(bytes, (size_t)data, &server, &client->end);
             return (ssize_t)headers + data;
         }
@@ -66,12 +68,17 @@ static bool to_server(int socket, const unsigned char *data, size_t len) {
     return send(socket, data, len, MSG_DONTWAIT) >= 0;
 }
 
-static bool transmit(int way, const unsigned char *bytes, size_t len) {
+static bool joins(const struct bytes *packets, int count, const struct bytes *next) { return (void)packets, (void)count, (void)next, false; }
+
+static bool transmit(int way, const struct bytes *packets, int count) {
+    const unsigned char *bytes = packets->at;
+    size_t len = packets->len;
+    (void)count;
     union end end = client_end(way, bytes);
     size_t headers = headers_length(end.any.sa_family);
     struct client *client = known_client(&end);
     if (!client) return false; /* it was let go */
-    note_active(client, now());
+    note_active(client, last_moment());
     if (way == 0) return to_server(client->socket, bytes + headers, len - headers);
     return sendto(front, bytes + headers, len - headers, MSG_DONTWAIT, &client->end.any, end_length(end.any.sa_family)) >= 0;
 }
@@ -87,5 +94,6 @@ struct carrier udp_carrier(int descriptor, const char *address, const char *port
     else if (inet_pton(AF_INET6, address, &server.six.sin6_addr) == 1) server.six.sin6_family = AF_INET6, server.six.sin6_port = htons((uint16_t)atoi(port));
     else fail(address, "no address");
     give_room(front);
-    return (struct carrier){{front, prepare_clients(&server)}, 0, receive, goes_on, transmit, let_go_of_quiet_clients, end};
+    polled[0] = front, polled[1] = prepare_clients(&server);
+    return (struct carrier){2, polled, 0, receive, goes_on, joins, transmit, let_go_of_quiet_clients, end};
 }

@@ -7,13 +7,18 @@
 #include <unistd.h>
 
 #include "basics.h"
+#include "lateness.h"
 #include "page.h"
 
 static int schedstat = -1;
-static uint64_t caught_up[2]; /* the last moment at which an interface is known to have had nothing */
-static uint64_t taken[2], taken_at[2][QUEUE]; /* how many, and when each of the last was */
-static uint64_t lain[2];                      /* how long the last can have lain */
-static bool emptied[2] = {true, true}; /* whether all that an interface had was taken */
+static uint64_t waits, waited; /* how many have ended, and when the last did */
+static struct interface {
+    uint64_t caught_up;              /* the last moment at which it is known to have had nothing */
+    uint64_t ready_at;               /* the last wait that found something there */
+    uint64_t taken, taken_at[QUEUE]; /* how many, and when each of the last was */
+    uint64_t lain;                   /* how long the last can have lain */
+    bool unemptied;                  /* whether something that it had can have been left */
+} *interfaces; /* by ways */
 
 /* ns for which this program waited for a processor since the last time that it was asked. */
 static uint64_t queued_for_processor(void) {
@@ -28,28 +33,40 @@ static uint64_t queued_for_processor(void) {
     return more;
 }
 
-void begin_unread(void) {
-    schedstat = open("/proc/thread-self/schedstat", O_RDONLY | O_CLOEXEC);
+void begin_unread(int ways) {
+    interfaces = zeroed((size_t)ways * sizeof *interfaces);
+    if (!time_stands()) schedstat = open("/proc/thread-self/schedstat", O_RDONLY | O_CLOEXEC);
     queued_for_processor();
-    caught_up[0] = caught_up[1] = now();
+    waited = now(), waits = 1;
 }
 
 void note_taken(int way, uint64_t moment) {
-    uint64_t *taken_then = &taken_at[way][taken[way]++ % QUEUE];
-    lain[way] = moment - (*taken_then > caught_up[way] ? *taken_then : caught_up[way]);
+    struct interface *it = &interfaces[way];
+    uint64_t *taken_then = &it->taken_at[it->taken++ % QUEUE];
+    it->lain = moment - (*taken_then > it->caught_up ? *taken_then : it->caught_up);
     *taken_then = moment;
 }
 
-void count_unread(int way) { count_time(page->ways[way].unread, &page->ways[way].unread_most, lain[way]); }
+void count_unread(int way) {
+    count_time(page->ways[way].unread, &page->ways[way].unread_most, interfaces[way].lain);
+    note_lateness(way, UNREAD, interfaces[way].lain);
+}
 
-void note_empty(int way, uint64_t moment) { caught_up[way] = moment, emptied[way] = true; }
+void note_empty(int way, uint64_t moment) { interfaces[way].caught_up = moment, interfaces[way].unemptied = false; }
 
-void note_unemptied(int way) { emptied[way] = false; }
+void note_unemptied(int way) { interfaces[way].unemptied = true; }
 
-void note_wait(uint64_t moment, bool slept, const bool ready[2]) {
+static void note_had_nothing(struct interface *it, uint64_t moment) {
+    if (moment > it->caught_up) it->caught_up = moment;
+}
+
+void note_wait(uint64_t moment, bool slept, const int *ready, int count) {
     uint64_t lay = slept ? queued_for_processor() : 0;
-    for (int way = 0; way < 2; way++) {
-        uint64_t since = !ready[way] ? moment : slept && emptied[way] && lay < moment ? moment - lay : 0;
-        if (since > caught_up[way]) caught_up[way] = since;
+    for (int i = 0; i < count; i++) {
+        struct interface *it = &interfaces[ready[i]];
+        if (it->ready_at != waits) note_had_nothing(it, waited);
+        if (slept && !it->unemptied && lay < moment) note_had_nothing(it, moment - lay);
+        it->ready_at = waits + 1;
     }
+    waits++, waited = moment;
 }

@@ -7,7 +7,7 @@
 
 enum { QUEUE = 10000 }; /* packets that the system keeps, as rooms.py asks for */
 
-void begin_unread(void);
+void begin_unread(int ways);
 
 /* Something that the system kept as one packet was taken of a way at a moment. */
 void note_taken(int way, uint64_t moment);
@@ -15,13 +15,14 @@ void note_taken(int way, uint64_t moment);
 /* Counts how long a packet in it can have lain. */
 void count_unread(int way);
 
-/* The interface of a way had nothing more at a moment. */
+/* The interface of a way had nothing more at a moment: that at which it was found empty, or an earlier one behind the last packet that was
+   taken of it. */
 void note_empty(int way, uint64_t moment);
 
 /* This program takes from the interface of a way, and may leave something there. */
 void note_unemptied(int way);
 
-/* A wait has ended at a moment: what each interface had then. `slept` where it was a wait at all: what woke it then came when this
-   program was put into the queue for a processor, and not before. */
-void note_wait(uint64_t moment, bool slept, const bool ready[2]);
+/* A wait has ended at a moment, at which the interfaces of these ways had something, and all others had nothing. `slept` where it was
+   a wait at all: what woke it then came when this program was put into the queue for a processor, and not before. */
+void note_wait(uint64_t moment, bool slept, const int *ready, int count);
 #endif

@@ -1,9 +1,12 @@
-/* What passes through the link: way 0 is from the client to the server. */
+/* What passes through the links, by the ways of carrier.h. */
 #ifndef WAYS_H
 #define WAYS_H
 #include "carrier.h"
 
 extern struct carrier carrier;
+
+/* Has the transcript tell by what each packet is known again on another link. */
+void tell_contents(void);
 
 /* Takes what has come of a way, some packets at most. */
 void come(int way);

@@ -1,0 +1,18 @@
+/* The most by which each way was late, and let packets lie unread: a remark in the transcript for each second in which packets passed, so
+   that a stall of the host is seen beside what the links did. */
+#ifndef LATENESS_H
+#define LATENESS_H
+#include <stdint.h>
+
+enum lateness { LATE, UNREAD, LATENESSES };
+
+/* Room for so many ways. */
+void prepare_lateness(int ways);
+
+/* A packet of a way was late, or can have lain unread, by so many ns. */
+void note_lateness(int way, enum lateness which, uint64_t ns);
+
+/* Writes the remark once a second has passed since the first packet that it is about, or at the end. */
+void remark_lateness(uint64_t moment);
+void remark_last_lateness(uint64_t moment);
+#endif

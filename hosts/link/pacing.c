@@ -1,0 +1,169 @@
+#define _GNU_SOURCE
+#include "pacing.h"
+
+#include <inttypes.h>
+#include <stdio.h>
+#include <stdlib.h>
+#include <string.h>
+
+#include "basics.h"
+#include "links.h"
+#include "slots.h"
+
+#define MOST_RATE (1000 * SECOND) /* bit/s */
+
+struct hold {
+    uint64_t from, to;
+};
+
+static struct pipe {
+    struct slots slots;
+    struct hold *holds; /* those before `held` are over */
+    size_t hold_count, held;
+    char *front, *behind; /* the pipe's line, before and behind its bandwidth; NULL where the pipe isn't configured */
+    uint64_t bandwidth;   /* bit/s of its line, 0 for none */
+    uint64_t in_force;    /* bit/s: what the links have now */
+    uint64_t free_at;     /* the end of the last transmission that has begun */
+    uint64_t first_rate;  /* of the first packet that waits */
+    uint32_t *waiting;    /* bytes of the packets that wait, in a ring */
+    size_t first, count, room;
+} *pipes; /* those that are paced */
+static int pipe_count, most;
+static int *place_of; /* by numbers: from 1, or 0 */
+
+void prepare_pacing(int count) { place_of = zeroed((size_t)(count + 1) * sizeof *place_of), most = count; }
+
+static struct pipe *paced(int number) { return number >= 1 && number <= most && place_of[number] ? &pipes[place_of[number] - 1] : NULL; }
+
+static struct pipe *made(int number) {
+    if (!place_of[number]) {
+        pipes = grown(pipes, (size_t)(pipe_count + 1) * sizeof *pipes);
+        pipes[pipe_count] = (struct pipe){0};
+        place_of[number] = ++pipe_count;
+    }
+    return paced(number);
+}
+
+void add_slots(int pipe, const uint32_t *moments, size_t count) { made(pipe)->slots = (struct slots){.moments = moments, .count = count}; }
+
+void add_hold(int number, uint64_t from, uint64_t to) {
+    struct pipe *pipe = made(number);
+    pipe->holds = grown(pipe->holds, (pipe->hold_count + 1) * sizeof *pipe->holds);
+    pipe->holds[pipe->hold_count++] = (struct hold){from, to};
+}
+
+bool is_paced(int number) { return paced(number); }
+
+bool is_drained(int number) { return !paced(number)->count; }
+
+static void let_wait(struct pipe *pipe, uint32_t bytes) {
+    if (pipe->count == pipe->room) {
+        size_t room = pipe->room ? 2 * pipe->room : 64;
+        uint32_t *ring = grown(NULL, room * sizeof *ring);
+        for (size_t i = 0; i < pipe->count; i++) ring[i] = pipe->waiting[(pipe->first + i) % pipe->room];
+        free(pipe->waiting);
+        pipe->waiting = ring, pipe->room = room, pipe->first = 0;
+    }
+    pipe->waiting[(pipe->first + pipe->count++) % pipe->room] = bytes;
+}
+
+/* The end of the outage in which a moment is, or the moment. */
+static uint64_t after_hold(struct pipe *pipe, uint64_t moment) {
+    while (pipe->held < pipe->hold_count && pipe->holds[pipe->held].to <= moment) pipe->held++;
+    bool is_held = pipe->held < pipe->hold_count && pipe->holds[pipe->held].from <= moment;
+    return is_held ? pipe->holds[pipe->held].to : moment;
+}
+
+/* The rate at which so many bits take a time, in ns, or a little longer. It always has a limit: without one the links would let the next
+   packet begin at the same moment, before it has its rate. */
+static uint64_t rate_for(uint64_t bits, uint64_t time) {
+    uint64_t rate = time ? bits * SECOND / time : MOST_RATE;
+    return rate < 1 ? 1 : rate > MOST_RATE ? MOST_RATE : rate;
+}
+
+/* The rate of a packet that begins at a moment, behind another one that it waited for or not. */
+static uint64_t rate_of(struct pipe *pipe, uint64_t begin, uint32_t bytes, bool waited) {
+    uint64_t from = after_hold(pipe, begin), bits = (uint64_t)bytes * 8;
+    if (!pipe->slots.moments) return from == begin ? pipe->bandwidth : rate_for(bits, from - begin);
+    if (!waited || from != begin) seek(&pipe->slots, from, SLOT);
+    uint64_t end = take_slots(&pipe->slots, bytes, SLOT);
+    return rate_for(bits, end > begin ? end - begin : 0);
+}
+
+static void set_rate(struct pipe *pipe, uint64_t rate) {
+    char *line = NULL;
+    if (rate == pipe->in_force || !pipe->front) return;
+    int len = rate ? asprintf(&line, "%s bw %" PRIu64 "bit/s%s", pipe->front, rate, pipe->behind) : asprintf(&line, "%s%s", pipe->front, pipe->behind);
+    if (len < 0) fail("the links", "out of memory");
+    const char *wrong = obey(line);
+    if (wrong) fail(line, wrong);
+    free(line);
+    pipe->in_force = rate;
+}
+
+/* ns that so many bytes take. */
+static uint64_t transmission(uint32_t bytes, uint64_t rate) { return rate ? ((uint64_t)bytes * 8 * SECOND + rate - 1) / rate : 0; }
+
+/* The first that waits gets its rate, before it begins. */
+static void prepare_first(struct pipe *pipe) {
+    if (!pipe->count) return;
+    pipe->first_rate = rate_of(pipe, pipe->free_at, pipe->waiting[pipe->first], true);
+    set_rate(pipe, pipe->first_rate);
+}
+
+static struct pipe *next_to_begin(uint64_t moment) {
+    struct pipe *found = NULL;
+    for (int i = 0; i < pipe_count; i++)
+        if (pipes[i].count && pipes[i].free_at <= moment && (!found || pipes[i].free_at < found->free_at)) found = &pipes[i];
+    return found;
+}
+
+void catch_up(uint64_t moment) {
+    for (struct pipe *pipe; (pipe = next_to_begin(moment));) {
+        uint32_t bytes = pipe->waiting[pipe->first];
+        pipe->first = (pipe->first + 1) % pipe->room, pipe->count--;
+        advance(pipe->free_at);
+        pipe->free_at += transmission(bytes, pipe->in_force);
+        prepare_first(pipe);
+    }
+}
+
+void submit_paced(const struct dn_packet *packet, struct dn_fate *fate) {
+    struct pipe *pipe = packet->kind == DN_PIPE ? paced(packet->number) : NULL;
+    bool begins = pipe && !pipe->count && pipe->free_at <= packet->moment;
+    struct slots before = pipe ? pipe->slots : (struct slots){0};
+    if (begins) set_rate(pipe, rate_of(pipe, packet->moment, packet->length, false));
+    submit(packet, fate);
+    if (!pipe || fate->outcome != DN_QUEUED) {
+        if (pipe) pipe->slots = before;
+        return;
+    }
+    if (begins) pipe->free_at = packet->moment + transmission(packet->length, pipe->in_force);
+    else {
+        let_wait(pipe, packet->length);
+        if (pipe->count == 1) prepare_first(pipe);
+    }
+}
+
+/* Splits the line of a pipe at its bandwidth. */
+static void keep_line(struct pipe *pipe, const char *line) {
+    const char *found = strstr(line, " bw "), *value = found ? found + strlen(" bw ") : NULL;
+    free(pipe->front), free(pipe->behind);
+    pipe->bandwidth = pipe->in_force = found ? strtoull(value, NULL, 10) : 0;
+    pipe->front = found ? strndup(line, (size_t)(found - line)) : strdup(line);
+    pipe->behind = strdup(found ? value + strcspn(value, " ") : "");
+    if (!pipe->front || !pipe->behind) fail("the links", "out of memory");
+}
+
+void note_configured(const char *line) {
+    int number;
+    struct pipe *pipe;
+    if (sscanf(line, "pipe %d", &number) == 1 && (pipe = paced(number))) {
+        keep_line(pipe, line);
+        if (pipe->slots.moments && pipe->count) set_rate(pipe, pipe->first_rate);
+        else prepare_first(pipe);
+    } else if (sscanf(line, "pipe delete %d", &number) == 1 && (pipe = paced(number))) {
+        free(pipe->front);
+        pipe->front = NULL, pipe->count = 0;
+    }
+}
