@@ -1,7 +1,7 @@
 """Builds the wheel, from release/ and without a compiler: a backend of PEP 517 that needs nothing but Python.
 
-The wheel is the same, byte by byte, wherever and whenever it is built: its files come in order, stored, with one date. It is refused
-where release/ was built from other sources than those that are here.
+The wheel is the same, byte by byte, wherever and whenever it is built: its files come in order, stored, with one date.
+It is refused where release/ was built from other sources than those that are here.
 """
 
 from __future__ import annotations
@@ -17,12 +17,25 @@ from pathlib import Path
 from typing import Iterator, NamedTuple, Optional
 
 HERE = Path(__file__).resolve().parent
-TOP = HERE.parent
+
+
+def clone() -> Path:
+    """The clone: the folder above this one, or the one in which pip was called, since pip before 21.3 builds from a
+    copy of this folder alone."""
+    called = Path(os.environ.get("PWD", "/"))
+    for folder in (HERE.parent, called, called.parent):
+        if (folder / "VERSION").is_file() and (folder / "python" / "build_wheel.py").is_file():
+            return folder
+    raise SystemExit("this folder isn't in its clone, since pip before 21.3 copies it: in the clone's folder do pip "
+                     "install ./python, or pip install --upgrade pip")
+
+
+TOP = clone()
 RELEASE = TOP / "release"
 NAME = "hingetulip"
 VERSION = (TOP / "VERSION").read_text(encoding="ascii").strip()
 BASE = f"{NAME}-{VERSION}"
-PACKAGES = ("hingetulip", "hinge")
+PACKAGES = ("hingetulip", "hingetulip_words", "hinge")
 TAG = "py3-none-manylinux_2_34_x86_64"
 LIBRARY = "libhingetulip.so.1"
 HOSTS = {"hinge-link": "hinge/run/hinge-link", "hinge-shard": "hinge/hinge-shard",
@@ -65,7 +78,8 @@ class File(NamedTuple):
 
 def released(name: str, sources: str, crate: str) -> Path:
     """A file of the release, if it was built from the present sources."""
-    present = subprocess.run([TOP / "tools" / "program_sources", crate], capture_output=True, text=True, check=True).stdout
+    present = subprocess.run([TOP / "tools" / "program_sources", crate], capture_output=True, text=True,
+                             check=True).stdout
     noted = RELEASE / sources
     if not noted.is_file() or noted.read_text() != present:
         raise SystemExit(f"release/{name} isn't of these sources: tools/release makes it anew")
@@ -78,7 +92,8 @@ def library() -> Path:
 
 def manual(name: str) -> bytes:
     """A manual page, with the version in its last line."""
-    return (TOP / "docs" / name).read_text(encoding="utf-8").replace("\n.Os\n", f"\n.Os Hingetulip {VERSION}\n", 1).encode()
+    return (TOP / "docs" / name).read_text(encoding="utf-8").replace("\n.Os\n", f"\n.Os Hingetulip {VERSION}\n",
+                                                                     1).encode()
 
 
 def packages() -> Iterator[File]:
@@ -101,18 +116,22 @@ def links_to_clone() -> Iterator[File]:
 
 
 def beside() -> Iterator[File]:
-    """The program, the manual pages and the completion."""
+    """The program, the pages, the manual pages and the completion."""
     yield File(f"{BASE}.data/scripts/dummynet", released("dummynet", "sources", "dummynet").read_bytes(), 0o755)
     share = f"{BASE}.data/data/share"
+    for page in ("README.md", "CHANGELOG.md", *sorted(str(path.relative_to(TOP)) for path in TOP.glob("docs/*.md"))):
+        yield File(f"{share}/doc/{NAME}/{page}", (TOP / page).read_bytes())
     for name in ("dummynet", "hinge"):
         yield File(f"{share}/man/man1/{name}.1", manual(f"{name}.1"))
-        yield File(f"{share}/bash-completion/completions/{name}", (TOP / "tools" / f"{name}-completion.bash").read_bytes())
+        yield File(f"{share}/bash-completion/completions/{name}",
+                   (TOP / "tools" / f"{name}-completion.bash").read_bytes())
 
 
 def information() -> Iterator[File]:
     """What pip reads of a wheel."""
     page = (HERE / "README.md").read_text(encoding="utf-8")
-    for name, data in (("LICENSE", (TOP / "LICENSE").read_bytes()), ("METADATA", f"{METADATA}\n{page}".encode()),
+    for name, data in (("LICENSE", (TOP / "LICENSE").read_bytes()), ("NOTICE", (TOP / "NOTICE").read_bytes()),
+                       ("METADATA", f"{METADATA}\n{page}".encode()),
                        ("WHEEL", WHEEL.encode()), ("entry_points.txt", ENTRY_POINTS.encode())):
         yield File(f"{BASE}.dist-info/{name}", data)
 
@@ -143,17 +162,20 @@ def built(folder: str, editable: bool = False) -> str:
 
 
 def write_information(folder: str) -> str:
-    """What pip and pytest read of an installation that ./install makes, and the name of the folder where they look for it."""
+    """What pip and pytest read of an installation that ./install makes, and the name of the folder where they look for
+    it."""
     (Path(folder) / "METADATA").write_text(METADATA)
     (Path(folder) / "entry_points.txt").write_text(ENTRY_POINTS)
     return f"{BASE}.dist-info"
 
 
-def build_wheel(wheel_directory: str, config_settings: Optional[dict[str, str]] = None, metadata_directory: Optional[str] = None) -> str:
+def build_wheel(wheel_directory: str, config_settings: Optional[dict[str, str]] = None,
+                metadata_directory: Optional[str] = None) -> str:
     return built(wheel_directory)
 
 
-def build_editable(wheel_directory: str, config_settings: Optional[dict[str, str]] = None, metadata_directory: Optional[str] = None) -> str:
+def build_editable(wheel_directory: str, config_settings: Optional[dict[str, str]] = None,
+                   metadata_directory: Optional[str] = None) -> str:
     return built(wheel_directory, editable=True)
 
 

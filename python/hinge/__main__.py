@@ -5,10 +5,15 @@ from __future__ import annotations
 import difflib
 import importlib
 import sys
+from pathlib import Path
 from typing import NoReturn
 
-from hinge import command
-from hinge.version import version
+# as a file, since `python -m hinge` looks for modules in the folder where it is called, before all others
+if not __package__:
+    sys.path[0] = str(Path(__file__).resolve().parents[1])
+
+from hinge import command  # noqa: E402
+from hinge.version import version  # noqa: E402
 
 COMMANDS = {
     "packets": "a capture as a packet file",
@@ -20,20 +25,30 @@ COMMANDS = {
     "sweep": "many configurations and seeds over one packet file",
     "check": "what is wrong with configurations, packet files and histories, and what to write",
     "shard": "a replay of any length on all processors",
-    "run": "a command behind an emulated link, in real time",
+    "run": "a command behind an emulated link, in real or simulated time",
+    "net": "many hosts on any links, as a file describes them",
+    "up": "a net in the background",
+    "down": "the end of a net or a run",
+    "kernel": "the kernel of simulated time, from the sources of Linux",
+    "change": "a change of a link that runs",
+    "status": "how a link that runs is doing",
+    "exec": "a command on a host of a run that goes on",
     "with-clock": "a command whose C code has the simulated clock",
     "look": "table, picture and paragraphs of a live session or a history",
+    "paths": "what happened between the links of a net",
     "udp": "a UDP path between two programs through emulated links",
+    "docs": "the pages of the documentation",
 }
 USAGE = 2  # the exit status
 HELP, VERSION = ("help", "-h", "--help"), ("--version", "-V")
 
 
-def summary() -> str:
+def list_of_commands() -> str:
     """What `hinge help` prints: the commands, and where more is told."""
     rows = "".join(f"  {name:<12}{what}\n" for name, what in COMMANDS.items())
     return (f"usage: hinge COMMAND ..\n\nThe kit round dummynet: captures, pictures, tables and live links.\n\n{rows}"
-            "\n`hinge help COMMAND` tells more, with an example; `hinge --version` prints the version.\n")
+            "\n`hinge help COMMAND` tells more, with an example, and `hinge docs` names the pages; `hinge --version` "
+            "prints the version.\n")
 
 
 def refuse(word: str) -> NoReturn:
@@ -44,7 +59,7 @@ def refuse(word: str) -> NoReturn:
     sys.exit(USAGE)
 
 
-def begin(word: str) -> None:
+def run_module(word: str) -> None:
     """Runs a command over the words behind it."""
     try:
         importlib.import_module(f"hinge.commands.{word.replace('-', '_')}").main()
@@ -55,21 +70,22 @@ def begin(word: str) -> None:
 
 
 def main() -> None:
+    command.open_closed_streams()
     words = sys.argv[1:]
     if words[:1] == ["help"] and len(words) > 1:
         words = [words[1], "--help"]
     if not words:
-        print(summary(), end="", file=sys.stderr)
+        print(list_of_commands(), end="", file=sys.stderr)
         sys.exit(USAGE)
     if words[0] in HELP:
-        command.run(lambda: print(summary(), end=""))
+        command.run(lambda: print(list_of_commands(), end=""))
     if words[0] in VERSION:
         command.run(lambda: print(f"hinge {version()}"))
     if words[0] not in COMMANDS:
         refuse(words[0])
     sys.argv[1:] = words[1:]
     command.NAME[0] = f"hinge {words[0]}"
-    command.run(lambda: begin(words[0]))
+    command.run(lambda: run_module(words[0]))
 
 
 if __name__ == "__main__":

@@ -5,12 +5,8 @@ from __future__ import annotations
 import argparse
 from typing import Callable
 
-from hinge.links import Parts, read_configuration
-from hinge.replay import read_packets, read_report
-
 HELP = {
-    "config": "the configuration of the replay",
-    "packets": "the packet file",
+    "packets": "the packet file; here and as the report `-` is standard input",
     "report": "the report that dummynet wrote of them",
 }
 
@@ -29,9 +25,3 @@ def bounded(low: int, high: int) -> Callable[[str], int]:
 def add_inputs(line: argparse.ArgumentParser, *names: str) -> None:
     for name in names:
         line.add_argument(name, help=HELP[name])
-
-
-def read_parts(asked: argparse.Namespace) -> Parts:
-    """The replay that the command line names, with its configuration."""
-    configuration = read_configuration(asked.config)
-    return Parts(read_report(asked.report, read_packets(asked.packets)), configuration).check()

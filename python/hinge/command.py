@@ -12,11 +12,13 @@ import threading
 import time
 from contextlib import contextmanager
 from types import ModuleType
-from typing import Callable, Iterator, NoReturn, TextIO
+from typing import Callable, Iterator, NoReturn
 
-CONFIGURATION, ROWS, FILES, MISSING = 3, 4, 6, 7
-STATUSES = "exit status: 0 done, 2 command line, 3 configuration, 4 packet file, report or capture, 6 files, 7 a package is missing"
-WRITING = (errno.ENOSPC, errno.EIO, errno.EBADF, errno.EFBIG, errno.EDQUOT)  # of a write, whose file has no name where it is standard output
+USAGE, CONFIGURATION, ROWS, FILES, MISSING = 2, 3, 4, 6, 7
+STATUSES = ("exit status: 0 done, 2 command line, 3 configuration, 4 packet file, report or capture, 6 files, 7 a "
+            "package is missing")
+# of a write, whose file has no name where it is standard output
+WRITING = (errno.ENOSPC, errno.EIO, errno.EBADF, errno.EFBIG, errno.EDQUOT)
 PROGRESS_AFTER = 2  # seconds
 NAME = ["hinge"]  # as the user typed it, with the command
 
@@ -42,9 +44,26 @@ def parser(what: str, example: str) -> argparse.ArgumentParser:
     )
 
 
+def open_closed_streams() -> None:
+    """Where a standard stream was closed, /dev/null takes its place, as a file that is opened later would."""
+    for number, name in enumerate(("stdin", "stdout", "stderr")):
+        try:
+            os.fstat(number)
+        except OSError:
+            os.open(os.devnull, os.O_RDWR)  # the lowest number that is free: this one
+            os.set_inheritable(number, True)
+        if getattr(sys, name) is None:
+            setattr(sys, name, open(number, "w" if number else "r", closefd=False))
+
+
+def printable(text: str) -> str:
+    """A text that may name a file or quote one, without what a terminal would obey."""
+    return "".join(letter if letter.isprintable() else f"\\x{ord(letter):02x}" for letter in text)
+
+
 def say(line: str) -> None:
     """One line on standard error."""
-    print(f"{NAME[0]}: {line}", file=sys.stderr)
+    print(f"{NAME[0]}: {printable(line)}", file=sys.stderr)
 
 
 def run(main: Callable[[], object]) -> NoReturn:
@@ -66,7 +85,7 @@ def run(main: Callable[[], object]) -> NoReturn:
     sys.exit(0)
 
 
-def program(name: str, package: str) -> str:
+def path_of_program(name: str, package: str) -> str:
     """The path of a program that a Debian package brings."""
     path = shutil.which(name)
     if path is None:
@@ -75,26 +94,16 @@ def program(name: str, package: str) -> str:
 
 
 def lacking(name: str, package: str) -> str:
-    """What is told where a module of Python isn't there: how to get it from pip and from Debian."""
-    return f"needs Python's {name}: pip install 'hingetulip[capture]', or apt-get install {package}"
+    """What is told where a module of Python isn't there: how to get it from pip and from Debian, by its own name."""
+    return f"needs Python's {name}: pip install {name}, or apt-get install {package}"
 
 
 def module(name: str, package: str) -> ModuleType:
-    """A Python module that `hingetulip[capture]` or a Debian package brings."""
+    """A Python module that pip or a Debian package brings."""
     try:
         return importlib.import_module(name)
     except ImportError:
         raise Fault(lacking(name.partition(".")[0], package), MISSING) from None
-
-
-@contextmanager
-def writing(path: str | None) -> Iterator[TextIO]:
-    """The file that is written, or standard output where none is named or its name is `-`."""
-    if path is None or path == "-":
-        yield sys.stdout
-        return
-    with open(path, "w", encoding="utf-8", newline="\n") as file:
-        yield file
 
 
 @contextmanager
@@ -133,8 +142,8 @@ class Progress:
 
 
 class Bar:
-    """Tells how far a command of so many steps is, and when it will be done, on standard error, where that is a terminal, after two
-    seconds."""
+    """Tells how far a command of so many steps is, and when it will be done, on standard error, where that is a
+    terminal, after two seconds."""
 
     def __init__(self, what: str, total: int) -> None:
         self.what, self.total, self.done, self.failed = what, total, 0, 0
@@ -146,7 +155,8 @@ class Bar:
             return
         left = (now - self.began) / self.done * (self.total - self.done)
         bad = f", {self.failed:,} failed" if self.failed else ""
-        print(f"\r\x1b[K{self.done:,} of {self.total:,} {self.what}{bad}, {left:.0f} s left", end="", file=sys.stderr, flush=True)
+        print(f"\r\x1b[K{self.done:,} of {self.total:,} {self.what}{bad}, {left:.0f} s left", end="", file=sys.stderr,
+              flush=True)
         self.told, self.shown = now, True
 
     def clear(self) -> None:

@@ -1,7 +1,8 @@
 """Which packets of a direction a link loses: models that give each packet its word.
 
-A packet is lost where the low 31 bits of its word are below the loss rate of its pipe or queue. Under `plr 0.5` the words LOST and KEPT
-lose exactly those packets that a model says. Each direction has a model of its own, so that its words never depend on the other one.
+A packet is lost where the low 31 bits of its word are below the loss rate of its pipe or queue. Under `plr 0.5` the
+words LOST and KEPT lose exactly those packets that a model says. Each direction has a model of its own, so that its
+words never depend on the other one.
 
     words = GilbertElliott(to_bad=0.01, to_good=0.3, seed=7, direction=1)
     first, second = words.next(), words.next()
@@ -12,9 +13,9 @@ from __future__ import annotations
 import re
 from dataclasses import dataclass, field
 from fractions import Fraction
-from typing import Callable, Collection, Protocol, Union
+from typing import Callable, Collection, Optional, Protocol, Union
 
-from hinge.words import word
+from hinge.captures.random_words import word
 
 LOST, KEPT = 0, (1 << 31) - 1
 PARTS = 1 << 31  # of a rate, as the program has it
@@ -50,21 +51,28 @@ def parts(rate: Rate) -> int:
 
 @dataclass
 class GilbertElliott:
-    """Losses that come together: the link is in a good or in a bad state, at first in the good one. A packet is lost at the rate of the
-    state in which it finds the link, `in_good` or `in_bad`; then the state changes, at the rate `to_bad` or `to_good`."""
+    """Losses that come together: the link is in a good or in a bad state, at first in the good one. A packet is lost at
+    the rate of the state in which it finds the link, `in_good` or `in_bad`; then the state changes, at the rate
+    `to_bad` or `to_good`."""
 
     to_bad: Rate
     to_good: Rate
     in_bad: Rate = 1
     in_good: Rate = 0
-    seed: int = 1
-    direction: int = 1
+    # Without them a model takes those of the link that has it, and 1 where it has no link.
+    seed: Optional[int] = None
+    direction: Optional[int] = None
     is_bad: bool = field(default=False, init=False)
 
     def __post_init__(self) -> None:
         self.losses = {True: parts(self.in_bad), False: parts(self.in_good)}
         self.changes = {True: parts(self.to_good), False: parts(self.to_bad)}
-        self.random = Bernoulli(self.seed, self.direction)
+        self.bind(1, 1)
+
+    def bind(self, seed: int, direction: int) -> None:
+        """Takes the seed and the direction of the link that has this model, unless the model has its own."""
+        own = (seed if self.seed is None else self.seed, direction if self.direction is None else self.direction)
+        self.random = Bernoulli(*own)
 
     def next(self) -> int:
         is_lost = self.random.next() < self.losses[self.is_bad]
@@ -118,7 +126,8 @@ Maker = Callable[[int, int], Words]  # of a seed and a direction
 
 
 def read_model(text: str) -> Maker:
-    """What makes the model of a direction, by `gilbert:0.01,0.3` or `list:3,17-20`; ValueError is raised where the text is neither."""
+    """What makes the model of a direction, by `gilbert:0.01,0.3` or `list:3,17-20`; ValueError is raised where the text
+    is neither."""
     kind, _, rest = text.partition(":")
     if kind == "gilbert":
         to_bad, to_good, in_bad, in_good = read_rates(rest)

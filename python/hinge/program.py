@@ -14,8 +14,8 @@ REPOSITORY = PACKAGE.parents[1]
 
 
 def places(name: str, *in_repository: str) -> Iterator[Optional[str]]:
-    """Where a program is looked for, in this order: the clone in which this package lies, the package and `bin` of each folder in which it
-    lies, so that it is the one that was installed with it, and the path."""
+    """Where a program is looked for, in this order: the clone in which this package lies, the package and `bin` of each
+    folder in which it lies, so that it is the one that was installed with it, and the path."""
     for place in in_repository:
         yield str(REPOSITORY / place)
     yield str(PACKAGE / name)
@@ -24,25 +24,26 @@ def places(name: str, *in_repository: str) -> Iterator[Optional[str]]:
     yield shutil.which(name)
 
 
-def found(variable: str, name: str, *in_repository: str) -> str:
+def program_named(variable: str, name: str, *in_repository: str) -> str:
     """The program that a variable names, else the first of these places that has it."""
     named = os.environ.get(variable)
     for place in [named] if named else places(name, *in_repository):
         if place and os.path.isfile(place) and os.access(place, os.X_OK):
             return place
-    raise Fault(f"{variable} names {named}, which is no program" if named else f"there is no program {name}: the variable {variable} can name it", MISSING)
+    raise Fault(f"{variable} names {named}, which is no program" if named
+                else f"there is no program {name}: the variable {variable} can name it", MISSING)
 
 
 def dummynet() -> str:
     """The program that replays and audits."""
-    return found("DUMMYNET", "dummynet", "dummynet")
+    return program_named("DUMMYNET", "dummynet", "dummynet")
 
 
 def clock() -> str:
     """The library that gives C code the simulated clock; tools/hosts builds it."""
-    return found("HINGE_CLOCK", "hinge-clock.so", "built/hinge-clock.so", "release/hinge-clock.so")
+    return program_named("HINGE_CLOCK", "hinge-clock.so", "built/hinge-clock.so", "release/hinge-clock.so")
 
 
 def shard() -> str:
     """The program that replays on all processors; hosts/shard/build builds it."""
-    return found("HINGE_SHARD", "hinge-shard", "built/hinge-shard", "release/hinge-shard")
+    return program_named("HINGE_SHARD", "hinge-shard", "built/hinge-shard", "release/hinge-shard")

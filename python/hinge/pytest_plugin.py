@@ -9,6 +9,17 @@
         client, server = sim_net.host("10.0.0.1"), sim_net.host("10.0.0.2")
         sim_net.path(client, server)
 
+    def test_store(net):                           # real time, any programs on hosts of their own: hinge net
+        net.host("store", "exec redis-server --save ''", port=6379)
+        net.link("client", "store", "10Mbit/s 20ms")
+        net.run("client", "redis-cli -h store ping")
+
+    def test_again(simulated_net): ..              # the same in simulated time, in a machine of its own: one seed gives one run
+
+    @pytest.mark.simulated                         # any programs, in a machine of their own: hinge run --simulated
+    @pytest.mark.link("8Mbit/s 20ms")
+    def test_programs(): ..
+
 A test that is no coroutine runs one by `sim_net.run(main())`. The fixture `link_seed` has the seed: --link-seed N, 1 if it isn't given,
 or what a test parametrizes it with.
 """
@@ -17,22 +28,30 @@ from __future__ import annotations
 
 import functools
 import inspect
+import os
 from pathlib import Path
 from typing import TYPE_CHECKING, Callable, Coroutine, Generator, Optional, Protocol, Union
 
 import pytest
 
+from hinge.testing import async_fixtures
+from hingetulip_words.presets import either_way
+
 if TYPE_CHECKING:
-    from hinge.emulated import Emulated, UdpPath
+    from hinge.net import Net
+    from hinge.testing.emulated import Emulated, UdpPath
     from hingetulip.aio import Network
 
-MARK = "link(options, back=options): the link of a test, as \"8Mbit/s 20ms plr 0.05\", and that of the way back if it is another"
+MARKS = ("link(options, back=options, preset=name): the link of a test, as \"8Mbit/s 20ms plr 0.05\", and that of the way back if it is another",
+         "simulated(**options): the test runs in a simulated machine of its own, with options of `hinge run`, as server=COMMAND")
+INSIDE = "HINGE_TEST_REPORTS"  # in a simulated machine: the file that the reports of its test go to
 
 
 class MakeUdpPath(Protocol):
     """Makes a path to a server: a port of the loopback, or HOST:PORT."""
 
-    def __call__(self, server: Union[int, str], there: Optional[str] = None, back: Optional[str] = None, *, seed: Optional[int] = None) -> UdpPath: ...
+    def __call__(self, server: Union[int, str], there: Optional[str] = None, back: Optional[str] = None, *, preset: Optional[str] = None,
+                 seed: Optional[int] = None) -> UdpPath: ...
 
 
 def pytest_addoption(parser: pytest.Parser) -> None:
@@ -40,16 +59,25 @@ def pytest_addoption(parser: pytest.Parser) -> None:
 
 
 def pytest_configure(config: pytest.Config) -> None:
-    config.addinivalue_line("markers", MARK)
+    config.pluginmanager.register(async_fixtures)
+    for mark in MARKS:
+        config.addinivalue_line("markers", mark)
+    if INSIDE in os.environ:
+        from hinge.simulated.one_test import Keeper
+
+        config.pluginmanager.register(Keeper(config, os.environ[INSIDE]))
 
 
-def marked(request: pytest.FixtureRequest) -> tuple[str, Optional[str]]:
+def marked(item: pytest.Item) -> tuple[str, Optional[str]]:
     """The options of the mark `link`, there and back; an empty text where there is none."""
-    mark = request.node.get_closest_marker("link")
+    mark = item.get_closest_marker("link")
     if mark is None:
         return "", None
     there, back = (*mark.args, None, None)[:2]
-    return str(there or ""), mark.kwargs.get("back", back)
+    back = mark.kwargs.get("back", back)
+    if "preset" in mark.kwargs:
+        return either_way(mark.kwargs["preset"], there, back)
+    return str(there or ""), back
 
 
 @pytest.fixture
@@ -67,6 +95,7 @@ def emulated_links(request: pytest.FixtureRequest) -> Generator[list[Emulated], 
     for link in links:
         link.finish()
     wrong = [f"the history {link.history} isn't lawful: {link.verdict}" for link in links if not (link.verdict or "").startswith("lawful")]
+    wrong += [f"nobody took an exception: {it}" for link in links for it in link.faults]
     if wrong:
         pytest.fail("\n".join(wrong), pytrace=False)
 
@@ -77,11 +106,14 @@ LINKS = pytest.StashKey["list[Emulated]"]()
 @pytest.fixture
 def udp_path(request: pytest.FixtureRequest, emulated_links: list[Emulated], link_seed: int, tmp_path: Path) -> MakeUdpPath:
     """Makes UDP paths in real time: `udp_path(server, there, back=there)`, of a port or HOST:PORT and the options of two links."""
-    from hinge.emulated import UdpPath
+    from hinge.testing.emulated import UdpPath
 
-    def make(server: Union[int, str], there: Optional[str] = None, back: Optional[str] = None, *, seed: Optional[int] = None) -> UdpPath:
-        if there is None:
-            there, back = marked(request)
+    def make(server: Union[int, str], there: Optional[str] = None, back: Optional[str] = None, *, preset: Optional[str] = None,
+             seed: Optional[int] = None) -> UdpPath:
+        if preset is not None:
+            there, back = either_way(preset, there, back)
+        elif there is None:
+            there, back = marked(request.node)
         history = tmp_path / f"link{len(emulated_links) + 1}.history"
         made = UdpPath(f"127.0.0.1:{server}" if isinstance(server, int) else server, there, there if back is None else back,
                        link_seed if seed is None else seed, history)
@@ -94,11 +126,30 @@ def udp_path(request: pytest.FixtureRequest, emulated_links: list[Emulated], lin
 @pytest.fixture
 def sim_net(request: pytest.FixtureRequest, emulated_links: list[Emulated], link_seed: int, tmp_path: Path) -> Network:
     """A network of hosts in simulated time."""
-    from hinge.emulated import SimulatedPath
+    from hinge.testing.emulated import SimulatedPath
 
-    made = SimulatedPath(link_seed, tmp_path / "link.history", *marked(request))
+    made = SimulatedPath(link_seed, tmp_path / "link.history", *marked(request.node))
     emulated_links.append(made)
     return made.net
+
+
+@pytest.fixture
+def net(request: pytest.FixtureRequest, emulated_links: list[Emulated], link_seed: int, tmp_path: Path) -> Net:
+    """A net of hosts with any programs, in real time, or in simulated time in a test with the mark `simulated`. Its links are those of the
+    mark `link`, where nothing else is said of them."""
+    from hinge.net import Net
+    from hinge.testing.net_of_test import NetOfTest
+
+    there, back = marked(request.node)
+    made = Net(tmp_path / "net", seed=link_seed, link=there, back=back)
+    emulated_links.append(NetOfTest(made))
+    return made
+
+
+@pytest.fixture
+def simulated_net(net: Net) -> Net:
+    """The same in simulated time: a test that has it runs in a machine of its own, and one seed gives one run."""
+    return net
 
 
 def in_simulated_time(test: Callable[..., Coroutine[object, object, None]]) -> Callable[..., None]:
@@ -114,7 +165,10 @@ def in_simulated_time(test: Callable[..., Coroutine[object, object, None]]) -> C
 @pytest.hookimpl(tryfirst=True)  # type: ignore[misc]
 def pytest_pycollect_makeitem(collector: pytest.Collector, name: str, obj: object) -> None:
     """A coroutine that has the fixture sim_net runs in simulated time. It is collected as a plain test, so that no other plugin runs it."""
-    if inspect.iscoroutinefunction(obj) and "sim_net" in inspect.signature(obj).parameters:
+    if not inspect.iscoroutinefunction(obj) or "sim_net" not in inspect.signature(obj).parameters:
+        return
+    is_test = getattr(collector, "istestfunction", None)  # of modules and classes
+    if is_test is not None and is_test(obj, name):  # a helper stays a coroutine
         setattr(getattr(collector, "obj"), name, in_simulated_time(obj))
 
 
@@ -124,5 +178,39 @@ def pytest_runtest_makereport(item: pytest.Item, call: pytest.CallInfo[None]) ->
     report = outcome.get_result()
     if report.when == "call" and report.failed:
         for link in item.stash.get(LINKS, []):
-            link.finish()
-            report.sections.append(("emulated link", link.report()))
+            try:
+                link.finish()
+                text = link.report()
+            except Exception as fault:
+                from hinge.testing.emulated import no_report
+                text = no_report(fault)
+            report.sections.append(("emulated link", text))
+
+
+def seed_of(item: pytest.Item) -> int:
+    """The seed of a test: the one that it parametrizes, or that of the command line."""
+    parameters = getattr(getattr(item, "callspec", None), "params", {})
+    return int(parameters.get("link_seed", item.config.getoption("--link-seed")))
+
+
+def links_of(item: pytest.Item) -> list[str]:
+    """The options of the mark `link` for `hinge run`."""
+    there, back = marked(item)
+    return ["--up", there, "--down", there if back is None else back]
+
+
+@pytest.hookimpl(tryfirst=True)  # type: ignore[misc]
+def pytest_runtest_protocol(item: pytest.Item) -> Optional[bool]:
+    """A test with the mark or the net `simulated` runs in a machine of its own, and there as any other."""
+    mark = item.get_closest_marker("simulated")
+    if mark is None and "simulated_net" in getattr(item, "fixturenames", ()):
+        mark = pytest.mark.simulated.mark
+    if mark is None or INSIDE in os.environ:
+        return None
+    from hinge.simulated.one_test import reports
+
+    item.ihook.pytest_runtest_logstart(nodeid=item.nodeid, location=item.location)
+    for report in reports(item, mark, links_of(item), seed_of(item)):
+        item.ihook.pytest_runtest_logreport(report=report)
+    item.ihook.pytest_runtest_logfinish(nodeid=item.nodeid, location=item.location)
+    return True

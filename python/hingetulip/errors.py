@@ -20,17 +20,22 @@ class ClosedError(HingetulipError, ValueError):
 
 
 class LineError(HingetulipError, ValueError):
-    """A line is no command. Its text is that of the program `dummynet`, as `word 5: bad number`."""
+    """A line is no command. Its text is that of the program `dummynet`, as `word 5: bad number`, or names a word of a link, and what to write."""
 
-    def __init__(self, kind: str, word: int) -> None:
-        super().__init__(f"word {word}: {kind}" if word else kind)
+    def __init__(self, kind: str, word: int, line: str = "") -> None:
+        words = line.split()
+        shown = f" {words[word - 1]!r}" if 0 < word <= len(words) else ""
+        where = f", in {line!r}" if line else ""
+        super().__init__((f"word {word}{shown}: {kind}" if word else kind) + where)
+        self.line = line
+        """The line, where it is known."""
         self.kind = kind
         """What is wrong, as `bad number`."""
         self.word = word
-        """The word at which that shows, from 1; 0 where the line isn't text."""
+        """The word at which that shows, from 1; 0 where the line isn't text, or `kind` names the word."""
 
-    def __reduce__(self) -> tuple[type[LineError], tuple[str, int]]:
-        return LineError, (self.kind, self.word)
+    def __reduce__(self) -> tuple[type[LineError], tuple[str, int, str]]:
+        return LineError, (self.kind, self.word, self.line)
 
 
 class RefusedError(HingetulipError):
@@ -42,10 +47,10 @@ class RangeError(HingetulipError, ValueError):
 
 
 class InUseError(HingetulipError, RuntimeError):
-    """Another thread, or the code that a signal interrupted, is in a call of this shaper."""
+    """Another thread, or the code that a signal interrupted, is in a call of this shaper, or of this caller or service."""
 
     def __init__(self) -> None:
-        super().__init__("another thread, or what a signal interrupted, is in a call of this shaper")
+        super().__init__("another thread, or what a signal interrupted, is in a call of it")
 
 
 class OutOfMemoryError(HingetulipError, MemoryError):

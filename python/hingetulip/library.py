@@ -16,7 +16,7 @@ MAJOR = 1  # of the library's version; later minor ones only add
 LAST_MOMENT = 2**62
 NEVER = 2**64 - 1
 
-ROOM, LINE = 7, 8
+ROOM, LINE, NEW_FLOW = 7, 8, 19
 FAILURES: dict[int, tuple[type[HingetulipError], str]] = {
     1: (ExhaustedError, "the shaper answered 2^62 calls before"),
     2: (RefusedError, "no such pipe"),
@@ -42,6 +42,7 @@ class Handle(Structure):
 
 FUNCTIONS = ("dn_version", "dn_open", "dn_open_with_key", "dn_close", "dn_configure", "dn_submit", "dn_submit_many", "dn_advance",
              "dn_collect", "dn_show", "dn_wake")
+LATER_FUNCTIONS = ("dn_reserve",)  # a library of before 1.2 lacks them, and serves those who don't call them
 
 
 def failure(status: int) -> HingetulipError:
@@ -66,6 +67,9 @@ def loaded(place: str) -> PyDLL:
     library = PyDLL(place)
     for name in FUNCTIONS:
         getattr(library, name).restype = c_uint32
+    for name in LATER_FUNCTIONS:
+        if hasattr(library, name):
+            getattr(library, name).restype = c_uint32
     version = library.dn_version()
     if version // 1_000_000 != MAJOR:
         raise ImportError(f"{place} has version {version}, and not {MAJOR}.x")

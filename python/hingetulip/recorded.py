@@ -4,6 +4,7 @@ from __future__ import annotations
 
 from functools import lru_cache
 from ipaddress import IPv4Address
+from operator import index
 from pathlib import Path
 from typing import Optional, TextIO, Union
 
@@ -48,7 +49,8 @@ class RecordedShaper(Shaper):
             self.file.write(f"c,0,{call}\nr,{reply}\n{items}")
 
     def configure(self, line: Union[str, bytes]) -> None:
-        text = (line if isinstance(line, str) else bytes(line).decode(errors="replace")).partition("#")[0].strip()
+        # A carriage return separates words of a line, and would end a record.
+        text = " ".join((line if isinstance(line, str) else bytes(line).decode(errors="replace")).partition("#")[0].split())
         try:
             super().configure(line)
         except RefusedError as refused:
@@ -61,19 +63,20 @@ class RecordedShaper(Shaper):
                proto: int = 0, sport: int = 0, dport: int = 0, word: Optional[int] = None) -> Fate:
         word = self._random.getrandbits(32) if word is None else word
         fate = super().submit(moment, length, pipe=pipe, queue=queue, src=src, dst=dst, proto=proto, sport=sport, dport=dport, word=word)
-        target = f"queue,{queue}" if pipe is None else f"pipe,{pipe}"
-        self._note(f"submit,{target},{dotted(src)},{dotted(dst)},{proto},{sport},{dport},{length},{word},{moment}", fate_record(fate))
+        target = f"queue,{index(queue)}" if queue is not None else f"pipe,{index(pipe or 0)}"
+        places = f"{dotted(index(src))},{dotted(index(dst))},{index(proto)},{index(sport)},{index(dport)}"
+        self._note(f"submit,{target},{places},{index(length)},{index(word)},{index(moment)}", fate_record(fate))
         return fate
 
     def advance(self, moment: int) -> int:
         at = super().advance(moment)
-        self._note(f"advance,{moment}", f"advanced,{at}")
+        self._note(f"advance,{index(moment)}", f"advanced,{at}")
         return at
 
     def collect(self, moment: int) -> list[Delivery]:
         found = super().collect(moment)
         items = "".join(f"d,{it.packet},{it.flow},{it.start},{it.due}\n" for it in found)
-        self._note(f"collect,{moment}", f"delivered,{super().advance(0)},{len(found)}", items)
+        self._note(f"collect,{index(moment)}", f"delivered,{super().advance(0)},{len(found)}", items)
         return found
 
     def submit_many(self, packets: Packets) -> Fates:

@@ -2,17 +2,20 @@
 
 from __future__ import annotations
 
+from contextlib import ExitStack
 from ctypes import CDLL, Array, byref, c_char, c_size_t, c_uint32, c_uint64, sizeof
+from operator import index
 from os import PathLike, urandom
 from random import Random
 from struct import error as StructError
-from threading import Lock
+from threading import RLock
 from time import sleep
 from types import TracebackType
-from typing import Any, BinaryIO, Callable, NoReturn, Optional, Union
+from typing import Any, Callable, NoReturn, Optional, Union
 
 from hingetulip.batches import QUEUED, make_fate, read_fate
-from hingetulip.errors import HingetulipError, LineError
+from hingetulip.errors import HingetulipError, InUseError, LineError, RangeError
+from hingetulip.history_file import HistoryFile
 from hingetulip.layout import DELIVERY, FATE, FAULT, FLOW, PACKET, Layout
 from hingetulip.library import FAULT_KINDS, LIBRARY, LINE, NEVER, ROOM, Handle, failure
 from hingetulip.records import Delivery, Fate, FlowStatus
@@ -22,8 +25,10 @@ BUSY, NO_ENTRY = 15, 18
 FUNCTIONS = ("dn_service_open", "dn_service_open_with_key", "dn_service_close", "dn_caller_close", "dn_caller_configure", "dn_caller_submit",
              "dn_caller_advance", "dn_caller_collect", "dn_caller_deliveries", "dn_caller_show", "dn_caller_flows", "dn_caller_wake",
              "dn_service_take", "dn_service_text")
-FRONT, END = b"dummynet-history,3\n", b"end,%d\n"
-FIRST_ROOM = 4096
+FIRST_ROOM, MOST_CALLERS = 4096, 15
+
+# How often a call is tried before a thread sleeps between two tries, and for how many seconds it then sleeps.
+TRIES_AT_ONCE, REST = 4, 20e-6
 
 
 def loaded() -> CDLL:
@@ -38,17 +43,41 @@ def loaded() -> CDLL:
 
 
 def answered(call: Callable[..., int], *arguments: Any) -> int:
-    """The status of a call, once no other caller is in one."""
+    """The status of a call, once no other caller is in one. Most calls end at once, so only after some tries it sleeps between them."""
+    tries = 0
     while True:
         status = call(*arguments)
         if status != BUSY:
             return status
-        sleep(0)
+        sleep(0 if tries < TRIES_AT_ONCE else REST)
+        tries += 1
 
 
 def succeed(status: int) -> None:
     if status:
         raise failure(status)
+
+
+class Turn:
+    """Calls that threads make one after another: a thread waits while another one is in a call.
+
+    Code that a signal interrupts a call with, and what the release of an object runs in the midst of one, can't wait for that call: it
+    raises InUseError.
+    """
+
+    def __init__(self) -> None:
+        self._lock, self._taken = RLock(), False
+
+    def __enter__(self) -> None:
+        self._lock.acquire()
+        if self._taken:
+            self._lock.release()
+            raise InUseError
+        self._taken = True
+
+    def __exit__(self, kind: Optional[type[BaseException]], error: Optional[BaseException], trace: Optional[TracebackType]) -> None:
+        self._taken = False
+        self._lock.release()
 
 
 class Caller:
@@ -59,18 +88,24 @@ class Caller:
 
     def __init__(self, calls: CDLL, handle: Any, number: int, seed: Optional[int]) -> None:
         self.number = number
-        self._calls, self._self, self._lock, self._random = calls, handle, Lock(), Random(seed)
+        self._calls, self._self, self._turn, self._random = calls, handle, Turn(), Random(seed)
         self._packet, self._fate = (c_char * PACKET.size)(), (c_char * FATE.size)()
         self._moment, self._number, self._holder = c_uint64(), c_uint64(), byref(c_uint64())
 
     def __reduce__(self) -> NoReturn:
         raise TypeError("a caller is neither copied nor pickled")
 
+    def __del__(self) -> None:
+        self._let_go()
+
+    def _let_go(self) -> None:
+        self._calls.dn_caller_close(self._self)
+
     def configure(self, line: Union[str, bytes, bytearray, memoryview]) -> None:
         """Obeys one line of a configuration, as Shaper.configure does, with the same exceptions."""
         text = bytes(line) if isinstance(line, (bytes, bytearray, memoryview)) else line.encode("utf-8", "surrogatepass")
         fault = (c_char * FAULT.size)()
-        with self._lock:
+        with self._turn:
             status = answered(self._calls.dn_caller_configure, self._self, text, c_size_t(len(text)), byref(fault), self._holder)
         if status == LINE:
             word, kind = FAULT.record.unpack(fault)
@@ -83,7 +118,7 @@ class Caller:
         number, kind = (queue, 1) if pipe is None else (pipe, 0)
         if number is None or kind == 0 and queue is not None:
             raise TypeError(NEITHER_OR_BOTH)
-        with self._lock:
+        with self._turn:
             drawn = self._random.getrandbits(32) if word is None else word
             try:
                 PACKET.record.pack_into(self._packet, 0, moment, src, dst, drawn, sport, dport, length, number, kind, proto)
@@ -96,21 +131,21 @@ class Caller:
 
     def advance(self, moment: int) -> int:
         """Moves the clock to `moment` ns, if it is earlier, and returns where it is, in ns. It takes no packet out."""
-        with self._lock:
+        with self._turn:
             self._set_moment(moment)
             succeed(answered(self._calls.dn_caller_advance, self._self, self._moment, byref(self._number), self._holder))
             return self._number.value
 
     def collect(self, moment: int) -> list[Delivery]:
         """Moves the clock to `moment` ns, and takes the packets that are due, in the order in which they are due."""
-        with self._lock:
+        with self._turn:
             self._set_moment(moment)
             succeed(answered(self._calls.dn_caller_collect, self._self, self._moment, byref(self._number), self._holder))
             return list(map(Delivery._make, DELIVERY.record.iter_unpack(self._kept(self._calls.dn_caller_deliveries, DELIVERY))))
 
     def show(self) -> list[FlowStatus]:
         """The state of all flows, in the order of their numbers."""
-        with self._lock:
+        with self._turn:
             succeed(answered(self._calls.dn_caller_show, self._self, byref(self._number), self._holder))
             return [read_flow(*fields) for fields in FLOW.record.iter_unpack(self._kept(self._calls.dn_caller_flows, FLOW))]
 
@@ -119,7 +154,7 @@ class Caller:
 
         Another caller's call can come before this caller's next one. It is no call of the history, and changes nothing.
         """
-        with self._lock:
+        with self._turn:
             succeed(answered(self._calls.dn_caller_wake, self._self, byref(self._number), self._holder))
             return None if self._number.value == NEVER else self._number.value
 
@@ -151,9 +186,11 @@ class Service:
 
         RangeError: the count is another one. HingetulipError: the library is of a version that has no service.
         """
-        self._calls, self._lock, self._taken = loaded(), Lock(), 0
-        self._file: Optional[BinaryIO] = None
-        self._handle, self._handles = Handle(), (Handle * max(callers, 0))()
+        if not 1 <= index(callers) <= MOST_CALLERS:
+            raise RangeError(f"callers {callers} isn't in 1 to {MOST_CALLERS}")
+        self._calls, self._turn, self._taken = loaded(), Turn(), 0
+        self._file: Optional[HistoryFile] = None
+        self._handle, self._handles = Handle(), (Handle * callers)()
         self._text = (c_char * FIRST_ROOM)()
         high, low = SECRET.unpack(urandom(SECRET.size))
         succeed(self._calls.dn_service_open_with_key(byref(self._handle), self._handles, c_size_t(len(self._handles)), c_uint64(high), c_uint64(low)))
@@ -163,36 +200,45 @@ class Service:
 
     def history(self, path: Union[str, PathLike[str]]) -> None:
         """From now on what is taken out goes to this file, which is made anew. It has to be called before anything was taken."""
-        with self._lock:
+        with self._turn:
             if self._file is not None or self._taken:
                 raise ValueError("the history has a file, or a part of it was taken before")
-            self._file = open(path, "wb")
-            self._file.write(FRONT)
+            self._file = HistoryFile(path)
 
     def take(self) -> int:
-        """Takes what was called so far out of memory, into the history's file if there is one, and returns how many entries that were."""
-        with self._lock:
+        """Takes what was called so far out of memory, into the history's file if there is one, and returns how many entries that were.
+
+        They are in the file when it returns. After an OSError, as on a full disk, the next call writes them.
+        """
+        with self._turn:
             return self._take()
 
     def close(self) -> None:
-        """Takes the rest, ends the history's file, and closes the service and its callers. A second time does nothing."""
-        with self._lock:
+        """Takes the rest, ends the history's file, and closes the service and its callers. A second time does nothing.
+
+        It waits for the calls of other threads. After an OSError all is as before, and it can be called again. InUseError: it interrupts a
+        call of its own thread, as in a handler of a signal.
+        """
+        with ExitStack() as turns:
+            for turn in (self._turn, *(caller._turn for caller in self.callers)):
+                turns.enter_context(turn)
             if not self._handle.open:
                 return
-            try:
-                self._take()
-                if self._file is not None:
-                    self._file.write(END % self._taken)
-            finally:
-                self._let_go()
+            self._take()
+            if self._file is not None:
+                self._file.end(self._taken)
+            for caller in self.callers:
+                caller._let_go()
+            self._calls.dn_service_close(byref(self._handle))
 
     @property
     def closed(self) -> bool:
         return not self._handle.open
 
     def __del__(self) -> None:
+        # It may run in the midst of a call of this thread, for which it can't wait: each caller lets go by itself.
         if hasattr(self, "callers"):
-            self._let_go()
+            self._calls.dn_service_close(byref(self._handle))
 
     def __enter__(self) -> Service:
         return self
@@ -206,20 +252,14 @@ class Service:
     def __repr__(self) -> str:
         return f"<hingetulip.Service, {'closed' if self.closed else f'{len(self.callers)} callers'}>"
 
-    def _let_go(self) -> None:
-        if self._file is not None:
-            self._file.close()
-        for caller in self.callers:
-            with caller._lock:
-                self._calls.dn_caller_close(caller._self)
-        self._calls.dn_service_close(byref(self._handle))
-
     def _take(self) -> int:
         start, count = c_uint64(), c_uint64()
         self._write_waiting()
         succeed(answered(self._calls.dn_service_take, byref(self._handle), byref(start), byref(count), byref(c_uint64())))
         self._taken = start.value + count.value
         self._write_waiting()
+        if self._file is not None:
+            self._file.flush()
         return count.value
 
     def _write_waiting(self) -> None:

@@ -15,7 +15,7 @@ from typing import Any, Callable, NoReturn, Optional, Union
 from hingetulip.batches import QUEUED, Deliveries, Fates, Packets, make_fate, read_fate
 from hingetulip.errors import InUseError, LineError, RangeError
 from hingetulip.layout import DELIVERY, FATE, FAULT, FLOW, PACKET, Layout
-from hingetulip.library import CALLS, FAULT_KINDS, LAST_MOMENT, LINE, NEVER, ROOM, Handle, failure
+from hingetulip.library import CALLS, FAULT_KINDS, LAST_MOMENT, LINE, NEVER, NEW_FLOW, ROOM, Handle, failure
 from hingetulip.records import Delivery, Fate, FlowStatus, Rule
 
 NEITHER_OR_BOTH = "a packet is sent to a pipe or to a queue"
@@ -200,6 +200,26 @@ class Shaper:
             error.fates = answered
             raise error
         return answered
+
+    def reserve(self, *, pipe: Optional[int] = None, queue: Optional[int] = None, src: int = 0, dst: int = 0, proto: int = 0,
+                sport: int = 0, dport: int = 0) -> bool:
+        """Makes room for a packet to come, and tells whether it is there: it isn't before the first packet of a flow.
+
+        The library then takes no memory for `submit` of such a packet, of any length, if at most `advance`, `collect`, `show` and
+        `wake` are called before it. The call changes nothing else. RangeError: a number is out of its range.
+        """
+        if (pipe is None) == (queue is None):
+            raise TypeError(NEITHER_OR_BOTH)
+        number, kind = (queue, 1) if pipe is None else (pipe, 0)
+        with self._turn:
+            try:
+                pack_packet(self._packet, 0, 0, src, dst, 0, sport, dport, 1, number, kind, proto)
+            except StructError:
+                raise unpackable(src=src, dst=dst, sport=sport, dport=dport, number=number, proto=proto) from None
+            status: int = CALLS.dn_reserve(self._self, byref(self._packet))
+        if status != NEW_FLOW:
+            self._succeed(status)
+        return status != NEW_FLOW
 
     def advance(self, moment: int) -> int:
         """Moves the clock to `moment` ns, if it stands earlier, and tells where it stands, in ns. It takes no packet out."""

@@ -51,6 +51,21 @@ class Calls(unittest.TestCase):
         self.assertEqual([Delivery(21 * MS, 0, 0, 0), Delivery(22 * MS, 1, 0, MS)], self.shaper.collect(2**62))
         self.assertIsNone(self.shaper.wake())
 
+    def test_reserve(self) -> None:
+        self.shaper.configure("queue 3 config pipe 1 mask dst-port 0xffff")
+        self.assertFalse(self.shaper.reserve(pipe=1))
+        self.assertTrue(self.shaper.reserve(pipe=9), "nothing is configured, so no room is needed")
+        self.shaper.submit(0, 1000, pipe=1)
+        self.shaper.submit(0, 1000, queue=3, dport=5)
+        self.assertEqual([True, True, False], [self.shaper.reserve(pipe=1, src=7), self.shaper.reserve(queue=3, dport=5),
+                                               self.shaper.reserve(queue=3, dport=6)])
+        self.assertEqual([FlowStatus(0, None, 1, 0, 0, 0, 0, 0, 0, 0, 0, 0, 1, 0), FlowStatus(1, 3, 1, 0, 0, 0, 0, 5, 0, 0, 0, 0, 1, 0)],
+                         self.shaper.show())
+        for given, error in (({}, TypeError), ({"pipe": 1, "queue": 1}, TypeError), ({"pipe": 0}, RangeError), ({"pipe": 2**16}, RangeError),
+                             ({"queue": 1, "src": -1}, RangeError), ({"queue": 1, "dport": "1"}, TypeError)):
+            with self.assertRaises(error):
+                self.shaper.reserve(**given)  # type: ignore[arg-type]
+
     def test_show(self) -> None:
         self.shaper.configure("queue 3 config pipe 1 mask src-ip 0xff dst-port 1 proto 0xff")
         for _ in range(3):

@@ -59,7 +59,7 @@ class WithClock(unittest.TestCase):
             flags = ["-std=c17", "-O2", "-Wall", "-Wextra", "-Werror", "-shared", "-fPIC"]
             subprocess.run(["cc", *flags, TOP / "hosts" / "clock.c", "-o", made], check=True)
             env = {**os.environ, "HINGE_CLOCK": str(made), "PYTHONPATH": str(TOP / "python"), "PYTHONDONTWRITEBYTECODE": "1"}
-            words = [sys.executable, TOP / "python" / "hinge" / "start.py", "with-clock", sys.executable, "-c", ASKED]
+            words = [sys.executable, TOP / "python" / "hinge" / "__main__.py", "with-clock", sys.executable, "-c", ASKED]
             done = subprocess.run(words, env=env, capture_output=True, text=True)
         self.assertEqual(done.stderr, "")
         self.assertEqual(done.stdout.splitlines(), ["(1700000090000001000, 90000001000, 1700000090000001, 1700000090, True)", "True True"])

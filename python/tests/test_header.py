@@ -1,7 +1,8 @@
-"""The module against hingetulip.h: structs, numbers and functions are those of the header."""
+"""The module and the crate for cargo against hingetulip.h: structs, numbers and functions are those of the header."""
 
 from __future__ import annotations
 
+import ctypes
 import re
 import unittest
 from pathlib import Path
@@ -9,8 +10,14 @@ from pathlib import Path
 import hingetulip
 from hingetulip import errors, layout, library
 
-HEADER = (Path(__file__).resolve().parents[2] / "crates" / "hingetulip_c" / "include" / "hingetulip.h").read_text()
-WIDTHS = {"uint64_t": 8, "uint32_t": 4, "uint16_t": 2, "uint8_t": 1}
+TOP = Path(__file__).resolve().parents[2]
+INCLUDE = TOP / "crates" / "hingetulip_c" / "include"
+HEADER, SERVICE_HEADER = ((INCLUDE / f"{name}.h").read_text() for name in ("hingetulip", "hingetulip_service"))
+RUST, RUST_SERVICE, RUST_ERRORS = ((TOP / "rust" / "hingetulip" / "src" / f"{name}.rs").read_text() for name in ("raw", "raw_service", "error"))
+DECLARED = ((RUST, HEADER, "dn_status", {"dn_open"}), (RUST_SERVICE, SERVICE_HEADER, "dn_service_status", {"dn_service_open"}))
+WIDTHS = {"uint64_t": 8, "uint32_t": 4, "uint16_t": 2, "uint8_t": 1, "void *": 8, "bool": 1}
+KINDS = {"u64": "uint64_t", "u32": "uint32_t", "u16": "uint16_t", "u8": "uint8_t", "usize": "size_t", "c_void": "void",
+         "bool": "bool"}
 EXCEPTIONS = {
     "DN_EXHAUSTED": errors.ExhaustedError, "DN_NO_SUCH_PIPE": errors.RefusedError, "DN_PIPE_HAS_QUEUES": errors.RefusedError,
     "DN_NO_SUCH_QUEUE": errors.RefusedError, "DN_CLOSED": errors.ClosedError, "DN_MEMORY": errors.OutOfMemoryError,
@@ -21,39 +28,76 @@ FAULTS = {"DN_NOT_UTF8": "not UTF-8", "DN_UNKNOWN_WORD": "unknown word", "DN_MIS
           "DN_OUT_OF_RANGE": "out of range", "DN_LEFT_OUT": "left out", "DN_NEEDS_PIPE": "needs a pipe"}
 
 
-def numbers(name: str) -> dict[str, int]:
+def numbers(name: str, header: str = HEADER) -> dict[str, int]:
     """The names of an enum with their numbers."""
-    body = re.search(rf"enum {name} \{{(.*?)\}};", HEADER, re.S)
+    body = re.search(rf"enum {name} \{{(.*?)\}};", header, re.S)
     return {name: int(value) for name, value in re.findall(r"(DN_\w+) = (\d+)", body[1] if body else "")}
 
 
+def fields(name: str, header: str = HEADER) -> list[tuple[str, str]]:
+    """The type and the name of each field of a struct."""
+    body = re.search(rf"struct {name} \{{(.*?)\n\}};", header, re.S)
+    return [(kind.strip(), field) for kind, field in re.findall(r"^ +(\w+ \*?)(\w+);", body[1] if body else "", re.M)]
+
+
 def places(name: str) -> tuple[dict[str, tuple[int, int]], int]:
-    """Where each field of a struct begins and how long it is, as C lays them out, and the length of the struct."""
-    body = re.search(rf"struct {name} \{{(.*?)\n\}};", HEADER, re.S)
-    found, end = {}, 0
-    for kind, field in re.findall(r"^ +(\w+) (\w+);", body[1] if body else "", re.M):
+    """Where each field of a struct begins and how long it is, as C lays them out, and the length of the struct.
+
+    Its reserved fields, which stand side by side, are one.
+    """
+    found: dict[str, tuple[int, int]] = {}
+    end = 0
+    for kind, field in fields(name):
         begin = -(-end // WIDTHS[kind]) * WIDTHS[kind]
-        found[field], end = (begin, WIDTHS[kind]), begin + WIDTHS[kind]
-    return {field: place for field, place in found.items() if not field.startswith("reserved")}, -(-end // 8) * 8
+        end = begin + WIDTHS[kind]
+        first = found["reserved"][0] if field.startswith("reserved") and "reserved" in found else begin
+        found["reserved" if field.startswith("reserved") else field] = first, end - first
+    return found, -(-end // 8) * 8
+
+
+def arguments(declared: str) -> list[tuple[str, str]]:
+    """The type and the name of each argument of a function of the header."""
+    found = re.findall(r"((?:const )?(?:struct )?\w+ \*?)(\w+)(?:, |$)", " ".join(declared.split()))
+    return [(kind.strip(), name) for kind, name in found]
+
+
+def as_in_c(kind: str) -> str:
+    """A type of Rust as the header writes it."""
+    *pointer, named = kind.split()
+    of = KINDS.get(named, f"struct dn_{named.lower()}")
+    return {"": of, "*mut": f"{of} *", "*const": f"const {of} *"}["".join(pointer)]
+
+
+def rust_fields(name: str, source: str) -> list[tuple[str, str]]:
+    body = re.search(rf"#\[repr\(C\)\]\n(?:#\[derive\(.*\)\]\n)?pub struct {name} \{{(.*?)\n\}}", source, re.S)
+    return [(as_in_c(kind), field) for field, kind in re.findall(r"^ +pub (\w+): (.+),$", body[1] if body else "", re.M)]
 
 
 class Header(unittest.TestCase):
     def test_structs(self) -> None:
-        for name, of_module in (("dn_packet", layout.PACKET), ("dn_fate", layout.FATE), ("dn_delivery", layout.DELIVERY),
-                                ("dn_flow", layout.FLOW), ("dn_fault", layout.FAULT)):
+        layouts = {"dn_packet": layout.PACKET, "dn_fate": layout.FATE, "dn_delivery": layout.DELIVERY,
+                   "dn_flow": layout.FLOW, "dn_fault": layout.FAULT}
+        self.assertEqual({*re.findall(r"^struct (\w+) \{", HEADER, re.M)}, {*layouts, "dn_handle"})
+        for name, of_module in layouts.items():
             begin, found = 0, {}
-            for field, code in of_module.codes.items():
-                if field != "reserved":
-                    found[field] = begin, of_module.width(field)
+            for field in of_module.codes:
+                found[field] = begin, of_module.width(field)
                 begin += of_module.width(field)
             self.assertEqual(places(name), (found, of_module.size), name)
 
+    def test_handles(self) -> None:
+        self.assertEqual(fields("dn_handle"), [("void *", "at"), ("bool", "open")])
+        self.assertEqual(library.Handle._fields_, [("at", ctypes.c_void_p), ("open", ctypes.c_bool)])
+        for name in ("dn_service", "dn_caller"):
+            self.assertEqual(fields(name, SERVICE_HEADER), fields("dn_handle"), name)
+
     def test_statuses(self) -> None:
         statuses = numbers("dn_status")
-        self.assertEqual((0, library.ROOM, library.LINE), (statuses["DN_OK"], statuses["DN_ROOM"], statuses["DN_LINE"]))
+        own = {"DN_OK": 0, "DN_ROOM": library.ROOM, "DN_LINE": library.LINE, "DN_NEW_FLOW": library.NEW_FLOW}
+        self.assertEqual(own, {name: statuses[name] for name in own})
         for name, kind in EXCEPTIONS.items():
             self.assertIs(kind, type(library.failure(statuses[name])), name)
-        self.assertEqual({*statuses} - {*EXCEPTIONS}, {"DN_OK", "DN_ROOM", "DN_LINE", "DN_BAD_RESERVED"})
+        self.assertEqual({*statuses} - {*EXCEPTIONS}, {*own, "DN_BAD_RESERVED"})
         for name in ("DN_NO_SUCH_PIPE", "DN_PIPE_HAS_QUEUES", "DN_NO_SUCH_QUEUE"):
             self.assertEqual(name, "DN_" + str(library.failure(statuses[name])).upper().replace(" ", "_"))
 
@@ -65,7 +109,38 @@ class Header(unittest.TestCase):
         self.assertIn(f"#define DN_VERSION {library.MAJOR}0", HEADER)
 
     def test_functions(self) -> None:
-        self.assertEqual(sorted(re.findall(r"^uint32_t (\w+)\(", HEADER, re.M)), sorted(library.FUNCTIONS))
+        named = sorted(library.FUNCTIONS + library.LATER_FUNCTIONS)
+        self.assertEqual(sorted(re.findall(r"^uint32_t (\w+)\(", HEADER, re.M)), named)
+
+
+class Crate(unittest.TestCase):
+    """The declarations of the crate for cargo, which are written by hand."""
+
+    def test_structs(self) -> None:
+        for source, header, _, _ in DECLARED:
+            names = re.findall(r"^pub struct (\w+) \{", source, re.M)
+            self.assertEqual({f"dn_{name.lower()}" for name in names}, {*re.findall(r"^struct (\w+) \{", header, re.M)})
+            for name in names:
+                self.assertEqual(rust_fields(name, source), fields(f"dn_{name.lower()}", header), name)
+
+    def test_functions(self) -> None:
+        for source, header, _, left_out in DECLARED:
+            found = re.findall(r"^uint32_t (\w+)\((.*?)\);", header, re.M | re.S)
+            declared = {name: arguments("" if given == "void" else given) for name, given in found}
+            found = re.findall(r"^    pub fn (\w+)\((.*)\) -> u32;$", source, re.M)
+            self.assertEqual({*declared} - {name for name, _ in found}, left_out)
+            for name, given in found:
+                self.assertEqual([(as_in_c(kind), one) for one, kind in re.findall(r"(\w+): ([^,]+)", given)], declared[name], name)
+
+    def test_numbers(self) -> None:
+        statuses: dict[str, int] = {}
+        for source, header, enum, _ in DECLARED:
+            statuses.update(numbers(enum, header))
+            for name, value in re.findall(r"^pub const (\w+): u32 = (\d+);", source, re.M):
+                self.assertEqual(int(value), numbers(enum, header)[f"DN_{name}"], name)
+        for value, name in re.findall(r"^ +(\d+) => Self::(\w+),$", RUST_ERRORS, re.M):
+            words = re.sub(r"(?<=[a-z])(?=[A-Z])", "_", name).upper()
+            self.assertEqual(int(value), statuses.get(f"DN_{words}", statuses.get(f"DN_BAD_{words}")), name)
 
 
 if __name__ == "__main__":

@@ -5,9 +5,11 @@ Each test is a run of pytest over a file, in a process of its own.
 
 from __future__ import annotations
 
+import functools
 import importlib.util
 import os
 import re
+import shutil
 import subprocess
 import sys
 import tempfile
@@ -55,6 +57,14 @@ def lacking(*names: str) -> Optional[str]:
     return f"no {' and no '.join(missing)}" if missing else None
 
 
+@functools.lru_cache(maxsize=None)
+def no_rooms() -> str:
+    """Why this machine or this user can't have hosts, or nothing."""
+    command = [sys.executable, "-m", "hinge", "run", "--quiet", "--", "true"]
+    tried = subprocess.run(command, capture_output=True, text=True, env={**os.environ, "DUMMYNET": PROGRAM, "PYTHONPATH": str(TOP / "python")})
+    return "" if tried.returncode == 0 else tried.stderr.strip()
+
+
 class Done:
     """A run of pytest: its text, and the counts of its last line."""
 
@@ -96,6 +106,16 @@ class Plugin(unittest.TestCase):
             """, "--link-seed=7", "--strict-markers")
         self.assertEqual((done.counts, done.status), ({"passed": 33}, 0), done.text)
 
+    def test_a_preset(self) -> None:
+        done = self.run_pytest("""
+            @pytest.mark.link(preset="dsl")
+            def test_it(sim_net):
+                sim_net.path(sim_net.host("10.0.0.1"), sim_net.host("10.0.0.2"))
+                assert [link.line for link in sim_net.links.values()] == [
+                    "pipe 1 config bw 384Kbit/s delay 25ms queue 10", "pipe 2 config bw 1500Kbit/s delay 25ms queue 30"]
+            """, "--strict-markers")
+        self.assertEqual((done.counts, done.status), ({"passed": 1}, 0), done.text)
+
     def test_a_failure_has_the_link(self) -> None:
         done = self.run_pytest("""
             async def test_all_come(sim_net):
@@ -124,20 +144,150 @@ class Plugin(unittest.TestCase):
     def test_a_history_that_is_not_lawful_is_an_error(self) -> None:
         done = self.run_pytest("""
             async def test_it(sim_net):
-                note = sim_net.shaper._note
-                sim_net.shaper._note = lambda call, reply, items="": note(call, reply.replace("queued", "lost"), items)
                 await session(sim_net)
+                sim_net._emulator.history.add("c,0,advance,1\\nr,advanced,0\\n")
             """)
         self.assertEqual(done.counts.get("passed"), 1, done.text)
         self.assertEqual(done.counts.get("error"), 1, done.text)
         self.assertRegex(done.text, r"the history /.*/link\.history isn't lawful: ")
+
+    def test_a_helper_with_the_network_stays_a_coroutine(self) -> None:
+        done = self.run_pytest("""
+            async def two_hosts(sim_net):
+                return sim_net.host("10.0.0.1"), sim_net.host("10.0.0.2")
+
+            class TestOfAClass:
+                async def hosts(self, sim_net):
+                    return await two_hosts(sim_net)
+
+                async def test_method(self, sim_net):
+                    assert len(await self.hosts(sim_net)) == 2
+
+            async def test_helper(sim_net):
+                assert len(await two_hosts(sim_net)) == 2
+            """)
+        self.assertEqual(done.counts, {"passed": 2}, done.text)
+
+    def test_fixtures_that_are_coroutines(self) -> None:
+        """They run in the loop of their test: with pytest-asyncio too, whose own fixtures stay its own."""
+        body = """
+            import time
+            ended = []
+
+            @pytest.fixture
+            async def server(sim_net):
+                sim_net.path(sim_net.host("10.0.0.1"), sim_net.host("10.0.0.2"), "20ms")
+                await sim_net.hosts["10.0.0.2"].endpoint(Echo, 9)
+                await asyncio.sleep(5)
+                yield sim_net.hosts["10.0.0.2"]
+                ended.append(time.time())
+                await asyncio.sleep(1)
+                ended.append(time.time())
+
+            @pytest.fixture
+            async def moment(server):
+                return time.monotonic()
+
+            async def test_both(sim_net, moment):
+                assert (moment, sim_net.seed) == (5, 1)
+
+            async def test_without_the_network(server, moment):
+                assert server.net.loop is asyncio.get_running_loop()
+                assert time.monotonic() == moment
+
+            def test_plain(server, moment):
+                assert (server.name, moment) == ("10.0.0.2", 5)
+
+            class TestOfAClass:
+                @pytest.fixture
+                async def own(self, sim_net):
+                    await asyncio.sleep(2)
+                    self.at = time.monotonic()
+                    yield self.at
+
+                async def test_method(self, sim_net, own):
+                    assert own == self.at == 2
+
+                async def test_method_without(self, own):
+                    assert own == self.at == 2
+
+            def test_ends():
+                assert [round(it - ended[0]) for it in ended[:2]] == [0, 1] and len(ended) == 6
+            """
+        for words in ((), ("-p", "pytest_asyncio.plugin", "--asyncio-mode=strict"), ("-p", "pytest_asyncio.plugin", "--asyncio-mode=auto")):
+            if words and lacking("pytest_asyncio"):
+                continue
+            done = self.run_pytest(body, *words)
+            self.assertEqual((done.counts.get("passed"), done.status), (6, 0), done.text)
+
+    def test_a_fixture_that_fails_or_yields_twice(self) -> None:
+        done = self.run_pytest("""
+            @pytest.fixture
+            async def twice(sim_net):
+                yield 1
+                yield 2
+
+            @pytest.fixture
+            async def fails(sim_net):
+                await asyncio.sleep(1)
+                raise ValueError("not ready")
+
+            async def test_twice(sim_net, twice):
+                assert twice == 1
+
+            async def test_fails(sim_net, fails):
+                pass
+
+            async def test_of_a_failure(sim_net, twice):
+                assert twice == 2
+            """)
+        self.assertEqual({"passed": 1, "failed": 1, "errors": 2}, done.counts, done.text)
+        self.assertIn("the fixture twice yields more than once", done.text)
+        self.assertIn("ValueError: not ready", done.text)
+
+    def test_a_report_that_fails_ends_no_session(self) -> None:
+        done = self.run_pytest("""
+            async def test_no_report(sim_net):
+                sim_net.report = lambda: 1 / 0
+                assert False
+
+            def test_no_host(sim_net):
+                sim_net.path(sim_net.host("10.0.0.1"), "10.0.0.2")
+
+            async def test_next(sim_net):
+                assert await session(sim_net, 1) == 1
+            """)
+        self.assertEqual(done.counts, {"passed": 1, "failed": 2}, done.text)
+        self.assertIn("no report: ZeroDivisionError", done.text)
+        self.assertIn("TypeError: a link is between two hosts, and '10.0.0.2' is none", done.text)
+
+    def test_an_exception_that_nobody_takes_fails_its_test(self) -> None:
+        done = self.run_pytest("""
+            async def bad():
+                raise ValueError("in the task")
+
+            async def test_task(sim_net):
+                sim_net.host("10.0.0.1").create_task(bad(), name="server")
+                await asyncio.sleep(1)
+
+            async def test_callback(sim_net):
+                asyncio.get_running_loop().call_soon(int, "x")
+                await asyncio.sleep(1)
+
+            async def test_taken(sim_net):
+                with pytest.raises(ValueError):
+                    await sim_net.host("10.0.0.1").create_task(bad())
+            """)
+        self.assertEqual((done.counts["passed"], done.counts["errors"]), (3, 2), done.text)
+        self.assertIn("nobody took an exception: server on 10.0.0.1: ValueError('in the task')", done.text)
+        self.assertIn("nobody took an exception: Exception in callback", done.text)
 
     def test_a_line_that_cannot_be_obeyed(self) -> None:
         done = self.run_pytest("""
             def test_it(sim_net):
                 sim_net.path(sim_net.host("10.0.0.1"), sim_net.host("10.0.0.2"), "8Mbps")
             """)
-        self.assertIn("LineError: word 4: unknown word", done.text)
+        self.assertIn("LineError: '8Mbps': not a bandwidth; write 8Mbit/s", done.text)
 
     @unittest.skipIf(lacking("xdist"), "no python3-pytest-xdist")
     def test_under_xdist(self) -> None:
@@ -214,6 +364,45 @@ class Plugin(unittest.TestCase):
         self.assertRegex(section, r"up: 100 came, \d+ delivered, \d+ lost")
         self.assertRegex(section, r"(?m)^  row  *\d+, \d+\.\d{9} s, 127\.0\.0\.1:\d+ > 127\.0\.0\.1:\d+, (29|30) bytes: lost$")
         self.assertRegex(section, r"(?m)^seed 5, lawful \d+: hinge look /.*/link1\.history$")
+
+    def test_nets(self) -> None:
+        if no_rooms() or shutil.which("ping") is None:
+            self.skipTest(no_rooms() or "no ping")
+        done = self.run_pytest("""
+            def two(net, *link):
+                net.host("a", "echo what a says")
+                net.host("b")
+                net.link("a", "b", *link)
+
+            @pytest.mark.link("5ms", back="7ms")
+            def test_pass(net):
+                two(net)
+                assert "1 received" in net.run("b", "ping -c 1 a").stdout
+
+            def test_fail(net):
+                two(net, "1ms plr 0.999999")
+                net.change("a", "b", "2ms plr 0.999999")
+                net.run("b", "echo what b says; ping -c 1 -W 1 a")
+
+            def test_never_begun(net):
+                two(net, "1mss")
+
+            def test_no_word(net):
+                net.describe("hots a")
+                net.start()
+            """, "--strict-markers", "--link-seed=4")
+        self.assertEqual(done.counts, {"failed": 3, "passed": 1}, done.text)
+        failed, never, word = re.split(r"\n_{4,}", done.text)[1:]
+        self.assertRegex(failed, r"CommandFailed: b: echo what b says; ping -c 1 -W 1 a: status 1\nE +what b says\n")
+        section = failed.partition("emulated link")[2]
+        self.assertRegex(section, r"(?m)^b > a: 1 came, 0 delivered, 1 lost, 0 met a full queue, 0 under way, late ")
+        self.assertRegex(section, r"(?m)^  \d+\.\d{6} s, changed: pipe 1 config delay 2 plr 0\.99999\d+$")
+        self.assertRegex(section, r"(?m)^  row  *1, \d+\.\d{9} s, b:0 > a:0, 84 bytes: lost$")
+        self.assertRegex(section, r"(?m)^a printed last \(/.*/net/logs/a\.log\):\n  what a says$")
+        self.assertRegex(section, r"(?m)^seed 4, lawful \d+: hinge look /.*/net/net\.history$")
+        self.assertIn("NetError: the link: '1mss': ", never)
+        self.assertRegex(word, r"NetError: /.*/described\.net line 1: 'hots': no word of a net, .*; did you mean 'host'\?")
+        self.assertNotIn("def run(self", done.text)  # a test's own line is shown
 
 
 if __name__ == "__main__":

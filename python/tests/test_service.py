@@ -4,15 +4,19 @@ from __future__ import annotations
 
 import os
 import re
+import resource
+import signal
 import subprocess
 import unittest
 from concurrent.futures import ThreadPoolExecutor
 from pathlib import Path
 from random import Random
 from tempfile import TemporaryDirectory
+from unittest import mock
 
 import hingetulip
-from hingetulip import ClosedError, Delivery, Fate, FlowStatus, LineError, Outcome, RangeError, RefusedError, Service, Shaper, service
+from hingetulip import ClosedError, Delivery, Fate, FlowStatus, InUseError, LineError, Outcome, RangeError, RefusedError, Service, Shaper
+from hingetulip import history_file, service
 
 TOP = Path(__file__).resolve().parents[2]
 HEADER = TOP / "crates" / "hingetulip_c" / "include" / "hingetulip_service.h"
@@ -72,11 +76,73 @@ class OneCaller(unittest.TestCase):
                      lambda: self.caller.submit(0, 65536, pipe=1), lambda: self.caller.advance(-1), lambda: self.caller.collect(2**62 + 1)):
             self.assertRaises(RangeError, call)
         self.assertRaises(TypeError, lambda: self.caller.submit(0, 1))
+        for count in (0, -1, 16, 10**9):
+            self.assertRaises(RangeError, Service, count)
         self.service.close()
         self.service.close()
         for call in (lambda: self.caller.advance(0), lambda: self.caller.configure(LINE), lambda: self.caller.collect(0), self.caller.show,
                      self.caller.wake, self.service.take):
             self.assertRaises(ClosedError, call)
+
+    def test_a_take_is_in_the_file(self) -> None:
+        with TemporaryDirectory() as folder:
+            path = Path(folder) / "history"
+            self.service.history(path)
+            self.caller.advance(7)
+            self.assertEqual(2, self.service.take())
+            line = "pipe 1 config bw 8000000bit/s delay 20 queue 1"
+            self.assertEqual(f"dummynet-history,3\nc,0,configure,{line}\nr,configured\nc,0,advance,7\nr,advanced,7\n", path.read_text())
+            self.service.close()
+            self.assertTrue(path.read_text().endswith("r,advanced,7\nend,2\n"))
+
+    def test_a_full_disk(self) -> None:
+        with TemporaryDirectory() as folder:
+            path = Path(folder) / "history"
+            self.service.history(path)
+            limits = resource.getrlimit(resource.RLIMIT_FSIZE)
+            before = signal.signal(signal.SIGXFSZ, signal.SIG_IGN)
+            resource.setrlimit(resource.RLIMIT_FSIZE, (100, limits[1]))
+            try:
+                for moment in range(3000):
+                    self.caller.advance(moment)
+                self.assertRaises(OSError, self.service.take)
+                self.caller.advance(3000)
+                self.assertRaises(OSError, self.service.close)
+                self.assertFalse(self.service.closed)
+                self.assertRaises(OSError, self.service.close)
+            finally:
+                resource.setrlimit(resource.RLIMIT_FSIZE, limits)
+                signal.signal(signal.SIGXFSZ, before)
+            self.service.close()
+            self.assertTrue(self.service.closed)
+            done = subprocess.run([program(), "audit", path], capture_output=True, text=True)
+            self.assertEqual("lawful 3002\n", done.stdout, done.stderr)
+
+    def test_a_signal_in_a_call(self) -> None:
+        seen = {InUseError: 0, int: 0}
+
+        def handler(*_: object) -> None:
+            try:
+                self.caller.advance(0)
+                seen[int] += 1
+            except InUseError:
+                seen[InUseError] += 1
+
+        before = signal.signal(signal.SIGALRM, handler)
+        signal.setitimer(signal.ITIMER_REAL, 0.0005, 0.0005)
+        try:
+            for _ in range(10**6):
+                self.caller.submit(0, 1000, pipe=1)
+                if seen[InUseError] > 2:
+                    break
+        finally:
+            signal.setitimer(signal.ITIMER_REAL, 0)
+            signal.signal(signal.SIGALRM, before)
+        self.assertGreater(seen[InUseError], 2)
+        with self.caller._turn:
+            self.assertRaises(InUseError, self.service.close)
+            self.service.__del__()
+        self.assertEqual(5, self.caller.advance(5))
 
     def test_history(self) -> None:
         with TemporaryDirectory() as folder:
@@ -133,13 +199,21 @@ class Counts(unittest.TestCase):
             self.assertTrue(opened.closed)
 
 
+class Waiting(unittest.TestCase):
+    def test_a_busy_service_is_tried_at_once_and_then_after_rests(self) -> None:
+        statuses = iter([service.BUSY] * 6 + [16])
+        with mock.patch.object(service, "sleep") as sleep:
+            self.assertEqual(16, service.answered(lambda *_: next(statuses), 1, 2))
+        self.assertEqual([mock.call(0)] * 4 + [mock.call(20e-6)] * 2, sleep.mock_calls)
+
+
 class Header(unittest.TestCase):
     def test_functions_and_statuses(self) -> None:
         text = HEADER.read_text()
         self.assertEqual(sorted(re.findall(r"^uint32_t (\w+)\(", text, re.M)), sorted(service.FUNCTIONS))
         statuses = dict(re.findall(r"(DN_\w+) = (\d+)", text))
         self.assertEqual({"DN_BUSY": str(service.BUSY), "DN_BAD_COUNT": "16", "DN_UNWRITTEN": "17", "DN_NO_ENTRY": str(service.NO_ENTRY)}, statuses)
-        self.assertIn(f'#define DN_HISTORY_FRONT "{service.FRONT.decode().strip()}\\n"', text)
+        self.assertIn(f'#define DN_HISTORY_FRONT "{history_file.FRONT.decode().strip()}\\n"', text)
 
 
 def work(shared: Service, number: int) -> int:

@@ -4,6 +4,8 @@ from __future__ import annotations
 
 from dataclasses import dataclass
 
+from hinge.command import printable
+
 MOST_FAULTS = 20  # of one file that are told
 
 
@@ -16,10 +18,10 @@ class Findings:
     status: int = 0
 
     def fault(self, where: str, what: str, status: int) -> None:
-        print(f"{where}: {what}")
+        print(printable(f"{where}: {what}"))
         self.faults += 1
         self.status = self.status or status
 
     def warn(self, where: str, what: str) -> None:
-        print(f"{where}: warning: {what}")
+        print(printable(f"{where}: warning: {what}"))
         self.warnings += 1

@@ -10,10 +10,10 @@ from fractions import Fraction
 from typing import Iterator, NamedTuple
 
 from hinge.checks.findings import MOST_FAULTS, Findings
-from hinge.checks.values import FIELD_BITS
-from hinge.checks.words import OPTIONS, advice, words_of
+from hingetulip_words.values import FIELD_BITS
+from hingetulip_words.advice import OPTIONS, advice, words_of
 from hinge.command import CONFIGURATION
-from hinge.configured import InForce
+from hinge.configurations.configured import InForce
 from hinge.program import dummynet
 
 MOST_LINE_BYTES = 65_000  # of a line that a live session takes
@@ -21,20 +21,24 @@ LONG_DELAY_MS = 10_000
 
 
 class Verdict(NamedTuple):
-    """What the program says of a line. `name` is `ok`, `bad` or why the command was refused; `text` is the program's spelling of the
-    command, or of a bad line the cause."""
+    """What the program says of a line. `name` is `ok`, `bad` or why the command was refused; `text` is the program's
+    spelling of the command, or of a bad line the cause."""
 
     line: int
     name: str
     text: str
 
 
-def judged(lines: list[bytes]) -> Iterator[Verdict]:
-    """The verdict of each line that asks for something. All lines are of one session, in which each has its effect on the next."""
-    given = b"".join(b" " + line[:MOST_LINE_BYTES] + b"\n" for line in lines)  # with a blank before it no line is a call
+def judged_lines(lines: list[bytes]) -> Iterator[Verdict]:
+    """The verdict of each line that asks for something. All lines are of one session, in which each has its effect on
+    the next."""
+    shorter = (re.sub(rb" +", b" ", line) for line in lines)  # a file's line may be longer than one of a live session
+    # with a blank before it no line is a call
+    given = b"".join(b" " + line[:MOST_LINE_BYTES] + b"\n" for line in shorter)
     answer = subprocess.run([dummynet(), "live"], input=given, stdout=subprocess.PIPE, stderr=subprocess.DEVNULL).stdout
     records = answer.decode("utf-8", "replace").splitlines()
-    bad = {int(fields[2]): fields[4] for fields in (record.split(",", 4) for record in records) if fields[:2] == ["#", "bad"]}
+    bad = {int(fields[2]): fields[4] for fields in (record.split(",", 4) for record in records) if fields[:2]
+           == ["#", "bad"]}
     calls = iter([record for record in records if record[:2] in ("c,", "r,")])
     for number, line in enumerate(lines, 1):
         if number in bad:
@@ -53,13 +57,15 @@ class LineCheck:
     found: Findings
     in_force: InForce = field(default_factory=InForce)
     spoilt: dict[str, int] = field(default_factory=dict)  # the line of each pipe and queue that has a fault
-    last: dict[str, tuple[int, list[str]]] = field(default_factory=dict)  # the line of each that has none, and its words
+    # the line of each that has none, and its words
+    last: dict[str, tuple[int, list[str]]] = field(default_factory=dict)
 
     def check(self) -> None:
         before = self.found.faults
-        for verdict in judged(self.lines):
+        for verdict in judged_lines(self.lines):
             if self.found.faults - before == MOST_FAULTS:
-                self.found.warn(f"{self.name}:{verdict.line}", f"{MOST_FAULTS} faults; the lines from here on weren't looked at")
+                self.found.warn(f"{self.name}:{verdict.line}",
+                                f"{MOST_FAULTS} faults; the lines from here on weren't looked at")
                 return
             self.one(verdict)
 
@@ -94,7 +100,8 @@ class LineCheck:
         if verdict.name != "no-such-pipe":
             return f"no such queue: queue {words[-1]} isn't configured here; leave this line out"
         pipe = f"pipe {words[4] if words[1] != 'delete' and len(words) > 4 else words[-1]}"
-        because = f" (line {self.spoilt[pipe]}, which is of it, has a fault)" if pipe in self.spoilt else "; a pipe's line stands above those of its queues"
+        because = (f" (line {self.spoilt[pipe]}, which is of it, has a fault)" if pipe in self.spoilt
+                   else "; a pipe's line stands above those of its queues")
         return f"no such pipe: {pipe} isn't configured here{because}"
 
     def warn_of_second(self, where: str, words: list[str]) -> None:
@@ -124,5 +131,6 @@ def unlikely(name: str, word: str) -> str | None:
         return f"delay {word} is {ms / 1000:g} s; delays are in ms"
     if name in FIELD_BITS and word.isdigit() and int(word) & (int(word) + 1):
         whole = hex((1 << FIELD_BITS[name]) - 1)
-        return f"mask {name} {word} keeps the bits {int(word):#x}, and is neither a prefix length nor a value; all bits are {whole}"
+        return (f"mask {name} {word} keeps the bits {int(word):#x}, and is neither a prefix length nor a value; all "
+                f"bits are {whole}")
     return None

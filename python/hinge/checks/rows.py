@@ -1,4 +1,5 @@
-"""The rows of a packet file: each that the program doesn't take, and what hardly anybody means by those that it takes."""
+"""The rows of a packet file: each that the program doesn't take, and what hardly anybody means by those that it
+takes."""
 
 from __future__ import annotations
 
@@ -6,6 +7,7 @@ import csv
 import io
 import re
 import subprocess
+import sys
 from collections import Counter
 from dataclasses import dataclass, field
 from fractions import Fraction
@@ -13,13 +15,16 @@ from typing import Iterator, NamedTuple, Optional
 
 from hinge.checks.findings import MOST_FAULTS, Findings
 from hinge.command import ROWS
-from hinge.configured import InForce, Setting
+from hinge.configurations.configured import InForce, Setting
 from hinge.program import dummynet
+
+csv.field_size_limit(sys.maxsize)  # a field may be as long as its file
 
 HEADER = ["moment", "target", "number", "src", "dst", "proto", "sport", "dport", "len", "word"]
 ADDRESS = "four numbers 0 to 255, as 10.0.0.1"
 RANGES = dict(zip(HEADER, [
-    "0 to 4611686018427387904", "pipe or queue", "1 to 65535", ADDRESS, ADDRESS, "0 to 255", "0 to 65535", "0 to 65535", "1 to 65535",
+    "0 to 4611686018427387904", "pipe or queue", "1 to 65535", ADDRESS, ADDRESS, "0 to 255", "0 to 65535", "0 to 65535",
+    "1 to 65535",
     "0 to 4294967295"]))
 PROTOCOLS = {"icmp": 1, "igmp": 2, "tcp": 6, "udp": 17, "gre": 47, "esp": 50, "icmpv6": 58, "icmp6": 58, "sctp": 132}
 LAST_MOMENT = 2**62
@@ -30,7 +35,7 @@ NS_PER_DAY = 86_400 * 10**9
 STRETCH = 10_000  # rows that are judged at once behind a bad one
 
 
-class Record(NamedTuple):
+class Row(NamedTuple):
     """A record of a file as the program counts them: the line where it begins, and its text."""
 
     line: int
@@ -40,7 +45,7 @@ class Record(NamedTuple):
         return next(csv.reader([self.text.decode("utf-8", "replace")]), [])
 
 
-def records(data: bytes, line: int) -> Iterator[Record]:
+def records(data: bytes, line: int) -> Iterator[Row]:
     """The records of a text that begins in this line; a field in quotes may go over several."""
     data = data.removeprefix(b"\xef\xbb\xbf") if line == 1 else data
     lines = io.StringIO(data.decode("latin-1"), newline="").readlines()
@@ -51,10 +56,10 @@ def records(data: bytes, line: int) -> Iterator[Record]:
         is_open ^= text.count('"') % 2 == 1
         if not is_open:
             if whole := "".join(kept).rstrip("\r\n"):
-                yield Record(number - len(kept) + 1, whole.encode("latin-1"))
+                yield Row(number - len(kept) + 1, whole.encode("latin-1"))
             kept = []
     if kept:
-        yield Record(line + len(lines) - len(kept), "".join(kept).encode("latin-1"))
+        yield Row(line + len(lines) - len(kept), "".join(kept).encode("latin-1"))
 
 
 def of_moment(text: str) -> Optional[str]:
@@ -96,7 +101,8 @@ def field_advice(name: str, text: str) -> str:
         return "empty; write 0" if name in ("sport", "dport", "proto") else f"empty; write {RANGES[name]}"
     if name == "target":
         is_case = text.lower() in ("pipe", "queue")
-        return f"keywords are lower case; write {text.lower()}" if is_case else "write pipe or queue, and its number in the next field"
+        return (f"keywords are lower case; write {text.lower()}" if is_case
+                else "write pipe or queue, and its number in the next field")
     if name in ("src", "dst"):
         return of_address(text)
     if name == "proto" and text.lower() in PROTOCOLS:
@@ -111,26 +117,29 @@ def separator(text: str) -> Optional[str]:
     return next((mark for mark in ";\t|" if text.count(mark) >= len(HEADER) - 2), None)
 
 
-def wrong(record: Record, field_number: int) -> str:
+def wrong(record: Row, field_number: int) -> str:
     """What is wrong with a row, by the field that the program names; 0 is the whole row."""
     texts = record.fields()
     if field_number:
         name, text = HEADER[field_number - 1], texts[field_number - 1]
         return f"field {field_number} ({name}) {text!r}: {field_advice(name, text)}"
     other = separator(record.text.decode("utf-8", "replace"))
-    return f"{len(texts)} fields in place of {len(HEADER)}; write " + (f"commas for {other!r}" if other else ",".join(HEADER))
+    return f"{len(texts)} fields in place of {len(HEADER)}; write " + (f"commas for {other!r}" if other
+                                                                       else ",".join(HEADER))
 
 
 def wrong_header(text: str) -> str:
     other = separator(text)
-    what = f"fields are parted by commas, not by {other!r}" if other else "no header" if text[:1].isdigit() else f"another header, {text[:60]!r}"
+    what = (f"fields are parted by commas, not by {other!r}" if other else "no header" if text[:1].isdigit()
+            else f"another header, {text[:60]!r}")
     return f"{what}; write {','.join(HEADER)}"
 
 
-def verdict(rows: list[Record]) -> tuple[int, str]:
+def verdict(rows: list[Row]) -> tuple[int, str]:
     """The program's status for these rows below a header, and its fault."""
     text = b"\n".join([",".join(HEADER).encode(), *(row.text for row in rows)])
-    done = subprocess.run([dummynet(), "replay", "/dev/null", "/dev/stdin"], input=text, stdout=subprocess.DEVNULL, stderr=subprocess.PIPE)
+    done = subprocess.run([dummynet(), "replay", "/dev/null", "/dev/stdin"], input=text, stdout=subprocess.DEVNULL,
+                          stderr=subprocess.PIPE)
     return done.returncode, done.stderr.decode().strip()
 
 
@@ -147,7 +156,7 @@ class Sums:
     targets: Counter[str] = field(default_factory=Counter)
     first_line: dict[str, int] = field(default_factory=dict)
 
-    def add(self, row: Record) -> None:
+    def add(self, row: Row) -> None:
         fields = row.text.decode().split(",") if b'"' not in row.text else row.fields()
         moment, target = int(fields[0]), f"{fields[1]} {fields[2]}"
         if moment < self.clock:
@@ -184,7 +193,7 @@ class RowCheck:
         elif self.judge(rows):
             self.warn(rows)
 
-    def judge(self, rows: list[Record]) -> bool:
+    def judge(self, rows: list[Row]) -> bool:
         """Whether the program takes all rows; those that it doesn't take are told."""
         begin, told, step = 0, 0, len(rows)
         while begin < len(rows) and told < MOST_FAULTS:
@@ -203,7 +212,7 @@ class RowCheck:
             self.found.warn(self.name, f"{MOST_FAULTS} faults; the rows behind them weren't looked at")
         return told == 0
 
-    def warn(self, rows: list[Record]) -> None:
+    def warn(self, rows: list[Row]) -> None:
         sums = Sums()
         for row in rows:
             sums.add(row)
@@ -212,7 +221,9 @@ class RowCheck:
             return
         self.warn_of_moments(sums)
         if sums.longest > LONGEST_FRAME:
-            self.found.warn(self.name, f"packets of up to {sums.longest} bytes: segments that a card was still to cut? (`hinge packets --mtu 1500`)")
+            self.found.warn(self.name,
+                            f"packets of up to {sums.longest} bytes: segments that a card was still to cut? (`hinge "
+                            f"packets --mtu 1500`)")
         if self.in_force is not None:
             self.warn_of_targets(sums, self.in_force)
             self.warn_of_words(sums, self.in_force)
@@ -220,12 +231,15 @@ class RowCheck:
     def warn_of_moments(self, sums: Sums) -> None:
         late, count, span = sums.late, sums.count, sums.clock - sums.first_moment
         if late:
-            self.found.warn(f"{self.name}:{late[0]}", f"{len(late)} of {count} rows have a moment before that of a row above, and count as sent "
+            self.found.warn(f"{self.name}:{late[0]}",
+                            f"{len(late)} of {count} rows have a moment before that of a row above, and count as sent "
                             "at that one's; sort the rows by moment")
         if count >= 100 and span < 100 * count:
             self.found.warn(self.name, f"{count} packets within {span} ns; moments are nanoseconds (1 s is 1000000000)")
         if sums.first_moment > FAR:
-            self.found.warn(self.name, f"the first packet is sent at {sums.first_moment} ns, {sums.first_moment // NS_PER_DAY} days after the start; "
+            self.found.warn(self.name,
+                            f"the first packet is sent at {sums.first_moment} ns, {sums.first_moment // NS_PER_DAY} "
+                            f"days after the start; "
                             "count from the first packet")
 
     def warn_of_targets(self, sums: Sums, force: InForce) -> None:
@@ -234,7 +248,8 @@ class RowCheck:
         none = "; NO row has a target" if len(unknown) == len(sums.targets) else ""
         for target in unknown[:MOST_FAULTS]:
             self.found.warn(f"{self.name}:{sums.first_line[target]}",
-                            f"{sums.targets[target]} of {sums.count} rows go to {target}, which {self.config} doesn't configure{none}")
+                            f"{sums.targets[target]} of {sums.count} rows go to {target}, which {self.config} doesn't "
+                            f"configure{none}")
 
     def warn_of_words(self, sums: Sums, force: InForce) -> None:
         settings: list[Setting] = [*force.pipes.values(), *force.queues.values()]
@@ -242,4 +257,6 @@ class RowCheck:
         if rates and sums.count > 1 and len(sums.words) == 1:
             word = int(next(iter(sums.words)))
             fate = "lost" if word % LOSS_PARTS < max(rates) else "not lost"
-            self.found.warn(self.name, f"each word is {word}, so under a loss rate all packets have one fate ({fate}); draw each word anew")
+            self.found.warn(self.name,
+                            f"each word is {word}, so under a loss rate all packets have one fate ({fate}); draw each "
+                            f"word anew")

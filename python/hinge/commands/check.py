@@ -10,12 +10,14 @@ from hinge.checks.findings import Findings
 from hinge.checks.histories import check_history
 from hinge.checks.lines import LineCheck
 from hinge.checks.rows import RowCheck
+from hinge.checks.waits import told_wait
 from hinge.command import ROWS, parser
 
 WHAT = """\
-Says what is wrong with configuration lines, packet files and histories, and what to write: the file, the line, the word or field as it
-stands there, and what would be right. The program dummynet is the judge: what it takes has warnings at most. Packet files are also held
-against the configuration that is named with them. The exit status is that of the first fault, 1 for a history that isn't lawful."""
+Says what is wrong with configuration lines, packet files and histories, and what to write: the file, the line, the word
+or field as it stands there, and what would be right. The program dummynet is the judge: what it takes has warnings at
+most. Packet files are also held against the configuration that is named with them. Of a pipe without queues it also
+tells how long a packet waits at most. The exit status is that of the first fault, 1 for a history that isn't lawful."""
 CAPTURES = (b"\xd4\xc3\xb2\xa1", b"\xa1\xb2\xc3\xd4", b"\x4d\x3c\xb2\xa1", b"\xa1\xb2\x3c\x4d", b"\x0a\x0d\x0d\x0a")
 ROW_MARKS = 8  # commas, semicolons or tabs that a header has at least
 
@@ -29,7 +31,8 @@ def kind_of(path: str, data: bytes) -> str:
         return "history"
     if head.startswith(b"event,row,flow"):
         return "report"
-    if head.startswith(b"moment") or path.endswith(".csv") or sum(head.count(mark) for mark in (b",", b";", b"\t")) >= ROW_MARKS:
+    if head.startswith(b"moment") or path.endswith(".csv") or sum(head.count(mark)
+                                                                  for mark in (b",", b";", b"\t")) >= ROW_MARKS:
         return "packets"
     return "config"
 
@@ -45,7 +48,8 @@ class Check:
     def add(self, path: str, data: bytes) -> None:
         kind = kind_of(path, data)
         if kind == "capture":
-            self.found.fault(path, f"a capture, not a packet file; `hinge packets {path} -o packets.csv` writes one", ROWS)
+            self.found.fault(path, f"a capture, not a packet file; `hinge packets {path} -o packets.csv` writes one",
+                             ROWS)
         elif kind == "report":
             self.found.fault(path, "a report of a replay, not a packet file", ROWS)
         elif kind == "history":
@@ -68,6 +72,12 @@ class Check:
             in_force, config = (self.lines.in_force, self.lines.name) if self.lines else (None, "")
             RowCheck(path, data, self.found, config, in_force, line).check()
 
+    def tell_waits(self) -> None:
+        """How long packets wait at most, by the last configuration if it has no fault."""
+        if self.lines and not self.found.faults:
+            for text in told_wait(self.lines.in_force):
+                print(f"{self.lines.name}: {text}", file=sys.stderr)
+
 
 def main() -> None:
     line = parser(WHAT, "hinge check link.config packets.csv")
@@ -76,7 +86,9 @@ def main() -> None:
     for path in line.parse_args().files:
         check.add(path, Path(path).read_bytes())
     check.finish()
+    check.tell_waits()
     found = check.found
-    print(f"{found.faults} faults, {found.warnings} warnings" if found.faults or found.warnings else "nothing to say", file=sys.stderr)
+    print(f"{found.faults} faults, {found.warnings} warnings" if found.faults or found.warnings else "nothing to say",
+          file=sys.stderr)
     sys.stdout.flush()
     sys.exit(found.status)

@@ -1,76 +1,126 @@
-"""What a live session did: its flows, a picture, and what happened to a packet."""
+"""What a live session or a replay did: its flows, a picture, and what happened to a packet."""
 
 from __future__ import annotations
 
 import argparse
-import subprocess
+import json
+import os
 import sys
 
 from hinge.arguments import bounded
-from hinge.chart import MOST_FLOWS, save
-from hinge.command import ROWS, Fault, parser, say
-from hinge.commands.picture import picture_file
-from hinge.commands.stats import write_text
-from hinge.explain import Explainer
-from hinge.figures import MOST_FLOWS as MOST_ROWS
-from hinge.figures import table_of, tell_untargeted
-from hinge.groups import WAYS, group
-from hinge.history import Told, read_history
-from hinge.links import Parts
-from hinge.page import save_page
-from hinge.program import dummynet
-from hinge.series import NS_PER_MS, fitting_step, series, span_of
+from hinge.command import parser, printable, say
+from hinge.outputs import refuse_inputs, writing
+from hinge.paths.looked import audit, look_at_net
+from hinge.pictures.drawn import draw_sources, picture_file
+from hinge.pictures.figures import MOST_FLOWS as MOST_ROWS
+from hinge.pictures.figures import Figures, table_of
+from hinge.pictures.panels import MOST_FLOWS
+from hinge.pictures.text_table import write_text
+from hinge.replays.asked import SOURCE, add_flows, add_source, read_sources
+from hinge.replays.explain import Explainer
+from hinge.replays.parting import parting
+from hinge.replays.remarks import KINDS
+from hinge.replays.source import Source
+from hinge.run.summary import FORMAT
 
 WHAT = """\
-Reads a history, or the transcript of a live session, and writes the table of `hinge stats` to standard output. -o draws the picture of
-`hinge picture`, --why tells of packets what `hinge why` does, and --audit asks dummynet whether it is lawful. Packets are numbered
-as rows: the first that was submitted is 1. Where the links were changed under way, no parts of the delay are told, nor --why. The
-transcript of a session that was killed is looked at up to where it was cut, and a line says so."""
+Reads a history, or the transcript of a live session, and writes the table of `hinge stats` to standard output. -o draws
+the picture of `hinge picture`, --why tells of packets what `hinge why` does, and --audit asks dummynet whether it is
+lawful. Packets are numbered as rows: the first that was submitted is 1. Where the links were changed under way, no
+parts of the delay are told, nor --why. The transcript of a session that was killed is looked at up to where it was cut,
+and a line says so. A packet file and its report are read as well, with --config.
+
+Of the folder of a net it tells of each way and each path, hop by hop, and draws what was carried and cut when, as
+letters too.
+
+--diff A B tells the first call at which two histories part, by itself or by its reply, with the calls around it: those
+of both, those of A (-) and those of B (+). Remarks don't count. Its exit status is 1 if they differ."""
+DIFFERENT = 1
 
 
 def command_line() -> argparse.Namespace:
-    line = parser(WHAT, "hinge look session.history -o session.png --why 17")
-    line.add_argument("history")
+    line = parser(WHAT,
+                  "hinge look session.history -o session.png --why 17\n  hinge look session -o net.png          (the "
+                  "folder of a net)")
+    add_source(line, "(HISTORY | PACKETS REPORT | FOLDER | --diff HISTORY HISTORY)",
+               told=f"{SOURCE}; or the folder of hinge net --transcripts")
+    line.add_argument("--diff", action="store_true",
+                      help="tell the first call at which two histories part, in place of the table")
     line.add_argument("-o", metavar="FILE", type=picture_file, help="the picture: .png, .svg, .pdf or .html")
-    line.add_argument("--why", metavar="ROW", type=bounded(1, 2**62), nargs="+", default=[], help="tell what happened to packets, in place of the table")
+    line.add_argument("--why", metavar="ROW", type=bounded(1, 2**62), nargs="+", default=[],
+                      help="tell what happened to packets, in place of the table")
     line.add_argument("--audit", action="store_true", help="ask dummynet first whether the history is lawful")
-    line.add_argument("--by", choices=WAYS, default="tuple", help="what a flow is, as for stats")
-    line.add_argument("--top", metavar="N", type=bounded(1, 10**6), help=f"the N largest flows (default: 40, and {MOST_FLOWS} in a picture)")
-    line.add_argument("--step", metavar="MS", type=bounded(1, 10**9))
+    add_flows(line, 10**6, None, f"{MOST_ROWS}, and {MOST_FLOWS} in a picture")
+    line.add_argument("--step", metavar="MS", type=bounded(1, 10**9),
+                      help="ms of a step of throughput and drops (default: by the length)")
     line.add_argument("--title", default="")
-    return line.parse_args()
+    line.add_argument("--json", metavar="FILE",
+                      help="the table or the difference for a program, with all figures in whole ns")
+    asked = line.parse_intermixed_args()
+    if asked.audit and len(asked.source) > 1:
+        line.error("--audit is of a history alone")
+    if asked.diff and len(asked.source) != 2:
+        line.error("--diff takes two histories")
+    if asked.diff and (asked.o or asked.why or asked.audit or asked.config):
+        line.error("--diff goes with --json alone")
+    return asked
 
 
-def draw(told: Told, parts: Parts | None, asked: argparse.Namespace) -> None:
-    replay = told.replay
-    span = span_of([replay])
-    flows = group(replay, asked.by).largest(replay.packets.length, min(asked.top or MOST_FLOWS, MOST_FLOWS))
-    found = series(replay, flows, asked.step * NS_PER_MS if asked.step else fitting_step([replay], span), span, told.changes)
-    if asked.o.lower().endswith(".html"):
-        save_page(found, Explainer(parts) if parts else None, asked.o, asked.title)
+def write_json(source: Source, table: list[Figures], path: str) -> None:
+    """The table for a program; docs/JSON.md has its keys."""
+    most = {kind: source.most_late(kind) for kind in KINDS} if source.lateness else None
+    flows: list[dict[str, object]] = [{"flow": row.name, **row.value} for row in table]
+    told = {"format": FORMAT, "history": source.replay.path, "seed": source.seed, "lateness_ms": most, "flows": flows}
+    with writing(path) as out:
+        json.dump(told, out, indent=1)
+        out.write("\n")
+
+
+def tell_difference(one: str, other: str, path: str | None) -> None:
+    """Where two histories part; it ends with the status of two that differ."""
+    found = parting(one, other)
+    if path:
+        with writing(path) as out:
+            told: dict[str, object] = {"format": FORMAT, "histories": [one, other], "equal": found is None}
+            json.dump({**told, **(found.known() if found else {})}, out, indent=1)
+            out.write("\n")
+    if found is None:
+        print(printable(f"{one} and {other} have the same calls and replies"))
     else:
-        save([found], asked.o, asked.title)
+        print(printable(f"{one} and {other} part in call {found.number}{found.at()}: {found.reason()}"))
+        print(found.text())
+        sys.exit(DIFFERENT)
 
 
 def main() -> None:
     asked = command_line()
-    if asked.audit:
-        done = subprocess.run([dummynet(), "audit", asked.history], capture_output=True, text=True)
-        say(done.stdout.strip() or done.stderr.strip())
-    told = read_history(asked.history)
-    replay = told.replay
-    if told.cut is not None:
-        say(f"{asked.history} has no end behind line {told.cut}: the session was killed, or still goes on; it is looked at up to there")
-    parts = Parts(replay, told.configuration()).check() if told.steady else None
-    if asked.why and not parts:
-        raise Fault(f"{asked.history}: the links were changed while packets came, and --why is of links that stay as they are", ROWS)
-    if asked.why and parts:
-        explainer = Explainer(parts)
-        print("\n\n".join(explainer.paragraph(row) for row in asked.why))
+    if asked.diff:
+        refuse_inputs((asked.json,), asked.source)
+        one, other = asked.source
+        tell_difference(one, other, asked.json)
+    elif os.path.isdir(asked.source[0]):
+        look_at_net(asked, asked.source[0])
     else:
-        write_text(table_of(replay, parts, asked.by, asked.top or MOST_ROWS), sys.stdout)
-        tell_untargeted(replay)
-        if not told.steady:
-            say("the links were changed while packets came: no parts of the delay")
+        look(asked)
+
+
+def look(asked: argparse.Namespace) -> None:
+    """The table of a source, its picture, and what happened to packets."""
+    if asked.audit:
+        refuse_inputs((asked.o, asked.json), asked.source)
+        audit(asked.source)
+    [source] = read_sources(asked.source, asked.config, (asked.o, asked.json))
+    if asked.why:
+        explainer = Explainer(source.explained())
+        print("\n\n".join(explainer.paragraph(row) for row in asked.why))
+    table = table_of(source.replay, source.parts, asked.by,
+                     asked.top or MOST_ROWS) if asked.json or not asked.why else []
+    if not asked.why:
+        write_text(table, sys.stdout)
+    if asked.json:
+        write_json(source, table, asked.json)
+    if asked.o or not asked.why:
+        for remark in source.remarks():
+            say(remark)
     if asked.o:
-        draw(told, parts, asked)
+        draw_sources([source], asked.o, asked)

@@ -6,32 +6,36 @@ import argparse
 import os
 import signal
 import sys
-from typing import NoReturn, Optional
+from typing import NoReturn
 
-from hinge.command import Fault, say
+from hinge.run.ends import ends_of
+from hinge.run.first import BLOCKED, live, status_of
 from hinge.run.host import program
 from hinge.run.inside import Inside
-from hinge.run.options import add_link, add_run, mtu
-from hinge.run.order import Order, order_of
+from hinge.run.joined import network_of
+from hinge.run.options import add_link, add_run, mtu, plan_of
+from hinge.run.order import order_of
 from hinge.run.outside import Outside
+from hinge.run.refusals import refusals
 from hinge.run.rooms import leave_the_system
-from hinge.run.system import Missing, die_with_parent
 from hinge.run.words import Wrong, duration
+from hinge.simulated import start
+from hinge.simulated.time_options import add_simulated, refuse_alone
 
-REFUSED, INTERRUPTED = 6, 130
 USAGE = "hinge run [OPTION ..] [--] COMMAND [ARGUMENT ..]"
 TELLS = """
 statuses:
   the command's own; 128 and the signal where one ended it; 126, 127 where it can't be executed
   2 a wrong word of the command line     3 a configuration line that can't be obeyed
   6 the system lacks or refuses something  75 the run is void by --late, or the link broke off
+  76 two runs by --twice differ            124 it was ended by --real-limit
 
 examples:
   hinge run --down '10Mbit/s 20ms queue 100' --up '2Mbit/s 20ms' -- ping -c 3 server
   hinge run --config link.config --server 'iperf3 -s -1' --transcript session.history --late 2ms -- iperf3 -c server
   hinge run --down 20ms --up 20ms --down-trace Verizon-LTE.down -- bash
+  hinge run --simulated --seed 7 --up '10Mbit/s 20ms' --server ./server -- ./client
 """
-BLOCKED = {signal.SIGCHLD, signal.SIGTERM, signal.SIGHUP, signal.SIGINT}
 
 
 def options() -> argparse.ArgumentParser:
@@ -41,10 +45,15 @@ def options() -> argparse.ArgumentParser:
     add_link(parser)
     more = parser.add_argument_group("the run")
     more.add_argument("--mtu", metavar="BYTES", type=mtu, default=1500, help="of both interfaces (1500)")
+    more.add_argument("--net", metavar="NETWORK", help="of both hosts, for a run inside another one or beside a network of your own (10.8.0.0/24)")
+    more.add_argument("--netns", metavar="PID", help="puts the link on the way out of a container or network that is there, in IPv4, as root; without COMMAND until ^C")
     more.add_argument("--server", metavar="COMMAND", help="what runs at the other end, by sh; COMMAND waits until it listens")
     more.add_argument("--server-wait", metavar="TIME", default="5s", help="how long (5s)")
+    more.add_argument("--server-end", metavar="TIME", default="2s", help="how long the server has to end after SIGTERM (2s)")
     more.add_argument("--outside", action="store_true", help="the rest of the network behind the link, by slirp4netns or pasta")
+    more.add_argument("--outside-loopback", action="store_true", help="the same, with this system's own loopback at 10.9.0.2 and fd00::2")
     add_run(more)
+    add_simulated(parser)
     parser.add_argument("command", nargs=argparse.REMAINDER, metavar="COMMAND", help=argparse.SUPPRESS)
     return parser
 
@@ -54,57 +63,47 @@ def read_words() -> argparse.Namespace:
     asked = parser.parse_args()
     if asked.command[:1] == ["--"]:
         del asked.command[0]
-    if not asked.command:
+    if not asked.command and asked.netns is None:
         parser.error("no command: it is at the end, behind --")
     return asked
 
 
-def run_inside(order: Order, server_wait: float, own_users: bool, outside: Optional[Outside]) -> NoReturn:
-    """The whole life of the first process."""
-    status = REFUSED
-    try:
-        die_with_parent()
-        status = Inside(order, server_wait, own_users, outside).run()
-    except Missing as missing:
-        say(str(missing))
-    except OSError as error:
-        say(f"{error.filename or 'the system'}: {error.strerror}")
-    finally:
-        sys.stderr.flush()
-        os._exit(status)
-
-
-def status_of(first: int) -> int:
-    """Waits for the first process, and hands signals on. A ^C of the terminal came to the command too, and is its affair."""
-    interrupted = False
-    while True:
-        came = signal.sigwaitinfo(BLOCKED)
-        if came.si_signo == signal.SIGCHLD:
-            process, status = os.waitpid(first, os.WNOHANG)
-            if process:
-                status = os.WEXITSTATUS(status) if os.WIFEXITED(status) else 128 + os.WTERMSIG(status)
-                return INTERRUPTED if interrupted and status == 128 + signal.SIGTERM else status
-        elif came.si_signo != signal.SIGINT or came.si_code == 0:
-            interrupted = came.si_signo == signal.SIGINT
-            os.kill(first, signal.SIGTERM)
+def refuse_beside_netns(asked: argparse.Namespace) -> None:
+    """What a network that is there already has no place for."""
+    given = [f"--{name.replace('_', '-')}" for name in ("server", "outside", "outside_loopback", "net", "simulated") if getattr(asked, name)]
+    if asked.netns is not None and given:
+        raise Wrong(f"{given[0]}: there is no such thing beside --netns, whose hosts are there already")
 
 
 def main() -> None:
     asked = read_words()
-    mask = signal.pthread_sigmask(signal.SIG_BLOCK, BLOCKED)
-    try:
+    with refusals():
+        refuse_beside_netns(asked)
+    if not asked.simulated:
+        with refusals():
+            refuse_alone(asked)
+        begin(asked)
+    with refusals():
+        ends_of(asked.net), plan_of(asked, asked.mtu)  # so that a wrong word is told before a machine is made
+        sys.exit(start.run("run", asked))
+
+
+def begin(asked: argparse.Namespace) -> NoReturn:
+    """Runs it here, by the clock of this system."""
+    mask = signal.pthread_sigmask(signal.SIG_BLOCK, ())
+    with refusals():
         program()
+        ends = ends_of(asked.net)
+        network = network_of(asked.netns) if asked.netns is not None else None
         order, server_wait = order_of(asked, asked.mtu, mask), duration(asked.server_wait) / 1e9
+        signal.pthread_sigmask(signal.SIG_BLOCK, BLOCKED)  # once all files are read, which a FIFO may put off for ever
         sys.stdout.flush()
-        outside = Outside() if asked.outside else None  # before this process leaves the network that it joins
+        # Before this process leaves the network that it joins.
+        outside = Outside(asked.outside_loopback, ends.network) if asked.outside or asked.outside_loopback else None
         own_users = leave_the_system()
-    except Wrong as wrong:
-        raise Fault(str(wrong), 2) from None
-    except Missing as missing:
-        raise Fault(str(missing), REFUSED) from None
     first = os.fork()
     if first == 0:
-        run_inside(order, server_wait, own_users, outside)
+        live(lambda: Inside(order, server_wait, own_users, outside, network).run())
     if outside:
         outside.tell(first, own_users)
     sys.exit(status_of(first))

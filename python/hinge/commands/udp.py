@@ -9,17 +9,18 @@ import socket
 import sys
 from typing import NamedTuple
 
-from hinge.command import Fault
-from hinge.run.host import Link, plan_file, program
+from hinge.run.first import REFUSED
+from hinge.run.host import Link, program
 from hinge.run.options import add_link, add_run
 from hinge.run.order import Order, note_realtime, order_of, report
 from hinge.run.page import Page
 from hinge.run.processes import Processes, Ticker
+from hinge.run.refusals import refusals
+from hinge.run.summary import record
 from hinge.run.system import Missing
 from hinge.run.watch import Watch
 from hinge.run.words import Wrong, read_lines
 
-REFUSED = 6
 LONGEST = 1500  # bytes of a packet, by which outages are reckoned
 SIGNALS = {signal.SIGCHLD, signal.SIGTERM, signal.SIGHUP, signal.SIGINT}
 TELLS = """
@@ -34,14 +35,14 @@ examples:
 """
 
 
-class Address(NamedTuple):
+class SocketAddress(NamedTuple):
     """A host, which may be empty, and a port."""
 
     host: str
     port: int
 
     @classmethod
-    def read(cls, text: str) -> Address:
+    def read(cls, text: str) -> SocketAddress:
         """Of PORT, HOST:PORT or [HOST]:PORT."""
         host, _, port = text.rpartition(":")
         if not (port.isascii() and port.isdecimal() and int(port) < 65536):
@@ -49,7 +50,7 @@ class Address(NamedTuple):
         return cls(host[1:-1] if host.startswith("[") and host.endswith("]") else host, int(port))
 
 
-def found(address: Address, family: int) -> tuple[int, tuple[str, int]]:
+def found_address(address: SocketAddress, family: int) -> tuple[int, tuple[str, int]]:
     """The family, numeric host and port of an address, of the given family."""
     try:
         infos = socket.getaddrinfo(address.host or ("::1" if family == socket.AF_INET6 else "127.0.0.1"), address.port, family, socket.SOCK_DGRAM)
@@ -60,7 +61,7 @@ def found(address: Address, family: int) -> tuple[int, tuple[str, int]]:
     return chosen[0], (str(chosen[4][0]), int(chosen[4][1]))
 
 
-def links_of(words: list[str]) -> list[str]:
+def links_in_order(words: list[str]) -> list[str]:
     """Configuration lines: a LINK is some where it has a blank, else a file of them."""
     return [line for word in words for line in (word.splitlines() if " " in word else read_lines(word))]
 
@@ -70,16 +71,16 @@ def options() -> argparse.ArgumentParser:
                                      usage="hinge udp [OPTION ..] LISTEN SERVER [LINK ..]",
                                      description="Sends what comes to LISTEN through pipe 1 to SERVER, and what SERVER sends back through pipe 2, until ^C. "
                                                  "Prints `ready at HOST:PORT` once it listens. Each client has a socket of its own towards SERVER.")
-    parser.add_argument("listen", type=Address.read, metavar="LISTEN", help="PORT or HOST:PORT to which the client sends; port 0 takes a free one")
-    parser.add_argument("server", type=Address.read, metavar="SERVER", help="PORT or HOST:PORT of the server, of the same family")
+    parser.add_argument("listen", type=SocketAddress.read, metavar="LISTEN", help="PORT or HOST:PORT to which the client sends; port 0 takes a free one")
+    parser.add_argument("server", type=SocketAddress.read, metavar="SERVER", help="PORT or HOST:PORT of the server, of the same family")
     parser.add_argument("links", nargs="*", default=[], metavar="LINK", help="a configuration line, or a file of such lines, as --line and --config")
     add_link(parser)
     add_run(parser.add_argument_group("the run"))
     return parser
 
 
-def bound(address: Address) -> socket.socket:
-    family, place = found(address, socket.AF_INET if not address.host else 0)
+def bound(address: SocketAddress) -> socket.socket:
+    family, place = found_address(address, socket.AF_INET if not address.host else 0)
     made = socket.socket(family, socket.SOCK_DGRAM)
     try:
         made.bind(place)
@@ -88,14 +89,17 @@ def bound(address: Address) -> socket.socket:
     return made
 
 
-def carried(order: Order, front: socket.socket, server: tuple[str, int]) -> int:
+def what_is_carried(order: Order, front: socket.socket, server: tuple[str, int]) -> int:
     """Has the host carry datagrams until a signal comes; the status."""
     page, processes = Page(), Processes(SIGNALS)
-    link = Link(processes, page, ["udp", str(front.fileno()), server[0], str(server[1])], [front.fileno()], plan_file(order.plan), order.mask)
+    control = order.control(page, lambda: record(page.read(), [way["dropped"] for way in page.read().ways], None, order.seed, []))
+    link = Link(processes, page, ["udp", str(front.fileno()), server[0], str(server[1])], [front.fileno()], order.plan, order.mask, control)
     failed = link.failed()
     if failed is not None:
         return failed
     note_realtime(page)
+    if control:
+        control.serve()
     host, port = front.getsockname()[:2]
     print(f"ready at [{host}]:{port}" if ":" in host else f"ready at {host}:{port}", flush=True)
     watch = Watch(page, order.changes) if order.asked.watch else None
@@ -109,17 +113,16 @@ def carried(order: Order, front: socket.socket, server: tuple[str, int]) -> int:
 def main() -> None:
     parser = options()
     asked = parser.parse_args()
-    mask = signal.pthread_sigmask(signal.SIG_BLOCK, SIGNALS)
-    try:
+    mask = signal.pthread_sigmask(signal.SIG_BLOCK, ())
+    with refusals():
         program()
-        asked.line += links_of(asked.links)
+        asked.line += links_in_order(asked.links)
         asked.inputs = [word for word in asked.links if " " not in word]
         order = order_of(asked, LONGEST, mask)
+        signal.pthread_sigmask(signal.SIG_BLOCK, SIGNALS)  # once all files are read, which a FIFO may put off for ever
         with bound(asked.listen) as front:
-            _, server = found(asked.server, front.family)
-            status = carried(order, front, server)
-    except Wrong as wrong:
-        raise Fault(str(wrong), 2) from None
-    except Missing as missing:
-        raise Fault(str(missing), REFUSED) from None
+            if not asked.server.port:
+                raise Wrong("SERVER: port 0 is none at which a server listens")
+            _, server = found_address(asked.server, front.family)
+            status = what_is_carried(order, front, server)
     sys.exit(status)

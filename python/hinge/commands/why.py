@@ -2,19 +2,42 @@
 
 from __future__ import annotations
 
-from hinge.arguments import add_inputs, bounded, read_parts
+import argparse
+from itertools import takewhile
+
+from hinge.arguments import bounded
 from hinge.command import parser
-from hinge.explain import Explainer
+from hinge.replays.asked import SOURCE, add_source, read_sources
+from hinge.replays.explain import Explainer
 
 WHAT = """\
-Tells what happened to a row of a packet file, in a paragraph: for whom it waited and how long, its transmission and the link's delay,
-which add up exactly to what it took; or how full its queue was, and of which packets; or what lost it."""
+Tells what happened to a row of a packet file, or to a packet of a history, in a paragraph: for whom it waited and how
+long, its transmission and the link's delay, which add up exactly to what it took; or how full its queue was, and of
+which packets; or what lost it. Packets of a history are numbered as rows: the first that was submitted is 1."""
+ROWS = "numbers from 1 (a packet file's header isn't counted)"
+EXAMPLE = """\
+hinge why 17 packets.csv report.csv --config dsl.config
+  hinge why 17 dsl.config packets.csv report.csv    # the same
+  hinge why 17 18 session.history"""
 
 
 def main() -> None:
-    line = parser(WHAT, "hinge why 17 dsl.config packets.csv report.csv")
-    line.add_argument("row", type=bounded(1, 2**62), nargs="+", help="rows of the packet file, from 1; the header isn't counted")
-    add_inputs(line, "config", "packets", "report")
-    asked = line.parse_args()
-    explainer = Explainer(read_parts(asked))
-    print("\n\n".join(explainer.paragraph(row) for row in asked.row))
+    line = parser(WHAT, EXAMPLE)
+    add_source(line, "ROW .. (HISTORY | PACKETS REPORT | CONFIG PACKETS REPORT)", "ROW .. SOURCE",
+               f"{ROWS}, and behind them {SOURCE}")
+    asked = line.parse_intermixed_args()
+    numbers = list(takewhile(str.isdecimal, asked.source))
+    files, config = asked.source[len(numbers):], asked.config
+    if not numbers:
+        line.error(f"{files[0]!r} is no number of a row")
+    if not files:
+        line.error("behind the rows comes a history, or a packet file and its report")
+    if len(files) == 3 and config is None:
+        config, *files = files
+    try:
+        rows = list(map(bounded(1, 2**62), numbers))
+    except argparse.ArgumentTypeError as wrong:
+        line.error(str(wrong))
+    [source] = read_sources(files, config, ())
+    explainer = Explainer(source.explained())
+    print("\n\n".join(explainer.paragraph(row) for row in rows))

@@ -9,8 +9,9 @@ from hinge.command import MISSING, Fault, parser
 from hinge.program import clock
 
 WHAT = """\
-Runs a command with hinge-clock.so preloaded. While hingetulip.aio runs simulated time in a thread, C code of that thread that asks for
-the time has the simulated one: time(), gettimeofday() and clock_gettime(). OpenSSL, for one, asks so when DTLS has to repeat what was lost."""
+Runs a command with hinge-clock.so preloaded. While hingetulip.aio runs simulated time in a thread, C code of that
+thread that asks for the time has the simulated one: time(), gettimeofday() and clock_gettime(). OpenSSL, for one, asks
+so when DTLS has to repeat what was lost."""
 
 
 def main() -> None:

@@ -6,7 +6,7 @@ from bisect import bisect_right
 from typing import Iterator, NamedTuple
 
 from hinge.run.traces import outage_rate
-from hinge.run.words import Target, configures, target_of, with_bandwidth
+from hinge.run.words import LAST_MOMENT, Target, configures, target_of, with_bandwidth
 
 
 class Change(NamedTuple):
@@ -36,6 +36,35 @@ class Changes:
         first = [Change(0, self.begun[target])] if target in self.begun else []
         return first + sorted((one for one in self.lines if target_of(one.line) == target), key=lambda one: one.moment)
 
+    def ends_of(self, change: Change) -> list[int]:
+        """When outages end that go on at a change of their pipe."""
+        target = target_of(change.line)
+        return [one.moment + one.length for one in self.outages
+                if Target("pipe", one.pipe) == target and one.moment <= change.moment < one.moment + one.length < LAST_MOMENT]
+
+    def shared(self) -> set[int]:
+        """The pipes with queues of their own or with masks, whose packets don't begin in the order in which they came."""
+        found = set()
+        for line in [*self.begun.values(), *(change.line for change in self.lines)]:
+            words, target = line.split(), target_of(line)
+            if target.kind == "queue" and "pipe" in words[:-1]:
+                number = words[words.index("pipe") + 1]
+                found |= {int(number)} if number.isdecimal() else set()
+            elif target.kind == "pipe" and "mask" in words:
+                found.add(target.number)
+        return found
+
+    def holds(self) -> list[tuple[int, int, int]]:
+        """The outages of pipes of one queue, each with its pipe, beginning and end: those that meet are one."""
+        found: list[tuple[int, int, int]] = []
+        shared = self.shared()
+        for pipe, begin, end in sorted((one.pipe, one.moment, one.moment + one.length) for one in self.outages if not one.lossy and one.pipe not in shared):
+            if found and found[-1][0] == pipe and begin <= found[-1][2]:
+                found[-1] = (pipe, found[-1][1], max(end, found[-1][2]))
+            else:
+                found.append((pipe, begin, end))
+        return found
+
     def of_outage(self, outage: Outage, lines: list[Change], moments: list[int]) -> list[Change]:
         """What an outage does to a pipe of these lines, which have these moments."""
         before, after = (lines[bisect_right(moments, moment) - 1].line for moment in (outage.moment, outage.moment + outage.length))
@@ -48,11 +77,14 @@ class Changes:
         return [Change(outage.moment, slow), Change(outage.moment, f"outage {outage.pipe} {self.longest}"), *end]
 
     def of_outages(self) -> Iterator[Change]:
+        shared = self.shared()
+        for pipe, begin, _ in self.holds():
+            yield Change(begin, f"outage {pipe} {self.longest}")
         for pipe in sorted({outage.pipe for outage in self.outages}):
             lines = self.lines_of(pipe)
             moments = [line.moment for line in lines]
             for outage in self.outages:
-                if outage.pipe == pipe:
+                if outage.pipe == pipe and (outage.lossy or pipe in shared):
                     yield from self.of_outage(outage, lines, moments)
 
     def all(self) -> list[Change]:

@@ -2,15 +2,16 @@
 
 from __future__ import annotations
 
+import math
 import os
 import signal
 import sys
-import time
 from pathlib import Path
 from typing import Iterable, Optional, Sequence
 
+from hinge.run.control import Control
 from hinge.run.page import STARTING, Page
-from hinge.run.processes import Mask, Processes
+from hinge.run.processes import SIGNALLED, Mask, Processes
 from hinge.run.system import Missing
 
 NAME = "hinge-link"
@@ -20,11 +21,11 @@ POLL = 0.0005  # s between looks at the page
 
 def program() -> str:
     """What the variable HINGE_LINK names, else the host beside this module, as it is installed, else that of the repository in which
-    this module lies: the released one, or the one that tools/hosts has built."""
+    this module lies: the one that tools/hosts has built, or the released one."""
     if sys.platform != "linux":
         raise Missing("the host is a program of Linux")
     repository = HERE.parents[2]
-    for place in (os.environ.get("HINGE_LINK"), HERE / NAME, repository / "release" / NAME, repository / "built" / NAME):
+    for place in (os.environ.get("HINGE_LINK"), HERE / NAME, repository / "built" / NAME, repository / "release" / NAME):
         if place and os.access(place, os.X_OK):
             return str(place)
     raise Missing(f"there is no host {NAME}: in a clone tools/hosts builds it, with a C compiler; the variable HINGE_LINK can name it")
@@ -42,14 +43,16 @@ def plan_file(text: str) -> int:
 class Link:
     """The host, which runs from when this is made, and its page of counts."""
 
-    def __init__(self, processes: Processes, page: Page, words: Sequence[str], descriptors: Iterable[int], plan: int, mask: Mask) -> None:
-        self.processes, self.page = processes, page
-        passed = [*descriptors, page.descriptor]
+    def __init__(self, processes: Processes, page: Page, words: Sequence[str], descriptors: Iterable[int], plan: str, mask: Mask,
+                 control: Optional[Control] = None) -> None:
+        self.processes, self.page, self.control = processes, page, control
+        plan_read = plan_file(plan + control.line() if control else plan)
+        passed = [*descriptors, page.descriptor, *([control.descriptor()] if control else [])]
         words = [program(), *words, str(page.descriptor)]
         self.process = os.fork()
         if self.process == 0:
             try:
-                os.dup2(plan, 0)
+                os.dup2(plan_read, 0)
                 for descriptor in passed:
                     os.set_inheritable(descriptor, True)
                 signal.pthread_sigmask(signal.SIG_SETMASK, mask)
@@ -58,13 +61,11 @@ class Link:
                 os._exit(127)
 
     def failed(self) -> Optional[int]:
-        """Waits until the link is ready; the status of a host that ended before, which has told why."""
-        while self.page.state() == STARTING:
-            self.processes.reap()
-            if self.process in self.processes.ended:
-                return self.processes.ended[self.process]
-            time.sleep(POLL)
-        return None
+        """Waits until the link is ready; the status of a host that ended before, which has told why, or that of a signal that came."""
+        came = self.processes.poll(lambda: self.page.state() != STARTING or self.process in self.processes.ended, math.inf, POLL)
+        return SIGNALLED + came if came else self.processes.ended.get(self.process)
 
     def end(self) -> None:
         self.processes.end(self.process, 5)
+        if self.control:
+            self.control.end()

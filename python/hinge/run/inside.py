@@ -7,70 +7,120 @@ import time
 from typing import Optional
 
 from hinge.command import say
-from hinge.run.host import Link, plan_file
-from hinge.run.interfaces import something_listens
+from hinge.run.control import Enter, Room
+from hinge.run.doors import Doors
+from hinge.run.ends import ends_of
+from hinge.run.host import Link
+from hinge.run.interfaces import NAME, something_listens
+from hinge.run.joined import Joined
 from hinge.run.order import Order, note_realtime, report
 from hinge.run.outside import Outside
 from hinge.run.page import Page
-from hinge.run.processes import SIGNALLED, Processes, Ticker
+from hinge.run.processes import SIGNALLED, Ended, Processes, Ticker, name_of
 from hinge.run.rooms import Rooms
+from hinge.run.summary import record
 from hinge.run.system import enter
 from hinge.run.watch import Watch
+from hinge.run.words import Wrong
 
+HOSTS = ("client", "server")
 WATCHED = {signal.SIGCHLD, signal.SIGTERM, signal.SIGHUP}
-LAST_PACKETS, SERVER_PATIENCE, COMMAND_PATIENCE = 1.0, 0.5, 1.0  # s
-LISTEN_POLL = 0.01  # s
+LAST_PACKETS, QUIET, COMMAND_PATIENCE = 1.0, 0.3, 1.0  # s
+LISTEN_POLL, QUIET_POLL = 0.01, 0.02  # s
 
 
 class Inside:
-    def __init__(self, order: Order, server_wait: float, own_users: bool, outside: Optional[Outside]) -> None:
-        """The command waits for its server at most so many seconds."""
+    def __init__(self, order: Order, server_wait: float, own_users: bool, outside: Optional[Outside], network: Optional[int]) -> None:
+        """The command waits for its server at most so many seconds. `network` is one that is there already."""
         self.server_wait = server_wait
         self.order, self.outside, self.page = order, outside, Page()
-        self.processes = Processes(WATCHED)
-        self.rooms = Rooms(order.asked.mtu, own_users)
+        self.processes = Processes(WATCHED if order.asked.command else WATCHED | {signal.SIGINT})
+        self.joined = None if network is None else Joined(network, order.asked.mtu, own_users)
+        self.rooms = self.joined or Rooms(order.asked.mtu, own_users, ends_of(order.asked.net))
+        self.begun = time.monotonic()
 
-    def started_server(self) -> Optional[int]:
-        """The server's process, once something listens in its room, or its time is over."""
+    def started_server(self) -> tuple[Optional[int], Optional[int]]:
+        """The server's process, once something listens in its room, or its time is over; and a signal that came before."""
         if not self.order.asked.server:
-            return None
-        server = self.rooms.start(self.rooms.server, ["sh", "-c", self.order.asked.server], self.order.mask)
-        until = time.monotonic() + self.server_wait
+            return None, None
+        server = self.rooms.start_server(self.order.asked.server, self.order.mask)
         enter(self.rooms.server)
-        while not something_listens() and server not in self.processes.ended and time.monotonic() < until:
-            time.sleep(LISTEN_POLL)
-            self.processes.reap()
-        if server in self.processes.ended:
-            say(f"the server ended with {self.processes.ended[server]} before it listened")
-        elif not something_listens():
+        came = self.processes.poll(lambda: something_listens() or server in self.processes.ended, self.server_wait, LISTEN_POLL)
+        if came is None and server in self.processes.ended:
+            say(f"the server ended with {name_of(self.processes.ended[server])} before it listened")
+        elif came is None and not something_listens():
             say(f"the server doesn't listen after {self.server_wait:g} s; the command begins")
-        return server
+        return server, came
 
     def commanded(self, link: Link) -> tuple[int, bool]:
         """Runs the command, as long as the link is there; its status, and whether it was ended from outside."""
         watch = Watch(self.page, self.order.changes) if self.order.asked.watch else None
-        command = self.rooms.start(self.rooms.client, self.order.asked.command, self.order.mask)
+        words = self.order.asked.command
+        command = self.rooms.start(self.rooms.client, words, self.order.mask) if words else link.process
+        if link.control:
+            link.control.serve()
         came = self.processes.wait(command, ticker=Ticker(watch.tick) if watch else None, needed=link.process)
         if watch:
             watch.end()
+        if not words:
+            return 0, True
         if command in self.processes.ended:
             return self.processes.ended[command], False
         self.processes.end(command, COMMAND_PATIENCE)
         return SIGNALLED + (came or signal.SIGTERM), True
 
+    def let_last_packets_pass(self, server: int) -> None:
+        """Lets a server end by itself: until the link has carried nothing for a while."""
+        seen, since = -1, time.monotonic()
+
+        def is_over() -> bool:
+            nonlocal seen, since
+            passed = sum(way["came"] + way["sent"] + way["held"] for way in self.page.read().ways)
+            if passed != seen:
+                seen, since = passed, time.monotonic()
+            return server in self.processes.ended or time.monotonic() - since > QUIET
+
+        self.processes.poll(is_over, LAST_PACKETS, QUIET_POLL)
+
+    def ended_server(self, server: int, was_interrupted: bool) -> Ended:
+        """Ends the server, and tells where it had crashed or had to be killed."""
+        self.processes.reap()
+        if server in self.processes.ended and self.processes.ended[server]:
+            say(f"the server ended with {name_of(self.processes.ended[server])} before the command did")
+        elif not was_interrupted:
+            self.let_last_packets_pass(server)
+        ended = self.processes.endings({"server": server}, self.begun, self.order.server_end)["server"]
+        if ended.by == "SIGKILL":
+            say(f"the server was killed, since SIGTERM didn't end it in {self.order.server_end:g} s")
+        return ended
+
+    def doors(self) -> Enter:
+        """What opens the rooms to `hinge exec`."""
+        doors = Doors()
+
+        def enter_host(host: str) -> Room:
+            if host not in HOSTS:
+                raise Wrong(f"{host!r}: the hosts are {' and '.join(HOSTS)}")
+            return Room(doors.to(self.rooms.client if host == HOSTS[0] else self.rooms.server), {})
+
+        return enter_host
+
     def run(self) -> int:
-        server = self.started_server()
-        if self.outside:
-            self.outside.join(self.rooms)
-        link = Link(self.processes, self.page, ["tun", *map(str, self.rooms.interfaces)], self.rooms.interfaces, plan_file(self.order.plan), self.order.mask)
+        if self.outside:  # before the server has mounts of its own
+            self.rooms.lead_out(self.outside.join(self.rooms.server, [NAME], [self.rooms.ends.client6]))
+        server, came = self.started_server()
+        if came:
+            return SIGNALLED + came
+        control = self.order.control(self.page, lambda: record(self.page.read(), self.rooms.dropped(), None, self.order.seed, []), self.doors())
+        link = Link(self.processes, self.page, ["tun", *map(str, self.rooms.interfaces)], self.rooms.interfaces, self.order.plan, self.order.mask, control)
         failed = link.failed()
         if failed is not None:
             return failed
         note_realtime(self.page)
-        status, ended = self.commanded(link)
-        if server is not None:
-            if not ended:
-                self.processes.wait(server, LAST_PACKETS)  # the last packets, and what it prints
-            self.processes.end(server, SERVER_PATIENCE)
+        status, was_interrupted = self.commanded(link)
+        ended = None if server is None else self.ended_server(server, was_interrupted)
         link.end()
-        return report(self.order, self.page, self.rooms.dropped(), status)
+        drops = self.rooms.dropped()
+        if self.joined:
+            self.joined.end()
+        return report(self.order, self.page, drops, status, ended)

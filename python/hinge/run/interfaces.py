@@ -7,7 +7,7 @@ import fcntl
 import os
 import socket
 import struct
-from typing import Iterable
+from typing import Iterable, Optional
 
 from hinge.run.system import Missing, try_to_write
 
@@ -23,8 +23,10 @@ FREEBIND = 78  # IPV6_FREEBIND
 ADVERTISEMENT, OVERRIDE = 136, 0x20000000  # ND_NEIGHBOR_ADVERT, ND_NA_FLAG_OVERRIDE
 REJECTS = 0x200  # RTF_REJECT, in /proc/net/ipv6_route
 MAIN_TABLE, BY_BOOT, UNICAST, GATEWAY = 254, 3, 1, 5  # RT_TABLE_MAIN, RTPROT_BOOT, RTN_UNICAST, RTA_GATEWAY
+DESTINATION, OUT_BY, PREFERRED, ROUTE_TABLE, LINK_SCOPE = 1, 4, 7, 15, 253  # RTA_DST, RTA_OIF, RTA_PREFSRC, RTA_TABLE, RT_SCOPE_LINK
 TUNSETIFF, TUN_WITH_NOTE = 0x400454CA, 0x5001  # IFF_TUN | IFF_NO_PI | IFF_VNET_HDR
 TUNSETOFFLOAD, LEFT_TO_A_CARD = 0x400454D0, 7  # TUN_F_CSUM | TUN_F_TSO4 | TUN_F_TSO6
+TUNSETPERSIST = 0x400454CB
 DROPPED_OUT = 11  # the column of /proc/net/dev
 LISTENS = (("tcp", "0A"), ("tcp6", "0A"), ("udp", "07"), ("udp6", "07"))  # in /proc/net, and the state there
 QUIET = (("accept_dad", "0"), ("accept_ra", "0"), ("router_solicitations", "0"))  # of IPv6
@@ -61,10 +63,10 @@ def of_family(family: int, settings: bytes) -> list[tuple[int, bytes]]:
     return [(OF_FAMILIES, packed([(family, settings)]))]
 
 
-def hand_on(name: str) -> None:
-    """Lets an interface take packets of IPv4 for others, and be asked for their addresses. It asks as /proc/sys would, which a container
-    may not let write."""
-    settings = packed([(FORWARDING, struct.pack("I", 1)), (PROXY_ARP, struct.pack("I", 1))])
+def hand_on(name: str, does: bool = True) -> None:
+    """Lets an interface take packets of IPv4 for others, and be asked for their addresses, or not. It asks as /proc/sys would, which a
+    container may not let write."""
+    settings = packed([(FORWARDING, struct.pack("I", does)), (PROXY_ARP, struct.pack("I", does))])
     change(name, 0, 0, of_family(socket.AF_INET, packed([(INET_CONF, settings)])))
 
 
@@ -94,6 +96,15 @@ def add_route(gateway: str) -> None:
     ask(NEWROUTE, struct.pack("BBBBBBBBI", family, 0, 0, 0, MAIN_TABLE, BY_BOOT, 0, UNICAST, 0), [(GATEWAY, data)])
 
 
+def add_interface_route(text: str, name: str, source: str, bits: Optional[int] = None, table: int = MAIN_TABLE) -> None:
+    """The way to one address, or to all with so many bits of it, by an interface without a gateway, for packets that have the source where
+    they have no other."""
+    family, data = family_and_bytes(text)
+    index, bits = struct.pack("I", socket.if_nametoindex(name)), 8 * len(data) if bits is None else bits
+    ask(NEWROUTE, struct.pack("BBBBBBBBI", family, bits, 0, 0, 0, BY_BOOT, LINK_SCOPE if family == socket.AF_INET else 0, UNICAST, 0),
+        [(DESTINATION, data), (OUT_BY, index), (PREFERRED, family_and_bytes(source)[1]), (ROUTE_TABLE, struct.pack("I", table))])
+
+
 def announce(name: str, text: str) -> None:
     """Tells those at an interface that an IPv6 address, which lies behind another one, is reached by it: a neighbour advertisement from there."""
     index = socket.if_nametoindex(name)
@@ -113,43 +124,47 @@ def leads_out_in_ipv6() -> bool:
         return False
 
 
-def add_tun(address: str, address6: str, mtu: int) -> int:
-    """Makes the interface of this namespace, and returns its descriptor. It has no multicast, so the kernel says nothing by itself on it,
+def add_tun(address: str, address6: str, mtu: int, name: str = NAME, bits: int = 24, persists: bool = True) -> int:
+    """Makes an interface of this namespace, and returns its descriptor. It has no multicast, so the kernel says nothing by itself on it,
     and packet 1 is the command's."""
     try:
         made = os.open("/dev/net/tun", os.O_RDWR | os.O_CLOEXEC)
     except OSError as error:
         advice = TUN_ADVICE.get(error.errno or 0, "the container or the system keeps this user from it")
         raise Missing(f"/dev/net/tun: {error.strerror}: {advice}") from None
-    fcntl.ioctl(made, TUNSETIFF, struct.pack("16sH22x", NAME.encode(), TUN_WITH_NOTE))
+    fcntl.ioctl(made, TUNSETIFF, struct.pack("16sH22x", name.encode(), TUN_WITH_NOTE))
     fcntl.ioctl(made, TUNSETOFFLOAD, LEFT_TO_A_CARD)
-    be_silent(NAME)
-    set_up(NAME, UP | MULTICAST, ((MTU, mtu), (QUEUE_LENGTH, QUEUE)))
-    add_address(NAME, address, 24)
+    # One that persists goes with its namespace: the kernel takes all of one away at once, and each closed one by itself.
+    fcntl.ioctl(made, TUNSETPERSIST, int(persists))
+    be_silent(name)
+    set_up(name, UP | MULTICAST, ((MTU, mtu), (QUEUE_LENGTH, QUEUE)))
+    add_address(name, address, bits)
     try:
-        add_address(NAME, address6, 64)
+        add_address(name, address6, 64)
     except OSError:
         pass  # a system without IPv6
     return made
 
 
-def dropped() -> int:
-    """Packets that the system dropped on the way into the host, since its queue was full."""
+def all_dropped() -> dict[str, int]:
+    """Packets that the system dropped on the way into the host, since its queue was full, by the interfaces of this namespace."""
     with open("/proc/thread-self/net/dev") as file:
-        for line in file:
-            name, _, counts = line.partition(":")
-            if name.strip() == NAME:
-                return int(counts.split()[DROPPED_OUT])
-    return 0
+        rows = [line.partition(":") for line in list(file)[2:]]
+    return {name.strip(): int(counts.split()[DROPPED_OUT]) for name, _, counts in rows}
 
 
-def something_listens() -> bool:
-    """Whether a socket in this namespace waits for a connection or a datagram."""
+def dropped(name: str = NAME) -> int:
+    return all_dropped().get(name, 0)
+
+
+def something_listens(port: Optional[int] = None) -> bool:
+    """Whether a socket in this namespace waits for a connection or a datagram, at that port where one is named."""
     for name, state in LISTENS:
         try:
             with open("/proc/thread-self/net/" + name) as file:
-                if any(line.split()[3] == state for line in list(file)[1:]):
-                    return True
+                rows = [line.split() for line in list(file)[1:]]
         except OSError:
-            pass
+            continue
+        if any(row[3] == state and port in (None, int(row[1].rpartition(":")[2], 16)) for row in rows):
+            return True
     return False

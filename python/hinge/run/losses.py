@@ -29,14 +29,14 @@ def listed(text: str) -> str:
 MODELS = {"gilbert": gilbert, "list": listed}
 
 
-def loss_lines(text: str) -> dict[int, str]:
-    """The line of a plan for each way that a model is for: `[up:|down:]gilbert:P,R[,B[,G]]` or `[up:|down:]list:N,N-M`."""
+def loss_lines(text: str, link: int = 0) -> dict[int, str]:
+    """The line of a plan for each way of a link that a model is for: `[up:|down:]gilbert:P,R[,B[,G]]` or `[up:|down:]list:N,N-M`."""
     first, _, more = text.partition(":")
     ways, model = ([WAYS[first]], more) if first in WAYS else ([0, 1], text)
     kind, _, value = model.partition(":")
     try:
         if kind not in MODELS:
             raise ValueError
-        return {way: f"{kind} {way} {MODELS[kind](value)}" for way in ways}
+        return {way: f"{kind} {way} {MODELS[kind](value)}" for way in (2 * link + way for way in ways)}
     except ValueError:
         raise Wrong(f"--loss {text}: none of gilbert:P,R[,B[,G]] and list:N,N-M") from None

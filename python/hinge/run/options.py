@@ -5,13 +5,17 @@ from __future__ import annotations
 import argparse
 import os
 import random
-from typing import Iterable, Optional
+from typing import Iterable, NoReturn, Optional
 
+from hinge.captures.rule_words import HELP
+from hinge.run.extras import parted
 from hinge.run.plan import MOST, Plan
 from hinge.run.transcripts import refuse_own_input
-from hinge.run.words import Target, Wrong, bare, duration, link_line, read_lines, target_of
+from hinge.run.words import WAYS, Target, Wrong, bare, duration, link_line, read_lines, target_of
+from hingetulip_words.presets import Preset, preset, table
 
 BIN_LEAST = 10**6  # ns
+TRACE_LASTING = 3600 * 10**9  # ns
 MTU_LEAST, MTU_MOST = 576, 65535
 
 
@@ -27,21 +31,30 @@ def seed(text: str) -> int:
     return int(text)
 
 
+class ListPresets(argparse.Action):
+    """Prints the presets, and ends."""
+
+    def __call__(self, parser: argparse.ArgumentParser, namespace: argparse.Namespace, values: object, option: Optional[str] = None) -> NoReturn:
+        print(table())
+        parser.exit()
+
+
 def add_link(parser: argparse.ArgumentParser) -> None:
     link = parser.add_argument_group("the link")
-    link.add_argument("--up", metavar="LINK", help="towards the server, as '2Mbit/s 20ms queue 100 loss 1%%': pipe 1")
+    link.add_argument("--up", metavar="LINK", help="towards the server, as '2Mbit/s 20ms queue 100 loss 1%% jitter 5ms duplicate 1%%': pipe 1")
     link.add_argument("--down", metavar="LINK", help="from the server: pipe 2")
-    link.add_argument("--config", metavar="FILE", help="configuration lines, of any pipes and queues (docs/CONFIG.md)")
+    link.add_argument("--preset", metavar="NAME", help="the link of a name, as lte, in each direction of which nothing else is said")
+    link.add_argument("--list-presets", action=ListPresets, nargs=0, help="print the presets and their figures")
+    link.add_argument("--config", metavar="FILE", help="configuration lines, of any pipes and queues (hinge docs CONFIG)")
     link.add_argument("--line", metavar="LINE", action="append", default=[], help="one more configuration line; may be repeated")
     link.add_argument("--map", metavar="RULE", action="append", default=[],
-                      help="'[up|down] [tcp|udp|icmp|icmp6|proto N] [src|dst NET] [port|src-port|dst-port N[-M]] [dscp N] => queue N' or '=> pipe N': "
-                           "where a packet goes, by the first rule that fits; else pipe 1 up, pipe 2 down")
+                      help=f"'{HELP} => queue N' or '=> pipe N': where a packet goes, by the first rule that fits; else pipe 1 up, pipe 2 down")
     changes = parser.add_argument_group("changes")
     changes.add_argument("--timeline", metavar="FILE", help="lines as '5s pipe 1 config bw 1Mbit/s' and '8s [up|down] outage 600ms [lossy]'")
     changes.add_argument("--up-trace", metavar="FILE", help="bandwidth by time: seconds,bit/s or mahimahi's milliseconds")
     changes.add_argument("--down-trace", metavar="FILE")
-    changes.add_argument("--bin", metavar="TIME", default="100ms", help="over which mahimahi's milliseconds are counted (100ms)")
-    changes.add_argument("--trace-for", metavar="TIME", default="1h", help="how long mahimahi's traces are begun anew (1h)")
+    changes.add_argument("--bin", metavar="TIME", help="count mahimahi's milliseconds over this, and don't obey each (100ms for a pipe with queues or masks)")
+    changes.add_argument("--trace-for", metavar="TIME", default="1h", help="how long counted traces are begun anew (1h)")
     changes.add_argument("--loss", metavar="MODEL", action="append", default=[],
                          help="[up:|down:]gilbert:P,R[,B[,G]] (to bad, to good, lost in bad 1, in good 0) or list:3,10-20 (packets, from 1)")
     changes.add_argument("--seed", metavar="N", type=seed, help="of what is drawn, for each direction by itself (drawn, and told)")
@@ -52,6 +65,7 @@ def add_run(group: argparse._ArgumentGroup) -> None:
     group.add_argument("--most", metavar="BYTES", type=seed, default=MOST, help=argparse.SUPPRESS)
     group.add_argument("--late", metavar="TIME", help="status 75 where more than 1 of 100 packets was late or unread by more, or the system dropped any")
     group.add_argument("--json", metavar="FILE", help="the summary for a program")
+    group.add_argument("--control", metavar="SOCKET", help="where `hinge change`, `status` and `exec` find it")
     group.add_argument("--watch", action="store_true", help="rates, queues and losses each second, on standard error")
     group.add_argument("--quiet", action="store_true", help="no summary")
     group.add_argument("--realtime", action="store_true", help="the link before all other programs, where the system allows")
@@ -62,16 +76,29 @@ def inputs(asked: argparse.Namespace) -> Iterable[Optional[str]]:
     return asked.config, asked.timeline, asked.up_trace, asked.down_trace, *getattr(asked, "inputs", [])
 
 
+def preset_of(asked: argparse.Namespace) -> Optional[Preset]:
+    try:
+        return None if asked.preset is None else preset(asked.preset)
+    except ValueError as unknown:
+        raise Wrong(f"--preset: {unknown}") from None
+
+
 def lines_of(asked: argparse.Namespace) -> list[str]:
     """The configuration lines, in their order. Those of --up and --down are behind lines that configure the same pipe, and else before
-    all lines, since queues may be of it. A direction of which nothing is said is open."""
+    all lines, since queues may be of it. A direction of which nothing is said is the preset's, and else open."""
+    named = preset_of(asked)
     given = [*(read_lines(asked.config) if asked.config else []), *(part for text in asked.line for part in text.splitlines())]
     configured = {target_of(bare(line)) for line in given}
-    first, last = [], []
-    for number, text in ((1, asked.up), (2, asked.down)):
+    first, last = list[str](), list[str]()
+    for number, option in ((1, "up"), (2, "down")):
         is_given = Target("pipe", number) in configured
+        text = getattr(asked, option)
+        if text is None and named and not is_given:
+            text = getattr(named, option)
         if text is not None:
-            (last if is_given else first).append(link_line(number, text))
+            text, _ = parted(text, f"--{option}")
+        if text is not None and not (is_given and not text.strip()):
+            (last if is_given else first).append(link_line(number, text, f"--{option}"))
         elif not is_given:
             last.append(f"pipe {number} config")
     return [*first, *given, *last]
@@ -94,12 +121,14 @@ def limit_of(late: Optional[str]) -> Optional[float]:
 
 def plan_of(asked: argparse.Namespace, longest: int) -> Plan:
     """What the link shall do, for packets of at most so many bytes."""
-    refuse_own_input(asked.transcript, inputs(asked))
-    refuse_own_input(asked.json, [*inputs(asked), asked.transcript])
+    refuse_own_input("--transcript", asked.transcript, inputs(asked))
+    refuse_own_input("--json", asked.json, [*inputs(asked), asked.transcript])
     refuse_lost_summary(asked.json)
     plan = Plan(longest)
     for line in lines_of(asked):
         plan.link(line)
+    for way, option in enumerate(WAYS):
+        plan.extra(way, parted(getattr(asked, option) or "", f"--{option}")[1])
     for rule in asked.map:
         plan.rule(rule)
     for model in asked.loss:
@@ -108,7 +137,7 @@ def plan_of(asked: argparse.Namespace, longest: int) -> Plan:
         plan.timeline(asked.timeline)
     for way, path in enumerate((asked.up_trace, asked.down_trace)):
         if path:
-            plan.trace(way, path, max(BIN_LEAST, duration(asked.bin)), duration(asked.trace_for))
+            plan.trace(way, path, max(BIN_LEAST, duration(asked.bin)) if asked.bin else None, duration(asked.trace_for))
     return plan
 
 
@@ -119,4 +148,4 @@ def drawn_seed(asked: argparse.Namespace) -> int:
 def draws(plan: Plan) -> bool:
     """Whether the seed decides anything."""
     lines = [*plan.configured, *(change.line for change in plan.changes.all())]
-    return bool(plan.decided) or any("plr" in line.split() for line in lines)
+    return bool(plan.decided or plan.extras) or any("plr" in line.split() for line in lines)

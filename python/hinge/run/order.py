@@ -5,14 +5,18 @@ from __future__ import annotations
 import argparse
 import json
 import os
-from typing import NamedTuple, Optional, Sequence
+from typing import Callable, NamedTuple, Optional, Sequence
 
-from hinge.command import say
+from hinge.command import FILES, say
+from hinge.run.control import Control, Enter, Record, nobody, opened
 from hinge.run.options import draws, drawn_seed, limit_of, plan_of
 from hinge.run.page import NOT_ALLOWED, Page
-from hinge.run.processes import Mask
-from hinge.run.summary import VOID, lines, record, void
+from hinge.run.plan import Plan
+from hinge.run.processes import Ended, Mask
+from hinge.run.summary import VOID, cautions, lines, record, void
+from hinge.run.system import is_simulated
 from hinge.run.transcripts import told
+from hinge.run.words import duration
 
 
 class Order(NamedTuple):
@@ -23,13 +27,24 @@ class Order(NamedTuple):
     seed: int
     draws: bool
     mask: Mask  # of what is started
+    server_end: float  # s that the server has to end after SIGTERM
+    made: Plan
+
+    def control(self, page: Page, status: Callable[[], Record], enter: Enter = nobody) -> Optional[Control]:
+        """The socket that --control names."""
+        def event(moment: str, words: str) -> None:
+            self.made.event([moment, *words.split()])
+
+        return opened(self.asked.control, self.made, page, event, status, enter)
 
 
 def order_of(asked: argparse.Namespace, longest: int, mask: Mask) -> Order:
     """For packets of at most so many bytes."""
     plan, seed = plan_of(asked, longest), drawn_seed(asked)
-    text = plan.text(seed, os.path.abspath(asked.transcript) if asked.transcript else None, asked.realtime, asked.most)
-    return Order(asked, text, [(change.moment, change.line) for change in plan.changes.all()], limit_of(asked.late), seed, draws(plan), mask)
+    transcript = os.path.abspath(asked.transcript) if asked.transcript else None
+    text = plan.text(seed, transcript, asked.realtime, asked.most, is_simulated())
+    changes = [(change.moment, change.line) for change in plan.changes.all()]
+    return Order(asked, text, changes, limit_of(asked.late), seed, draws(plan), mask, duration(getattr(asked, "server_end", "0")) / 1e9, plan)
 
 
 def note_realtime(page: Page) -> None:
@@ -37,17 +52,31 @@ def note_realtime(page: Page) -> None:
         say("--realtime: the system doesn't allow it (as root, or with `ulimit -r 10`)")
 
 
-def report(order: Order, page: Page, drops: Sequence[int], status: int) -> int:
+def report(order: Order, page: Page, drops: Sequence[int], status: int, server: Optional[Ended] = None) -> int:
     """Tells how it went, on standard error and in the file that --json names; the status, or that of a void run."""
     asked, counts = order.asked, page.read()
     faults = void(counts, drops, order.limit)
     if not asked.quiet:
         for line in [*lines(counts, drops), *[f"seed {order.seed}"] * order.draws]:
             say(line)
+        is_real = not getattr(asked, "simulated", False)
+        for line in cautions(counts, drops, order.plan) if order.limit is None and is_real and status != 127 else ():
+            say(line)
     for line in [*(told(asked.transcript, counts["parts"]) if asked.transcript else []), *(f"void: {fault}" for fault in faults)]:
         say(line)
     if asked.json:
-        with open(asked.json, "w") as file:
-            json.dump(record(counts, drops, status, order.seed, faults), file, indent=1)
-            file.write("\n")
+        told_all = {**record(counts, drops, status, order.seed, faults), **({"server": server._asdict()} if server else {})}
+        status = status_with_json(asked.json, told_all, status)
     return VOID if faults else status
+
+
+def status_with_json(path: str, record: dict[str, object], status: int) -> int:
+    """Writes the file that --json names; the status, or where all was well that of a file that can't be written."""
+    try:
+        with open(path, "w") as file:
+            json.dump(record, file, indent=1)
+            file.write("\n")
+    except OSError as error:
+        say(f"--json {path}: {error.strerror}")
+        return status or FILES
+    return status

@@ -1,35 +1,62 @@
-"""The rest of the network behind the link, by pasta or slirp4netns: it stays in the system's network and joins the server's room to it.
+"""The rest of the network behind a host, by pasta or slirp4netns: it stays in the system's network and joins the host's room to it.
 IPv6 is led out where the system has a way out in it."""
 
 from __future__ import annotations
 
 import errno
+import ipaddress
 import os
 import shutil
 import signal
 import socket
 import time
+from typing import Callable, NamedTuple, Sequence
 
-from hinge.run.interfaces import NAME, add_address, add_route, announce, hand_on, leads_out_in_ipv6
-from hinge.run.rooms import CLIENT6, Rooms
+from hinge.run.interfaces import add_address, add_route, announce, hand_on, leads_out_in_ipv6
+from hinge.run.rooms import put_over
 from hinge.run.system import Missing, die_with_parent, enter, try_to_write, write
 
-NET, OWN, GATEWAY, RESOLVER = "10.9.0.0/24", "10.9.0.100", "10.9.0.2", "10.9.0.3"  # slirp4netns takes these of a network by itself
+
+class Side(NamedTuple):
+    """Addresses of the outer side: slirp4netns takes these of a network by itself."""
+
+    net: str
+    own: str
+    gateway: str
+    resolver: str
+
+
+def side(front: str) -> Side:
+    """By the first three numbers of a network of /24."""
+    return Side(f"{front}.0/24", f"{front}.100", f"{front}.2", f"{front}.3")
+
+
+FIRST, SECOND = side("10.9.0"), side("10.10.0")
+GATEWAY = FIRST.gateway
 OWN6, GATEWAY6 = "fd00::100", "fd00::2"  # and this network of IPv6 always
 INTERFACE = "outside"
 PATIENCE = 5  # s
 
 
-def words_for(process: str, own_users: bool, ipv6: bool) -> list[str]:
-    """The command that joins the network of a process to this one's: slirp4netns where it is there, else pasta, which serves no root."""
+def side_beside(network: str) -> Side:
+    """One that the hosts' network has no part in."""
+    overlaps = ipaddress.IPv4Network(FIRST.net).overlaps(ipaddress.IPv4Network(network))
+    return SECOND if overlaps else FIRST
+
+
+def words_for(process: str, own_users: bool, ipv6: bool, loopback: bool, outer: Side) -> list[str]:
+    """The command that joins the network of a process to this one's: slirp4netns where it is there, else pasta, which serves no root.
+
+    Both lead the gateway to the system's own loopback unless they are asked not to. What listens there takes its callers for this machine."""
     network, users = f"/proc/{process}/ns/net", f"/proc/{process}/ns/user"
     if shutil.which("slirp4netns"):
-        return ["slirp4netns", "--configure", "--mtu=1500", f"--cidr={NET}", *["--enable-ipv6"] * ipv6, "--netns-type=path",
+        return ["slirp4netns", "--configure", "--mtu=1500", f"--cidr={outer.net}", *["--enable-ipv6"] * ipv6, "--netns-type=path",
+                *["--disable-host-loopback"] * (not loopback),
                 *[f"--userns-path={users}"] * own_users, network, INTERFACE]
     more = ["--address", OWN6, "--gateway", GATEWAY6] if ipv6 else ["--ipv4-only"]
-    return ["pasta", "--foreground", "--quiet", "--config-net", "--ns-ifname", INTERFACE, *more, "--mtu", "1500", "--address", OWN, "--netmask", "24",
-            "--gateway", GATEWAY, "--dns-forward", RESOLVER, "-t", "none", "-u", "none", "-T", "none", "-U", "none",
-            "--userns", users, "--netns", network]
+    return ["pasta", "--foreground", "--quiet", "--config-net", "--ns-ifname", INTERFACE, *more, "--mtu", "1500", "--address", outer.own, "--netmask", "24",
+            "--gateway", outer.gateway, "--dns-forward", outer.resolver, "-t", "none", "-u", "none", "-T", "none", "-U", "none",
+            *["--no-map-gw"] * (not loopback), "--userns", users, "--netns", network]
 
 
 def unless_there(error: OSError) -> None:
@@ -41,7 +68,9 @@ def unless_there(error: OSError) -> None:
 class Outside:
     """Made before this process leaves the system's network; waits until it is told whose room to join."""
 
-    def __init__(self) -> None:
+    def __init__(self, loopback: bool, network: str) -> None:
+        """`network` is that of the hosts."""
+        self.loopback, self.outer = loopback, side_beside(network)
         if not shutil.which("slirp4netns") and (os.geteuid() == 0 or not shutil.which("pasta")):
             raise Missing("--outside: slirp4netns isn't there, nor pasta, which serves users but root: sudo apt install slirp4netns")
         self.ipv6 = leads_out_in_ipv6()
@@ -54,7 +83,7 @@ class Outside:
         os.close(read_end)
 
     def join_what_is_told(self, read_end: int) -> None:
-        """`PROCESS OWN!`: that of the first process of the rooms, once it is in the server's."""
+        """`PROCESS OWN!`: that of the first process of the rooms, once it is in the host's."""
         told = b""
         while not told.endswith(b"!"):
             more = os.read(read_end, 100)
@@ -62,7 +91,7 @@ class Outside:
                 os._exit(0)
             told += more
         process, own_users = told[:-1].decode().split()
-        words = words_for(process, own_users == "True", self.ipv6)
+        words = words_for(process, own_users == "True", self.ipv6, self.loopback, self.outer)
         os.dup2(self.said, 1)
         os.dup2(self.said, 2)
         signal.signal(signal.SIGPIPE, signal.SIG_DFL)  # pasta refuses to begin where it is ignored
@@ -80,32 +109,36 @@ class Outside:
         except OSError:
             return False
 
-    def join(self, rooms: Rooms) -> None:
-        """In the first process: waits for the interface and lets the server's room hand packets on."""
-        enter(rooms.server)
+    def join(self, network: int, interfaces: Sequence[str], others: Sequence[str]) -> bool:
+        """In the first process: waits for the interface, and lets the room with this network hand packets on between it and these interfaces,
+        behind which others with these addresses of IPv6 are. Whether IPv6 leads out too."""
+        enter(network)
         for name in ("accept_dad", "accept_ra"):
             try_to_write(f"/proc/sys/net/ipv6/conf/default/{name}", "0")  # else it asks for a second whether its address is another's
         os.write(self.write_end, b"!")
         until = time.monotonic() + PATIENCE
         while not self.joined():
             if time.monotonic() > until:
-                raise Missing(f"--outside: the server's room gets no way out: {os.pread(self.said, 1000, 0).decode(errors='replace').strip()}")
+                raise Missing(f"--outside: the host gets no way out: {os.pread(self.said, 1000, 0).decode(errors='replace').strip()}")
             time.sleep(0.01)
-        hand_on(NAME)
-        hand_on(INTERFACE)
-        rooms.lead_out(RESOLVER, self.ipv6 and self.hands_on_ipv6())
+        for name in (*interfaces, INTERFACE) if interfaces else ():
+            hand_on(name)
+        put_over("/etc/resolv.conf", f"nameserver {self.outer.resolver}\n")
+        return self.ipv6 and self.hands_on_ipv6(others)
 
-    def hands_on_ipv6(self) -> bool:
+    def hands_on_ipv6(self, others: Sequence[str]) -> bool:
         """The same of the other family, where the system lets it be changed; whether it does. pasta has given the address and the way
         out, and slirp4netns hasn't."""
         try:
             write("/proc/sys/net/ipv6/conf/all/forwarding", "1")
         except OSError:
             return False
-        for give in (lambda: add_address(INTERFACE, OWN6, 64), lambda: add_route(GATEWAY6)):
+        gives: list[Callable[[], None]] = [lambda: add_address(INTERFACE, OWN6, 64), lambda: add_route(GATEWAY6)]
+        for give in gives:
             try:
                 give()
             except OSError as error:
                 unless_there(error)
-        announce(INTERFACE, CLIENT6)
+        for address in others:
+            announce(INTERFACE, address)
         return True

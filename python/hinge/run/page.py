@@ -11,7 +11,6 @@ HEAD = ("state", "moment", "wakes", "turns", "underway", "realtime", "parts")
 COUNTS = ("came", "came_bytes", "sent", "sent_bytes", "lost", "full", "no_target", "refused", "not_ip", "turned_away", "dropped", "held", "discarded", "stayed",
           "late_most", "unread_most")
 WAY = len(COUNTS) + 2 * BINS
-SIZE = 8 * (len(HEAD) + 2 * WAY)
 STARTING, RUNNING, ENDED_WELL = range(3)  # the states
 NOT_ALLOWED = 2  # of `realtime`
 
@@ -54,20 +53,21 @@ class Counts:
 
     def __init__(self, numbers: tuple[int, ...]) -> None:
         self.head = dict(zip(HEAD, numbers))
-        self.ways = [Way(numbers[len(HEAD) + WAY * i:len(HEAD) + WAY * (i + 1)]) for i in (0, 1)]
+        self.ways = [Way(numbers[at:at + WAY]) for at in range(len(HEAD), len(numbers), WAY)]
 
     def __getitem__(self, name: str) -> int:
         return self.head[name]
 
 
 class Page:
-    def __init__(self) -> None:
+    def __init__(self, ways: int = 2) -> None:
+        self.size = 8 * (len(HEAD) + ways * WAY)
         self.descriptor = os.memfd_create("hinge-run")
-        os.ftruncate(self.descriptor, SIZE)
-        self.memory = mmap.mmap(self.descriptor, SIZE)
+        os.ftruncate(self.descriptor, self.size)
+        self.memory = mmap.mmap(self.descriptor, self.size)
 
     def read(self) -> Counts:
-        return Counts(struct.unpack(f"{SIZE // 8}Q", self.memory[:SIZE]))
+        return Counts(struct.unpack(f"{self.size // 8}Q", self.memory[:self.size]))
 
     def state(self) -> int:
         return int(struct.unpack_from("Q", self.memory)[0])

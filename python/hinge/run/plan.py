@@ -7,60 +7,96 @@ system for more than files to read.
     line LINE                          a configuration line, before the first packet
     at NS LINE                         one at a moment
     outage NS PIPE LENGTH              where nothing waits for a pipe, a packet of so many bytes that nobody sent
+    hold PIPE FROM TO                  what would begin between these moments leaves at the second
+    slots PIPE MS ..                   moments at each of which 1,500 bytes may leave; the last is the period
     realtime                           before all other programs, where the system allows
+    simulated                          time passes only while all wait: behind `realtime` the clock is read once a turn
 
-WAY 0 is up, from the client through pipe 1; WAY 1 is down, from the server through pipe 2."""
+    jitter WAY FIRST COUNT SEED        what has left its pipe goes through one of so many pipes from FIRST on, drawn by the seed
+    copies WAY CHANCE SEED             the chance of 2^31 that a packet enters twice
+    control DESCRIPTOR                 a socket from which lines come while packets pass (control.h)
+    epoch NS                           the time of the monotonic clock at which moments begin; else the beginning of the host
+    remark WORDS; contents             a remark in the transcript; by what each packet is known again on another link, as remarks
+
+WAY 0 is up, from the client through pipe 1; WAY 1 is down, from the server through pipe 2. A second link has ways 2 and 3 and pipes 3
+and 4, and so on. What a link is given names its own pipes 1 and 2."""
 
 from __future__ import annotations
 
 from typing import Optional
 
 from hinge.run.changes import Change, Changes, Outage
+from hinge.run.extras import Extra, refuse_extras
 from hinge.run.losses import loss_lines
 from hinge.run.rules import Rule
 from hinge.run.spelling import spelled
-from hinge.run.traces import MAHIMAHI_BYTES, read_trace
-from hinge.run.words import WAYS, Target, Wrong, bare, configures, duration, read_lines, target_of, with_bandwidth
+from hinge.run.traces import MAHIMAHI_BYTES, MOST_BINS, MS, Rate, counted, read_trace
+from hinge.run.words import LAST_MOMENT, WAYS, Target, Wrong, bare, configures, duration, link_line, of_link, read_lines, target_of, with_bandwidth
 
+TRACE_BIN = 100 * 10**6  # ns
+LAST_PIPE = 65535
 MOST = 250_000_000  # bytes of a part of a transcript: an audit reads at most 268,435,456
 
 
 class Plan:
-    def __init__(self, longest: int = MAHIMAHI_BYTES) -> None:
-        """A plan of links whose longest packet has so many bytes."""
+    def __init__(self, longest: int = MAHIMAHI_BYTES, links: int = 1) -> None:
+        """A plan of so many links, whose longest packet has so many bytes."""
+        self.ways = 2 * links
         self.configured: list[str] = []
         self.rest: list[str] = []
         self.decided: set[int] = set()  # the ways on which a model decides about losses
         self.current: dict[Target, str] = {}  # the lines at the beginning
         self.longest = longest
         self.changes = Changes(self.current, longest)
+        self.extras: dict[int, tuple[Extra, range]] = {}  # by ways, with the pipes of the second pass
+        self.last_free = LAST_PIPE
 
-    def link(self, line: str) -> None:
-        line = bare(line)
+    def extra(self, way: int, extra: Extra) -> None:
+        """Jitter and duplicates of a way. The pipes of its second passes have the greatest numbers that are free."""
+        if extra == Extra():
+            return
+        pipes = range(self.last_free - extra.pipes + 1, self.last_free + 1)
+        taken = {target.number for target in self.current if target.kind == "pipe"}
+        if pipes and (pipes[0] <= self.ways or taken & set(pipes)):
+            raise Wrong(f"jitter: pipe {max(taken & set(pipes), default=pipes[0])} is needed for it, and is another's")
+        self.last_free -= len(pipes)
+        self.extras[way] = extra, pipes
+        for delay, pipe in enumerate(pipes):
+            self.link(f"pipe {pipe} config delay {delay}" if delay else f"pipe {pipe} config")
+
+    def extra_lines(self, seed: int) -> list[str]:
+        found = []
+        for way, (extra, pipes) in self.extras.items():
+            found += [f"jitter {way} {pipes[0]} {len(pipes)} {seed}"] if pipes else []
+            found += [f"copies {way} {extra.duplicate} {seed}"] if extra.duplicate else []
+        return found
+
+    def link(self, line: str, link: int = 0) -> None:
+        line = of_link(bare(line), link)
         if line:
             self.configured.append(line)
             self.current[target_of(line)] = line
 
     def way_of(self, target: Target) -> Optional[int]:
-        """The way of a pipe, or of a queue by its pipe: 1 up, 2 down."""
+        """The way of a pipe, or of a queue by its pipe."""
         number = target.number
         if target.kind == "queue":
             words = self.current.get(target, "").split()
             found = words[words.index("pipe") + 1] if "pipe" in words[:-1] else ""
             number = int(found) if found.isdecimal() else 0
-        return {1: 0, 2: 1}.get(number)
+        return number - 1 if 1 <= number <= self.ways else None
 
-    def rule(self, text: str) -> None:
+    def rule(self, text: str, link: int = 0) -> None:
         rule = Rule(text)
         if rule.target not in self.current:
             raise Wrong(f"--map {text}: {rule.target.kind} {rule.target.number} isn't configured")
-        way = self.way_of(rule.target) if rule.way is None else rule.way
+        way = self.way_of(rule.target) if rule.way is None else 2 * link + rule.way
         if way is None:
             raise Wrong(f"--map {text}: say `up` or `down`, since {rule.target.kind} {rule.target.number} isn't of pipe 1 or 2")
         self.rest += rule.lines(way)
 
-    def loss(self, text: str) -> None:
-        lines = loss_lines(text)
+    def loss(self, text: str, link: int = 0) -> None:
+        lines = loss_lines(text, link)
         self.rest += lines.values()
         self.decided |= lines.keys()
 
@@ -78,14 +114,17 @@ class Plan:
                 raise Wrong(f"pipe {pipe} isn't configured")
             self.changes.outages.append(Outage(moment, length, pipe, words[1:] == ["lossy"]))
 
-    def event(self, words: list[str]) -> None:
-        """`MOMENT LINE` or `MOMENT [up|down] outage LENGTH [lossy]`, MOMENT as 5s."""
+    def event(self, words: list[str], link: int = 0) -> None:
+        """`MOMENT LINE`, `MOMENT [up|down] LINK` or `MOMENT [up|down] outage LENGTH [lossy]`, MOMENT as 5s."""
         moment, rest = duration(words[0]), words[1:]
-        ways = [WAYS[rest.pop(0)]] if rest and rest[0] in WAYS else [0, 1]
+        ways = [2 * link + way for way in ([WAYS[rest.pop(0)]] if rest and rest[0] in WAYS else [0, 1])]
         if rest[:1] == ["outage"]:
             self.outage(moment, ways, rest[1:])
+        elif words[1:2] and words[1] in ("pipe", "queue", "ipfw"):
+            self.changes.lines.append(Change(moment, of_link(" ".join(words[1:]), link)))
         else:
-            self.changes.lines.append(Change(moment, " ".join(words[1:])))
+            refuse_extras(" ".join(rest), words[0])
+            self.changes.lines += [Change(moment, link_line(way + 1, " ".join(rest), words[0])) for way in ways]
 
     def timeline(self, path: str) -> None:
         for number, line in enumerate(read_lines(path), 1):
@@ -96,20 +135,41 @@ class Plan:
             except Wrong as wrong:
                 raise Wrong(f"{path} line {number}: {wrong}") from None
 
-    def trace(self, way: int, path: str, bin_ns: int, lasting: int) -> None:
-        """The bandwidth of a way by a file; one that begins anew does so for so many ns."""
+    def trace(self, way: int, path: str, bin_ns: Optional[int], lasting: int) -> None:
+        """The bandwidth of a way by a file. mahimahi's moments are obeyed each, where no bin is given and the pipe is one queue; else they
+        are counted over bins, which begin anew for so many ns."""
         line = self.current.get(Target("pipe", way + 1))
         if line is None:
             raise Wrong(f"{path}: pipe {way + 1} isn't configured")
-        found = read_trace(path, bin_ns, self.longest)
-        for base in range(0, lasting, found.period) if found.period else [0]:
-            self.changes.lines += [Change(base + moment, with_bandwidth(line, rate)) for moment, rate in found.rates]
+        found = read_trace(path)
+        if found.moments and bin_ns is None and way + 1 not in self.changes.shared():
+            self.rest.append(f"slots {way + 1} {' '.join(map(str, found.moments))}")
+        elif found.moments:
+            self.bins(line, path, found.moments, min(TRACE_BIN, found.moments[-1] * MS) if bin_ns is None else bin_ns, lasting)
+        else:
+            self.rates(way, line, found.rates)
 
-    def text(self, seed: int, transcript: Optional[str] = None, realtime: bool = False, most: int = MOST) -> str:
+    def bins(self, line: str, path: str, moments: list[int], bin_ns: int, lasting: int) -> None:
+        rates, period = counted(path, moments, bin_ns, self.longest), moments[-1] * MS
+        if len(rates) > 1 and len(rates) * (lasting // period) > MOST_BINS:
+            raise Wrong(f"{path}: it has {len(rates)} rates and would begin {lasting // period} times; take a longer --bin, or a shorter --trace-for")
+        for base in range(0, lasting, period) if len(rates) > 1 else [0]:
+            self.changes.lines += [Change(base + moment, with_bandwidth(line, rate)) for moment, rate in rates]
+
+    def rates(self, way: int, line: str, rates: list[Rate]) -> None:
+        """A rate of 0 is an outage up to the next one."""
+        for (moment, rate), end in zip(rates, [*(following.moment for following in rates[1:]), LAST_MOMENT]):
+            if rate:
+                self.changes.lines.append(Change(moment, with_bandwidth(line, rate)))
+            elif end > moment:
+                self.changes.outages.append(Outage(moment, end - moment, way + 1, False))
+
+    def text(self, seed: int, transcript: Optional[str] = None, realtime: bool = False, most: int = MOST, simulated: bool = False) -> str:
         out = [f"transcript {most} {transcript}"] if transcript else []
-        out += [f"seed {way} {seed}" for way in (0, 1)] + self.rest
+        out += [f"seed {way} {seed}" for way in range(self.ways)] + self.rest + self.extra_lines(seed)
+        out += [f"hold {pipe} {begin} {end}" for pipe, begin, end in self.changes.holds()]
         out += [f"line {spelled(self.lossy(line))}" for line in self.configured]
         for change in self.changes.all():
             kind, _, rest = change.line.partition(" ")
             out.append(f"outage {change.moment} {rest}" if kind == "outage" else f"at {change.moment} {spelled(self.lossy(change.line))}")
-        return "\n".join([*out, *["realtime"] * realtime, ""])
+        return "\n".join([*out, *["realtime"] * realtime, *["simulated"] * simulated, ""])

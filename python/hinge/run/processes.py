@@ -5,11 +5,27 @@ from __future__ import annotations
 import os
 import signal
 import time
-from typing import Callable, Optional, Set, Union
+from typing import Callable, NamedTuple, Optional, Set, Union
 
 Mask = Set[Union[int, signal.Signals]]  # of signals that are blocked
 
 SIGNALLED = 128  # and the signal: the status of a command that one ended
+
+
+class Ended(NamedTuple):
+    """How a command ended."""
+
+    status: int
+    after: float  # s
+    by: str  # itself, SIGTERM or SIGKILL
+
+
+def name_of(status: int) -> str:
+    """A status as a sentence ends with it."""
+    try:
+        return signal.Signals(status - SIGNALLED).name if status > SIGNALLED else str(status)
+    except ValueError:
+        return str(status)
 
 
 class Ticker:
@@ -29,12 +45,23 @@ class Ticker:
             self.do(time.monotonic() - self.begun)
 
 
+def signal_group(process: int, number: int) -> None:
+    """Sends a signal to a process group, or to a process that leads none."""
+    for send in (os.killpg, os.kill):
+        try:
+            send(process, number)
+            return
+        except ProcessLookupError:
+            pass
+
+
 class Processes:
     """All of `signals` must be blocked."""
 
     def __init__(self, signals: set[signal.Signals]) -> None:
         self.signals = signals
         self.ended: dict[int, int] = {}  # the statuses of processes
+        self.ended_at: dict[int, float] = {}  # and when their ends were seen, by the monotonic clock
 
     def reap(self) -> None:
         try:
@@ -43,6 +70,7 @@ class Processes:
                 if not process:
                     return
                 self.ended[process] = os.WEXITSTATUS(status) if os.WIFEXITED(status) else SIGNALLED + os.WTERMSIG(status)
+                self.ended_at[process] = time.monotonic()
         except ChildProcessError:
             pass
 
@@ -62,6 +90,51 @@ class Processes:
             if ticker:
                 ticker.tick()
         return None
+
+    def poll(self, holds: Callable[[], bool], lasting: float, interval: float) -> Optional[int]:
+        """Waits until something holds, looked at in intervals, or so many seconds; a signal that came before."""
+        until = time.monotonic() + lasting
+        self.reap()
+        while not holds() and time.monotonic() < until:
+            came = signal.sigtimedwait(self.signals, interval)
+            if came and came.si_signo != signal.SIGCHLD:
+                return came.si_signo
+            self.reap()
+        return None
+
+    def end_all(self, processes: list[int], patience: float) -> set[int]:
+        """Has processes end with their groups, where they have some of their own, and kills those that are there after so many seconds;
+        which these are."""
+        self.reap()
+        left = [process for process in processes if process not in self.ended]
+        for process in left:
+            signal_group(process, signal.SIGTERM)
+        until = time.monotonic() + patience
+        while (killed := {process for process in left if self.is_there(process)}) and time.monotonic() < until:
+            signal.sigtimedwait({signal.SIGCHLD}, max(0.0, until - time.monotonic()))
+        for process in killed:
+            signal_group(process, signal.SIGKILL)
+            self.wait(process, patience)
+        return killed
+
+    def endings(self, started: dict[str, int], begun: float, patience: float) -> dict[str, Ended]:
+        """How commands ended, which are all ended now: those by names and processes that didn't end by themselves. `begun` is when they began,
+        by the monotonic clock."""
+        self.reap()
+        themselves = {name for name, process in started.items() if process in self.ended}
+        killed = self.end_all([process for name, process in started.items() if name not in themselves], patience)
+        return {name: Ended(self.ended.get(process, SIGNALLED + signal.SIGKILL), round(self.ended_at.get(process, time.monotonic()) - begun, 3),
+                            "itself" if name in themselves else "SIGKILL" if process in killed else "SIGTERM")
+                for name, process in started.items()}
+
+    def is_there(self, process: int) -> bool:
+        """Whether a process or one of its group is there."""
+        self.reap()
+        try:
+            os.killpg(process, 0)
+            return True
+        except ProcessLookupError:
+            return process not in self.ended
 
     def end(self, process: int, patience: float) -> None:
         """Has a process end, and waits for that so many seconds."""

@@ -11,16 +11,16 @@ import os
 import signal
 import sys
 from tempfile import gettempdir
-from typing import Optional, Sequence
+from typing import Callable, Optional, Sequence
 
+from hinge.command import say
+from hinge.run.ends import Ends
 from hinge.run.interfaces import add_route, add_tun, dropped, set_up
 from hinge.run.processes import Mask
 from hinge.run.system import (BIND, NEWNET, NEWNS, NEWPID, NEWUSER, Missing, enter, keep_mounts_to_itself, keep_network_rights, mount, setting, try_to_write,
                               unmount, unshare, write)
+from hinge.run.users import Users, make_terminals
 
-CLIENT, SERVER = "10.8.0.1", "10.8.0.2"
-CLIENT6, SERVER6 = "fd08::1", "fd08::2"
-NAMES = f"{SERVER} server\n{CLIENT} client\n{SERVER6} server6\n{CLIENT6} client6\n"
 CANNOT_EXECUTE, NOT_FOUND = 126, 127
 
 
@@ -61,17 +61,13 @@ def unshared() -> bool:
 
 
 def leave_the_system() -> bool:
-    """Puts this process and its later children into namespaces of their own; whether they have users of their own, of which this
-    process's user is the only one."""
-    uid, gid = os.geteuid(), os.getegid()
+    """Puts this process and its later children into namespaces of their own; whether they have users of their own."""
+    users = Users()
     try:
         own = unshared()
     except OSError as error:
         raise Missing(f"no namespaces ({error.strerror}): {advice(error.errno)}") from None
-    if own:
-        write("/proc/self/setgroups", "deny")
-        write("/proc/self/uid_map", f"{uid} {uid} 1")
-        write("/proc/self/gid_map", f"{gid} {gid} 1")
+    users.map(own)
     try:
         keep_mounts_to_itself()
     except OSError as error:
@@ -83,61 +79,90 @@ def this_network() -> int:
     return os.open("/proc/thread-self/ns/net", os.O_RDONLY | os.O_CLOEXEC)
 
 
+def see_own_processes() -> None:
+    """Has /proc show the processes of this namespace."""
+    try:
+        mount("proc", "/proc", "proc", 0)
+    except OSError:
+        pass  # a container that hides parts of /proc: the rooms see the container's processes
+
+
+def furnish() -> int:
+    """Furnishes the present network with what each room has; its descriptor."""
+    set_up("lo")
+    try_to_write("/proc/sys/net/ipv4/ping_group_range", f"{os.getegid()} {os.getegid()}")
+    try_to_write("/proc/sys/net/ipv4/ip_unprivileged_port_start", "0")
+    return this_network()
+
+
+def put_over(path: str, text: str) -> None:
+    """Puts a text in the place of a file, in these namespaces alone. Its file system is in no folder, so that nothing outlives the
+    run; and its file has a name there, so that a run inside this one can do the same."""
+    folder = gettempdir()
+    made = os.path.join(folder, "made")
+    mount("none", folder, "tmpfs", 0)
+    try:
+        write(made, text)
+        os.chmod(made, 0o644)
+        mount(made, path, "none", BIND)
+    finally:
+        unmount(folder)
+
+
+def add_names(names: str, example: str, address: str) -> None:
+    """Lets hosts be found by name, in these namespaces alone: `names` has lines of /etc/hosts, one of them for the example."""
+    try:
+        with open("/etc/hosts") as file:
+            all_names = names + file.read()
+    except OSError:
+        all_names = names
+    try:
+        put_over("/etc/hosts", all_names)
+    except OSError as error:
+        made = "make an empty one, or take" if error.errno == errno.ENOENT else "take"
+        say(f"/etc/hosts: {error.strerror}: the name `{example}` isn't known: {made} {address}")
+
+
+def start(words: Sequence[str], mask: Mask, enter_room: Callable[[], None], own_users: bool) -> int:
+    """Starts a command in the room that `enter_room` enters, and returns its process. The command has what signals `mask` blocks, and no
+    others."""
+    process = os.fork()
+    if process:
+        return process
+    try:
+        enter_room()
+        if own_users and os.geteuid() != 0:
+            keep_network_rights()
+        signal.signal(signal.SIGPIPE, signal.SIG_DFL)
+        signal.signal(signal.SIGINT, signal.SIG_DFL)
+        signal.pthread_sigmask(signal.SIG_SETMASK, mask)
+        os.execvp(words[0], list(words))
+    except OSError as error:
+        say(f"{words[0]}: {error.strerror}")
+        sys.stderr.flush()
+        os._exit(NOT_FOUND if error.errno == errno.ENOENT else CANNOT_EXECUTE)
+    finally:
+        os._exit(CANNOT_EXECUTE)
+
+
 class Rooms:
     """Made in the first process; the server's room is the one in which it stays."""
 
-    def __init__(self, mtu: int, own_users: bool) -> None:
-        self.own_users = own_users
-        try:
-            mount("proc", "/proc", "proc", 0)
-        except OSError:
-            pass  # a container that hides parts of /proc: the rooms see the container's processes
-        self.client, client = self.furnished(CLIENT, CLIENT6, mtu)
+    def __init__(self, mtu: int, own_users: bool, ends: Ends) -> None:
+        self.own_users, self.ends = own_users, ends
+        see_own_processes()
+        self.client, client = furnish(), add_tun(ends.client, ends.client6, mtu, bits=ends.bits)
         unshare(NEWNET)
-        self.server, server = self.furnished(SERVER, SERVER6, mtu)
+        self.server, server = furnish(), add_tun(ends.server, ends.server6, mtu, bits=ends.bits)
         self.interfaces = (client, server)
-        self.add_names()
+        add_names(ends.names(), "server", ends.server)
 
-    def furnished(self, address: str, address6: str, mtu: int) -> tuple[int, int]:
-        """Furnishes the present namespace; its descriptor and that of its interface."""
-        set_up("lo")
-        try_to_write("/proc/sys/net/ipv4/ping_group_range", f"{os.getegid()} {os.getegid()}")
-        try_to_write("/proc/sys/net/ipv4/ip_unprivileged_port_start", "0")
-        return this_network(), add_tun(address, address6, mtu)
-
-    def add_names(self) -> None:
-        """Lets `server` and `client` be found by name, in these namespaces alone."""
-        try:
-            with open("/etc/hosts") as file:
-                names = NAMES + file.read()
-        except OSError:
-            names = NAMES
-        try:
-            self.put_over("/etc/hosts", names)
-        except OSError as error:
-            made = "make an empty one, or take" if error.errno == errno.ENOENT else "take"
-            print(f"hinge run: /etc/hosts: {error.strerror}: the name `server` isn't known: {made} {SERVER}", file=sys.stderr)
-
-    def put_over(self, path: str, text: str) -> None:
-        """Puts a text in the place of a file, in these namespaces alone. Its file system is in no folder, so that nothing outlives the
-        run; and its file has a name there, so that a run inside this one can do the same."""
-        folder = gettempdir()
-        made = os.path.join(folder, "made")
-        mount("none", folder, "tmpfs", 0)
-        try:
-            write(made, text)
-            os.chmod(made, 0o644)
-            mount(made, path, "none", BIND)
-        finally:
-            unmount(folder)
-
-    def lead_out(self, resolver: str, ipv6: bool) -> None:
-        """Sends what the client has for other networks to the server's room, and takes names from a resolver there."""
+    def lead_out(self, ipv6: bool) -> None:
+        """Sends what the client has for other networks to the server's room."""
         enter(self.client)
-        add_route(SERVER)
+        add_route(self.ends.server)
         if ipv6:
-            add_route(SERVER6)
-        self.put_over("/etc/resolv.conf", f"nameserver {resolver}\n")
+            add_route(self.ends.server6)
 
     def dropped(self) -> list[int]:
         """What the system dropped before the host, by ways."""
@@ -148,18 +173,17 @@ class Rooms:
         return found
 
     def start(self, room: int, words: Sequence[str], mask: Mask) -> int:
-        """Starts a command in a room, and returns its process. The command has what signals `mask` blocks, and no others."""
-        process = os.fork()
-        if process:
-            return process
-        try:
-            enter(room)
-            if self.own_users and os.geteuid() != 0:
-                keep_network_rights()
-            signal.signal(signal.SIGPIPE, signal.SIG_DFL)
-            signal.signal(signal.SIGINT, signal.SIG_DFL)
-            signal.pthread_sigmask(signal.SIG_SETMASK, mask)
-            os.execvp(words[0], list(words))
-        except OSError as error:
-            print(f"hinge run: {words[0]}: {error.strerror}", file=sys.stderr, flush=True)
-            os._exit(NOT_FOUND if error.errno == errno.ENOENT else CANNOT_EXECUTE)
+        """Starts a command in a room, and returns its process."""
+        return start(words, mask, lambda: enter(room), self.own_users)
+
+    def start_server(self, command: str, mask: Mask) -> int:
+        """Starts a command of the shell in the server's room, in a process group of its own, which a terminal doesn't let read."""
+        def enter_room() -> None:
+            os.setpgid(0, 0)
+            if os.isatty(0):
+                os.dup2(os.open(os.devnull, os.O_RDONLY), 0)
+            if self.own_users:
+                make_terminals()
+            enter(self.server)
+
+        return start(["sh", "-c", command], mask, enter_room, self.own_users)

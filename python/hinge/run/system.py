@@ -7,8 +7,9 @@ import errno
 import os
 import platform
 import struct
+from typing import Optional
 
-NEWNS, NEWUSER, NEWPID, NEWNET = 0x00020000, 0x10000000, 0x20000000, 0x40000000  # of unshare(2)
+NEWNS, NEWUTS, NEWUSER, NEWPID, NEWNET = 0x00020000, 0x04000000, 0x10000000, 0x20000000, 0x40000000  # of unshare(2)
 BIND, REC, PRIVATE = 0x1000, 0x4000, 0x40000  # of mount(2)
 DETACH = 2  # of umount2(2)
 SET_PDEATHSIG, AMBIENT, AMBIENT_RAISE = 1, 47, 2  # of prctl(2)
@@ -23,6 +24,11 @@ class Missing(Exception):
     """Something that the system doesn't have or doesn't allow, told with what to do about it."""
 
 
+def is_simulated() -> bool:
+    """Whether this system is a simulated machine, whose kernel alone tells what it gave to processes that spin."""
+    return os.path.exists("/proc/spun")
+
+
 def must(result: int) -> None:
     if result < 0:
         number = ctypes.get_errno()
@@ -33,13 +39,19 @@ def unshare(flags: int) -> None:
     must(libc.unshare(flags))
 
 
+def join(namespace: int, kind: int) -> None:
+    """Joins the namespace of a descriptor, which is of that kind."""
+    must(libc.setns(namespace, kind))
+
+
 def enter(network: int) -> None:
     """Enters the network namespace of a descriptor."""
-    must(libc.setns(network, NEWNET))
+    join(network, NEWNET)
 
 
-def mount(source: str, target: str, kind: str, flags: int) -> None:
-    must(libc.mount(source.encode(), target.encode(), kind.encode(), ctypes.c_ulong(flags), None))
+def mount(source: str, target: str, kind: str, flags: int, more: Optional[str] = None) -> None:
+    """`more` are the options of its kind."""
+    must(libc.mount(source.encode(), target.encode(), kind.encode(), ctypes.c_ulong(flags), more.encode() if more else None))
 
 
 def unmount(target: str) -> None:

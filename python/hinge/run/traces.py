@@ -10,16 +10,20 @@ from hinge.run.words import LAST_MOMENT, SECOND, Wrong, bare, read_lines
 MAHIMAHI_BYTES = 1500
 MOST = 10**12  # bit/s of a pipe
 MS = 10**6  # ns
+MOST_MS = 2**32 - 1  # of a moment
+MOST_BINS = 10**6
 
 
 class Rate(NamedTuple):
     moment: int  # ns from the trace's beginning
-    rate: int  # bit/s
+    rate: int  # bit/s; 0 is an outage
 
 
 class Trace(NamedTuple):
+    """Either rates, of which the last stays, or moments in ms, at each of which so many bytes may leave."""
+
     rates: list[Rate]
-    period: Optional[int]  # ns after which it begins anew; None where its last rate stays
+    moments: list[int]
 
 
 def outage_rate(length: int, longest: int) -> int:
@@ -54,7 +58,7 @@ def rate_of(fields: list[str]) -> Rate:
     return Rate(round(seconds * SECOND), round(rate))
 
 
-def read_rates(path: str, rows: list[tuple[int, list[str]]], longest: int) -> list[Rate]:
+def read_rates(path: str, rows: list[tuple[int, list[str]]]) -> list[Rate]:
     found: list[Rate] = []
     for at, fields in rows:
         try:
@@ -63,48 +67,51 @@ def read_rates(path: str, rows: list[tuple[int, list[str]]], longest: int) -> li
             raise Wrong(f"{path} line {at}: not of the form seconds,bit/s, from 0 to 10^12") from None
         if len(found) > 1 and found[-1].moment < found[-2].moment:
             raise Wrong(f"{path} line {at}: earlier than the line before it")
-    ends = [*(rate.moment for rate in found[1:]), LAST_MOMENT]
-    return [rate if rate.rate else Rate(rate.moment, outage_rate(end - rate.moment, longest)) for rate, end in zip(found, ends)]
-
-
-def read_moments(path: str, rows: list[tuple[int, list[str]]]) -> list[int]:
-    """mahimahi's moments, in ns."""
-    found: list[int] = []
-    for at, [text] in rows:
-        if not (text.isascii() and text.isdecimal() and int(text) * MS <= LAST_MOMENT):
-            raise Wrong(f"{path} line {at}: not a number of milliseconds")
-        found.append(int(text) * MS)
-        if len(found) > 1 and found[-1] < found[-2]:
-            raise Wrong(f"{path} line {at}: earlier than the line before it")
     return found
 
 
-def counted(moments: list[int], period: int, bin_ns: int, longest: int) -> list[Rate]:
-    """The rate of each bin of moments, those of equal bins as one."""
+def read_moments(path: str, rows: list[tuple[int, list[str]]]) -> list[int]:
+    """mahimahi's moments, in ms; the last is the period, after which they begin anew."""
+    found: list[int] = []
+    for at, [text] in rows:
+        if not (text.isascii() and text.isdecimal() and int(text) <= MOST_MS):
+            raise Wrong(f"{path} line {at}: not a number of milliseconds, up to {MOST_MS}")
+        found.append(int(text))
+        if len(found) > 1 and found[-1] < found[-2]:
+            raise Wrong(f"{path} line {at}: earlier than the line before it")
+    return found if found[-1] else [*found[:-1], 1]
+
+
+def counted(path: str, moments: list[int], bin_ns: int, longest: int) -> list[Rate]:
+    """The rate of each bin of moments, those of equal bins as one; the last bin ends with the period. A bin without a moment lets the
+    longest packet leave in as long as there is none."""
+    period = moments[-1] * MS
+    if bin_ns > period:
+        raise Wrong(f"{path}: the bin is longer than the trace, which begins anew after {moments[-1]} ms")
+    if -(-period // bin_ns) > MOST_BINS:
+        raise Wrong(f"{path}: {-(-period // bin_ns)} bins; take a longer --bin, of which there are {MOST_BINS} at most")
     counts = [0] * -(-period // bin_ns)
     for moment in moments:
-        counts[min(moment // bin_ns, len(counts) - 1)] += 1
+        counts[min(moment * MS // bin_ns, len(counts) - 1)] += 1
     found, at = [], 0
     while at < len(counts):
         end = at + 1
-        while end < len(counts) and counts[end] == counts[at]:
+        while end < len(counts) - 1 and counts[end] == counts[at] and at < len(counts) - 1:
             end += 1
-        length = (end - at) * bin_ns
-        rate = counts[at] * MAHIMAHI_BYTES * 8 * SECOND // bin_ns if counts[at] else outage_rate(length, longest)
+        length = min(end * bin_ns, period) - at * bin_ns
+        rate = counts[at] * (end - at) * MAHIMAHI_BYTES * 8 * SECOND // length if counts[at] else outage_rate(length, longest)
         found.append(Rate(at * bin_ns, rate))
         at = end
     return found
 
 
-def read_trace(path: str, bin_ns: int, longest: int = MAHIMAHI_BYTES) -> Trace:
-    """The trace of a file. A rate of 0 becomes that at which the longest packet takes as long as the 0 lasts."""
+def read_trace(path: str) -> Trace:
+    """The trace of a file."""
     rows = list(rows_of(path))
     if not rows:
         raise Wrong(f"{path}: it has no moments")
     if len(rows[0][1]) > 1:
-        return Trace(read_rates(path, rows, longest), None)
+        return Trace(read_rates(path, rows), [])
     if any(len(fields) > 1 for _, fields in rows):
         raise Wrong(f"{path}: lines of seconds,bit/s and of milliseconds")
-    moments = read_moments(path, rows)
-    period = max(moments[-1], MS)
-    return Trace(counted(moments, period, bin_ns, longest), period)
+    return Trace([], read_moments(path, rows))

@@ -5,28 +5,40 @@ from __future__ import annotations
 import os
 from typing import Iterable, Iterator, Optional
 
+from hinge.outputs import is_file, place
 from hinge.run.words import Wrong
 
+KEPT = "/run/kept"  # in a simulated machine: what outlives it, which the launcher tells of
 AUDITED = 268_435_456  # bytes: the most that an audit reads without being told
 
 
-def refuse_own_input(transcript: Optional[str], inputs: Iterable[Optional[str]]) -> None:
-    """A transcript that is also a file to be read would empty it."""
-    if transcript is None or not os.path.exists(transcript):
+def refuse_own_input(option: str, path: Optional[str], others: Iterable[Optional[str]]) -> None:
+    """A file that is written must be none that is read, and no other one that is written: it would empty it."""
+    if path is None:
         return
-    for path in inputs:
-        if path is not None and os.path.exists(path) and os.path.samefile(path, transcript):
-            raise Wrong(f"--transcript {transcript}: the same file as {path}, which is to be read")
+    if "\n" in os.path.abspath(path):
+        raise Wrong(f"{option} {path!r}: a line feed in its name")
+    for other in others:
+        if other is not None and is_file(path) and is_file(other) and place(path) == place(other):
+            raise Wrong(f"{option} {path}: the same file as {other}")
 
 
 def parts_of(transcript: str, count: int) -> list[str]:
     return [transcript, *(f"{transcript}.{number}" for number in range(1, count))]
 
 
+def files_of(transcript: str) -> list[str]:
+    """The files of a transcript that are there; the first is, or is found missing as it is read."""
+    found = [transcript]
+    while os.path.exists(following := f"{transcript}.{len(found)}"):
+        found.append(following)
+    return found
+
+
 def told(transcript: str, count: int) -> Iterator[str]:
     """What a user should know of the files."""
-    parts = parts_of(transcript, count)
-    if count > 1:
+    parts = [] if transcript.startswith(f"{KEPT}/") else parts_of(transcript, count)
+    if len(parts) > 1:
         yield f"the transcript is in {count} files, of which each is audited by itself: {parts[0]}, {parts[1]}{' ..' if count > 2 else ''}"
     for part in parts:
         if os.path.exists(part) and (size := os.path.getsize(part)) > AUDITED:

@@ -5,6 +5,8 @@ from __future__ import annotations
 import re
 from typing import NamedTuple
 
+from hingetulip_words.link import WordError, in_full, read_link
+
 WAYS = {"up": 0, "down": 1}
 SECOND = 1_000_000_000  # ns
 LAST_MOMENT = 2**62  # ns, of the links
@@ -42,20 +44,12 @@ def read_lines(path: str) -> list[str]:
         raise Wrong(f"{path}: {error.strerror}") from None
 
 
-def link_line(number: int, text: str) -> str:
-    """`10Mbit/s 20ms queue 100 loss 1%` as a line for a pipe: words that it doesn't know stay as they are."""
-    words, options = text.split(), []
-    while words:
-        word = words.pop(0)
-        if re.fullmatch(r"(?i)\d+[kmg]?(bits?|bytes?)/s", word, re.ASCII):
-            options += ["bw", word]
-        elif re.fullmatch(r"\d+ms", word, re.ASCII):
-            options += ["delay", word]
-        elif word == "loss" and words and re.fullmatch(r"\d+(\.\d+)?%", words[0], re.ASCII):
-            options += ["plr", f"{float(words.pop(0)[:-1]) / 100:.9f}"]
-        else:
-            options.append(word)
-    return " ".join(["pipe", str(number), "config", *options])
+def link_line(number: int, text: str, option: str) -> str:
+    """`10Mbit/s 20ms queue 100 loss 1%` as a line for a pipe; Wrong names the option of the command line that has a wrong word."""
+    try:
+        return f"pipe {number} config {in_full(read_link(text))}".strip()
+    except WordError as wrong:
+        raise Wrong(f"{option}: {wrong}") from None
 
 
 class Target(NamedTuple):
@@ -69,6 +63,16 @@ def target_of(line: str) -> Target:
     words = [word for word in line.split() if word != "ipfw"]
     numbers = [word for word in words[1:3] if word.isdecimal()]
     return Target(words[0] if words else "", int(numbers[0]) if numbers else 0)
+
+
+def of_link(line: str, link: int) -> str:
+    """A line that names the pipes 1 and 2 of a link, counted from 0, as the plan of all links has it."""
+    words = line.split()
+    for at, word in enumerate(words[:-1]):
+        number = at + 1 + (words[at + 1] == "delete" and at + 2 < len(words))
+        if word == "pipe" and words[number] in ("1", "2"):
+            words[number] = str(2 * link + int(words[number]))
+    return " ".join(words) if link else line
 
 
 def configures(line: str) -> bool:

@@ -2,7 +2,9 @@
 
 from __future__ import annotations
 
-from typing import TYPE_CHECKING, Callable, Optional, Sequence
+import asyncio
+import threading
+from typing import TYPE_CHECKING, Callable, NoReturn, Optional, Sequence
 
 from hingetulip.aio.datagram import NS
 from hingetulip.aio.waiting import waiting
@@ -14,6 +16,12 @@ if TYPE_CHECKING:
 MOST_STEPS = 100_000  # of the loop while the clock stays where it is
 
 
+def other_threads() -> str:
+    """A hint at threads, for which a simulated clock doesn't wait."""
+    names = [thread.name for thread in threading.enumerate() if thread is not threading.current_thread()]
+    return f" Other threads run ({', '.join(names)}), and simulated time waits for none." if names else ""
+
+
 class Stuck(RuntimeError):
     """Nothing can happen any more. The text has the tasks that wait, and for what."""
 
@@ -22,42 +30,48 @@ class Clock:
     """A clock in whole ns, in the place of the loop's selector."""
 
     def __init__(self, loop: Loop) -> None:
-        self.loop, self.net = loop, loop.net
+        self.loop, self.net, self.descriptors = loop, loop.net, loop.descriptors
         self.now: int = 0
         self.seconds = 0.0  # of `now`
         self.steps = 0
         self.moved: list[Callable[[int], None]] = []
-        """What is called with each new moment."""
+        """What is called with each new moment from `told_at` on."""
+        self.told_at: int = 0
 
-    def select(self, timeout: Optional[float]) -> Sequence[object]:
+    def select(self, timeout: Optional[float]) -> Sequence[asyncio.Handle]:
         """The loop has nothing to do for `timeout` seconds, or, where that is None, until something comes."""
-        net = self.net
+        net, descriptors = self.net, self.descriptors
+        waits = descriptors.readers or descriptors.writers
+        if waits and descriptors.ready():
+            timeout = 0
         wake = net.wake() if net.changed else net.next_moment
         if timeout is None:
             self._move(wake)
         elif timeout > 0:
-            timer = self.now + max(1, round(timeout * NS))
+            timer = self.now + (round(timeout * NS) or 1)
             self._move(timer if timer < wake else wake)
         else:
-            self._count_step()
+            self.steps += 1
+            if self.steps > MOST_STEPS:
+                self._refuse_steps()
         if wake <= self.now:
             net.deliver()
-        return ()
+        return descriptors.ready() if waits else ()
 
     def close(self) -> None:
         """A selector has this too."""
 
     def _move(self, moment: int) -> None:
         if moment > LAST_MOMENT:
-            raise Stuck(f"at {self.now / NS:.9f} s nothing can happen any more: no timer runs, and no packet is under way.{waiting(self.loop)}")
+            raise Stuck(f"at {self.now / NS:.9f} s nothing can happen any more: no timer runs, and no packet is under way."
+                        f"{other_threads()}{waiting(self.loop)}")
         if moment > self.now:
             self.now, self.seconds, self.steps = moment, moment / NS, 0
-            for call in self.moved:
-                call(moment)
+            if moment >= self.told_at:
+                for call in self.moved:
+                    call(moment)
 
-    def _count_step(self) -> None:
+    def _refuse_steps(self) -> NoReturn:
         """A loop that always has something to do at once never lets the time pass."""
-        self.steps += 1
-        if self.steps > MOST_STEPS:
-            self.steps = 0
-            raise Stuck(f"the loop made {MOST_STEPS} steps at {self.now / NS:.9f} s: a task asks again and again without a timer.{waiting(self.loop)}")
+        self.steps = 0
+        raise Stuck(f"the loop made {MOST_STEPS} steps at {self.now / NS:.9f} s: a task asks again and again without a timer.{waiting(self.loop)}")

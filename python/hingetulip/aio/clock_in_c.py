@@ -85,6 +85,7 @@ def clock_in_c(clock: Clock, epoch: int) -> Iterator[None]:
     if set_clock is not None:
         moved = partial(_set, set_clock, epoch)
     clock.moved.append(moved)
+    clock.told_at = 0 if set_clock is not None else LONG
     moved(clock.now)
     try:
         yield

@@ -1,4 +1,4 @@
-"""What goes over a network: datagrams, and those that a link didn't take."""
+"""What goes over a network: datagrams, answers of closed ports, and what a link didn't take."""
 
 from __future__ import annotations
 
@@ -8,8 +8,11 @@ from hingetulip.records import Outcome
 
 Address = tuple[str, int]
 HEADERS = 28  # bytes of IPv4 and UDP before the data, which a link carries too
-UDP = 17
-MOST_DATA = 65535 - HEADERS
+HEADERS_OF_6 = 48
+UDP, ICMP = 17, 1
+MOST_BYTES = 65535  # of a datagram with its headers
+MOST_DATA = MOST_BYTES - HEADERS
+MOST_REFUSAL, MOST_REFUSAL_OF_6 = 576, 1280  # bytes of an answer of a closed port: it quotes what fits
 NS = 10**9
 
 
@@ -19,6 +22,22 @@ class Datagram(NamedTuple):
     source: Address
     target: Address
     data: bytes
+
+
+class Refusal(Datagram):
+    """A closed port's answer to a datagram, as ICMP brings it. Its data are what it quotes of that datagram."""
+
+
+def headers(address: str) -> int:
+    """The bytes before the data of a datagram to an address."""
+    return HEADERS_OF_6 if ":" in address else HEADERS
+
+
+def refusal(it: Datagram) -> Refusal:
+    """The answer to a datagram that no socket takes."""
+    before = headers(it.target[0])
+    most = MOST_REFUSAL if before == HEADERS else MOST_REFUSAL_OF_6
+    return Refusal(it.target, it.source, (bytes(before) + it.data)[:most - before])
 
 
 class Dropped(NamedTuple):
@@ -32,5 +51,11 @@ class Dropped(NamedTuple):
     outcome: Outcome
 
     def __str__(self) -> str:
-        return (f"row {self.row:>5}, {self.moment / NS:.9f} s, {self.source[0]}:{self.source[1]} > {self.target[0]}:{self.target[1]}, "
-                f"{len(self.data) + HEADERS} bytes: {self.outcome.name.lower()}")
+        (source, sport), (target, dport) = self.source, self.target
+        return (f"row {self.row:>5}, {self.moment / NS:.9f} s, {place(source)}:{sport} > {place(target)}:{dport}, "
+                f"{len(self.data) + headers(target)} bytes: {self.outcome.name.lower()}")
+
+
+def place(address: str) -> str:
+    """An address as it stands before a port."""
+    return f"[{address}]" if ":" in address else address

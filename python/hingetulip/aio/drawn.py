@@ -2,20 +2,51 @@
 
 from __future__ import annotations
 
-MASK = (1 << 64) - 1  # of 64-bit arithmetic
+from typing import Iterator
+
 QUEUES = 1 << 16  # behind the directions of pipes
 SEED, NUMBER, DIRECTION = 0x9E3779B97F4A7C15, 0xD1B54A32D192ED03, 0x8CB92BA72F3D8DD7
+FIRST, SECOND = 0xBF58476D1CE4E5B9, 0x94D049BB133111EB  # that it multiplies by
+MASK, LOW = (1 << 64) - 1, (1 << 31) - 1
+LANE = 16  # bytes of a word while it is drawn, so that no product reaches the next one
+FEW, MANY = 2, 32  # words that are drawn at once: first, and then
+
+
+class Lanes:
+    """Words that are drawn at once, as one long number."""
+
+    def __init__(self, count: int) -> None:
+        self.count, places = count, [8 * LANE * number for number in range(count)]
+        self.each = sum(1 << place for place in places)
+        self.steps = sum(((number + 1) * NUMBER & MASK) << place for number, place in enumerate(places))
+        self.masks, self.low = self.each * MASK, self.each * LOW
+
+    def drawn(self, place: int) -> memoryview:
+        """The words behind a place of the generator, 0 to 2^31 - 1 each."""
+        masks = self.masks
+        z = self.each * place + self.steps & masks
+        z = (z ^ z >> 30 & masks) * FIRST & masks
+        z = (z ^ z >> 27 & masks) * SECOND & masks
+        z = (z ^ z >> 31 & masks) & self.low
+        return memoryview(z.to_bytes(LANE * self.count, "little")).cast("I")[::LANE // 4]
+
+
+AT_FIRST, THEN = Lanes(FEW), Lanes(MANY)
+
+
+def words(place: int) -> Iterator[int]:
+    """The words behind a place of the generator. A link that carries few packets draws few."""
+    yield from AT_FIRST.drawn(place)
+    place += FEW * NUMBER
+    while True:
+        place &= MASK
+        yield from THEN.drawn(place)
+        place += MANY * NUMBER
 
 
 class Drawn:
     """The words of a direction's packets, by their numbers from 1. A pipe's number is its direction, and that of a queue + QUEUES."""
 
     def __init__(self, seed: int, direction: int) -> None:
-        self.place = seed * SEED + (direction - 1) * DIRECTION & MASK
-
-    def next(self) -> int:
-        """The word of the next packet, 0 to 2^31 - 1."""
-        z = self.place = self.place + NUMBER & MASK
-        z = ((z ^ z >> 30) * 0xBF58476D1CE4E5B9) & MASK
-        z = ((z ^ z >> 27) * 0x94D049BB133111EB) & MASK
-        return (z ^ z >> 31) & 0x7FFFFFFF
+        self.next = words(seed * SEED + (direction - 1) * DIRECTION & MASK).__next__
+        """The word of the next packet."""

@@ -5,11 +5,11 @@ from __future__ import annotations
 from collections import Counter
 from typing import TYPE_CHECKING, Callable, Mapping, Optional, Protocol
 
-from hingetulip.aio.datagram import HEADERS, UDP, Datagram
+from hingetulip.aio.datagram import MOST_BYTES, Datagram
 from hingetulip.aio.jitter import DelayOf, Jitter
 from hingetulip.aio.drawn import QUEUES, Drawn
 from hingetulip.aio.options import Options, Setting
-from hingetulip.records import Fate, Outcome
+from hingetulip.records import Outcome
 
 if TYPE_CHECKING:
     from hingetulip.aio.host import Host
@@ -36,18 +36,22 @@ class Link:
 
     def __init__(self, net: Network, near: Host, far: Host, options: str, *, classes: Optional[Mapping[str, str]] = None,
                  classify: Optional[Classifier] = None, loss: Optional[Words] = None, copies: Optional[Callable[[Datagram], int]] = None,
-                 jitter: Optional[DelayOf] = None) -> None:
+                 jitter: Optional[DelayOf] = None, mtu: int = MOST_BYTES) -> None:
         if (classes is None) != (classify is None):
             raise TypeError("classes are given together with the function that classifies")
         self.net, self.near, self.far, self.pipe, self.classify = net, near, far, net.number_of("pipe"), classify
-        self.counts: Counter[Outcome] = Counter()
+        self.outcomes = [0] * len(Outcome)  # packets by the number of their outcome
+        self.mtu = mtu  # bytes of the longest datagram with its headers
         self.delay = 0  # ns: a packet is under way for no less
         self.queues = {name: net.number_of("queue") for name in classes or {}}
         self.copies, self.jitter = copies, None if jitter is None else Jitter(net, jitter)
         self.loss: Words = Drawn(net.seed, self.pipe) if loss is None else loss
+        bind = getattr(loss, "bind", None)  # a model without a seed of its own takes the network's, and a direction is a link's
+        if bind is not None:
+            bind(net.seed, self.pipe)
         by_model: dict[str, Setting] = {} if loss is None else {"plr": BY_MODEL}
         self.options = Options(options).changed(by_model)
-        self.class_options = {name: Options(text).changed(by_model) for name, text in (classes or {}).items()}
+        self.class_options = {name: Options(text, "queue").changed(by_model) for name, text in (classes or {}).items()}
         self.class_words = {number: Drawn(net.seed, QUEUES + number) if loss is None else loss for number in self.queues.values()}
         self._configure(self.options)
         for name in self.queues:
@@ -55,6 +59,11 @@ class Link:
 
     def __repr__(self) -> str:
         return f"<Link {self.near.name} > {self.far.name}: {self.line}>"
+
+    @property
+    def counts(self) -> Counter[Outcome]:
+        """How many packets met each outcome."""
+        return Counter({outcome: self.outcomes[outcome] for outcome in Outcome if self.outcomes[outcome]})
 
     @property
     def line(self) -> str:
@@ -89,16 +98,3 @@ class Link:
     def _configure_class(self, name: str, options: Options) -> None:
         self.net.obey(f"queue {self.queues[name]} config pipe {self.pipe} {options}".strip())
         self.class_options[name] = options
-
-    def submit(self, moment: int, it: Datagram, second: int = 0) -> Fate:
-        """A datagram arrives at the link, or at the pipe of its second pass."""
-        queue = None if second or self.classify is None else self.queues[self.classify(it)]
-        pipe = second or (self.pipe if queue is None else None)
-        word = LOSES_NONE if second else self.loss.next() if queue is None else self.class_words[queue].next()
-        (source, sport), (target, dport), data = it
-        numbers = self.net.numbers
-        fate = self.net.shaper.submit(moment, len(data) + HEADERS, pipe=pipe, queue=queue, src=numbers[source], dst=numbers[target],
-                                      proto=UDP, sport=sport, dport=dport, word=word)
-        if not second:
-            self.counts[fate.outcome] += 1
-        return fate

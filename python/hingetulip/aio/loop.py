@@ -3,12 +3,18 @@
 from __future__ import annotations
 
 import asyncio
+import errno
 import socket
+from collections import deque
 from typing import TYPE_CHECKING, Any, Callable, NoReturn, Optional, TypeVar
 
+from hingetulip.aio.addresses import ANY, ANY_OF_6, OWN, any_of, is_of_6, plain, version_of
 from hingetulip.aio.clock import Clock
-from hingetulip.aio.datagram import UDP, Address
-from hingetulip.aio.host import ANY, Protocol
+from hingetulip.aio.datagram import Address
+from hingetulip.aio.datagram_socket import DatagramSocket
+from hingetulip.aio.descriptors import Descriptor, Descriptors
+from hingetulip.aio.endpoint import Endpoint
+from hingetulip.aio.host import Protocol, current_host, here
 from hingetulip.aio.task import Task
 from hingetulip.aio.transport import Transport
 
@@ -18,15 +24,21 @@ if TYPE_CHECKING:
 T = TypeVar("T")
 FEW_TASKS = 64
 RESOLUTION = 0.5e-9  # s: a timer is due at its nearest ns
-NO_TCP = "simulated hosts have datagrams alone: `hinge run` puts programs with the kernel's TCP behind an emulated link"
+NO_TCP = "simulated hosts have datagrams alone: `hinge run --simulated` takes programs with the kernel's TCP into simulated time"
+LEFT_OUT = ("create_connection", "create_server", "connect_accepted_socket", "create_unix_connection", "create_unix_server", "sock_accept",
+            "sock_sendfile", "sendfile", "start_tls")
+NO_SYSTEM = "a simulated host has no processes, pipes and signals: `hinge run --simulated` takes programs into simulated time"
+OF_THE_SYSTEM = ("subprocess_exec", "subprocess_shell", "connect_read_pipe", "connect_write_pipe", "add_signal_handler", "remove_signal_handler")
 
 
 class Loop(asyncio.BaseEventLoop):
     """An event loop whose time is simulated, and whose datagrams go over the links of a network."""
 
+    _ready: deque[asyncio.Handle]
+
     def __init__(self, net: Network) -> None:
         super().__init__()
-        self.net = net
+        self.net, self.descriptors = net, Descriptors(self)
         self._selector = self.clock = Clock(self)
         self._clock_resolution = RESOLUTION
         self.count = 0  # of tasks that were made
@@ -38,8 +50,10 @@ class Loop(asyncio.BaseEventLoop):
         """Seconds since the loop was made. `clock.now` has the ns."""
         return self.clock.seconds
 
-    def _process_events(self, events: list[object]) -> None:
-        """There are none: the clock gives datagrams to their sockets itself."""
+    def _process_events(self, events: list[asyncio.Handle]) -> None:
+        """The callbacks of descriptors that can be read or written. The clock gives other datagrams to their sockets itself."""
+        for handle in events:
+            self._add_callback(handle)  # type: ignore[attr-defined]
 
     def _write_to_self(self) -> None:
         """Nothing wakes this loop: what other threads ask for is done at its next step."""
@@ -65,35 +79,117 @@ class Loop(asyncio.BaseEventLoop):
             future.set_exception(error)
         return future
 
+    def add_reader(self, fd: Descriptor, callback: Callable[..., object], *args: Any) -> None:
+        self.descriptors.add(self.descriptors.readers, fd, callback, args)
+
+    def remove_reader(self, fd: Descriptor) -> bool:
+        return self.descriptors.take_away(self.descriptors.readers, fd)
+
+    def add_writer(self, fd: Descriptor, callback: Callable[..., object], *args: Any) -> None:
+        self.descriptors.add(self.descriptors.writers, fd, callback, args)
+
+    def remove_writer(self, fd: Descriptor) -> bool:
+        return self.descriptors.take_away(self.descriptors.writers, fd)
+
+    async def _when_readable(self, sock: socket.socket, call: Callable[..., T], *args: Any) -> T:
+        """What a call of a simulated socket returns, once something has come to it."""
+        simulated(sock).setblocking(False)
+        while True:
+            try:
+                return call(*args)
+            except BlockingIOError:
+                came: asyncio.Future[None] = self.create_future()
+                self.add_reader(sock, came.set_result, None)
+                try:
+                    await came
+                finally:
+                    self.remove_reader(sock)
+
+    async def sock_recv(self, sock: socket.socket, n: int) -> bytes:
+        return await self._when_readable(sock, sock.recv, n)
+
+    async def sock_recv_into(self, sock: socket.socket, buf: Any) -> int:
+        return await self._when_readable(sock, sock.recv_into, buf)
+
+    async def sock_recvfrom(self, sock: socket.socket, bufsize: int) -> Any:
+        return await self._when_readable(sock, sock.recvfrom, bufsize)
+
+    async def sock_recvfrom_into(self, sock: socket.socket, buf: Any, nbytes: int = 0) -> Any:
+        return await self._when_readable(sock, sock.recvfrom_into, buf, nbytes)
+
+    async def sock_sendto(self, sock: socket.socket, data: Any, address: Any) -> Any:
+        return simulated(sock).sendto(data, address)
+
+    async def sock_sendall(self, sock: socket.socket, data: Any) -> None:
+        simulated(sock).sendall(data)
+
+    async def sock_connect(self, sock: socket.socket, address: Any) -> None:
+        simulated(sock).connect(address)
+
     async def getaddrinfo(self, host: Any, port: Any, *, family: int = 0, type: int = 0, proto: int = 0, flags: int = 0) -> list[Any]:
-        """The address of a host of the network, by its address or name."""
-        if family not in (0, socket.AF_INET):
-            raise socket.gaierror(socket.EAI_FAMILY, "simulated hosts have IPv4 alone")
-        address = ANY if host is None and flags & socket.AI_PASSIVE else self.net.address_of(_text(host))
-        return [(socket.AF_INET, type or socket.SOCK_DGRAM, proto or UDP, "", (address, int(port or 0)))]
+        """The addresses of a host of the network, by an address or its name."""
+        return self.net.addresses_of(host, port, family, type, proto, flags)
 
     async def getnameinfo(self, sockaddr: Any, flags: int = 0) -> tuple[str, str]:
         """The numbers themselves."""
         return str(sockaddr[0]), str(sockaddr[1])
 
     async def create_datagram_endpoint(self, protocol_factory: Callable[[], Protocol],  # type: ignore[override]
-                                       local_addr: Optional[Address] = None, remote_addr: Optional[Address] = None, *, family: int = 0,
-                                       sock: Optional[socket.socket] = None, **more: Any) -> tuple[Transport, Protocol]:
+                                       local_addr: Optional[Address] = None, remote_addr: Optional[Address] = None, *,
+                                       family: int = 0, reuse_port: Optional[bool] = None,
+                                       allow_broadcast: Optional[bool] = None, sock: Optional[socket.socket] = None,
+                                       **more: Any) -> tuple[Transport, Protocol]:
         """A socket of the task's host, or of the host that has the local address."""
-        if sock is not None or family not in (0, socket.AF_INET):
-            raise NotImplementedError("a simulated host has sockets of its own, and IPv4 alone")
-        host, address = self.net.local(_text(local_addr[0]) if local_addr else ANY)
-        remote = (self.net.address_of(_text(remote_addr[0])), int(remote_addr[1])) if remote_addr else None
-        opened = host.open(protocol_factory, (address, int(local_addr[1]) if local_addr else 0), remote)
+        if sock is not None:
+            endpoint = simulated(sock).endpoint()
+        else:
+            endpoint = self._bound(local_addr, remote_addr, family, bool(reuse_port))
+            endpoint.broadcasts = bool(allow_broadcast)
+        protocol = protocol_factory()
+        transport = Transport(endpoint, protocol, None if sock is None else simulated(sock))
+        self.call_soon(protocol.connection_made, transport)
+        if sock is not None:
+            simulated(sock).given(transport)
         await asyncio.sleep(0)
-        return opened
+        return transport, protocol
 
-    async def create_connection(self, *args: Any, **more: Any) -> NoReturn:
-        raise NotImplementedError(NO_TCP)
+    def _bound(self, local: Optional[Address], remote: Optional[Address], family: int, shares: bool) -> Endpoint:
+        """A place at a local address, connected to a remote one."""
+        names = [plain(it[0] or "localhost") for it in (local, remote) if it]
+        version = version_of(family) if family else 6 if any(map(is_of_6, names)) and names[0] != "::1" else 4
+        name, port = (names[0], int(local[1])) if local else (any_of(version), 0)
+        if name in (ANY, ANY_OF_6, *OWN):
+            host, address = current_host(), any_of(version)
+        else:
+            address = self.net.address_of(name, version)
+            host = self.net.hosts[address]
+            if here.get(host) is not host:
+                raise OSError(errno.EADDRNOTAVAIL, f"{current_host().name} hasn't the address {name}")
+        endpoint = Endpoint(host, version)
+        endpoint.shares = shares
+        if remote:
+            self.net.address_of(names[-1], version)
+        endpoint.bind(address, port)
+        endpoint.remote = endpoint.target((names[-1], int(remote[1]))) if remote else None
+        return endpoint
 
-    async def create_server(self, *args: Any, **more: Any) -> NoReturn:
-        raise NotImplementedError(NO_TCP)
+
+def refusing(text: str) -> Callable[..., NoReturn]:
+    """A method that isn't there, and says what is."""
+    def refuse(loop: Loop, *words: Any, **named: Any) -> NoReturn:
+        raise NotImplementedError(text)
+
+    return refuse
 
 
-def _text(host: Any) -> str:
-    return host.decode() if isinstance(host, bytes) else str(host or "localhost")
+for name in LEFT_OUT:
+    setattr(Loop, name, refusing(NO_TCP))
+for name in OF_THE_SYSTEM:
+    setattr(Loop, name, refusing(NO_SYSTEM))
+
+
+def simulated(sock: socket.socket) -> DatagramSocket:
+    """A socket that a run has made. NotImplementedError: it is one of the system."""
+    if not isinstance(sock, DatagramSocket):
+        raise NotImplementedError(f"{NO_TCP}; {sock!r} isn't a datagram socket of the run")
+    return sock

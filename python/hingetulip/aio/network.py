@@ -3,9 +3,8 @@
 from __future__ import annotations
 
 import asyncio
-import errno
+import inspect
 import ipaddress
-import os
 import socket
 from collections import Counter
 from contextlib import nullcontext
@@ -13,28 +12,31 @@ from pathlib import Path
 from random import Random
 from typing import Any, Callable, Coroutine, Mapping, Optional, TypeVar, Union
 
+from hingetulip.aio.addresses import ANY, ANY_OF_6, OWN, is_address, is_of_6, number, plain
 from hingetulip.aio.clock_in_c import hint
-from hingetulip.aio.datagram import Datagram, Dropped
-from hingetulip.aio.host import ANY, Host, current_host, here
+from hingetulip.aio.datagram import MOST_BYTES, UDP, Datagram
+from hingetulip.aio.history import History
+from hingetulip.aio.host import Host, current_host
 from hingetulip.aio.jitter import DelayOf
 from hingetulip.aio.link import Classifier, Link, Words
 from hingetulip.aio.loop import Loop
 from hingetulip.aio.report import report
 from hingetulip.aio.routes import Routes
 from hingetulip.aio.simulated import simulated
+from hingetulip.aio.system import simulated_system
+from hingetulip.aio.traffic import Traffic
 from hingetulip.aio.waiting import waiting
+from hingetulip.errors import LineError
 from hingetulip.library import NEVER
-from hingetulip.recorded import RecordedShaper
 from hingetulip.shaper import Shaper
+from hingetulip_words.presets import either_way
 
 T = TypeVar("T")
-OWN = ("localhost", "127.0.0.1")
-ONCE = (0,)
 MOST_PIPES = 65535
 PATIENCE = 3600  # s of simulated time that tasks have to end when the network is closed
 
 
-class Network:
+class Network(Traffic):
     """Hosts and the links between them. With `history`, that file has the calls of the emulator when the network is closed.
 
     `dropped` has the datagrams that links lost or refused, `unrouted` counts those to hosts without a way to them, and `unheard` those to
@@ -44,19 +46,20 @@ class Network:
     def __init__(self, *, seed: int = 1, history: Union[str, Path, None] = None, options: str = "", back: Optional[str] = None) -> None:
         self.seed, self.history, self.options, self.back = seed, history, options, back
         self.random = Random(seed)
-        self.shaper = RecordedShaper(history, seed=seed) if history else Shaper(seed=seed)
-        self.hosts: dict[str, Host] = {}
-        self.numbers: dict[str, int] = {}  # of addresses
+        super().__init__(Shaper(seed=seed), History(history) if history else None)
         self.links: dict[tuple[Host, Host], Link] = {}
-        self.routes = Routes()
-        self.dropped: list[Dropped] = []
-        self.unrouted, self.unheard = Counter[str](), Counter[str]()
-        self.rows = 0
-        self.closing = False
+        self.real = False
+        """Whether `time.sleep` and sockets of the system may be used in a run."""
         self.loop = Loop(self)
+        self.faults: list[str] = []
+        """Exceptions of tasks and callbacks that nobody took."""
+        self.loop.set_exception_handler(self._fault)
         self._made: Counter[str] = Counter()
-        self.next_moment, self.changed = NEVER, False  # of the shaper, and whether it was called since it was asked for that
-        self._held: dict[int, tuple[Link, Datagram, int]] = {}
+
+    def _fault(self, loop: asyncio.AbstractEventLoop, context: dict[str, Any]) -> None:
+        if context.get("exception") is not None:
+            self.faults.append(f"{context['message']}: {context['exception']!r}")
+        loop.default_exception_handler(context)
 
     def number_of(self, kind: str) -> int:
         """The number of a new pipe or queue."""
@@ -66,35 +69,48 @@ class Network:
         return self._made[kind]
 
     def host(self, *addresses: str, name: Optional[str] = None) -> Host:
-        """The host with these IPv4 addresses, which is made if there is none yet. Others find it by its name too."""
-        texts = tuple(str(ipaddress.IPv4Address(address)) for address in addresses)
+        """The host with these addresses, of which the first is one of IPv4, and which is made if there is none yet. Others
+        find it by its name too. A history has an address of IPv6 as the first one."""
+        texts = (str(ipaddress.IPv4Address(addresses[0])), *(str(ipaddress.ip_address(it)) for it in addresses[1:]))
         if texts[0] in self.hosts:
             return self.hosts[texts[0]]
         made = Host(self, texts, name)
         for text in (*texts, made.name):
             if self.hosts.setdefault(text, made) is not made:
                 raise ValueError(f"another host has {text}")
-        self.numbers.update({text: int(ipaddress.IPv4Address(text)) for text in texts})
+        self.numbers.update({text: number(texts[0] if ":" in text else text) for text in texts})
         return made
 
     def link(self, near: Host, far: Host, options: Optional[str] = None, *, classes: Optional[Mapping[str, str]] = None,
              classify: Optional[Classifier] = None, loss: Optional[Words] = None, copies: Optional[Callable[[Datagram], int]] = None,
-             jitter: Optional[DelayOf] = None) -> Link:
+             jitter: Optional[DelayOf] = None, mtu: int = MOST_BYTES) -> Link:
         """One direction between two hosts: a pipe with these options, as `bw 8Mbit/s delay 20ms plr 0.05` or `8Mbit/s 20ms loss 5%`.
 
         With `classes`, the options of a queue for each class, `classify` returns the class of a datagram. A model of loss gives the words
         of the packets, under a loss rate of 0.5. `copies` returns how often a datagram enters the link, and `jitter` for how many ms more it is
-        under way, by a second pass. LineError: the options are none.
+        under way, by a second pass. A datagram longer than `mtu` bytes with its headers isn't taken: the sender's socket is told so at
+        the first link, as one that forbids fragments. LineError: the options are none.
         """
+        for it in (near, far):
+            if not isinstance(it, Host):
+                hint = "; run what makes it by sim_net.run" if inspect.isawaitable(it) or inspect.isasyncgen(it) else ""
+                raise TypeError(f"a link is between two hosts, and {it!r} is none{hint}")
         if near is far or (near, far) in self.links:
             raise ValueError(f"there is a link from {near.name} to {far.name} already")
         made = self.links[near, far] = Link(self, near, far, self.options if options is None else options, classes=classes, classify=classify,
-                                                   loss=loss, copies=copies, jitter=jitter)
+                                                   loss=loss, copies=copies, jitter=jitter, mtu=mtu)
         self.routes.add(made)
+        self.forget_ways()
         return made
 
-    def path(self, one: Host, other: Host, options: Optional[str] = None, back: Optional[str] = None) -> tuple[Link, Link]:
-        """A link each way, alike if `back` isn't given."""
+    def path(self, one: Host, other: Host, options: Optional[str] = None, back: Optional[str] = None, *,
+             preset: Optional[str] = None) -> tuple[Link, Link]:
+        """A link each way, alike if `back` isn't given; or those of a preset, as `lte`, whose server is `other`.
+
+        ValueError: there is no such preset.
+        """
+        if preset is not None:
+            options, back = either_way(preset, options, back)
         if options is None and back is None:
             back = self.back
         return self.link(one, other, options), self.link(other, one, options if back is None else back)
@@ -102,93 +118,48 @@ class Network:
     def route(self, near: Host, target: Host, via: Host) -> None:
         """What goes from a host to another takes the link to a third. Without it a datagram goes over the fewest links."""
         self.routes.give(near, target, self.links[near, via])
+        self.forget_ways()
 
-    def address_of(self, name: str) -> str:
+    def address_of(self, name: str, version: int = 4) -> str:
         """The address of a host by its address or name. gaierror: there is no such host."""
         if name in OWN:
             return current_host().address
-        if name == ANY or name in self.numbers:
+        if name in self.numbers:
             return name
         if name not in self.hosts:
-            raise socket.gaierror(socket.EAI_NONAME, f"there is no host {name}")
-        return self.hosts[name].address
+            raise socket.gaierror(socket.EAI_NONAME, f"there is no simulated host {name}")
+        return self.hosts[name].address_for(version)
 
-    def local(self, name: str) -> tuple[Host, str]:
-        """The host on which a socket with this local address is opened, and the address. OSError: the task runs on another host."""
-        if name in (ANY, "::", *OWN):
-            return current_host(), ANY
-        address = self.address_of(name)
-        host = self.hosts[address]
-        if here.get(host) is not host:
-            raise OSError(errno.EADDRNOTAVAIL, f"{here.get().name} hasn't the address {name}")
-        return host, address
-
-    def send(self, near: Host, it: Datagram) -> Optional[OSError]:
-        """A host sends a datagram, or passes it on: what the system says where it has no way to the target."""
-        target = near if it.target[0] in OWN else self.hosts.get(it.target[0])
-        if self.closing:
-            return None
-        if target is near:
-            self._give(near, it)
-            return None
-        link = None if target is None else self.routes.next(near, target)
-        if link is None:
-            self.unrouted[f"{near.name} > {it.target[0]}"] += 1
-            return OSError(errno.ENETUNREACH, os.strerror(errno.ENETUNREACH))
-        for _ in ONCE if link.copies is None else range(link.copies(it)):
-            self._enter(link, it)
-        return None
-
-    def _enter(self, link: Link, it: Datagram, second: int = 0) -> None:
-        self.rows += 1
-        now = self.loop.clock.now
-        if second or now + link.delay < self.next_moment:  # else the packet isn't due before the shaper is asked again
-            self.changed = True
-        fate = link.submit(now, it, second)
-        if fate.packet is None:
-            self.dropped.append(Dropped(self.rows, now, *it, fate.outcome))
+    def addresses_of(self, host: Any, port: Any, family: int = 0, type: int = 0, proto: int = 0, flags: int = 0) -> list[Any]:
+        """What getaddrinfo returns of a host. gaierror: there is none, or it has no address of the family."""
+        name = "" if host is None else plain(host)
+        if host is None or name in OWN:
+            found = (ANY, ANY_OF_6) if host is None and flags & socket.AI_PASSIVE else current_host().addresses
+        elif is_address(name):
+            found = (name,)
+        elif name not in self.hosts:
+            raise socket.gaierror(socket.EAI_NONAME, f"there is no simulated host {name}")
         else:
-            self._held[fate.packet] = link, it, second
+            found = self.hosts[name].addresses
+        kinds = [(socket.AF_INET6, (it, int(port or 0), 0, 0)) if is_of_6(it) else (socket.AF_INET, (it, int(port or 0))) for it in found]
+        wanted = [it for it in kinds if family in (0, it[0])]
+        if not wanted:
+            raise socket.gaierror(socket.EAI_ADDRFAMILY, f"{host} has no address of {socket.AddressFamily(family).name}")
+        return [(kind, socket.SocketKind(type or socket.SOCK_DGRAM), proto or UDP, "", address) for kind, address in wanted]
 
     def obey(self, line: str) -> None:
         """A configuration line counts from the moment of the loop's clock."""
-        moment = self.loop.clock.now
-        if moment:
-            self.shaper.advance(moment)
         self.changed = True
-        self.shaper.configure(line)
-
-    def wake(self) -> int:
-        """The next moment of a link, in ns, or NEVER."""
-        found = self.shaper.wake() if self._held and not self.closing else None
-        self.next_moment = NEVER if found is None else found
-        self.changed = False
-        return self.next_moment
-
-    def deliver(self) -> None:
-        """Datagrams whose moment has come leave their links."""
-        self.changed = True
-        for delivery in self.shaper.collect(self.loop.clock.now):
-            link, it, second = self._held.pop(delivery.packet)
-            pipe = 0 if second or link.jitter is None else link.jitter.pipe(it)
-            if pipe:
-                self._enter(link, it, pipe)
-            elif it.target[0] in link.far.addresses:
-                self._give(link.far, it)
-            else:
-                self.send(link.far, it)
-
-    def _give(self, host: Host, it: Datagram) -> None:
-        if not host.take(it):
-            self.unheard[f"{it.target[0]}:{it.target[1]}"] += 1
+        self._emulator.configure(self.loop.clock.now, line)
 
     def run(self, main: Coroutine[Any, Any, T], *, timeout: Optional[float] = None, patch: bool = True) -> T:
         """Runs a coroutine to its end, and returns what it returns.
 
-        TimeoutError of asyncio: it hasn't ended after `timeout` simulated seconds. Stuck: nothing can happen any more. With `patch` the
-        modules `time` and `random`, and `os.urandom`, are those of the simulation meanwhile.
+        TimeoutError of asyncio: it hasn't ended after `timeout` simulated seconds. Stuck: nothing can happen any more. RealTimeError: code
+        slept or used a socket of the system, without `real`. With `patch` the modules `time` and `random`, and `os.urandom`, are those of
+        the simulation meanwhile.
         """
-        with simulated(self.loop, self.random) if patch else nullcontext():
+        with simulated(self.loop, self.random) if patch else nullcontext(), nullcontext() if self.real else simulated_system(self):
             if timeout is None:
                 return self.loop.run_until_complete(main)
             return self.loop.run_until_complete(self._limited(main, timeout))
@@ -214,15 +185,24 @@ class Network:
             task.cancel()
         if tasks:
             self.loop.run_until_complete(asyncio.wait(tasks, timeout=PATIENCE))
+        for task in self.loop.tasks:
+            if task.has_lost_exception():
+                self.faults.append(f"{task.get_name()}{f' on {task.host.name}' if task.host else ''}: {task.exception()!r}")
         self.loop.run_until_complete(self.loop.shutdown_asyncgens())
+        self.loop.descriptors.close()
         self.loop.close()
-        self.shaper.close()
+        self._emulator.close()
 
     def __enter__(self) -> Network:
         return self
 
     def __exit__(self, *_: object) -> None:
         self.close()
+
+    def waiting(self) -> str:
+        """The tasks that wait, and for what, a line each; an empty text if there are none."""
+        text = waiting(self.loop)
+        return f"\n{text.strip()}" if text else ""
 
     def report(self) -> str:
         """What each link did, and the first of the datagrams that links dropped."""

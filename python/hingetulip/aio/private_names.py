@@ -10,6 +10,7 @@ from typing import Mapping
 NAMES = {
     "_run_once": ("_selector", "select", "_process_events", "_clock_resolution"),
     "call_soon_threadsafe": ("_write_to_self",),
+    "_add_callback": ("_ready",),
     "run_forever": ("_run_once",),
 }
 

@@ -21,6 +21,7 @@ def report(net: Network) -> str:
                      f"{count[Outcome.FULL]} met a full queue")
     lines += [f"{place}: {count} without a way" for place, count in net.unrouted.items()]
     lines += [f"{place}: {count} without a socket" for place, count in net.unheard.items()]
+    lines += [f"{place}: {count} refused" for place, count in net.refused.items()]
     lines += [f"  {it}" for it in net.dropped[:MOST_DROPPED]]
     if len(net.dropped) > MOST_DROPPED:
         lines.append(f"  and {len(net.dropped) - MOST_DROPPED} more")

@@ -17,10 +17,12 @@ class Routes:
         self.out: dict[Host, list[Link]] = {}
         self.chosen: dict[tuple[Host, Host], Optional[Link]] = {}
         self.given: dict[tuple[Host, Host], Link] = {}
+        self.first: dict[Host, dict[Host, Link]] = {}
 
     def add(self, link: Link) -> None:
         self.out.setdefault(link.near, []).append(link)
         self.chosen.clear()
+        self.first.clear()
 
     def give(self, near: Host, target: Host, link: Link) -> None:
         """What goes from a host to another takes this link."""
@@ -36,13 +38,24 @@ class Routes:
             return found
 
     def _search(self, near: Host, target: Host) -> Optional[Link]:
+        links = self.out.get(near, [])
+        if len(links) == 1:  # a leaf needs no ways of its own: so a star has as many as its middle
+            (only,) = links
+            return only if only.far is target or target in self._ways(only.far) else None
+        return self._ways(near).get(target)
+
+    def _ways(self, near: Host) -> dict[Host, Link]:
+        """The first link from a host to each that can be reached from it."""
+        if near not in self.first:
+            self.first[near] = self._found(near)
+        return self.first[near]
+
+    def _found(self, near: Host) -> dict[Host, Link]:
         ways = deque((link, link.far) for link in self.out.get(near, ()))
-        seen = {near}
+        found: dict[Host, Link] = {}
         while ways:
             first, host = ways.popleft()
-            if host is target:
-                return first
-            if host not in seen:
-                seen.add(host)
+            if host not in found and host is not near:
+                found[host] = first
                 ways.extend((first, link.far) for link in self.out.get(host, ()))
-        return None
+        return found

@@ -4,6 +4,7 @@ from __future__ import annotations
 
 import os
 import random
+import threading
 import time
 from contextlib import ExitStack, contextmanager
 from typing import TYPE_CHECKING, Iterator
@@ -11,11 +12,13 @@ from unittest import mock
 
 from hingetulip.aio.clock_in_c import clock_in_c
 from hingetulip.aio.datagram import NS
+from hingetulip.aio.host import here
 from hingetulip.aio.openssl import random_of_openssl
 
 if TYPE_CHECKING:
     from hingetulip.aio.loop import Loop
 
+ONE = threading.Lock()  # a run: it has the clock and the random numbers of the whole process
 EPOCH = 1_700_000_000  # s: what time.time() returns at the start
 
 
@@ -23,8 +26,25 @@ EPOCH = 1_700_000_000  # s: what time.time() returns at the start
 def simulated(loop: Loop, source: random.Random) -> Iterator[None]:
     """The module `time` returns the simulated time, and so does the clock in C code under `hinge with-clock`. Numbers of `random`,
     `secrets`, `os.urandom` and OpenSSL come from `source`."""
+    if not ONE.acquire(blocking=False):
+        raise RuntimeError("another run of simulated time is under way in this process, in another thread or around this one")
+    try:
+        with _patched(loop, source):
+            yield
+    finally:
+        ONE.release()
+
+
+def offset() -> float:
+    """The seconds by which the clock of the present host is ahead."""
+    host = here.get(None)
+    return 0 if host is None else host.offset
+
+
+@contextmanager
+def _patched(loop: Loop, source: random.Random) -> Iterator[None]:
     clock = loop.clock
-    told = {"time": lambda: EPOCH + loop.time(), "time_ns": lambda: EPOCH * NS + clock.now}
+    told = {"time": lambda: EPOCH + offset() + loop.time(), "time_ns": lambda: EPOCH * NS + round(offset() * NS) + clock.now}
     for name in ("monotonic", "perf_counter"):
         told.update({name: loop.time, f"{name}_ns": lambda: clock.now})
     state = random.getstate()

@@ -26,3 +26,7 @@ class Task(asyncio.Task[T]):
 
     def __hash__(self) -> int:
         return self.number
+
+    def has_lost_exception(self) -> bool:
+        """Whether it ended by an exception that nobody has asked for."""
+        return self.done() and not self.cancelled() and bool(self._log_traceback)

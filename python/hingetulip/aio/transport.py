@@ -5,11 +5,14 @@ from __future__ import annotations
 import asyncio
 import contextvars
 import errno
+from asyncio import Handle
 from typing import TYPE_CHECKING, Any, Optional, Union
 
-from hingetulip.aio.datagram import MOST_DATA, Address, Datagram
+from hingetulip.aio.datagram import Address, Datagram
+from hingetulip.aio.endpoint import Endpoint
 
 if TYPE_CHECKING:
+    from hingetulip.aio.datagram_socket import DatagramSocket
     from hingetulip.aio.host import Host
 
 Data = Union[bytes, bytearray, memoryview]
@@ -18,11 +21,32 @@ Data = Union[bytes, bytearray, memoryview]
 class Transport(asyncio.DatagramTransport):
     """A datagram socket of a host."""
 
-    def __init__(self, host: Host, local: Address, remote: Optional[Address], protocol: asyncio.DatagramProtocol) -> None:
-        source = (host.address if local[0] == "0.0.0.0" else local[0], local[1])
-        super().__init__({"sockname": source if remote else local, "peername": remote, "socket": None})
-        self.host, self.local, self.source, self.remote, self.protocol = host, local, source, remote, protocol
+    def __init__(self, endpoint: Endpoint, protocol: asyncio.DatagramProtocol, socket: Optional[DatagramSocket] = None) -> None:
+        self.host, self.endpoint, self.protocol, self.socket = endpoint.host, endpoint, protocol, socket
+        remote = endpoint.remote
+        super().__init__({"sockname": endpoint.name(), "peername": remote and endpoint.written(remote)})
         self.closing, self.context = False, contextvars.copy_context()
+        self.loop = self.host.net.loop
+        endpoint.receiver = self
+
+    @property
+    def local(self) -> Address:
+        """The address and port where it is bound."""
+        return self.endpoint.local
+
+    @property
+    def remote(self) -> Optional[Address]:
+        """The one to whom it is connected."""
+        return self.endpoint.remote
+
+    def get_extra_info(self, name: str, default: Any = None) -> Any:
+        """As other transports: `socket`, `sockname` and `peername`."""
+        if name == "socket":
+            if self.socket is None:
+                from hingetulip.aio.datagram_socket import DatagramSocket
+                self.socket = DatagramSocket.of(self.endpoint)
+            return self.socket
+        return super().get_extra_info(name, default)
 
     def sendto(self, data: Data, addr: Optional[Any] = None) -> None:
         """Sends a datagram. What the system refuses, `error_received` gets, as with asyncio's own sockets."""
@@ -30,34 +54,46 @@ class Transport(asyncio.DatagramTransport):
             raise TypeError(f"data has to be bytes, not {type(data).__name__}")
         if self.closing:
             return
-        if self.remote is not None and addr is not None and tuple(addr[:2]) != self.remote:
-            raise ValueError(f"the socket is connected to {self.remote}, and not to {addr}")
-        target = self.remote or addr
-        if target is None:
-            raise OSError(errno.EDESTADDRREQ, "a socket without a peer needs an address to send to")
-        if len(data) > MOST_DATA:
-            self.protocol.error_received(OSError(errno.EMSGSIZE, f"more than {MOST_DATA} bytes"))
-            return
-        fault = self.host.net.send(self.host, Datagram(self.source, (str(target[0]), target[1]), bytes(data)))
+        endpoint = self.endpoint
+        remote = endpoint.remote
+        if remote is None:
+            if addr is None:
+                raise OSError(errno.EDESTADDRREQ, "a socket without a peer needs an address to send to")
+            remote = endpoint.target(addr)
+        elif addr is not None and tuple(addr[:2]) != remote and endpoint.target(addr) != remote:
+            raise ValueError(f"the socket is connected to {remote}, and not to {addr}")
+        fault = endpoint.send(bytes(data), remote)
         if fault is not None:
             self.protocol.error_received(fault)
 
-    def take(self, it: Datagram) -> bool:
-        """Takes a datagram, unless the socket is connected to another peer."""
-        if self.closing or self.remote not in (None, it.source):
-            return False
-        self.host.net.loop.call_soon(self._give, it, context=self.context)
-        return True
+    def take(self, it: Datagram) -> None:
+        """Takes a datagram."""
+        loop = self.loop
+        loop._ready.append(Handle(self._give, (it,), loop, self.context))  # as loop.call_soon does
 
     def _give(self, it: Datagram) -> None:
         if not self.closing:
-            self.protocol.datagram_received(it.data, it.source)
+            endpoint = self.endpoint
+            self.protocol.datagram_received(it.data, it.source if endpoint.version == 4 else endpoint.written(it.source))  # type: ignore[arg-type]
+
+    def refuse(self, fault: OSError) -> None:
+        """A datagram that was sent before found a closed port."""
+        self.loop.call_soon(self._tell, fault, context=self.context)
+
+    def _tell(self, fault: OSError) -> None:
+        if not self.closing:
+            self.protocol.error_received(fault)
 
     def close(self) -> None:
         if not self.closing:
             self.closing = True
-            self.host.sockets.pop(self.local, None)
-            self.host.net.loop.call_soon(self.protocol.connection_lost, None, context=self.context)
+            self.endpoint.close()
+            self.loop.call_soon(self._end, context=self.context)
+
+    def _end(self) -> None:
+        self.protocol.connection_lost(None)
+        if self.socket is not None:
+            self.socket.close()
 
     def abort(self) -> None:
         self.close()

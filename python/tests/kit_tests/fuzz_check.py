@@ -1,5 +1,6 @@
-"""Random configurations: the first fault that `hinge check` tells is where the program has it, and it tells none where the program
-takes all. `python3 python/tests/kit_tests/fuzz_check.py FROM TO` compares those of the seeds from FROM to TO."""
+"""Random configurations: the first fault that `hinge check` tells is where the program has it, and it tells none where
+the program takes all. `python3 python/tests/kit_tests/fuzz_check.py FROM TO` compares those of the seeds from FROM to
+TO."""
 
 from __future__ import annotations
 
@@ -18,7 +19,8 @@ from hinge.checks.lines import LineCheck
 from hinge.program import dummynet
 
 WORDS = (
-    "pipe queue ipfw config delete bw delay plr weight buckets mask src-ip dst-ip proto all 1 2 0 70000 8Mbit/s 8Mbps 1% 20us -1 /24 255.0.0.0 "
+    "pipe queue ipfw config delete bw delay plr weight buckets mask src-ip dst-ip proto all 1 2 0 70000 8Mbit/s 8Mbps "
+    "1% 20us -1 /24 255.0.0.0 "
     "0xff red src-ip6 show ; , = loss é 8Mbit/s; eth0 5s 1e-3 .5 1.2.3 999.1.1.1 1/0 / % 0x mask"
 ).split()
 BEGINNINGS = (["pipe", "1", "config"], ["queue", "1", "config", "pipe", "1"], ["pipe", "2", "config"], [])
@@ -48,7 +50,8 @@ def compare(low: int, high: int) -> int:
         data, out = random_configuration(seed), io.StringIO()
         with contextlib.redirect_stdout(out):
             LineCheck("f", data.split(b"\n"), Findings()).check()
-        done = subprocess.run([dummynet(), "replay", "/dev/stdin", "/dev/null"], input=data, capture_output=True, text=False)
+        done = subprocess.run([dummynet(), "replay", "/dev/stdin", "/dev/null"], input=data, capture_output=True,
+                              text=False)
         faults = [line for line in out.getvalue().splitlines() if ": warning: " not in line]
         assert (done.returncode == 3) == bool(faults), (seed, done.stderr, faults, data)
         if faults:

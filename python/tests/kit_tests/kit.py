@@ -11,9 +11,9 @@ import unittest
 from functools import lru_cache
 from pathlib import Path
 
-from hinge.links import Parts, read_configuration
-from hinge.replay import read_packets, read_report
 from hinge.program import dummynet
+from hinge.replays.links import Parts, read_configuration
+from hinge.replays.replay import read_packets, read_report
 
 TOP = Path(__file__).resolve().parents[3]
 DATA = Path(__file__).resolve().parents[1] / "kit_data"
@@ -32,7 +32,8 @@ def folder() -> Path:
 
 def run(command: str, *words: object, **more: object) -> subprocess.CompletedProcess[str]:
     """Runs a command of the kit."""
-    return subprocess.run([sys.executable, "-m", "hinge", command, *map(str, words)], capture_output=True, text=True, cwd=folder(), **more)
+    return subprocess.run([sys.executable, "-m", "hinge", command, *map(str, words)], capture_output=True, text=True,
+                          cwd=folder(), **more)
 
 
 def replay(name: str, config: Path, packets: Path) -> Path:
@@ -47,7 +48,8 @@ def replay(name: str, config: Path, packets: Path) -> Path:
 def mixed(name: str) -> tuple[Path, Path, Path]:
     """Configuration, packets and report of mixed.pcap through one of the configurations."""
     packets, config = folder() / f"{name}.csv", DATA / f"{name}.config"
-    maps = ["--map", "udp => queue 1", "--map", "icmp => queue 7", "--map", "=> queue 2"] if name == "shared" else ["--from", "10.9.0.1"]
+    maps = ["--map", "udp => queue 1", "--map", "icmp => queue 7", "--map",
+            "=> queue 2"] if name == "shared" else ["--from", "10.9.0.1"]
     done = run("packets", MIXED, "-o", packets, "--mtu", 1500, "--index", folder() / f"{name}.index", *maps)
     assert done.returncode == 0, done.stderr
     return config, packets, replay(name, config, packets)

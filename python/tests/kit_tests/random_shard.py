@@ -17,17 +17,23 @@ from hinge.program import dummynet
 
 HEADER = "moment,target,number,src,dst,proto,sport,dport,len,word\n"
 LAST_MOMENT = 2**62
-MASKS = ["", "", " mask src-ip 0xffffffff", " mask all", " mask dst-port 0x3", " mask proto 0xff src-ip 0x1", " mask src-port 0xffff dst-ip 0xff"]
-BAD_LINES = ["pipe 1 delete", "pipe 1 confg", "pipe 1 config bw 8Mbps", "queue 1 config", "pipe 1 config \xff", "queue 9 config pipe 65535"]
+MASKS = ["", "", " mask src-ip 0xffffffff", " mask all", " mask dst-port 0x3", " mask proto 0xff src-ip 0x1",
+         " mask src-port 0xffff dst-ip 0xff"]
+BAD_LINES = ["pipe 1 delete", "pipe 1 confg", "pipe 1 config bw 8Mbps", "queue 1 config", "pipe 1 config \xff",
+             "queue 9 config pipe 65535"]
 BANDWIDTHS = ["0", "1Mbit/s", "8Mbit/s", "300Kbit/s", "1000Gbit/s"]
 BAD_ROWS = [
     lambda row: row.replace(",10.", ",010.", 1), lambda row: row.replace("pipe", "Pipe"), lambda row: row[:-1] + ",1\n",
-    lambda row: row.replace(",", ", ", 1), lambda row: "0" + row, lambda row: " \n", lambda row: row.replace("10.0.0", "10.0"),
-    lambda row: row.replace(",17,", ",udp,"), lambda row: row[:20] + "\n", lambda row: row.replace("10.0.0.", "300.0.0."), lambda row: ",,,,,,,,,\n",
+    lambda row: row.replace(",", ", ", 1), lambda row: "0" + row, lambda row: " \n",
+    lambda row: row.replace("10.0.0", "10.0"),
+    lambda row: row.replace(",17,", ",udp,"), lambda row: row[:20] + "\n",
+    lambda row: row.replace("10.0.0.", "300.0.0."), lambda row: ",,,,,,,,,\n",
 ]
 FORMS = [  # of the whole packet file
-    lambda text: text.replace("\n", "\r\n"), lambda text: text.replace("\n", "\r"), lambda text: text[:-1], lambda text: "\ufeff" + text,
-    lambda text: text.replace("pipe", '"pipe"'), lambda text: text.replace("moment", "Moment", 1), lambda text: "", lambda text: "\n\n" + text,
+    lambda text: text.replace("\n", "\r\n"), lambda text: text.replace("\n", "\r"), lambda text: text[:-1],
+    lambda text: "\ufeff" + text,
+    lambda text: text.replace("pipe", '"pipe"'), lambda text: text.replace("moment", "Moment", 1), lambda text: "",
+    lambda text: "\n\n" + text,
 ]
 
 
@@ -47,7 +53,8 @@ def random_configuration(rng: random.Random, pipes: int) -> str:
     lines += [queue_line(rng, number, pipes) for number in range(1, rng.randint(1, 2 * pipes) + 1)]
     for _ in range(rng.randint(0, 3)):
         number = rng.randint(1, pipes)
-        later = [f"queue {number} config pipe {rng.randint(1, pipes)}", f"# pipe {number}", "", f"pipe {number} config bw 2Mbit/s delay 1"]
+        later = [f"queue {number} config pipe {rng.randint(1, pipes)}", f"# pipe {number}", "",
+                 f"pipe {number} config bw 2Mbit/s delay 1"]
         lines.append(rng.choice([*later, f"queue delete {number}"]))
     if rng.random() < 0.1:
         lines.append(rng.choice(BAD_LINES))
@@ -63,9 +70,11 @@ def random_rows(rng: random.Random, pipes: int) -> list[str]:
             moment = LAST_MOMENT - rng.randint(0, 10**7)
             clock = rng.choice([clock, moment])
         number = rng.randint(1, pipes + 1) if rng.random() < 0.97 else 65535
-        tuple_of = f"10.0.0.{rng.randint(1, 4)},10.0.{rng.randint(0, 2)}.1,{rng.choice([6, 17])},{rng.randint(0, 3)},{rng.randint(0, 9)}"
+        addresses = f"10.0.0.{rng.randint(1, 4)},10.0.{rng.randint(0, 2)}.1"
+        tuple_of = f"{addresses},{rng.choice([6, 17])},{rng.randint(0, 3)},{rng.randint(0, 9)}"
         length = rng.choice([1, 64, 500, 1500, 65535])
-        rows.append(f"{min(moment, LAST_MOMENT)},{rng.choice(['pipe', 'pipe', 'queue'])},{number},{tuple_of},{length},{rng.getrandbits(32)}\n")
+        target = f"{rng.choice(['pipe', 'pipe', 'queue'])},{number}"
+        rows.append(f"{min(moment, LAST_MOMENT)},{target},{tuple_of},{length},{rng.getrandbits(32)}\n")
     return rows
 
 

@@ -4,35 +4,38 @@ from __future__ import annotations
 
 import unittest
 
-from hinge.configured import InForce, Limit, LineFault, Pipe, Queue, respelled, setting, spelled
+from hinge.configurations.configured import InForce, Limit, LineFault, Pipe, Queue, respelled, setting_of, spelled_lines
 
 
 class Settings(unittest.TestCase):
     def test_a_spelling_of_the_user(self) -> None:
         wanted = Pipe(1, 2_000_000, 20, Limit(50, None), 2**30)
-        self.assertEqual(setting("pipe 1 config bw 2Mbit/s delay 20ms plr 0.5"), ("pipe", 1, wanted))
-        self.assertEqual(setting("pipe 1 config plr 0.5 delay 20 bw 2000000bit/s"), ("pipe", 1, wanted))
-        self.assertEqual(setting("pipe 1 config bw 250KByte/s delay 20 plr 0.5"), ("pipe", 1, wanted))
-        self.assertEqual(setting("pipe 1 config bw 2000000 delay 20 plr .5"), ("pipe", 1, wanted))
+        self.assertEqual(setting_of("pipe 1 config bw 2Mbit/s delay 20ms plr 0.5"), ("pipe", 1, wanted))
+        self.assertEqual(setting_of("pipe 1 config plr 0.5 delay 20 bw 2000000bit/s"), ("pipe", 1, wanted))
+        self.assertEqual(setting_of("pipe 1 config bw 250KByte/s delay 20 plr 0.5"), ("pipe", 1, wanted))
+        self.assertEqual(setting_of("pipe 1 config bw 2000000 delay 20 plr .5"), ("pipe", 1, wanted))
 
     def test_a_queue_of_any_pipe(self) -> None:
         wanted = Queue(3, 9, 5, Limit(None, 10), 0)
-        self.assertEqual(setting("queue 3 config pipe 9 weight 5 queue 10KBytes mask src-ip 0xff"), ("queue", 3, wanted))
-        self.assertEqual(setting("queue 3 config mask src-ip 0xff weight 5 queue 10Kbytes pipe 9"), ("queue", 3, wanted))
+        self.assertEqual(setting_of("queue 3 config pipe 9 weight 5 queue 10KBytes mask src-ip 0xff"),
+                         ("queue", 3, wanted))
+        self.assertEqual(setting_of("queue 3 config mask src-ip 0xff weight 5 queue 10Kbytes pipe 9"),
+                         ("queue", 3, wanted))
 
     def test_a_delete(self) -> None:
-        self.assertEqual(setting("pipe delete 4"), ("pipe", 4, None))
-        self.assertEqual(setting("queue 4 delete"), ("queue", 4, None))
+        self.assertEqual(setting_of("pipe delete 4"), ("pipe", 4, None))
+        self.assertEqual(setting_of("queue 4 delete"), ("queue", 4, None))
 
     def test_the_programs_spelling_is_read_without_it(self) -> None:
-        lines = b"pipe 1 config bw 8Mbit/s delay 20ms queue 10Kbytes plr 0.1 mask src-ip 0xff buckets 64\npipe 2 config\nqueue 3 config pipe 1 weight 3\n"
+        lines = (b"pipe 1 config bw 8Mbit/s delay 20ms queue 10Kbytes plr 0.1 mask src-ip 0xff buckets 64\npipe 2 "
+                 b"config\nqueue 3 config pipe 1 weight 3\n")
         respelled.cache_clear()
-        found = InForce([*spelled(lines), "queue delete 3"])
+        found = InForce([*spelled_lines(lines), "queue delete 3"])
         self.assertEqual((sorted(found.pipes), sorted(found.queues), respelled.cache_info().misses), ([1, 2], [], 0))
 
     def test_no_command(self) -> None:
         with self.assertRaises(LineFault):
-            setting("pipe 1 config bw 8Mbps")
+            setting_of("pipe 1 config bw 8Mbps")
 
 
 if __name__ == "__main__":

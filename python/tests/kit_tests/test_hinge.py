@@ -3,6 +3,7 @@
 from __future__ import annotations
 
 import os
+import re
 import shutil
 import subprocess
 import sys
@@ -11,13 +12,42 @@ import unittest
 from pathlib import Path
 
 import hinge
-from kit import run
+from kit import TOP, run, write
+
+from hinge.__main__ import COMMANDS
 
 PACKAGE = Path(hinge.__file__).resolve().parent
 TELLS = "from hinge import program, version; print(version.version(), program.dummynet())"
 
 
 class Help(unittest.TestCase):
+    def test_help_needs_no_numpy(self) -> None:
+        """Nor does a fault of the command line: a table and a paragraph load it when they have something to reckon."""
+        for command in ("look", "why", "stats", "picture", "packets", "through", "ipfw", "run"):
+            script = (f"import sys; sys.modules['numpy'] = None; sys.argv = ['hinge', '{command}', '--help']; from "
+                      f"hinge.__main__ import main; main()")
+            told = subprocess.run([sys.executable, "-c", script], capture_output=True, text=True)
+            self.assertEqual((told.returncode, told.stderr), (0, ""), command)
+        packets = write("one.csv",
+                        "moment,target,number,src,dst,proto,sport,dport,len,word\n"
+                        "0,pipe,1,10.0.0.1,10.0.0.2,17,1,2,1000,0\n")
+        script = (f"import sys; sys.modules['numpy'] = None; sys.argv = ['hinge', 'stats', {str(packets)!r}, "
+                  f"{str(packets)!r}]; from hinge.__main__ import main; main()")
+        told = subprocess.run([sys.executable, "-c", script], capture_output=True, text=True)
+        self.assertEqual((told.returncode, told.stderr),
+                         (7,
+                          "hinge stats: needs Python's numpy: pip install numpy, or apt-get install python3-numpy\n"))
+
+    def test_standard_input_is_a_file(self) -> None:
+        packets = write("in.csv",
+                        "moment,target,number,src,dst,proto,sport,dport,len,word\n"
+                        "0,pipe,1,10.0.0.1,10.0.0.2,17,1,2,1000,0\n")
+        report = write("in.report", "event,row,flow,packet,at,start,due\nout,1,0,0,0,0,5\n")
+        plain = run("stats", packets, report).stdout
+        self.assertIn("udp 10.0.0.1:1 > 10.0.0.2:2", plain)
+        self.assertEqual(run("stats", packets, "-", input=report.read_text()).stdout, plain)
+        self.assertEqual(run("stats", "-", report, input=packets.read_text()).stdout, plain)
+
     def test_help_lists_the_commands(self) -> None:
         told = run("help")
         self.assertEqual((told.returncode, told.stderr), (0, ""))
@@ -27,13 +57,37 @@ class Help(unittest.TestCase):
     def test_help_of_a_command_is_its_own(self) -> None:
         self.assertEqual(run("help", "why").stdout, run("why", "--help").stdout)
 
+    def test_the_pages_are_named_and_shown(self) -> None:
+        pages = {page.stem: page.read_text(encoding="utf-8") for page in sorted((TOP / "docs").glob("*.md"))}
+        told = run("docs")
+        self.assertEqual((told.returncode, told.stderr), (0, ""))
+        for name, text in pages.items():
+            self.assertRegex(told.stdout, f"(?m)^  {name} +{re.escape(text.splitlines()[0][2:])}$")
+        for asked in ("LIVE", "live", "docs/LIVE.md"):
+            self.assertEqual(run("docs", asked).stdout, pages["LIVE"])
+        wrong = run("docs", "LIVES")
+        self.assertEqual((wrong.returncode, wrong.stderr),
+                         (2, "hinge docs: no page 'LIVES'; did you mean `hinge docs LIVE`?\n"))
+
+    def test_each_page_that_a_help_names_is_there(self) -> None:
+        """By `hinge docs`, since an installation has no folder docs/ of its own."""
+        pages, named = {page.stem for page in (TOP / "docs").glob("*.md")}, 0
+        for command in COMMANDS:
+            told = run(command, "--help").stdout
+            self.assertNotIn("docs/", told.replace("\n", " "), command)
+            found = re.findall(r"hinge docs ([A-Z]+)", " ".join(told.split()))
+            named += len(found)
+            self.assertLessEqual(set(found), pages | {"NAME"}, command)
+        self.assertGreater(named, 3)
+
     def test_no_word_is_a_wrong_command_line(self) -> None:
         told = subprocess.run([sys.executable, "-m", "hinge"], capture_output=True, text=True)
         self.assertEqual((told.returncode, told.stdout, told.stderr), (2, "", run("help").stdout))
 
     def test_a_word_that_is_no_command(self) -> None:
         told = run("pictur")
-        self.assertEqual((told.returncode, told.stdout, told.stderr), (2, "", "hinge: no command 'pictur'; did you mean `hinge picture`?\n"))
+        self.assertEqual((told.returncode, told.stdout, told.stderr),
+                         (2, "", "hinge: no command 'pictur'; did you mean `hinge picture`?\n"))
         self.assertEqual(run("help", "xyz").stderr, "hinge: no command 'xyz'; `hinge help` lists the commands.\n")
 
     def test_the_version_is_that_of_the_file(self) -> None:
@@ -55,7 +109,8 @@ class Programs(unittest.TestCase):
             folder.mkdir()
             (folder / "dummynet").write_text("#!/bin/sh\n")
             (folder / "dummynet").chmod(0o755)
-        self.env = {**{name: value for name, value in os.environ.items() if name != "DUMMYNET"}, "PYTHONPATH": str(modules), "PATH": str(self.other)}
+        self.env = {**{name: value for name, value in os.environ.items() if name != "DUMMYNET"},
+                    "PYTHONPATH": str(modules), "PATH": str(self.other)}
 
     def told(self, **env: str) -> str:
         done = subprocess.run([sys.executable, "-c", TELLS], env={**self.env, **env}, capture_output=True, text=True)
@@ -70,4 +125,5 @@ class Programs(unittest.TestCase):
 
     def test_the_variable_goes_before_all(self) -> None:
         self.assertEqual(self.told(DUMMYNET=f"{self.other}/dummynet"), f"9.8.7 {self.other}/dummynet\n")
-        self.assertTrue(self.told(DUMMYNET=str(self.other)).endswith(f"DUMMYNET names {self.other}, which is no program"))
+        told = self.told(DUMMYNET=str(self.other))
+        self.assertTrue(told.endswith(f"DUMMYNET names {self.other}, which is no program"))

@@ -2,11 +2,14 @@
 
 from __future__ import annotations
 
+import os
 import unittest
 
-from kit import DATA, run, write
+from kit import DATA, folder, run, write
 
-from hinge.ipfw_lines import bandwidth, loss_rate
+from hinge.configurations.ipfw_lines import ipfw_bandwidth, loss_rate
+from hinge.configurations.shell_session import shell
+from hinge.program import dummynet
 from oracle import FastDummynet, configured
 
 EXPECTED = """\
@@ -35,7 +38,8 @@ class Ipfw(unittest.TestCase):
         self.assertEqual(done.returncode, 3)
         notes = done.stderr.splitlines()
         for line, told in LEFT_OUT.items():
-            self.assertTrue(any(f"rc.firewall:{line}: left out" in note and told in note for note in notes), (line, told, done.stderr))
+            self.assertTrue(any(f"rc.firewall:{line}: left out" in note and told in note for note in notes),
+                            (line, told, done.stderr))
         self.assertIn("5 commands for pipes and queues were left out", notes[-1])
 
     def test_what_comes_out_is_taken(self) -> None:
@@ -43,17 +47,76 @@ class Ipfw(unittest.TestCase):
         self.assertEqual(len(replies), len(EXPECTED.splitlines()))
 
     def test_units_of_bandwidth_are_ipfws(self) -> None:
-        for text, value in (("10Mb", "10Mbit/s"), ("10Mbps", "10Mbit/s"), ("10MB", "10MByte/s"), ("10MBit/s", "10Mbit/s"), ("5", "5bit/s"),
+        for text, value in (("10Mb", "10Mbit/s"), ("10Mbps", "10Mbit/s"), ("10MB", "10MByte/s"),
+                            ("10MBit/s", "10Mbit/s"), ("5", "5bit/s"),
                             ("3kbytes/s", "3kByte/s"), ("3Kb/s", "3Kbit/s"), ("eth0", "eth0")):
-            self.assertEqual(bandwidth(text), value)
+            self.assertEqual(ipfw_bandwidth(text), value)
 
     def test_loss_rates_lose_their_exponent(self) -> None:
-        self.assertEqual([loss_rate(text) for text in ("1e-3", "0.05", "5E-2", "1e0", "x")], ["0.001", "0.05", "0.05", "1", "x"])
+        self.assertEqual([loss_rate(text) for text in ("1e-3", "0.05", "5E-2", "1e0", "x")],
+                         ["0.001", "0.05", "0.05", "1", "x"])
 
     def test_a_flush_forgets_what_was_before(self) -> None:
         script = write("flush.sh", "ipfw pipe 1 config bw 1Mbit/s\nipfw -f pipe flush\nipfw pipe 2 config delay 3\n")
         done = run("ipfw", script)
         self.assertEqual((done.returncode, done.stdout), (0, "pipe 2 config delay 3\n"))
+
+    @unittest.skipUnless(shell(), "no bash")
+    def test_loops_and_functions_are_run_by_a_shell(self) -> None:
+        """The script's other commands aren't: it finds no program and writes no file."""
+        made = folder() / "made"
+        script = write("loop.sh", f"""\
+PATH=/sbin:/bin
+fwcmd="/sbin/ipfw -q"
+for i in 1 2; do
+  ${{fwcmd}} pipe $i config bw ${{i}}Mbit/s delay 5
+done
+shape() {{
+  ipfw pipe $1 config \\
+    bw $2
+}}
+shape 7 10Mbit/s; shape 8 20Mbit/s
+/bin/touch {made}
+echo x > {made}
+touch {made}
+[ -d / ] && sudo ipfw pipe 9 config delay ${{BASH_VERSION:+3}}
+n=20; while [ $n -lt 22 ]; do ipfw queue $n config pipe 1; n=$((n+1)); done
+kill -9 0
+ipfw queue 30 config pipe $i weight 7
+""")
+        done = run("ipfw", script)
+        self.assertEqual(done.stdout,
+                         "pipe 1 config bw 1Mbit/s delay 5\npipe 2 config bw 2Mbit/s delay 5\npipe 7 config bw "
+                         "10Mbit/s\n"
+                                      "pipe 8 config bw 20Mbit/s\npipe 9 config delay 3\nqueue 20 config pipe 1\nqueue "
+                                      "21 config pipe 1\n"
+                                      "queue 30 config pipe 2 weight 7\n")
+        self.assertEqual((done.returncode, made.exists()), (0, False), done.stderr)
+
+    @unittest.skipUnless(shell(), "no bash")
+    def test_a_script_that_never_ends_is_heard_up_to_some_moment(self) -> None:
+        done = run("ipfw",
+                   write("endless.sh", "for i in 1 2; do ipfw pipe $i config delay 5; done\nwhile :; do :; done\n"))
+        self.assertEqual((done.returncode, done.stdout), (0, "pipe 1 config delay 5\npipe 2 config delay 5\n"))
+
+    def test_what_configures_no_pipe_has_a_status(self) -> None:
+        for text in ("ipfw sched 1 config type fq_codel\n",
+                     "for i in $(jot 3); do ipfw pipe $i config bw 1Mbit/s; done\n",
+                     "ipfw add 1 allow ip from any to any\n", ""):
+            done = run("ipfw", write("none.sh", text))
+            self.assertEqual((done.returncode, done.stdout), (3, ""), (text, done.stderr))
+
+    def test_many_lines_are_judged_by_one_session(self) -> None:
+        script = write("many.sh",
+                       "".join(f"ipfw pipe {n} config bw {n}Kbit/s\n" for n in range(1, 2001))
+                       + "ipfw pipe 1 config delay x\n")
+        calls = folder() / "calls"
+        program = folder() / "counted"
+        program.write_text(f'#!/bin/sh\necho called >>"{calls}"\nexec "{dummynet()}" "$@"\n')
+        program.chmod(0o755)
+        done = run("ipfw", script, env={**os.environ, "DUMMYNET": str(program)})
+        self.assertEqual((done.stdout.count("\n"), done.returncode, calls.read_text()), (2000, 3, "called\n"),
+                         done.stderr)
 
     def test_standard_input_and_a_missing_file(self) -> None:
         self.assertEqual(run("ipfw", input="dnctl pipe 1 config bw 1Mbit/s\n").stdout, "pipe 1 config bw 1Mbit/s\n")

@@ -2,14 +2,23 @@
 
 from __future__ import annotations
 
+import csv
+import json
 import random
 import subprocess
 import unittest
 
-from hinge.history import read_history
+from hinge.pictures.drawn import series_of
+from hinge.pictures.panels import Panels
+from hinge.pictures.series import series
 from hinge.program import dummynet
-from hinge.replay import NONE, OUT
-from kit import folder, mixed, run
+from hinge.replays.groups import group
+from hinge.replays.history import read_history
+from hinge.replays.replay import NONE, OUT
+from hinge.replays.source import of_reports
+from hinge.run.page import HEAD, WAY, Counts
+from hinge.run.summary import record
+from kit import TOP, folder, mixed, run
 
 
 def history_of(name: str) -> str:
@@ -21,37 +30,218 @@ def history_of(name: str) -> str:
 
 def live(lines: list[str]) -> str:
     """The transcript of a session with these lines."""
-    return subprocess.run([dummynet(), "live"], input="\n".join(lines) + "\n", capture_output=True, text=True, check=True).stdout
+    return subprocess.run([dummynet(), "live"], input="\n".join(lines) + "\n", capture_output=True, text=True,
+                          check=True).stdout
+
+
+class Differences(unittest.TestCase):
+    """Histories of three packets: the first call that differs is found by hand."""
+
+    LINES = ["pipe 1 config bw 8Mbit/s plr 0.5", *[f"c,0,submit,pipe,1,10.0.0.1,10.0.0.2,17,1,2,1000,{word},{at}"
+                                                     for at, word in ((0, 2**31 - 1), (500, 7), (1000, 2**31 - 1))],
+                                                     "c,0,collect,5000000"]
+
+    def made(self, name: str, lines: list[str], remark: str = "") -> str:
+        (folder() / name).write_text(live(lines).replace("\nc,0,collect", f"\n{remark}c,0,collect"))
+        return name
+
+    def test_calls_and_replies_that_part(self) -> None:
+        other = [*self.LINES[:3], self.LINES[3].replace("1000,2147483647,1000", "999,2147483647,1000"), self.LINES[4]]
+        drawn = [line.replace(",7,500", ",2147483647,500") for line in self.LINES]
+        slower = [self.LINES[0].replace("0.5", "0"), *self.LINES[1:]]
+        one = self.made("one.history", self.LINES)
+        for name, lines, text in (("calls", other, "call 4, at 0.000001000 s: the calls differ"),
+                                  ("words", drawn, "call 3, at 0.000000500 s: the calls differ"),
+                                  ("lines", slower, "call 1: the calls differ"),
+                                  ("shorter", self.LINES[:3], "call 4, at 0.000001000 s: the second ends before it")):
+            done = run("look", "--diff", one, self.made(f"{name}.history", lines))
+            self.assertEqual((1, f"one.history and {name}.history part in {text}"),
+                             (done.returncode, done.stdout.splitlines()[0]), done.stderr)
+
+    def test_what_is_around_it(self) -> None:
+        one = self.made("one.history", self.LINES)
+        (folder() / "reply.history").write_text((folder() / one).read_text().replace("r,lost,500,0",
+                                                                                     "r,queued,500,0,1"))
+        done = run("look", "--diff", one, "reply.history", "--json", "diff.json")
+        self.assertEqual("""\
+one.history and reply.history part in call 3, at 0.000000500 s: its replies differ
+  1  c,0,configure,pipe 1 config bw 8000000bit/s plr 0.500000000000000000
+     r,configured
+  2  c,0,submit,pipe,1,10.0.0.1,10.0.0.2,17,1,2,1000,2147483647,0  (row: 1)
+     r,queued,0,0,0
+- 3  c,0,submit,pipe,1,10.0.0.1,10.0.0.2,17,1,2,1000,7,500  (row: 2)
+-    r,lost,500,0
+- 4  c,0,submit,pipe,1,10.0.0.1,10.0.0.2,17,1,2,1000,2147483647,1000  (row: 3)
+-    r,queued,1000,0,1
+- 5  c,0,collect,5000000
+-    r,delivered,5000000,2
+-    d,0,0,0,1000000
+-    d,1,0,1000000,2000000
++ 3  c,0,submit,pipe,1,10.0.0.1,10.0.0.2,17,1,2,1000,7,500  (row: 2)
++    r,queued,500,0,1
+""", done.stdout.partition("+ 4")[0])
+        told = json.loads((folder() / "diff.json").read_text())
+        self.assertEqual((1, 1, False, 3, "its replies differ"),
+                         (done.returncode, told["format"], told["equal"], told["call"], told["reason"]))
+        self.assertEqual([(1, None, None), (2, 1, 0)],
+                         [(it["call"], it["row"], it["moment_ns"]) for it in told["before"]])
+        self.assertEqual([["r,lost,500,0"], ["r,queued,500,0,1"]], [found[0]["reply"] for found in told["after"]])
+        self.assertEqual([6, 6], [found[0]["line"] for found in told["after"]])
+
+    def test_equal_but_for_a_remark(self) -> None:
+        words = self.made("one.history", self.LINES), self.made("remarked.history", self.LINES, "#,seed,5\n")
+        done = run("look", "--diff", *words, "--json", "equal.json")
+        self.assertEqual((0, "one.history and remarked.history have the same calls and replies\n"),
+                         (done.returncode, done.stdout))
+        self.assertEqual({"format": 1, "histories": list(words), "equal": True},
+                         json.loads((folder() / "equal.json").read_text()))
+
+    def test_what_it_does_not_take(self) -> None:
+        one = self.made("one.history", self.LINES)
+        (folder() / "text").write_text("a text\n")
+        for words, status in (((one,), 2), ((one, one, one), 2), ((one, one, "--why", 1), 2), ((one, "text"), 4),
+                              ((one, "none"), 6)):
+            self.assertEqual(status, run("look", "--diff", *words).returncode)
+        self.assertEqual(2, run("look", one, one).returncode)
 
 
 class Look(unittest.TestCase):
-    def test_its_table_is_that_of_stats(self) -> None:
+    def test_a_history_and_a_report_with_its_configuration_have_one_table(self) -> None:
         for name in ("dsl", "shared"):
             config, packets, report = mixed(name)
-            found, wanted = run("look", history_of(name)), run("stats", packets, report, "--config", config)
-            self.assertEqual((found.returncode, found.stdout), (0, wanted.stdout), found.stderr)
+            history, files = history_of(name), (packets, report, "--config", config)
+            wanted = run("stats", *files)
+            self.assertIn("transmission", wanted.stdout)
+            for words in (("look", history), ("stats", history), ("look", *files),
+                          ("stats", packets, "--config", config, report)):
+                found = run(*words)
+                self.assertEqual((found.returncode, found.stdout, found.stderr),
+                                 (0, wanted.stdout, wanted.stderr.replace("stats", words[0])))
+
+    def test_a_history_and_a_report_with_its_configuration_have_one_picture(self) -> None:
+        config, packets, report = mixed("dsl")
+        drawn = {}
+        for words in (("picture", packets, report, "--config", config), ("look", packets, report, "--config", config),
+                      ("picture", history_of("dsl")), ("look", history_of("dsl"))):
+            done = run(*words, "-o", "one.svg")
+            self.assertEqual(done.returncode, 0, done.stderr)
+            lines = (folder() / "one.svg").read_text().splitlines()
+            drawn[words[:2]] = [line for line in lines if line.lstrip().startswith(("<path d=", "L ", "M "))]
+        self.assertEqual(drawn["look", packets], drawn["picture", packets])
+        self.assertEqual(drawn["look", history_of("dsl")], drawn["picture", history_of("dsl")])
+        of_report, of_history = (series_of(sources, "tuple", 3, None)[0]
+                                 for sources in (of_reports(str(packets), [str(report)], str(config)),
+                                                 [read_history(history_of("dsl"))]))
+        self.assertGreater(len(of_report.flows), 2)
+        for flow, other in zip(of_report.flows, of_history.flows):
+            self.assertEqual((flow.name, flow.packets, flow.offered.tolist(), flow.carried.tolist(),
+                              flow.delays.tolist(), flow.drops.tolist()),
+                             (other.name, other.packets, other.offered.tolist(), other.carried.tolist(),
+                              other.delays.tolist(), other.drops.tolist()))
+        self.assertEqual([(name, rates.tolist()) for name, (_, rates) in of_report.capacities.items()],
+                         [(name, rates.tolist()) for name, (_, rates) in of_history.capacities.items()])
 
     def test_its_paragraphs_are_those_of_why(self) -> None:
         for name in ("dsl", "shared"):
             config, packets, report = mixed(name)
             count = len(read_history(history_of(name)).replay.packets)
             rows = range(1, count + 1, max(1, count // 50))
-            found, wanted = run("look", history_of(name), "--why", *rows).stdout, run("why", *rows, config, packets, report).stdout
-            self.assertEqual(found.replace(history_of(name), str(config)), wanted)
+            wanted = run("why", *rows, config, packets, report).stdout
+            for words in (("look", history_of(name), "--why", *rows), ("why", *rows, history_of(name)),
+                          ("why", *rows, packets, report, "--config", config),
+                          ("look", packets, report, "--config", config, "--why", *rows)):
+                self.assertEqual(run(*words).stdout.replace(history_of(name), str(config)), wanted)
+
+    def test_a_source_that_lacks_something_says_what(self) -> None:
+        config, packets, report = mixed("dsl")
+        for words, status, told in (
+            (("stats", packets), 4, "is a packet file: behind it comes the report that dummynet wrote of it"),
+            (("stats", packets, report, report), 2, "a packet file has one report here, and these are 2"),
+            (("picture", "-o", "x.png", *[packets] * 6), 2, "a picture has up to four reports"),
+            (("stats", history_of("dsl"), "--config", config), 2, "is alone: a history has its configuration"),
+            (("why", 1, packets, report), 2, "a paragraph needs the configuration: --config FILE"),
+            (("why", 1), 2, "behind the rows comes a history, or a packet file and its report"),
+            (("why", 0, history_of("dsl")), 2, "'0' is no number from 1"),
+            (("look", "--audit", packets, report), 2, "--audit is of a history"),
+        ):
+            done = run(*words)
+            self.assertEqual((done.returncode, told in done.stderr), (status, True), done.stderr)
 
     def test_a_link_that_was_changed_has_no_parts(self) -> None:
-        lines = ["pipe 1 config bw 8Mbit/s", "c,0,submit,pipe,1,10.0.0.1,10.0.0.2,17,1,2,1000,0,0", "pipe 1 config bw 1Mbit/s",
+        lines = ["pipe 1 config bw 8Mbit/s", "c,0,submit,pipe,1,10.0.0.1,10.0.0.2,17,1,2,1000,0,0",
+                 "pipe 1 config bw 1Mbit/s",
                  "c,0,collect,5000000"]
         (folder() / "changed.history").write_text(live(lines))
         done = run("look", "changed.history", "-o", "changed.png")
-        self.assertEqual((done.returncode, done.stderr), (0, "hinge look: the links were changed while packets came: no parts of the delay\n"))
+        self.assertEqual((done.returncode, done.stderr),
+                         (0, "hinge look: the links were changed while packets came: no parts of the delay\n"))
         capacity = [(at, text) for at, text in read_history(str(folder() / "changed.history")).changes]
         self.assertEqual([at for at, _ in capacity], [0, 0])
 
+    def test_a_text_as_long_as_a_file(self) -> None:
+        """A lawful history may have a configuration line of any length, in quotes."""
+        lines = ["pipe 1 config bw 8Mbit/s", "c,0,submit,pipe,1,10.0.0.1,10.0.0.2,17,1,2,1000,0,0",
+                 "c,0,collect,5000000"]
+        (folder() / "long.history").write_text(live(lines).replace("pipe 1 config",
+                                                                   f'"pipe{" " * 200_000}1 config').replace("bit/s",
+                                                                                                            'bit/s"'))
+        self.assertEqual(subprocess.run([dummynet(), "audit", folder() / "long.history"],
+                                        capture_output=True).returncode, 0)
+        done = run("look", "long.history")
+        self.assertEqual((done.returncode, done.stderr), (0, ""))
+
+    def test_the_lateness_and_the_seed_of_a_live_host(self) -> None:
+        lines = ["pipe 1 config bw 8Mbit/s", "c,0,submit,pipe,1,10.0.0.1,10.0.0.2,17,1,2,1000,0,0",
+                 "c,0,collect,5000000"]
+        head, rest = live(lines).split("\n", 1)
+        last = rest.rindex("end,")
+        late = "#,late,1000000000,35000000,0,2000,1000\n#,late,bad\n#,late,2000000000,1000,81000000,0,0\n"
+        told = f"{head}\n#,seed,77\n{rest[:last]}{late}{rest[last:]}"
+        (folder() / "late.history").write_text(told)
+        found = read_history(str(folder() / "late.history"))
+        self.assertEqual((found.seed, list(found.lateness)), ("77", ["up", "down"]))
+        moments, ms = found.lateness["up"]["unread"]
+        self.assertEqual((moments.tolist(), ms.tolist()), ([1, 2], [0, 81]))
+        replay = found.replay
+        drawn = Panels(series(replay, group(replay, "tuple"), 10**9, 2 * 10**9, found.changes,
+                              found.lateness)).lateness()
+        line = next(item for item in drawn.items if item.name.startswith("up: unread"))
+        self.assertEqual((line.x.tolist(), line.y.tolist()), ([0, 1, 2], [0, 81, 81]),
+                         "each is of the time before its moment")
+        done = run("look", "late.history", "-o", "late.svg")
+        self.assertEqual(done.returncode, 0, done.stderr)
+        self.assertIn("hinge look: the host was late by 35 ms and packets lay unread for 81 ms at most: the picture "
+                      "has each second\n", done.stderr)
+        picture = (folder() / "late.svg").read_text()
+        for text in ("The host's lateness, the most of each second", "up: late, at most 35 ms", "; seed 77; "):
+            self.assertIn(text, picture)
+
+    def test_the_table_for_a_program_has_the_keys_of_its_page(self) -> None:
+        path = history_of("dsl")
+        assert run("look", path, "--json", folder() / "look.json").returncode == 0
+        told = json.loads((folder() / "look.json").read_text())
+        config, packets, report = mixed("dsl")
+        rows = list(csv.DictReader(run("stats", packets, report, "--config", config, "--csv").stdout.splitlines()))
+        self.assertEqual((told["format"], told["seed"], told["lateness_ms"], [flow["flow"] for flow in told["flows"]]),
+                         (1, None, None, [row["flow"] for row in rows]))
+        self.assertEqual([flow["p95_ns"] for flow in told["flows"]], [int(row["p95_ns"]) for row in rows])
+        page = (TOP / "docs" / "JSON.md").read_text(encoding="utf-8").partition("## A history")
+        for key in {*told, *told["flows"][0]}:
+            self.assertIn(f"`{key}`", page[2])
+        counts = Counts((1, *[0] * (len(HEAD) - 1), *[0] * 2 * WAY))
+        told_of_run = record(counts, [0, 0], 0, 1, [])
+        self.assertLessEqual({"late_p50_ms", "late_max_ms", "unread_p50_ms", "unread_max_ms"}, set(told_of_run["up"]))
+        for key, value in told_of_run.items():
+            self.assertIn(f"`{key}`", page[0])
+            for inner in value if isinstance(value, dict) else ():
+                self.assertIn(f"`{inner}`", page[0])
+
     def test_a_transcript_that_was_cut_anywhere(self) -> None:
-        """What stands in it is looked at: as many packets as there are calls with a reply, those out that were delivered."""
+        """What stands in it is looked at: as many packets as there are calls with a reply, those out that were
+        delivered."""
         submits = [f"c,0,submit,pipe,1,10.0.0.{row % 3},10.0.0.2,17,1,2,1000,0,{row * 700_000}" for row in range(8)]
-        lines = ["pipe 1 config bw 8Mbit/s queue 3", *submits[:4], "next", "c,0,collect,2500000", *submits[4:], "c,0,collect,90000000"]
+        lines = ["pipe 1 config bw 8Mbit/s queue 3", *submits[:4], "next", "c,0,collect,2500000", *submits[4:],
+                 "c,0,collect,90000000"]
         whole = live(lines)
         self.assertIn("#,next,", whole)
         rng = random.Random(5)
@@ -61,40 +251,51 @@ class Look(unittest.TestCase):
             told = read_history(str(folder() / "cut.history"))
             kept = [line for line in text.split("\n")[:-1] if line and line[0] != "#"]
             replies = sum(line.startswith(("r,queued", "r,full")) for line in kept)
-            self.assertEqual((len(told.replay.packets), int(told.replay.is_out.sum())), (replies, sum(line.startswith("d,") for line in kept)), text)
+            self.assertEqual((len(told.replay.packets), int(told.replay.is_out.sum())),
+                             (replies, sum(line.startswith("d,") for line in kept)), text)
             self.assertEqual(told.cut is None, kept[-1].startswith("end,"))
         (folder() / "cut.history").write_text(whole[:-len("end,11")])
         done = run("look", "cut.history")
         self.assertEqual(done.returncode, 0)
-        self.assertIn("has no end behind line 32: the session was killed, or still goes on; it is looked at up to there", done.stderr)
+        self.assertIn("has no end behind line 32: the session was killed, or still goes on; it is looked at up to there",
+                      done.stderr)
 
     def test_a_transcript_of_each_form(self) -> None:
-        """Under either first record, with remarks and empty lines between entries, quotes and other line ends, of any caller."""
-        lines = ["pipe 1 config bw 8Mbit/s", "c,0,submit,pipe,1,10.0.0.1,10.0.0.2,17,1,2,1000,0,5", "c,15,submit,queue,9,10.0.0.1,10.0.0.2,17,1,2,1000,0,6",
+        """Under either first record, with remarks and empty lines between entries, quotes and other line ends, of any
+        caller."""
+        lines = ["pipe 1 config bw 8Mbit/s", "c,0,submit,pipe,1,10.0.0.1,10.0.0.2,17,1,2,1000,0,5",
+                 "c,15,submit,queue,9,10.0.0.1,10.0.0.2,17,1,2,1000,0,6",
                  "c,3,collect,5000000", "c,3,show"]
         whole = live(lines)
-        forms = [whole, whole.replace("dummynet-history,3", "dummynet-live,1"), whole.replace("\nc,", "\n#,next,7\n\nc,"), whole.replace("\n", "\r\n"),
+        forms = [whole, whole.replace("dummynet-history,3", "dummynet-live,1"),
+                 whole.replace("\nc,", "\n#,next,7\n\nc,"), whole.replace("\n", "\r\n"),
                  whole.replace("pipe,1", '"pipe","1"')]
         for form in forms:
             (folder() / "form.history").write_bytes(form.encode())
             told = read_history(str(folder() / "form.history"))
             replay = told.replay
-            self.assertEqual((replay.event.tolist(), replay.at.tolist(), replay.due.tolist(), told.steady, told.cut),
+            self.assertEqual((replay.event.tolist(), replay.at.tolist(), replay.due.tolist(),
+                              told.configuration is not None, told.cut),
                              ([OUT, NONE], [5, 6], [1_000_005, -1], True, None))
             self.assertEqual(replay.packets.targets, [("pipe", 1), ("queue", 9)])
 
     def test_ipv6_addresses_that_the_host_names(self) -> None:
         whole = live(["pipe 1 config", "c,0,submit,pipe,1,240.0.0.0,240.0.0.1,17,1,2,1000,0,0"])
         remark = "#,address,240.0.0.{},2001:0db8:0000:0000:0000:0000:0000:000{}\n"
-        (folder() / "six.history").write_text(whole.replace("\nc,0,submit", "\n" + remark.format(0, 1) + remark.format(1, 2) + "c,0,submit"))
+        (folder() / "six.history").write_text(whole.replace("\nc,0,submit",
+                                                            "\n" + remark.format(0, 1) + remark.format(1, 2)
+                                                            + "c,0,submit"))
         self.assertIn("udp [2001:db8::1]:1 > [2001:db8::2]:2 ", run("look", "six.history").stdout)
 
     def test_commands_as_a_host_spells_them(self) -> None:
         """Any line that asks for a command may stand in its place."""
-        whole = live(["pipe 1 config bw 8Mbit/s delay 20 queue 3", "c,0,submit,pipe,1,10.0.0.1,10.0.0.2,17,1,2,1000,0,0", "c,0,collect,21000000"])
+        whole = live(["pipe 1 config bw 8Mbit/s delay 20 queue 3",
+                      "c,0,submit,pipe,1,10.0.0.1,10.0.0.2,17,1,2,1000,0,0", "c,0,collect,21000000"])
         canonical = "configure,pipe 1 config bw 8000000bit/s delay 20 queue 3"
         self.assertIn(canonical, whole)
-        (folder() / "spelled.history").write_text(whole.replace(canonical, "configure,ipfw pipe 1 config bw 8Mbit/s delay 20ms queue 3 # slow"))
+        (folder() / "spelled.history").write_text(whole.replace(canonical,
+                                                                "configure,ipfw pipe 1 config bw 8Mbit/s delay 20ms "
+                                                                "queue 3 # slow"))
         told = run("look", "spelled.history", "--why", 1)
         self.assertEqual(told.returncode, 0, told.stderr)
         self.assertIn("(1,000 bytes at 8,000,000 bit/s). The link's delay was 20.000000 ms.", told.stdout)
@@ -102,15 +303,19 @@ class Look(unittest.TestCase):
         self.assertEqual(run("look", "spelled.history").returncode, 4)
 
     def test_why_of_a_link_that_was_changed_is_a_fault(self) -> None:
-        (folder() / "changed.history").write_text(live(["pipe 1 config", "c,0,submit,pipe,1,10.0.0.1,10.0.0.2,17,1,2,1000,0,0", "pipe 1 config plr 1"]))
+        (folder() / "changed.history").write_text(live(["pipe 1 config",
+                                                        "c,0,submit,pipe,1,10.0.0.1,10.0.0.2,17,1,2,1000,0,0",
+                                                        "pipe 1 config plr 1"]))
         done = run("look", "changed.history", "--why", 1)
         self.assertEqual(done.returncode, 4)
         self.assertIn("the links were changed while packets came", done.stderr)
 
     def test_faults(self) -> None:
-        for text, told in (("x\n", "line 1: no history of dummynet, and no live session"), ("dummynet-history,3\nc,0,submit,pipe\nr,queued,0,0,0\n", "line 2: not as a history has it"),
+        for text, told in (("x\n", "line 1: no history of dummynet, and no live session"),
+                           ("dummynet-history,3\nc,0,submit,pipe\nr,queued,0,0,0\n", "line 2: not as a history has it"),
                            ("dummynet-history,3\nc,0,show\nc,0,show\nr,status,0\n", "line 3: not as a history has it"),
-                           ("dummynet-history,3\nc,0,collect,5\nr,delivered,5,1\nd,7,0,0,5\nend,1\n", "line 4: no packet 7 was queued")):
+                           ("dummynet-history,3\nc,0,collect,5\nr,delivered,5,1\nd,7,0,0,5\nend,1\n",
+                            "line 4: no packet 7 was queued")):
             (folder() / "bad.history").write_text(text)
             done = run("look", "bad.history")
             self.assertEqual((done.returncode, done.stderr), (4, f"hinge look: bad.history {told}\n"))

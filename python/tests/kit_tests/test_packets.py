@@ -1,21 +1,29 @@
-"""Packet files from captures, against the packets that were written and tshark's own counts."""
+"""Packet files from captures, against the packets that were written, and against what tshark finds."""
 
 from __future__ import annotations
 
+import contextlib
 import gzip
-import importlib.util
+import io
 import os
+import random
 import re
 import subprocess
 import unittest
 from pathlib import Path
-from unittest import mock
 
-from captures import ETHERNET, Expected, ethernet, ip4, ip6, nested, odd_ethernet, other_links, tcp, timed_in_ns, udp, without_times, write
+from captures import (
+    BEGAN, ETHERNET, Expected, ethernet, ip4, ip6, nested, odd_ethernet, other_links, tcp, timed_in_ns, udp,
+    without_times, write,
+)
 from kit import MIXED, folder, needs_tshark, rows_of, run
+from random_frames import Frames
+from tshark_frames import frames_by_tshark
 
-from hinge import tshark
-from hinge.dissect import frames
+from hinge.captures.capture_file import write_frame, write_header
+from hinge.captures.dissect import frames
+from hinge.captures.link_layers import LINKS
+from hinge.command import Fault
 
 
 def expected_of(rows: list[dict[str, str]]) -> list[Expected]:
@@ -37,16 +45,12 @@ def packets_of_file(name: str) -> list[str]:
 def tshark_totals(capture: Path) -> tuple[int, int]:
     """The count of IP packets and the sum of their lengths, as tshark's statistics have them."""
     fields = [f"{what}({field}){field}" for field in ("ip.len", "ipv6.plen") for what in ("COUNT", "SUM")]
-    words = ["tshark", "-n", "-o", "ip.defragment:FALSE", "-r", str(capture), "-q", "-z", f"io,stat,0,{','.join(fields)}"]
+    words = ["tshark", "-n", "-o", "ip.defragment:FALSE", "-r", str(capture), "-q", "-z",
+             f"io,stat,0,{','.join(fields)}"]
     table = subprocess.run(words, capture_output=True, text=True, check=True).stdout
     line = next(line for line in table.splitlines() if "<>" in line and re.search(r"\d", line))
     four, four_bytes, six, six_bytes = (int(cell) for cell in re.findall(r"\d+", line.split("|", 2)[2]))
     return four + six, four_bytes + six_bytes + 40 * six
-
-
-def without_tshark() -> dict[str, str]:
-    """An environment in which the commands find no tshark."""
-    return {**os.environ, "PATH": ""}
 
 
 def edited(name: str, capture: Path, *words: str) -> Path:
@@ -63,49 +67,91 @@ def every_capture() -> list[Path]:
     half, swapped, twice = folder() / "half.pcap", folder() / "swapped.pcap", folder() / "twice.pcapng"
     half.write_bytes(MIXED.read_bytes()[:50_000])
     packet = raw[40:40 + int.from_bytes(raw[32:36], "little")]
-    fields = [0xA1B2C3D4, 0x2_0004, 0, 0, 65535, 101, 1_700_000_000, 123_456, len(packet), len(packet)]  # in microseconds
+    # in microseconds
+    fields = [0xA1B2C3D4, 0x2_0004, 0, 0, 65535, 101, 1_700_000_000, 123_456, len(packet), len(packet)]
     swapped.write_bytes(b"".join(field.to_bytes(4, "big") for field in fields) + packet)
     sections = [edited("a.pcapng", folder() / "odd.pcap", "-F", "pcapng"), folder() / "other.pcapng"]
     twice.write_bytes(b"".join(section.read_bytes() for section in sections))
     (folder() / "mixed.pcap.gz").write_bytes(gzip.compress(MIXED.read_bytes(), 1))
     cut = [edited(f"{size}.{capture.name}", capture, "-s", str(size), "-F", "pcap")
            for size in (40, 56, 66) for capture in (folder() / "odd.pcap", several[0])]
-    return [MIXED, folder() / "odd.pcap", folder() / "other.pcapng", *several, half, swapped, twice, folder() / "mixed.pcap.gz", *cut]
+    return [MIXED, folder() / "odd.pcap", folder() / "other.pcapng", *several, half, swapped, twice,
+            folder() / "mixed.pcap.gz", *cut]
+
+
+def of_every_link(seed: int) -> list[Path]:
+    """A capture of random frames of each link that is known."""
+    made, paths = Frames(seed), []
+    for link_type, frame in made.links.items():
+        paths.append(folder() / f"random-{link_type}.pcap")
+        several = [frame() for _ in range(500 if link_type == ETHERNET else 80)]
+        with open(paths[-1], "wb") as out:
+            write_header(out, link_type)
+            for number, one in enumerate(several):
+                write_frame(out, BEGAN + number, len(one), made.cut(one))
+    return paths
 
 
 @needs_tshark
-@unittest.skipUnless(importlib.util.find_spec("scapy"), "scapy isn't there: apt-get install python3-scapy")
-class Dissectors(unittest.TestCase):
-    """scapy, in an environment without tshark, finds what tshark finds."""
+class Reader(unittest.TestCase):
+    """The frames that the kit reads are those that tshark finds."""
 
-    def written(self, capture: Path, by: str) -> list[object]:
-        """The two files, the counts, and whether an incomplete last frame was told."""
-        done = run("packets", capture, "-o", f"{by}.csv", "--index", f"{by}.index", "--mtu", 1500,
-                   "--map", "udp dport 53 => queue 2", "--map", "src 2001:db8::/32 => queue 1", "--map", "=> pipe 3",
-                   env=without_tshark() if by == "scapy" else None)
-        self.assertEqual(done.returncode, 0, done.stderr)
-        self.assertEqual("scapy dissects" in done.stderr, by == "scapy")
-        files = [(folder() / f"{by}.{end}").read_text() for end in ("csv", "index")]
-        return [*files, done.stderr.splitlines()[-1], "cut short" in done.stderr]
-
-    def test_both_write_the_same_files(self) -> None:
+    def test_the_captures_of_the_tests(self) -> None:
         for capture in every_capture():
             with self.subTest(capture=capture.name):
-                self.assertEqual(self.written(capture, "scapy"), self.written(capture, "tshark"))
+                self.assertEqual(list(frames(str(capture))), list(frames_by_tshark(str(capture))))
 
-    def test_what_scapy_cannot_do_is_one_line(self) -> None:
+    def test_random_frames_of_every_link(self) -> None:
+        seed = random.randrange(10**6)
+        for capture in of_every_link(seed):
+            found = list(frames(str(capture)))
+            self.assertGreater(sum(frame is not None for _, frame in found), 20)
+            for one, other in zip(found, frames_by_tshark(str(capture))):
+                self.assertEqual(one, other, f"{capture.name} of seed {seed}")
+
+    def test_every_link_that_is_known_is_tried(self) -> None:
+        self.assertEqual(sorted(Frames(1).links), sorted(LINKS))
+
+
+class Forms(unittest.TestCase):
+    """Captures are read without any other program."""
+
+    def test_no_other_program_is_needed(self) -> None:
+        odd_ethernet(folder() / "odd.pcap")
+        alone = {**os.environ, "PATH": ""}
+        done = run("packets", "odd.pcap", "-o", "alone.csv", env=alone)
+        self.assertEqual(done.returncode, 0, done.stderr)
+        self.assertEqual(len(rows_of(folder() / "alone.csv")), 11)
         (folder() / "text.pcap").write_text("no capture")
         write(folder() / "other.pcap", 147, [(0, bytes(60))])
         without_times(folder() / "timeless.pcapng")
         for words, status, line in (
-            ([MIXED, "--map", "tcp.flags.syn == 1 => pipe 9"], 7, "a display filter needs tshark"), (["text.pcap"], 4, "Not a supported"),
-            (["other.pcap"], 7, "link type 147 needs tshark"),
+            ([MIXED, "--map", "tcp.flags.syn == 1 => pipe 9"], 7, "a display filter needs tshark"),
+            (["text.pcap"], 4, "neither pcap nor pcapng"),
+            (["other.pcap"], 4, "frame 1 has the link type 147, and none is known of these: 0, 1, 9"),
             (["timeless.pcapng"], 4, "frame 1 of the capture has no time"), (["missing.pcap"], 6, "missing.pcap"),
         ):
-            done = run("packets", *words, env=without_tshark())
+            done = run("packets", *words, env=alone)
             self.assertEqual(done.returncode, status, done.stderr)
             self.assertIn(line, done.stderr.splitlines()[-1])
             self.assertNotIn("Traceback", done.stderr)
+
+    def test_bytes_of_any_kind_are_frames_or_a_fault_of_one_line(self) -> None:
+        """Captures with bytes changed, in each form, so that blocks, lengths and interfaces are none."""
+        draw = random.Random(7)
+        timed_in_ns(folder() / "whole.pcapng",
+                    [(BEGAN, ethernet(0x0800, ip4("10.0.0.1", "10.0.0.2", 17, udp(1, 2, 3))))] * 3)
+        odd_ethernet(folder() / "whole.pcap")
+        for name in ("whole.pcapng", "whole.pcap"):
+            whole = (folder() / name).read_bytes()
+            for _ in range(400):
+                changed = bytearray(whole[:draw.randrange(4, len(whole) + 1)])
+                for _ in range(draw.randrange(1, 6)):
+                    changed[draw.randrange(4, len(changed)) if len(changed) > 4
+                            else 0] = draw.choice((0, 1, 255, draw.randrange(256)))
+                (folder() / name).write_bytes(changed)
+                with contextlib.suppress(Fault), contextlib.redirect_stderr(io.StringIO()):
+                    list(frames(str(folder() / name)))
 
 
 @needs_tshark
@@ -118,17 +164,12 @@ class Packets(unittest.TestCase):
         whole = [int(time.replace(".", "")) for time in times]
         self.assertEqual([int(row["moment"]) for row in rows], [time - whole[0] for time in whole])
 
-    def test_a_capture_in_pieces_has_the_same_packets(self) -> None:
-        whole = list(frames(str(MIXED)))
-        with mock.patch.object(tshark, "LARGE", 0), mock.patch.object(tshark, "FRAMES_A_PIECE", 1000):
-            self.assertEqual(list(frames(str(MIXED))), whole)
-        self.assertEqual(len(whole), 9131)
-
     def test_tags_pppoe_ipv6_fragments_and_offloaded_segments(self) -> None:
         expected = odd_ethernet(folder() / "odd.pcap")
         rows = packets_of(folder() / "odd.pcap")
         self.assertEqual(expected_of(rows), expected)
-        # tshark's own counts have the packet of 28 bytes that an ICMP message quotes, and no payload of the IPv6 segment of length 0
+        # tshark's own counts have the packet of 28 bytes that an ICMP message quotes, and no payload of the IPv6
+        # segment of length 0
         count, total = tshark_totals(folder() / "odd.pcap")
         self.assertEqual((count, total), (len(rows) + 1, sum(row.length for row in expected) + 28 - 308))
 
@@ -159,14 +200,17 @@ class Packets(unittest.TestCase):
         self.assertEqual([int(row["len"]) for row in rows[-3:]], [1522, 1522, 4000 - 2 * 1460 + 40 + 22])
 
     def test_a_card_sends_the_packets_of_a_segment_one_after_the_other(self) -> None:
-        """At 1 Gbit/s a packet of 1,500 bytes takes 12,304 ns, with the 38 that Ethernet adds; of two segments the later one waits."""
+        """At 1 Gbit/s a packet of 1,500 bytes takes 12,304 ns, with the 38 that Ethernet adds; of two segments the
+        later one waits."""
         segment = ethernet(0x0800, ip4("10.0.0.1", "10.0.0.2", 6, tcp(1, 2, 3000), length=0))
         ack = ethernet(0x0800, ip4("10.0.0.2", "10.0.0.1", 6, tcp(2, 1, 0)))
         write(folder() / "burst.pcap", ETHERNET, [(0, segment), (5_000, ack), (20_000, segment)])
         rows = packets_of(folder() / "burst.pcap", "--mtu", 1500, "--rate", "1Gbit/s", "--index", "burst.index")
         self.assertEqual([(int(row["moment"]), int(row["len"])) for row in rows],
-                         [(0, 1500), (5_000, 40), (12_304, 1500), (24_608, 120), (25_872, 1500), (38_176, 1500), (50_480, 120)])
-        self.assertEqual([row["frame"] for row in rows_of(folder() / "burst.index")], ["1", "2", "1", "1", "3", "3", "3"])
+                         [(0, 1500), (5_000, 40), (12_304, 1500), (24_608, 120), (25_872, 1500), (38_176, 1500),
+                          (50_480, 120)])
+        self.assertEqual([row["frame"] for row in rows_of(folder() / "burst.index")],
+                         ["1", "2", "1", "1", "3", "3", "3"])
         at_once = packets_of(folder() / "burst.pcap", "--mtu", 1500)
         self.assertEqual([row["moment"] for row in at_once], ["0", "0", "0", "5000", "20000", "20000", "20000"])
 
@@ -181,15 +225,19 @@ class Packets(unittest.TestCase):
 
     def test_who_sends_first(self) -> None:
         """Of two hosts, the one whose packet comes first, in whatever order the frames stand."""
-        sent = [(2, "10.0.0.2", "10.0.0.1"), (1, "10.0.0.1", "10.0.0.2"), (3, "2001:db8::2", "2001:db8::1"), (4, "2001:db8::1", "2001:db8::2")]
+        sent = [(2, "10.0.0.2", "10.0.0.1"), (1, "10.0.0.1", "10.0.0.2"), (3, "2001:db8::2", "2001:db8::1"),
+                (4, "2001:db8::1", "2001:db8::2")]
         kinds = [(0x86DD, ip6) if ":" in src else (0x0800, ip4) for _, src, _ in sent]
-        frames_of_two = [(at, ethernet(kind, make(src, dst, 17, udp(1, 2, 3)))) for (at, src, dst), (kind, make) in zip(sent, kinds)]
+        frames_of_two = [(at, ethernet(kind, make(src, dst, 17, udp(1, 2, 3)))) for (at, src, dst),
+                         (kind, make) in zip(sent, kinds)]
         write(folder() / "first.pcap", ETHERNET, frames_of_two)
-        self.assertEqual([row["number"] for row in packets_of(folder() / "first.pcap", "--from", "first")], ["1", "2", "1", "2"])
+        self.assertEqual([row["number"] for row in packets_of(folder() / "first.pcap", "--from", "first")],
+                         ["1", "2", "1", "2"])
 
     def test_directions_that_meet_in_a_pipe_are_told(self) -> None:
         told = "both directions of 10.9.0.1 and 10.9.0.2 go to "
-        for words, targets in (((), ["pipe 1"]), (("--from", "10.9.0.1"), []), (("--map", "udp => pipe 3", "--map", "=> queue 2"), ["pipe 3", "queue 2"])):
+        for words, targets in (((), ["pipe 1"]), (("--from", "10.9.0.1"), []),
+                               (("--map", "udp => pipe 3", "--map", "=> queue 2"), ["pipe 3", "queue 2"])):
             done = run("packets", MIXED, "-o", "packets.csv", *words)
             found = [line.partition(told)[2].partition(",")[0] for line in done.stderr.splitlines() if told in line]
             self.assertEqual(sorted(found), targets)
@@ -205,12 +253,33 @@ class Packets(unittest.TestCase):
         self.assertEqual(packets_of_file("far.csv"), ["0", str(2**62)])
 
     def test_maps_by_short_words_and_display_filters(self) -> None:
-        rows = packets_of(MIXED, "--map", "src 10.9.0.1/32 udp dport 5202 => queue 2", "--map", "tcp.flags.syn == 1 => pipe 9",
+        rows = packets_of(MIXED, "--map", "src 10.9.0.1/32 udp dport 5202 => queue 2", "--map",
+                          "tcp.flags.syn == 1 => pipe 9",
                           "--map", "icmp => queue 3", "--map", "=> pipe 4")
         counts = {}
         for row in rows:
             counts[row["target"], row["number"]] = counts.get((row["target"], row["number"]), 0) + 1
-        self.assertEqual(counts, {("queue", "2"): 1001, ("pipe", "9"): 8, ("queue", "3"): 200, ("pipe", "4"): 9129 - 1209})
+        self.assertEqual(counts,
+                         {("queue", "2"): 1001, ("pipe", "9"): 8, ("queue", "3"): 200, ("pipe", "4"): 9129 - 1209})
+
+    def test_a_bad_filter_is_told_before_the_capture_is_dissected(self) -> None:
+        """The capture isn't one, and nobody has found that out."""
+        (folder() / "none.pcap").write_text("no capture")
+        told = run("packets", "none.pcap", "--map", "tcp.prt == 5 => pipe 1").stderr
+        self.assertIn("--map 'tcp.prt == 5': neither the short words of a rule nor a display filter of Wireshark: ",
+                      told)
+        self.assertIn("tcp.prt", told)
+
+    def test_packets_that_no_link_has_are_told(self) -> None:
+        told = "are longer than 1500 bytes, since the card was still to cut them"
+        self.assertIn(told, run("packets", MIXED, "-o", "long.csv").stderr)
+        self.assertNotIn(told, run("packets", MIXED, "-o", "long.csv", "--mtu", 1500).stderr)
+
+    def test_directions_beside_a_map(self) -> None:
+        rows = packets_of(MIXED, "--from", "10.9.0.1", "--map", "up udp dport 5000-6000 => queue 3")
+        self.assertEqual({(row["target"], row["number"]) for row in rows},
+                         {("queue", "3"), ("pipe", "1"), ("pipe", "2")})
+        self.assertTrue(all(row["src"] == "10.9.0.1" for row in rows if row["target"] == "queue"))
 
     def test_an_earlier_frame_behind_a_later_one_comes_in_its_place(self) -> None:
         sent = [(2_000, 1), (1_000, 2), (3_000, 3)]
@@ -232,9 +301,12 @@ class Packets(unittest.TestCase):
         without_times(folder() / "timeless.pcapng")
         for words, status in (
             (["missing.pcap"], 6), (["text.pcap"], 4), (["timeless.pcapng"], 4),
-            ([MIXED, "--map", "a b c => pipe 1"], 4), ([MIXED, "--map", "=> pipe 0"], 2), ([MIXED, "--map", "src 10.0.0.0/33 => pipe 1"], 2),
+            ([MIXED, "--map", "a b c => pipe 1"], 2), ([MIXED, "--map", "=> pipe 0"], 2),
+            ([MIXED, "--map", "src 10.0.0.0/33 => pipe 1"], 2),
             ([MIXED, "--mtu", "10"], 2), ([MIXED, "--rate", "1Gbit/s"], 2),
-            ([MIXED, "--mtu", "1500", "--rate", "1Gbps"], 2), ([MIXED, "--from", "nobody"], 2), ([MIXED, "--from", "first", "--map", "=> pipe 1"], 2), ([MIXED, "-o", "nowhere/packets.csv"], 6),
+            ([MIXED, "--mtu", "1500", "--rate", "1Gbps"], 2), ([MIXED, "--from", "nobody"], 2),
+            ([MIXED, "--map", "up => pipe 1"], 2),
+            ([MIXED, "--map", "tcp.port == x => pipe 1"], 2), ([MIXED, "-o", "nowhere/packets.csv"], 6),
         ):
             done = run("packets", *words)
             self.assertEqual(done.returncode, status, done.stderr)

@@ -37,18 +37,22 @@ def program() -> Optional[str]:
 class Shard(unittest.TestCase):
     def test_random_replays_are_the_same_bytes(self) -> None:
         counts = compare(program(), 0, 60)
-        self.assertTrue({"status 0", "status 3", "status 4", "out", "lost", "full", "none", "held"} <= set(counts), counts)
+        self.assertTrue({"status 0", "status 3", "status 4", "out", "lost", "full", "none", "held"} <= set(counts),
+                        counts)
 
     def test_many_pieces_and_parts(self) -> None:
-        """More rows than a piece of the report has, in a file, in a pipe and behind what a file has, of one masked pipe."""
+        """More rows than a piece of the report has, in a file, in a pipe and behind what a file has, of one masked
+        pipe."""
         rows = "".join(ROW.format(moment=row // 3 * 1000, host=row % 251) for row in range(150_000))
-        packets, config = write("many.csv", HEADER + rows), write("many.config", "pipe 1 config bw 1Gbit/s delay 3 mask src-ip 0xff\n")
+        packets, config = write("many.csv", HEADER + rows), write("many.config",
+                                                                  "pipe 1 config bw 1Gbit/s delay 3 mask src-ip 0xff\n")
         report = subprocess.run([dummynet(), "replay", config, packets], capture_output=True, check=True).stdout
         for threads in (1, 3, 63):
             done = run("shard", config, packets, "-j", threads, "-o", "many.report")
             self.assertEqual((done.returncode, done.stderr), (0, ""))
             self.assertEqual((folder() / "many.report").read_bytes(), report)
-        self.assertEqual(subprocess.run([program(), config, "-"], input=packets.read_bytes(), capture_output=True).stdout, report)
+        self.assertEqual(subprocess.run([program(), config, "-"], input=packets.read_bytes(),
+                                        capture_output=True).stdout, report)
         with open(folder() / "appended", "wb") as out:
             out.write(b"before\n")
             out.flush()
@@ -58,10 +62,13 @@ class Shard(unittest.TestCase):
 
     def test_files_that_cannot_be_read_or_written(self) -> None:
         config = write("one.config", "pipe 1 config\n")
-        for words, status, told in (([config, "nowhere"], 6, "cannot read packets"), (["nowhere", config], 6, "cannot read config"),
-                                    ([config, folder()], 6, "cannot read packets"), ([config], 2, "usage"), (["-j", 64, config, config], 2, "usage")):
+        for words, status, told in (([config, "nowhere"], 6, "cannot read packets"),
+                                    (["nowhere", config], 6, "cannot read config"),
+                                    ([config, folder()], 6, "cannot read packets"), ([config], 2, "usage"),
+                                    (["-j", 64, config, config], 2, "usage")):
             done = subprocess.run([program(), *map(str, words)], capture_output=True, text=True, cwd=folder())
-            self.assertEqual((done.returncode, done.stderr.splitlines()[0].startswith(told)), (status, True), done.stderr)
+            self.assertEqual((done.returncode, done.stderr.splitlines()[0].startswith(told)), (status, True),
+                             done.stderr)
         packets = write("one.csv", HEADER + ROW.format(moment=0, host=1))
         with open("/dev/full", "wb") as full:
             done = subprocess.run([program(), config, packets], stdout=full, stderr=subprocess.PIPE, text=True)
@@ -86,7 +93,8 @@ class OnePipe(unittest.TestCase):
                 moment, *rest = line.split(",")
                 calls += [f"c,0,submit,{','.join(rest)},{moment}", *[f"c,0,collect,{moment}"][:row % 1000 == 0]]
             calls.append(f"c,0,collect,{2**62}")
-            session = subprocess.run([dummynet(), "live"], input="\n".join(calls) + "\n", capture_output=True, text=True, check=True)
+            session = subprocess.run([dummynet(), "live"], input="\n".join(calls) + "\n", capture_output=True,
+                                     text=True, check=True)
             script = TOP / "examples" / "live" / "live_report.py"
             done = subprocess.run([sys.executable, script], input=session.stdout, capture_output=True, text=True)
             self.assertEqual((done.stdout, done.stderr), (report.read_text(), ""))

@@ -1,4 +1,5 @@
-"""What `why` tells, for all rows of three scenarios: its figures add up to what the report has, and its queues are the reference's."""
+"""What `why` tells, for all rows of three scenarios: its figures add up to what the report has, and its queues are the
+reference's."""
 
 from __future__ import annotations
 
@@ -9,16 +10,17 @@ from pathlib import Path
 
 from kit import folder, mixed, needs_tshark, parts_of, replay, run, rows_of, write
 
-from hinge.explain import Explainer
-from hinge.links import Parts
-from hinge.packet_rows import HEADER
+from hinge.captures.packet_rows import HEADER
+from hinge.replays.explain import Explainer
+from hinge.replays.links import Parts
 from oracle import FastDummynet, configured
-from hinge.replay import EVENT_NAMES
-from hinge.words import word
+from hinge.captures.random_words import word
+from hinge.replays.replay import EVENT_NAMES
 from model import FiveTuple, Packet, Submit, Target
 
 DURATION = r"([\d,]+\.\d{6}) ms"
-SUM = re.compile(rf"(?:In all it took|would take) {DURATION} = {DURATION} waiting \+ {DURATION} transmission \+ {DURATION} delay")
+SUM = re.compile(rf"(?:In all it took|would take) {DURATION} = {DURATION} waiting \+ {DURATION} transmission \+ "
+                 rf"{DURATION} delay")
 WAIT = re.compile(rf"It waited {DURATION} for .*?: (.*?)\. Its transmission")
 SENT = re.compile(r"was sent to \S+ \d+ at ([\d,]+\.\d{9}) s")
 LEFT = re.compile(r"(?:it left|It would leave) at ([\d,]+\.\d{9}) s")
@@ -38,7 +40,8 @@ def rows_in(text: str) -> list[int]:
 
 @lru_cache(maxsize=None)
 def late() -> tuple[Path, Path, Path]:
-    """A slow link: moments that go back, packets that are held beyond the last moment, on a link of their own and a shared one."""
+    """A slow link: moments that go back, packets that are held beyond the last moment, on a link of their own and a
+    shared one."""
     config = write("late.config", "pipe 1 config bw 1000bit/s delay 7 queue 3Kbytes plr 0.1 mask src-ip 0xff\n"
                    "pipe 2 config bw 333bit/s delay 1\nqueue 1 config pipe 2 weight 2 queue 4\nqueue 2 config pipe 2\n")
     targets = ("pipe,1", "queue,1", "queue,2", "queue,3")
@@ -48,7 +51,8 @@ def late() -> tuple[Path, Path, Path]:
         began = LAST - 40 * 10**9 if row > 900 else row * 10**9
         moment = min(began + chance % (3 * 10**9), LAST)
         target = targets[chance % 5 % 4]
-        lines.append(f"{moment},{target},10.0.0.{chance % 2},10.0.1.0,17,{chance % 3},9,{40 + chance % 900},{word(6, row)}")
+        flow = f"10.0.0.{chance % 2},10.0.1.0,17,{chance % 3},9"
+        lines.append(f"{moment},{target},{flow},{40 + chance % 900},{word(6, row)}")
     packets = write("late.csv", "\n".join(lines) + "\n")
     return config, packets, replay("late", config, packets)
 
@@ -91,7 +95,8 @@ class Sums:
         for place, row in enumerate(found):
             before = self.backlog_of(net, parts, place, int(row["moment"]))
             reply = net.apply(submit_of(row))
-            self.assertEqual(type(reply).__name__, {"none": "NoTarget"}.get(event := EVENT_NAMES[parts.replay.event[place]],
+            self.assertEqual(type(reply).__name__,
+                             {"none": "NoTarget"}.get(event := EVENT_NAMES[parts.replay.event[place]],
                              "Queued" if event in ("out", "held") else event.capitalize()))
             if event in ("out", "held"):
                 place_of[reply.packet] = place
@@ -110,7 +115,8 @@ class Sums:
 def submit_of(row: dict[str, str]) -> Submit:
     addresses = (int.from_bytes(map(int, row[name].split(".")), "big") for name in ("src", "dst"))
     five = FiveTuple(*addresses, *(int(row[name]) for name in ("proto", "sport", "dport")))
-    return Submit(Target(row["target"], int(row["number"])), Packet(five, int(row["len"]), int(row["word"])), int(row["moment"]))
+    return Submit(Target(row["target"], int(row["number"])), Packet(five, int(row["len"]), int(row["word"])),
+                  int(row["moment"]))
 
 
 @needs_tshark
@@ -142,7 +148,8 @@ class Command(unittest.TestCase):
         config = write("hand.config", "pipe 1 config bw 8Mbit/s queue 1\n")
         packets = write("hand.csv", HEADER + "\n" + "".join(
             f"{moment},pipe,1,10.0.0.1,10.0.0.2,17,1,2,1000,0\n" for moment in (0, 0, 0, 1_000_000)))
-        report = write("hand.report", "event,row,flow,packet,at,start,due\nout,1,0,0,0,0,1000000\nout,2,0,1,0,1000000,2000000\n"
+        report = write("hand.report",
+                       "event,row,flow,packet,at,start,due\nout,1,0,0,0,0,1000000\nout,2,0,1,0,1000000,2000000\n"
                        "out,4,0,2,1000000,2000000,3000000\nfull,3,0,,0,,\n")
         texts = run("why", 1, 2, 3, 4, config, packets, report).stdout.split("\n\n")
         self.assertIn("The link was free", texts[0])
@@ -160,14 +167,20 @@ class Command(unittest.TestCase):
 
     def test_faults_are_one_line(self) -> None:
         config, packets, report = late()
-        bad_config, bad_row = write("bad.config", "pipe 1 confg\n"), write("bad.csv", f"{HEADER}\n\n1,pipe,1,10.0.0.1,10.0.0.2,17,1,2,x,0\n")
+        bad_config, bad_row = write("bad.config",
+                                    "pipe 1 confg\n"), write("bad.csv",
+                                                             f"{HEADER}\n\n1,pipe,1,10.0.0.1,10.0.0.2,17,1,2,x,0\n")
         short = write("short.report", "\n".join(report.read_text().splitlines()[:-1]) + "\n")
         absent = 9999
         (folder() / "bytes.csv").write_bytes(f"{HEADER}\n1,pipe,1,10.0.0.1,10.0.0.2,17,1,\n".encode() + b"\xff\n")
         for words, status, told in (
-            ((absent, config, packets, report), 4, f"no row {absent}"), (("x", config, packets, report), 2, "no number"),
-            ((1, bad_config, packets, report), 3, "config line 1, word 3: unknown word"), ((1, config, bad_row, report), 4, "line 3: bad len 'x'"),
-            ((1, config, "bytes.csv", report), 4, "line 2: 8 fields in place of 10"), ((1, config, packets, short), 4, "aren't those of the 1200 rows"), ((1, config, "missing", report), 6, "missing: No such file"),
+            ((absent, config, packets, report), 4, f"no row {absent}"),
+            (("x", config, packets, report), 2, "'x' is no number of a row"),
+            ((1, bad_config, packets, report), 3, "config line 1, word 3: unknown word"),
+            ((1, config, bad_row, report), 4, "line 3: bad len 'x'"),
+            ((1, config, "bytes.csv", report), 4, "line 2: 8 fields in place of 10"),
+            ((1, config, packets, short), 4, "aren't those of the 1200 rows"),
+            ((1, config, "missing", report), 6, "missing: No such file"),
             ((1, config, report, packets), 4, "line 1: the header isn't moment"),
         ):
             done = run("why", *words)

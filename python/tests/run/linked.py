@@ -13,9 +13,10 @@ import sys
 import tempfile
 import time
 import unittest
+from contextlib import contextmanager
 from functools import lru_cache
 from pathlib import Path
-from typing import Callable, Optional, Union
+from typing import Callable, Iterator, Optional, Union
 
 from hinge.program import dummynet
 from hinge.run.host import program
@@ -24,6 +25,7 @@ from hinge.run.system import Missing
 
 HINGE = [sys.executable, "-m", "hinge"]
 SEEDS = "seed 0 1\nseed 1 1\n"
+AT_ONCE = 64  # packets that the host takes of a way before it looks round
 Done = subprocess.CompletedProcess
 Word = Union[str, Path]
 
@@ -103,6 +105,23 @@ def until(holds: Callable[[], object], seconds: float = 5) -> None:
         time.sleep(0.005)
 
 
+def with_sigterm(process: int) -> bool:
+    """Whether SIGTERM waits at a process."""
+    masks = re.findall(r"^S[a-z]+Pnd:\s+(\w+)$", Path(f"/proc/{process}/status").read_text(), re.M)
+    return any(int(mask, 16) >> signal.SIGTERM - 1 & 1 for mask in masks)
+
+
+@contextmanager
+def stopped(process: int) -> Iterator[None]:
+    """Stops a process meanwhile, so that what comes to it waits."""
+    os.kill(process, signal.SIGSTOP)
+    try:
+        until(lambda: ") T " in Path(f"/proc/{process}/stat").read_text())
+        yield
+    finally:
+        os.kill(process, signal.SIGCONT)
+
+
 class Ended:
     """How a link ended: its status, what it counted, its transcript, and what it said."""
 
@@ -111,24 +130,26 @@ class Ended:
 
 
 class Linked:
-    """The host between two sockets, which runs until `end`."""
+    """The host between two sockets, or between the two of each of some links, which runs until `end`."""
 
-    def __init__(self, plan: str, most: int = 10**9, carrier: Optional[str] = None) -> None:
+    def __init__(self, plan: str, most: int = 10**9, carrier: Optional[str] = None, links: int = 1) -> None:
         """With the carrier `tun` each packet is behind a note."""
         self.folder = tempfile.TemporaryDirectory()
         self.transcript = f"{self.folder.name}/session.history"
-        self.near, near = socket.socketpair(socket.AF_UNIX, socket.SOCK_SEQPACKET)
-        self.far, far = socket.socketpair(socket.AF_UNIX, socket.SOCK_SEQPACKET)
-        self.page = Page()
-        passed = [near.fileno(), far.fileno(), self.page.descriptor]
+        pairs = [socket.socketpair(socket.AF_UNIX, socket.SOCK_SEQPACKET) for _ in range(2 * links)]
+        self.ends = [own for own, _ in pairs]
+        self.near, self.far = self.ends[:2]
+        self.page = Page(2 * links)
+        passed = [*(its.fileno() for _, its in pairs), self.page.descriptor]
         self.process = subprocess.Popen([program(), *([carrier] if carrier else []), *map(str, passed)], pass_fds=passed, stdin=subprocess.PIPE, stderr=subprocess.PIPE)
         assert self.process.stdin
         self.process.stdin.write(f"transcript {most} {self.transcript}\n{plan}".encode())
         self.process.stdin.close()
-        near.close(), far.close()
+        for _, its in pairs:
+            its.close()
         until(lambda: self.page.state() != STARTING or self.process.poll() is not None)
-        self.near.settimeout(3)
-        self.far.settimeout(3)
+        for own in self.ends:
+            own.settimeout(3)
 
     def came(self) -> int:
         return self.page.read().ways[0]["came"]

@@ -4,6 +4,7 @@ from __future__ import annotations
 
 import os
 import select
+import socket
 import struct
 import subprocess
 import sys
@@ -11,16 +12,14 @@ import tempfile
 import time
 import unittest
 
-from linked import SEEDS, Ended, Linked, audited, audited_as_lawful, found, ip4, ip6, needs_host, until
+from linked import AT_ONCE, SEEDS, Ended, Linked, audited, audited_as_lawful, found, ip4, ip6, needs_host, stopped, until, with_sigterm
+from hinge.captures.random_words import word
 from hinge.loss import LOST, GilbertElliott
 from hinge.run.page import ENDED_WELL
 from hinge.run.plan import Plan
 from hinge.run.summary import void
-from hinge.words import word
 
 CLIENT, SERVER = "10.8.0.1", "10.8.0.2"
-FLOOD = "import socket,sys\ns=socket.socket(fileno=int(sys.argv[1]))\ns.setblocking(True)\nwhile 1: s.send(bytes([0x45]) + bytes(39))"
-DRAIN = "import socket,sys\ns=socket.socket(fileno=int(sys.argv[1]))\ns.setblocking(True)\nwhile s.recv(99): pass"
 
 
 def udp(number: int, length: int = 40) -> bytes:
@@ -118,7 +117,7 @@ class OfLosses(unittest.TestCase):
         self.assertEqual((got, link.end().counts.ways[0]["lost"]), ([0, 2, 5, 6, 7], 3))
 
     def test_words_and_losses_are_those_of_the_models(self) -> None:
-        """hinge.words draws the words of a loss rate, and hinge.loss decides by the same seed what a burst loses."""
+        """hinge.captures.random_words draws the words of a loss rate, and hinge.loss decides by the same seed what a burst loses."""
         link = Linked("seed 0 9\nseed 1 9\nline pipe 1 config plr 0.3\nline pipe 2 config\n")
         for number in range(30):
             link.near.send(udp(1))
@@ -173,6 +172,22 @@ class OfTime(unittest.TestCase):
         self.assertGreaterEqual(int(found(r"^d,1,.*,(\d+)$", ended.history)[0]), 500_000_000)
         audited_as_lawful(self, link.transcript)
 
+    def test_its_lateness_is_remarked(self) -> None:
+        """A host that was stopped is late, and a remark has the most that the page has. The audit passes over it."""
+        link = Linked(SEEDS + "line pipe 1 config delay 20\n")
+        link.near.send(udp(1))
+        until(lambda: link.came() == 1)
+        with stopped(link.process.pid):
+            time.sleep(0.1)
+        link.far.recv(100)
+        ended = link.end()
+        remarks = [list(map(int, text.split(","))) for text in found(r"^#,late,(.*)$", ended.history)]
+        most = [max(column) for column in zip(*remarks)][1:]
+        self.assertEqual(most, [way[f"{kind}_most"] for way in ended.counts.ways for kind in ("late", "unread")])
+        self.assertGreater(most[0], 0)
+        self.assertEqual(found(r"^#,seed,(\d+)$", ended.history), [SEEDS.split()[2]])
+        audited_as_lawful(self, link.transcript)
+
     def test_a_delete_discards(self) -> None:
         link = Linked(SEEDS + "line pipe 1 config bw 8kbit/s\nat 300000000 pipe delete 1\n")
         for _ in range(5):
@@ -222,19 +237,18 @@ class OfALoadedMachine(unittest.TestCase):
 
 @needs_host
 class OfTheEnd(unittest.TestCase):
-    def test_it_ends_within_100_ms_while_packets_keep_coming(self) -> None:
+    def test_it_ends_while_packets_wait(self) -> None:
+        """Of what waits beside the signal it takes no more than it takes at once."""
         link = Linked(SEEDS + "line pipe 1 config\n")
-        helpers = [subprocess.Popen([sys.executable, "-c", what, str(end.fileno())], pass_fds=[end.fileno()], stderr=subprocess.DEVNULL)
-                   for what, end in ((FLOOD, link.near), (DRAIN, link.far))]
-        until(lambda: link.came() > 1000)
-        begun = time.monotonic()
-        link.process.terminate()
-        status = link.process.wait(5)
-        took = time.monotonic() - begun
-        for helper in helpers:
-            helper.kill(), helper.wait()
-        self.assertEqual((status, link.page.state()), (0, ENDED_WELL))
-        self.assertLess(took, 0.1)
+        link.near.setsockopt(socket.SOL_SOCKET, socket.SO_SNDBUF, 2**20)
+        with stopped(link.process.pid):
+            for number in range(2 * AT_ONCE):
+                link.near.send(udp(number))
+            link.process.terminate()
+            until(lambda: with_sigterm(link.process.pid))
+        ended = link.ended()
+        self.assertEqual((ended.status, link.page.state()), (0, ENDED_WELL))
+        self.assertLessEqual(link.came(), AT_ONCE)
 
     def test_an_interface_that_goes_away_ends_it_with_a_whole_transcript(self) -> None:
         link = Linked(SEEDS + "line pipe 1 config delay 1\n")

@@ -2,6 +2,7 @@
 
 from __future__ import annotations
 
+import itertools
 import json
 import os
 import pwd
@@ -12,7 +13,7 @@ import sys
 import tempfile
 import time
 import unittest
-from typing import Any
+from typing import Any, NamedTuple
 
 from hinge.run.interfaces import leads_out_in_ipv6
 from hinge.run.outside import GATEWAY, GATEWAY6
@@ -42,6 +43,34 @@ class Behind(unittest.TestCase):
         return key, certificate
 
 
+class Crossed(NamedTuple):
+    """A packet of a queue that crossed a link: its queue, its bytes, and the ns of its arrival and of its start on the link."""
+
+    queue: int
+    length: int
+    came: int
+    start: int
+
+
+def crossed(history: str) -> list[Crossed]:
+    """The packets of queues, by start."""
+    submits = re.findall(r"^c,0,submit,queue,(\d+),.*,(\d+),\d+,\d+\nr,queued,(\d+),\d+,(\d+)$", history, re.M)
+    starts = dict(re.findall(r"^d,(\d+),\d+,(\d+),\d+$", history, re.M))
+    found = [Crossed(int(queue), int(length), int(came), int(starts[packet])) for queue, length, came, packet in submits if packet in starts]
+    return sorted(found, key=lambda packet: packet.start)
+
+
+def in_rows(packets: list[Crossed]) -> list[list[Crossed]]:
+    """Those after whose start each of two queues had another to send, as many together as started in a row."""
+    following: dict[int, int] = {}
+    has_both = []
+    for packet in reversed(packets):
+        has_both.append(len(following) == 2 and max(following.values()) <= packet.start)
+        following[packet.queue] = packet.came
+    rows = itertools.groupby(zip(packets, reversed(has_both)), key=lambda pair: pair[1])
+    return [[packet for packet, _ in row] for both, row in rows if both]
+
+
 def megabits(text: str) -> float:
     """Mbit/s at the receiver, of iperf3's JSON."""
     return float(json.loads(text)["end"]["sum_received"]["bits_per_second"]) / 1e6
@@ -66,20 +95,23 @@ class OfTcp(Behind):
         self.assertAlmostEqual(self.rate("cubic") / (10 * PAYLOAD), 1, delta=TOLERANCE)
 
     def test_two_flows_have_their_weights(self) -> None:
-        """Queues of weight 3 and 1 on 20 Mbit/s with 2 ms, which 4 packets fill: the windows hold more, so both queues always have packets,
-        and less than 300, so none is dropped."""
+        """Queues of weight 3 and 1 on 20 Mbit/s with 2 ms, which 4 packets fill: the windows hold more, so both queues mostly have packets,
+        and less than 300, so none is dropped. While both have some, the link sends without a pause, and three times as much of the first,
+        give or take a packet of each."""
         both = " ".join(f"iperf3 -c server -p {port} -t 5 -O 1 -w 200K -J > {self.folder}/{port} &" for port in (5201, 5202))
         done = run("--line", "pipe 1 config bw 20Mbit/s delay 1", "--line", "queue 1 config pipe 1 weight 3 queue 300",
                    "--line", "queue 2 config pipe 1 weight 1 queue 300", "--map", "tcp port 5201 => queue 1", "--map", "tcp port 5202 => queue 2",
-                   "--down", "1ms", "--server", "iperf3 -s -1 -p 5201 >/dev/null & iperf3 -s -1 -p 5202 >/dev/null; wait", "--",
-                   "sh", "-c", f"sleep 0.3; {both} wait")
+                   "--down", "1ms", "--server", "iperf3 -s -1 -p 5201 >/dev/null & iperf3 -s -1 -p 5202 >/dev/null; wait",
+                   "--transcript", f"{self.folder}/h", "--", "sh", "-c", f"sleep 0.3; {both} wait")
         self.assertEqual(done.returncode, 0, done.stderr)
-        rates = []
-        for port in (5201, 5202):
-            with open(f"{self.folder}/{port}") as file:
-                rates.append(megabits(file.read()))
-        self.assertAlmostEqual(rates[0] / rates[1] / 3, 1, delta=0.03, msg=str(rates))
-        self.assertAlmostEqual(sum(rates) / (20 * PAYLOAD), 1, delta=TOLERANCE)
+        audited_as_lawful(self, f"{self.folder}/h")
+        with open(f"{self.folder}/h") as file:
+            rows = in_rows(crossed(file.read()))
+        self.assertGreater(sum(map(len, rows)), 1000)
+        for row in rows:
+            self.assertEqual([packet.start for packet in row[1:]], [packet.start + 400 * packet.length for packet in row[:-1]])  # 400 ns a byte
+            first, second = (sum(packet.length for packet in row if packet.queue == queue) for queue in (1, 2))
+            self.assertLessEqual(abs(first / 3 - second), 1500 / 3 + 1500, (first, second, row[0].start))
 
 
 @needs_rooms
@@ -97,7 +129,6 @@ class OfDownloads(Behind):
         with open(f"{self.folder}/got", "rb") as file:
             self.assertTrue(file.read() == data)
         self.assertGreaterEqual(float(done.stdout), 1.036 + 0.08)
-        self.assertLess(float(done.stdout), 1.6)
 
     @needs("curl")
     def test_a_fast_download_comes_as_packets_of_the_link(self) -> None:
@@ -200,6 +231,13 @@ class OfOutside(Behind):
     """Both programs lead some address to the loopback interface of the system."""
 
     def asked(self, path: str, own: str, gateway: str, *before: str) -> None:
+        """The command reaches the system's loopback where the option opens it, and else doesn't."""
+        self.assertEqual("", self.answer(path, own, gateway, "--outside", *before).partition(" ")[0])
+        answer = self.answer(path, own, gateway, "--outside-loopback", *before)
+        self.assertRegex(answer, r"^from outside \d+\.\d+$")
+        self.assertGreaterEqual(float(answer.split()[-1]), 0.12)  # two round trips
+
+    def answer(self, path: str, own: str, gateway: str, option: str, *before: str) -> str:
         with open(f"{self.folder}/data", "w") as file:
             file.write("from outside")
         with subprocess.Popen([sys.executable, "-u", "-m", "http.server", "0", "--bind", own], cwd=self.folder, stdout=subprocess.PIPE,
@@ -207,12 +245,11 @@ class OfOutside(Behind):
             assert server.stdout
             port = found(r"port (\d+)", server.stdout.readline())[0]
             ask = ["curl", "-s", "-m", "9", "-w", " %{time_total}", f"http://{gateway}:{port}/data"]
-            done = subprocess.run([*before, *HINGE, "run", "--quiet", "--outside", "--up", "30ms", "--down", "30ms", "--", *ask], capture_output=True, text=True,
+            done = subprocess.run([*before, *HINGE, "run", "--quiet", option, "--up", "30ms", "--down", "30ms", "--", *ask], capture_output=True, text=True,
                                   timeout=30, stdin=subprocess.DEVNULL, env={**os.environ, "PATH": path})
             server.terminate()
         self.assertEqual(done.stderr, "")
-        self.assertRegex(done.stdout, r"^from outside 0\.\d+$")
-        self.assertGreaterEqual(float(done.stdout.split()[-1]), 0.12)  # two round trips
+        return done.stdout
 
     def in_ipv4(self, path: str) -> None:
         self.asked(path, "127.0.0.1", GATEWAY)

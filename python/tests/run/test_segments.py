@@ -3,12 +3,14 @@
 from __future__ import annotations
 
 import os
+import signal
 import socket
 import struct
+import time
 import unittest
 from typing import Callable
 
-from linked import SEEDS, Linked, audited_as_lawful, found, ip4, needs_host
+from linked import SEEDS, Linked, audited_as_lawful, found, ip4, needs_host, until
 
 NOTE = struct.Struct("=BBHHHH")  # struct virtio_net_hdr: flags, kind, headers' length, size, start and offset of the checksum
 CHECKSUM, TCP4, TCP6, ECN = 1, 1, 4, 0x80
@@ -93,3 +95,87 @@ class OfSegments(unittest.TestCase):
         got, _ = self.through(sent, 7)
         cut = [noted(in_ipv4(at, ACK, data[at:at + 1500], 3 + at // 1500)) for at in (0, 1500)]
         self.assertEqual(got, [plain, small, *cut, small, odd, plain])
+
+
+def bare_ipv4(sequence: int, flags: int, data: bytes, number: int) -> bytes:
+    """Without options of IP."""
+    ends = socket.inet_aton("10.8.0.1") + socket.inet_aton("10.8.0.2")
+    inside = tcp(ends, sequence, flags, data)
+    head = struct.pack("!BBHHHBBH", 0x45, 2, 20 + len(inside), number % 2**16, 0x4000, 64, 6, 0) + ends
+    return head[:10] + struct.pack("!H", 0xffff - summed(head)) + head[12:] + inside
+
+
+def of_card(packet: bytes) -> bytes:
+    start = 20 if packet[0] >> 4 == 4 else 40
+    return NOTE.pack(CHECKSUM, 0, 0, 0, start, TCP_CHECKSUM) + packet
+
+
+@needs_host
+class OfJoins(unittest.TestCase):
+    """Packets of a link that was late leave at once: those of TCP that follow one another in one write."""
+
+    def writes(self, sent: "list[bytes]", length: int, packets: int) -> "list[bytes]":
+        """What the far end gets until it has so many bytes of data, in so many packets of the link."""
+        link, got = Linked(SEEDS + "line pipe 1 config delay 20\n", carrier="tun"), []
+        for packet in sent:
+            link.near.send(packet)
+        until(lambda: link.came() == packets)
+        os.kill(link.process.pid, signal.SIGSTOP)
+        time.sleep(0.05)
+        os.kill(link.process.pid, signal.SIGCONT)
+        while length > 0:
+            got.append(link.far.recv(70000))
+            length -= len(got[-1]) - 10 - (52 if got[-1][10] >> 4 == 4 else 72)
+        ended = link.end()
+        audited_as_lawful(self, link.transcript)
+        self.assertEqual(ended.counts.ways[0]["sent"], packets)
+        return got
+
+    def test_they_are_cut_again_as_they_were(self) -> None:
+        """However many are in a write, which a busy machine decides, it is what a card had handed on whole; and so it is behind another link."""
+        for build, kind in ((bare_ipv4, TCP4), (in_ipv6, TCP6)):
+            data, first, start = os.urandom(3 * 1448 + 7), 2**32 - 3000, 20 if kind == TCP4 else 40
+
+            def built(at: int, end: int) -> bytes:
+                return build(first + at, ACK | PUSH * (end == len(data)), data[at:end], 2**16 - 2 + at // 1448)
+
+            sent = [of_card(built(at, min(at + 1448, len(data)))) for at in range(0, len(data), 1448)]
+            for packets in (sent, [NOTE.pack(CHECKSUM, kind, start + 32, 1448, start, TCP_CHECKSUM) + built(0, len(data))]):
+                at, joined = 0, 0
+                for one in self.writes(packets, len(data), len(sent)):
+                    end = at + len(one) - 10 - start - 32
+                    joined += end > at + 1448
+                    note = (CHECKSUM, kind, start + 32, 1448) if end > at + 1448 else (CHECKSUM, 0, 0, 0)
+                    self.assertEqual((NOTE.unpack(one[:10]), one[10:]), ((*note, start, TCP_CHECKSUM), built(at, end)))
+                    at = end
+                self.assertGreater(joined, 0)
+
+    def test_those_that_do_not_follow_are_not_joined(self) -> None:
+        """Another port, place, number, time to live, time stamp or flag, a longer one, or what comes behind a PUSH or a short one."""
+        data = os.urandom(1448)
+        first, good = bare_ipv4(0, ACK, data, 1), bare_ipv4(1448, ACK, data, 2)
+        self.assertEqual(len(self.writes([of_card(first), of_card(good)], 2896, 2)), 1)
+        stamped = good[:52 - 1] + bytes([good[51] ^ 1]) + good[52:]
+        others = [bare_ipv4(1449, ACK, data, 2), bare_ipv4(1448, ACK, data, 3), bare_ipv4(1448, ACK | FIN, data, 2), good[:8] + b"\x3f" + good[9:],
+                  stamped, good[:21] + b"?" + good[22:], bare_ipv4(1448, ACK, data + b"x", 2)]
+        for other in others:
+            self.assertEqual(self.writes([of_card(first), of_card(other)], 2896, 2), [of_card(first), of_card(other)])
+        shorter, lacking = bare_ipv4(1448, ACK, data[:1000], 2), bare_ipv4(2896, ACK, data, 3)  # of the second 448 bytes are lost
+        self.assertEqual(len(self.writes([of_card(one) for one in (first, shorter, lacking)], 3896, 3)), 2)
+        for before in (bare_ipv4(0, ACK | PUSH, data, 1), bare_ipv4(1, ACK, data[1:], 1)):
+            self.assertEqual(len(self.writes([of_card(before), of_card(good)], 2895, 2)), 2)
+
+    def test_those_of_two_links_are_not_joined(self) -> None:
+        data = os.urandom(1448)
+        sent = [of_card(bare_ipv4(0, ACK, data, 1)), of_card(bare_ipv4(1448, ACK, data, 2))]
+        link = Linked("seed 0 1\nline pipe 1 config delay 30\nline pipe 3 config delay 30\n", carrier="tun", links=2)
+        link.ends[0].send(sent[0])
+        until(lambda: link.came() == 1)
+        link.ends[2].send(sent[1])
+        until(lambda: link.page.read().ways[2]["came"] == 1)
+        os.kill(link.process.pid, signal.SIGSTOP)
+        time.sleep(0.05)
+        os.kill(link.process.pid, signal.SIGCONT)
+        self.assertEqual([link.ends[1].recv(70000), link.ends[3].recv(70000)], sent)
+        link.end()
+        audited_as_lawful(self, link.transcript)

@@ -1,0 +1,154 @@
+"""The short words of the rules of `--map`, which live links and captures share: `up tcp src 10.0.0.0/8 dport 443 =>
+queue 2`."""
+
+from __future__ import annotations
+
+import difflib
+import ipaddress
+import re
+from dataclasses import dataclass, field
+from typing import NamedTuple, Optional, Union
+
+Net = Union[ipaddress.IPv4Network, ipaddress.IPv6Network]
+WAYS = {"up": 0, "down": 1}
+PROTOCOLS = {"icmp": (1, 58), "icmp6": (58,), "tcp": (6,), "udp": (17,)}  # icmp is that of IPv4 and that of IPv6
+PORTS = {"port": "port", "sport": "sport", "src-port": "sport", "dport": "dport", "dst-port": "dport"}
+NETS = ("src", "dst", "host")
+DSCP = {"be": 0, "le": 1, "ef": 46, **{f"cs{n}": 8 * n for n in range(8)},
+        **{f"af{n}{m}": 8 * n + 2 * m for n in range(1, 5) for m in range(1, 4)}}
+WORDS = ("any", *WAYS, *PROTOCOLS, "proto", *NETS, *PORTS, "dscp")
+HELP = "[up|down] [tcp|udp|icmp|icmp6|proto N] [src|dst|host NET] [port|sport|dport N[-M]] [dscp N]"
+TARGET = re.compile(r"(pipe|queue)\s+([1-9]\d{0,4})\Z", re.ASCII)
+MOST_NUMBER = 65535
+COMPARES = re.compile(r"[=!<>&|(){}\"~]|(?:^|\s)(?:and|or|not|xor|in|eq|ne|gt|lt|ge|le|contains|matches)(?:\s|$)")
+NAMES = re.compile(r"[A-Za-z_]\w*(\.\w+)*")
+
+
+class BadRule(ValueError):
+    """What is wrong with a rule."""
+
+
+class RuleTarget(NamedTuple):
+    """Where packets go: `pipe` or `queue`, and its number."""
+
+    kind: str
+    number: int
+
+
+class Span(NamedTuple):
+    """Ports, both ends included."""
+
+    low: int
+    high: int
+
+    def both(self, other: Span) -> Optional[Span]:
+        """The ports that two spans share, None if there are none."""
+        low, high = max(self.low, other.low), min(self.high, other.high)
+        return Span(low, high) if low <= high else None
+
+
+EVERY_PORT = Span(0, MOST_NUMBER)
+
+
+@dataclass
+class Short:
+    """What the short words of a rule ask of a packet; what they don't name may be anything.
+
+    `nets` has those of `src`, `dst` and `host`, which is either end, and `ports` those of `sport`, `dport` and `port`,
+    which is either end.
+    """
+
+    way: Optional[int] = None
+    protocols: tuple[int, ...] = ()
+    dscp: Optional[int] = None
+    nets: dict[str, Net] = field(default_factory=dict)
+    ports: dict[str, Span] = field(default_factory=dict)
+
+
+def address_net(text: str) -> Net:
+    try:
+        return ipaddress.ip_network(text, strict=False)
+    except ValueError as error:
+        raise BadRule(str(error)) from None
+
+
+def port_span_of(text: str) -> Span:
+    found = re.fullmatch(r"(\d{1,5})(?:-(\d{1,5}))?", text, re.ASCII)
+    span = Span(int(found[1]), int(found[2] or found[1])) if found else Span(1, 0)
+    if not span.low <= span.high <= MOST_NUMBER:
+        raise BadRule(f"'{text}': no port from 0 to 65535 and no range of them, as 5201 or 5201-5210")
+    return span
+
+
+def number_of(text: str, most: int, what: str) -> int:
+    found = re.fullmatch(r"0x[\da-f]+|\d+", text.lower(), re.ASCII)
+    number = int(found[0], 16 if found[0][:2] == "0x" else 10) if found else most + 1
+    if number > most:
+        raise BadRule(f"'{text}': {what}")
+    return number
+
+
+class RuleReader:
+    """Takes the words of a rule from left to right into `short`."""
+
+    def __init__(self, words: list[str]) -> None:
+        self.rest, self.short, self.seen = list(words), Short(), dict[str, str]()
+
+    def read(self) -> Short:
+        while self.rest:
+            self.read_one(self.rest.pop(0))
+        return self.short
+
+    def once(self, kind: str, word: str) -> None:
+        if kind in self.seen:
+            raise BadRule(f"'{word}' beside '{self.seen[kind]}': a rule has one of them")
+        self.seen[kind] = word
+
+    def value(self, word: str) -> str:
+        if not self.rest:
+            raise BadRule(f"'{word}': its value is missing")
+        return self.rest.pop(0)
+
+    def read_one(self, word: str) -> None:
+        if word in WAYS:
+            self.once("way", word)
+            self.short.way = WAYS[word]
+        elif word in PROTOCOLS or word == "proto":
+            self.once("protocol", word)
+            self.short.protocols = PROTOCOLS[word] if word in PROTOCOLS else (number_of(self.value(word), 255,
+                                                                                        "no protocol from 0 to 255"),)
+        elif word == "dscp":
+            self.once(word, word)
+            text = self.value(word)
+            self.short.dscp = DSCP[text.lower()] if text.lower() in DSCP else number_of(text, 63,
+                                                                                        "no DSCP from 0 to 63, and no "
+                                                                                        "name of one, as ef or af41")
+        elif word in NETS:
+            self.once(word, word)
+            self.short.nets[word] = address_net(self.value(word))
+        elif word in PORTS:
+            self.once(PORTS[word], word)
+            self.short.ports[PORTS[word]] = port_span_of(self.value(word))
+        elif word != "any":
+            near = difflib.get_close_matches(word, WORDS, 1)
+            raise BadRule(f"'{word}': no word of a rule; {f'write {near[0]}' if near else f'they are {HELP}'}")
+
+
+def parted(text: str) -> tuple[str, RuleTarget]:
+    """A rule's words before the arrow, and its target."""
+    left, arrow, right = text.rpartition("=>")
+    found = TARGET.match(right.strip())
+    if not arrow or found is None or int(found[2]) > MOST_NUMBER:
+        raise BadRule("it doesn't end in `=> pipe N` or `=> queue N`")
+    return left.strip(), RuleTarget(found[1], int(found[2]))
+
+
+def is_like_a_filter(text: str) -> bool:
+    """Whether a text that isn't of short words can be a display filter of Wireshark: it compares or joins, or is the
+    name of one thing."""
+    return bool(COMPARES.search(text) or NAMES.fullmatch(text) and text not in WORDS)
+
+
+def short_of(text: str) -> Short:
+    """What the short words before an arrow ask. BadRule: one of them is none, or its value."""
+    return RuleReader(text.split()).read()

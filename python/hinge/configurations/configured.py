@@ -1,0 +1,108 @@
+"""Configuration lines as the program reads them: it says what each line asks for, in its own spelling, or what is wrong
+with it."""
+
+from __future__ import annotations
+
+import re
+import subprocess
+from dataclasses import dataclass
+from fractions import Fraction
+from functools import lru_cache
+from tempfile import NamedTemporaryFile
+from typing import Iterable, Optional, Union
+
+from hinge.program import dummynet
+
+LOSS_PARTS = 2**31
+
+
+class LineFault(Exception):
+    """The first line that the program doesn't take, as `config line 3, word 5: bad number`."""
+
+
+@dataclass(frozen=True)
+class Limit:
+    slots: Optional[int]
+    kbytes: Optional[int]
+
+
+@dataclass(frozen=True)
+class Pipe:
+    number: int
+    bw: int
+    delay: int
+    limit: Limit
+    loss: int
+
+
+@dataclass(frozen=True)
+class Queue:
+    number: int
+    pipe: int
+    weight: int
+    limit: Limit
+    loss: int
+
+
+Setting = Union[Pipe, Queue]
+
+
+# A command in the program's spelling, in which numbers have no units but these.
+SPELLED = re.compile(r"(pipe|queue) (delete \d+|\d+ config( (pipe|delay|weight|buckets) \d+| bw \d+bit/s| queue "
+                     r"\d+(Kbytes)?| plr \d(\.\d+)?)*( mask .*)?)")
+RECORD = "c,0,configure,"
+
+
+@lru_cache(maxsize=4096)
+def respelled(text: str) -> str:
+    """A command in the program's spelling, whatever its own: a history may have any that the program reads. A text that
+    is no command is a LineFault."""
+    done = subprocess.run([dummynet(), "live"], input=f"{text}\n", capture_output=True, text=True)
+    records = [record for record in done.stdout.splitlines() if record.startswith(RECORD)]
+    if not records:
+        raise LineFault(f"{text!r} is no command")
+    return records[0][len(RECORD):]
+
+
+def setting_of(text: str) -> tuple[str, int, Optional[Setting]]:
+    """What a command asks for: `pipe` or `queue`, its number, and what is configured; None is a delete."""
+    words = (text if SPELLED.fullmatch(text) else respelled(text)).split()
+    if words[1] == "delete":
+        return words[0], int(words[2]), None
+    number, value = int(words[1]), dict(zip(words[3:], words[4:]))
+    size = value.get("queue", "50")
+    limit = Limit(None, int(size[:-6])) if size.endswith("Kbytes") else Limit(int(size), None)
+    loss = int(Fraction(value.get("plr", "0")) * LOSS_PARTS + Fraction(1, 2))
+    if words[0] == "pipe":
+        return "pipe", number, Pipe(number, int(value.get("bw", "0bit/s")[:-5]), int(value.get("delay", 0)), limit,
+                                    loss)
+    return "queue", number, Queue(number, int(value["pipe"]), int(value.get("weight", 1)), limit, loss)
+
+
+def spelled_lines(data: bytes) -> list[str]:
+    """The lines of a configuration in the program's spelling. What the program says of the first that it doesn't take
+    is a LineFault."""
+    with NamedTemporaryFile() as history:
+        words = [dummynet(), "replay", "/dev/stdin", "/dev/null", "--history", history.name]
+        done = subprocess.run(words, input=data, stdout=subprocess.DEVNULL, stderr=subprocess.PIPE)
+        if done.returncode:
+            raise LineFault(done.stderr.decode().strip())
+        records = history.read().decode().splitlines()
+    return [record[len(RECORD):] for record in records if record.startswith(RECORD)]
+
+
+class InForce:
+    """The pipes and queues that commands leave in force, by number."""
+
+    def __init__(self, commands: Iterable[str] = ()) -> None:
+        self.pipes: dict[int, Pipe] = {}
+        self.queues: dict[int, Queue] = {}
+        for text in commands:
+            self.obey(text)
+
+    def obey(self, text: str) -> None:
+        kind, number, asked = setting_of(text)
+        table: dict[int, Setting] = self.pipes if kind == "pipe" else self.queues  # type: ignore[assignment]
+        table.pop(number, None)
+        if asked is not None:
+            table[number] = asked

@@ -1,0 +1,268 @@
+"""Lines of ipfw, dnctl and shell scripts as configuration lines of dummynet, and what is left out of them."""
+
+from __future__ import annotations
+
+import re
+from dataclasses import dataclass, field
+from decimal import Decimal, InvalidOperation
+from typing import Iterator, NamedTuple, Optional
+
+from hinge.checks.lines import judged_lines
+from hinge.configurations.shell_session import asked_by
+
+ASSIGNMENT = re.compile(r"""(?:export\s+)?([A-Za-z_]\w*)=("[^"]*"|'[^']*'|[^\s;'"]*)""")
+VARIABLE = re.compile(r"\$\{([A-Za-z_]\w*)(?::?-([^}]*))?\}|\$([A-Za-z_]\w*)")
+BETWEEN_COMMANDS = re.compile(r"\s*(?:;|&&|\|\|?|(?<!>)&(?!>))\s*")
+REDIRECTION = re.compile(r"\s*\d?>.*")
+HEAD = re.compile(r"(?:^|\s)((?:pipe|queue)\s+(?:\d+\s+(?:config|delete)\b|delete\s+\d).*|(?:pipe|queue)\s+flush\b.*)")
+SETS = re.compile(r"(\w+)=|\b(?:for|read)\s+(\w+)")
+UNSURE = re.compile(r"(?:^|\s)(?:pipe|queue|sched)\s+\S+\s+config\b")
+BANDWIDTH = re.compile(r"(\d+)([kKmMgG]?)([A-Za-z/]*)\Z")
+LIMIT = re.compile(r"(\d+)(?:([kK])(?:[bB]\w*)?|([bB]\w*))?\Z")
+WITHOUT_EFFECT = {"droptail": "the queue is a drop-tail one anyway", "noerror": "a sender learns of no drop anyway"}
+WHOLE_MASKS = {"src-ip": ("/32", "0xffffffff"), "dst-ip": ("/32", "0xffffffff"), "src-port": ("/16", "0xffff"),
+               "dst-port": ("/16", "0xffff"), "proto": ("/8", "0xff")}
+BYTES_PER_KBYTE = 1024
+
+
+class LeftOut(Exception):
+    """Why a command is left out."""
+
+
+class Candidate(NamedTuple):
+    """A line that the program has still to judge."""
+
+    note: int  # how many notes there were before
+    place: str
+    command: str
+    line: str
+
+
+@dataclass
+class Conversion:
+    """The configuration lines so far, and what is said of the lines that were read."""
+
+    variables: dict[str, str] = field(default_factory=dict)
+    lines: list[str] = field(default_factory=list)
+    notes: list[str] = field(default_factory=list)
+    left_out: int = 0  # commands that configure or delete a pipe or queue
+    candidates: list[Candidate] = field(default_factory=list)
+    emptied: bool = False  # by a flush
+
+    def say(self, place: str, text: str) -> None:
+        self.notes.append(f"{place}: {text}")
+
+    def read(self, name: str, text: str) -> None:
+        """Reads a file. A line that a shell reached counts by what it asked there, each time; the others are read as
+        they are written."""
+        reached: dict[int, list[str]] = {}
+        known = {name for pair in SETS.findall(text) for name in pair} | set(self.variables)
+        for asked in asked_by(text, self.variables):
+            reached.setdefault(asked.line, []).append(asked.words)
+        for number, last, line in joined_lines(text):
+            place = f"{name}:{number}"
+            words = [words for at in range(number, last + 1) for words in reached.get(at, [])]
+            if any(UNSURE.search(f" {one}")
+                   for one in words) and not self.is_plain(line) and not self.unset(line, known):
+                self.read_reached(place, words)
+            else:
+                self.read_line(place, line)
+
+    def is_plain(self, line: str) -> bool:
+        """Whether a line means one thing: each of its commands has no variable that the files don't set."""
+        return not VARIABLE.search(self.expanded(line)) and "$" not in self.expanded(line)
+
+    @staticmethod
+    def unset(line: str, known: set[str]) -> list[str]:
+        """The variables of a line that no file sets, and that have no value of their own there."""
+        return [found[0] for found in VARIABLE.finditer(line) if found[2] is None
+                and (found[1] or found[3]) not in known]
+
+    def read_reached(self, place: str, several: list[str]) -> None:
+        """Takes the commands that a shell reached at a line, those of a scheduler too."""
+        for words in several:
+            self.take(place, f"ipfw {words}")
+
+    def take(self, place: str, command: str) -> None:
+        """Reads one command; what is left out is told."""
+        try:
+            self.read_command(place, command)
+        except LeftOut as reason:
+            self.left_out += 1
+            self.say(place, f"left out: {command.strip()} ({reason})")
+
+    def unsure(self, commands: list[str]) -> Optional[str]:
+        """Why a line that configures something can't be taken: a variable that only a shell knows, or it is a
+        scheduler's."""
+        for command in (self.expanded(command) for command in commands):
+            if UNSURE.search(command) and not HEAD.search(command) and not re.search(r"\s(?:add|show|list)\s", command):
+                unknown = VARIABLE.search(command) or re.search(r"\$\S+", command)
+                return (f"{unknown[0]} isn't set in these files" if unknown
+                        else "schedulers other than WF2Q+ are left out")
+        return None
+
+    def read_line(self, place: str, line: str) -> None:
+        """Reads the commands of a line. One that has none for pipes and queues is told as a whole."""
+        commands = [line] if ASSIGNMENT.fullmatch(line.strip()) else BETWEEN_COMMANDS.split(line)
+        if (reason := self.unsure(commands)) is not None:
+            self.left_out += 1
+            self.say(place, f"left out: {line.strip()} ({reason})")
+            return
+        if not any(ASSIGNMENT.fullmatch(command.strip()) or self.asked(command) for command in commands):
+            self.say(place, f"left out: {line.strip()} (it configures no pipe or queue)")
+            return
+        for command in commands:
+            self.take(place, command)
+
+    def asked(self, command: str) -> Optional[str]:
+        """What a command asks for a pipe or queue, None where it doesn't."""
+        text = self.expanded(command)
+        found = HEAD.search(text)
+        if found is None or re.search(r"\s(?:add|show|list)\s", text[: found.start(1)]):
+            return None
+        return REDIRECTION.sub("", found[1])
+
+    def read_command(self, place: str, command: str) -> None:
+        if (assigned := ASSIGNMENT.fullmatch(command.strip())) is not None:
+            self.variables[assigned[1]] = self.expanded(assigned[2].strip("\"'"))
+            return
+        if (asked := self.asked(command)) is None:
+            if re.search(r"(?:^|\s)sched\s+\S+\s+config\b", command):
+                raise LeftOut("schedulers other than WF2Q+ are left out")
+            return
+        words = asked.split()
+        if words[1] == "flush":
+            self.settle()
+            self.lines.clear()
+            self.emptied = True
+            self.say(place, "all pipes and queues are deleted here, so the lines before have no effect")
+            return
+        if (unknown := VARIABLE.search(" ".join(words))) is not None:
+            raise LeftOut(f"{unknown[0]} isn't set in these files")
+        for line_words in list(self.converted(place, words)):
+            self.candidates.append(Candidate(len(self.notes), place, command.strip(), " ".join(line_words)))
+
+    def expanded(self, text: str) -> str:
+        """The text with the shell variables that the files set."""
+        def value(found: re.Match[str]) -> str:
+            return self.variables.get(found[1] or found[3], found[0] if found[2] is None else found[2])
+
+        return VARIABLE.sub(value, text)
+
+    def converted(self, place: str, words: list[str]) -> Iterator[list[str]]:
+        """A command in words of dummynet; a delete of several numbers is several commands."""
+        kind = words[0]
+        if "delete" in words[1:3]:
+            for number in (word for word in words[1:] if word != "delete"):
+                yield [kind, "delete", number]
+            return
+        yield words[:3] + list(Options(self, place, kind, words[3:]).words())
+
+    def settle(self) -> None:
+        """Keeps the lines that dummynet takes; one session judges them all."""
+        waiting, self.candidates = self.candidates, []
+        refused = []
+        for verdict in judged_lines([one.line.encode() for one in waiting]) if waiting else ():
+            one = waiting[verdict.line - 1]
+            if verdict.name == "ok":
+                self.lines.append(one.line)
+                continue
+            place, _, fault = verdict.text.partition(": ") if verdict.name == "bad" else ("", "",
+                                                                                          verdict.name.replace("-",
+                                                                                                               " "))
+            reason = f"{place} of '{one.line}': {fault}" if place else fault
+            refused.append((one.note, f"{one.place}: left out: {one.command} ({reason})"))
+        self.left_out += len(refused)
+        for at, note in reversed(refused):
+            self.notes.insert(at, note)
+
+
+@dataclass
+class Options:
+    """The options of one line, spelled as dummynet reads them."""
+
+    conversion: Conversion
+    place: str
+    kind: str
+    given: list[str]
+
+    def words(self) -> Iterator[str]:
+        rest = iter(self.given)
+        mask: Optional[str] = None
+        for word in rest:
+            if word in WITHOUT_EFFECT:
+                self.conversion.say(self.place, f"{word} is left away: {WITHOUT_EFFECT[word]}")
+                continue
+            yield self.name(word)
+            if word in ("bw", "queue", "plr", "bandwidth", "delay"):
+                yield self.value(word, next(rest, ""))
+            mask = word if word in WHOLE_MASKS else None
+            if mask is not None:
+                yield self.mask(mask, next(rest, ""))
+
+    def name(self, word: str) -> str:
+        """ipfw's other names of options."""
+        if word == "sched" and self.kind == "queue":
+            self.conversion.say(self.place,
+                                "the scheduler of that number is taken as the pipe of that number, with WF2Q+")
+            return "pipe"
+        return {"bandwidth": "bw", "flowset": "pipe"}.get(word, word)
+
+    def value(self, option: str, text: str) -> str:
+        if option == "delay":
+            return text.removesuffix("msec")
+        return {"bw": ipfw_bandwidth, "bandwidth": ipfw_bandwidth, "plr": loss_rate, "queue": self.limit}[option](text)
+
+    def limit(self, text: str) -> str:
+        """A queue's limit; ipfw takes bytes where K or B stands behind the number."""
+        found = LIMIT.match(text)
+        if found is None or (found[2] is None and found[3] is None):
+            return text
+        if found[2] is not None:
+            return f"{found[1]}Kbytes"
+        whole, rest = divmod(int(found[1]), BYTES_PER_KBYTE)
+        if rest:
+            self.conversion.say(self.place, f"queue {text} is rounded up to {whole + 1}Kbytes")
+        return f"{whole + bool(rest)}Kbytes"
+
+    def mask(self, mask_field: str, text: str) -> str:
+        slash, whole = WHOLE_MASKS[mask_field]
+        if text.startswith("/") and text != slash:
+            raise LeftOut(f"{mask_field} {text}: write the bits as a number")
+        return whole if text == slash else text
+
+
+def ipfw_bandwidth(text: str) -> str:
+    """As ipfw reads it: bytes where the unit begins with B (and not Bi) or by, else bits."""
+    found = BANDWIDTH.match(text)
+    if found is None:
+        return text
+    unit = found[3]
+    is_bytes = (unit.startswith("B") and not unit.startswith("Bi")) or unit.startswith("by")
+    return f"{found[1]}{found[2]}{'Byte/s' if is_bytes else 'bit/s'}"
+
+
+def loss_rate(text: str) -> str:
+    """Without an exponent, and with at most 18 digits behind the point."""
+    try:
+        value = Decimal(text)
+    except InvalidOperation:
+        return text
+    return text if "e" not in text.lower() else f"{value:.18f}".rstrip("0").rstrip(".")
+
+
+def joined_lines(text: str) -> Iterator[tuple[int, int, str]]:
+    """The lines without comments and blank ones, those joined that end in a backslash, with the numbers of the first
+    and the last."""
+    pending, began = "", 0
+    for number, line in enumerate(text.splitlines(), 1):
+        began = began if pending else number
+        pending += re.sub(r"(^|\s)#.*", "", line).rstrip()
+        if pending.endswith("\\"):
+            pending = pending[:-1] + " "
+            continue
+        if pending.strip():
+            yield began, number, pending
+        pending = ""
+    if pending.strip():
+        yield began, number, pending

@@ -1,0 +1,256 @@
+"""A net from Python: its hosts and links, what runs there, and what is done to it while it runs.
+
+    with Net() as net:
+        net.host("store", "exec redis-server --save ''", port=6379)
+        net.host("client")
+        net.link("client", "store", "10Mbit/s 20ms")
+        assert net.run("client", "redis-cli -h store ping").stdout == "PONG\\n"
+        net.cut("store", 2)
+
+It is a process of `hinge net`, which ends with this one, however that ends. Times are seconds, or words as 600ms."""
+
+from __future__ import annotations
+
+import json
+import os
+import shlex
+import subprocess
+import sys
+import tempfile
+import time
+from pathlib import Path
+from types import TracebackType
+from typing import IO, Any, Mapping, NamedTuple, Optional, Sequence, Union
+
+from hinge.net.described import Command, Described, NetError, Time, spelled
+from hinge.net.description import Description, read_description
+from hinge.net.net_rooms import Ends
+from hinge.program import dummynet
+from hinge.run.control import ask, is_answered
+from hinge.run.words import Wrong
+
+START = Path(__file__).resolve().parents[1] / "__main__.py"
+__tracebackhide__ = True  # of a test that fails, pytest shows its own line
+POLL = 0.01  # s between looks whether it has begun
+PATIENCE = 600.0  # s until it has begun; the waits for ports are shorter
+END_PATIENCE = 60.0  # s until it has ended
+LAST_LINES = 10  # of what a host printed, where its command failed
+
+
+class CommandFailed(subprocess.CalledProcessError):
+    """A command whose status isn't 0, with what it printed."""
+
+    def __str__(self) -> str:
+        printed = "\n".join(text.rstrip() for text in (self.stdout, self.stderr) if isinstance(text, str) and text.strip())
+        return f"{self.cmd}: status {self.returncode}" + f"\n{printed}" * bool(printed)
+
+
+class Obeyed(NamedTuple):
+    """A configuration line that the links obey, and when, by their clock."""
+
+    seconds: float
+    line: str
+
+
+def words_of(command: Command) -> list[str]:
+    return ["sh", "-c", command] if isinstance(command, str) else list(command)
+
+
+class Net(Described):
+    """What is said before `start` is how it begins. `run`, and a change without a moment, start it where it hasn't begun."""
+
+    def __init__(self, folder: Union[str, Path, None] = None, *, seed: Optional[int] = None, mtu: Optional[int] = None, late: Optional[Time] = None,
+                 outside: Optional[str] = None, link: str = "", back: Optional[str] = None) -> None:
+        """The folder gets the history, the summary and what the hosts print; without one they are gone after the end. `link` and `back` are
+        the links of which nothing else is said. `outside` is a host that leads to the rest of the system's network."""
+        self.temporary = tempfile.TemporaryDirectory(prefix="hinge-net-") if folder is None else None
+        super().__init__(Path(self.temporary.name if self.temporary else str(folder)).absolute(), link, back)
+        self.seed, self.mtu, self.late, self.outside = seed, mtu, late, outside
+        self.obeyed: list[Obeyed] = []
+        self.description: Optional[Description] = None
+        self.process: Optional["subprocess.Popen[bytes]"] = None
+        self.leash = -1
+
+    @property
+    def history(self) -> Path:
+        """The transcript of all links, for `dummynet audit`, `hinge look` and `hinge paths`."""
+        return self.folder / "net.history"
+
+    @property
+    def socket(self) -> Path:
+        """For `hinge change`, `hinge status` and `hinge exec`."""
+        return self.folder / "control"
+
+    # What is done to it.
+
+    def obey(self, words: str, *, at: Optional[Time] = None) -> list[Obeyed]:
+        """Does what a line `at` says: at a moment, where the net hasn't begun, or now."""
+        if at is not None:
+            self.describe(f"at {spelled(at)} {words}")
+            return []
+        self.start()
+        answer = self.asked(change=words)
+        told = [(Obeyed(one["moment"] / 1e9, one["line"]), one["refused"]) for one in answer["told"]]
+        for obeyed, refused in told:
+            if refused:
+                raise NetError(f"{words}: {obeyed.line}: {refused}")
+        self.obeyed += [obeyed for obeyed, _ in told]
+        return [obeyed for obeyed, _ in told]
+
+    def change(self, one: str, two: str, link: Optional[str] = None, back: Optional[str] = None, *, preset: Optional[str] = None,
+               at: Optional[Time] = None) -> list[Obeyed]:
+        """The link has other words from then on."""
+        return self.obey(f"{one} {two} {self.words(link, back, preset)}", at=at)
+
+    def cut(self, host: str, lasting: Optional[Time] = None, *, off: Sequence[str] = (), at: Optional[Time] = None) -> list[Obeyed]:
+        """The links of a host, or those to some others, lose all packets, for so long or until they are healed."""
+        return self.obey(" ".join(["cut", host, *["from"] * bool(off), *off, *([] if lasting is None else [spelled(lasting)])]), at=at)
+
+    def heal(self, host: str, *, off: Sequence[str] = (), at: Optional[Time] = None) -> list[Obeyed]:
+        """Those links lose nothing any more."""
+        return self.obey(" ".join(["heal", host, *["from"] * bool(off), *off]), at=at)
+
+    # What runs there.
+
+    def start(self) -> Net:
+        """Begins it, if it hasn't begun, and waits until the ports are there."""
+        if self.process is not None:
+            return self
+        self.folder.mkdir(parents=True, exist_ok=True)
+        if self.socket.exists() and is_answered(str(self.socket)):
+            raise NetError(f"{self.folder}: it is that of a net that runs")
+        file = self.folder / "described.net"
+        file.write_text("".join(f"{line}\n" for line in self.lines))
+        try:
+            self.description = read_description(str(file))
+        except Wrong as wrong:
+            raise NetError(str(wrong)) from None
+        given = {"seed": self.seed, "mtu": self.mtu, "late": None if self.late is None else spelled(self.late), "outside": self.outside}
+        more = [word for name, value in given.items() if value is not None for word in (f"--{name}", str(value))]
+        read_end, self.leash = os.pipe()
+        words = [sys.executable, str(START), "net", str(file), "--transcripts", str(self.folder), "--logs", str(self.folder / "logs"), *more,
+                 "--control", str(self.socket), "--while-open", str(read_end)]
+        with open(self.folder / "net.log", "wb") as told:
+            self.is_running = True
+            self.process = subprocess.Popen(words, stdin=subprocess.DEVNULL, stdout=told, stderr=told, pass_fds=[read_end], start_new_session=True)
+        os.close(read_end)
+        self.wait_until_ready()
+        return self
+
+    def wait_until_ready(self) -> None:
+        assert self.process
+        while not is_answered(str(self.socket)) and self.process.poll() is None:
+            time.sleep(POLL)
+        try:
+            silent = self.asked(status=True)["status"]["silent"]
+        except NetError:
+            self.end()
+            raise NetError(self.told() or "the net has ended") from None
+        if silent:
+            self.end()
+            raise NetError("\n".join(f"{line}\n{self.last_lines(line.split()[0])}".rstrip() for line in silent))
+
+    def asked(self, **words: object) -> dict[str, Any]:
+        try:
+            answer = ask(str(self.socket), PATIENCE, **words)
+        except Wrong as wrong:
+            raise NetError(str(wrong)) from None
+        if "refused" in answer:
+            raise NetError(str(answer["refused"]))
+        return answer
+
+    def popen(self, host: str, command: Command, **how: Any) -> "subprocess.Popen[Any]":
+        """A command on a host, which begins now. It ends with the net. What else is given is that of subprocess.Popen."""
+        self.start()
+        return subprocess.Popen([sys.executable, str(START), "exec", str(self.socket), host, "--", *words_of(command)], **how)
+
+    def run(self, host: str, command: Command, *, check: bool = True, timeout: Optional[float] = None, input: Optional[str] = None,
+            env: Optional[Mapping[str, str]] = None, cwd: Union[str, Path, None] = None) -> "subprocess.CompletedProcess[str]":
+        """Runs a command on a host until it ends, with what it printed. CommandFailed tells of a status that isn't 0, where it is checked."""
+        stdin: Union[int, IO[str]] = subprocess.DEVNULL if input is None else subprocess.PIPE
+        process = self.popen(host, command, stdin=stdin, stdout=subprocess.PIPE, stderr=subprocess.PIPE, text=True, env=env, cwd=cwd)
+        try:
+            stdout, stderr = process.communicate(input, timeout)
+        except BaseException:
+            process.kill()
+            process.wait()
+            raise
+        words = f"{host}: {command if isinstance(command, str) else shlex.join(command)}"
+        if check and process.returncode:
+            raise CommandFailed(process.returncode, words, stdout, stderr)
+        return subprocess.CompletedProcess(words, process.returncode, stdout, stderr)
+
+    def address(self, host: str, version: int = 4) -> str:
+        """The address of a host, which has one of each version of IP."""
+        self.start()
+        return self.addresses()[host][version == 6]
+
+    def addresses(self) -> dict[str, list[str]]:
+        """All addresses of the hosts of a net that has begun; the first two are a host's own."""
+        ends = Ends(self.description) if self.description else None
+        return {name: ends.all_of(name) for name in ends.own} if ends else {}
+
+    def output(self, host: str) -> str:
+        """What a host's command has printed."""
+        log = self.folder / "logs" / f"{host}.log"
+        return log.read_text(errors="replace") if log.exists() else ""
+
+    def last_lines(self, host: str) -> str:
+        return "\n".join(f"  {line}" for line in self.output(host).splitlines()[-LAST_LINES:])
+
+    def status(self) -> dict[str, Any]:
+        """The counts up to now, or of the whole run where it has ended."""
+        if self.process is not None and self.process.poll() is None:
+            found: dict[str, Any] = self.asked(status=True)["status"]
+            return found
+        summary: dict[str, Any] = json.loads((self.folder / "net.json").read_text())
+        return summary
+
+    def drawn_seed(self) -> int:
+        """The seed of the losses, which `hinge net` draws where none is given."""
+        return int(self.status()["seed"]) if self.seed is None else self.seed
+
+    # Its end.
+
+    def end(self) -> None:
+        """Ends it: the hosts' commands get SIGTERM, and the summary and the history are whole."""
+        if self.process is None or self.leash < 0:
+            return
+        os.close(self.leash)
+        self.leash = -1
+        try:
+            self.process.wait(END_PATIENCE)
+        except subprocess.TimeoutExpired:
+            self.process.kill()
+            self.process.wait()
+
+    def told(self) -> str:
+        """What `hinge net` told, as the summary of each way."""
+        log = self.folder / "net.log"
+        text = log.read_text(errors="replace") if log.exists() else ""
+        return "\n".join(line.replace("hinge net: ", "", 1) for line in text.splitlines())
+
+    def audit(self) -> str:
+        """Ends it; what dummynet says of its links: `lawful N`, or the first entry that isn't."""
+        return self.judged([dummynet(), "audit", str(self.history)])
+
+    def paths(self) -> str:
+        """Ends it; what `hinge paths` says of what is between the links: `lawful between links`, or that it isn't."""
+        return self.judged([sys.executable, str(START), "paths", str(self.folder)]).rpartition("\n")[2]
+
+    def judged(self, words: list[str]) -> str:
+        self.end()
+        done = subprocess.run(words, capture_output=True, text=True)
+        return (done.stdout or done.stderr).strip()
+
+    def __enter__(self) -> Net:
+        return self
+
+    def __exit__(self, kind: Optional[type[BaseException]], error: Optional[BaseException], trace: Optional[TracebackType]) -> None:
+        self.close()
+
+    def close(self) -> None:
+        """Ends it, and throws away a folder that nobody gave."""
+        self.end()
+        if self.temporary:
+            self.temporary.cleanup()

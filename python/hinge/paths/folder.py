@@ -1,0 +1,44 @@
+"""The folder of `hinge net --transcripts`, or a transcript alone, with what the system dropped by the summary of the run."""
+
+from __future__ import annotations
+
+import json
+import os
+from typing import NamedTuple, Optional
+
+from hinge.command import ROWS, Fault
+from hinge.paths.passages import Topology
+from hinge.run.transcripts import files_of
+
+HISTORY, SUMMARY = "net.history", "net.json"
+
+
+class Session(NamedTuple):
+    files: list[str]  # of the transcript
+    summary: Optional[str]
+
+
+def session_of(path: str, summary: Optional[str] = None) -> Session:
+    """That of a folder, or of a file of it."""
+    if not os.path.isdir(path):
+        return Session(files_of(path), summary)
+    history, beside = os.path.join(path, HISTORY), os.path.join(path, SUMMARY)
+    if not os.path.exists(history):
+        raise Fault(f"{path}: there is no {HISTORY} in it, as hinge net --transcripts makes it", ROWS)
+    return Session(files_of(history), summary or (beside if os.path.exists(beside) else None))
+
+
+def told_drops(path: Optional[str], topology: Topology) -> dict[int, int]:
+    """What the system dropped before the links, by hosts, as the summary of the run has it."""
+    found: dict[int, int] = {}
+    if path is None:
+        return found
+    try:
+        with open(path, encoding="utf-8") as file:
+            ways = json.load(file)["ways"]
+        for way in ways:
+            host = topology.number(way["from"])
+            found[host] = found.get(host, 0) + int(way["system_drops"])
+    except (ValueError, KeyError, TypeError):
+        raise Fault(f"{path}: no summary of hinge net", ROWS) from None
+    return found

@@ -1,0 +1,203 @@
+"""The transcript of a net as passages: each is a packet on one way of a link, from a host to the next one."""
+
+from __future__ import annotations
+
+import ipaddress
+import re
+from dataclasses import dataclass, field
+from typing import Iterable
+
+from hinge.command import ROWS, Fault
+from hinge.lazy import Integers, np
+from hinge.replays.columns import Address, Bad
+from hinge.replays.history import Entries, with_fates
+from hinge.replays.record_lines import HistoryFile, Records, is_history, read_records
+from hinge.replays.replay import OUT
+
+CONTENT, DIGITS = b"#,content,", 16  # a remark, and how many hexadecimal digits it has, before a line feed
+OUTAGE_PROTOCOL = 255  # of a packet that nobody sent
+QUEUE_OF_PIPE = re.compile(r"c,0,configure,queue (\d+) config .*?\bpipe (\d+)")
+NO_HOST = -1
+BETWEEN = "~"  # in the name of where the jitter of a way begins
+
+
+@dataclass
+class Topology:
+    """The hosts of a net by their numbers, and the ways of its links by their pipes."""
+
+    hosts: list[str] = field(default_factory=list)
+    host_of: dict[int, int] = field(default_factory=dict)  # by addresses of IPv4 and stand-ins, as numbers
+    six: dict[str, int] = field(default_factory=dict)  # by addresses of IPv6
+    pipes: dict[int, tuple[int, int]] = field(default_factory=dict)
+    same: dict[int, int] = field(default_factory=dict)  # the pipe by which each is told
+    copied: set[int] = field(default_factory=set)  # pipes that a packet may enter twice
+    outside: int = NO_HOST  # the host behind which all other addresses are
+
+    def number(self, name: str) -> int:
+        if name not in self.hosts:
+            self.hosts.append(name)
+        return self.hosts.index(name)
+
+    def read(self, text: str) -> None:
+        """Takes a remark `#,host,NAME,ADDRESS,..`, `#,pipe,N,FROM,TO`, `#,copies,N` or `#,outside,NAME`."""
+        _, kind, *words = text.split(",")
+        if kind == "outside":
+            self.outside = self.number(words[0])
+            return
+        if kind == "copies":
+            self.copied.add(int(words[0]))
+            return
+        if kind == "pipe":
+            self.add_pipe(int(words[0]), (self.number(words[1]), self.number(words[2])))
+            return
+        host = self.number(words[0])
+        for address in map(ipaddress.ip_address, words[1:]):
+            if address.version == 4:
+                self.host_of[int(address)] = host
+            else:
+                self.six[str(address)] = host
+
+    def add_pipe(self, pipe: int, ends: tuple[int, int]) -> None:
+        """The pipes of a second pass, from where the jitter of a way begins, are told together: as the first of them."""
+        same = [number for number, others in self.pipes.items() if others == ends] if BETWEEN in self.hosts[ends[0]] else []
+        self.same[pipe] = min(same, default=pipe)
+        if not same:
+            self.pipes[pipe] = ends
+
+    def read_stand_ins(self, addresses: dict[str, str]) -> None:
+        for stand_in, address in addresses.items():
+            if address in self.six:
+                self.host_of[int(ipaddress.IPv4Address(stand_in))] = self.six[address]
+
+    def hosts_of(self, addresses: Integers) -> Integers:
+        """The host of each address; for those of none the one that leads outside, or NO_HOST."""
+        known = np.array(sorted(self.host_of), np.int64)
+        hosts = np.array([self.host_of[address] for address in known.tolist()], np.int64)
+        at = np.minimum(np.searchsorted(known, addresses), max(len(known) - 1, 0))
+        return np.where(known[at] == addresses, hosts[at], self.outside) if len(known) else np.full(len(addresses), self.outside)
+
+
+@dataclass(frozen=True)
+class Passages:
+    """Columns of passages, in the order in which they were submitted. `submitted` and `handed` are the places of their calls in that of all
+    records, -1 for one that wasn't handed to a host; `line` and `file` say where the call is."""
+
+    topology: Topology
+    flow: Integers  # five columns: addresses, protocol, ports
+    length: Integers
+    content: Integers
+    pipe: Integers
+    start: Integers  # hosts
+    end: Integers
+    event: Integers
+    came: Integers  # ns
+    due: Integers
+    submitted: Integers
+    handed: Integers
+    line: Integers
+    file: Integers
+
+    def __len__(self) -> int:
+        return len(self.came)
+
+
+def content_before(records: Records) -> Integers:
+    """The number that the remark before each of these records has, 0 where there is none."""
+    data, begin = records.data, records.begin - len(CONTENT) - DIGITS - 1
+    has = begin >= 0
+    for place, letter in enumerate(CONTENT):
+        has &= data[np.maximum(begin, 0) + place] == letter
+    value = np.zeros(len(records), np.uint64)
+    for place in range(DIGITS):
+        byte = data[np.maximum(begin, 0) + len(CONTENT) + place]
+        digit = np.where(byte >= ord("a"), byte - np.uint8(ord("a") - 10), byte - np.uint8(ord("0")))
+        value = value << np.uint64(4) | digit.astype(np.uint64)
+    return np.where(has, value, np.uint64(0)).view(np.int64)
+
+
+def remarks(data: bytes, kinds: Iterable[bytes]) -> list[str]:
+    """The remarks of these kinds."""
+    return [line.decode() for kind in kinds for line in re.findall(b"^#," + kind + b",.*$", data, re.M)]
+
+
+def refused_in(data: bytes) -> Integers:
+    """The packets that were delivered and that the system didn't take."""
+    return np.array([int(text.split(",")[2]) for text in remarks(data, [b"refused"])], np.int64)
+
+
+def places_of_deliveries(records: Records, packet: Integers) -> Integers:
+    """The place of the delivery of each packet, -1 for those without."""
+    at = np.flatnonzero(records.starts(b"d,"))
+    gone = Entries.deliveries_of(records.of(at))[0]
+    order = np.argsort(gone, kind="stable")
+    found = np.minimum(np.searchsorted(gone[order], packet), max(len(gone) - 1, 0))
+    return np.where(gone[order][found] == packet, at[order][found], -1) if len(gone) else np.full(len(packet), -1)
+
+
+class Reader:
+    """Reads the files of a transcript, of which the first has the remarks on hosts and pipes."""
+
+    def __init__(self) -> None:
+        self.topology = Topology()
+        self.pipe_of_queue: dict[int, int] = {}
+        self.changes: list[tuple[int, str]] = []
+        self.columns: list[list[Integers]] = []
+        self.records = 0
+
+    def note_remarks(self, file: HistoryFile, data: bytes) -> None:
+        for text in remarks(data, [b"host", b"outside", b"pipe", b"copies"]):
+            self.topology.read(text)
+        self.topology.read_stand_ins(file.addresses)
+        for queue, pipe in QUEUE_OF_PIPE.findall(data.decode("utf-8", "replace")):
+            self.pipe_of_queue[int(queue)] = int(pipe)
+
+    def read(self, path: str) -> None:
+        file = read_records(path)
+        if not is_history(file.records):
+            raise Fault(f"{path} line 1: no history of dummynet, and no live session", ROWS)
+        data = file.records.data.tobytes()
+        self.note_remarks(file, data)
+        entries = Entries.of(path, file.records)
+        places = entries.submits()
+        try:
+            calls = entries.records.of(places)
+            rows, replies = entries.submits_of(calls), entries.replies(places)
+            event, _, packet, _, due = with_fates(entries, replies.copy())
+            handed = places_of_deliveries(entries.records, packet)
+            self.changes += [(moment, text) for _, moment, text in entries.changes()]
+        except Bad:
+            every = entries.records
+            raise entries.bad(every.of(np.union1d(np.union1d(places, places + 1), np.flatnonzero(every.starts(b"d,"))))) from None
+        handed = np.where((event == OUT) & ~np.isin(packet, refused_in(data)), handed, -1)
+        self.add(path, calls, rows, [event, replies[1], due, self.records + places, np.where(handed < 0, -1, self.records + handed)])
+        self.records += len(entries.records)
+
+    def add(self, path: str, calls: Records, rows: Integers, told: list[Integers]) -> None:
+        """Takes the submits of a file, without those of packets that nobody sent."""
+        kind, number, *flow, length, _ = rows
+        content = content_before(calls)
+        is_own = (flow[2] == OUTAGE_PROTOCOL) & (content == 0)
+        unknown = set(number[kind == 1].tolist()) - set(self.pipe_of_queue)
+        pipes = np.array([self.pipe_of_queue.get(queue, 0) for queue in range(int(number.max(initial=0)) + 1)], np.int64)
+        pipe = np.where(kind == 1, pipes[number], number)
+        used, place = np.unique(pipe, return_inverse=True)
+        unknown |= set(used.tolist()) - set(self.topology.same)
+        if unknown:
+            raise Fault(f"{path}: no remark says between which hosts pipe {min(unknown)} is: hinge net writes them", ROWS)
+        pipe = np.array([self.topology.same[number] for number in used.tolist()], np.int64)[place.ravel()]
+        file = np.full(len(pipe), len(self.columns))
+        self.columns.append([column[~is_own] for column in (*flow, length, content, pipe, *told, calls.line, file)])
+
+    def passages(self) -> Passages:
+        *flow, length, content, pipe, event, came, due, submitted, handed, line, file = (np.concatenate(column) for column in zip(*self.columns))
+        most = max(self.topology.pipes, default=0) + 1
+        ends = np.array([self.topology.pipes.get(number, (NO_HOST, NO_HOST)) for number in range(most)], np.int64)
+        return Passages(self.topology, np.stack(flow), length, content, pipe, ends[pipe, 0], ends[pipe, 1], event, came, due, submitted, handed, line, file)
+
+
+def read_transcript(paths: list[str]) -> tuple[Passages, list[tuple[int, str]]]:
+    """The passages of a transcript, whose files are in their order, and the lines that were obeyed, with their moments."""
+    reader = Reader()
+    for path in paths:
+        reader.read(path)
+    return reader.passages(), reader.changes

@@ -1,0 +1,143 @@
+"""What is told of a net's ways and paths, and of what is wrong between the links."""
+
+from __future__ import annotations
+
+from dataclasses import dataclass
+from typing import Iterator, Optional
+
+from hinge.lazy import Integers, np
+from hinge.paths.matching import NONE, Matched
+from hinge.replays.replay import FULL, LOST, OUT
+
+MS = 1e6  # ns
+SHOWN = 10  # faults of a kind
+
+
+@dataclass(frozen=True)
+class Path:
+    """The packets that went over the same ways: `sent` has when each began, and `links` and `hosts` how long each was in each link and in each
+    host between two, in ns: a row for each packet."""
+
+    pipes: tuple[int, ...]
+    sent: Integers
+    links: Integers
+    hosts: Integers
+
+    @property
+    def most_in_hosts(self) -> int:
+        return int(self.hosts.max(initial=0))
+
+
+@dataclass(frozen=True)
+class Way:
+    """What a way of a link carried, in packets; times are in ns, None where nothing was delivered."""
+
+    pipe: int
+    ends: tuple[str, str]
+    packets: int
+    lost: int
+    full: int
+    sent_bytes: int
+    span: int  # from the first that was delivered to the last
+    mean: Optional[int]
+    p99: Optional[int]
+
+    @property
+    def name(self) -> str:
+        return " > ".join(self.ends)
+
+    @property
+    def mbit_s(self) -> Optional[float]:
+        return self.sent_bytes * 8000 / self.span if self.span else None
+
+
+def chains(found: Matched) -> Iterator[Integers]:
+    """The passages of packets that arrived: a row for each packet, a column for each passage; all of one array are as long."""
+    last = np.flatnonzero(found.is_there)
+    chain = last[:, None]
+    while len(chain):
+        before = found.before[chain[:, 0]]
+        yield chain[before == NONE]
+        chain = np.column_stack((before, chain))[before != NONE]
+
+
+def paths(found: Matched) -> list[Path]:
+    """Those of packets that arrived, with most packets first."""
+    passages, told = found.passages, []
+    for chain in chains(found):
+        ways, number = np.unique(passages.pipe[chain], axis=0, return_inverse=True)
+        in_links = passages.due[chain] - passages.came[chain]
+        in_hosts = passages.came[chain[:, 1:]] - passages.due[chain[:, :-1]]
+        for place, pipes in enumerate(ways.tolist()):
+            of_path = number.ravel() == place
+            told.append(Path(tuple(pipes), passages.came[chain[of_path, 0]], in_links[of_path], in_hosts[of_path]))
+    return sorted(told, key=lambda path: -len(path.sent))
+
+
+def hosts_of(found: Matched, path: Path) -> list[str]:
+    topology = found.passages.topology
+    return [topology.hosts[host] for host in [*(topology.pipes[pipe][0] for pipe in path.pipes), topology.pipes[path.pipes[-1]][1]]]
+
+
+def ways(found: Matched) -> list[Way]:
+    """The ways that had packets."""
+    passages, topology, told = found.passages, found.passages.topology, []
+    for pipe, (start, end) in sorted(topology.pipes.items()):
+        own = passages.pipe == pipe
+        out = own & (passages.event == OUT)
+        delay = (passages.due - passages.came)[out]
+        mean, p99 = (int(delay.mean()), int(np.quantile(delay, 0.99, method="higher"))) if len(delay) else (None, None)
+        if own.any():
+            lost, full = (int((own & (passages.event == event)).sum()) for event in (LOST, FULL))
+            span = int(np.ptp(passages.due[out])) if len(delay) else 0
+            told.append(Way(pipe, (topology.hosts[start], topology.hosts[end]), int(own.sum()), lost, full,
+                            int(passages.length[out].sum()), span, mean, p99))
+    return told
+
+
+def told_or_none(value: Optional[float]) -> str:
+    return "-" if value is None else f"{value:.3f}"
+
+
+def of_ways(found: Matched) -> Iterator[str]:
+    """A table of the ways that had packets."""
+    rows: list[tuple[str, ...]] = [("way", "packets", "lost", "full", "Mbit/s", "mean ms", "p99 ms")]
+    for way in ways(found):
+        times = (None if time is None else time / MS for time in (way.mean, way.p99))
+        rows.append((way.name, f"{way.packets:,}", f"{way.lost:,}", f"{way.full:,}", *map(told_or_none, (way.mbit_s, *times))))
+    widths = [max(map(len, column)) for column in zip(*rows)]
+    for name, *fields in rows:
+        yield "  ".join([name.ljust(widths[0]), *(field.rjust(width) for field, width in zip(fields, widths[1:]))])
+
+
+def of_paths(found: Matched, top: int) -> Iterator[str]:
+    """A line for each path over more than one link."""
+    told = [path for path in paths(found) if len(path.pipes) > 1]
+    for path in told[:top]:
+        in_links, in_hosts = path.links.mean(axis=0), path.hosts.mean(axis=0)
+        links, hosts = (" + ".join(f"{time / MS:.3f}" for time in times) for times in (in_links, in_hosts))
+        yield (f"{' - '.join(hosts_of(found, path))}: {len(path.sent):,} packets, {(in_links.sum() + in_hosts.sum()) / MS:.3f} ms: links {links}, hosts {hosts}, "
+               f"at most {path.most_in_hosts / MS:.3f}")
+    if len(told) > top:
+        yield f"{len(told) - top} other paths"
+
+
+def of_faults(found: Matched, files: list[str]) -> Iterator[str]:
+    """Each kind of fault with its count and the first of its packets."""
+    passages, topology = found.passages, found.passages.topology
+    for kind, rows in found.faults.items():
+        if not len(rows):
+            continue
+        yield f"{kind}: {len(rows):,}"
+        for row in rows[:SHOWN].tolist():
+            lost = kind == "lost in a host"
+            host = topology.hosts[passages.end[row] if lost else passages.start[row]]
+            moment = passages.due[row] if lost else passages.came[row]
+            yield (f"  {files[passages.file[row]]} line {passages.line[row]}: {host} {'got' if lost else 'sent'} a packet of {passages.length[row]} bytes at "
+                   f"{moment / MS:.6f} ms, content {np.uint64(passages.content[row] & 0x7fffffffffffffff) | np.uint64(0 if passages.content[row] >= 0 else 1 << 63):016x}")
+
+
+def summary(found: Matched) -> str:
+    handed_on = int((found.before != NONE).sum())
+    more = [f"{found.at_the_end:,} at hosts at the end"] * (found.at_the_end > 0) + [f"{found.told:,} dropped by the system, as it told"] * (found.told > 0)
+    return ", ".join([f"{len(found.passages):,} packets on links, {handed_on:,} handed on by hosts, {int(found.is_there.sum()):,} arrived", *more])

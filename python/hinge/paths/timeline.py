@@ -1,0 +1,131 @@
+"""What was changed in a net while it ran, and what each way carried in the meantime, as text: a row for each way, a letter for each step."""
+
+from __future__ import annotations
+
+import re
+import shutil
+import sys
+from dataclasses import dataclass
+from typing import Iterator, NamedTuple
+
+from hinge.lazy import Reals, np
+from hinge.paths.matching import Matched
+from hinge.paths.report import Way
+from hinge.replays.replay import OUT
+
+SECOND = 1e9  # ns
+AT_ONCE = 10**7  # ns within which changes of one kind are told together
+BLOCKS, ASCII_BLOCKS = "\u2581\u2582\u2583\u2584\u2585\u2586\u2587\u2588", ".:-=+*%#"
+NOTHING, CUT = " ", "x"
+FEWEST_STEPS, MOST_STEPS = 20, 100
+CONFIGURES = re.compile(r"(?:ipfw )?pipe (\d+) config ?(.*)")
+LOSES = re.compile(r"\bplr (\S+)")
+
+
+class Change(NamedTuple):
+    """What a pipe is from a moment on, in ns, in the words of a configuration; `is_cut` where it loses all packets."""
+
+    moment: int
+    pipe: int
+    words: str
+    is_cut: bool
+
+
+@dataclass(frozen=True)
+class Timeline:
+    """The changes of the ways that weren't there from the beginning, and the times in which each lost all packets, in ns."""
+
+    changes: list[Change]
+    cuts: dict[int, list[tuple[int, int]]]
+    span: int
+
+
+def read_change(moment: int, text: str) -> Change | None:
+    found = CONFIGURES.fullmatch(text)
+    if not found:
+        return None
+    rates = LOSES.findall(found[2])
+    is_cut = bool(rates) and float(rates[-1]) == 1
+    return Change(moment, int(found[1]), found[2].removesuffix(" plr 1") if is_cut else found[2], is_cut)
+
+
+def timeline(found: Matched, obeyed: list[tuple[int, str]]) -> Timeline:
+    passages = found.passages
+    changes = [change for moment, text in obeyed if (change := read_change(moment, text))]
+    span = max([int(passages.came.max(initial=0)), int(passages.due.max(initial=0)), *(change.moment for change in changes)])
+    before: dict[int, Change] = {}
+    new, cuts = list[Change](), dict[int, list[tuple[int, int]]]()
+    for change in changes:
+        last = before.get(change.pipe)
+        if last and last.is_cut:
+            cuts.setdefault(change.pipe, []).append((last.moment, change.moment))
+        if last and (change.words, change.is_cut) != (last.words, last.is_cut):
+            new.append(change)
+        if not (last and last.is_cut and change.is_cut):
+            before[change.pipe] = change
+    for change in before.values():
+        if change.is_cut:
+            cuts.setdefault(change.pipe, []).append((change.moment, span))
+    return Timeline(new, cuts, span)
+
+
+def name_of(found: Matched, pipe: int) -> str:
+    topology = found.passages.topology
+    start, end = topology.pipes.get(pipe, (-1, -1))
+    return f"{topology.hosts[start]} > {topology.hosts[end]}" if start >= 0 else f"pipe {pipe}"
+
+
+def told_changes(found: Matched, line: Timeline) -> Iterator[str]:
+    """A line for the changes of one kind that were made at once."""
+    groups: list[list[Change]] = []
+    for change in line.changes:
+        like = [group for group in groups if change.moment - group[0].moment < AT_ONCE and kind_of(group[0]) == kind_of(change)]
+        like[-1].append(change) if like else groups.append([change])
+    for group in groups:
+        names = ", ".join(dict.fromkeys(name_of(found, change.pipe) for change in group))
+        yield f"{group[0].moment / SECOND:10.3f} s  {names}: {'cut' if group[0].is_cut else group[0].words or 'open'}"
+
+
+def kind_of(change: Change) -> str:
+    return "cut" if change.is_cut else change.words
+
+
+def letters() -> str:
+    try:
+        BLOCKS.encode(sys.stdout.encoding or "ascii")
+        return BLOCKS
+    except (UnicodeEncodeError, LookupError):
+        return ASCII_BLOCKS
+
+
+def carried(found: Matched, pipe: int, step: int, count: int) -> Reals:
+    """Mbit/s of a way in each step of so many ns."""
+    passages = found.passages
+    out = (passages.pipe == pipe) & (passages.event == OUT)
+    bits = np.bincount(passages.due[out] // step, weights=passages.length[out] * 8, minlength=count)[:count]
+    rates: Reals = bits * 1000 / step
+    return rates
+
+
+def row_of(rates: Reals, cuts: list[tuple[int, int]], step: int, blocks: str) -> str:
+    most = float(rates.max(initial=0))
+    row = [NOTHING if not rate else blocks[min(int(rate / most * len(blocks)), len(blocks) - 1)] for rate in rates.tolist()]
+    for begin, end in cuts:
+        first = round(begin / step)
+        for place in range(first, min(max(round(end / step), first + 1), len(row))):
+            row[place] = CUT
+    return "".join(row)
+
+
+def chart(found: Matched, line: Timeline, told: list[Way]) -> Iterator[str]:
+    """The rows of the ways, each by its own most, with x where it was cut."""
+    if not told or not line.span:
+        return
+    width = max(len(way.name) for way in told)
+    count = min(max(shutil.get_terminal_size((80, 24)).columns - width - 22, FEWEST_STEPS), MOST_STEPS)
+    step = line.span // count + 1
+    end = f"{line.span / SECOND:.3f} s"
+    yield f"{'way'.ljust(width)}  0 s{end.rjust(count - 3)}  most, Mbit/s"
+    for way in told:
+        rates = carried(found, way.pipe, step, count)
+        yield f"{way.name.ljust(width)}  {row_of(rates, line.cuts.get(way.pipe, []), step, letters())}  {rates.max():.3f}"

@@ -1,0 +1,62 @@
+"""Pictures and pages of replays: their series with the same flows and steps, side by side."""
+
+from __future__ import annotations
+
+import argparse
+from pathlib import Path
+from typing import Optional
+
+from hinge.outputs import written
+from hinge.pictures.chart import save
+from hinge.pictures.html_page import save_page
+from hinge.pictures.panels import MOST_FLOWS, drawing
+from hinge.pictures.provenance import provenance
+from hinge.pictures.series import NS_PER_MS, Series, fitting_step, series, span_of
+from hinge.replays.explain import Explainer
+from hinge.replays.groups import group
+from hinge.replays.source import Source
+
+PAGE = ".html"
+ENDINGS = (".png", ".svg", ".pdf", PAGE)
+
+
+def picture_file(text: str) -> str:
+    """The name of a picture, for argparse."""
+    if Path(text).suffix.lower() not in ENDINGS:
+        raise argparse.ArgumentTypeError(f"{text!r} doesn't end in {', '.join(ENDINGS)}")
+    return text
+
+
+def is_page(path: str) -> bool:
+    return path.lower().endswith(PAGE)
+
+
+def series_of(sources: list[Source], by: str, top: Optional[int], step_ms: Optional[int]) -> list[Series]:
+    """The series of each source. All of them are of one packet file, so they have the same flows, unless these are
+    dummynet's own."""
+    replays = [source.replay for source in sources]
+    span = span_of(replays)
+    step_ns = step_ms * NS_PER_MS if step_ms else fitting_step(replays, span)
+    most = min(top or MOST_FLOWS, MOST_FLOWS)
+    flows = [group(replay, by).largest(replay.packets.length, most)
+             for replay in (replays if by == "flow" else replays[:1])]
+    each = zip(sources, flows * (len(sources) // len(flows)))
+    return [series(source.replay, found, step_ns, span, source.changes, source.lateness) for source, found in each]
+
+
+def provenance_of(sources: list[Source]) -> list[str]:
+    """What is written under a picture of all of these, which have one configuration."""
+    names = [name for source in sources for name in source.files]
+    return provenance([text for _, text in sources[0].changes], list(dict.fromkeys(names)), sources[0].seed)
+
+
+def draw_sources(sources: list[Source], path: str, asked: argparse.Namespace) -> None:
+    """The picture that the command line asks for; a page is of one source."""
+    found = series_of(sources, asked.by, asked.top, asked.step)
+    drawings = [drawing(one, provenance_of(sources)) for one in found]
+    explainer = Explainer(sources[0].parts) if is_page(path) and sources[0].parts else None
+    with written(path) as place:
+        if is_page(path):
+            save_page(found[0], explainer, drawings[0], str(place), asked.title)
+        else:
+            save(drawings, str(place), asked.title)

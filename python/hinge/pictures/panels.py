@@ -1,0 +1,198 @@
+"""The panels of a replay, in the order in which they are drawn. A color has one meaning: a flow's, or by its shade of
+gray a pipe's or a cause's."""
+
+from __future__ import annotations
+
+from pathlib import Path
+from typing import Callable, Iterator, Optional
+
+from hinge.lazy import Integers, Reals, np
+from hinge.pictures.drawing import (DASHED, DENSE, DOTTED, MIXED, SOLID, Band, Bars, Drawing, Item, Key, Line, Panel,
+                                    Points)
+from hinge.pictures.series import CAUSES, NS_PER_MS, NS_PER_S, Flow, Series, Steps, spread
+from hinge.replays.replay import EVENT_NAMES
+
+COLORS = ("#0072b2", "#d55e00", "#009e73", "#cc79a7", "#56b4e9", "#e69f00", "#882255", "#999933")
+RESTS = ("#c4c4c4", "#8f8f8f", "#dcdcdc", "#a9a9a9")  # what stands for several flows, by its pipe
+PIPES = (("#000000", SOLID), ("#808080", MIXED), ("#404040", DASHED), ("#a0a0a0", DENSE))
+CAUSE_COLORS = {"lost": "#b8b8b8", "full": "#3f3f3f", "none": "#7a7a7a"}
+MOST_FLOWS = len(COLORS)  # with a color of their own
+MOST_ABOVE = 2  # a line of more than so many times the greatest value is told, not drawn
+MOST_DOTS = 2_000  # of a flow's delays; more are drawn as a band
+MOST_DOTS_IN_ALL, FEWEST_OF_BAND = 4_000, 400  # of all flows; above that each flow with so many is a band
+MOST_DROPS_TOLD = 2_000
+MOST_COUNTS = 20_000  # of a queue's lengths that are drawn
+LOW, MIDDLE, HIGH = 5, 50, 95  # percentiles of a band
+
+
+def time_of(step_ns: int) -> str:
+    return f"{step_ns / 10**9:g} s" if step_ns >= 10**9 else f"{step_ns / 10**6:g} ms"
+
+
+def range_of(values: Reals, unit: str) -> str:
+    low, high = np.nanmin(values), np.nanmax(values)
+    return f"{low:g} {unit}" if low == high else f"{low:g} to {high:g} {unit}"
+
+
+def percentiles(moments: Integers, values: Reals, steps: Steps) -> Reals:
+    """The least values that 5, 50 and 95 of a hundred of a step's don't exceed, nan in a step that has none."""
+    of = np.minimum(moments // steps.length, steps.rated - 1)
+    order = np.lexsort((values, of))
+    begins = np.searchsorted(of[order], np.arange(steps.rated))
+    counts = np.diff(np.append(begins, len(order)))
+    found = np.full((3, steps.rated), np.nan)
+    there = counts > 0
+    for row, part in enumerate((LOW, MIDDLE, HIGH)):
+        found[row, there] = values[order[begins[there] - (-part * counts[there] // 100) - 1]]
+    return found
+
+
+class Panels:
+    """Makes the panels of one replay."""
+
+    def __init__(self, found: Series) -> None:
+        self.found, self.step = found, time_of(found.steps.length)
+        rests = [number for number, flow in enumerate(found.flows) if flow.is_rest]
+        self.colors = [RESTS[rests.index(number) % len(RESTS)] if flow.is_rest else COLORS[number] for number,
+                       flow in enumerate(found.flows)]
+        pipes = sorted({*found.carried, *found.capacities, *found.waiting},
+                       key=lambda name: (name.split()[0], int(name.split()[1].rstrip(","))))
+        self.pipes = {name: PIPES[number % len(PIPES)] for number,
+                      name in enumerate(dict.fromkeys(name.partition(",")[0] for name in pipes))}
+
+    def flows(self) -> Iterator[tuple[int, Flow, str]]:
+        """The flows with their numbers and colors, the largest on top and what stands for others at the bottom."""
+        order = sorted(enumerate(self.found.flows), key=lambda numbered: (not numbered[1].is_rest, -numbered[0]))
+        for number, flow in order:
+            yield number, flow, self.colors[number]
+
+    def greatest(self, which: str) -> float:
+        """The greatest rate, `carried` or `offered`, of one flow or of the flows of a pipe together."""
+        columns = [getattr(flow, which) for flow in self.found.flows] + list(getattr(self.found, which).values())
+        return max((float(column.max(initial=0)) for column in columns), default=0)
+
+    def rates(self, which: str, title: str) -> Panel:
+        """The rates, `carried` or `offered`, of each flow, of all flows of a pipe, and the capacities."""
+        found, notes = self.found, []
+        edges, most = found.steps.edges, self.greatest(which)
+        items: list[Item] = []
+        for name, total in getattr(found, which).items():
+            color, dash = self.pipes[name]
+            items.append(Line(f"all of {name}", edges, np.append(total, total[-1]), color, width=2.2, dash=dash,
+                              is_behind=True))
+        for name, (moments, rates) in found.capacities.items():
+            told = f"{name}: {range_of(rates, 'Mbit/s')}"
+            if np.nanmax(rates) <= MOST_ABOVE * most:
+                items.append(Line(f"capacity of {told}", moments, rates, self.pipes[name.partition(",")[0]][0],
+                                  width=1.2, dash=DOTTED, is_behind=True))
+            else:
+                notes.append(f"capacity of {told}, above this panel")
+        items += [Line(flow.name, edges, np.append(getattr(flow, which), getattr(flow, which)[-1]), color, number)
+                  for number, flow, color in self.flows()]
+        return Panel(f"{title}, per {self.step}", "s", "Mbit/s", items, notes)
+
+    def carried(self) -> Panel:
+        return self.rates("carried", "Throughput")
+
+    def offered(self) -> Panel:
+        return self.rates("offered", "Offered load")
+
+    def band(self, number: int, flow: Flow, color: str) -> Band:
+        found, out = self.found, flow.out_places
+        low, middle, high = percentiles(found.replay.at[out], found.replay.took[out] / NS_PER_MS, found.steps)
+        return Band(flow.name, found.steps.edges, low, middle, high, color, number)
+
+    def delays(self) -> Optional[Panel]:
+        """A point for each packet, or a band where there are too many."""
+        found, items, has_band = self.found, list[Item](), False
+        is_crowded = sum(len(flow.out_places) for flow in found.flows) > MOST_DOTS_IN_ALL
+        for number, flow, color in self.flows():
+            if len(flow.out_places) > (FEWEST_OF_BAND if is_crowded else MOST_DOTS):
+                items.append(self.band(number, flow, color))
+                has_band = True
+            elif len(flow.out_places):
+                places = flow.out_places
+                items.append(Points(flow.name, places, found.sent_at(places), found.took_ms(places), color, number))
+        notes = [f"band: {LOW} to {HIGH} of 100 packets sent in {self.step}; line: the median"] if has_band else []
+        return Panel("One-way delay", "sent at, s", "ms", items, notes, from_zero=False) if items else None
+
+    def distribution(self) -> Optional[Panel]:
+        items: list[Item] = [Line(flow.name, flow.delays, flow.ranks, color, number) for number, flow,
+                             color in self.flows() if len(flow.delays)]
+        return Panel("Distribution of the delay", "ms", "part of what arrived", items, from_zero=False, has_time=False,
+                     most=1.02) if items else None
+
+    def waiting(self) -> Optional[Panel]:
+        """The packets that wait for each pipe or queue, and its limit."""
+        items, notes = list[Item](), list[str]()
+        for name, (moments, lengths) in self.found.waiting.items():
+            kept, most = spread(np.arange(len(moments)), MOST_COUNTS), int(lengths.max(initial=0))
+            color, _ = self.pipes[name]
+            items.append(Line(f"{name}, at most {most:,}", moments[kept], lengths[kept], color, width=0.8))
+            limit = self.found.limits.get(name)
+            if limit is None or not most:
+                continue
+            if limit.numbers is not None and np.nanmax(limit.numbers) <= MOST_ABOVE * most:
+                items.append(Line(f"limit of {name}: {limit.told}", limit.moments, limit.numbers.astype(float), color,
+                                  width=1.2, dash=DASHED, is_behind=True))
+            else:
+                notes.append(f"limit of {name}: {limit.told}"
+                             + (", above this panel" if limit.numbers is not None else ""))
+        if not any(lengths.any() for _, lengths in self.found.waiting.values()):
+            return None
+        return Panel("Packets that wait", "s", "packets", items, notes, is_whole=True)
+
+    def bars(self, name: str, counts: Integers, color: str, flow: Optional[int] = None) -> Bars:
+        steps = self.found.steps
+        return Bars(name, steps.begins, steps.length / NS_PER_S, counts, color, flow)
+
+    def drops(self) -> Optional[Panel]:
+        items: list[Item] = [self.bars(f"{cause} {int(counts.sum()):,}", counts, CAUSE_COLORS[cause])
+                             for cause, counts in self.found.drops.items() if counts.any()]
+        return Panel(f"Drops by cause, packets per {self.step}", "s", "packets", items,
+                     is_whole=True) if items else None
+
+    def drops_by_flow(self) -> Optional[Panel]:
+        items: list[Item] = [self.bars(flow.name, flow.drops, color, number) for number, flow,
+                             color in self.flows() if flow.drops.any()]
+        return Panel(f"Drops by flow, packets per {self.step}", "s", "packets", items, is_whole=True) if items else None
+
+    def lateness(self) -> Optional[Panel]:
+        """By how much a live host was late, or let packets lie unread, in each second: what no link did."""
+        dashes = {"late": SOLID, "unread": DOTTED}
+        items: list[Item] = []
+        for number, (way, of_way) in enumerate(self.found.lateness.items()):
+            for which, (moments, ms) in of_way.items():
+                x, y = np.append(0, moments), np.append(ms, ms[-1:])  # each is of the time up to its moment
+                items.append(Line(f"{way}: {which}, at most {ms.max(initial=0):.3g} ms", x, y, PIPES[number % 2][0],
+                                  width=1, dash=dashes[which]))
+        return Panel("The host's lateness, the most of each second", "s", "ms", items) if items else None
+
+    def drop_points(self) -> list[Points]:
+        """A mark for each packet that was dropped, at a delay of 0."""
+        found, marks = self.found, []
+        for cause in CAUSES:
+            places = spread(np.flatnonzero(found.replay.event == cause), MOST_DROPS_TOLD)
+            if len(places):
+                marks.append(Points(f"dropped: {EVENT_NAMES[cause]}", places, found.sent_at(places),
+                                    np.zeros(len(places)),
+                                    CAUSE_COLORS[EVENT_NAMES[cause]], is_cross=True))
+        return marks
+
+    def key(self, number: int, flow: Flow) -> Key:
+        return Key(flow.name, self.colors[number],
+                   f"{flow.name}: {int(flow.drops.sum()):,} of {flow.packets:,} dropped")
+
+
+ORDER: tuple[Callable[[Panels], Optional[Panel]], ...] = (
+    Panels.carried, Panels.offered, Panels.delays, Panels.distribution, Panels.waiting, Panels.drops,
+    Panels.drops_by_flow, Panels.lateness)
+DELAYS = ORDER.index(Panels.delays)
+
+
+def drawing(found: Series, below: Optional[list[str]] = None) -> Drawing:
+    """The picture of a replay; `below` is written under it."""
+    panels = Panels(found)
+    keys = [panels.key(number, flow) for number, flow in enumerate(found.flows)]
+    return Drawing([make(panels) for make in ORDER], keys, Path(found.replay.path).name, found.steps.span / NS_PER_S,
+                   below or [])

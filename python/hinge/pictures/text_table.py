@@ -1,0 +1,55 @@
+"""The table of flows as text, in blocks as wide as the terminal."""
+
+from __future__ import annotations
+
+import shutil
+from typing import Iterator, Optional, TextIO
+
+from hinge.pictures.figures import Figures
+
+WIDTH, GAP = 80, "  "
+
+
+def cell(name: str, value: Optional[int | float]) -> str:
+    """A figure as the text table has it."""
+    if value is None:
+        return "-"
+    if name.endswith("_ns"):
+        return f"{value / 10**6:,.3f}"
+    return f"{value:,.3f}" if isinstance(value, float) else f"{value:,}"
+
+
+def head(name: str) -> tuple[str, str]:
+    """A figure's name and its unit, for the two lines of a head."""
+    for ending, unit in (("_mbit_s", "Mbit/s"), ("_ns", "ms")):
+        if name.endswith(ending):
+            return name.removesuffix(ending).replace("_", " "), unit
+    return name, ""
+
+
+def blocks(columns: list[list[str]], width: int) -> Iterator[list[list[str]]]:
+    """The columns in blocks that are no wider than this, if they can be; the first column begins each."""
+    first, *rest = columns
+    block, taken = [first], len(first[0])
+    for column in rest:
+        if len(block) > 1 and taken + len(GAP) + len(column[0]) > width:
+            yield block
+            block, taken = [first], len(first[0])
+        block.append(column)
+        taken += len(GAP) + len(column[0])
+    yield block
+
+
+def write_text(table: list[Figures], out: TextIO) -> None:
+    """The table in blocks as wide as the terminal, or as 80 columns. Flows have a number, which the first block
+    names."""
+    names = list(table[0].value)
+    numbers = [str(number) for number in range(1, len(table))] + ["all"]
+    columns = [["", "", *numbers], ["flow", "", *(row.name for row in table)]]
+    columns += [[*head(name), *(cell(name, row.value[name]) for row in table)] for name in names]
+    shown = [[text.ljust(max(map(len, column))) if place < 2 else text.rjust(max(map(len, column))) for text in column]
+             for place, column in enumerate(columns)]
+    width = shutil.get_terminal_size((WIDTH, 0)).columns if out.isatty() else WIDTH
+    parts = ("\n".join(GAP.join(row).rstrip() for row in zip(*block) if any(text.strip() for text in row))
+             for block in blocks(shown, width))
+    out.write("\n\n".join(parts) + "\n")

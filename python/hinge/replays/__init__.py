@@ -1,0 +1,1 @@
+"""Replays: packets with what became of them, from a report or a history."""

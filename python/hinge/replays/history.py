@@ -1,0 +1,192 @@
+"""A history or a live session's transcript as packets, what became of them, and what was configured when."""
+
+from __future__ import annotations
+
+from dataclasses import dataclass
+
+from hinge.captures.addresses import read_addresses
+from hinge.checks.lines import judged_lines
+from hinge.command import ROWS, Fault, working
+from hinge.lazy import Integers, np
+from hinge.replays.columns import Address, Bad, Fields, Number, OneOf, numbered
+from hinge.replays.links import Configuration
+from hinge.replays.record_lines import Records, is_history, read_records
+from hinge.replays.remarks import lateness_in, seed_in
+from hinge.replays.replay import FULL, HELD, KINDS, LOST, NONE, OUT, Packets, Replay, named_tuples
+from hinge.replays.source import Source
+
+FATES = {b"r,queued,": HELD, b"r,lost,": LOST, b"r,full,": FULL, b"r,no-target,": NONE}
+MOVING = (*FATES, b"r,advanced,", b"r,delivered,")  # the replies whose second number is the clock
+REPLY_FIELDS = {HELD: 5, LOST: 4, FULL: 4, NONE: 3}
+
+
+def one_number(fields: Fields) -> Integers:
+    return Number().read(fields)
+
+
+@dataclass(frozen=True)
+class Entries:
+    """The calls of a history with their replies, and the deliveries. A call is at the place before that of its
+    reply."""
+
+    path: str
+    records: Records
+
+    @staticmethod
+    def of(path: str, records: Records) -> Entries:
+        """Refuses a call without a reply, but for a last one, which is left out."""
+        is_call, is_reply = records.starts(b"c,"), records.starts(b"r,")
+        if len(records) and is_call[-1]:
+            records, is_call, is_reply = records.of(np.arange(len(records) - 1)), is_call[:-1], is_reply[:-1]
+        wrong = is_reply[1:] != is_call[:-1]
+        if wrong.any():
+            raise Fault(f"{path} line {records.line[int(np.argmax(wrong)) + 1]}: not as a history has it", ROWS)
+        return Entries(path, records)
+
+    def bad(self, records: Records) -> Fault:
+        """The fault of the first of these records that can't be read."""
+        for place in range(len(records)):
+            one = records.of(np.array([place]))
+            try:
+                self.columns(one)
+            except Bad:
+                return Fault(f"{self.path} line {one.line[0]}: not as a history has it", ROWS)
+        return Fault(f"{self.path}: not as a history has it", ROWS)
+
+    def columns(self, records: Records) -> None:
+        """Reads records of one kind, for their faults."""
+        if len(records) and records.starts(b"d,")[0]:
+            self.deliveries_of(records)
+        elif len(records) and records.starts(b"c,")[0]:
+            self.submits_of(records)
+        else:
+            for begin, fate in FATES.items():
+                if records.starts(begin).all():
+                    [one_number(field) for field in records.fields(REPLY_FIELDS[fate])[2:]]
+                    return
+            raise Bad
+
+    @staticmethod
+    def submits_of(records: Records) -> Integers:
+        """A row for each submit: the number of its kind of target, that of the target, the five-tuple, length and
+        word."""
+        _, _, _, kind, number, src, dst, *rest, _ = records.fields(13)
+        return np.stack([OneOf(KINDS).read(kind), one_number(number), Address().read(src), Address().read(dst),
+                         *map(one_number, rest)])
+
+    @staticmethod
+    def deliveries_of(records: Records) -> list[Integers]:
+        """Packet, start and due moment of each delivery."""
+        _, packet, _, start, due = records.fields(5)
+        return [one_number(field) for field in (packet, start, due)]
+
+    def submits(self) -> Integers:
+        """The places of the submits."""
+        return np.flatnonzero(self.records.starts(b"c,") & self.records.starts(b"submit,", 2))
+
+    def replies(self, places: Integers) -> Integers:
+        """Event, moment, flow and packet of the replies to these submits, -1 for what a reply doesn't have."""
+        replies = self.records.of(places + 1)
+        found = np.full((4, len(places)), -1, np.int64)
+        for begin, fate in FATES.items():
+            chosen = np.flatnonzero(replies.starts(begin))
+            numbers = [one_number(field) for field in replies.of(chosen).fields(REPLY_FIELDS[fate])[2:]]
+            found[0, chosen] = fate
+            found[1:1 + len(numbers), chosen] = numbers
+        if (found[0] < 0).any():
+            raise Bad
+        return found
+
+    def clock_before(self, places: Integers) -> list[int]:
+        """The clock's moment before each of these places, in ns."""
+        front = self.records.of(np.arange(int(places.max(initial=0))))
+        tells = np.zeros(len(front), bool)
+        for reply in MOVING:
+            tells |= front.starts(reply)
+        told = np.flatnonzero(tells)
+        last = np.searchsorted(told, places) - 1
+        chosen = front.of(told[last[last >= 0]])
+        begin, following = chosen.field_begin(2), chosen.field_begin(3)
+        end = np.where(following < chosen.end, following - 1, chosen.end)
+        moments = np.zeros(len(places), np.int64)
+        moments[last >= 0] = one_number(Fields(chosen.data, begin, end - begin))
+        return list(map(int, moments))
+
+    def changes(self) -> list[tuple[int, int, str]]:
+        """The commands that were obeyed: each with its place and the clock's moment."""
+        asked = np.flatnonzero(self.records.starts(b"c,") & self.records.starts(b"configure,", 2))
+        replies = self.records.of(asked + 1)
+        obeyed = asked[replies.starts(b"r,configured") | replies.starts(b"r,deleted")]
+        texts = (self.records.text(place).split(",", 3)[3] for place in obeyed.tolist())
+        return list(zip(obeyed.tolist(), self.clock_before(obeyed), texts))
+
+
+def with_fates(entries: Entries, replies: Integers) -> Integers:
+    """Event, flow, packet, start and due of each submit, by the replies and the deliveries."""
+    event, _, flow, packet = replies
+    start, due = np.full(len(event), -1, np.int64), np.full(len(event), -1, np.int64)
+    deliveries = entries.records.of(entries.records.starts(b"d,"))
+    gone, began, left = entries.deliveries_of(deliveries)
+    order = np.argsort(packet, kind="stable")
+    found = np.searchsorted(packet[order], gone)
+    rows = order[np.minimum(found, max(len(order) - 1, 0))] if len(order) else found
+    unknown = (packet[rows] != gone) if len(order) else np.ones(len(gone), bool)
+    if unknown.any():
+        raise Fault(f"{entries.path} line {deliveries.line[int(np.argmax(unknown))]}: no packet "
+                    f"{gone[int(np.argmax(unknown))]} was queued", ROWS)
+    event[rows], start[rows], due[rows] = OUT, began, left
+    return np.stack([event, flow, packet, start, due])
+
+
+def packets_of(path: str, rows: Integers, moments: Integers, addresses: dict[str, str]) -> Packets:
+    """The submits as a packet file has them, with these IPv6 addresses and those of a file beside it."""
+    kind, number, *five, length, word = rows
+    target, first_of_target = numbered(kind, number)
+    five_tuple, first_of_tuple = numbered(*five)
+    tuples = zip(*(column[first_of_tuple].tolist() for column in five))
+    targets = [(KINDS[kind[row]], int(number[row])) for row in first_of_target]
+    return Packets(path, moments, target, five_tuple, length, word, targets,
+                   named_tuples(tuples, {**read_addresses(path), **addresses}))
+
+
+def spelled_by_program(path: str, changes: list[tuple[int, int, str]]) -> list[tuple[int, int, str]]:
+    """The same commands in the program's spelling, since a history may have any line that asks for them."""
+    verdicts = list(judged_lines([text.encode() for _, _, text in changes])) if changes else []
+    bad = next((verdict for verdict in verdicts if verdict.name == "bad"), None)
+    if bad is not None or len(verdicts) != len(changes):
+        text = changes[bad.line - 1][2] if bad is not None else ""
+        raise Fault(f"{path}: {text!r} is no command", ROWS)
+    return [(place, moment, verdict.text) for (place, moment, _), verdict in zip(changes, verdicts)]
+
+
+def read_history(path: str) -> Source:
+    """Each submit is a row, in the order of the calls. Its moment is the one that counted."""
+    with working(f"reading {path}"):
+        file = read_records(path)
+        records = file.records
+        if len(records) and records.text(0).startswith("moment,"):
+            raise Fault(f"{path} is a packet file: behind it comes the report that dummynet wrote of it", ROWS)
+        if not is_history(records):
+            raise Fault(f"{path} line 1: no history of dummynet, and no live session", ROWS)
+        has_end = bool(records.of(np.array([len(records) - 1])).starts(b"end,")[0]) and file.is_whole
+        entries = Entries.of(path, records)
+        places = entries.submits()
+        try:
+            rows, replies = entries.submits_of(entries.records.of(places)), entries.replies(places)
+            fates = with_fates(entries, replies.copy())
+            changes = entries.changes()
+        except Bad:
+            every = entries.records
+            raise entries.bad(every.of(np.union1d(np.union1d(places, places + 1),
+                                                  np.flatnonzero(every.starts(b"d,"))))) from None
+        event, flow, packet, start, due = fates
+        replay = Replay(path, packets_of(path, rows, replies[1], file.addresses), event, flow, packet, replies[1],
+                        start, due)
+    changes = spelled_by_program(path, changes)
+    first = int(places[0]) if len(places) else len(records)
+    is_steady = all(place < first for place, _, _ in changes)
+    configuration = Configuration.of(path, [text for _, _, text in changes]) if is_steady else None
+    cut = None if has_end else int(records.line[-1])
+    data = file.records.data.tobytes()
+    told = [(moment, text) for _, moment, text in changes]
+    return Source(replay, (path,), told, configuration, True, cut, seed_in(data), lateness_in(data))

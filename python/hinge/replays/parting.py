@@ -1,0 +1,117 @@
+"""Where two histories part: the first call that differs in itself or in its reply, with the calls around it."""
+
+from __future__ import annotations
+
+from collections import deque
+from itertools import islice, zip_longest
+from pathlib import Path
+from typing import Any, Iterator, NamedTuple, Optional, Union
+
+from hinge.command import ROWS, Fault, printable
+
+AROUND = 3  # calls before the first that differs, and from it on
+NS_PER_S = 10**9
+FORMATS = ("dummynet-history,", "dummynet-live,")
+TIMED = ("submit", "advance", "collect")  # whose last field is a moment
+
+
+class Entry(NamedTuple):
+    """A call with its reply."""
+
+    number: int  # of the call, from 1
+    line: int  # of its record in the file
+    row: Optional[int]  # of the packet of a submit, from 1
+    call: str
+    reply: "tuple[str, ...]"  # its record, and those of its items
+
+    @property
+    def moment(self) -> Optional[int]:
+        """The ns at which it was made, if it says so."""
+        fields = self.call.split(",")
+        return int(fields[-1]) if fields[2:] and fields[2] in TIMED and fields[-1].isdecimal() else None
+
+    def known(self) -> dict[str, Any]:
+        """The same for a program."""
+        return {"call": self.number, "line": self.line, "row": self.row, "moment_ns": self.moment, "text": self.call,
+                "reply": list(self.reply)}
+
+
+def entries(path: Union[str, Path]) -> Iterator[Entry]:
+    """The calls of a history, or of a transcript, without its remarks. Fault: it is neither."""
+    number = row = begun = 0
+    call, reply = "", list[str]()
+    with open(path, encoding="utf-8", errors="replace") as file:
+        if not file.readline().startswith(FORMATS):
+            raise Fault(f"{path}: neither a history nor a transcript", ROWS)
+        for line, text in enumerate(file, 2):
+            record = text.rstrip("\r\n")
+            if record[:2] == "c," or record[:4] == "end,":
+                if call:
+                    yield Entry(number, begun, row if is_packet(call) else None, call, tuple(reply))
+                call, reply, begun = record if record[0] == "c" else "", [], line
+                number, row = number + bool(call), row + is_packet(call)
+            elif record and record[0] != "#":
+                reply.append(record)
+    if call:
+        yield Entry(number, begun, row if is_packet(call) else None, call, tuple(reply))
+
+
+def is_packet(call: str) -> bool:
+    return call.split(",", 3)[2:3] == ["submit"]
+
+
+class Parting(NamedTuple):
+    """The last calls that two histories have both, and the first of each that they don't."""
+
+    before: "list[Entry]"
+    after: "tuple[list[Entry], list[Entry]]"
+
+    @property
+    def number(self) -> int:
+        """The first call that differs."""
+        return next(found[0].number for found in self.after if found)
+
+    def reason(self) -> str:
+        """What differs in it."""
+        one, other = self.after
+        if not one or not other:
+            return f"the {'first' if not one else 'second'} ends before it"
+        return "the calls differ" if one[0].call != other[0].call else "its replies differ"
+
+    def at(self) -> str:
+        """When it was made, if a call says so."""
+        moment = next((found[0].moment for found in self.after if found and found[0].moment is not None), None)
+        return "" if moment is None else f", at {moment / NS_PER_S:.9f} s"
+
+    def text(self) -> str:
+        """The calls around it: of both, of the first (-), and of the second (+)."""
+        groups = ((" ", self.before), ("-", self.after[0]), ("+", self.after[1]))
+        width = max(len(str(it.number)) for _, found in groups for it in found)
+        lines = []
+        for sign, found in groups:
+            for it in found:
+                row = "" if it.row is None else f"  (row: {it.row})"
+                lines += [f"{sign} {it.number:>{width}}  {it.call}{row}",
+                          *(f"{sign} {'':{width}}  {record}" for record in it.reply)]
+        return "\n".join(map(printable, lines))
+
+    def known(self) -> dict[str, Any]:
+        """The same for a program; docs/JSON.md has its keys."""
+        return {"call": self.number, "reason": self.reason(), "before": [it.known() for it in self.before],
+                "after": [[it.known() for it in found] for found in self.after]}
+
+
+def same(one: Optional[Entry], other: Optional[Entry]) -> bool:
+    return one is not None and other is not None and (one.call, one.reply) == (other.call, other.reply)
+
+
+def parting(one: Union[str, Path], other: Union[str, Path]) -> Optional[Parting]:
+    """Where two histories part; None if they have the same calls and replies."""
+    before: deque[Entry] = deque(maxlen=AROUND)
+    first, second = entries(one), entries(other)
+    for pair in zip_longest(first, second):
+        if not same(*pair):
+            ours, theirs = ([it, *islice(rest, AROUND - 1)] if it else [] for it, rest in zip(pair, (first, second)))
+            return Parting(list(before), (ours, theirs))
+        before.append(pair[0])
+    return None

@@ -1,0 +1,96 @@
+"""The records of a history as lines whose fields are read over the whole file at once."""
+
+from __future__ import annotations
+
+from dataclasses import dataclass
+from typing import NamedTuple, Union
+
+from hinge.lazy import Integers, Mask, Octets, np
+from hinge.replays.columns import Bad, Fields
+from hinge.replays.remarks import addresses_in
+from hinge.replays.tables import COMMA, LINE_FEED, plain
+
+REMARK = ord("#")
+BEGINNINGS = (b"dummynet-history,", b"dummynet-live,")
+
+
+@dataclass(frozen=True)
+class Records:
+    """Some records of a file: where each begins and ends, its line, and all commas of the file."""
+
+    data: Octets
+    begin: Integers
+    end: Integers
+    line: Integers
+    commas: Integers
+
+    def __len__(self) -> int:
+        return len(self.begin)
+
+    def of(self, chosen: Union[Integers, Mask]) -> Records:
+        """Those that a mask or places choose."""
+        return Records(self.data, self.begin[chosen], self.end[chosen], self.line[chosen], self.commas)
+
+    def text(self, place: int) -> str:
+        return self.data[self.begin[place]:self.end[place]].tobytes().decode("utf-8", "replace")
+
+    def starts(self, word: bytes, field: int = 0) -> Mask:
+        """Whether each has a field, from 0, that begins with this word; the word may go on over commas."""
+        begin = self.field_begin(field)
+        left = np.flatnonzero(begin + len(word) <= self.end)
+        for place, letter in enumerate(word):
+            left = left[self.data[begin[left] + place] == letter]
+        found = np.zeros(len(self), bool)
+        found[left] = True
+        return found
+
+    def field_begin(self, field: int) -> Integers:
+        """Where the field begins; the end of a record that has no such field."""
+        if field == 0:
+            return self.begin
+        comma = np.searchsorted(self.commas, self.begin) + field - 1
+        found = self.commas[np.minimum(comma, len(self.commas) - 1)] if len(self.commas) else self.end
+        return np.where((comma < len(self.commas)) & (found < self.end), found + 1, self.end)
+
+    def fields(self, count: int) -> list[Fields]:
+        """The fields of each; Bad is raised where one has another count."""
+        first = np.searchsorted(self.commas, self.begin)
+        if (np.searchsorted(self.commas, self.end) - first != count - 1).any():
+            raise Bad
+        begins = [self.begin, *(self.commas[first + place] + 1 for place in range(count - 1))]
+        ends = [*(begin - 1 for begin in begins[1:]), self.end]
+        return [Fields(self.data, begin, end - begin) for begin, end in zip(begins, ends)]
+
+
+class HistoryFile(NamedTuple):
+    """A file's records, without remarks and empty lines, whether its last line is whole, and the IPv6 addresses that
+    its remarks name."""
+
+    records: Records
+    is_whole: bool
+    addresses: dict[str, str]
+
+
+def read_records(path: str) -> HistoryFile:
+    data = plain(path, keeps_lines=True)
+    array = np.frombuffer(data, np.uint8)
+    end = np.flatnonzero(array == LINE_FEED)
+    begin = np.concatenate((np.zeros(1, np.int64), end[:-1] + 1)) if len(end) else end
+    first = array[np.minimum(begin, max(len(array) - 1, 0))] if len(array) else begin
+    is_record = (begin < end) & (first != REMARK)
+    line = np.arange(1, len(end) + 1)
+    records = Records(array, begin[is_record], end[is_record], line[is_record], np.flatnonzero(array == COMMA))
+    return HistoryFile(records, data.endswith(b"\n"), addresses_in(data))
+
+
+def is_history_file(path: str) -> bool:
+    """Whether a file that isn't standard input begins as a history or a live session."""
+    if path == "-":
+        return False
+    with open(path, "rb") as file:
+        return file.read(max(map(len, BEGINNINGS))).startswith(BEGINNINGS)
+
+
+def is_history(records: Records) -> bool:
+    """Whether the first record is that of a history or of a live session."""
+    return len(records) > 0 and records.text(0).encode().startswith(BEGINNINGS)

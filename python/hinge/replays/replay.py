@@ -1,0 +1,122 @@
+"""Packets and their report, joined once by row. Everything that the commands ask of a replay stands in these columns.
+
+A column has one number for each row of the packet file, in its order: place i has row i + 1. What doesn't apply is -1.
+"""
+
+from __future__ import annotations
+
+from dataclasses import dataclass
+from functools import cached_property
+from typing import Iterable
+
+from hinge.captures.addresses import read_addresses
+from hinge.command import ROWS, Fault
+from hinge.lazy import Integers, Mask, np
+from hinge.replays.columns import Address, Number, OneOf, numbered
+from hinge.replays.tables import read_table
+
+EVENTS = NONE, FULL, LOST, HELD, OUT = range(5)
+KINDS = ("pipe", "queue")
+EVENT_NAMES = ("none", "full", "lost", "held", "out")
+PROTOCOLS = {1: "icmp", 6: "tcp", 17: "udp", 58: "icmpv6", 132: "sctp"}
+
+
+@dataclass(frozen=True)
+class Packets:
+    """A packet file. `target` and `five_tuple` number the names in `targets` and `tuples`."""
+
+    path: str
+    moment: Integers
+    target: Integers
+    five_tuple: Integers
+    length: Integers
+    word: Integers
+    targets: list[tuple[str, int]]
+    tuples: list[tuple[str, str, int, int, int]]
+
+    def __len__(self) -> int:
+        return len(self.moment)
+
+    def tuple_name(self, number: int) -> str:
+        """A five-tuple as people write it."""
+        src, dst, proto, sport, dport = self.tuples[number]
+        name = PROTOCOLS.get(proto, f"proto {proto}")
+        if not (sport or dport):
+            return f"{name} {src} > {dst}"
+        first, second = (f"[{address}]" if ":" in address else address for address in (src, dst))
+        return f"{name} {first}:{sport} > {second}:{dport}"
+
+
+@dataclass(frozen=True)
+class Replay:
+    """What became of the packets of a packet file."""
+
+    path: str
+    packets: Packets
+    event: Integers
+    flow: Integers
+    packet: Integers
+    at: Integers
+    start: Integers
+    due: Integers
+
+    @cached_property
+    def is_out(self) -> Mask:
+        is_out: Mask = self.event == OUT
+        return is_out
+
+    @cached_property
+    def took(self) -> Integers:
+        """From being sent to leaving, in ns; it means nothing for a packet that didn't leave."""
+        return self.due - self.at
+
+    def count(self, event: int) -> int:
+        return int(np.count_nonzero(self.event == event))
+
+
+def dotted(address: int) -> str:
+    return ".".join(str(address >> shift & 255) for shift in (24, 16, 8, 0))
+
+
+def named_tuples(rows: Iterable[tuple[int, ...]], addresses: dict[str, str]) -> list[tuple[str, str, int, int, int]]:
+    """Five-tuples with their addresses as text, those that stand for IPv6 addresses under these."""
+    def named(address: int) -> str:
+        return addresses.get(dotted(address), dotted(address))
+
+    return [(named(src), named(dst), proto, sport, dport) for src, dst, proto, sport, dport in rows]
+
+
+def read_packets(path: str) -> Packets:
+    found = read_table(path, {
+        "moment": Number(), "target": OneOf(KINDS), "number": Number(), "src": Address(), "dst": Address(),
+        "proto": Number(),
+        "sport": Number(), "dport": Number(), "len": Number(), "word": Number(),
+    })
+    target, first_of_target = numbered(found["target"], found["number"])
+    five = [found[name] for name in ("src", "dst", "proto", "sport", "dport")]
+    five_tuple, first_of_tuple = numbered(*five)
+    targets = [(KINDS[found["target"][row]], int(found["number"][row])) for row in first_of_target]
+    rows = zip(*(column[first_of_tuple].tolist() for column in five))
+    tuples = named_tuples(rows, read_addresses(path))
+    return Packets(path, found["moment"], target, five_tuple, found["len"], found["word"], targets, tuples)
+
+
+def read_report(path: str, packets: Packets) -> Replay:
+    """The report of a replay of these packets: each row has one line."""
+    columns = read_table(path, {
+        "event": OneOf(EVENT_NAMES), "row": Number(), "flow": Number(True), "packet": Number(True),
+        "at": Number(), "start": Number(True), "due": Number(True),
+    })
+    place = columns.pop("row") - 1
+    count = np.bincount(place,
+                        minlength=len(packets)) if len(place) and place.min() >= 0 else np.zeros(len(packets), int)
+    if len(place) != len(packets) or len(count) != len(packets) or (count != 1).any():
+        raise Fault(f"{path}: its {len(place)} lines aren't those of the {len(packets)} rows of {packets.path}", ROWS)
+    joined = {name: np.empty_like(column) for name, column in columns.items()}
+    for name, column in columns.items():
+        joined[name][place] = column
+    if (joined["at"] < packets.moment).any():
+        row = int(np.argmax(joined["at"] < packets.moment)) + 1
+        why = "it is the report of other packets"
+        raise Fault(f"{path}: row {row} was sent before its moment in {packets.path}: {why}", ROWS)
+    return Replay(path, packets, **joined)

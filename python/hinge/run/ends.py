@@ -1,0 +1,41 @@
+"""The addresses of a run's two hosts, by the network that --net names."""
+
+from __future__ import annotations
+
+import ipaddress
+from typing import NamedTuple
+
+from hinge.run.words import Wrong
+
+MOST_BITS, FEWEST_BITS = 30, 8  # of a network that has two hosts, and of one that leaves others
+
+
+class Ends(NamedTuple):
+    client: str
+    server: str
+    client6: str
+    server6: str
+    network: str
+    bits: int  # of the addresses of IPv4 that are the network's
+
+    def names(self) -> str:
+        """Lines of /etc/hosts."""
+        return f"{self.server} server\n{self.client} client\n{self.server6} server6\n{self.client6} client6\n"
+
+
+OWN = Ends("10.8.0.1", "10.8.0.2", "fd08::1", "fd08::2", "10.8.0.0/24", 24)
+
+
+def ends_of(text: str | None) -> Ends:
+    """The first two addresses of a network; those of IPv6 are in fd08::, by the network's number."""
+    if text is None:
+        return OWN
+    try:
+        network = ipaddress.IPv4Network(text)
+    except ValueError:
+        raise Wrong(f"--net {text}: no network of IPv4, as 10.20.0.0/24") from None
+    if not FEWEST_BITS <= network.prefixlen <= MOST_BITS or network.is_loopback or network.is_multicast:
+        raise Wrong(f"--net {text}: no network of hosts with /{FEWEST_BITS} to /{MOST_BITS}, as 10.20.0.0/24")
+    number = int(network.network_address)
+    six = f"fd08:{number >> 16:x}:{number & 0xffff:x}::"
+    return Ends(str(network[1]), str(network[2]), six + "1", six + "2", str(network), network.prefixlen)

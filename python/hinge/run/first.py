@@ -1,0 +1,44 @@
+"""The first process of the rooms, on which all of them hang, as the process that waits for it sees it."""
+
+from __future__ import annotations
+
+import os
+import signal
+import sys
+from typing import Callable, NoReturn
+
+from hinge.command import say
+from hinge.run.system import Missing, die_with_parent
+
+REFUSED, INTERRUPTED = 6, 130
+BLOCKED = {signal.SIGCHLD, signal.SIGTERM, signal.SIGHUP, signal.SIGINT}
+
+
+def live(run: Callable[[], int]) -> NoReturn:
+    """The whole life of the first process, which ends with the status that `run` returns."""
+    status = REFUSED
+    try:
+        die_with_parent()
+        status = run()
+    except Missing as missing:
+        say(str(missing))
+    except OSError as error:
+        say(f"{error.filename or 'the system'}: {error.strerror}")
+    finally:
+        sys.stderr.flush()
+        os._exit(status)
+
+
+def status_of(first: int) -> int:
+    """Waits for the first process, and hands signals on. A ^C of the terminal came to the command too, and is its affair."""
+    interrupted = False
+    while True:
+        came = signal.sigwaitinfo(BLOCKED)
+        if came.si_signo == signal.SIGCHLD:
+            process, status = os.waitpid(first, os.WNOHANG)
+            if process:
+                status = os.WEXITSTATUS(status) if os.WIFEXITED(status) else 128 + os.WTERMSIG(status)
+                return INTERRUPTED if interrupted and status == 128 + signal.SIGTERM else status
+        elif came.si_signo != signal.SIGINT or came.si_code == 0:
+            interrupted = came.si_signo == signal.SIGINT
+            os.kill(first, signal.SIGTERM)

@@ -1,0 +1,132 @@
+"""A link inside a network that is there already, as a container's: between its programs and its interface, in IPv4, by rules of routing.
+
+What its programs send goes into one interface and, behind the link, out of the other one to where it went before. What comes goes the other
+way. The interfaces go with the host of the link, however that ends, and their ways with them: then all goes by the rules that are left as it
+went before. Those are taken away at the end, or by the next run there."""
+
+from __future__ import annotations
+
+import errno
+import os
+import socket
+import struct
+from typing import NamedTuple
+
+from hinge.run.ends import OWN
+from hinge.run.interfaces import add_interface_route, add_tun, ask, dropped, hand_on
+from hinge.run.rooms import Rooms, see_own_processes
+from hinge.run.system import Missing, enter, try_to_write
+from hinge.run.words import Wrong
+
+UP, DOWN = "hinge-up", "hinge-down"
+ENDS = {UP: ("169.254.77.1", "fe80::77:1"), DOWN: ("169.254.77.2", "fe80::77:2")}
+NEWRULE, DELRULE = 32, 33  # RTM_NEWRULE, RTM_DELRULE
+COMES_BY, PRIORITY, TABLE, TO_TABLE = 3, 6, 15, 1  # FRA_IIFNAME, FRA_PRIORITY, FRA_TABLE, FR_ACT_TO_TBL
+MAIN, LOCAL, OF_UP, OF_DOWN = 254, 255, 7701, 7702  # tables
+FIRST = 10  # the priority of the first rule; the others follow it
+SETTINGS = "/proc/sys/net/ipv4/"
+TAKES_ROOT = "--netns: only root may enter the network of another one: sudo hinge run --netns PID"
+# A packet comes by another interface than its answer goes, has an address of this network as its source, and isn't taken by a socket before
+# it was on the link.
+OF_INTERFACES, OF_ALL = {"rp_filter": "0", "accept_local": "1"}, {"ip_early_demux": "0"}
+
+
+def network_of(text: str) -> int:
+    """The network of a process, or the one at a path."""
+    try:
+        network = os.open(f"/proc/{text}/ns/net" if text.isdecimal() else text, os.O_RDONLY | os.O_CLOEXEC)
+        if os.path.samestat(os.fstat(network), os.stat("/proc/self/ns/net")):
+            raise Wrong(f"--netns {text}: it is this system's own network")
+        return network
+    except PermissionError:
+        raise Missing(TAKES_ROOT) from None
+    except OSError as error:
+        raise Wrong(f"--netns {text}: {error.strerror}: it is a process, or a path as /run/netns/NAME") from None
+
+
+def setting(name: str) -> str:
+    with open(SETTINGS + name) as file:
+        return file.read().strip()
+
+
+class WayOut(NamedTuple):
+    interface: str
+    address: str
+
+
+def way_out() -> WayOut:
+    """The interface of the way to all other networks, and the address that packets have there."""
+    with open("/proc/thread-self/net/route") as file:
+        rows = [line.split() for line in list(file)[1:]]
+    found = [row for row in rows if row[1] == row[7] == "00000000"]
+    if not found:
+        raise Missing("--netns: this network has no way out, which a link could be on")
+    with socket.socket(socket.AF_INET, socket.SOCK_DGRAM) as asked:
+        asked.connect((socket.inet_ntoa(struct.pack("<I", int(found[0][2], 16))), 9))
+        return WayOut(found[0][0], str(asked.getsockname()[0]))
+
+
+def rule(kind: int, priority: int, table: int, comes_by: str = "") -> None:
+    given = [(COMES_BY, comes_by.encode() + b"\0")] if comes_by else []
+    ask(kind, struct.pack("BBBBBBBBI", socket.AF_INET, 0, 0, 0, 0, 0, 0, TO_TABLE, 0),
+        [*given, (PRIORITY, struct.pack("I", priority)), (TABLE, struct.pack("I", table))])
+
+
+def rules(by: str) -> list[tuple[int, str]]:
+    """Tables, and by which interface a packet comes, in their order."""
+    return [(OF_DOWN, by), (LOCAL, UP), (MAIN, DOWN), (LOCAL, ""), (OF_UP, "lo")]
+
+
+def without_rules(by: str) -> None:
+    """Takes away all that a run has made here, and lets packets to itself be the first again."""
+    try:
+        rule(DELRULE, 0, LOCAL)
+    except OSError:
+        pass
+    rule(NEWRULE, 0, LOCAL)
+    for place, (table, comes_by) in enumerate(rules(by)):
+        while True:
+            try:
+                rule(DELRULE, FIRST + place, table, comes_by)
+            except OSError as error:
+                if error.errno != errno.ENOENT:
+                    raise
+                break
+
+
+class Joined(Rooms):
+    """Made in the first process, which is in that network from then on. Client and server are there both."""
+
+    def __init__(self, network: int, mtu: int, own_users: bool) -> None:
+        see_own_processes()
+        self.client = self.server = network
+        self.own_users, self.ends = own_users, OWN
+        try:
+            enter(network)
+        except OSError as error:
+            raise Missing(TAKES_ROOT if error.errno == errno.EPERM else f"--netns: {error.strerror}: it is no network") from None
+        self.out = way_out()
+        without_rules(self.out.interface)
+        self.interfaces = (add_tun(*ENDS[UP], mtu, UP, persists=False), add_tun(*ENDS[DOWN], mtu, DOWN, persists=False))
+        needed = {**{f"conf/{name}/{key}": value for name in ("all", self.out.interface, UP, DOWN) for key, value in OF_INTERFACES.items()}, **OF_ALL}
+        self.before = {name: setting(name) for name in needed}
+        self.handed_on = setting(f"conf/{self.out.interface}/forwarding") == "1"
+        for name, value in needed.items():
+            try_to_write(SETTINGS + name, value)
+        for name in (DOWN, self.out.interface):
+            hand_on(name)
+        add_interface_route("0.0.0.0", UP, self.out.address, 0, OF_UP)
+        add_interface_route("0.0.0.0", DOWN, ENDS[DOWN][0], 0, OF_DOWN)
+        for place, (table, comes_by) in enumerate(rules(self.out.interface)):
+            rule(NEWRULE, FIRST + place, table, comes_by)
+        rule(DELRULE, 0, LOCAL)
+
+    def dropped(self) -> list[int]:
+        enter(self.client)
+        return [dropped(UP), dropped(DOWN)]
+
+    def end(self) -> None:
+        without_rules(self.out.interface)
+        for name, value in self.before.items():
+            try_to_write(SETTINGS + name, value)
+        hand_on(self.out.interface, self.handed_on)

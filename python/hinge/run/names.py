@@ -1,0 +1,37 @@
+"""The sockets of runs that have a name: where they are, and how a name is told from a path."""
+
+from __future__ import annotations
+
+import os
+import re
+import stat
+from tempfile import gettempdir
+
+from hinge.run.words import Wrong
+
+NAME = re.compile(r"[A-Za-z0-9][A-Za-z0-9._-]{0,99}", re.ASCII)
+
+
+def folder() -> str:
+    """That of this user's names, which may not be there."""
+    if os.environ.get("XDG_RUNTIME_DIR"):
+        return os.path.join(os.environ["XDG_RUNTIME_DIR"], "hinge")
+    return "/run/hinge" if os.geteuid() == 0 else os.path.join(gettempdir(), f"hinge-{os.geteuid()}")
+
+
+def socket_of(text: str) -> str:
+    """A path as it is, and the socket of a name."""
+    named = os.path.join(folder(), text)
+    return named if NAME.fullmatch(text) and not os.path.exists(text) and os.path.exists(named) else text
+
+
+def new_socket(name: str) -> str:
+    """Where a run gets a socket by name. Its folder is made, and must be this user's alone."""
+    if not NAME.fullmatch(name):
+        raise Wrong(f"--name {name}: a name has letters, digits, dots and hyphens")
+    place = folder()
+    os.makedirs(place, 0o700, exist_ok=True)
+    found = os.lstat(place)
+    if not stat.S_ISDIR(found.st_mode) or found.st_uid != os.geteuid():
+        raise Wrong(f"{place}: it is another user's")
+    return os.path.join(place, name)

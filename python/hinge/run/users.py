@@ -1,0 +1,95 @@
+"""The users of the rooms: this process's own, and subordinate ones if the system gives it some (subuid(5)), so that a server finds groups
+there that it gives files to, as that of terminals."""
+
+from __future__ import annotations
+
+import grp
+import os
+import pwd
+import shutil
+from typing import NamedTuple, Optional
+
+from hinge.run.system import BIND, NEWNS, mount, unshare, write
+
+FILES = {"uid": "/etc/subuid", "gid": "/etc/subgid"}
+PROGRAMS = {"uid": "newuidmap", "gid": "newgidmap"}
+TERMINALS, TERMINAL_MAKER = "/dev/pts", "/dev/ptmx"
+
+
+class Subordinate(NamedTuple):
+    first: int
+    length: int
+
+
+def subordinate(path: str, user: int) -> Optional[Subordinate]:
+    """The first range that a file gives to a user, by its name or number."""
+    names = {str(user)}
+    try:
+        names.add(pwd.getpwuid(user).pw_name)
+    except KeyError:
+        pass
+    try:
+        with open(path) as file:
+            rows = [line.strip().split(":") for line in file]
+    except OSError:
+        return None
+    found = [row for row in rows if len(row) == 3 and row[0] in names and row[1].isdecimal() and row[2].isdecimal()]
+    return Subordinate(int(found[0][1]), int(found[0][2])) if found else None
+
+
+def mapping(own: int, given: Subordinate) -> list[str]:
+    """The words of newuidmap: an id is itself, and the others from 0 on are subordinate ones."""
+    below = min(own, given.length)
+    parts = [(0, given.first, below), (own, own, 1), (own + 1, given.first + below, given.length - below if own < given.length else 0)]
+    return [str(number) for part in parts if part[2] for number in part]
+
+
+class Users:
+    """Made before the process leaves the users of the system: a child stays there, and maps those of the new namespace when it is told."""
+
+    def __init__(self) -> None:
+        self.child, self.own = 0, {"uid": os.geteuid(), "gid": os.getegid()}
+        given = {kind: subordinate(path, os.geteuid()) for kind, path in FILES.items()}
+        words = {kind: [PROGRAMS[kind], str(os.getpid()), *mapping(self.own[kind], found)] for kind, found in given.items() if found}
+        if len(words) < len(FILES) or not all(map(shutil.which, PROGRAMS.values())):
+            return
+        read_end, self.write_end = os.pipe()
+        self.child = os.fork()
+        if self.child == 0:
+            os.close(self.write_end)
+            os.dup2(os.open(os.devnull, os.O_WRONLY), 2)  # where it refuses, the user is alone there
+            os._exit(0 if os.read(read_end, 1) and all(os.spawnvp(os.P_WAIT, said[0], said) == 0 for said in words.values()) else 1)
+        os.close(read_end)
+
+    def map(self, is_new: bool) -> None:
+        """Maps the users of the present namespace, if it is a new one: its own user alone where there are no others."""
+        has_others = False
+        if self.child:
+            if is_new:
+                os.write(self.write_end, b"!")
+            os.close(self.write_end)
+            has_others = os.waitpid(self.child, 0)[1] == 0
+        if is_new and not has_others:
+            self.map_own()
+
+    def map_own(self) -> None:
+        write("/proc/self/setgroups", "deny")
+        for kind, own in self.own.items():
+            try:
+                write(f"/proc/self/{kind}_map", f"{own} {own} 1")
+            except PermissionError:
+                if not self.child:
+                    raise
+                # newuidmap has mapped users before newgidmap failed
+
+
+def make_terminals() -> None:
+    """Gives this process terminals of its own, which the group of terminals has, as a login wants it. Where that isn't allowed it has the
+    system's."""
+    try:
+        group = grp.getgrnam("tty").gr_gid
+        unshare(NEWNS)
+        mount("devpts", TERMINALS, "devpts", 0, f"newinstance,ptmxmode=0666,mode=0620,gid={group}")
+        mount(f"{TERMINALS}/ptmx", TERMINAL_MAKER, "none", BIND)
+    except (KeyError, OSError):
+        pass

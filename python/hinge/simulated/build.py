@@ -1,0 +1,134 @@
+"""Builds the kernel of simulated machines from a source package of Linux."""
+
+from __future__ import annotations
+
+import hashlib
+import os
+import re
+import shutil
+import subprocess
+import sys
+from functools import partial
+from pathlib import Path
+from tempfile import TemporaryDirectory
+from typing import Iterator
+
+from hinge.command import Bar, Fault, path_of_program, say
+from hinge.run.system import Missing
+from hinge.simulated.kernel import CONFIG, INIT, PATCH, VERSION, Kernel, cache, folder_of
+
+PACKAGES = Path("/usr/src")
+NEEDED = {"cc": "gcc", "make": "make", "flex": "flex", "bison": "bison", "bc": "bc", "tar": "tar", "xz": "xz-utils",
+          "patch": "patch", "strip": "binutils"}
+ROOM = 2_000_000_000  # bytes that a build takes
+MADE = re.compile(r"^  (?:CC|LD|AR|AS|GEN|HOSTCC|HOSTLD|LEX|YACC|UPD|LDS|OBJCOPY|MKCAP|CHK|SYSHDR|SYSTBL|WRAP)\s")
+ABOUT = 1050  # such lines of a whole build
+WORDS = 30  # lines of a failed step that are told
+FAILED = 6
+
+
+def source() -> Path:
+    """The newest source package of Linux that Debian has installed."""
+    def by_version(path: Path) -> list[int]:
+        return [int(word) for word in re.findall(r"\d+", path.name.partition(".tar")[0])]
+
+    found = sorted(PACKAGES.glob("linux-source-*.tar.xz"), key=by_version)
+    if not found:
+        raise Missing("there is no source of Linux: apt-get install linux-source-6.12, or name one by --source "
+                      "(hinge docs SIMULATED has other systems)")
+    return found[-1]
+
+
+class Build:
+    """A build in a folder of its own, which goes when it is over."""
+
+    def __init__(self, packed: Path, jobs: int) -> None:
+        for name, package in NEEDED.items():
+            path_of_program(name, package)
+        if not packed.is_file():
+            raise Missing(f"{packed}: there is no such file")
+        self.packed, self.jobs = packed, jobs
+
+    def step(self, what: str, *words: "str | Path", where: Path) -> None:
+        """Runs a command, and tells its last lines where it fails."""
+        names = {"PATH": os.environ["PATH"], "HOME": str(where), "LC_ALL": "C", "ARCH": "um", **VERSION}
+        bar, last = Bar(f"steps of the build ({what})", ABOUT), list[str]()
+        with subprocess.Popen([*map(str, words)], cwd=where, env=names, stdin=subprocess.DEVNULL, text=True,
+                              stdout=subprocess.PIPE, stderr=subprocess.STDOUT, errors="replace") as process:
+            for line in process.stdout or ():
+                last = [*last[-WORDS:], line]
+                if MADE.match(line) and bar.done < ABOUT - 1:
+                    bar.step()
+        bar.clear()
+        if process.returncode:
+            sys.stderr.writelines(last)
+            raise Fault(f"{what}: {words[0]} ended with {process.returncode}", FAILED)
+
+    def unpacked(self, folder: Path) -> Path:
+        say(f"unpacks {self.packed}")
+        self.step("unpacking", "tar", "-xf", self.packed, where=folder)
+        trees = [path for path in folder.iterdir() if (path / "Kconfig").is_file()]
+        if len(trees) != 1:
+            raise Fault(f"{self.packed}: it is no source of Linux", FAILED)
+        return trees[0]
+
+    def configure(self, tree: Path) -> None:
+        """Our patch, and the smallest configuration with ours over it."""
+        self.step("our patch, which is for Linux 6.12", "patch", "-p1", "--forward", "-i", PATCH, where=tree)
+        self.step("configuration", "make", "tinyconfig", where=tree)
+        self.step("configuration", "scripts/kconfig/merge_config.sh", "-m", ".config", CONFIG, where=tree)
+        self.step("configuration", "make", "olddefconfig", where=tree)
+        if "\nCONFIG_UML_TIME_TRAVEL_SUPPORT=y\n" not in (tree / ".config").read_text():
+            raise Fault("this source of Linux has no time travel", FAILED)
+
+    def compile(self, tree: Path, into: Path) -> None:
+        say(f"compiles Linux {version_of(tree)}, some 9 minutes of processor time, by {self.jobs} at a time")
+        self.step("compilation", "make", f"-j{self.jobs}", "linux", where=tree)
+        self.step("stripping", "strip", "-o", into / "linux", "linux", where=tree)
+        add_init(Kernel(into))
+        (into / "checksum").write_text(f"{sha256_of(into / 'linux')}\n")
+        named = f"Linux {version_of(tree)}: {self.packed.name}, SHA-256 {sha256_of(self.packed)}"
+        (into / "source").write_text(f"{named}\n")
+        shutil.copyfile(tree / ".config", into / "config")
+
+    def run(self) -> Iterator[Kernel]:
+        """The kernel that was built, and once it was tried, the same where it is kept."""
+        cache().mkdir(parents=True, exist_ok=True)
+        with TemporaryDirectory(prefix="hinge-") as place, TemporaryDirectory(dir=cache(), prefix=".new-") as new:
+            if shutil.disk_usage(place).free < ROOM:
+                raise Missing(f"{place}: a build takes {ROOM // 10**9} GB; the variable TMPDIR names another place")
+            tree = self.unpacked(Path(place))
+            self.configure(tree)
+            self.compile(tree, Path(new))
+            yield Kernel(Path(new))
+            yield kept_as(Path(new), folder_of(version_of(tree)))
+
+
+def sha256_of(path: Path) -> str:
+    digest = hashlib.sha256()
+    with open(path, "rb") as file:
+        for part in iter(partial(file.read, 1 << 20), b""):
+            digest.update(part)
+    return digest.hexdigest()
+
+
+def add_init(kernel: Kernel) -> None:
+    """Compiles the first process of a kernel's machines."""
+    words = [path_of_program("cc", NEEDED["cc"]), "-std=c17", "-O2", "-static", "-s", "-o", str(kernel.init), str(INIT)]
+    done = subprocess.run(words, capture_output=True, text=True, errors="replace")
+    if done.returncode:
+        raise Fault(f"{INIT} isn't compiled: {done.stderr.strip()}", FAILED)
+
+
+def version_of(tree: Path) -> str:
+    """The version of a tree of Linux, as 6.12.1."""
+    numbers = re.findall(r"^(?:VERSION|PATCHLEVEL|SUBLEVEL) = (\d+)$", (tree / "Makefile").read_text(), re.MULTILINE)
+    return ".".join(numbers)
+
+
+def kept_as(new: Path, folder: Path) -> Kernel:
+    """Puts a kernel where it is looked for, in the place of one that is there."""
+    shutil.rmtree(folder, ignore_errors=True)
+    new.chmod(0o755)
+    shutil.copytree(new, folder)
+    return Kernel(folder)

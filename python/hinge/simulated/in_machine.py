@@ -1,0 +1,17 @@
+"""A command of the kit in a simulated machine, as the launcher started it there."""
+
+from __future__ import annotations
+
+import argparse
+import importlib
+import json
+import sys
+from typing import NoReturn
+
+from hinge import command
+
+
+def main() -> NoReturn:
+    name, asked = sys.argv[1], argparse.Namespace(**json.loads(sys.argv[2]))
+    command.NAME[0] = f"hinge {name}"
+    command.run(lambda: importlib.import_module(f"hinge.commands.{name}").begin(asked))

@@ -1,0 +1,76 @@
+"""Interrupts for processes of a machine that only compute.
+
+No time passes while a process computes, so nothing inside interrupts one. It may wait for a value that another process
+sets. So one that has computed for long without a call of its kernel is interrupted from outside, and each moves
+the time on a little. These interrupts come at real moments, so no second run is the same.
+"""
+
+from __future__ import annotations
+
+import os
+import signal
+from typing import Iterator, NamedTuple, Optional
+
+LONG = 0.5  # s of processor time without a call of the kernel
+PAUSE, SHORT = 0.1, 0.002  # s between looks
+OWN_WAITS = 2  # that an interrupt itself makes at most
+
+
+class Look(NamedTuple):
+    """A process when it was looked at. Each call of its kernel makes it wait once."""
+
+    waits: int
+    used: float  # s
+    is_running: bool
+    is_interrupted: bool = False
+
+
+def children(machine: int) -> list[int]:
+    try:
+        with open(f"/proc/{machine}/task/{machine}/children") as file:
+            return [int(word) for word in file.read().split()]
+    except OSError:
+        return []
+
+
+def looked(process: int) -> Optional[Look]:
+    try:
+        with open(f"/proc/{process}/stat") as file:
+            fields = file.read().rpartition(")")[2].split()
+        with open(f"/proc/{process}/status") as file:
+            waits = next(line for line in file if line.startswith("voluntary_ctxt_switches"))
+    except (OSError, StopIteration):
+        return None
+    return Look(int(waits.split()[1]), (int(fields[11]) + int(fields[12])) / os.sysconf("SC_CLK_TCK"), fields[0] == "R")
+
+
+class Interrupts:
+    def __init__(self, machine: int) -> None:
+        """For the processes of the machine whose kernel is this process."""
+        self.machine, self.count, self.last = machine, 0, dict[int, Look]()
+
+    def looks(self) -> Iterator[tuple[int, Look]]:
+        for process in children(self.machine):
+            look = looked(process)
+            if look:
+                yield process, look
+
+    def is_long(self, before: Look, look: Look) -> bool:
+        """Whether a process has computed for long, or does still since it was interrupted."""
+        if before.is_interrupted:
+            return look.is_running and look.waits - before.waits <= OWN_WAITS
+        return look.is_running and look.waits == before.waits and look.used - before.used >= LONG
+
+    def look(self) -> float:
+        """Interrupts those that have computed for long; the seconds until the next look."""
+        pause, now = PAUSE, dict[int, Look]()
+        for process, look in self.looks():
+            before = self.last.get(process, look)
+            if self.is_long(before, look):
+                os.kill(process, signal.SIGALRM)
+                self.count += 1
+                pause, now[process] = SHORT, look._replace(is_interrupted=True)
+            else:
+                now[process] = before if look.waits == before.waits and not before.is_interrupted else look
+        self.last = now
+        return pause

@@ -1,0 +1,93 @@
+"""The kernel of simulated machines: what it is built of, and where it is kept."""
+
+from __future__ import annotations
+
+import hashlib
+import os
+from pathlib import Path
+from typing import Iterator, NamedTuple
+
+from hinge.run.system import Missing
+
+HERE = Path(__file__).resolve().parent
+CONFIG, PATCH, INIT = HERE / "kernel.config", HERE / "kernel.patch", HERE / "init.c"
+PACKAGED = Path("/usr/lib/hingetulip/kernels")  # where a package of Debian puts it
+LETTERS = 16  # of a checksum in the name of a folder
+# The kernel draws random numbers from its own version too. It is fixed, so that each build draws the same.
+VERSION = {"KBUILD_BUILD_TIMESTAMP": "2026-01-01", "KBUILD_BUILD_USER": "hinge", "KBUILD_BUILD_HOST": "hinge",
+           "KBUILD_BUILD_VERSION": "1"}
+
+
+class Kernel(NamedTuple):
+    """A folder with a kernel, and the first process of its machines, which can be made anew without the kernel."""
+
+    folder: Path
+
+    @property
+    def linux(self) -> Path:
+        return self.folder / "linux"
+
+    @property
+    def init(self) -> Path:
+        return self.folder / f"init-{checksum_of(INIT)}"
+
+    @property
+    def checksum(self) -> str:
+        """Of the kernel: SHA-256, in hex."""
+        return (self.folder / "checksum").read_text(encoding="ascii").strip()
+
+    @property
+    def is_built(self) -> bool:
+        return self.linux.is_file() and (self.folder / "checksum").is_file()
+
+    @property
+    def is_whole(self) -> bool:
+        return self.is_built and self.init.is_file()
+
+
+def cache() -> Path:
+    """Where this user's kernels are kept."""
+    named = os.environ.get("XDG_CACHE_HOME", "")
+    return Path(named if os.path.isabs(named) else os.path.expanduser("~/.cache")) / "hingetulip" / "kernels"
+
+
+def checksum_of(*paths: Path, begin: str = "") -> str:
+    digest = hashlib.sha256(begin.encode())
+    for path in paths:
+        digest.update(path.read_bytes())
+    return digest.hexdigest()[:LETTERS]
+
+
+def inputs() -> str:
+    """A checksum of what a kernel is built of beside the source of Linux."""
+    return checksum_of(CONFIG, PATCH, begin=repr(sorted(VERSION.items())))
+
+
+def folder_of(version: str) -> Path:
+    """Where the kernel of a version of Linux is kept."""
+    return cache() / f"{version}-{inputs()}"
+
+
+def by_version(folder: Path) -> list[int]:
+    return [int(part) if part.isdecimal() else 0 for part in folder.name.partition("-")[0].split(".")]
+
+
+def kept() -> Iterator[Kernel]:
+    """The kernels that were built of the present configuration and patch, the newest Linux first."""
+    for place in (cache(), PACKAGED):
+        for folder in sorted(place.glob(f"*-{inputs()}"), key=by_version, reverse=True):
+            if Kernel(folder).is_built:
+                yield Kernel(folder)
+
+
+def found() -> Kernel:
+    """The kernel whose folder the variable HINGE_KERNEL names, else one that `hinge kernel` or a package has put."""
+    named = os.environ.get("HINGE_KERNEL")
+    if named:
+        if not Kernel(Path(named)).is_whole:
+            raise Missing(f"HINGE_KERNEL: {named} has no kernel and first process of this version of hinge")
+        return Kernel(Path(named).resolve())
+    for kernel in kept():
+        if kernel.is_whole:
+            return kernel
+    raise Missing("there is no kernel for simulated time yet: `hinge kernel` builds it, once")

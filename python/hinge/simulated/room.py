@@ -1,0 +1,50 @@
+"""The folder of a machine: in memory, where that may be executed."""
+
+from __future__ import annotations
+
+import mmap
+import os
+import shutil
+import tempfile
+from pathlib import Path
+from typing import Optional
+
+from hinge.run.system import Missing
+
+
+def may_be_executed(folder: str) -> bool:
+    """Whether a file there can be mapped as code, as the machine does with its memory."""
+    try:
+        with tempfile.TemporaryFile(dir=folder) as file:
+            file.truncate(mmap.PAGESIZE)
+            mmap.mmap(file.fileno(), mmap.PAGESIZE, mmap.MAP_SHARED, mmap.PROT_READ | mmap.PROT_EXEC).close()
+    except OSError:
+        return False
+    return True
+
+
+def memory_folder(size: int) -> str:
+    """A folder that has so many bytes free and may be executed; best in memory, since each write goes there at once."""
+    places = ["/dev/shm", tempfile.gettempdir(), "/var/tmp"]
+    for place in places:
+        if os.path.isdir(place) and may_be_executed(place) and shutil.disk_usage(place).free >= size:
+            return place
+    raise Missing(f"--simulated: none of {', '.join(places)} has {size >> 20} MB free and may be executed; "
+                  "--memory asks for less")
+
+
+class Room:
+    """The folder that a machine and its launcher share, and the one in which it keeps what outlives it."""
+
+    def __init__(self, size: int, kept: Optional[Path] = None) -> None:
+        """For a machine of so many bytes. A folder that is given for what it keeps stays."""
+        self.memory = memory_folder(size)
+        self.folder = Path(tempfile.mkdtemp(prefix="hinge-", dir=self.memory))
+        self.is_kept = kept is not None
+        self.kept = kept or Path(tempfile.mkdtemp(prefix="hinge-"))
+        (self.folder / "kept").symlink_to(self.kept)
+
+    def remove(self) -> None:
+        shutil.rmtree(self.folder, ignore_errors=True)
+        if not self.is_kept:
+            shutil.rmtree(self.kept, ignore_errors=True)

@@ -1,0 +1,92 @@
+"""What a machine writes, copied on as it is written, and what it reads."""
+
+from __future__ import annotations
+
+import ctypes
+import os
+import shutil
+import sys
+import threading
+import time
+from pathlib import Path
+
+from hinge.command import say
+from hinge.run.system import libc
+
+PAUSE = 0.02  # s between looks at a file
+PIECE = 1 << 20  # bytes
+MOST_AHEAD = 64 << 20  # bytes that a machine may be ahead of who reads its output
+KEEP_SIZE, PUNCH_HOLE = 1, 2  # of fallocate(2)
+PATIENCE = 2.0  # s until it is told that the input hasn't ended
+
+
+class Copier(threading.Thread):
+    """Copies a file that grows to a descriptor. What was copied takes no more room, unless it is kept."""
+
+    def __init__(self, path: Path, to: int, keeps: bool) -> None:
+        super().__init__(daemon=True)
+        self.file, self.to, self.keeps = os.open(path, os.O_RDWR | os.O_CLOEXEC), to, keeps
+        self.copied, self.is_last, self.is_broken = 0, False, False
+        self.start()
+
+    def ahead(self) -> int:
+        """How many bytes are still to be copied."""
+        return os.fstat(self.file).st_size - self.copied
+
+    def copy(self) -> bool:
+        """Copies what there is; whether there was anything."""
+        data = os.pread(self.file, PIECE, self.copied)
+        left = memoryview(data)
+        while left:
+            left = left[os.write(self.to, left):]
+        if data and not self.keeps:
+            libc.fallocate(self.file, KEEP_SIZE | PUNCH_HOLE, ctypes.c_long(self.copied), ctypes.c_long(len(data)))
+        self.copied += len(data)
+        return bool(data)
+
+    def run(self) -> None:
+        try:
+            while True:
+                last = self.is_last
+                if self.copy():
+                    continue
+                if last:
+                    return
+                time.sleep(PAUSE)
+        except OSError:
+            self.is_broken = True  # nobody reads it any more, or its disk is full
+
+    def finish(self) -> None:
+        self.is_last = True
+        self.join()
+        os.close(self.file)
+
+
+def is_same_file(one: int, other: int) -> bool:
+    """Whether two descriptors lead to one place, so that the order of what is written to them shows."""
+    try:
+        first, second = os.fstat(one), os.fstat(other)
+    except OSError:
+        return False
+    return (first.st_dev, first.st_ino) == (second.st_dev, second.st_ino)
+
+
+def has_terminal() -> bool:
+    try:
+        return os.isatty(0)
+    except OSError:
+        return False
+
+
+def read_input(into: Path) -> None:
+    """Keeps the whole standard input, since simulated time can't wait for more. A terminal's is none."""
+    with open(into, "wb") as file:
+        if has_terminal() or sys.stdin is None:
+            return
+        waiting = threading.Timer(PATIENCE, say, ["--simulated begins when standard input has ended"])
+        waiting.daemon = True
+        waiting.start()
+        try:
+            shutil.copyfileobj(sys.stdin.buffer, file)
+        finally:
+            waiting.cancel()

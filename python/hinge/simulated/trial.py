@@ -1,0 +1,41 @@
+"""Whether a kernel travels in time."""
+
+from __future__ import annotations
+
+import tempfile
+from pathlib import Path
+
+from hinge.command import Fault
+from hinge.simulated.job import Job
+from hinge.simulated.kernel import Kernel
+from hinge.simulated.machine import Ended, Machine, Settings
+from hinge.simulated.time_options import BEGINNING, date, size
+
+HOUR = 3600 * 10**9  # ns
+STARTED = 10**9  # ns that sleep may take to start and end
+FAILED = 6
+REAL = 300.0  # s after which a trial is over
+
+
+def ended(kernel: Kernel, *words: str) -> Ended:
+    """How a command ends in a machine of a kernel; what it writes is dropped."""
+    with tempfile.TemporaryDirectory(prefix="hinge-") as place:
+        empty = Path(place) / "in"
+        empty.touch()
+        machine = Machine(kernel, Settings(1, date(BEGINNING), size("256M"), "stable", False), Job(words, empty, True))
+        try:
+            machine.wait(REAL)
+            how = machine.ended()
+            if how is None:
+                raise machine.fault()
+            return how
+        finally:
+            machine.remove()
+
+
+def try_hour(kernel: Kernel) -> float:
+    """Sleeps for an hour in a machine of this kernel; the simulated seconds that it took."""
+    how = ended(kernel, "sleep", "3600")
+    if how.status or not HOUR <= how.simulated < HOUR + STARTED:
+        raise Fault(f"the kernel was built, and doesn't travel in time: {how}", FAILED)
+    return how.simulated / 1e9

@@ -1,0 +1,72 @@
+"""Whether two runs by one seed are the same, and where they part."""
+
+from __future__ import annotations
+
+from itertools import zip_longest
+from pathlib import Path
+from typing import NamedTuple, Optional
+
+from hinge.command import say
+from hinge.replays.parting import parting
+from hinge.simulated.machine import Machine
+
+DIFFERENT = 76  # the status of two runs that differ
+TRANSCRIPT = "the transcript"
+COMPARED = (("out", "standard output"), ("err", "standard error"), ("kept/history", TRANSCRIPT))
+SHOWN = 200  # bytes of a line
+
+
+class Differing(NamedTuple):
+    """The first line at which two files differ, and both lines."""
+
+    line: int
+    texts: "tuple[str, str]"
+
+
+def shown(line: Optional[bytes]) -> str:
+    return "the end" if line is None else repr(line[:SHOWN].decode(errors="replace").rstrip("\n"))
+
+
+def differing(one: Path, other: Path) -> Optional[Differing]:
+    with open(one, "rb") as first, open(other, "rb") as second:
+        for number, (line, beside) in enumerate(zip_longest(first, second), 1):
+            if line != beside:
+                return Differing(number, (shown(line), shown(beside)))
+    return None
+
+
+def difference(one: Path, other: Path, what: str) -> Optional[str]:
+    """Where two files differ: a transcript by its calls, unless only its remarks differ."""
+    line = differing(one, other)
+    if line is None:
+        return None
+    whole = what == TRANSCRIPT and one.stat().st_size and other.stat().st_size
+    found = parting(one, other) if whole else None
+    if found is None:
+        return f"{what} parts in line {line.line:,}: {line.texts[0]} and {line.texts[1]}"
+    return f"{what} parts in call {found.number:,}{found.at()}: {found.reason()}\n{found.text()}"
+
+
+def length(machine: Machine, name: str) -> int:
+    path = machine.folder / name
+    return path.stat().st_size if path.exists() else 0
+
+
+def compared(machines: "list[Machine]", status: int, seed: int) -> int:
+    """Tells whether two runs were the same; the status of the first, or that of two that differ."""
+    one, other = machines
+    if one.cut is not None:
+        return status
+    faults = [] if one.ended() == other.ended() else [f"one ended with {one.ended()}, the other with {other.ended()}"]
+    for name, what in COMPARED:
+        found = difference(one.folder / name, other.folder / name, what) if length(one, name) or length(other, name) else None
+        if found:
+            faults.append(found)
+    for fault in faults:
+        for line in f"two runs by seed {seed} differ: {fault}".split("\n"):
+            say(line)
+    if faults:
+        return DIFFERENT
+    sizes = ", ".join(f"{length(one, name):,} bytes of {what}" for name, what in COMPARED)
+    say(f"two runs by seed {seed} are the same: {sizes}")
+    return status

@@ -1,0 +1,1 @@
+"""Sweeps: many replays of one packet file."""

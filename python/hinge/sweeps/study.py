@@ -1,0 +1,171 @@
+"""A sweep: a folder with the runs of many configurations and seeds over one packet file, each a pure function of its
+files."""
+
+from __future__ import annotations
+
+import csv
+import itertools
+import json
+import os
+import re
+import shutil
+import subprocess
+import tempfile
+from concurrent.futures import ProcessPoolExecutor, as_completed
+from concurrent.futures.process import BrokenProcessPool
+from dataclasses import dataclass
+from pathlib import Path
+from typing import BinaryIO, Iterator, Optional
+
+from hinge.captures.addresses import addresses_file
+from hinge.captures.random_words import direction_of
+from hinge.command import CONFIGURATION, FILES, ROWS, Bar, Fault, say
+from hinge.loss import Bernoulli
+from hinge.pictures.figures import Figures, table_of, write_csv
+from hinge.program import dummynet
+from hinge.replays.links import Parts, read_configuration
+from hinge.replays.replay import read_packets, read_report
+
+PACKETS = "packets.csv"  # the copy in the folder
+PLACE = re.compile(r"\{(\w+)\}")
+SEED = "seed"
+
+
+def reseeded(packets: Path, seed: int) -> Iterator[str]:
+    """The lines of a packet file with the random words of a seed."""
+    models: dict[str, Bernoulli] = {}
+    with open(packets, encoding="utf-8-sig") as file:
+        yield next(file, "")
+        for line in (line for line in file if line.strip()):
+            _, kind, number, _ = line.split(",", 3)
+            if (target := f"{kind},{number}") not in models:
+                models[target] = Bernoulli(seed, direction_of(kind, int(number)))
+            yield f"{line.rstrip().rpartition(',')[0]},{models[target].next()}\n"
+
+
+def copy_addresses(packets: Path, copy: Path) -> None:
+    """Copies the file with the IPv6 addresses of a packet file, where there is one."""
+    if addresses_file(str(packets)).exists():
+        shutil.copyfile(addresses_file(str(packets)), addresses_file(str(copy)))
+
+
+def tell_run(fault: Optional[BaseException], bar: Bar) -> None:
+    """Tells of a run that has come to its end, and why it failed, if it did."""
+    if isinstance(fault, BrokenProcessPool):
+        raise Fault("a process that made runs was killed; `sweep run` makes what is missing", ROWS)
+    bar.step(failed=fault is not None)
+    if fault is not None:
+        bar.clear()
+        say(str(fault))
+
+
+@dataclass(frozen=True)
+class Study:
+    """The folder of a sweep. `runs` has the values of each run by parameter, the seed among them; run n is runs[n -
+    1]."""
+
+    folder: Path
+    packets: Path
+    runs: list[dict[str, str]]
+
+    @staticmethod
+    def plan(folder: Path, packets: Path, template: Path, values: dict[str, list[str]], seeds: list[int]) -> Study:
+        """Writes a folder with all combinations of the values and seeds."""
+        text = template.read_text(encoding="utf-8")
+        places = set(PLACE.findall(text))
+        if places != set(values):
+            odd = ", ".join(sorted(places ^ set(values)))
+            raise Fault(f"{template}: {odd} must stand in braces in the configuration and in --set alike",
+                        CONFIGURATION)
+        names = [*values, SEED]
+        runs = [dict(zip(names, run)) for run in itertools.product(*values.values(), map(str, seeds))]
+        folder.mkdir(parents=True, exist_ok=True)
+        (folder / "link.config").write_text(text, encoding="utf-8")
+        own = folder / PACKETS
+        if not (own.exists() and own.samefile(packets)):
+            shutil.copyfile(packets, own)
+            copy_addresses(packets, own)
+        (folder / "study.json").write_text(json.dumps({"packets": PACKETS, "runs": runs}, indent=1) + "\n")
+        return Study(folder, own, runs)
+
+    @staticmethod
+    def load(folder: Path) -> Study:
+        try:
+            plan = json.loads((folder / "study.json").read_text())
+            return Study(folder, folder / plan["packets"], plan["runs"])
+        except (ValueError, KeyError, TypeError):
+            raise Fault(f"{folder / 'study.json'}: it isn't the plan of a sweep", ROWS) from None
+
+    def table_of(self, run: int) -> Path:
+        return self.folder / f"run-{run}.csv"
+
+    def files(self) -> list[Path]:
+        """All files of the sweep: its plan, its inputs and the tables of its runs."""
+        inputs = [self.folder / "study.json", self.folder / "link.config", self.packets,
+                  addresses_file(str(self.packets))]
+        return [*inputs, *(self.table_of(run) for run in range(1, len(self.runs) + 1))]
+
+    def missing(self) -> list[int]:
+        return [run for run in range(1, len(self.runs) + 1) if not self.table_of(run).exists()]
+
+    def run(self, number: int) -> None:
+        """Makes one run: its table of flows stands in the folder when it is done, and not before."""
+        if not 1 <= number <= len(self.runs):
+            raise Fault(f"{self.folder} has runs 1 to {len(self.runs)}, and no run {number}", ROWS)
+        values = self.runs[number - 1]
+        text = PLACE.sub(lambda found: values[found[1]], (self.folder / "link.config").read_text(encoding="utf-8"))
+        with tempfile.TemporaryDirectory() as work:
+            config, packets, report = (Path(work, name) for name in ("config", "packets", "report"))
+            config.write_text(text, encoding="utf-8")
+            with open(packets, "w", encoding="utf-8") as out:
+                out.writelines(reseeded(self.packets, int(values[SEED])))
+            copy_addresses(self.packets, packets)
+            with open(report, "wb") as out:
+                self.call([dummynet(), "replay", str(config), str(packets)], number, out)
+            replay = read_report(str(report), read_packets(str(packets)))
+            self.keep(number, table_of(replay, Parts(replay, read_configuration(str(config))).check()))
+
+    def keep(self, number: int, table: list[Figures]) -> None:
+        """Puts the table of a run in its place, whole or not at all."""
+        with tempfile.NamedTemporaryFile("w", encoding="utf-8", newline="", dir=self.folder, prefix=f".run-{number}-",
+                                         delete=False) as out:
+            write_csv(table, out)
+        os.chmod(out.name, 0o644)
+        os.replace(out.name, self.table_of(number))
+
+    def call(self, words: list[str], number: int, out: Optional[BinaryIO] = None) -> None:
+        """Runs a program of a run; its fault is told with the values of the run."""
+        try:
+            done = subprocess.run(words, stdout=out, stderr=subprocess.PIPE, text=True)
+        except OSError as error:
+            raise Fault(f"{words[0]}: {error.strerror} (the variable DUMMYNET names the program)", FILES) from None
+        if done.returncode != 0:
+            values = ", ".join(f"{name} {value}" for name, value in self.runs[number - 1].items())
+            raise Fault(f"run {number} ({values}): {' '.join(done.stderr.split())[:300]}", done.returncode)
+
+    def run_all(self, processes: int) -> None:
+        """Makes the runs that are missing, so many at a time. A run that fails is told, and the others go on."""
+        todo = self.missing()
+        bar = Bar("runs", len(todo))
+        with ProcessPoolExecutor(processes) as pool:
+            tasks = [pool.submit(self.run, number) for number in todo]
+            try:
+                for task in as_completed(tasks):
+                    tell_run(task.exception(), bar)
+            except BaseException:
+                pool.shutdown(wait=False, cancel_futures=True)
+                raise
+            finally:
+                bar.clear()
+        if left := self.missing():
+            raise Fault(f"{len(left)} of {len(self.runs)} runs are missing, run {left[0]} first", ROWS)
+
+    def rows(self) -> Iterator[dict[str, str]]:
+        """The tables of all runs as one: the parameters of a run before the figures of each of its flows."""
+        if left := self.missing():
+            raise Fault(f"{len(left)} of {len(self.runs)} runs are missing, run {left[0]} first: sweep run "
+                        f"{self.folder}", ROWS)
+        for number, values in enumerate(self.runs, 1):
+            with open(self.table_of(number), encoding="utf-8", newline="") as file:
+                for figures in csv.DictReader(file):
+                    yield {"run": str(number), **values, **figures}

@@ -1,0 +1,63 @@
+"""The plot of a sweep: a figure against a parameter."""
+
+from __future__ import annotations
+
+import re
+from collections import defaultdict
+from typing import TYPE_CHECKING, Optional
+
+from hinge.command import CONFIGURATION, Fault, module
+from hinge.pictures.panels import COLORS
+from hinge.sweeps.study import SEED
+
+if TYPE_CHECKING:
+    from matplotlib.figure import Figure
+
+SCALES = {"": 1, "k": 10**3, "m": 10**6, "g": 10**9}
+VALUE = re.compile(r"(\d*\.?\d+)([KkMmGg]?)[A-Za-z/]*\Z")
+Lines = dict[str, dict[str, list[float]]]
+
+
+def magnitude(text: str) -> Optional[float]:
+    """The number that a value begins with, with its factor of a thousand; None where it is a word."""
+    found = VALUE.match(text)
+    return None if found is None else float(found[1]) * SCALES[found[2].lower()]
+
+
+def plot_lines(rows: list[dict[str, str]], names: list[str], figure: str, against: str, flow: str) -> Lines:
+    """For each combination of the other parameters, the figures of all seeds by the value of the parameter."""
+    if against not in names or figure not in (rows[0] if rows else {}):
+        raise Fault(f"a sweep of {', '.join(names)} has no {figure!r} against {against!r}", CONFIGURATION)
+    lines: Lines = defaultdict(lambda: defaultdict(list))
+    for row in rows:
+        if row["flow"] == flow and row[figure]:
+            others = ", ".join(f"{name} {row[name]}" for name in names if name not in (against, SEED))
+            lines[others][row[against]].append(float(row[figure]))
+    if not lines:
+        raise Fault(f"no run has {figure} of a flow {flow!r}", CONFIGURATION)
+    return lines
+
+
+def study_figure(lines: Lines, figure: str, against: str, flow: str) -> Figure:
+    """A line through the means of the seeds, with bars from the least to the greatest."""
+    module("matplotlib", "python3-matplotlib").use("Agg")
+    fig, axes = module("matplotlib.pyplot", "python3-matplotlib").subplots(figsize=(8, 5))
+    scale, unit = (1e6, " (ms)") if figure.endswith("_ns") else (1, "")
+    values = list(dict.fromkeys(value for line in lines.values() for value in line))
+    magnitudes = [found for found in map(magnitude, values) if found is not None]
+    place: dict[str, float] = dict(zip(values, magnitudes if len(magnitudes) == len(values) else range(len(values))))
+    for number, (others, line) in enumerate(lines.items()):
+        ordered = sorted(line, key=place.__getitem__)
+        means = [sum(line[value]) / len(line[value]) / scale for value in ordered]
+        below = [mean - min(line[value]) / scale for mean, value in zip(means, ordered)]
+        above = [max(line[value]) / scale - mean for mean, value in zip(means, ordered)]
+        axes.errorbar([place[value] for value in ordered], means, yerr=[below, above], marker="o", ms=4, capsize=3,
+                      color=COLORS[number % len(COLORS)], label=others or None)
+    axes.set_xticks([place[value] for value in values], values)
+    axes.set(xlabel=against, ylabel=figure.removesuffix("_ns").replace("_", " ") + unit, ylim=(0, None),
+             title=f"{flow}: mean over the seeds, from the least to the greatest")
+    axes.grid(alpha=0.3)
+    if any(lines):
+        axes.legend(fontsize=8)
+    fig.tight_layout()
+    return fig

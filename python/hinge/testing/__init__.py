@@ -1,0 +1,1 @@
+"""Tests over emulated links, in real and in simulated time."""

@@ -1,0 +1,85 @@
+"""Fixtures and tests that are coroutines, and that have simulated time by another fixture."""
+
+from __future__ import annotations
+
+import functools
+import inspect
+from typing import TYPE_CHECKING, Any, AsyncGenerator, Callable, Generator, Optional
+
+import pytest
+
+if TYPE_CHECKING:
+    from hingetulip.aio import Network
+
+NETWORK = "sim_net"
+
+
+def is_asynchronous(call: object) -> bool:
+    return inspect.iscoroutinefunction(call) or inspect.isasyncgenfunction(call)
+
+
+def asynchronous(call: Callable[..., Any]) -> Optional[Callable[..., Any]]:
+    """The coroutine or asynchronous generator of a fixture or test, also if another plugin has wrapped it; None if it is none."""
+    found = inspect.unwrap(call)
+    return found if is_asynchronous(found) else None
+
+
+def bound(call: Callable[..., Any], instance: object) -> Callable[..., Any]:
+    """A method of a class of tests belongs to the object of the test."""
+    owner = getattr(call, "__self__", None)
+    if owner is None or not isinstance(instance, type(owner)):
+        return call
+    return getattr(call, "__func__").__get__(instance)  # type: ignore[no-any-return]
+
+
+def synchronous(call: Callable[..., Any], net: Network) -> Callable[..., Any]:
+    """A coroutine or an asynchronous generator of a fixture as a plain one, which runs in the network."""
+    wanted = inspect.signature(call).parameters
+
+    @functools.wraps(call)
+    def function(**named: object) -> object:
+        return net.run(call(**{name: named[name] for name in wanted}))
+
+    @functools.wraps(call)
+    def generator(**named: object) -> Generator[object, None, None]:
+        made: AsyncGenerator[object, None] = call(**{name: named[name] for name in wanted})
+        yield net.run(step(made))
+        if not net.loop.is_closed():  # else the end of the network has ended the generator
+            try:
+                net.run(step(made))
+            except StopAsyncIteration:
+                return
+            pytest.fail(f"the fixture {call.__name__} yields more than once")
+
+    return generator if inspect.isasyncgenfunction(call) else function
+
+
+async def step(made: AsyncGenerator[object, None]) -> object:
+    return await made.__anext__()
+
+
+def is_simulated(request: pytest.FixtureRequest, scope: str) -> bool:
+    """Whether a fixture of a scope belongs to simulated time: its test has the network, and it isn't shared with another test."""
+    return scope == "function" and NETWORK in request.fixturenames
+
+
+@pytest.hookimpl(hookwrapper=True)  # type: ignore[misc]
+def pytest_fixture_setup(fixturedef: Any, request: pytest.FixtureRequest) -> Generator[None, None, None]:
+    """A fixture that is asynchronous runs in the network of its test."""
+    own, call = fixturedef.func, asynchronous(fixturedef.func)
+    if call is not None and is_simulated(request, fixturedef.scope):
+        fixturedef.func = synchronous(bound(call, request.instance), request.getfixturevalue(NETWORK))
+    yield
+    fixturedef.func = own
+
+
+@pytest.hookimpl(tryfirst=True)  # type: ignore[misc]
+def pytest_pyfunc_call(pyfuncitem: pytest.Function) -> Optional[bool]:
+    """A test that is a coroutine and has the network by a fixture of its own runs in it."""
+    call = asynchronous(pyfuncitem.obj)
+    if call is None or NETWORK not in pyfuncitem.funcargs or NETWORK in inspect.signature(call).parameters:
+        return None
+    wanted = [name for name in inspect.signature(call).parameters if name in pyfuncitem.funcargs]
+    net: Any = pyfuncitem.funcargs[NETWORK]
+    net.run(call(**{name: pyfuncitem.funcargs[name] for name in wanted}))
+    return True

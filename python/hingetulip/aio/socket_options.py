@@ -1,0 +1,59 @@
+"""The options of a datagram socket, as the system has them: which of them count on a simulated host."""
+
+from __future__ import annotations
+
+import errno
+import socket
+import struct
+from typing import Any, Mapping
+
+from hingetulip.aio.endpoint import Endpoint, fault
+
+IP, IPV6, SOCKET = socket.IPPROTO_IP, socket.IPPROTO_IPV6, socket.SOL_SOCKET
+SHARED = {(SOCKET, socket.SO_REUSEADDR), (SOCKET, socket.SO_REUSEPORT)}
+HEARS_ITSELF = {(IP, socket.IP_MULTICAST_LOOP), (IPV6, socket.IPV6_MULTICAST_LOOP)}
+ADDRESS_LENGTH, ADDRESS_OF_6_LENGTH = 4, 16
+BUFFER = 212_992  # bytes, as Linux has them
+DEFAULTS = {(SOCKET, socket.SO_TYPE): int(socket.SOCK_DGRAM), (SOCKET, socket.SO_RCVBUF): BUFFER,
+            (SOCKET, socket.SO_SNDBUF): BUFFER, (IP, socket.IP_TTL): 64, (IP, socket.IP_MULTICAST_TTL): 1,
+            (IP, socket.IP_MULTICAST_LOOP): 1, (IPV6, socket.IPV6_MULTICAST_LOOP): 1,
+            (IPV6, socket.IPV6_UNICAST_HOPS): 64, (IPV6, socket.IPV6_MULTICAST_HOPS): 1}
+
+
+def whole(value: Any) -> int:
+    """The number of an option, which is an int or its bytes."""
+    return value if isinstance(value, int) else int.from_bytes(value, "little")
+
+
+def group_of(level: int, value: bytes) -> str:
+    """The group that a membership names first."""
+    if level == IP:
+        return socket.inet_ntop(socket.AF_INET, value[:ADDRESS_LENGTH])
+    return socket.inet_ntop(socket.AF_INET6, value[:ADDRESS_OF_6_LENGTH])
+
+
+def set_option(endpoint: Endpoint, level: int, name: int, value: Any) -> None:
+    """Sets an option of a socket of a host. OSError: it joins a group twice, or leaves one that it hasn't joined."""
+    option = level, name
+    if option in SHARED:
+        endpoint.shares = bool(whole(value))
+    elif option == (SOCKET, socket.SO_BROADCAST):
+        endpoint.broadcasts = bool(whole(value))
+    elif option in HEARS_ITSELF:
+        endpoint.hears_itself = bool(whole(value))
+    elif option == (IPV6, socket.IPV6_V6ONLY):
+        if endpoint.local[1]:
+            raise fault(errno.EINVAL)
+        endpoint.only_6 = bool(whole(value))
+    elif option in ((IP, socket.IP_ADD_MEMBERSHIP), (IPV6, socket.IPV6_JOIN_GROUP)):
+        endpoint.join(group_of(level, value))
+    elif option in ((IP, socket.IP_DROP_MEMBERSHIP), (IPV6, socket.IPV6_LEAVE_GROUP)):
+        endpoint.leave(group_of(level, value))
+
+
+def option(known: Mapping[tuple[int, int], Any], level: int, name: int, length: int) -> Any:
+    """What an option was set to, else its default: a number, or its bytes if a length is given."""
+    value = known.get((level, name), DEFAULTS.get((level, name), 0))
+    if length:
+        return struct.pack("=i", value)[:length] if isinstance(value, int) else bytes(value)[:length]
+    return whole(value)

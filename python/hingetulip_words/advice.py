@@ -1,0 +1,121 @@
+"""What to say of a word of a configuration line that the program doesn't take."""
+
+from __future__ import annotations
+
+import difflib
+import re
+
+from hingetulip_words.values import FIELD_BITS, FORMS, Advice, mask, mask_bits, value
+
+OPTIONS = {"pipe": ["bw", "delay", "queue", "plr", "buckets", "mask"],
+           "queue": ["pipe", "weight", "queue", "plr", "buckets", "mask"]}
+OTHER_NAMES = {
+    "loss": "plr", "drop": "plr", "bandwidth": "bw", "rate": "bw", "speed": "bw", "latency": "delay", "lat": "delay",
+    "limit": "queue",
+    "qlen": "queue", "slots": "queue", "prio": "weight", "netmask": "mask",
+}
+UNIT = re.compile(r"[KMGkmg]?(bit|bits|[Bb]yte|[Bb]ytes)/s|ms|K|KB|Kbytes?|[KMG]")
+UNKNOWN_ELSEWHERE = ("jitter", "duplicate", "reorder", "corrupt")
+SHOWS_NOTHING = Advice("it shows nothing here", "leave this line out")
+
+
+def words_of(line: str) -> list[str]:
+    """The words of a line before its comment."""
+    return re.findall(r"[^ \t\r]+", line.split("#", 1)[0])
+
+
+def first_word(text: str) -> Advice:
+    """Of the word where `pipe` or `queue` belongs."""
+    if text.lower() in ("pipe", "queue"):
+        return Advice("keywords are lower case", f"write {text.lower()}", text.lower())
+    if found := re.fullmatch(r"(pipe|queue)(\d+)", text):
+        return Advice("no blank before the number", f"write {found[1]} {found[2]}", f"{found[1]} {found[2]}")
+    if text in ("add", "-q", "-f") or text.isdigit():
+        return Advice("a rule of the firewall; here each packet names its pipe or queue itself",
+                      "leave this line out (`hinge ipfw` takes the lines out of such a file)")
+    if text == "sched":
+        return Advice("schedulers other than WF2Q+ are left out",
+                      "leave this line out; queues on a pipe share it by weight")
+    return Advice("no line begins so", "write pipe N config .. or queue N config pipe P ..")
+
+
+def number_word(kind: str, text: str) -> Advice:
+    """Of the word where the number of a pipe or queue belongs."""
+    if text in ("show", "list"):
+        return SHOWS_NOTHING
+    if found := re.fullmatch(r"(\d+)([a-z]+)", text):
+        return Advice("no blank behind the number", f"write {found[1]} {found[2]}", f"{found[1]} {found[2]}")
+    return Advice(f"not the number of a {kind}", "write 1 to 65535")
+
+
+def config_word(kind: str, number: str, text: str) -> Advice:
+    """Of the word where `config` belongs."""
+    if text in ("show", "list"):
+        return SHOWS_NOTHING
+    return Advice("`config` is missing before it", f"write {kind} {number} config {text}", f"config {text}")
+
+
+def missing_value(text: str, following: str) -> Advice:
+    if text != "mask":
+        return Advice("the line ends before its value", FORMS.get(text, "write a number behind it"))
+    bits = mask_bits(following) or "0xffffffff"
+    return Advice("a mask names the fields that tell flows apart",
+                  f"write mask src-ip {bits}, or dst-ip, src-port, dst-port, proto, all")
+
+
+def left_out(before: str, text: str) -> Advice:
+    """Of a part of ipfw(8) that the program doesn't have."""
+    if before == "bw":
+        return Advice("the name of a device, which this program doesn't have", FORMS["bw"])
+    if text.startswith("/"):
+        return mask(before, text)
+    if text in ("src-ip6", "dst-ip6", "flow-id"):
+        return Advice("IPv6 is left out", "write src-ip, dst-ip, src-port, dst-port or proto")
+    return Advice("ipfw(8) has it, and this program leaves it out", "leave it and its values out")
+
+
+def option_word(kind: str, before: str, text: str) -> Advice:
+    """Of a word where an option belongs."""
+    options, other = OPTIONS.get(kind, []), "queue" if kind == "pipe" else "pipe"
+    takes = f"a {kind} takes {', '.join(options)}"
+    if "=" in text and text.partition("=")[0] in options:
+        return Advice("a blank parts an option from its value", f"write {text.replace('=', ' ', 1)}",
+                      text.replace("=", " ", 1))
+    if text in (";", ","):
+        return Advice("blanks alone part the words, and a line one command from the next",
+                      "begin a new line" if text == ";" else "leave it out")
+    if UNIT.fullmatch(text) and before.isdigit():
+        return Advice("a number and its unit are one word", f"write {before}{text}")
+    if text in OPTIONS[other]:
+        return Advice(f"an option of {other}s, and this line is of a {kind}",
+                      f"write it in the line of the {other}; {takes}")
+    if text.lower() in options:
+        return Advice("keywords are lower case", f"write {text.lower()}", text.lower())
+    if text in UNKNOWN_ELSEWHERE:
+        return Advice("dummynet has no such option", "leave it and its value out")
+    name = OTHER_NAMES.get(text.lower()) or next(iter(difflib.get_close_matches(text, options, 1)), None)
+    if name in options and before not in (*FIELD_BITS, "all"):
+        return Advice("no option", f"write {name}", name)
+    return Advice("no option", takes)
+
+
+def advice(words: list[str], number: int, cause: str) -> Advice:
+    """What to say of the word with this number, from 1, by the program's cause, as `bad number`."""
+    place, start = number - 1, int(words[0] == "ipfw")
+    at, text, before = place - start, words[place], words[place - 1] if place else ""
+    kind = words[start] if len(words) > start else ""
+    if cause == "needs a pipe":
+        return Advice("the queue's line names no pipe", f"write {text} {words[place + 1]} config pipe 1 ..")
+    if cause == "missing value":
+        return missing_value(text, words[place + 1] if place + 1 < len(words) else "")
+    if at >= 2 and "delete" in words[start + 1:start + 3]:
+        return Advice("nothing stands behind a delete", "delete each in a line of its own")
+    if at == 0:
+        return first_word(text)
+    if at == 1:
+        return number_word(kind, text)
+    if at == 2:
+        return config_word(kind, before, text)
+    if cause == "left out":
+        return left_out(before, text)
+    return value(before, text) if cause in ("bad number", "out of range") else option_word(kind, before, text)

@@ -1,0 +1,69 @@
+"""Links by the names that people know: the way up, the way down, and whose figures they are.
+
+A source that gives a round trip has half of it each way here. No source gives queues: they have room for what the link
+carries in some 250 ms, in whole tens of packets, of 1,500 bytes, from 10 to 1,000. Real links vary, so a preset is a
+beginning and no measurement.
+"""
+
+from __future__ import annotations
+
+import difflib
+from typing import NamedTuple, Optional
+
+
+class Preset(NamedTuple):
+    """Two links: `up` towards the server, and `down` from it."""
+
+    up: str
+    down: str
+    source: str
+
+
+PAGE, APPLE = "WebPageTest's profile", "Apple's Network Link Conditioner,"
+PRESETS = {
+    "dialup": Preset("30Kbit/s 60ms queue 10", "49Kbit/s 60ms queue 10", f"{PAGE} 56K Dial-Up"),
+    "edge": Preset("200Kbit/s 420ms queue 10", "240Kbit/s 420ms queue 10", f"{PAGE} Mobile Edge"),
+    "slow-3g": Preset("400Kbit/s 200ms queue 10", "400Kbit/s 200ms queue 10", f"{PAGE} Slow 3G"),
+    "3g": Preset("768Kbit/s 150ms queue 20", "1600Kbit/s 150ms queue 30", f"{PAGE} Mobile 3G"),
+    "fast-3g": Preset("768Kbit/s 75ms queue 20", "1600Kbit/s 75ms queue 30", f"{PAGE} Mobile 3G - Fast"),
+    "4g": Preset("9Mbit/s 85ms queue 190", "9Mbit/s 85ms queue 190", f"{PAGE} Mobile 4G"),
+    "lte": Preset("12Mbit/s 35ms queue 250", "12Mbit/s 35ms queue 250", f"{PAGE} Mobile LTE"),
+    "dsl": Preset("384Kbit/s 25ms queue 10", "1500Kbit/s 25ms queue 30", f"{PAGE} DSL"),
+    "cable": Preset("1Mbit/s 14ms queue 20", "5Mbit/s 14ms queue 100", f"{PAGE} Cable"),
+    "fibre": Preset("5Mbit/s 2ms queue 100", "20Mbit/s 2ms queue 420", f"{PAGE} FIOS"),
+    "satellite": Preset("10Mbit/s 20ms queue 210", "100Mbit/s 20ms queue 1000",
+                        "a low orbit, as Starlink describes its service"),
+    "geo": Preset("3Mbit/s 300ms queue 60", "25Mbit/s 300ms queue 520",
+                  "a geostationary orbit: 240 ms of way, and 60 ms on the ground"),
+    "lossy-wifi": Preset("33Mbit/s 1ms queue 690 loss 2%", "40Mbit/s 1ms queue 830 loss 2%",
+                         f"{APPLE} Wi-Fi, with losses"),
+    "bad": Preset("1Mbit/s 500ms queue 20 loss 10%", "1Mbit/s 500ms queue 20 loss 10%", f"{APPLE} Very Bad Network"),
+    "lan": Preset("1Gbit/s queue 1000", "1Gbit/s queue 1000",
+                  "Gigabit Ethernet, whose delay is far below a millisecond"),
+}
+
+
+def preset(name: str) -> Preset:
+    """The links of a name. ValueError: there is no such preset."""
+    if name in PRESETS:
+        return PRESETS[name]
+    near = difflib.get_close_matches(name, PRESETS, 1)
+    raise ValueError(f"'{name}': no preset; {f'write {near[0]}' if near else 'they are ' + ', '.join(PRESETS)}")
+
+
+def either_way(name: str, up: Optional[str] = None, down: Optional[str] = None) -> tuple[str, str]:
+    """The two links of a name, each in the place of one that isn't given. ValueError: there is no such preset."""
+    found = preset(name)
+    return found.up if up is None else up, found.down if down is None else down
+
+
+def table() -> str:
+    """All presets, in lines of at most 80 columns."""
+    rows = [("preset", "up", "down", ""), *((name, it.up, it.down, it.source) for name, it in PRESETS.items())]
+    widths = [max(len(row[place]) for row in rows) for place in range(2)]
+    lines = []
+    for name, up, down, source in rows:
+        lines.append(f"{name:<{widths[0]}}  {up:<{widths[1]}}  {down}")
+        if source:
+            lines.append(f"{'':<{widths[0]}}  {source}")
+    return "\n".join(lines)

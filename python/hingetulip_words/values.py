@@ -1,0 +1,129 @@
+"""The values of options that people write, and how dummynet has them."""
+
+from __future__ import annotations
+
+import re
+from fractions import Fraction
+from typing import Callable, NamedTuple, Optional
+
+FORMS = {
+    "bw": "write 8Mbit/s, 300Kbit/s or 1MByte/s", "delay": "write whole milliseconds, as 20 or 20ms, up to 3600000",
+    "queue": "write packets, as 50 (1 to 10000), or 64Kbytes (1 to 1024)",
+    "plr": "write a rate from 0 to 1, as 0.01 for 1 %",
+    "weight": "write 1 to 100", "buckets": "write 16 to 65536", "pipe": "write 1 to 65535",
+}
+FIELD_BITS = {"src-ip": 32, "dst-ip": 32, "src-port": 16, "dst-port": 16, "proto": 8}
+BANDWIDTH = re.compile(r"(\d+(?:\.\d+)?)([kmgt]?)i?"
+                       r"(b|bit|bits|byte|bytes|bps|b/s|bit/sec|bits/sec|bit/s|bits/s|byte/s|bytes/s|byte/sec|)")
+DELAY = re.compile(r"(-?)(\d+(?:\.\d+)?)(us|µs|usec|ns|s|sec|ms|msec|)")
+ROOM = re.compile(r"(\d+)(kib|mb|mbyte|mbytes|m|mib|b|byte|bytes|pkt|pkts|packet|packets|p|slots?|k|kb|kbytes?)")
+MOST_KBYTES = 1024
+
+
+class Advice(NamedTuple):
+    """What is wrong with a word, what to write, and the word that may stand in its place where there is one."""
+
+    wrong: str
+    right: str
+    word: Optional[str] = None
+
+
+def plain(value: Fraction) -> str:
+    """A number without exponent, as short as it goes."""
+    text = f"{int(value * 10**18):019d}"
+    return f"{text[:-18]}.{text[-18:]}".rstrip("0").rstrip(".")
+
+
+def bandwidth(text: str) -> Advice:
+    found = BANDWIDTH.fullmatch(text.lower())
+    if not found:
+        return Advice("not a bandwidth", FORMS["bw"])
+    is_bytes = "byte" in found[3] or "B" in text[len(found[1]) + len(found[2]):]
+    value = Fraction(found[1]) * 1000 ** "_kmgt".index(found[2] or "_")
+    for scale, letter in ((10**9, "G"), (10**6, "M"), (1000, "K"), (1, "")):
+        if value and value % scale == 0:
+            word = f"{value // scale}{letter}{'Byte/s' if is_bytes else 'bit/s'}"
+            bits = f" ({word.replace('Byte', 'bit')} if bits are meant)" if is_bytes else ""
+            return Advice("not a bandwidth", f"write {word}{bits}", word)
+    return Advice("not a bandwidth", FORMS["bw"])
+
+
+def delay(text: str) -> Advice:
+    found = DELAY.fullmatch(text.lower())
+    if not found:
+        return Advice("not a delay", FORMS["delay"])
+    if found[1]:
+        return Advice("a delay can't be negative", FORMS["delay"])
+    a_unit = {"u": Fraction(1, 1000), "µ": Fraction(1, 1000), "n": Fraction(1, 10**6),
+              "s": Fraction(1000)}.get(found[3][:1], Fraction(1))
+    value = Fraction(found[2]) * a_unit
+    if value.denominator == 1:
+        return Advice("not a delay", f"write {value}ms", f"{value}ms")
+    near = max(1, round(value))
+    if value < 1:
+        return Advice("dummynet has no delay below a millisecond, and no audit could judge one",
+                      "leave it out, or write 1ms", str(near))
+    return Advice("a delay is whole milliseconds, and this is none", f"write {int(value)}ms or {int(value) + 1}ms",
+                  str(near))
+
+
+def room(text: str) -> Advice:
+    found = ROOM.fullmatch(text.lower())
+    if not found:
+        return Advice("not a queue limit", FORMS["queue"])
+    number, unit = int(found[1]), found[2][0]
+    if unit in "ps":
+        return Advice("not a queue limit", f"write {number}, which counts packets", str(number))
+    kbytes = {"m": number * 1024, "k": number, "b": -(-number // 1024)}[unit]
+    if kbytes > MOST_KBYTES:
+        return Advice("more than the 1024 Kbytes (or 10000 packets) that a queue has at most", "write 1024Kbytes",
+                      "1024Kbytes")
+    return Advice("not a queue limit", f"write {kbytes}Kbytes", f"{kbytes}Kbytes")
+
+
+def loss(text: str) -> Advice:
+    if found := re.fullmatch(r"(\d+(?:\.\d+)?)%", text):
+        rate = plain(Fraction(found[1]) / 100)
+        return Advice("a loss rate is no percentage", f"write {rate}", rate)
+    try:
+        value = Fraction(text)
+    except (ValueError, ZeroDivisionError):
+        return Advice("not a loss rate", FORMS["plr"])
+    if value > 1:
+        rate = plain(value / 100)
+        return Advice("a loss rate is at most 1", f"write {rate} for {text} %", rate if value <= 100 else None)
+    if value < 0:
+        return Advice("a loss rate can't be negative", FORMS["plr"])
+    return Advice("not a loss rate", f"write {plain(value)}", plain(value))
+
+
+def mask_bits(text: str, width: int = 32) -> Optional[str]:
+    """A netmask or a prefix length as a mask's bits, None where it is neither."""
+    if re.fullmatch(r"\d+(\.\d+){3}", text):
+        parts = [int(part) for part in text.split(".")]
+        return "0x" + "".join(f"{part:02x}" for part in parts) if max(parts) < 256 else None
+    if (found := re.fullmatch(r"/(\d+)", text)) and int(found[1]) <= width:
+        return f"0x{((1 << width) - 1) & ~((1 << (width - int(found[1]))) - 1):0{width // 4}x}"
+    return None
+
+
+def mask(field: str, text: str) -> Advice:
+    if bits := mask_bits(text, FIELD_BITS.get(field, 32)):
+        return Advice("a mask is the bits that tell flows apart, and no netmask", f"write {bits}", bits)
+    return Advice("not the bits of a mask", "write them as 0xffffffff")
+
+
+READERS: dict[str, Callable[[str], Advice]] = {"bw": bandwidth, "delay": delay, "queue": room, "plr": loss}
+
+
+def value(option: str, text: str) -> Advice:
+    """What to say of a word that isn't a value of its option."""
+    bare = text.rstrip(",;")
+    if bare and bare != text:
+        also = ", and a line one command from the next" if ";" in text else ""
+        return Advice(f"ends in {text[len(bare):]!r}, and blanks alone part the words{also}", f"write {bare}", bare)
+    if option in READERS:
+        return READERS[option](text)
+    if option in FIELD_BITS:
+        return mask(option, text)
+    return Advice("not a number here", FORMS.get(option, "write a number"))

@@ -1,0 +1,119 @@
+"""`hinge look` of a net's folder: ways, paths hop by hop, what was changed when, and the picture of it."""
+
+from __future__ import annotations
+
+import json
+import unittest
+from pathlib import Path
+from typing import Any
+
+from kit import folder, run
+from test_paths import HOSTS, MS, Net, Packet, good
+
+SECOND = 1_000 * MS
+CUT_FROM, CUT_TO = 4 * SECOND, 6 * SECOND
+
+
+def cut_link() -> str:
+    """A packet of 1,250 bytes each 100 ms for 10 s over a - r, of 10 ms; the way to r is cut from 4 s to 6 s, and then
+    is one of 20 ms."""
+    lines, entries, number, changes = ["dummynet-live,1", *(line.strip() for line in HOSTS),
+                                       "#,seed,7"], 0, 0, [(CUT_FROM, "delay 10 plr 1"), (CUT_TO, "delay 20")]
+    for pipe in (1, 2, 3, 4):
+        lines += [f"c,0,configure,pipe {pipe} config delay 10", "r,configured"]
+        entries += 1
+    for moment in range(0, 10 * SECOND, 100 * MS):
+        while changes and changes[0][0] <= moment:
+            at, words = changes.pop(0)
+            lines += [f"c,0,advance,{at}", f"r,advanced,{at}", f"c,0,configure,pipe 1 config {words}", "r,configured"]
+            entries += 2
+        is_lost, due = CUT_FROM <= moment < CUT_TO, moment + (10 if moment < CUT_TO else 20) * MS
+        lines += [f"#,content,{number:016x}", f"c,0,submit,pipe,1,10.8.0.1,10.8.0.3,17,1,2,1250,0,{moment}",
+                  f"r,lost,{moment},0" if is_lost else f"r,queued,{moment},0,{number}"]
+        if not is_lost:
+            lines += [f"c,0,collect,{due}", f"r,delivered,{due},1", f"d,{number},0,{moment},{due}"]
+            number += 1
+        entries += 1 + (not is_lost)
+    return "\n".join([*lines, f"end,{entries}", ""])
+
+
+class OfNets(unittest.TestCase):
+    def session(self, text: str) -> Path:
+        place = folder() / "session"
+        place.mkdir(exist_ok=True)
+        (place / "net.history").write_text(text)
+        return place
+
+    def looked(self, text: str, *words: object) -> tuple[list[str], Any]:
+        """What is printed, and the same for a program."""
+        done = run("look", self.session(text), "--json", "x.json", *words)
+        self.assertEqual((done.returncode, done.stderr), (0, ""))
+        return done.stdout.splitlines(), json.loads((folder() / "x.json").read_text())
+
+    def test_a_way_that_was_cut(self) -> None:
+        lines, told = self.looked(cut_link())
+        self.assertEqual(lines[1].split(), "a > r 100 20 0 0.081 15.000 20.000".split())  # 80 x 10,000 bits in 9.91 s
+        self.assertEqual(lines[-4:-1], ["     4.000 s  a > r: cut", "     6.000 s  a > r: delay 20", ""])
+        self.assertEqual(told["ways"],
+                         [{"pipe": 1, "from": "a", "to": "r", "packets": 100, "lost": 20, "full": 0,
+                           "carried_mbit_s": 800_000 / 9_910_000, "mean_ns": 15 * MS, "p99_ns": 20 * MS}])
+        self.assertEqual(told["cuts"], [{"pipe": 1, "from": "a", "to": "r", "begin_ns": CUT_FROM, "end_ns": CUT_TO}])
+        self.assertEqual([(change["moment_ns"], change["line"], change["cut"]) for change in told["changes"]],
+                         [(CUT_FROM, "delay 10", True), (CUT_TO, "delay 20", False)])
+        self.assertEqual((told["span_ns"], told["seed"], told["lawful_between_links"]), (9_920 * MS, "7", True))
+
+    def test_a_row_of_letters(self) -> None:
+        lines, _ = self.looked(cut_link())
+        head, row = lines[3:5]
+        self.assertEqual(head.split(), ["way", "0", "s", "9.920", "s", "most,", "Mbit/s"])
+        letters = row.split("  ")[1]
+        self.assertEqual(head.index("0 s"), row.index(letters[0]))
+        self.assertAlmostEqual(letters.count("x"), len(letters) * 2 / 9.92, delta=1)
+        self.assertAlmostEqual(letters.index("x"), len(letters) * 4 / 9.92, delta=1)
+        self.assertNotIn(" ", letters)
+
+    def test_a_cut_that_has_no_end(self) -> None:
+        text = cut_link()
+        begin, end = text.index("c,0,advance,6000000000"), text.index("#,content", text.index("c,0,advance,6000000000"))
+        _, told = self.looked(text[:begin] + text[end:])
+        self.assertEqual([(cut["begin_ns"], cut["end_ns"]) for cut in told["cuts"]], [(CUT_FROM, 9_920 * MS)])
+
+    def test_paths_hop_by_hop(self) -> None:
+        lines, told = self.looked(Net(good, [Packet(place) for place in range(40)]).text)
+        self.assertIn("a - r - b: 40 packets, 15.050 ms: links 10.000 + 5.000, hosts 0.050, at most 0.050", lines)
+        self.assertEqual(told["paths"],
+                         [{"hosts": ["a", "r", "b"], "pipes": [1, 3], "packets": 40, "links_ns": [10 * MS, 5 * MS],
+                           "hosts_ns": [50_000], "most_in_hosts_ns": 50_000}])
+        self.assertEqual((told["changes"], told["cuts"]), ([], []))
+
+    def test_pictures(self) -> None:
+        for text, panels in ((cut_link(),
+                              ("Throughput of each way", "Ways that lose all packets", "1: a &gt; r, 2 s", "lost 20")),
+                             (Net(good, [Packet(place) for place in range(40)]).text,
+                              ("a - r - b, hop by hop", "in r", "from a to r", "Delay of paths"))):
+            self.looked(text, "-o", "x.svg")
+            drawn = (folder() / "x.svg").read_text()
+            for name in panels:
+                self.assertIn(f"<!-- {name}", drawn)
+
+    def test_an_empty_net(self) -> None:
+        text = "".join(["dummynet-live,1\n", *HOSTS, "end,0\n"])
+        lines, told = self.looked(text, "-o", "x.png")
+        self.assertEqual((lines, told["ways"]),
+                         (["way  packets  lost  full  Mbit/s  mean ms  p99 ms", "",
+                           "0 packets on links, 0 handed on by hosts, 0 arrived"], []))
+
+    def test_what_is_refused(self) -> None:
+        place = self.session(cut_link())
+        for words in (["--why", 3], ["--by", "target"], ["-o", "x.html"]):
+            done = run("look", place, *words)
+            self.assertEqual((done.returncode, "is of one history" in done.stderr), (4, True), done.stderr)
+        self.assertEqual(run("look", place, "--json", place / "net.history").returncode, 2)
+        self.assertRegex(run("look", place, "--audit").stderr, r"^hinge look: lawful \d+\n$")
+        done = run("look", ".")
+        self.assertEqual((done.returncode, done.stderr),
+                         (4, "hinge look: .: there is no net.history in it, as hinge net --transcripts makes it\n"))
+
+
+if __name__ == "__main__":
+    unittest.main()

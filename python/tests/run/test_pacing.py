@@ -1,0 +1,153 @@
+"""The host with a recorded trace and with outages: each packet leaves when it should, whatever its length."""
+
+from __future__ import annotations
+
+import random
+import time
+import unittest
+from collections import deque
+from typing import Iterator
+
+from linked import SEEDS, Linked, audited_as_lawful, found, ip4, needs_host, until
+
+MS = 1_000_000  # ns
+SLOT = 1500  # bytes
+Passage = tuple[int, int, int, int]  # moment, bytes, start, due
+
+
+def passages(history: str) -> list[Passage]:
+    """The packets of pipe 1 that were delivered, in the order in which they came, without those that nobody sent."""
+    came = {int(number): (int(moment), int(length)) for length, moment, number in
+            found_all(r"^c,0,submit,pipe,1,[\d.]+,[\d.]+,17,\d+,\d+,(\d+),\d+,(\d+)\nr,queued,\d+,\d+,(\d+)$", history)}
+    left = {int(number): (int(start), int(due)) for number, start, due in found_all(r"^d,(\d+),\d+,(\d+),(\d+)$", history)}
+    return [(*came[number], *left[number]) for number in sorted(came) if number in left]
+
+
+def found_all(pattern: str, text: str) -> list[tuple[str, ...]]:
+    return [tuple(one) for one in found(pattern, text)]
+
+
+def passed(link: Linked) -> int:
+    """The packets that left, also those that nobody took at the far end, whose buffer is small."""
+    up = link.page.read().ways[0]
+    return up["sent"] + up["refused"]
+
+
+def opportunities(moments: list[int]) -> Iterator[int]:
+    """The moments of a trace, in ns, again and again."""
+    base = 0
+    while True:
+        yield from (base + moment * MS for moment in moments)
+        base += moments[-1] * MS
+
+
+def by_opportunities(packets: list[Passage], moments: list[int]) -> list[int]:
+    """When each packet leaves: at each opportunity so many bytes of those that are there, and what nobody uses is lost."""
+    left, waiting, coming = [], deque[list[int]](), deque(packets)
+    for moment in opportunities(moments):
+        while coming and coming[0][0] <= moment:
+            waiting.append([coming.popleft()[1]])
+        room = SLOT
+        while waiting and room:
+            taken = min(room, waiting[0][0])
+            waiting[0][0], room = waiting[0][0] - taken, room - taken
+            if not waiting[0][0]:
+                waiting.popleft(), left.append(moment)
+        if not coming and not waiting:
+            return left
+    return left
+
+
+@needs_host
+class OfTraces(unittest.TestCase):
+    def dues(self, moments: list[int], sizes: list[int], gaps: list[float], more: str = "") -> tuple[list[Passage], str]:
+        link = Linked(f"{SEEDS}slots 1 {' '.join(map(str, moments))}\nline pipe 1 config queue 1000{more}\n")
+        for size, gap in zip(sizes, gaps):
+            link.near.send(ip4("10.8.0.1", "10.8.0.2", 17, 1, 2, size))
+            time.sleep(gap)
+        until(lambda: passed(link) == len(sizes), 20)
+        ended = link.end()
+        audited_as_lawful(self, link.transcript)
+        return passages(ended.history), ended.history
+
+    def close(self, told: list[Passage], moments: list[int]) -> None:
+        """A rate is in whole bit/s, so that a packet ends some ns later than it should, and never sooner; and one that shares a moment takes 1 ns or more."""
+        wanted = by_opportunities(told, moments)
+        self.assertEqual(len(wanted), len(told))
+        for (_, length, start, due), moment in zip(told, wanted):
+            self.assertGreaterEqual(due, moment)
+            self.assertLessEqual(due - moment, 1000 + (moment - start) * (moment - start) / (length * 8e9) * 1.01)
+
+    def test_full_packets_leave_one_at_each_moment(self) -> None:
+        for moments in ([1], [10], [3, 3, 3, 20]):
+            told, _ = self.dues(moments, [SLOT] * 20, [0.0] * 20)
+            self.close(told, moments)
+
+    def test_packets_of_any_length_share_a_moment_and_go_on_in_the_next(self) -> None:
+        rng = random.Random(7)
+        for _ in range(3):
+            moments = sorted(rng.randrange(60) for _ in range(40)) + [60]
+            sizes = [rng.choice((40, 576, 1200, 1500, 4000)) for _ in range(150)]
+            told, _ = self.dues(moments, sizes, [rng.choice((0, 0, 0, 0.005)) for _ in sizes])
+            self.close(told, moments)
+
+    def test_a_constant_trace_takes_no_lines(self) -> None:
+        """12 Mbit/s: of packets that wait for each other the rate is always the same."""
+        told, history = self.dues([1], [SLOT] * 100, [0.0] * 100)
+        idle = sum(start == moment for moment, _, start, _ in told)
+        self.assertLessEqual(len(found("^c,0,configure,.*", history)), 2 * idle + 2)
+        self.assertLess(idle, 50)
+
+    def test_losses_and_a_full_queue_take_no_moments(self) -> None:
+        link = Linked(f"{SEEDS}list 0 2 4\nslots 1 5\nline pipe 1 config queue 3 plr 0.5\n")
+        for number in range(12):
+            link.near.send(ip4("10.8.0.1", "10.8.0.2", 17, 1, number, SLOT))
+        until(lambda: sum(link.page.read().ways[0][kind] for kind in ("sent", "full", "lost")) == 12)
+        ended = link.end()
+        audited_as_lawful(self, link.transcript)
+        self.close(passages(ended.history), [5])
+
+    def test_what_is_no_trace(self) -> None:
+        for line in ("slots 1", "slots 1 x", "slots 1 3 2", "slots 1 0", "slots 3 5", "list 0 x", "hold 1 5 4", "hold 9 1 2"):
+            ended = Linked(line + "\n").ended()
+            self.assertEqual((ended.status, ended.said), (3, f"hinge: {line}: no line of a plan\n"))
+
+
+@needs_host
+class OfOutages(unittest.TestCase):
+    def test_nothing_leaves_in_an_outage_whatever_the_length_of_packets(self) -> None:
+        """What begins in it leaves at its end, as exactly as a rate in whole bit/s can say. It begins where packets wait, and where none do."""
+        begin, end = 100 * MS, 350 * MS
+        for size in (40, 100, 800, 1200, 1500):
+            for greedy in (True, False):
+                link = Linked(f"{SEEDS}hold 1 {begin} {end}\nline pipe 1 config bw 2000000bit/s queue 1000\noutage {begin} 1 1500\n")
+                if not greedy:
+                    until(lambda: link.page.read()["moment"] >= begin)
+                count = min(900, 2_000_000 // 8 // 5 // size) if greedy else 5
+                for _ in range(count):
+                    link.near.send(ip4("10.8.0.1", "10.8.0.2", 17, 1, 2, size))
+                until(lambda: passed(link) == count, 20)
+                ended = link.end()
+                audited_as_lawful(self, link.transcript)
+                told = passages(ended.history)
+                transmission = -(-size * 8 * 10**9 // 2_000_000)
+                held = [(start, due) for _, _, start, due in told if begin <= start < end]
+                self.assertLessEqual(len(held), 1)
+                late = max((due - end for _, due in held), default=0)
+                self.assertTrue(0 <= late <= (end - begin) ** 2 / (size * 8e9) + 1, (size, greedy, late))
+                self.assertTrue(greedy or not held)
+                self.assertEqual({due - start for _, _, start, due in told if not begin <= start < end}, {transmission})
+
+    def test_a_change_of_the_line_holds_behind_the_outage(self) -> None:
+        link = Linked(f"{SEEDS}hold 1 0 {100 * MS}\nline pipe 1 config bw 2000000bit/s\noutage 0 1 1500\nat {50 * MS} pipe 1 config bw 1000000bit/s delay 3\n")
+        for _ in range(3):
+            link.near.send(ip4("10.8.0.1", "10.8.0.2", 17, 1, 2, 1000))
+        until(lambda: link.page.read().ways[0]["sent"] == 3)
+        ended = link.end()
+        audited_as_lawful(self, link.transcript)
+        self.assertEqual([due - start for _, _, start, due in passages(ended.history)], [8 * MS + 3 * MS] * 3)
+        self.assertGreaterEqual(passages(ended.history)[0][2], 100 * MS)
+
+
+if __name__ == "__main__":
+    unittest.main()

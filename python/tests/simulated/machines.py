@@ -1,0 +1,105 @@
+"""What the tests share: commands in simulated time, and probes that are compiled once."""
+
+from __future__ import annotations
+
+import json
+import os
+import re
+import shutil
+import subprocess
+import sys
+import tempfile
+import unittest
+from functools import lru_cache
+from pathlib import Path
+from typing import Any, Callable, NamedTuple, TypeVar, Union
+
+from hinge.program import dummynet
+
+HERE = Path(__file__).resolve().parent
+HINGE = [sys.executable, "-m", "hinge"]
+SIMULATED = [*HINGE, "run", "--simulated"]
+Word = Union[str, Path]
+Test = TypeVar("Test")
+LIMIT = "300s"  # of real time, after which a run is taken for one that never ends
+LINK = ["--up", "10Mbit/s 20ms queue 100 loss 1%", "--down", "10Mbit/s 20ms loss 1%"]
+COMPILED = ["cc", "-std=gnu17", "-O1", "-pthread", "-o"]
+
+
+class Ran(NamedTuple):
+    """A run: its status and output, what it told on standard error, its summary and its transcript."""
+
+    status: int
+    out: str
+    err: str
+    summary: "dict[str, Any]"
+    history: str
+
+
+def needs(*programs: str) -> Callable[[Test], Test]:
+    """Skips a test where a program isn't there."""
+    lacking = [name for name in programs if shutil.which(name) is None]
+    return unittest.skipIf(bool(lacking), f"there is no {', '.join(lacking)}")
+
+
+@lru_cache(maxsize=None)
+def scratch() -> "tempfile.TemporaryDirectory[str]":
+    return tempfile.TemporaryDirectory()
+
+
+@lru_cache(maxsize=None)
+def probe() -> str:
+    """The path of probe.c, compiled."""
+    made = f"{scratch().name}/probe"
+    subprocess.run([*COMPILED, made, HERE / "probe.c"], check=True)
+    return made
+
+
+class Simulated(unittest.TestCase):
+    def setUp(self) -> None:
+        folder = tempfile.TemporaryDirectory()
+        self.addCleanup(folder.cleanup)
+        self.folder = Path(folder.name)
+
+    def started(self, *words: Word, **more: Any) -> "subprocess.CompletedProcess[str]":
+        """`hinge run --simulated` in the test's folder."""
+        streams = {"stdin": subprocess.DEVNULL, "stdout": subprocess.PIPE, "stderr": subprocess.PIPE}
+        how: dict[str, Any] = {**streams, "text": True, "cwd": self.folder, **more}
+        return subprocess.run([*SIMULATED, "--real-limit", LIMIT, *map(str, words)], **how)
+
+    def run_by(self, seed: int, *words: Word) -> Ran:
+        """A run with a transcript and a summary, in a folder that is new each time and has the same name."""
+        place = self.folder / "run"
+        shutil.rmtree(place, ignore_errors=True)
+        place.mkdir()
+        done = self.started("--seed", str(seed), "--transcript", "h", "--json", "j", *words, cwd=place)
+        summary = json.loads((place / "j").read_text()) if (place / "j").exists() else {}
+        history = (place / "h").read_text() if (place / "h").exists() else ""
+        return Ran(done.returncode, done.stdout, done.stderr, summary, history)
+
+    def assert_lawful(self, history: str) -> None:
+        path = self.folder / "audited"
+        path.write_text(history)
+        done = subprocess.run([dummynet(), "audit", str(path)], capture_output=True, text=True)
+        self.assertRegex(done.stdout, r"^lawful \d+\n$")
+
+
+class Repeated(Simulated):
+    def twice(self, *words: str) -> Ran:
+        """Two runs by a seed; the files that the second finds aren't there for the first."""
+        one, other = self.run_by(7, *LINK, *words), self.run_by(7, *LINK, *words)
+        self.assertEqual(one.status, 0, one.out + one.err)
+        self.assertIs(one.summary["repeatable"], True, one.err)
+        self.assertEqual((one.out, one.summary["simulated"]), (other.out, other.summary["simulated"]))
+        self.assertTrue(one.history == other.history, "the transcripts differ")
+        self.assert_lawful(one.history)
+        return one
+
+
+def probed(text: str) -> "list[int]":
+    """The numbers that a probe printed."""
+    return [int(word) for word in re.findall(r"\d+", text)]
+
+
+def environment(**names: str) -> "dict[str, str]":
+    return {**os.environ, **names}

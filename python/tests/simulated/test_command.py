@@ -1,0 +1,225 @@
+"""The command: what goes in and comes out is as in real time, and what can't be is told."""
+
+from __future__ import annotations
+
+import os
+import signal
+import subprocess
+import time
+
+from hinge.simulated.interrupts import children
+from hinge.simulated.one_processor import OneProcessor
+from machines import HINGE, SIMULATED, Simulated, environment
+
+STATUSES = (
+    (["true"], 0),
+    (["sh", "-c", "exit 7"], 7),
+    (["sh", "-c", "kill -9 $$"], 128 + signal.SIGKILL),
+    (["timeout", "5", "sleep", "100"], 124),
+    (["no-such-program"], 127),
+    (["/etc/passwd"], 126),
+)
+CLIENT = """
+import socket
+print(socket.gethostbyname("server"))
+print(socket.create_connection(("server", 7000)).getpeername()[1])
+"""
+GOES_ON = "echo begun; while :; do sleep 1; done"
+PIPE, NONE = subprocess.PIPE, subprocess.DEVNULL
+
+
+def left() -> "set[str]":
+    """The folders of machines that are there."""
+    return {name for place in ("/dev/shm", "/tmp") for name in os.listdir(place) if name.startswith("hinge-")}
+
+
+class OfStreams(Simulated):
+    def test_statuses(self) -> None:
+        for command, status in STATUSES:
+            self.assertEqual(self.run_by(1, "--", *command).status, status, command)
+
+    def test_an_hour_takes_a_moment(self) -> None:
+        """By the simulated clock an hour, and less than a second of what a few processes ask of the kernel."""
+        ran = self.run_by(1, "--", "sleep", "3600")
+        self.assertEqual(int(ran.summary["simulated"]), 3600, ran.err)
+        self.assertIs(ran.summary["repeatable"], True)
+        self.assertEqual((ran.summary["spun"], ran.summary["interrupts"]), (0, 0))
+
+    def test_both_streams(self) -> None:
+        done = self.started("--quiet", "--", "sh", "-c", "echo out; echo err >&2; exit 3")
+        self.assertEqual((done.returncode, done.stdout, done.stderr), (3, "out\n", "err\n"))
+
+    def test_the_order_of_two_streams_that_go_to_one_place(self) -> None:
+        asked = "for i in 1 2 3 4; do echo out $i; echo err $i >&2; done"
+        done = self.started("--quiet", "--", "sh", "-c", asked, stderr=subprocess.STDOUT)
+        self.assertEqual(done.stdout, "".join(f"out {i}\nerr {i}\n" for i in range(1, 5)))
+
+    def test_output_comes_as_it_is_written(self) -> None:
+        """The first line comes while the command still waits for a file that the test makes after it."""
+        asked = "echo first; until [ -e go ]; do head -c 100000 /dev/zero >/dev/null; done; echo last"
+        words = [*SIMULATED, "--", "sh", "-c", asked]
+        with subprocess.Popen(words, cwd=self.folder, stdin=NONE, stdout=PIPE, stderr=NONE, text=True) as process:
+            assert process.stdout
+            self.assertEqual(process.stdout.readline(), "first\n")
+            (self.folder / "go").touch()
+            self.assertEqual(process.stdout.read(), "last\n")
+
+    def test_input_from_a_file_and_from_a_pipe(self) -> None:
+        text = "".join(f"line {i}\n" for i in range(100_000))
+        words = [*SIMULATED, "--quiet", "--", "cksum"]
+        told = subprocess.run(["cksum"], input=text, capture_output=True, text=True).stdout
+        self.assertEqual(subprocess.run(words, input=text, stdout=PIPE, text=True).stdout, told)
+        (self.folder / "given").write_text(text)
+        with open(self.folder / "given") as file:
+            self.assertEqual(self.started("--quiet", "--", "cksum", stdin=file).stdout, told)
+
+    def test_much_output(self) -> None:
+        """More than a machine may be ahead of who reads."""
+        done = self.started("--quiet", "--", "head", "-c", str(200 << 20), "/dev/zero", text=False)
+        self.assertEqual(len(done.stdout), 200 << 20)
+
+    def test_a_reader_that_goes_away_ends_it(self) -> None:
+        words = [*SIMULATED, "--quiet", "--", "yes"]
+        with subprocess.Popen(words, cwd=self.folder, stdin=NONE, stdout=PIPE, stderr=NONE) as process:
+            assert process.stdout
+            self.assertEqual(process.stdout.readline(), b"y\n")
+            process.stdout.close()
+            self.assertEqual(process.wait(), 128 + signal.SIGPIPE)
+
+
+class OfSurroundings(Simulated):
+    def test_folder_environment_and_user(self) -> None:
+        (self.folder / "given").write_text("what was given\n")
+        asked, sockets = "pwd; id; umask; echo $ASKED; cat given", "; echo ${SSH_AUTH_SOCK-none} ${DISPLAY-none}"
+        names = environment(ASKED="two words", SSH_AUTH_SOCK="/somewhere", DISPLAY=":0")
+        outside = subprocess.run(["sh", "-c", asked], cwd=self.folder, env=names, stdout=PIPE, text=True)
+        done = self.started("--quiet", "--", "sh", "-c", asked + sockets, env=names)
+        self.assertEqual((done.stdout, done.stderr), (outside.stdout + "none none\n", ""))
+
+    def test_a_file_that_it_makes_stays(self) -> None:
+        self.started("--", "sh", "-c", "umask 027; echo kept > made")
+        self.assertEqual((self.folder / "made").read_text(), "kept\n")
+        self.assertEqual((self.folder / "made").stat().st_mode & 0o777, 0o640)
+
+    def test_what_is_written_in_scratch_is_lost(self) -> None:
+        (self.folder / "there").write_text("before\n")
+        asked = "echo after > there; echo new > made; cat there made; rm there; ls"
+        done = self.started("--quiet", "--scratch", "--transcript", "h", "--", "sh", "-c", asked)
+        self.assertEqual((done.returncode, done.stdout), (0, "after\nnew\nmade\n"), done.stderr)
+        self.assertEqual((self.folder / "there").read_text(), "before\n")
+        self.assertEqual(sorted(os.listdir(self.folder)), ["h", "there"])
+
+    def test_server_and_client_by_name(self) -> None:
+        (self.folder / "client.py").write_text(CLIENT)
+        serves = "exec python3 -m http.server 7000 >/dev/null 2>&1"
+        done = self.started("--quiet", "--server", serves, "--", "python3", "client.py")
+        self.assertEqual(done.stdout, "10.8.0.2\n7000\n", done.stderr)
+
+    def test_side_by_side(self) -> None:
+        """Six at once, of which two have one seed."""
+        def begun(seed: int) -> "subprocess.Popen[bytes]":
+            words = ["--quiet", "--up", "20ms", "--down", "20ms loss 20%", "--seed", str(seed), "--"]
+            return subprocess.Popen([*SIMULATED, *words, "ping", "-c", "50", "server"], stdin=NONE, stdout=PIPE)
+
+        out = [run.communicate()[0] for run in [begun(seed) for seed in (1, 2, 3, 4, 5, 1)]]
+        self.assertEqual(out[0], out[5])
+        self.assertEqual(len(set(out)), 5)
+
+
+class OfEnds(Simulated):
+    def begun(self) -> "subprocess.Popen[str]":
+        """A run that goes on, and has said so."""
+        words = [*SIMULATED, "--", "sh", "-c", GOES_ON]
+        process = subprocess.Popen(words, cwd=self.folder, stdin=NONE, stdout=PIPE, stderr=NONE, text=True)
+        assert process.stdout
+        self.assertEqual(process.stdout.readline(), "begun\n")
+        return process
+
+    def below(self, process: "subprocess.Popen[str]") -> "list[str]":
+        """The paths of the processes below a run: its machine."""
+        found = subprocess.run(["pgrep", "-P", str(process.pid)], stdout=PIPE, text=True).stdout.split()
+        self.assertNotEqual(found, [])
+        return [f"/proc/{number}" for number in found]
+
+    def test_signals_end_it_at_once_with_nothing_left(self) -> None:
+        before = left()
+        for number in (signal.SIGINT, signal.SIGTERM, signal.SIGHUP):
+            with self.begun() as process:
+                below = self.below(process)
+                process.send_signal(number)
+                self.assertEqual(process.wait(), 128 + number)
+            self.assertEqual([path for path in below if os.path.exists(path)], [])
+        self.assertEqual(left() - before, set())
+
+    def test_a_launcher_that_is_killed_takes_its_machine_along(self) -> None:
+        with self.begun() as process:
+            below = self.below(process)
+            process.kill()
+            process.wait()
+        until = time.monotonic() + 60
+        while any(map(os.path.exists, below)) and time.monotonic() < until:
+            time.sleep(0.01)
+        self.assertEqual([path for path in below if os.path.exists(path)], [])
+
+    def test_a_machine_is_on_one_processor(self) -> None:
+        """So are its kernel and the kernel's processes, which are children of it."""
+        with self.begun() as process:
+            [kernel] = [path.rpartition("/")[2] for path in self.below(process)]
+            found = [kernel, *(str(child) for child in children(int(kernel)))]
+            places = {frozenset(os.sched_getaffinity(int(one))) for one in found if os.path.exists(f"/proc/{one}")}
+            process.terminate()
+        self.assertEqual([len(place) for place in places], [1])
+
+    def test_it_leaves_a_processor_for_which_it_waits(self) -> None:
+        """A fifth of half a second is what it may wait."""
+        place = OneProcessor()
+        place.allowed, place.present, place.seen = [0, 1, 2], 0, 0.0
+        self.assertEqual([place.is_left(0.4, 0.4), place.is_left(1.0, 0.19), place.present], [False, False, 0])
+        self.assertEqual([place.is_left(2.0, 0.41), place.present in (1, 2)], [True, True])
+        place.allowed = [0]
+        self.assertFalse(place.is_left(3.0, 1.4))
+
+    def test_the_limit_of_real_time(self) -> None:
+        done = self.started("--real-limit", "500ms", "--", "sh", "-c", GOES_ON)
+        self.assertEqual(done.returncode, 124)
+        self.assertEqual(done.stderr, "hinge run: it was ended after 0.5 s of real time, by --real-limit\n")
+
+
+class OfRefusals(Simulated):
+    def refused(self, status: int, sentence: str, *words: str, **more: object) -> None:
+        done = self.started(*words, **more)
+        self.assertEqual((done.returncode, done.stdout, done.stderr), (status, "", f"hinge run: {sentence}\n"))
+
+    def test_the_network_outside(self) -> None:
+        self.refused(2, "--outside: simulated time has no way to the rest of the network, whose time is real",
+                     "--outside", "--", "true")
+
+    def test_a_folder_of_its_own(self) -> None:
+        self.refused(6, "--simulated: /dev/shm isn't in the machine, whose /dev, /proc, /run, /sys are its own",
+                     "--", "true", cwd="/dev/shm")
+
+    def test_too_much_memory(self) -> None:
+        self.assertIn("'1T' is no size from 64M to 64G", self.started("--memory", "1T", "--", "true").stderr)
+
+    def test_a_shell_on_a_terminal(self) -> None:
+        main, second = os.openpty()
+        try:
+            self.refused(2, "--simulated: there is no terminal in simulated time; give bash its commands by -c or on "
+                         "standard input", "--", "bash", stdin=second)
+        finally:
+            os.close(main)
+            os.close(second)
+
+    def test_without_a_kernel(self) -> None:
+        names = environment(XDG_CACHE_HOME=str(self.folder))
+        names.pop("HINGE_KERNEL", None)
+        self.refused(6, "there is no kernel for simulated time yet: `hinge kernel` builds it, once",
+                     "--", "true", env=names)
+
+    def test_a_wrong_word_before_the_machine_is_made(self) -> None:
+        self.refused(2, "--map => pipe 3: pipe 3 isn't configured", "--map", "=> pipe 3", "--", "true")
+
+    def test_options_of_simulated_time_alone(self) -> None:
+        done = subprocess.run([*HINGE, "run", "--at", "2026-01-01", "--", "true"], capture_output=True, text=True)
+        self.assertEqual(done.returncode, 2)
+        self.assertEqual(done.stderr, "hinge run: --at: it is of simulated time; add --simulated\n")
