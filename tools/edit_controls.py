@@ -1,5 +1,5 @@
 #!/usr/bin/env python3
-"""Shows that a must-fail edit is refused for its mistake and not for its form.
+"""Shows that an edit is refused for its mistake and not for its form.
 
 An edit that adds code, a wrapper or a field would prove nothing if a change that does no harm in the same form were refused
 too. So for each edit of the table below the mistake is undone and the form kept, and the crate has to prove. Edits that
@@ -25,12 +25,13 @@ from collections.abc import Iterator
 from pathlib import Path
 
 from build_program import copied, crate_of
+from edits.edit import BOTH, Pair
+from edits.edit import pairs_of as pairs_of_text
 
 TOP = Path(__file__).resolve().parent.parent
 # An edit adds code where its new texts have more characters than this beyond the old ones, or more of these words.
 MOST_ADDED = 40
 NEW_CODE = re.compile(r"\b(?:fn|impl|trait|struct|enum|for|while|loop)\b")
-Pair = tuple[str, str, str]  # the file, the text that goes, and the text in its place
 
 LEAST = "ensures least { IfSome result (λ key. IsLeast %s key self.old.keys) } ensures keys {"
 IS_LEAST = "ghost use Rattle.dn_heap.specs.Heap.{IsLeast}; "
@@ -46,12 +47,11 @@ CONTROLS = {
     "dn_files/row_read_twice": [("self.start = start;", "let _ = start;")],
     "dn_wf2q/empty_heaps": [("self.arrivals", "self.eligible.moves() + self.waiting.moves()"), ("self.eligible.pop()", "self.eligible.moves()"),
                             ("self.waiting.pop()", "self.waiting.moves()")],
-    "dn_wf2q/left_in_waiting_heap": [("self.waiting.push_reserved(first);", "let _ = self.waiting.moves();")],
+    "dn_wf2q/left_in_waiting_heap": [("leave(&mut self.waiting, first);", "let _ = self.waiting.moves();")],
     "dn_wf2q/picks_ineligible": [("top.tag() * 0", "top.tag() * 1")],
-    "dn_wf2q/ties_by_arrival": [(".then(self.entered.cmp(&other.entered))", ".then(self.slot().cmp(&other.slot()))")],
     "dn_wf2q/weight_at_the_pick": [("self.behind.in_force.max(next.weight.min(0))", "next.weight.max(self.behind.in_force.min(0))")],
     "dn_wf2q/without_the_least_key": [
-        ("use crate::rank_heap::RankHeap;", IS_LEAST + "ghost use Rattle.dn_wf2q.specs.Rank.{rank_cmp}; use crate::rank_heap::RankHeap;"),
+        ("use dn_heap::PlacedHeap;", IS_LEAST + "ghost use Rattle.dn_wf2q.specs.Rank.{rank_cmp}; use dn_heap::PlacedHeap;"),
         ("ensures keys {", LEAST % "rank_cmp")],
     "dn_link/without_the_least_key": [
         ("trait Pops", IS_LEAST + "ghost use Rattle.dn_types.specs.Deliveries.{delivery_cmp}; trait Pops"),
@@ -59,7 +59,9 @@ CONTROLS = {
     "dn_link/without_the_value_of_a_bandwidth": [("ensures in_range", "ensures value { result ≡ self } ensures in_range")],
     "dn_flows/limit_before_loss": [("&& !self.is_full(&rule.limit)", "&& self.len == self.len")],
     "dn_flows/answers_the_flow_before": [("saturating_sub(1)", "saturating_sub(0)")],
+    "dn_service/a_packet_recorded_twice": [("pages.history.push_reserved(", "drop(")],
     "dn_service/always_busy": [("number < 16", "number >= 16")],
+    "dn_service/busy_without_a_try": [("number > 0", "number >= 16")],
     "dn_service/front_forgets": [("pages.history.clear();", "let _ = pages.history.len();")],
     "dn_service/hands_out_from_one": [("callers.remove(0);", "let _ = callers.len();")],
     "dn_service/invented_reply": [("number == 0", "number >= 16")],
@@ -75,6 +77,9 @@ CONTROLS = {
     "dn_service/without_the_state_of_the_shaper": [("× ⊤)", "× StandsAfter rule self.new (call.now ∷ calls))")],
     "dn_shaper/collects_again": [("list.extend_from_slice(given)", "list.len()")],
     "dn_shaper/memory_after_change_the_flow": [("find_or_make(*key)", "len()")],
+    "dn_shaper/collects_by_submission": [
+        ("given.sort_unstable_by_key(|delivery| delivery.packet);", "given.reverse(); given.reverse();")],
+    "dn_shaper/no_flow_for_a_lost_packet": [("< drops.loss.get()", "< 0")],
     "dn_shaper/opening_reply": [("Reply::NoTarget { at }", "reply"), ("at: moment.get()", "at: at")],
     "dn_shaper/without_what_is_due": [
         ("Line.{after_due}", "Line.{after_due, due_first}"),
@@ -101,16 +106,8 @@ CONTROLS = {
 def pairs_of(name: str) -> list[Pair]:
     """An edit's pairs, in order."""
     crate, edit = name.split("/")
-    pairs, file, old = [], "", ""
-    for line in (TOP / "crates" / crate / "must-fail" / f"{edit}.edit").read_text().splitlines():
-        kind, _, text = line.partition(": ") if ": " in line else (line.rstrip(": "), "", "")
-        if kind == "file":
-            file = text.strip()
-        elif kind == "old":
-            old = text
-        elif kind == "new":
-            pairs.append((file, old, text))
-    return pairs
+    found = [path for folder in BOTH if (path := TOP / "crates" / crate / folder / f"{edit}.edit").exists()]
+    return list(pairs_of_text(found[0].read_text()))
 
 
 def adds_code(pairs: list[Pair]) -> bool:
@@ -129,7 +126,7 @@ def controlled(name: str) -> list[Pair]:
     for wrong, right in CONTROLS[name]:
         if not any(wrong in new for _, _, new in pairs):
             raise Misfit(f"nothing to undo in {wrong!r}")
-        pairs = [(file, old, new.replace(wrong, right)) for file, old, new in pairs]
+        pairs = [Pair(file, old, new.replace(wrong, right)) for file, old, new in pairs]
     return pairs
 
 
@@ -146,7 +143,7 @@ def applied(crate: Path, pairs: list[Pair], texts: dict[Path, str]) -> dict[Path
 
 
 def edits() -> list[str]:
-    return sorted(f"{path.parent.parent.name}/{path.stem}" for path in TOP.glob("crates/*/must-fail/*.edit"))
+    return sorted(f"{path.parent.parent.name}/{path.stem}" for folder in BOTH for path in TOP.glob(f"crates/*/{folder}/*.edit"))
 
 
 def misfit(name: str) -> str:

@@ -1,6 +1,7 @@
 #!/usr/bin/env python3
 """Tells how much of definitions a reader has to believe for each headline: those that its clauses reach through the crates'
-specs/, by lines and by characters. Comments, imports and blank lines don't count, and neither do the toolchain's own words.
+specs/, by lines and by characters, and how many lines there are of each subject: the emulation, the service, and the formats of files.
+Comments, imports and blank lines don't count, and neither do the toolchain's own words.
 
     python3 tools/lines_to_believe.py          (in the top folder; prints a table in Markdown)
 """
@@ -9,6 +10,7 @@ from __future__ import annotations
 
 import re
 import sys
+from collections import Counter
 from pathlib import Path
 from typing import Dict, Iterable, Iterator, NamedTuple, Tuple
 
@@ -29,6 +31,8 @@ HEADLINES = [
     ("audit_file", "dn_audit"),
     ("parse_line", "dn_config"),
 ]
+# What the definitions of a crate are of. Those of the others are of formats.
+SUBJECTS = {"dn_types": "emulation", "dn_shaper": "emulation", "dn_service": "service"}
 Key = Tuple[str, str, str]  # the crate of a definition, its module and its name
 Imports = Dict[str, Key]
 
@@ -115,12 +119,14 @@ def reached(definitions: Definitions, words: Iterable[str], imports: Imports) ->
 
 def row(name: str, definitions: Definitions, found: set[Key]) -> str:
     lines = [line for key in found for line in definitions[key].lines]
-    return f"| {name} | {len(found)} | {len(lines)} | {sum(map(len, lines)):,} |"
+    by_subject = Counter(SUBJECTS.get(key[0], "formats") for key in found for _ in definitions[key].lines)
+    counts = " | ".join(f"{by_subject[subject]:,}" for subject in ("emulation", "service", "formats"))
+    return f"| {name} | {len(found)} | {len(lines):,} | {counts} | {sum(map(len, lines)):,} |"
 
 
 def main(top: Path) -> None:
     definitions, every = read_specs(top), set()
-    print("| Promise | Definitions | Lines | Characters |\n|---|---|---|---|")
+    print("| Promise | Definitions | Lines | of emulation | of the service | of formats | Characters |\n|---|---|---|---|---|---|---|")
     for title, crate in HEADLINES:
         text, name = file_of(top, crate, title)
         words = [word for line in clause_lines(text, name) for word in WORD.findall(line)]

@@ -1,13 +1,10 @@
-"""Sorts why each must-fail edit was refused, from the output of `rt must-fail` or `rt ci` on standard input.
+"""Sorts why each edit was refused, from what `rt must-fail`, `rt ci`, tools/gate/edits.py or `./check` printed.
 
-    rt must-fail NAME | python3 tools/mustfail_reasons.py
+    ./check | tee log; python3 tools/mustfail_reasons.py < log
 
-  promise    a clause refused the edit, or an invariant of a type or of a loop that stands for it
-  answer     a proof file no longer fits: look whether the goal is a promise or the name of a step
-  safety     an overflow, an index, a measure or a callee's `requires`, which says nothing of the promise: write another
-             edit, unless what is required is itself an invariant
-
-The status is 1 where an edit was refused for safety.
+The kinds are those of tools/edits/verdict.py: only a promise or an answer tells something of the contract. An answer is
+a proof file that no longer fits: look whether its goal is a promise or the name of a step. The last line counts each
+kind and all edits. The status is 1 if there is any other kind, among them an edit that wasn't tried or refused.
 """
 
 from __future__ import annotations
@@ -15,30 +12,37 @@ from __future__ import annotations
 import re
 import sys
 from collections import Counter
+from typing import Optional
 
-REFUSED = re.compile(r"must-fail (\S+): refused, as it must be: (.*)")
-GOAL = re.compile(r"`([\w'\-]+)`")
-TELLING = re.compile(r"returns|invariant|loop-.*preserved|overflow|.*requires|measure|.*falls")
-SAFETY = re.compile(r"overflow|index|measure|division|cast|.*falls|.*requires")
+from edits.verdict import DECIDED, goal_of, kind_of
+
+BY_RT = re.compile(r"must-fail (\S+?)(?:\.edit)?: (refused, as it must be|NOT REFUSED|BAD EDIT|NOT TRIED)(.*)")
+BY_US = re.compile(r"edit (\S+): (?:refused.*?, (\w+): (\S+) at (\S+)|(NOT REFUSED|BAD EDIT|not tried))")
+OTHERWISE = {"NOT REFUSED": "unrefused", "BAD EDIT": "bad", "NOT TRIED": "untried", "not tried": "untried"}
 
 
-def reason(told: str) -> tuple[str, str]:
-    """The kind of a refusal, and the goal that was refused."""
-    goals = GOAL.findall(told)
-    goal = next(filter(TELLING.match, goals), goals[0] if goals else "?")
-    if SAFETY.match(goal):
-        return "safety", goal
-    return ("answer" if "/proofs/" in told else "promise"), goal
+def sorted_of(line: str) -> Optional[tuple[str, str, str]]:
+    """The kind of an edit's verdict, the edit, and the goal that refused it, if the line has one."""
+    ours = BY_US.search(line)
+    if ours:
+        return ours[2] or OTHERWISE[ours[5]], ours[1], ours[4] or ""
+    found = BY_RT.search(line)
+    if not found:
+        return None
+    name, what, told = found.groups()
+    if what in OTHERWISE:
+        return OTHERWISE[what], name, ""
+    only = "form" if "(only because" in told else "limit" if "(only by a limit" in told else ""
+    return only or kind_of(told), name, goal_of(told)
 
 
 def main() -> int:
     counts: Counter[str] = Counter()
-    for found in filter(None, map(REFUSED.search, sys.stdin)):
-        kind, goal = reason(found[2])
+    for kind, name, goal in filter(None, map(sorted_of, sys.stdin)):
         counts[kind] += 1
-        print(f"{kind:8} {found[1]}  {goal}")
-    print(" ".join(f"{kind}={count}" for kind, count in sorted(counts.items())))
-    return 1 if counts["safety"] else 0
+        print(f"{kind:9} {name}  {goal}")
+    print(" ".join(f"{kind}={count}" for kind, count in sorted(counts.items())), f"all={sum(counts.values())}")
+    return 0 if set(counts) <= set(DECIDED) else 1
 
 
 if __name__ == "__main__":

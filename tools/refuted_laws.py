@@ -5,12 +5,12 @@
     tools/refuted_laws.py 3 17         tries these rows alone
     tools/refuted_laws.py --list       prints the rows and their files, and tries nothing
 
-wrong_definitions.py shows that the proof of a law doesn't go through under a wrong definition. That is weaker than that the law
-is false of it: a proof may only mirror the definition, and be repaired. Here the law is refuted. A file of tools/refuted has
-lemmas `NAME : LAW → ⊥`, each at an example, and a comment with the name of its row. They end in .proof, since `rt ci` wants each
-.antt file in a crate. Each is proved in a copy of dn_types that
-has the specs with the row's wrong definition, but no proof of the crate: so nothing in it mirrors a definition. Of the right
-definitions the same file must not be proved. A row passes where both hold and one of its lemmas is about the row's own law.
+wrong_definitions.py shows that the proof of a law doesn't go through under a wrong definition. That is weaker than that
+the law is false of it: a proof may only mirror the definition, and be repaired. Here the law is refuted. A file of
+tools/refuted has lemmas `NAME : LAW → ⊥`, each at an example, and a comment with the name of its row. They end in
+.proof, since `rt ci` wants each .antt file in a crate. Each is proved in a copy of dn_types and dn_laws in one crate.
+It has the specs with the row's wrong definition, but no proof of the crates: so nothing in it mirrors a definition. Of the right
+definitions the same file must not be proved. A row passes where both hold and one of its lemmas is about its own law.
 A row without a file is told apart: of it only wrong_definitions.py speaks. The prover is called as RT, as there.
 """
 import argparse
@@ -36,9 +36,9 @@ returns c = %s
 '''
 
 
-# A row of wrong_definitions.ROWS: what is wrong, the spec, the right and the wrong texts, the function and the clause.
-Texts = Union[str, Tuple[str, ...]]
-Row = Tuple[str, str, Texts, Texts, str, str]
+# A row of wrong_definitions.ROWS: what is wrong, the specs, the right and the wrong texts, the function and the clause.
+Texts = Union[str, Tuple[str, ...], Tuple[Union[str, Tuple[str, ...]], ...]]
+Row = Tuple[str, Union[str, Tuple[str, ...]], Texts, Texts, str, str]
 
 
 class Refutation(NamedTuple):
@@ -56,8 +56,8 @@ class Laws(NamedTuple):
 
 def laws_of_the_crate() -> Laws:
     """Reads src/laws.rt."""
-    with open(os.path.join(TOP, 'crates', 'dn_types', 'src', 'laws.rt')) as file:
-        text = file.read()
+    with open(os.path.join(TOP, 'crates', 'dn_laws', 'src', 'laws.rt')) as file:
+        text = wrong_definitions.in_one_crate(file.read())
     files = {law.strip(): name
              for name, laws in re.findall(r'ghost use Rattle\.dn_types\.specs\.(\w+)\.\{([^}]*)\};', text)
              for law in laws.split(',')}
@@ -109,7 +109,7 @@ def set_refutations(crate: str, refutations: Sequence[Refutation], laws: Laws) -
     modules = ''
     for number, refutation in enumerate(refutations):
         modules += 'pub mod Refuted%d\n' % number
-        write(crate, 'proofs/Refuted%d.antt' % number, refutation.text)
+        write(crate, 'proofs/Refuted%d.antt' % number, wrong_definitions.in_one_crate(refutation.text))
         for place, (name, law) in enumerate(refutation.lemmas):
             function = 'refuted%d_%d' % (number, place)
             source += '\npub fn %s()\n    ensures { %s → ⊥ }\n{}\n' % (function, law)
@@ -150,15 +150,9 @@ def unfit(rows: Sequence[Row], refutations: Dict[str, Refutation], crate: str, l
 
 def try_row(crate: str, row: Row, refutation: Refutation, laws: Laws) -> str:
     """Whether the law is refuted under the row's wrong definition."""
-    spec = 'specs/%s.antt' % row[1]
-    with open(os.path.join(crate, spec)) as file:
-        right = file.read()
     set_refutations(crate, [refutation], laws)
-    try:
-        write(crate, spec, wrong_definitions.changed(right, row[2], row[3]))
+    with wrong_definitions.wrongly_defined(crate, row):
         return 'refuted' if all(proved_lemmas(crate, tell=True)[0]) else 'not refuted'
-    finally:
-        write(crate, spec, right)
 
 
 def main() -> int:

@@ -1,5 +1,5 @@
 #!/usr/bin/env python3
-"""Tries wrong definitions of dn_types one at a time, and asks that the laws refuse each.
+"""Tries wrong definitions of dn_types one at a time, and asks that the laws of dn_laws refuse each.
 
     tools/wrong_definitions.py              prints a table in Markdown: a law, and the wrong definitions that it refuses
     tools/wrong_definitions.py 3 17         tries these rows alone
@@ -8,12 +8,13 @@
 
 In the table a row without a file in tools/refuted has a star: refuted_laws.py doesn't show that the law is false of it.
 
-Each row changes one line of crates/dn_types/specs, or a few of one file, in a copy from which the worked examples, the lists
-of calls and the witnesses are taken out, and checks the function of `laws` with the law that is false of the definition. A row
-passes where it is not proved. A row without a law is a choice that no law judges: it is pinned by examples alone. A row without
-a clause is about a function that has one clause without a name.
+Each row changes one line of crates/dn_types/specs, or a few, in a copy that has both crates in one. The worked
+examples, the lists of calls and the witnesses are taken out of it. A row checks the function with the law that is false
+of the definition, and passes where it is not proved. A row without a law is a choice that no law judges: it is pinned by
+examples alone. A row without a clause is about a function that has one clause without a name.
 The prover is called as RT, which is `rt` where the environment names nothing else.
 """
+import contextlib
 import os
 import re
 import shutil
@@ -24,10 +25,40 @@ import tempfile
 TOP = os.path.dirname(os.path.dirname(os.path.abspath(__file__)))
 SET_ASIDE = ['Cases', 'ExamplesDeletes', 'ExamplesLinks', 'ExamplesWf2q', 'ShortListsFlows', 'ShortListsWf2q',
              'Witnesses', 'FairWitness', 'LawWitnesses', 'DeleteWitnesses', 'PartWitnesses',
-             'ReplyWitnesses']
+             'ReadingWitnesses', 'ReplyWitnesses', 'WaitWitnesses']
+
+# Texts of the rows in which what a command is told isn't what is done, and of those in which the clock goes otherwise.
+SETTING_AFTER = "-- What is in force for a command's subject once"
+OBEYED_AS_TOLD = '(setting_after (command_reply (settings calls)'
+OBEYED_OTHERWISE = '(setting_after (obeyed (settings calls)'
+TOLD = 'reply_to_command calls command = command_reply (settings calls)'
+TOLD_OTHERWISE = 'reply_to_command calls command = obeyed (settings calls)'
+IMPORTS_TOLD = 'Configuration.{settings, reply_to_command}'
+IMPORTS_BOTH = 'Configuration.{settings, queue_numbers, command_reply}'
+REPLIED = 'counted_reply rule calls (Configure command) = reply_to_command calls command'
+REPLIED_ALONE = ('counted_reply rule calls (Configure command) = '
+                 'command_reply (settings calls) (queue_numbers calls) command')
+NEVER_OBEYED = '''abbrev pub obeyed : Settings → List ℕ → Command → Reply
+obeyed settings queues command = NoSuchPipe
+
+'''
+OBEYED_ONCE = '''abbrev pub once : Bool → Reply → Reply
+once true Configured = NoSuchPipe
+once there r = r
+
+abbrev pub obeyed : Settings → List ℕ → Command → Reply
+obeyed settings queues command = once (is_some (settings (subject command))) (command_reply settings queues command)
+
+'''
+NAMED = ('(Submit target packet moment) = moment', '(Advance moment) = moment', '(Collect moment) = moment')
+AT_NAMED = 'max (effective_moment calls) moment'
+TICKED = '''abbrev pub ticked : ℕ → ℕ
+ticked moment = moment / 1000000 * 1000000
+
+'''
 
 # What is wrong, the file, the right text, the wrong text (or as many of each as there are places to change), and the
-# function and the clause of the law that is false of it.
+# function and the clause of the law that is false of it. A row of several files has a tuple of each of the first three.
 ROWS = [
     ('weights count for nothing', 'Flows', 'pipe = pipe; weight = weight;', 'pipe = pipe; weight = 1;',
      'laws_of_shares', 'tags'),
@@ -273,17 +304,82 @@ ROWS = [
     ('no packet is longer than 1,500 bytes', 'Bounds', 'packet.len ≤ 65535', 'packet.len ≤ 1500',
      'each_call_is_in_range', ''),
     ('no delay is longer than a minute', 'Bounds', 'delay ≤ 3600000', 'delay ≤ 60000', 'each_call_is_in_range', ''),
+    ('a link rests a nanosecond after each packet', 'Starts',
+     'option_map (λ p. start_at settings link p (free link trace))',
+     'option_map (λ p. start_at settings link p (free link trace + 1))', 'laws_of_waiting', 'known'),
+    ('a queue holds twice its slots', 'Drops', 'nat_le count (length lengths)',
+     'nat_le (count * 2) (length lengths)', 'laws_of_waiting', 'slots'),
+    ('a deleted pipe stays configured', 'Configuration', 'subject (DeletePipe number) = ToPipe number',
+     'subject (DeletePipe number) = ToQueue 0', 'laws_of_replies', 'obeyed'),
+    ('a deleted queue stays configured', 'Configuration', 'subject (DeleteQueue number) = ToQueue number',
+     'subject (DeleteQueue number) = ToQueue 0', 'laws_of_replies', 'obeyed'),
+    ('the command of a queue is in force for the next one', 'Configuration',
+     ('Prelude.{ℕ, ', 'limit loss buckets mask) = ToQueue number',
+      'buckets mask) ∷ calls) = number ∷ queue_numbers calls'),
+     ('Prelude.{ℕ, ◌+◌, ', 'limit loss buckets mask) = ToQueue (number + 1)',
+      'buckets mask) ∷ calls) = (number + 1) ∷ queue_numbers calls'), 'laws_of_replies', 'obeyed'),
+    ('a command is told Configured and never obeyed', ('Configuration', 'Replies'),
+     ((SETTING_AFTER, OBEYED_AS_TOLD, TOLD), (IMPORTS_TOLD, REPLIED)),
+     ((NEVER_OBEYED + SETTING_AFTER, OBEYED_OTHERWISE, TOLD_OTHERWISE), (IMPORTS_BOTH, REPLIED_ALONE)),
+     'laws_of_replies', 'obeyed'),
+    ('what is configured anew stays as it was', ('Configuration', 'Replies'),
+     ((SETTING_AFTER, OBEYED_AS_TOLD, TOLD, 'Prelude.{ℕ, Bool, '), (IMPORTS_TOLD, REPLIED)),
+     ((OBEYED_ONCE + SETTING_AFTER, OBEYED_OTHERWISE, TOLD_OTHERWISE, 'Prelude.{ℕ, Bool, true, '),
+      (IMPORTS_BOTH, REPLIED_ALONE)), 'laws_of_replies', 'obeyed'),
+    ('time stands still', ('Clock', 'Calls', 'Replies'), (NAMED, AT_NAMED, AT_NAMED),
+     (tuple(line.replace('= moment', '= 0') for line in NAMED), AT_NAMED.replace(') moment', ') 0'),
+      AT_NAMED.replace(') moment', ') 0')), 'laws_of_replies', 'follows'),
+    ('moments count in whole milliseconds', ('Clock', 'Calls', 'Replies'),
+     (('Prelude.{ℕ, ', 'abbrev pub moment_of', *NAMED), ('Clock.{', AT_NAMED), ('Clock.{', AT_NAMED)),
+     (('Prelude.{ℕ, ◌/◌, ◌*◌, ', TICKED + 'abbrev pub moment_of',
+       *(line.replace('= moment', '= ticked moment') for line in NAMED)),
+      ('Clock.{ticked, ', AT_NAMED.replace(') moment', ') (ticked moment)')),
+      ('Clock.{ticked, ', AT_NAMED.replace(') moment', ') (ticked moment)'))), 'laws_of_replies', 'follows'),
+    ('a Show tells started packets as discarded', 'Trace',
+     ('Prelude.{ℕ, ', 'is_start_of flow (started s) = nat_eq s.packet.stamped.flow flow\n',
+      'discarded_count link flow [] = 0\n'),
+     ('Prelude.{ℕ, min, ', '',
+      'discarded_count link flow [] = 0\ndiscarded_count link flow (started s ∷ trace) = '
+      'cond (is_of link flow s.packet) (min 1 (length (backlog link flow trace))) 0 '
+      '+ discarded_count link flow trace\n'),
+     'laws_of_replies', 'starts'),
+    ('the entries of a caller begin with a Show that nobody made', 'History',
+     ('use Rattle.dn_types.specs.declared.entry.Entry.{Entry}', 'own_entries caller history = '),
+     ('use Rattle.dn_types.specs.declared.entry.Entry.{Entry}\n'
+      'use Rattle.dn_types.specs.declared.call.Call.TheVariants.{Show}\n'
+      'use Rattle.dn_types.specs.declared.reply.Reply.TheVariants.{Exhausted}',
+      'own_entries caller history = record { caller = caller; call = Show; reply = Exhausted } ∷ '),
+     'laws_of_histories', 'none'),
+    ('a Kbyte has 2,048 bytes', 'Drops', 'nat_lt (count * 1024) (sum lengths)', 'nat_lt (count * 2048) (sum lengths)',
+     'laws_of_waiting', 'kbytes'),
 ]
 
 
-def copy_of_the_crate(folder):
-    """A copy of dn_types without what computes at single points."""
-    crate = os.path.join(folder, 'crates', 'dn_types')
-    shutil.copytree(os.path.join(TOP, 'crates', 'dn_types'), crate, ignore=shutil.ignore_patterns('out', 'must-fail'))
-    shutil.copy(os.path.join(TOP, 'HANDLES'), folder)
-    with open(os.path.join(TOP, 'crates.txt')) as whole, open(os.path.join(folder, 'crates.txt'), 'w') as own:
-        own.writelines(line for line in whole if line.startswith('dn_types'))
-    proofs = os.path.join(crate, 'proofs')
+def in_one_crate(text):
+    """A text of dn_laws as one of dn_types, for the copy that has both."""
+    return text.replace('Rattle.dn_laws.', 'Rattle.dn_types.').replace('use dn_types::', 'use crate::')
+
+
+def add_the_laws(crate):
+    """Puts the files of dn_laws into the copy of dn_types, so that a wrong definition meets its law first."""
+    top = os.path.join(TOP, 'crates', 'dn_laws')
+    for folder, folders, names in os.walk(top):
+        folders[:] = [name for name in folders if name != 'out']
+        for name in names:
+            path = os.path.relpath(os.path.join(folder, name), top)
+            if not name.endswith(('.antt', '.rt')) or path == os.path.join('src', 'lib.rt'):
+                continue
+            with open(os.path.join(folder, name)) as file:
+                text = in_one_crate(file.read())
+            os.makedirs(os.path.dirname(os.path.join(crate, path)), exist_ok=True)
+            with open(os.path.join(crate, path), 'a' if name == 'Lib.antt' else 'w') as file:
+                file.write(text)
+    with open(os.path.join(crate, 'src', 'lib.rt'), 'a') as file:
+        file.write('pub mod laws;\n')
+
+
+def set_aside(proofs):
+    """Takes what computes at single points out of the copy."""
     library = os.path.join(proofs, 'Lib.antt')
     with open(library) as file:
         text = file.read()
@@ -294,6 +390,17 @@ def copy_of_the_crate(folder):
     with open(library, 'w') as file:
         file.write(text)
     shutil.rmtree(os.path.join(proofs, 'Cases'), ignore_errors=True)
+
+
+def copy_of_the_crate(folder):
+    """A copy of dn_types that has the laws too, without what computes at single points."""
+    crate = os.path.join(folder, 'crates', 'dn_types')
+    shutil.copytree(os.path.join(TOP, 'crates', 'dn_types'), crate, ignore=shutil.ignore_patterns('out', 'must-fail'))
+    shutil.copy(os.path.join(TOP, 'HANDLES'), folder)
+    with open(os.path.join(folder, 'crates.txt'), 'w') as own:
+        own.write('dn_types:\n')
+    add_the_laws(crate)
+    set_aside(os.path.join(crate, 'proofs'))
     return crate
 
 
@@ -316,19 +423,30 @@ def changed(text, old, new):
     return text
 
 
+@contextlib.contextmanager
+def wrongly_defined(crate, row):
+    """Has the row's wrong definition in the copy, and then the right one again."""
+    _, names, old, new, _, _ = row
+    changes, kept = zip(names, old, new) if isinstance(names, tuple) else [(names, old, new)], {}
+    try:
+        for name, before, after in changes:
+            spec = os.path.join(crate, 'specs', name + '.antt')
+            with open(spec) as file:
+                kept[spec] = file.read()
+            with open(spec, 'w') as file:
+                file.write(changed(kept[spec], before, after))
+        yield
+    finally:
+        for spec, right in kept.items():
+            with open(spec, 'w') as file:
+                file.write(right)
+
+
 def try_row(crate, row):
     """What was refused, and whether the row went as it should."""
-    _, name, old, new, function, _ = row
-    spec = os.path.join(crate, 'specs', name + '.antt')
-    with open(spec) as file:
-        right = file.read()
-    try:
-        with open(spec, 'w') as file:
-            file.write(changed(right, old, new))
+    function = row[4]
+    with wrongly_defined(crate, row):
         unproved, refused, finished = check(crate, function or 'laws')
-    finally:
-        with open(spec, 'w') as file:
-            file.write(right)
     if function is None:
         return refused, finished
     refuses = finished and function in unproved

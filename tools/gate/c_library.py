@@ -1,4 +1,4 @@
-"""The C library from C: scenarios of the independent reference, each growth of memory refused, and arguments of every kind.
+"""The C library from C: scenarios of the independent reference, each growth of memory refused or counted, and arguments of every kind.
 
     python3 tools/gate/c_library.py SEED COUNT
 
@@ -137,7 +137,8 @@ def main(seed: str, count: str) -> int:
                 tally.note(f"scenario {number}, {way}", "" if done.returncode == 0 else f"status {done.returncode}\n{said}")
         ends_well(tally, "arguments", [program(place, "arguments")])
         wrapped = "-Wl,--wrap=rattle_alloc,--wrap=rattle_realloc"
-        ends_well(tally, "growths", [program(place, "growths", TOOLS / "refused_growths.c", wrapped)])
+        for name in ("growths", "reserved"):
+            ends_well(tally, name, [program(place, name, TOOLS / "refused_growths.c", wrapped)])
     return tally.end()
 
 

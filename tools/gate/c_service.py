@@ -6,12 +6,14 @@ It takes the library of the present sources, as tools/library finds it. Each run
 sanitizers for addresses and undefined behaviour, and with the one for threads. The latter sees the program and the header alone: the
 shared library isn't made for it, and orders its threads by atomics that it doesn't see. The history has to be lawful, and each
 caller's entries have to be as many, and of the kinds, as its thread was told. Then each growth of memory is refused, and arguments of
-every kind are tried. At last C and Python make ten times as many calls in the same memory, since entries are taken out meanwhile.
+every kind are tried. A program of two threads, under the sanitizer for threads and with the suppressions that are installed, reports
+nothing but a race of its own. At last C and Python make ten times as many calls in the same memory, since entries are taken out meanwhile.
 """
 
 from __future__ import annotations
 
 import os
+import shutil
 import subprocess
 import sys
 from collections import Counter
@@ -29,6 +31,7 @@ MOST_GROWN = 3 * 1024  # KiB
 COMMON = ["-std=c99", "-g", "-O1", "-Wall", "-Wextra", "-Werror", "-fno-sanitize-recover=all", "-pthread"]
 KINDS = {"queued": "queued", "lost": "lost", "full": "full", "no-target": "without target", "no-such-pipe": "refused", "pipe-has-queues": "refused",
          "no-such-queue": "refused"}
+SUPPRESSIONS = HEADER.parent / "hingetulip.tsan"
 TOLD = ("calls", "queued", "lost", "full", "without target", "delivered", "refused", "shown")
 
 
@@ -87,6 +90,18 @@ def flat(tally: Tally, name: str, words: list[str | Path], history: Path, audit:
     print(f"memory from {name}: {peaks[0]} KiB for {FEW} calls, {peaks[1]} KiB for {MANY}")
 
 
+def races(tally: Tally, place: Path, compiler: str, linked: list[str | Path]) -> None:
+    """Two threads: reports of the library alone, none of them by the file of suppressions, and one of the program's own race."""
+    for word, wanted in (("", (True, 0)), ("-DRACE", (True, 1))):
+        made = place / "service_races"
+        subprocess.run([compiler, *COMMON, *word.split(), "-fsanitize=thread", f"-I{HEADER}", "-o", made, SOURCES / "service_races.c", *linked], check=True)
+        found = []
+        for options in ("", f"suppressions={SUPPRESSIONS}"):
+            done = subprocess.run([made], env={**os.environ, "TSAN_OPTIONS": options}, capture_output=True, text=True)
+            found.append(done.stderr.count("WARNING: ThreadSanitizer: data race"))
+        tally.equal(f"{compiler}, {linked[0]}, {word or 'no race'}: reports", wanted, (found[0] > wanted[1], found[1]))
+
+
 def main(audit: str, seed: str, count: str) -> int:
     tally, rng, entries = Tally(), Random(int(seed)), 0
     static = library()
@@ -108,6 +123,9 @@ def main(audit: str, seed: str, count: str) -> int:
         flat(tally, "C", [made], place / "history", audit)
         flat(tally, "Python", [sys.executable, TOOLS / "gate" / "service_memory.py"], place / "history", audit, PYTHONPATH=str(TOOLS.parent / "python"),
              HINGETULIP_LIBRARY=str(shared))
+        for compiler in filter(shutil.which, ("gcc", "clang")):
+            races(tally, place, compiler, [static])
+            races(tally, place, compiler, [shared, f"-Wl,-rpath,{shared.parent}"])
         ends_well(tally, "arguments", [program(place, "service_arguments")])
         wrapped = "-Wl,--wrap=rattle_alloc,--wrap=rattle_realloc"
         ends_well(tally, "growths", [program(place, "service_growths", TOOLS / "refused_growths.c", wrapped)])

@@ -77,6 +77,10 @@ FORMS = [
     Case("a history over the packets by another name", replay("--history", "./p"), 0, REPORT, made={"p": HISTORY}),
     Case("sixteen callers", replay("--callers", "16"), 0, REPORT),
     Case("two callers", replay("--callers", "2"), 0, REPORT),
+    *[Case(f"{n} threads", replay("--threads", n), 0, REPORT) for n in ("1", "2", "64")],
+    Case("a history by threads", replay("--threads=3", "--history", "new"), 0, REPORT, made={"new": HISTORY}),
+    Case("packets of as many bytes by threads", replay("--threads=3", "--most-packets", str(len(PACKETS))), 0, REPORT),
+    fault("one byte more by threads", replay("--threads=3", "--most-packets", str(len(PACKETS) - 1)), 6, "packets too long"),
     Case("packets of as many bytes as are told", replay("--most-packets", str(len(PACKETS))), 0, REPORT),
     Case("a history of such packets", replay("--most-packets", str(len(PACKETS)), "--history", "new"), 0, REPORT, made={"new": HISTORY}),
     Case("the greatest limit", replay(f"--most-packets={2**40}"), 0, REPORT),
@@ -100,7 +104,7 @@ TARGETS = [
     Case("no row of a joined input has a target", [], 0, LOST_REPORT, UNTARGETED, stdin=f"{CONFIG}--\n{LOST}"),
     *[Case(f"no row has a target, {how}", replay(*words), 0, LOST_REPORT, UNTARGETED, files=LOST_FILES)
       for how, words in (("two files", []), ("one caller", ["--callers", "1"]), ("two callers", ["--callers", "2"]),
-                         ("a limit", ["--most-packets", "999"]))],
+                         ("a limit", ["--most-packets", "999"]), ("threads", ["--threads", "2"]))],
     Case("no row has a target, with a history", replay("--history", "new"), 0, LOST_REPORT, UNTARGETED, files=LOST_FILES, made={"new": LOST_HISTORY}),
     Case("the queue of a row isn't there", replay(), 0, LOST_REPORT, UNTARGETED, files={"c": CONFIG, "p": PACKETS.replace("pipe,1", "queue,1")}),
     Case("no row of two callers has a target", replay("--callers", "2"), 0, LOST_REPORT + "none,2,,,0,,\n", UNTARGETED,
@@ -136,7 +140,8 @@ FAULTS = [
     fault("a read that fails", ["replay", "/proc/self/mem", "p"], 6, "cannot read config"),
     fault("a configuration without end", ["replay", "/dev/zero", "p"], 6, "config too long"),
     *[fault(f"{told} with {' '.join(options)}", ["replay", *names, *options], status, line, files={**FILES, "bad": "bad\n", "rows": HEADER + "0\n"})
-      for options in (["--callers", "2"], ["--history", "new"], ["--callers", "2", "--history", "new"])
+      for options in (["--callers", "2"], ["--history", "new"], ["--callers", "2", "--history", "new"], ["--threads", "2"],
+                      ["--threads", "2", "--history", "new"])
       for told, names, status, line in (("a bad configuration", ["bad", "p"], 3, "config line 1, word 1: unknown word"),
                                         ("a bad row", ["c", "rows"], 4, "packet row 1, field 0: bad"),
                                         ("no packets", ["c", "none"], 6, "cannot read packets"))],
@@ -149,6 +154,7 @@ FAULTS = [
 ]
 SAME = "error: --history FILE would overwrite CONFIG or PACKETS\n"
 LIMITED = "error: --most-packets BYTES can't be used with --callers N\n"
+THREADED = "error: --threads N can't be used with --callers N\n"
 USAGES = [
     *[Case(f"usage: {' '.join(words)}", words, 2, "", None)
       for words in (["nothing"], ["--nothing"], ["replay"], ["replay", "c"], replay("more"), replay("--callers", "0"), replay("--callers", "17"),
@@ -157,6 +163,8 @@ USAGES = [
                     ["live", "h"], ["live", "--callers", "2"], ["--callers", "2"], ["-x"],
                     replay("--most-packets"), replay("--most-packets", "0"), replay("--most-packets", str(2**40 + 1)), replay("--most-packets", "x"),
                     replay("--most-packets", "9", "--callers", "2"), replay("--most-history", "9"), ["--most-packets", "9"],
+                    replay("--threads"), replay("--threads", "0"), replay("--threads", "65"), replay("--threads", "x"), ["--threads", "2"],
+                    replay("--threads", "2", "--callers", "2"), ["audit", "h", "--threads", "2"],
                     ["audit", "h", "--most-history", "0"], ["audit", "h", "--most-history", str(2**40 + 1)], ["audit", "h", "--most-packets", "9"])],
     *[Case(f"a history over {name}, the {word}", ["replay", *names, "--history", name], 2, "", None)
       for names, name, word in ((["c", "p"], "c", "configuration"), (["c", "p"], "p", "packets"), (["none", "p"], "none", "missing file"),
@@ -194,7 +202,7 @@ def texts(tally: Tally, program: str) -> None:
     with TemporaryDirectory() as folder:
         for words, wanted in ((["--version"], ["dummynet 1.", "rattle-kit"]), (["-V"], ["dummynet 1.", "rattle-kit"]),
                               (["--help"], ["CONFIG", "PACKETS", "HISTORY", "Example:", "replay", "audit", "live"]), (["-h"], ["Usage: dummynet"]),
-                              (["help"], ["Usage: dummynet"]), (["replay", "--help"], ["CONFIG", "PACKETS", "--callers", "--history", "--most-packets"]),
+                              (["help"], ["Usage: dummynet"]), (["replay", "--help"], ["CONFIG", "PACKETS", "--callers", "--history", "--most-packets", "--threads"]),
                               (["help", "replay"], ["CONFIG"]), (["audit", "--help"], ["HISTORY", "--most-history", "live"])):
             done = run(program, words, folder, "")
             lacking = [text for text in wanted if text not in done.stdout.decode()]
@@ -205,6 +213,8 @@ def texts(tally: Tally, program: str) -> None:
         tally.equal("its own usage", True, "\nUsage: dummynet replay [OPTIONS] <CONFIG> <PACKETS>\n" in done.stderr.decode())
         done = run(program, replay("--most-packets", "9", "--callers", "2"), folder, "")
         tally.equal("the words of a limit of callers", LIMITED, done.stderr.decode()[:len(LIMITED)])
+        done = run(program, replay("--threads", "2", "--callers", "2"), folder, "")
+        tally.equal("the words of threads of callers", THREADED, done.stderr.decode()[:len(THREADED)])
         done = run(program, [os.fsdecode(b"\xff")], folder, "")
         tally.equal("an argument that isn't UTF-8", (2, b"", b"error: an argument isn't UTF-8\n"), (done.returncode, done.stdout, done.stderr))
 

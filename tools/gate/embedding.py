@@ -29,7 +29,7 @@ PROGRAM = os.environ.get("DUMMYNET", TOP / "release" / "dummynet")
 WARNINGS = ["-Wall", "-Wextra", "-Werror"]
 INSTALLED = ["include/hingetulip.h", "include/hingetulip_service.h", "lib/cmake/Hingetulip/HingetulipConfig.cmake",
              "lib/cmake/Hingetulip/HingetulipConfigVersion.cmake", "lib/libhingetulip.a", "lib/libhingetulip.so", "lib/libhingetulip.so.1", "lib/pkgconfig/hingetulip.pc",
-             "share/hingetulip/installed", "share/man/man3/hingetulip.3"]
+             "share/hingetulip/hingetulip.tsan", "share/hingetulip/installed", "share/man/man3/hingetulip.3"]
 AROUND = "#include <hingetulip.h>\n#include <stdio.h>\n#include <string.h>\nint main(void)\n{\n%s\nreturn 0;\n}\n"
 Done = subprocess.CompletedProcess  # of a program that was run
 
@@ -111,8 +111,11 @@ def manual(tally: Tally, prefix: Prefix) -> None:
 
 def tried(tally: Tally, folder: Path, place: Path) -> None:
     prefix = Prefix(folder, place)
-    module = [f"lib/{it.relative_to(TOP)}" for it in (TOP / "python" / "hingetulip").rglob("*") if it.suffix in (".py", ".typed")]
-    tally.equal("what is installed", sorted(INSTALLED + module), sorted(str(it.relative_to(folder)) for it in folder.rglob("*") if not it.is_dir()))
+    pages = [TOP / name for name in ("LICENSE", "NOTICE", "README.md", "CHANGELOG.md")] + list((TOP / "docs").glob("*.md"))
+    module_pages = [f"share/doc/hingetulip/{it.relative_to(TOP)}" for it in pages]
+    module = [f"lib/{it.relative_to(TOP)}" for package in ("hingetulip", "hingetulip_words")
+              for it in (TOP / "python" / package).rglob("*") if it.suffix in (".py", ".typed")]
+    tally.equal("what is installed", sorted(INSTALLED + module + module_pages), sorted(str(it.relative_to(folder)) for it in folder.rglob("*") if not it.is_dir()))
     if shutil.which("pkg-config"):
         from_c(tally, prefix)
     else:

@@ -59,6 +59,13 @@ def delete_turns(program: str, count: int, folder: str) -> int:
     return session("delete_turns.py", program, count, folder)
 
 
+def emptied_links(kind: str) -> Cost:
+    """A session of deletes, each of which empties one of many links for which packets wait."""
+    def cost(program: str, count: int, folder: str) -> int:
+        return session("emptied_links.py", program, count, folder, kind)
+    return cost
+
+
 def idle_deletes(program: str, count: int, folder: str) -> int:
     return session("idle_deletes.py", program, count, folder)
 
@@ -99,6 +106,7 @@ def entries(end: bytes) -> Cost:
 CASES: dict[str, Cost] = {
     "flows with chosen keys": chosen_keys, "flows of one deleted queue": queue_delete, "deletes that reach no flow": idle_deletes,
     "flows beside deletes and arrivals by turns": delete_turns,
+    "pipes that are deleted one by one": emptied_links("pipes"), "links beside deletes of another pipe": emptied_links("turns"),
     "deletes of a queue with a new flow": reset_flows("queue"), "deletes of a queue with a new mask": reset_flows("masks"),
     "deletes of a pipe with a new flow": reset_flows("pipe"), "deletes of a flow that has sent all": reset_flows("sent"),
     "KiB of digits as a moment": digits("moment"), "KiB of digits as an address": digits("address"),

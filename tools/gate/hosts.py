@@ -1,4 +1,4 @@
-"""`hinge run`, `hinge udp` and the example of a host: traffic of programs that run, and the audit of what came of it.
+"""`hinge run`, `hinge net`, `hinge udp` and the example of a host: traffic of programs that run, and the audit of what came of it.
 
     python3 tools/gate/hosts.py PROGRAM
 
@@ -17,29 +17,67 @@ import sys
 import time
 from pathlib import Path
 from socket import AF_INET, SOCK_DGRAM, socket
-from tempfile import TemporaryDirectory
+from tempfile import TemporaryDirectory, TemporaryFile
 
 from tally import Tally
 
 TOP = Path(__file__).resolve().parent.parent.parent
 LIVE = TOP / "examples" / "live"
+HINGE = TOP / "hinge"
+REFUSED = 6  # the status of `hinge net` where the system doesn't allow it
 STRICT = ["cc", "-O2", "-Wall", "-Wextra", "-Werror"]
 ROUND = 0.01  # s of 2 x 5 ms
+LONGEST_SUITE = 1200  # s
+# By name: the program without which it is left out, and what the main command prints last.
+NETS = {"etcd": ("etcd", "consistent"), "redis": ("redis-server", "consistent"), "weights": ("iperf3", "as weighted")}
+
+
+def environment(program: str, folder: Path) -> dict[str, str]:
+    """What names the program and the host of the present sources."""
+    env = {**os.environ, "DUMMYNET": program}
+    return {**env, "HINGE_LINK": str(folder / "hinge-link")} if shutil.which("cc") else env
 
 
 def tests(tally: Tally, program: str, folder: Path) -> None:
-    """The tests of `hinge run` and `hinge udp`, by the host of the present sources."""
-    env = {**os.environ, "DUMMYNET": program}
+    """The tests of `hinge run`, `hinge net` and `hinge udp`, by the host of the present sources."""
+    env = environment(program, folder)
     if shutil.which("cc"):
         done = subprocess.run([TOP / "tools" / "hosts", folder], capture_output=True, text=True)
         tally.equal("tools/hosts", (0, f"{folder.resolve()}/hinge-link\n", ""), (done.returncode, done.stdout, done.stderr))
-        env["HINGE_LINK"] = str(folder / "hinge-link")
-    done = subprocess.run([sys.executable, TOP / "python" / "tests" / "run"], env=env, stdin=subprocess.DEVNULL, stdout=subprocess.PIPE,
-                          stderr=subprocess.STDOUT, text=True)
-    print("".join(f"{line}\n" for line in done.stdout.splitlines() if line.startswith("skipped: ")), end="")
-    found = re.search(r"(\d+) passed, (\d+) failed$", done.stdout.strip())
-    tally.note("python/tests/run", "" if found and done.returncode == 0 else done.stdout)
+    # Into a file: what a failed test left running would hold a pipe.
+    with TemporaryFile("w+", errors="replace") as said:
+        words = [sys.executable, TOP / "python" / "tests" / "run"]
+        how = {"env": env, "stdin": subprocess.DEVNULL, "stdout": said, "stderr": said, "timeout": LONGEST_SUITE}
+        status = subprocess.run(words, **how).returncode
+        said.seek(0)
+        text = said.read()
+    print("".join(f"{line}\n" for line in text.splitlines() if line.startswith("skipped: ")), end="")
+    found = re.search(r"(\d+) passed, (\d+) failed$", text.strip())
+    tally.note("python/tests/run", "" if found and status == 0 else text)
     tally.passed += int(found[1]) if found else 0
+
+
+def nets(tally: Tally, program: str, folder: Path) -> None:
+    """examples/net: each with what its programs find, the audit of the links and that of what is between them."""
+    for name, (needed, last_line) in NETS.items():
+        if shutil.which(needed) is None:
+            print(f"the net {name}: skipped, since there is no {needed} on the path")
+        else:
+            net(tally, program, folder, name, last_line)
+
+
+def net(tally: Tally, program: str, folder: Path, name: str, last_line: str) -> None:
+    env, session = environment(program, folder), folder / name
+    net = subprocess.run([HINGE, "net", TOP / "examples" / "net" / f"{name}.net", "--transcripts", session], env=env, capture_output=True, text=True, timeout=300)
+    if net.returncode == REFUSED:
+        print(f"the net {name}: skipped: {net.stderr.strip()}")
+        return
+    tally.equal(f"the net {name}", (0, last_line), (net.returncode, (net.stdout.splitlines() or [net.stderr])[-1]))
+    audit = subprocess.run([program, "audit", session / "net.history"], capture_output=True, text=True)
+    tally.equal("the audit of its links", (0, "lawful"), (audit.returncode, audit.stdout.partition(" ")[0]))
+    if subprocess.run(["/usr/bin/python3", "-c", "import numpy"], capture_output=True).returncode == 0:
+        paths = subprocess.run([HINGE, "paths", session], env=env, capture_output=True, text=True)
+        tally.equal("the audit of what is between them", (0, "lawful between links"), (paths.returncode, (paths.stdout.splitlines() or [paths.stderr])[-1]))
 
 
 def free_port() -> int:
@@ -167,7 +205,7 @@ def lines_in_python(tally: Tally, program: str, folder: Path) -> None:
 def main(program: str) -> int:
     tally = Tally()
     with TemporaryDirectory() as folder:
-        for part in (page, cut, example, in_c, lines_in_c, lines_in_python, tests):
+        for part in (page, cut, example, in_c, lines_in_c, lines_in_python, tests, nets):
             part(tally, program, Path(folder))
     return tally.end()
 

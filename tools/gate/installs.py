@@ -27,7 +27,7 @@ TOP = Path(__file__).resolve().parent.parent.parent
 VERSION = (TOP / "VERSION").read_text().strip()
 LEAST = {"docs/CAPTURE.md": 20, "docs/LONG.md": 1, "docs/FORMATS.md": 1, "README.md": 1, "examples/README.md": 1}  # commands of a page
 RUN = ("hinge", "dummynet", "echo", "printf")
-NEEDS_MORE = ("hinge udp", "hinge run")  # another program, or rights: tools/gate/hosts.py tries these
+NEEDS_MORE = ("hinge udp", "hinge run", "hinge net")  # another program, or rights: tools/gate/hosts.py tries these
 STATUSES = {"hinge ipfw ": 3}  # other than 0: the page's file has lines that are left out
 MULTIARCH = "lib/x86_64-linux-gnu"
 CMAKE = """\
@@ -135,7 +135,7 @@ def pages(tally: Tally, place: Path, folder: Path) -> None:
 
 def behind_a_link(tally: Tally, place: Path, folder: Path) -> None:
     """The command of README that runs a ping behind a link, where the system lets a user make one."""
-    [line] = re.findall(r"^\$ (hinge run .* ping .*)$", (TOP / "README.md").read_text(), re.M)
+    [line] = re.findall(r"^\$ (hinge run (?!--simulated).* ping .*)$", (TOP / "README.md").read_text(), re.M)
     it = run("sh", "-c", line, cwd=folder, PATH=f"{place}/bin:{os.environ['PATH']}")
     if shutil.which("ping") is None or it.returncode == 6:
         print(f"{line}: skipped, since there is no ping, or the system refuses: {it.stdout.strip()}")
@@ -179,6 +179,8 @@ def by_pip(tally: Tally, copy: Path, place: Path) -> None:
     library, modules = done(tally, "import", own, "-c", where, cwd=place).split()
     tally.equal("where the modules are", 2, f"{library} {modules}".count(f"{venv}/"))
     tally.equal("hinge --version", f"hinge {VERSION}\n", done(tally, "hinge", venv / "bin" / "hinge", "--version", cwd=place))
+    told = done(tally, "hinge docs", venv / "bin" / "hinge", "docs", "LIVE", cwd=place)
+    tally.equal("a page by pip", (TOP / "docs" / "LIVE.md").read_text(), told)
     for module, name, where_it_is in (("program", "dummynet", "bin/dummynet"), ("program", "shard", f"{Path(modules).parent}/hinge-shard"),
                                       ("program", "clock", f"{Path(modules).parent}/hinge-clock.so"),
                                       ("run.host", "program", f"{Path(modules).parent}/run/hinge-link")):
@@ -258,6 +260,8 @@ def in_prefix(tally: Tally, copy: Path, place: Path) -> None:
     prefix, root = place / "a prefix", place / "root"
     done(tally, "./install --all", copy / "install", "--all", prefix)
     tally.equal("hinge in a prefix", f"hinge {VERSION}\n", done(tally, "hinge", prefix / "bin" / "hinge", "--version", cwd=place))
+    told = done(tally, "hinge docs", prefix / "bin" / "hinge", "docs", "LIVE", cwd=place)
+    tally.equal("a page in a prefix", (TOP / "docs" / "LIVE.md").read_text(), told)
     module = done(tally, "the module", sys.executable, "-B", "-c", "import hingetulip; print(hingetulip.LIBRARY)", cwd=place, PYTHONPATH=f"{prefix}/lib/python")
     tally.equal("its library", f"{prefix}/lib/libhingetulip.so.1\n", module)
     tally.equal("the program", f"dummynet {VERSION}", " ".join(done(tally, "dummynet", prefix / "bin" / "dummynet", "--version").split()[:2]))
@@ -274,19 +278,36 @@ def as_packages(tally: Tally, copy: Path, place: Path) -> None:
     if shutil.which("dpkg-deb") is None:
         print("Debian's packages: skipped, since there is no dpkg-deb on the path")
         return
-    sums = []
+    kernel = run(copy / "hinge", "kernel", "--path")
+    if kernel.returncode:
+        print(f"hingetulip-kernel: skipped: {kernel.stdout.strip()}")
+    built, sums = kernel.returncode == 0, []
     for name in ("debs", "debs again"):
-        done(tally, "tools/deb", copy / "tools" / "deb", place / name)
+        done(tally, "tools/deb", copy / "tools" / "deb", *["--kernel"] * built, place / name)
         sums.append({it.name: sha256(it.read_bytes()).hexdigest() for it in (place / name).iterdir()})
-    names = [f"hingetulip-{VERSION}-x86_64.tar.gz", *(f"{name}_{VERSION}-1_amd64.deb" for name in ("hingetulip", "libhingetulip-dev", "libhingetulip1",
-                                                                                                 "python3-hingetulip"))]
+    packages = ["hingetulip", *["hingetulip-kernel"] * built, "libhingetulip-dev", "libhingetulip1", "python3-hingetulip"]
+    names = [f"hingetulip-{VERSION}-x86_64.tar.gz", *(f"{name}_{VERSION}-1_amd64.deb" for name in packages)]
     tally.equal("the packages", sorted(names), sorted(sums[0]))
     tally.equal("packages made twice", sums[0], sums[1])
+    if built:
+        of_the_kernel(tally, copy, place / "debs", Path(kernel.stdout.strip()))
     if shutil.which("lintian") is None:
         print("lintian: skipped, since it isn't on the path")
         return
     told = run("lintian", "--allow-root", *sorted((place / "debs").glob("*.deb"))).stdout
     tally.equal("errors of lintian", [], re.findall(r"^E: .*", told, re.M))
+
+
+def of_the_kernel(tally: Tally, copy: Path, debs: Path, kernel: Path) -> None:
+    """The package of the kernel that was built: a machine runs by it, and it tells its licence and its source."""
+    root = debs.parent / "kernel's root"
+    done(tally, "dpkg-deb -x", "dpkg-deb", "-x", debs / f"hingetulip-kernel_{VERSION}-1_amd64.deb", root)
+    unpacked = root / "usr" / "lib" / "hingetulip" / "kernels" / kernel.name
+    tally.equal("the kernel of the package", sha256((kernel / "linux").read_bytes()).hexdigest(), (unpacked / "checksum").read_text().strip())
+    told = done(tally, "a run by the package", copy / "hinge", "run", "--simulated", "--quiet", "--", "uname", "-r", cwd=debs.parent, HINGE_KERNEL=str(unpacked))
+    tally.equal("the version that runs", kernel.name.split("-")[0], told.strip())
+    text = (root / "usr" / "share" / "doc" / "hingetulip-kernel" / "copyright").read_text()
+    tally.note("its licence and its source", "" if "GPL-2.0-only" in text and f"Linux {told.strip()}: linux-" in text else text)
 
 
 def main(program: str) -> int:

@@ -23,8 +23,8 @@ SAMPLE = re.compile(r"^```rust\n(.*?)^```$", re.M | re.S)
 USE = re.compile(r"^use (\w+)::(?:\{(.*?)\}|(\w+));\n", re.M | re.S)
 # Libraries have a sample each, and so has a crate of tests.
 WITH_SAMPLES = ("dn_", "test_shaper")
-# Samples that are on the page alone.
-WITHOUT_TEST = {("dn_service", 1), ("dn_service", 2), ("dn_service", 3), ("dn_service", 4), ("dn_shaper", 1)}
+# Samples that are on the page alone. That of dn_laws is the contract of a law.
+WITHOUT_TEST = {("dn_service", 1), ("dn_service", 2), ("dn_service", 3), ("dn_service", 4), ("dn_shaper", 1), ("dn_files", 3), ("dn_laws", 1)}
 
 
 class Code(NamedTuple):

@@ -24,7 +24,8 @@ EXAMPLES = TOP / "examples" / "tests"
 PAGE = TOP / "docs" / "TESTING.md"
 MOST_LINES = 59  # of an example
 OUTCOME = re.compile(r"^(?P<test>\S*::.+?) (?P<outcome>PASSED|FAILED|ERROR|SKIPPED|XFAIL|XPASS)\b", re.M)
-REAL_TIME = "test_own_protocol"  # whose history has the moments of this machine
+REAL_TIME = ("test_own_protocol", "test_store")  # whose histories have the moments of this machine
+IN_ROOMS = "test_store"  # which needs namespaces
 
 
 def python() -> Optional[str]:
@@ -54,10 +55,16 @@ class Pytest:
 
     def run(self, folder: str, *files: Path) -> str:
         """What pytest prints."""
-        clock = [self.interpreter, TOP / "python" / "hinge" / "start.py", "with-clock"] if "HINGE_CLOCK" in self.env else []
+        clock = [self.interpreter, TOP / "python" / "hinge" / "__main__.py", "with-clock"] if "HINGE_CLOCK" in self.env else []
         options = ["-v", "-rs", "-p", "hinge.pytest_plugin", "-p", "no:cacheprovider", f"--basetemp={self.place / folder}"]
         words = [*clock, self.interpreter, "-m", "pytest", *options, *files]
         return subprocess.run(list(map(str, words)), cwd=self.place, env=self.env, stdout=subprocess.PIPE, stderr=subprocess.STDOUT, text=True).stdout
+
+    def no_rooms(self) -> str:
+        """Why this machine or this user can't have namespaces, or nothing."""
+        words = [self.interpreter, TOP / "python" / "hinge" / "__main__.py", "run", "--quiet", "--", "true"]
+        done = subprocess.run(list(map(str, words)), env=self.env, capture_output=True, text=True)
+        return done.stderr.strip() if done.returncode else ""
 
     def histories(self, folder: str) -> dict[str, bytes]:
         found = (self.place / folder).rglob("*.history")
@@ -66,11 +73,14 @@ class Pytest:
 
 def examples(tally: Tally, pytest: Pytest) -> None:
     files = sorted(EXAMPLES.glob("test_*.py"))
-    tally.note("five examples", "" if len(files) >= 5 else f"got {files}")
+    tally.note("six examples", "" if len(files) >= 6 else f"got {files}")
     for file in files:
         tally.note(f"lines of {file.name}", "" if len(file.read_text().splitlines()) <= MOST_LINES else "more than 59")
-        if "HINGE_LINK" not in pytest.env and file.stem == REAL_TIME:
+        if "HINGE_LINK" not in pytest.env and file.stem in REAL_TIME:
             print(f"{file.name}: skipped, since there is no cc on the path")
+            continue
+        if file.stem == IN_ROOMS and (refused := pytest.no_rooms()):
+            print(f"{file.name}: skipped: {refused}")
             continue
         told = pytest.run(f"first-{file.stem}", file)
         outcomes = OUTCOME.findall(told)
@@ -79,7 +89,7 @@ def examples(tally: Tally, pytest: Pytest) -> None:
         tally.note(file.name, "" if outcomes or "skipped" in told else told)
         for test, outcome in outcomes:
             tally.note(test, "" if outcome in ("PASSED", "XFAIL", "SKIPPED") else told)
-        if file.stem != REAL_TIME:
+        if file.stem not in REAL_TIME:
             pytest.run(f"again-{file.stem}", file)
             first, again = (pytest.histories(f"{run}-{file.stem}") for run in ("first", "again"))
             ran = any(outcome == "PASSED" for _, outcome in outcomes)

@@ -23,14 +23,16 @@ TOP = Path(__file__).resolve().parent.parent.parent
 SCRIPTS = ("dummynet", "build", "install", "hinge", "tools/program_sources", "tools/build_program.py", "tools/link_library.py", "tools/library",
            "tools/release", "tools/dummynet-completion.bash", "tools/hinge-completion.bash", "docs/dummynet.1", "docs/hinge.1", "docs/hingetulip.3",
            "crates.txt", "HANDLES", "VERSION", "crates/hingetulip_c/include/hingetulip.h", "crates/hingetulip_c/include/hingetulip_service.h", "crates/hingetulip_c/hingetulip.pc.in",
+           "crates/hingetulip_c/hingetulip.tsan",
            "crates/hingetulip_c/cmake/HingetulipConfig.cmake.in", "crates/hingetulip_c/cmake/HingetulipConfigVersion.cmake.in",
-           "examples/live/session.h", "python/hinge/__main__.py", "python/hingetulip/errors.py")
-PROGRAM = ["bin/dummynet", "bin/hinge", "lib/python/hinge/VERSION", "lib/python/hinge/__main__.py", "share/bash-completion/completions/dummynet",
-           "share/bash-completion/completions/hinge", "share/hingetulip/installed", "share/hingetulip/live/session.h",
+           "examples/live/session.h", "python/hinge/__main__.py", "python/hingetulip/errors.py", "python/hingetulip_words/link.py", "LICENSE", "NOTICE")
+PROGRAM = ["bin/dummynet", "bin/hinge", "lib/python/hinge/VERSION", "lib/python/hinge/__main__.py", "lib/python/hingetulip_words/link.py", "share/bash-completion/completions/dummynet",
+           "share/bash-completion/completions/hinge", "share/doc/hingetulip/LICENSE", "share/doc/hingetulip/NOTICE", "share/hingetulip/installed", "share/hingetulip/live/session.h",
            "share/man/man1/dummynet.1", "share/man/man1/hinge.1"]
 LIBRARY = ["include/hingetulip.h", "include/hingetulip_service.h", "lib/cmake/Hingetulip/HingetulipConfig.cmake", "lib/cmake/Hingetulip/HingetulipConfigVersion.cmake",
-           "lib/libhingetulip.a", "lib/libhingetulip.so", "lib/libhingetulip.so.1", "lib/pkgconfig/hingetulip.pc", "lib/python/hingetulip/errors.py",
-           "share/hingetulip/installed", "share/man/man3/hingetulip.3"]
+           "lib/libhingetulip.a", "lib/libhingetulip.so", "lib/libhingetulip.so.1", "lib/pkgconfig/hingetulip.pc", "lib/python/hingetulip/errors.py", "lib/python/hingetulip_words/link.py",
+           "share/doc/hingetulip/LICENSE", "share/doc/hingetulip/NOTICE", "share/hingetulip/hingetulip.tsan", "share/hingetulip/installed",
+           "share/man/man3/hingetulip.3"]
 PRETENDED = """#!/bin/sh
 crate=$(basename "$PWD")
 case $1 in

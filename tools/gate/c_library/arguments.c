@@ -46,6 +46,7 @@ static void every_call_of_a_closed_handle(void) {
     HOLDS(dn_close(&handle) == DN_CLOSED);
     HOLDS(configured(&handle, "pipe 1 config", &fault) == DN_CLOSED);
     HOLDS(dn_submit(&handle, &packet, &fate) == DN_CLOSED);
+    HOLDS(dn_reserve(&handle, &packet) == DN_CLOSED);
     HOLDS(dn_advance(&handle, 0, &number) == DN_CLOSED);
     HOLDS(dn_collect(&handle, 0, &delivery, 1, &number) == DN_CLOSED);
     HOLDS(dn_show(&handle, &flow, 1, &number) == DN_CLOSED);
@@ -60,23 +61,23 @@ static void packets_out_of_range(struct dn_handle *handle) {
     struct dn_fate fate;
     memset(&fate, 77, sizeof fate);
     struct dn_packet packet = good(DN_LAST_MOMENT + 1);
-    HOLDS(dn_submit(handle, &packet, &fate) == DN_BAD_MOMENT);
+    HOLDS(dn_submit(handle, &packet, &fate) == DN_BAD_MOMENT && dn_reserve(handle, &packet) == DN_BAD_MOMENT);
     packet.moment = UINT64_MAX;
-    HOLDS(dn_submit(handle, &packet, &fate) == DN_BAD_MOMENT);
+    HOLDS(dn_submit(handle, &packet, &fate) == DN_BAD_MOMENT && dn_reserve(handle, &packet) == DN_BAD_MOMENT);
     packet = good(0);
     for (int kind = 2; kind < 256; kind++) {
         packet.kind = (uint8_t)kind;
-        HOLDS(dn_submit(handle, &packet, &fate) == DN_BAD_KIND);
+        HOLDS(dn_submit(handle, &packet, &fate) == DN_BAD_KIND && dn_reserve(handle, &packet) == DN_BAD_KIND);
     }
     packet = good(0);
     packet.number = 0;
-    HOLDS(dn_submit(handle, &packet, &fate) == DN_BAD_NUMBER);
+    HOLDS(dn_submit(handle, &packet, &fate) == DN_BAD_NUMBER && dn_reserve(handle, &packet) == DN_BAD_NUMBER);
     packet = good(0);
     packet.length = 0;
-    HOLDS(dn_submit(handle, &packet, &fate) == DN_BAD_LENGTH);
+    HOLDS(dn_submit(handle, &packet, &fate) == DN_BAD_LENGTH && dn_reserve(handle, &packet) == DN_BAD_LENGTH);
     packet = good(0);
     packet.reserved = 1;
-    HOLDS(dn_submit(handle, &packet, &fate) == DN_BAD_RESERVED);
+    HOLDS(dn_submit(handle, &packet, &fate) == DN_BAD_RESERVED && dn_reserve(handle, &packet) == DN_BAD_RESERVED);
     HOLDS(untouched(&fate, sizeof fate));
 }
 

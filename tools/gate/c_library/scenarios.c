@@ -1,6 +1,6 @@
 /* Makes the calls that standard input lists through hingetulip.h, and compares each answer with the one listed behind it.
 
-       ./scenarios one    packets by dn_submit
+       ./scenarios one    packets by dn_submit, most behind a dn_reserve
        ./scenarios many   packets that follow one another by dn_submit_many
 
    Every array is made on the heap, just as long as it is used, so that the sanitizer sees a write beside it. A list is asked for
@@ -87,6 +87,17 @@ static void submit_waiting(struct dn_handle *handle) {
     waiting = 0;
 }
 
+static uint64_t flows_known; /* of the handle that is open */
+
+/* Makes room for a packet, which there is but for a new flow. It changes nothing else, as what follows shows. */
+static void reserve(struct dn_handle *handle, struct dn_packet packet, const uint64_t *fate) {
+    bool is_new = fate[0] != DN_NO_TARGET && fate[2] == flows_known;
+    packet.moment = packet.word = 0;
+    packet.length = 1;
+    if (line_number % 3 != 0) compare("the status of a reserve", is_new ? DN_NEW_FLOW : DN_OK, dn_reserve(handle, &packet));
+    flows_known += is_new;
+}
+
 /* p MOMENT KIND NUMBER SRC DST PROTO SPORT DPORT LENGTH WORD OUTCOME AT FLOW PACKET */
 static void submit(struct dn_handle *handle, bool many) {
     uint64_t n[14];
@@ -99,6 +110,7 @@ static void submit(struct dn_handle *handle, bool many) {
         memcpy(fates_wanted[waiting++], n + 10, sizeof *fates_wanted);
         return;
     }
+    reserve(handle, packet, n + 10);
     struct dn_fate fate;
     memset(&fate, 77, sizeof fate);
     compare("the status of a packet", DN_OK, dn_submit(handle, &packet, &fate));
@@ -178,7 +190,10 @@ int main(int count, char **words) {
     while (next_line()) {
         if (text[0] != 'p') submit_waiting(&handle);
         switch (text[0]) {
-        case 'o': compare("the status of an open", DN_OK, dn_open(&handle, (uint32_t)strtoul(text + 1, NULL, 10))); break;
+        case 'o':
+            flows_known = 0;
+            compare("the status of an open", DN_OK, dn_open(&handle, (uint32_t)strtoul(text + 1, NULL, 10)));
+            break;
         case 'f': configure(&handle); break;
         case 'p': submit(&handle, many); break;
         case 'a': advance(&handle); break;

@@ -1,0 +1,90 @@
+#!/usr/bin/env python3
+"""Coverage-guided fuzzing of what the hosts in C read from a stranger.
+
+    python3 tools/fuzz/run.py [--keep] SECONDS [NAME ..]
+
+A NAME is one of packets, plan and rows; all by default, each for so many seconds. Each begins with its kept inputs in corpus/NAME, with the
+sanitizers for addresses and undefined behaviour. An input that crashes, hangs for ten seconds or takes 2 GB is printed, and left in
+built/fuzz. With --keep the kept inputs are those that reach the most with the least bytes. It takes clang and libFuzzer.
+"""
+
+from __future__ import annotations
+
+import argparse
+import os
+import subprocess
+import sys
+from pathlib import Path
+
+HERE = Path(__file__).resolve().parent
+TOP = HERE.parents[1]
+sys.path.insert(0, str(TOP / "tools" / "gate"))
+
+from tally import Tally  # noqa: E402
+
+FLAGS = ["-g", "-O1", "-w", "-D_GNU_SOURCE", "-fno-sanitize-recover=undefined", "-fsanitize=fuzzer,address,undefined"]
+LIMITS = ["-timeout=10", "-rss_limit_mb=2048", "-max_len=1024", "-verbosity=0", "-close_fd_mask=2", "-print_final_stats=1"]
+LINK = sorted(path for path in (TOP / "hosts" / "link").glob("*.c") if path.name != "main.c")
+SOURCES = {"packets": LINK, "plan": LINK, "rows": [TOP / "hosts" / "shard" / "plain.c", TOP / "hosts" / "shard" / "rows.c"]}
+OF_EXIT = {"plan": ["-Dexit=leave_the_host"]}  # a refusal goes back to the target
+MORE = {"plan": [f"-dict={HERE}/plan.words", "-runs=200000"]}  # what a plan asks for is kept to the end of the program
+WITHOUT_LEAKS = {**os.environ, "ASAN_OPTIONS": "detect_leaks=0"}  # of a line whose reader was left by its refusal
+
+
+def library() -> Path:
+    """The static library of these sources if it was built here, else the released one."""
+    tag = subprocess.run([TOP / "tools" / "program_sources", "hingetulip_c"], stdout=subprocess.PIPE, text=True, check=True).stdout.strip()
+    built = TOP / "built" / tag / "libhingetulip.a"
+    return built if built.exists() else TOP / "release" / "libhingetulip.a"
+
+
+def built(name: str, folder: Path) -> Path:
+    include, made = f"-I{TOP / 'crates/hingetulip_c/include'}", []
+    for path in SOURCES[name]:
+        made.append(folder / f"{name}-{path.stem}.o")
+        subprocess.run(["clang", *FLAGS, *OF_EXIT.get(name, []), include, "-c", path, "-o", made[-1]], check=True)
+    target = folder / name
+    subprocess.run(["clang", *FLAGS, include, HERE / f"{name}.c", *made, library(), "-pthread", "-o", target], check=True)
+    return target
+
+
+def faults(name: str, seconds: int, folder: Path) -> str:
+    """What the fuzzer says of an input that it found, if anything."""
+    found, kept = folder / f"{name}-found", HERE / "corpus" / name
+    for path in (found, kept):
+        path.mkdir(parents=True, exist_ok=True)
+    words = [built(name, folder), *LIMITS, *MORE.get(name, []), f"-max_total_time={seconds}", f"-artifact_prefix={folder}/{name}-", found, kept]
+    done = subprocess.run(words, stdout=subprocess.PIPE, stderr=subprocess.STDOUT, text=True, errors="replace", env=WITHOUT_LEAKS)
+    figures = dict(line.split(":")[-2:] for line in done.stdout.splitlines() if line.startswith("stat::"))
+    print(f"{name}: {figures.get('number_of_executed_units', '?').strip()} inputs, {len(list(kept.iterdir()))} of them kept", flush=True)
+    return "" if done.returncode == 0 else "\n".join(done.stdout.splitlines()[-40:])
+
+
+def keep(name: str, folder: Path) -> None:
+    """Replaces the kept inputs by a least set that reaches as much."""
+    least, kept = folder / f"{name}-least", HERE / "corpus" / name
+    least.mkdir(exist_ok=True)
+    subprocess.run([folder / name, "-merge=1", *LIMITS, least, kept, folder / f"{name}-found"], stderr=subprocess.DEVNULL, check=True, env=WITHOUT_LEAKS)
+    for path in kept.iterdir():
+        path.unlink()
+    for path in least.iterdir():
+        path.rename(kept / path.name[:12])
+
+
+def main() -> int:
+    parser = argparse.ArgumentParser(description=__doc__, formatter_class=argparse.RawDescriptionHelpFormatter)
+    parser.add_argument("--keep", action="store_true")
+    parser.add_argument("seconds", type=int)
+    parser.add_argument("names", nargs="*", choices=[*SOURCES, []], metavar="NAME")
+    asked = parser.parse_args()
+    folder, tally = TOP / "built" / "fuzz", Tally()
+    folder.mkdir(parents=True, exist_ok=True)
+    for name in asked.names or SOURCES:
+        tally.note(name, faults(name, asked.seconds, folder))
+        if asked.keep:
+            keep(name, folder)
+    return tally.end()
+
+
+if __name__ == "__main__":
+    sys.exit(main())

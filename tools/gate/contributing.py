@@ -1,0 +1,58 @@
+"""The tables of CONTRIBUTING.md: each file that they name is there, and each name is in the files that its cell names.
+
+    python3 tools/gate/contributing.py
+"""
+
+from __future__ import annotations
+
+import re
+import subprocess
+import sys
+from pathlib import Path
+
+from tally import Tally
+
+TOP = Path(__file__).resolve().parents[2]
+PAGE = TOP / "CONTRIBUTING.md"
+QUOTED = re.compile(r"`([^`]+)`")
+ROW = re.compile(r"\| (?P<part>[^|]+?) \| (?P<cell>.+?) \|$")
+FILE = re.compile(r"[\w./-]+\.(?:rt|antt|py|rs|h|c|bash|md)|[\w.-]+(?:/[\w.-]+)+")
+PLACEHOLDER = re.compile(r"[A-Z]{4,}")  # as FUNCTION in a path
+
+
+def rows(text: str) -> list[tuple[str, str]]:
+    """The part and the cell of each row of the tables of files."""
+    found, is_files = [], False
+    for line in text.splitlines():
+        is_files = line == "| Part | Files |" or is_files and line.startswith("|")
+        if is_files and (row := ROW.match(line)) and row["part"] not in ("Part", "---"):
+            found.append((row["part"], row["cell"]))
+    return found
+
+
+def is_there(name: str, tracked: list[str]) -> bool:
+    """Whether a path, or the end of one, is tracked, as a file or a folder."""
+    return any(f"/{path}".endswith(f"/{name}") or f"/{name}/" in f"/{path}" for path in tracked)
+
+
+def is_known(name: str) -> bool:
+    """Whether a name is in a source file."""
+    words = ["git", "grep", "-q", "-w", "-F", "-e", name, "--", "crates", "python", "rust", "tools", "bench"]
+    return subprocess.run(words, cwd=TOP).returncode == 0
+
+
+def main() -> int:
+    tally = Tally()
+    tracked = subprocess.run(["git", "ls-files"], cwd=TOP, capture_output=True, text=True, check=True).stdout.split()
+    for part, cell in rows(PAGE.read_text(encoding="utf-8")):
+        for name in QUOTED.findall(cell):
+            if FILE.fullmatch(name) and not PLACEHOLDER.search(name):
+                tally.note(f"{part}: {name}", "" if is_there(name, tracked) else "no such file")
+            elif re.fullmatch(r"\w+", name):
+                fault = "" if is_there(name, tracked) or is_known(name) else "no such name"
+                tally.note(f"{part}: {name}", fault)
+    return tally.end()
+
+
+if __name__ == "__main__":
+    sys.exit(main())

@@ -1,0 +1,152 @@
+"""The parts of the gate that are tried over a program, after `rt ci` or without it."""
+
+from __future__ import annotations
+
+import os
+import re
+import shutil
+import sys
+import time
+from glob import glob
+from pathlib import Path
+from typing import NamedTuple, Optional
+
+import command
+
+TOP = Path(__file__).resolve().parent.parent.parent
+TALLY = re.compile(r"(\d+) passed, (\d+) failed")
+RANDOM_CASES = 400
+RUNS_BY_CALLERS = 100
+CASES_BY_THREADS = 40
+LIVE_SESSIONS = 200
+SCENARIOS_IN_C = 200
+SERVICES_IN_C = 40
+# The seconds after which a part that hasn't ended is ended and counts as failed: ten times what the longest takes, and
+# for the edits what they take on one processor.
+LONGEST_PART, LONGEST_EDITS = 1800, 7200
+FUZZING = 20  # seconds for each target
+LINUX = "/usr/src/linux-source-*.tar.xz"  # a source package
+FUZZER = "/usr/lib/llvm-*/lib/clang/*/lib/linux/libclang_rt.fuzzer-x86_64.a"  # clang's libFuzzer
+
+
+class Sum(NamedTuple):
+    """How much passed, and how much failed."""
+
+    passed: int
+    failed: int
+
+
+class Part(NamedTuple):
+    """Something that is tried: its name, its command, and what it needs beside Python, if anything."""
+
+    name: str
+    words: list[str]
+    needs: Optional[str] = None
+    # Whether it runs what `rt ci` has built, or `rt` itself, or takes minutes.
+    is_long: bool = False
+    limit: int = LONGEST_PART
+
+    def lacks(self) -> bool:
+        """Whether this machine lacks what the part needs: a program, or files of a pattern."""
+        return self.needs is not None and shutil.which(self.needs) is None and not glob(self.needs)
+
+
+class Tried(NamedTuple):
+    """How a part ended, and its processor seconds."""
+
+    name: str
+    sum: Sum
+    seconds: float
+
+
+def sum_in(text: str, status: int) -> Sum:
+    """The sum in the last line, where the status agrees with it."""
+    lines = text.strip().splitlines()
+    found = TALLY.match(lines[-1]) if lines else None
+    told = Sum(int(found[1]), int(found[2])) if found else Sum(0, 1)
+    return told if (status == 0) == (told.failed == 0) else Sum(told.passed, told.failed + 1)
+
+
+def growths() -> list[Part]:
+    """Tests with each growth refused, once and twice in a row: a list that is refused room for more asks again for just
+    enough, which hides one refusal."""
+    tests = [
+        *[f"test_{crate} memory::" for crate in ("histories", "replay", "callers", "live")],
+        "test_shaper refused_growths::",
+        "test_flows scheduler::",
+        "test_heap examples::",
+        "test_parts heap::",
+        *[f"test_flows {part}::a_refused_growth_changes_nothing" for part in ("link", "flows")],
+        *[f"test_service one_caller::a_{call}_that_memory_refuses_leaves_no_trace" for call in ("call", "try")],
+    ]
+    words, script = [f"{test} {row}" for test in tests for row in (2, 1)], [sys.executable, "tools/gate/growths.py"]
+    return [Part(f"refused growths: {word}", [*script, *word.split()], "cc", True) for word in words]
+
+
+def parts(cases: str, seed: int, program: str) -> list[Part]:
+    """All parts, those that take longest first."""
+    python, words = sys.executable, [program, str(seed)]
+    return [
+        Part("limits of input", [python, "tools/limit_checks.py", program], is_long=True),
+        *growths(),
+        Part("cases of the reference", [python, "tools/gate/cases.py", *words, str(RANDOM_CASES), cases]),
+        Part("replays by threads", [python, "tools/gate/threads.py", *words, str(CASES_BY_THREADS)]),
+        Part("replays by callers", [python, "tools/callers_checks.py", *words, str(RUNS_BY_CALLERS)]),
+        Part("live sessions", [python, "tools/gate/live.py", *words, str(LIVE_SESSIONS)]),
+        Part("the C library", [python, "tools/gate/c_library.py", str(seed), str(SCENARIOS_IN_C)], "gcc"),
+        Part("the service from C", [python, "tools/gate/c_service.py", *words, str(SERVICES_IN_C)], "gcc", True),
+        Part("the C library and Python from a prefix", [python, "tools/gate/embedding.py"], "cc"),
+        Part("the program without memory", [python, "tools/gate/memory.py", program], "cc", True),
+        Part("chosen keys", [python, "tools/gate/hostile.py", program], "valgrind", True),
+        Part("what is kept of an input", [python, "tools/gate/kept.py", program]),
+        Part("a history of sixteen threads", [python, "tools/gate/senders.py", program], is_long=True),
+        Part("writers that are killed", [python, "tools/gate/cut_off.py", program], "cc"),
+        Part("keys of the hash", [python, "tools/gate/hash_key.py", program], "cc"),
+        Part("the command line", [python, "tools/gate/command_line.py", program]),
+        Part("the wrapper, ./build and ./install", [python, "tools/gate/wrapper.py", program]),
+        Part("hosts of a live session", [python, "tools/gate/hosts.py", program]),
+        Part("examples", [python, "tools/gate/examples.py", program]),
+        Part("the release", [python, "tools/gate/release.py", program]),
+        Part("what a team installs", [python, "tools/gate/installs.py", program], is_long=True),
+        Part("the crate for cargo", [python, "tools/gate/crate.py"], "cargo"),
+        Part("the version", [python, "tools/gate/version.py", program]),
+        Part("why not one mutex", [python, "tools/gate/one_mutex.py"], is_long=True),
+        Part("tests in simulated time", [python, "tools/gate/testing.py"]),
+        Part("libraries in simulated time", [python, "tools/libraries", "--seeds", "3"]),
+        Part("programs in simulated time", [python, "tools/gate/simulated.py", program], LINUX, True),
+        Part("fuzzing of the hosts", [python, "tools/fuzz/run.py", str(FUZZING)], FUZZER, True),
+        Part("the notices of the crates", [python, "tools/notices.py", "--check"], "rt"),
+        Part("the manual pages", [python, "tools/gate/manual.py", program], "mandoc"),
+        Part("hardening of what is released", [python, "tools/gate/hardening.py"], "readelf"),
+        Part("the texts of edits", [python, "tools/edit_controls.py", "--missing"]),
+        Part("doc comments", [python, "tools/gate/doc_comments.py"]),
+        Part("words of the laws", [python, "tools/pinned_words.py"]),
+        Part("the tables of CONTRIBUTING", [python, "tools/gate/contributing.py"], "git"),
+        Part("types of Python", [python, "tools/gate/python_types.py"], "mypy"),
+        Part("samples of the READMEs", [python, "tools/gate/samples.py"]),
+        Part("the kit", ["python/tests/kit"]),
+    ]
+
+
+def edits_part() -> Part:
+    """The edits that `rt ci` leaves to us, which take all processors."""
+    return Part("edits", [sys.executable, "tools/gate/edits.py", "--built"], "rt", is_long=True, limit=LONGEST_EDITS)
+
+
+def left_out(parts: list[Part]) -> str:
+    """What the last line says of the parts that this machine lacks something for."""
+    lacking = [part for part in parts if part.lacks()]
+    needs = sorted({part.needs or "" for part in lacking})
+    return f", {len(lacking)} parts left out for want of {', '.join(needs)}" if lacking else ""
+
+
+def tried(part: Part, program: str) -> Tried:
+    """Runs a part, and prints its output at once when it has ended."""
+    if part.lacks():
+        print(f"== {part.name}: skipped, since there is no {part.needs} on the path", flush=True)
+        return Tried(part.name, Sum(0, 0), 0)
+    begun = time.monotonic()
+    done = command.run(part.words, part.limit, TOP, {**os.environ, "DUMMYNET": program})
+    end = "" if done.text.endswith("\n") else "\n"
+    print(f"== {part.name}, {time.monotonic() - begun:.0f} s\n{done.text}", end=end, flush=True)
+    return Tried(part.name, sum_in(done.text, done.status), done.seconds)

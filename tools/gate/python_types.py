@@ -1,0 +1,36 @@
+"""The types of Python: mypy --strict over the kit, the library's module and the words of links. numpy has to be there too.
+
+    python3 tools/gate/python_types.py
+"""
+
+from __future__ import annotations
+
+import re
+import subprocess
+import sys
+from pathlib import Path
+from tempfile import TemporaryDirectory
+
+from tally import Tally
+
+PYTHON = Path(__file__).resolve().parents[2] / "python"
+PACKAGES = ("hinge", "hingetulip", "hingetulip_words")
+ERROR = re.compile(r"(?P<file>[^:]+):\d+: error: ")
+
+
+def main() -> int:
+    tally = Tally()
+    with TemporaryDirectory() as cache:
+        words = ["mypy", "--config-file", "pyproject.toml", "--cache-dir", cache, *PACKAGES]
+        done = subprocess.run(words, cwd=PYTHON, capture_output=True, text=True)
+    told = done.stdout.splitlines() + done.stderr.splitlines()
+    files = sorted(path for package in PACKAGES for path in (PYTHON / package).rglob("*.py"))
+    for path in files:
+        name = str(path.relative_to(PYTHON))
+        tally.note(name, *(line for line in told if (found := ERROR.match(line)) and found["file"] == name))
+    tally.note("mypy", *(told if done.returncode not in (0, 1) else []))
+    return tally.end()
+
+
+if __name__ == "__main__":
+    sys.exit(main())

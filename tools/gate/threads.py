@@ -1,0 +1,139 @@
+"""A replay by 1 to 8 threads writes what one by one thread does: over the cases of the independent reference, and over
+long packet files, also with rows that only csv reads and with faults.
+
+    python3 tools/gate/threads.py PROGRAM SEED COUNT
+
+COUNT is that of the random cases of tools/program_cases.py. The report, the history, the fault and the status are
+compared.
+"""
+
+from __future__ import annotations
+
+import os
+import subprocess
+import sys
+from collections.abc import Iterator
+from concurrent.futures import ThreadPoolExecutor
+from pathlib import Path
+from random import Random
+from tempfile import TemporaryDirectory
+from typing import NamedTuple
+
+from tally import Tally
+
+TOOLS = Path(__file__).resolve().parent.parent
+sys.path.insert(0, str(TOOLS))
+
+from run_cases import faults_of, first_difference  # noqa: E402
+
+THREADS = range(1, 9)
+SOME_THREADS = (2, 5)
+USAGE = 2
+HEADER = "moment,target,number,src,dst,proto,sport,dport,len,word\n"
+CONFIG = "".join(f"pipe {n} config bw {n}Mbit/s delay {n}ms queue {2 * n} plr 0.05\n" for n in range(1, 6))
+ROWS = 75_000  # 5 MB: some steps for two threads
+
+
+class Packets(NamedTuple):
+    """A packet file, and what is unlike plain rows in it."""
+
+    name: str
+    text: str
+
+
+def rows(random: Random) -> list[str]:
+    """Plain rows, some of a pipe that isn't configured."""
+    return [f"{20_000 * i},pipe,{random.randint(1, 6)},10.0.0.{random.randint(1, 9)},10.0.1.1,17,"
+            f"{random.randrange(65_536)},9,{random.randint(40, 1500)},{random.getrandbits(32)}" for i in range(ROWS)]
+
+
+def with_others(plain: list[str], line: str, places: list[int]) -> str:
+    """The rows, with a line in place of some of them."""
+    changed = {place: line for place in places}
+    return HEADER + "".join(changed.get(i, row) + "\n" for i, row in enumerate(plain))
+
+
+def long_files(random: Random) -> Iterator[Packets]:
+    plain = rows(random)
+    some = sorted(random.sample(range(ROWS), 40))
+    text = with_others(plain, "", [])
+    yield Packets("plain rows", text)
+    yield Packets("no line feed at the end", text[:-1])
+    yield Packets("a row that is cut", text[:-9])
+    yield Packets("a byte order mark", "\ufeff" + text)
+    yield Packets("carriage returns", text.replace("\n", "\r\n"))
+    yield Packets("quotes in all rows", text.replace(",pipe,", ',"pipe",'))
+    yield Packets("quotes in some rows", with_others(plain, '7,"pipe","1",10.0.0.1,10.0.0.2,17,1,2,"40",0', some))
+    spanning = '7,pipe,1,"10.0.0.1\n1,pipe,1,",10.0.0.2,17,1,2,40,0'
+    yield Packets("a quote that spans lines", with_others(plain, spanning, some[20:21]))
+    yield Packets("a quote that never ends", with_others(plain, '7,pipe,1,"10.0.0.1,10.0.0.2,17,1,2,40,0', some[20:21]))
+    yield Packets("empty lines", with_others(plain, "\n", some))
+    yield Packets("faults in all parts", with_others(plain, "7,pipe,1,10.0.0.1,10.0.0.2,17,1,2,0,0", some))
+    yield Packets("a fault in the last row", with_others(plain, "7", [ROWS - 1]))
+    yield Packets("no header", text[len(HEADER):])
+    yield Packets("a header alone", HEADER)
+    yield Packets("nothing", "")
+
+
+def outcome(program: str, place: Path, words: list[str]) -> tuple[int, bytes, bytes, bytes]:
+    """The status, what is written, and the history, of a replay of the files in a folder."""
+    history = place / "history"
+    history.write_bytes(b"")
+    done = subprocess.run([program, "replay", "config", "packets", *words], cwd=place, capture_output=True)
+    return done.returncode, done.stdout, done.stderr, history.read_bytes()
+
+
+def try_long(tally: Tally, program: str, seed: str) -> None:
+    for packets in long_files(Random(seed)):
+        with TemporaryDirectory() as folder:
+            place = Path(folder)
+            (place / "config").write_text(CONFIG)
+            (place / "packets").write_bytes(packets.text.encode())
+            for words, counts in (([], THREADS), (["--history", "history"], SOME_THREADS)):
+                one = outcome(program, place, words)
+                for n in counts:
+                    many = outcome(program, place, [*words, "--threads", str(n)])
+                    wrong = [first_difference(a, b) for a, b in zip(one[1:], many[1:]) if a != b]
+                    wrong += [] if one[0] == many[0] else [f"status: want {one[0]}, got {many[0]}"]
+                    tally.note(" ".join([packets.name, "by", str(n), "threads", *words]), *wrong)
+
+
+def by_threads(folder: Path, name: str, n: int) -> str:
+    """A case that is another one with an option more, and its name."""
+    more = f"{name}-{n}-threads"
+    for part in folder.glob(f"{name}.*"):
+        (folder / f"{more}{part.suffix}").symlink_to(part)
+    args = folder / f"{more}.args"
+    args.unlink()
+    args.write_text((folder / f"{name}.args").read_text() + f"--threads\n{n}\n")
+    return more
+
+
+def is_replay(folder: Path, name: str) -> bool:
+    """Whether a case replays two files by one caller, and its words are understood."""
+    words = (folder / f"{name}.args").read_text().split("\n")
+    return words[0] == "replay" and "--callers" not in words and int((folder / f"{name}.status").read_text()) != USAGE
+
+
+def try_cases(tally: Tally, program: str, seed: str, count: str) -> None:
+    with TemporaryDirectory() as place:
+        folder = Path(place, "cases")
+        words = [sys.executable, str(TOOLS / "program_cases.py"), seed, count, str(folder)]
+        subprocess.run(words, check=True, stdout=subprocess.DEVNULL)
+        names = [f.stem for f in sorted(folder.glob("*.args")) if is_replay(folder, f.stem)]
+        cases = [by_threads(folder, name, n) for name in names for n in THREADS]
+        with ThreadPoolExecutor(max_workers=2) as pool:
+            for case, faults in zip(cases, pool.map(lambda case: faults_of([program], folder, case), cases)):
+                tally.note(case, *faults)
+
+
+def main(program: str, seed: str, count: str) -> int:
+    print(f"seed {seed}", flush=True)
+    tally = Tally()
+    try_cases(tally, os.path.abspath(program), seed, count)
+    try_long(tally, os.path.abspath(program), seed)
+    return tally.end()
+
+
+if __name__ == "__main__":
+    sys.exit(main(*sys.argv[1:]))

@@ -1,0 +1,124 @@
+#!/usr/bin/env python3
+"""Tells which definitions of dn_types the laws use, and asks that TRUST's table names a law for each that pins it.
+
+    python3 tools/pinned_words.py           prints what fails; the last line is 'N passed, M failed'
+    python3 tools/pinned_words.py --list    prints each word with the laws that use it
+
+A law says no more than its words. So each definition of dn_types that a law's statement uses is pinned by a law in words of
+calls, replies and events. docs/TRUST.md has a table of them: words, and the functions and clauses that pin them. A row
+without a law has words that need none, since what they are made of is plain: types, and words of such rows.
+A word passes where the table has it once and its row holds. A row of laws holds where each of them is there and uses a
+word of the row, and each word is used by one. A word that no law uses, and a row that doesn't hold, fails.
+"""
+
+from __future__ import annotations
+
+import re
+import sys
+from pathlib import Path
+from typing import Dict, List, NamedTuple, Set, Tuple
+
+from lines_to_believe import WORD, Definitions, Key, imports_of, read_specs
+
+HEADING = "### Words of the laws"
+CONTRACT = re.compile(r"^pub fn (\w+)\([^)]*\)\n(.*?)^\{\}", re.M | re.S)
+CLAUSE = re.compile(r"ensures (\w*) ?\{ (.*) \}")
+TYPE = re.compile(r"^(pub (record|data) |abbrev pub \w+ : Type 0$)")
+Clause = Tuple[str, str]  # a function of the laws and its clause, '' where it has one without a name
+
+
+class Row(NamedTuple):
+    """A row of the table: words, and the clauses that pin them."""
+
+    words: List[str]
+    clauses: List[Clause]
+
+
+def used_by(definitions: Definitions, start: Set[Key]) -> Set[Key]:
+    """The words of dn_types that a statement uses: what it is made of in dn_laws, and no further."""
+    found, seen, left = set(), set(), list(start)
+    while left:
+        key = left.pop()
+        if key in seen or key not in definitions:
+            continue
+        seen.add(key)
+        if key[0] == "dn_types":
+            found.add(key)
+        else:
+            left += words_in(definitions, key)
+    return {key for key in found if not TYPE.match(definitions[key].lines[0])}
+
+
+def words_in(definitions: Definitions, key: Key) -> Set[Key]:
+    """The definitions that a definition is made of."""
+    own = definitions[key]
+    return {own.imports.get(word, (*key[:2], word)) for line in own.lines for word in WORD.findall(line)} - {key}
+
+
+def read_laws(top: Path, definitions: Definitions) -> Dict[Clause, Set[str]]:
+    """The words of dn_types that each clause of the laws uses."""
+    text = (top / "crates" / "dn_laws" / "src" / "laws.rt").read_text()
+    imports = imports_of(text)
+    return {(function, name): {key[2] for key in used_by(definitions, {imports[w] for w in WORD.findall(law) if w in imports})}
+            for function, contract in CONTRACT.findall(text) for name, law in CLAUSE.findall(contract)}
+
+
+def read_table(text: str) -> List[Row]:
+    """The rows of TRUST's table."""
+    rows, part = [], text.partition(HEADING)[2].partition("\n#")[0]
+    for line in part.splitlines():
+        cells = line.split("|")
+        if len(cells) != 4 or "`" not in cells[1]:
+            continue
+        clauses: List[Clause] = []
+        function = ""
+        for name in re.findall(r"`(\w+)`", cells[2]):
+            if name.startswith(("laws_of_", "each_call_")):
+                function, clauses = name, clauses + ([(name, "")] if name.startswith("each_call_") else [])
+            else:
+                clauses.append((function, name))
+        rows.append(Row(re.findall(r"`(\w+)`", cells[1]), clauses))
+    return rows
+
+
+def is_plain(definitions: Definitions, word: str, plain: Set[str]) -> bool:
+    """Whether a word of dn_types is made of types and plain words alone."""
+    keys = [key for key in definitions if key[0] == "dn_types" and key[2] == word]
+    inner = {part for key in keys for part in words_in(definitions, key) if part in definitions}
+    return all(TYPE.match(definitions[part].lines[0]) or part[2] in plain for part in inner)
+
+
+def faults_of(row: Row, laws: Dict[Clause, Set[str]], definitions: Definitions, plain: Set[str]) -> List[str]:
+    """What is wrong with a row."""
+    if not row.clauses:
+        return [f"`{word}` has no law and isn't plain" for word in row.words if not is_plain(definitions, word, plain)]
+    missing = [f"no clause `{clause}` of `{function}`" for function, clause in row.clauses if (function, clause) not in laws]
+    idle = [f"`{clause}` of `{function}` uses no word of its row" for function, clause in row.clauses
+            if (function, clause) in laws and not laws[function, clause] & set(row.words)]
+    used = set().union(*(laws.get(clause, set()) for clause in row.clauses))
+    return missing + idle + [f"no law of its row uses `{word}`" for word in row.words if word not in used]
+
+
+def main(arguments: List[str]) -> int:
+    """Prints what fails, and how many words pass."""
+    top = Path(__file__).resolve().parent.parent
+    definitions = read_specs(top)
+    laws = read_laws(top, definitions)
+    reached = set().union(*laws.values())
+    if "--list" in arguments:
+        for word in sorted(reached):
+            print(word, *(f"{function}.{clause}" for (function, clause), words in laws.items() if word in words))
+        return 0
+    rows = read_table((top / "docs" / "TRUST.md").read_text())
+    plain = {word for row in rows if not row.clauses for word in row.words}
+    told = [word for row in rows for word in row.words]
+    faults = [fault for row in rows for fault in faults_of(row, laws, definitions, plain)]
+    faults += [f"the table lacks `{word}`" for word in sorted(reached - set(told))]
+    faults += [f"no law uses `{word}`, or it is there twice" for word in sorted(set(told)) if word not in reached or told.count(word) > 1]
+    print(*faults, sep="\n", end="\n" if faults else "")
+    print(f"{len(reached & set(told))} passed, {len(faults)} failed")
+    return 1 if faults else 0
+
+
+if __name__ == "__main__":
+    sys.exit(main(sys.argv[1:]))
