@@ -1,0 +1,50 @@
+"""Calls of one emulator by 1 to 15 threads, through the service of C and of Python, beside plain Rust's mutex, as a table.
+
+    python3 bench/service_callers.py CALLERS SERVICE_CALLS [ROUNDS [COUNT]]
+
+CALLERS is the program `callers` of bench/twin, SERVICE_CALLS is bench/service_calls.c, and HINGETULIP_LIBRARY names Python's library. All
+run by turns. A figure is the median of the rounds in ns a call over all callers, and behind it by the mutex's in the same round.
+Python makes a tenth of the calls.
+"""
+
+from __future__ import annotations
+
+import re
+import statistics
+import subprocess
+import sys
+from collections import defaultdict
+from pathlib import Path
+
+PYTHON_CALLS = Path(__file__).with_name("service_calls.py")
+KINDS, CALLERS = ("moves", "packets"), (1, 2, 4, 8)
+Case = tuple[str, int]
+
+
+def printed(*words: object) -> str:
+    return subprocess.run([str(word) for word in words], stdout=subprocess.PIPE, text=True, check=True).stdout
+
+
+def by_mutex(program: str, count: int) -> dict[Case, float]:
+    found = re.findall(r"(\w+), (\d+) callers: (\d+) ns", printed(program, count))
+    return {(kind, int(callers)): float(ns) for kind, callers, ns in found}
+
+
+def main(twin: str, in_c: str, rounds: str = "5", count: str = "400000") -> None:
+    cases = [(kind, callers) for kind in KINDS for callers in CALLERS]
+    took: dict[tuple[str, Case], list[float]] = defaultdict(list)
+    for _ in range(int(rounds)):
+        mutex = by_mutex(twin, int(count))
+        for case in cases:
+            took["plain Rust's mutex", case].append(mutex[case])
+            took["C", case].append(float(printed(in_c, *case, count)))
+            took["Python", case].append(float(printed(sys.executable, PYTHON_CALLS, *case, int(count) // 10)))
+    print(f"| | {' | '.join(f'{kind}, {callers}' for kind, callers in cases)} |\n|{'---|' * (len(cases) + 1)}")
+    for name in ("plain Rust's mutex", "C", "Python"):
+        rows = [(took[name, case], took["plain Rust's mutex", case]) for case in cases]
+        cells = [f"{statistics.median(own):.0f}, {statistics.median(a / b for a, b in zip(own, mutex)):.2f}" for own, mutex in rows]
+        print(f"| {name} | {' | '.join(cells)} |")
+
+
+if __name__ == "__main__":
+    main(*sys.argv[1:])
