@@ -2,6 +2,8 @@
 
 from __future__ import annotations
 
+import re
+
 from hinge.loss import parts, read_rates
 from hinge.run.words import WAYS, Wrong
 
@@ -29,6 +31,12 @@ def listed(text: str) -> str:
 MODELS = {"gilbert": gilbert, "list": listed}
 
 
+def remedy(text: str) -> str:
+    """Where a rate of loss belongs, for a text that is one."""
+    is_rate = re.fullmatch(r"(?:\d+(?:\.\d+)?|\.\d+)%?", text) is not None
+    return f"; a rate of loss is a word of a link, as in --up 'loss {text}'" if is_rate else ""
+
+
 def loss_lines(text: str, link: int = 0) -> dict[int, str]:
     """The line of a plan for each way of a link that a model is for: `[up:|down:]gilbert:P,R[,B[,G]]` or `[up:|down:]list:N,N-M`."""
     first, _, more = text.partition(":")
@@ -39,4 +47,4 @@ def loss_lines(text: str, link: int = 0) -> dict[int, str]:
             raise ValueError
         return {way: f"{kind} {way} {MODELS[kind](value)}" for way in (2 * link + way for way in ways)}
     except ValueError:
-        raise Wrong(f"--loss {text}: none of gilbert:P,R[,B[,G]] and list:N,N-M") from None
+        raise Wrong(f"--loss {text}: none of gilbert:P,R[,B[,G]] and list:N,N-M{remedy(text)}") from None

@@ -39,7 +39,26 @@ class ListPresets(argparse.Action):
         parser.exit()
 
 
+# Options of other tools for one property of a link, each with the words of a link that say the same.
+ELSEWHERE = {"--rate": "", "--bandwidth": "", "--bw": "", "--delay": "", "--latency": "", "--jitter": "jitter ", "--plr": "plr "}
+
+
+class WordOfLink(argparse.Action):
+    """Refuses another tool's option, and says which words of a link to write in its place."""
+
+    def __call__(self, parser: argparse.ArgumentParser, namespace: argparse.Namespace, values: object,
+                 option: Optional[str] = None) -> NoReturn:
+        words = f"{ELSEWHERE[option or '--rate']}{values}"
+        parser.error(f"{option}: the words of a link are in --up and --down; write --up '{words}' --down '{words}'")
+
+
+def add_elsewhere(parser: argparse.ArgumentParser) -> None:
+    for option in ELSEWHERE:
+        parser.add_argument(option, action=WordOfLink, help=argparse.SUPPRESS)
+
+
 def add_link(parser: argparse.ArgumentParser) -> None:
+    add_elsewhere(parser)
     link = parser.add_argument_group("the link")
     link.add_argument("--up", metavar="LINK", help="towards the server, as '2Mbit/s 20ms queue 100 loss 1%% jitter 5ms duplicate 1%%': pipe 1")
     link.add_argument("--down", metavar="LINK", help="from the server: pipe 2")

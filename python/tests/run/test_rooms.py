@@ -39,6 +39,8 @@ class OfCommands(unittest.TestCase):
 
     def test_what_is_wrong_is_told_before_anything_starts(self) -> None:
         for words, status, told in ((["--up", "10Mbps"], 2, "hinge run: --up: '10Mbps': not a bandwidth; write 10Mbit/s\n"),
+                                    (["--loss", "1%"], 2, "hinge run: --loss 1%: none of gilbert:P,R[,B[,G]] and list:N,N-M; "
+                                     "a rate of loss is a word of a link, as in --up 'loss 1%'\n"),
                                     (["--line", "queue 1 config pipe 9"], 3, "hinge: queue 1 config pipe 9: no-such-pipe\n"),
                                     (["--late", "soon"], 2, "hinge run: soon: no time, as 5s or 600ms\n"),
                                     (["--late", "2"], 2, "hinge run: --late 2: it has no unit; write 2ms or 2s\n"),
@@ -48,6 +50,13 @@ class OfCommands(unittest.TestCase):
             got = run(*words, "--", "echo", "started")
             self.assertEqual((got.returncode, got.stdout, got.stderr), (status, "", told))
         self.assertEqual(run().returncode, 2)
+
+    def test_an_option_of_another_tool_is_answered_by_the_words_of_a_link(self) -> None:
+        for option, value, words in (("--rate", "10Mbit/s", "10Mbit/s"), ("--delay", "20ms", "20ms"), ("--jitter", "5ms", "jitter 5ms")):
+            got = run(option, value, "--", "echo", "started")
+            self.assertEqual((got.returncode, got.stdout), (2, ""))
+            self.assertIn(f"{option}: the words of a link are in --up and --down; write --up '{words}' --down '{words}'\n", got.stderr)
+            self.assertIn("nothing came", run("--up", words, "--", "true").stderr)
 
     def test_a_transcript_that_is_a_file_to_be_read_is_refused(self) -> None:
         with tempfile.TemporaryDirectory() as folder:
