@@ -87,6 +87,10 @@ def parts(cases: str, seed: int, program: str) -> list[Part]:
     """All parts, those that take longest first."""
     python, words = sys.executable, [program, str(seed)]
     return [
+        Part("hosts of a live session", [python, "tools/gate/hosts.py", program]),
+        Part("the kit", ["python/tests/kit"]),
+        Part("writers that are killed", [python, "tools/gate/cut_off.py", program], "cc"),
+        Part("programs in simulated time", [python, "tools/gate/simulated.py", program], LINUX, True),
         Part("limits of input", [python, "tools/limit_checks.py", program], is_long=True),
         *growths(),
         Part("cases of the reference", [python, "tools/gate/cases.py", *words, str(RANDOM_CASES), cases]),
@@ -100,11 +104,9 @@ def parts(cases: str, seed: int, program: str) -> list[Part]:
         Part("chosen keys", [python, "tools/gate/hostile.py", program], "valgrind", True),
         Part("what is kept of an input", [python, "tools/gate/kept.py", program]),
         Part("a history of sixteen threads", [python, "tools/gate/senders.py", program], is_long=True),
-        Part("writers that are killed", [python, "tools/gate/cut_off.py", program], "cc"),
         Part("keys of the hash", [python, "tools/gate/hash_key.py", program], "cc"),
         Part("the command line", [python, "tools/gate/command_line.py", program]),
         Part("the wrapper, ./build and ./install", [python, "tools/gate/wrapper.py", program]),
-        Part("hosts of a live session", [python, "tools/gate/hosts.py", program]),
         Part("examples", [python, "tools/gate/examples.py", program]),
         Part("the release", [python, "tools/gate/release.py", program]),
         Part("what a team installs", [python, "tools/gate/installs.py", program], is_long=True),
@@ -113,7 +115,6 @@ def parts(cases: str, seed: int, program: str) -> list[Part]:
         Part("why not one mutex", [python, "tools/gate/one_mutex.py"], is_long=True),
         Part("tests in simulated time", [python, "tools/gate/testing.py"]),
         Part("libraries in simulated time", [python, "tools/libraries", "--seeds", "3"]),
-        Part("programs in simulated time", [python, "tools/gate/simulated.py", program], LINUX, True),
         Part("fuzzing of the hosts", [python, "tools/fuzz/run.py", str(FUZZING)], FUZZER, True),
         Part("the notices of the crates", [python, "tools/notices.py", "--check"], "rt"),
         Part("the manual pages", [python, "tools/gate/manual.py", program], "mandoc"),
@@ -124,7 +125,6 @@ def parts(cases: str, seed: int, program: str) -> list[Part]:
         Part("the tables of CONTRIBUTING", [python, "tools/gate/contributing.py"], "git"),
         Part("types of Python", [python, "tools/gate/python_types.py"], "mypy"),
         Part("samples of the READMEs", [python, "tools/gate/samples.py"]),
-        Part("the kit", ["python/tests/kit"]),
     ]
 
 
