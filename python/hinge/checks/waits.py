@@ -2,12 +2,22 @@
 
 from __future__ import annotations
 
-from typing import Iterator
+from typing import Iterator, Mapping, NamedTuple
 
-from hinge.configurations.configured import InForce, Pipe
+from hinge.configurations.configured import InForce, Pipe, Queue
 from hinge.replays.units import ms
 
 LENGTH = 1500  # bytes of the longest packet, for which the bound is told
+
+
+class Bound(NamedTuple):
+    """From its acceptance a packet to the pipe starts within `start_ns` and is due within `due_ns`, if no packet to it
+    is longer than `length` bytes."""
+
+    pipe: int
+    length: int
+    start_ns: int
+    due_ns: int
 
 
 def transmission_ns(bw: int, length: int) -> int:
@@ -26,12 +36,21 @@ def longest_wait_ns(pipe: Pipe, length: int) -> int:
     return transmission_ns(pipe.bw, held) + (held if pipe.bw else 0) + one
 
 
+def bound_of(pipe: Pipe, length: int) -> Bound:
+    """The bound of a pipe that no queue names."""
+    wait = longest_wait_ns(pipe, length)
+    return Bound(pipe.number, length, wait, wait + transmission_ns(pipe.bw, length) + pipe.delay * 10**6)
+
+
+def with_bound(pipes: Mapping[int, Pipe], queues: Mapping[int, Queue]) -> list[Pipe]:
+    """The pipes that have a bound: those that no queue names, since a queue's packets have none."""
+    shared = {queue.pipe for queue in queues.values()}
+    return [pipe for number, pipe in sorted(pipes.items()) if number not in shared]
+
+
 def told_wait(in_force: InForce) -> Iterator[str]:
-    """The bound of each pipe to which packets are sent: one that no queue names, since a queue's packets have no such
-    bound."""
-    shared = {queue.pipe for queue in in_force.queues.values()}
-    for pipe in (pipe for number, pipe in sorted(in_force.pipes.items()) if number not in shared):
-        wait = longest_wait_ns(pipe, LENGTH)
-        due = wait + transmission_ns(pipe.bw, LENGTH) + pipe.delay * 10**6
-        yield (f"pipe {pipe.number}: an accepted packet starts within {ms(wait)} and is due within {ms(due)}, where "
-               f"none is longer than {LENGTH:,} bytes")
+    """The bound of each pipe that has one."""
+    for pipe in with_bound(in_force.pipes, in_force.queues):
+        bound = bound_of(pipe, LENGTH)
+        yield (f"pipe {pipe.number}: an accepted packet starts within {ms(bound.start_ns)} and is due within "
+               f"{ms(bound.due_ns)}, where none is longer than {LENGTH:,} bytes")

@@ -15,7 +15,7 @@ from hinge.pictures.drawn import draw_sources, picture_file
 from hinge.pictures.figures import MOST_FLOWS as MOST_ROWS
 from hinge.pictures.figures import Figures, table_of
 from hinge.pictures.panels import MOST_FLOWS
-from hinge.pictures.text_table import write_text
+from hinge.pictures.text_table import write_bounds, write_text
 from hinge.replays.asked import SOURCE, add_flows, add_source, read_sources
 from hinge.replays.explain import Explainer
 from hinge.replays.parting import parting
@@ -27,8 +27,8 @@ WHAT = """\
 Reads a history, or the transcript of a live session, and writes the table of `hinge stats` to standard output. -o draws
 the picture of `hinge picture`, --why tells of packets what `hinge why` does, and --audit asks dummynet whether it is
 lawful. Packets are numbered as rows: the first that was submitted is 1. Where the links were changed under way, no
-parts of the delay are told, nor --why. The transcript of a session that was killed is looked at up to where it was cut,
-and a line says so. A packet file and its report are read as well, with --config.
+parts of the delay are told, nor its proved bound, nor --why. The transcript of a session that was killed is looked at
+up to where it was cut, and a line says so. A packet file and its report are read as well, with --config.
 
 Of the folder of a net it tells of each way and each path, hop by hop, and draws what was carried and cut when, as
 letters too.
@@ -70,7 +70,9 @@ def write_json(source: Source, table: list[Figures], path: str) -> None:
     """The table for a program; docs/JSON.md has its keys."""
     most = {kind: source.most_late(kind) for kind in KINDS} if source.lateness else None
     flows: list[dict[str, object]] = [{"flow": row.name, **row.value} for row in table]
-    told = {"format": FORMAT, "history": source.replay.path, "seed": source.seed, "lateness_ms": most, "flows": flows}
+    pipes = None if source.bounds is None else [one.figures() for one in source.bounds]
+    told = {"format": FORMAT, "history": source.replay.path, "seed": source.seed, "lateness_ms": most, "pipes": pipes,
+            "flows": flows}
     with writing(path) as out:
         json.dump(told, out, indent=1)
         out.write("\n")
@@ -117,6 +119,7 @@ def look(asked: argparse.Namespace) -> None:
                      asked.top or MOST_ROWS) if asked.json or not asked.why else []
     if not asked.why:
         write_text(table, sys.stdout)
+        write_bounds(source.bounds or [], sys.stdout)
     if asked.json:
         write_json(source, table, asked.json)
     if asked.o or not asked.why:

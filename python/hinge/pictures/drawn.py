@@ -41,7 +41,8 @@ def series_of(sources: list[Source], by: str, top: Optional[int], step_ms: Optio
     flows = [group(replay, by).largest(replay.packets.length, most)
              for replay in (replays if by == "flow" else replays[:1])]
     each = zip(sources, flows * (len(sources) // len(flows)))
-    return [series(source.replay, found, step_ns, span, source.changes, source.lateness) for source, found in each]
+    return [series(source.replay, found, step_ns, span, source.changes, source.lateness, source.bounds or ())
+            for source, found in each]
 
 
 def provenance_of(sources: list[Source]) -> list[str]:

@@ -113,8 +113,25 @@ class Panels:
             elif len(flow.out_places):
                 places = flow.out_places
                 items.append(Points(flow.name, places, found.sent_at(places), found.took_ms(places), color, number))
+        if not items:
+            return None
         notes = [f"band: {LOW} to {HIGH} of 100 packets sent in {self.step}; line: the median"] if has_band else []
-        return Panel("One-way delay", "sent at, s", "ms", items, notes, from_zero=False) if items else None
+        lines, above = self.bounds()
+        return Panel("One-way delay", "sent at, s", "ms", items + lines, notes + above, from_zero=False)
+
+    def bounds(self) -> tuple[list[Item], list[str]]:
+        """The proved bound on the delay of each pipe that has one: a line, or a note if it is far above the delays."""
+        lines, notes = list[Item](), list[str]()
+        most = max((float(flow.delays[-1]) for flow in self.found.flows if len(flow.delays)), default=0)
+        for one in self.found.bounds:
+            bound, told = one.bound.due_ns / NS_PER_MS, f"bound on the delay of {one.name}: {{:,.6g}} ms"
+            if bound <= MOST_ABOVE * most:
+                ends = np.array([0, self.found.steps.span]) / NS_PER_S
+                lines.append(Line(told.format(bound), ends, np.array([bound, bound]), self.pipes[one.name][0],
+                                  width=0.9, dash=DASHED, is_behind=True))
+            else:
+                notes.append(f"{told.format(bound)}, above this panel")
+        return lines, notes
 
     def distribution(self) -> Optional[Panel]:
         items: list[Item] = [Line(flow.name, flow.delays, flow.ranks, color, number) for number, flow,

@@ -5,8 +5,9 @@ from __future__ import annotations
 from dataclasses import dataclass, field
 from typing import Iterable, Iterator, Optional
 
-from hinge.configurations.configured import Limit, Pipe, Queue, setting_of
 from hinge.lazy import Integers, Reals, np
+from hinge.pictures.settings import Limits, capacities, limits, pipe_names
+from hinge.replays.bounds import Bounded
 from hinge.replays.groups import Groups, group
 from hinge.replays.remarks import Lateness
 from hinge.replays.replay import EVENT_NAMES, FULL, HELD, LOST, NONE, OUT, Replay
@@ -79,16 +80,6 @@ class Flow:
 
 
 @dataclass(frozen=True)
-class Limits:
-    """How many packets a queue takes, from each of these moments on; None where it is limited in bytes. `told` has it
-    with its unit."""
-
-    moments: Reals
-    numbers: Optional[Integers]
-    told: str
-
-
-@dataclass(frozen=True)
 class Series:
     """What is drawn of a replay. Rates are in Mbit/s, delays in ms."""
 
@@ -103,6 +94,7 @@ class Series:
     capacities: dict[str, tuple[Reals, Reals]]  # of each pipe: moments in s, and Mbit/s from there on
     limits: dict[str, Limits]  # of each pipe and queue
     lateness: Lateness = field(default_factory=dict)
+    bounds: list[Bounded] = field(default_factory=list)  # on the delay of pipes
 
     def sent_at(self, places: Integers) -> Reals:
         return self.replay.at[places] / NS_PER_S
@@ -193,49 +185,6 @@ def waiting(replay: Replay, places: Integers) -> tuple[Reals, Reals]:
     return moments / NS_PER_S, np.cumsum(np.bincount(of, weights=ups, minlength=len(moments)))
 
 
-def capacities(changes: Iterable[tuple[int, str]], span: int) -> dict[str, tuple[Reals, Reals]]:
-    """The bandwidth of each pipe that has one, as the commands with their moments set it. A pipe with a mask gives it
-    to each flow."""
-    found: dict[str, list[tuple[int, float]]] = {}
-    for moment, text in changes:
-        kind, number, asked = setting_of(text)
-        if kind == "pipe":
-            rate = asked.bw / 10**6 if isinstance(asked, Pipe) and asked.bw else np.nan
-            found.setdefault(f"pipe {number}{', a flow' * ('mask' in text.split())}", []).append((moment, rate))
-    steps = {name: [*points, (max(span, points[-1][0]), points[-1][1])] for name, points in found.items()}
-    return {name: (np.array([at for at, _ in points]) / NS_PER_S, np.array([rate for _, rate in points]))
-            for name, points in steps.items() if not np.isnan([rate for _, rate in points]).all()}
-
-
-def limits(changes: Iterable[tuple[int, str]], span: int) -> dict[str, Limits]:
-    """How much may wait in each pipe and queue, as the commands with their moments set it. A mask gives each flow a
-    queue of its own."""
-    found: dict[str, list[tuple[int, Limit, bool]]] = {}
-    for moment, text in changes:
-        kind, number, asked = setting_of(text)
-        if asked is not None:
-            found.setdefault(f"{kind} {number}", []).append((moment, asked.limit, "mask" in text.split()))
-    return {name: limits_of(points, span) for name, points in found.items()}
-
-
-def limits_of(points: list[tuple[int, Limit, bool]], span: int) -> Limits:
-    last, limit, has_mask = points[-1]
-    moments = np.array([*(moment for moment, _, _ in points), max(span, last)]) / NS_PER_S
-    each = ", each flow" * has_mask
-    if any(limit.slots is None for _, limit, _ in points):
-        return Limits(moments, None,
-                      f"{limit.kbytes} Kbytes{each}" if limit.kbytes else f"{limit.slots:,} packets{each}")
-    numbers = np.array([*(limit.slots for _, limit, _ in points), limit.slots])
-    told = f"{numbers.min():,}" if numbers.min() == numbers.max() else f"{numbers.min():,} to {numbers.max():,}"
-    return Limits(moments, numbers, f"{told} packets{each}")
-
-
-def pipe_names(changes: Iterable[tuple[int, str]]) -> dict[str, str]:
-    """The pipe of each queue, by their names, where the commands name it."""
-    settings = (setting_of(text) for _, text in changes)
-    return {f"queue {number}": f"pipe {asked.pipe}" for _, number, asked in settings if isinstance(asked, Queue)}
-
-
 def shared_pipes(replay: Replay, groups: Groups, pipes: dict[str, str]) -> dict[str, Integers]:
     """The places of the packets to each pipe, or queue whose pipe isn't known, unless one drawn flow is all that it
     has."""
@@ -284,7 +233,7 @@ def flow_series(replay: Replay, name: str, places: Integers, is_rest: bool, step
 
 
 def series(replay: Replay, groups: Groups, step_ns: int, span: int, changes: Iterable[tuple[int, str]] = (),
-           lateness: Optional[Lateness] = None) -> Series:
+           lateness: Optional[Lateness] = None, bounds: Iterable[Bounded] = ()) -> Series:
     steps, changes = Steps(step_ns, span), list(changes)
     pipes = pipe_names(changes)
     flows = [flow_series(replay, name, places, is_rest, steps) for name, places,
@@ -295,5 +244,4 @@ def series(replay: Replay, groups: Groups, step_ns: int, span: int, changes: Ite
     return Series(replay, steps, flows, drops, queues,
                   {name: carried(replay, places, steps) for name, places in shared.items()},
                   {name: offered(replay, places, steps) for name, places in shared.items()}, capacities(changes, span),
-                  limits(changes, span),
-                  lateness or {})
+                  limits(changes, span), lateness or {}, list(bounds))

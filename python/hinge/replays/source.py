@@ -9,6 +9,7 @@ from typing import Iterator, Optional
 
 from hinge.command import ROWS, USAGE, Fault
 from hinge.lazy import np
+from hinge.replays.bounds import Bounded, bounds
 from hinge.replays.links import Configuration, Parts, read_configuration
 from hinge.replays.remarks import Lateness
 from hinge.replays.replay import NONE, Replay, read_packets, read_report
@@ -32,6 +33,11 @@ class Source:
     def parts(self) -> Optional[Parts]:
         """The parts of the delays, if one configuration holds for every packet."""
         return Parts(self.replay, self.configuration).check() if self.configuration else None
+
+    @cached_property
+    def bounds(self) -> Optional[list[Bounded]]:
+        """The bound on each pipe's delay, if one configuration holds for every packet."""
+        return list(bounds(self.parts.replay, self.parts.configuration)) if self.parts else None
 
     def explained(self) -> Parts:
         """The parts of the delays, or why there are none."""

@@ -226,7 +226,7 @@ class Look(unittest.TestCase):
                          (1, None, None, [row["flow"] for row in rows]))
         self.assertEqual([flow["p95_ns"] for flow in told["flows"]], [int(row["p95_ns"]) for row in rows])
         page = (TOP / "docs" / "JSON.md").read_text(encoding="utf-8").partition("## A history")
-        for key in {*told, *told["flows"][0]}:
+        for key in {*told, *told["flows"][0], *told["pipes"][0]}:
             self.assertIn(f"`{key}`", page[2])
         counts = Counts((1, *[0] * (len(HEAD) - 1), *[0] * 2 * WAY))
         told_of_run = record(counts, [0, 0], 0, 1, [])

@@ -1,0 +1,64 @@
+"""The settings of commands over time, as a picture draws them: bandwidths of pipes, limits of queues, and the pipe of
+each queue."""
+
+from __future__ import annotations
+
+from dataclasses import dataclass
+from typing import Iterable, Optional
+
+from hinge.configurations.configured import Limit, Pipe, Queue, setting_of
+from hinge.lazy import Integers, Reals, np
+from hinge.replays.remarks import NS_PER_S
+
+
+@dataclass(frozen=True)
+class Limits:
+    """How many packets a queue takes, from each of these moments on; None where it is limited in bytes. `told` has it
+    with its unit."""
+
+    moments: Reals
+    numbers: Optional[Integers]
+    told: str
+
+
+def capacities(changes: Iterable[tuple[int, str]], span: int) -> dict[str, tuple[Reals, Reals]]:
+    """The bandwidth of each pipe that has one, as the commands with their moments set it. A pipe with a mask gives it
+    to each flow."""
+    found: dict[str, list[tuple[int, float]]] = {}
+    for moment, text in changes:
+        kind, number, asked = setting_of(text)
+        if kind == "pipe":
+            rate = asked.bw / 10**6 if isinstance(asked, Pipe) and asked.bw else np.nan
+            found.setdefault(f"pipe {number}{', a flow' * ('mask' in text.split())}", []).append((moment, rate))
+    steps = {name: [*points, (max(span, points[-1][0]), points[-1][1])] for name, points in found.items()}
+    return {name: (np.array([at for at, _ in points]) / NS_PER_S, np.array([rate for _, rate in points]))
+            for name, points in steps.items() if not np.isnan([rate for _, rate in points]).all()}
+
+
+def limits(changes: Iterable[tuple[int, str]], span: int) -> dict[str, Limits]:
+    """How much may wait in each pipe and queue, as the commands with their moments set it. A mask gives each flow a
+    queue of its own."""
+    found: dict[str, list[tuple[int, Limit, bool]]] = {}
+    for moment, text in changes:
+        kind, number, asked = setting_of(text)
+        if asked is not None:
+            found.setdefault(f"{kind} {number}", []).append((moment, asked.limit, "mask" in text.split()))
+    return {name: limits_of(points, span) for name, points in found.items()}
+
+
+def limits_of(points: list[tuple[int, Limit, bool]], span: int) -> Limits:
+    last, limit, has_mask = points[-1]
+    moments = np.array([*(moment for moment, _, _ in points), max(span, last)]) / NS_PER_S
+    each = ", each flow" * has_mask
+    if any(limit.slots is None for _, limit, _ in points):
+        return Limits(moments, None,
+                      f"{limit.kbytes} Kbytes{each}" if limit.kbytes else f"{limit.slots:,} packets{each}")
+    numbers = np.array([*(limit.slots for _, limit, _ in points), limit.slots])
+    told = f"{numbers.min():,}" if numbers.min() == numbers.max() else f"{numbers.min():,} to {numbers.max():,}"
+    return Limits(moments, numbers, f"{told} packets{each}")
+
+
+def pipe_names(changes: Iterable[tuple[int, str]]) -> dict[str, str]:
+    """The pipe of each queue, by their names, where the commands name it."""
+    settings = (setting_of(text) for _, text in changes)
+    return {f"queue {number}": f"pipe {asked.pipe}" for _, number, asked in settings if isinstance(asked, Queue)}
