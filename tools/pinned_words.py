@@ -1,11 +1,11 @@
 #!/usr/bin/env python3
-"""Tells which definitions of dn_types the laws use, and asks that TRUST's table names a law for each that pins it.
+"""Tells which definitions of dn_types the laws use, and asks that the table of dn_laws' page names a law for each that pins it.
 
     python3 tools/pinned_words.py           prints what fails; the last line is 'N passed, M failed'
     python3 tools/pinned_words.py --list    prints each word with the laws that use it
 
 A law says no more than its words. So each definition of dn_types that a law's statement uses is pinned by a law in words of
-calls, replies and events. docs/TRUST.md has a table of them: words, and the functions and clauses that pin them. A row
+calls, replies and events. crates/dn_laws/README.md has a table of them: words, and the functions and clauses that pin them. A row
 without a law has words that need none, since what they are made of is plain: types, and words of such rows.
 A word passes where the table has it once and its row holds. A row of laws holds where each of them is there and uses a
 word of the row, and each word is used by one. A word that no law uses, and a row that doesn't hold, fails.
@@ -64,7 +64,7 @@ def read_laws(top: Path, definitions: Definitions) -> Dict[Clause, Set[str]]:
 
 
 def read_table(text: str) -> List[Row]:
-    """The rows of TRUST's table."""
+    """The rows of the table."""
     rows, part = [], text.partition(HEADING)[2].partition("\n#")[0]
     for line in part.splitlines():
         cells = line.split("|")
@@ -109,7 +109,7 @@ def main(arguments: List[str]) -> int:
         for word in sorted(reached):
             print(word, *(f"{function}.{clause}" for (function, clause), words in laws.items() if word in words))
         return 0
-    rows = read_table((top / "docs" / "TRUST.md").read_text())
+    rows = read_table((top / "crates" / "dn_laws" / "README.md").read_text())
     plain = {word for row in rows if not row.clauses for word in row.words}
     told = [word for row in rows for word in row.words]
     faults = [fault for row in rows for fault in faults_of(row, laws, definitions, plain)]
