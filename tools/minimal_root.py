@@ -24,7 +24,7 @@ import build_wheel  # noqa: E402
 from tally import Tally  # noqa: E402
 
 SUITE = "bookworm"
-PAGES = {"README.md": 2, "docs/LIVE.md": 6, "docs/CAPTURE.md": 12, "docs/SWEEPS.md": 1, "docs/LONG.md": 2, "docs/FORMATS.md": 1, "docs/SESSIONS.md": 1,
+PAGES = {"README.md": 2, "docs/LIVE.md": 5, "docs/CAPTURE.md": 12, "docs/SWEEPS.md": 1, "docs/LONG.md": 2, "docs/FORMATS.md": 1, "docs/SESSIONS.md": 2,
          "docs/HISTORIES.md": 1, "docs/TESTING.md": 2, "examples/README.md": 1}  # and how many blocks of commands each has at least
 RUN = ("hinge", "dummynet", "echo", "printf", "awk", "for", "cat", "pytest", "parallel")  # the commands with which a block begins
 SERVES = "hinge udp "  # a command that runs until it is ended

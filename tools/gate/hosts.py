@@ -113,8 +113,8 @@ def example(tally: Tally, program: str, folder: Path) -> None:
 
 
 def page(tally: Tally, program: str, folder: Path) -> None:
-    """What docs/LIVE.md shows of a session in Python and of one without a clock is what they print."""
-    text = (TOP / "docs" / "LIVE.md").read_text()
+    """What docs/SESSIONS.md shows of a session in Python and of one without a clock is what they print."""
+    text = (TOP / "docs" / "SESSIONS.md").read_text()
     [(source, printed)] = re.findall(r"```\n(from session .*?)```\n\n```\n(.*?)```", text, re.S)
     done = subprocess.run([sys.executable, "-c", source], cwd=LIVE, env={**os.environ, "DUMMYNET": program}, capture_output=True, text=True)
     tally.equal("the session in Python", (printed, ""), (done.stdout, done.stderr))
