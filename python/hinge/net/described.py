@@ -25,7 +25,8 @@ def spelled(lasting: Time) -> str:
 
 class Described:
     def __init__(self, folder: Path, link: str, back: Optional[str]) -> None:
-        """`link` and `back` are the links of which nothing else is said. Commands of several lines are kept in the folder."""
+        """`link` and `back` are the links of which nothing else is said. Commands of several lines are kept in the
+        folder."""
         self.folder, self.default = folder, (link, back)
         self.lines: list[str] = []
         self.is_running = False
@@ -36,7 +37,9 @@ class Described:
             raise NetError("the net runs already; `change`, `cut` and `obey` change it")
         self.lines += text.splitlines()
 
-    def host(self, name: str, command: Command = "", *, port: Optional[int] = None, wait: Time = 30, word: str = "host") -> None:
+    def host(
+        self, name: str, command: Command = "", *, port: Optional[int] = None, wait: Time = 30, word: str = "host"
+    ) -> None:
         """A host, and what runs there. `start` waits until something listens at the port."""
         text = command if isinstance(command, str) else shlex.join(command)
         if "\n" in text.strip() or text.endswith("\\"):
@@ -65,11 +68,17 @@ class Described:
                 raise NetError(str(wrong)) from None
         return " / ".join(ways) if any(ways) else ""
 
-    def link(self, one: str, two: str, link: Optional[str] = None, back: Optional[str] = None, *, preset: Optional[str] = None) -> None:
+    def link(
+        self, one: str, two: str, link: Optional[str] = None, back: Optional[str] = None, *,
+        preset: Optional[str] = None
+    ) -> None:
         """A link, with the words of both ways, or of the way from the first host and the way back."""
         self.describe(f"link {one} {two} {self.words(link, back, preset)}")
 
-    def switch(self, name: str, hosts: Sequence[str], link: Optional[str] = None, back: Optional[str] = None, *, preset: Optional[str] = None) -> None:
+    def switch(
+        self, name: str, hosts: Sequence[str], link: Optional[str] = None, back: Optional[str] = None, *,
+        preset: Optional[str] = None
+    ) -> None:
         """A switch with a link to each of these hosts."""
         self.describe(f"switch {name} {' '.join(hosts)} {self.words(link, back, preset)}")
 

@@ -52,12 +52,15 @@ class Description:
     main: Optional[str] = None
 
     def between(self, statement: Statement, form: str) -> tuple[int, bool]:
-        """The link that the next words of a statement name, `A B` or `A B N` for the N-th between the two, and whether A is its second end."""
+        """The link that the next words of a statement name, `A B` or `A B N` for the N-th between the two, and whether
+        A is its second end."""
         one, two = self.host(statement, form), self.host(statement, form)
         found = [number for number, link in enumerate(self.links) if set(link.ends) == {one, two} and one != two]
         place = int(statement.take(form)) if statement.peek().isdecimal() else 1
         if not 1 <= place <= len(found):
-            raise statement.wrong(f"{one} {two}", f"there is no link {place} between them" if found else "there is no link between them")
+            raise statement.wrong(
+                f"{one} {two}", f"there is no link {place} between them" if found else "there is no link between them"
+            )
         return found[place - 1], self.links[found[place - 1]].ends[0] != one
 
     def host(self, statement: Statement, form: str) -> str:
@@ -71,7 +74,9 @@ class Description:
         if name in TAKEN:
             raise statement.wrong(name, "a word with a meaning of its own; take another name")
         if not NAME.fullmatch(name):
-            raise statement.wrong(name, "a name has letters, digits and hyphens, begins with a letter and has at most 63")
+            raise statement.wrong(
+                name, "a name has letters, digits and hyphens, begins with a letter and has at most 63"
+            )
         if name in self.hosts:
             raise statement.wrong(name, "a second host of this name")
         self.hosts[name] = Host(name, forwards, statement.rest)
@@ -131,10 +136,14 @@ DECLARES: dict[str, Does] = {
     "switch": Description.declare_switch,
 }
 FOLLOWS: tuple[dict[str, Does], ...] = (
-    DECLARES,
-    {"main": Description.main_of},
-    {"link": Description.link, "switch": Description.switch},
-    {"wait": Description.wait, **{word: lambda net, statement: net.of_links.append(statement) for word in ("loss", "line", "map", "trace", "at")}},
+    DECLARES, {"main": Description.main_of}, {"link": Description.link, "switch": Description.switch},
+    {
+        "wait": Description.wait,
+        **{
+            word: lambda net, statement: net.of_links.append(statement)
+            for word in ("loss", "line", "map", "trace", "at")
+        },
+    },
 )
 WORDS = sorted({word for kinds in FOLLOWS for word in kinds})
 

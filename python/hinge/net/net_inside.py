@@ -1,4 +1,5 @@
-"""The first process of a net: it makes the rooms, starts the links and the hosts' commands, and reports how they went."""
+"""The first process of a net: it makes the rooms, starts the links and the hosts' commands, and reports how they
+went."""
 
 from __future__ import annotations
 
@@ -32,7 +33,9 @@ from hinge.run.words import Wrong
 
 WATCHED = {signal.SIGCHLD, signal.SIGTERM, signal.SIGHUP}
 LISTEN_POLL = 0.01  # s
-NO_PRIORITY = "the links don't come before other programs, as the system doesn't allow it (as root, or with `ulimit -r 10`)"
+NO_PRIORITY = (
+    "the links don't come before other programs, as the system doesn't allow it (as root, or with `ulimit -r 10`)"
+)
 
 
 class Order(NamedTuple):
@@ -78,12 +81,15 @@ class Inside:
             return self.order.plan
         first, _, rest = self.order.plan.partition("\n")
         hosts = [f"remark host,{name},{','.join(self.rooms.ends.all_of(name))}" for name in self.net.hosts]
-        pipes = [line for number, link in enumerate(self.net.links) for way in (0, 1) for line in self.pipes_of(number, way)]
+        pipes = [
+            line for number, link in enumerate(self.net.links) for way in (0, 1) for line in self.pipes_of(number, way)
+        ]
         outside = [f"remark outside,{self.order.outside}"] * bool(self.order.outside)
         return "\n".join([first, *hosts, *outside, *pipes, "contents", rest])
 
     def pipes_of(self, number: int, way: int) -> list[str]:
-        """Between which hosts the pipes of a link's way are. Between its first pass and its second one is `START~END`, where the jitter begins."""
+        """Between which hosts the pipes of a link's way are. Between its first pass and its second one is `START~END`,
+        where the jitter begins."""
         start, end = self.net.links[number].ends[way], self.net.links[number].ends[1 - way]
         pipe = 2 * number + way + 1
         extra, second = self.order.made.plan.extras.get(pipe - 1, (Extra(), range(0)))
@@ -93,8 +99,10 @@ class Inside:
 
     def started_links(self) -> tuple[Link, Optional[int]]:
         """The host of all links, and its status where it ended at once."""
-        link = Link(self.processes, self.page, ["tun", *map(str, self.rooms.interfaces)], self.rooms.interfaces, self.plan(), self.order.mask,
-                    self.control())
+        link = Link(
+            self.processes, self.page, ["tun", *map(str, self.rooms.interfaces)], self.rooms.interfaces, self.plan(),
+            self.order.mask, self.control()
+        )
         return link, link.failed()
 
     def control(self) -> Optional[Control]:
@@ -103,8 +111,12 @@ class Inside:
             self.order.made.said(Statement("change", 1, f"at {moment} {words}"), self.order.made.at)
 
         def status() -> dict[str, object]:
-            ended = {name: self.processes.ended[pid] for name, pid in self.started.items() if pid in self.processes.ended}
-            return {**record(self.net, self.page.read(), self.rooms.dropped(), {}), "ended": ended, "silent": self.silent}
+            ended = {
+                name: self.processes.ended[pid] for name, pid in self.started.items() if pid in self.processes.ended
+            }
+            return {
+                **record(self.net, self.page.read(), self.rooms.dropped(), {}), "ended": ended, "silent": self.silent
+            }
 
         doors = Doors()
 
@@ -133,23 +145,33 @@ class Inside:
                 if self.own_users:
                     make_terminals()
             if self.order.logs:
-                log = os.open(os.path.join(self.order.logs, f"{name}.log"), os.O_WRONLY | os.O_CREAT | os.O_TRUNC, 0o666)
+                log = os.open(
+                    os.path.join(self.order.logs, f"{name}.log"), os.O_WRONLY | os.O_CREAT | os.O_TRUNC, 0o666
+                )
                 os.dup2(log, 1), os.dup2(log, 2)
             self.enter(name)
 
         more = self.order.command if is_main else []
-        self.started[name] = start(["sh", "-c", self.net.hosts[name].command, *more], self.order.mask, enter_host, self.own_users)
+        self.started[name] = start(
+            ["sh", "-c", self.net.hosts[name].command, *more], self.order.mask, enter_host, self.own_users
+        )
 
     def waited(self) -> Optional[int]:
         """Waits for the ports that the net waits for; a signal that came before."""
         for wait in self.net.waits:
             enter(self.rooms.network[wait.host])
             pid = self.started.get(wait.host)
-            came = self.processes.poll(lambda: something_listens(wait.port) or pid in self.processes.ended, wait.lasting, LISTEN_POLL)
+            came = self.processes.poll(
+                lambda: something_listens(wait.port) or pid in self.processes.ended, wait.lasting, LISTEN_POLL
+            )
             if came:
                 return came
             if not something_listens(wait.port):
-                ended = f"; its command ended with {self.processes.ended[pid]}" if pid in self.processes.ended else f" after {wait.lasting:g} s"
+                ended = (
+                    f"; its command ended with {self.processes.ended[pid]}"
+                    if pid in self.processes.ended
+                    else f" after {wait.lasting:g} s"
+                )
                 self.silent.append(f"{wait.host} doesn't listen at port {wait.port}{ended}")
                 say(self.silent[-1])
         return None
@@ -163,7 +185,9 @@ class Inside:
     def begin_main(self) -> Optional[int]:
         """The process of the main command, if there is one."""
         if self.order.shell:
-            return start([os.environ.get("SHELL", "sh")], self.order.mask, partial(self.enter, self.order.shell), self.own_users)
+            return start(
+                [os.environ.get("SHELL", "sh")], self.order.mask, partial(self.enter, self.order.shell), self.own_users
+            )
         if self.net.main:
             self.begin(self.net.main)
         return self.started.get(self.net.main or "")
@@ -207,7 +231,10 @@ class Inside:
         if not order.quiet:
             for line in [*lines(self.net, counts, drops), *[f"seed {order.seed}"] * order.draws]:
                 say(line)
-        for line in [*of_hosts(others), *(told(order.transcript, counts["parts"]) if order.transcript else []), *(f"void: {fault}" for fault in faults)]:
+        for line in [
+            *of_hosts(others), *(told(order.transcript, counts["parts"]) if order.transcript else []),
+            *(f"void: {fault}" for fault in faults)
+        ]:
             say(line)
         if order.json:
             told_all = {"status": status, "seed": order.seed, "void": faults, **record(self.net, counts, drops, ended)}

@@ -53,7 +53,9 @@ class NetPlan:
                 rest, extra = parted(text, link.statement.place)
                 self.configure(link.statement, self.link_line(link.statement, 2 * number + way + 1, rest))
                 self.plan.extra(2 * number + way, extra)
-        for word, add in (("line", self.line), ("loss", self.loss), ("map", self.map), ("trace", self.trace), ("at", self.at)):
+        for word, add in (
+            ("line", self.line), ("loss", self.loss), ("map", self.map), ("trace", self.trace), ("at", self.at)
+        ):
             for statement in net.of_links:
                 if statement.word == word:
                     self.said(statement, add)
@@ -67,7 +69,9 @@ class NetPlan:
             add(statement)
         except Wrong as wrong:
             where = f"{statement.path} line {statement.number}: "
-            raise wrong if str(wrong).startswith(where) else Wrong(where + str(wrong).removeprefix("--map ").removeprefix("--loss ")) from None
+            raise wrong if str(wrong).startswith(where) else Wrong(
+                where + str(wrong).removeprefix("--map ").removeprefix("--loss ")
+            ) from None
 
     @staticmethod
     def link_line(statement: Statement, pipe: int, text: str) -> str:
@@ -147,7 +151,9 @@ class NetPlan:
             others = {self.net.host(statement, form)}
             while statement.peek() in self.net.hosts:
                 others.add(statement.take(form))
-        found = [number for number, link in enumerate(self.net.links) if name in link.ends and link.other(name) in others]
+        found = [
+            number for number, link in enumerate(self.net.links) if name in link.ends and link.other(name) in others
+        ]
         if not found:
             raise statement.wrong(name, "it has no such link")
         return found
@@ -184,12 +190,16 @@ class NetPlan:
             if not any(begun < moment for begun, link in self.cuts if link == number):
                 raise statement.wrong("heal", "no cut without a LENGTH is before it")
         for moment, number in self.cuts:
-            end = min((healed for healed, link, _ in self.heals if link == number and healed > moment), default=LAST_MOMENT)
+            end = min(
+                (healed for healed, link, _ in self.heals if link == number and healed > moment), default=LAST_MOMENT
+            )
             self.lose(number, moment, end)
 
     def lose(self, number: int, moment: int, end: int) -> None:
         """A link loses all packets between two moments."""
-        self.plan.changes.outages += [Outage(moment, end - moment, pipe, True) for pipe in (2 * number + 1, 2 * number + 2)]
+        self.plan.changes.outages += [
+            Outage(moment, end - moment, pipe, True) for pipe in (2 * number + 1, 2 * number + 2)
+        ]
 
     def judge(self) -> None:
         """Lets the program judge all lines, in their order, before anything starts."""

@@ -1,6 +1,7 @@
 """The rooms of a net's hosts: a network namespace each, with an interface for each link, names, addresses and ways.
 
-A host has an address of each family that is its own, on `lo`, and one for each end of a link. Its name leads to the first."""
+A host has an address of each family that is its own, on `lo`, and one for each end of a link. Its name leads to the
+first."""
 
 from __future__ import annotations
 
@@ -62,7 +63,11 @@ class Ends:
     def names(self) -> str:
         """The lines of /etc/hosts. A name leads to IPv4, as not every program listens in both families."""
         lines = [f"{addresses.four} {name}\n{addresses.six} ip6-{name}\n" for name, addresses in self.own.items()]
-        lines += [f"{self.at_end(name, link).four} {self.label(name, link)}\n" for name in self.net.hosts for link, _ in self.links[name]]
+        lines += [
+            f"{self.at_end(name, link).four} {self.label(name, link)}\n"
+            for name in self.net.hosts
+            for link, _ in self.links[name]
+        ]
         return "".join(lines)
 
 
@@ -103,8 +108,8 @@ class Rooms:
         in_ipv6(lambda: add_address("lo", self.ends.own[name].six, 128))
 
     def let_forward(self, name: str) -> None:
-        """Lets the present network hand packets on. Its interfaces are there already, without multicast: else the kernel would ask routers
-        to a group there."""
+        """Lets the present network hand packets on. Its interfaces are there already, without multicast: else the
+        kernel would ask routers to a group there."""
         for link, _ in self.ends.links[name]:
             hand_on(self.ends.interface(name, link))
         try_to_write("/proc/sys/net/ipv6/conf/all/forwarding", "1")
@@ -117,8 +122,16 @@ class Rooms:
 
     def lead_out(self, outside: Outside, by: str) -> None:
         """Joins a host to the rest of the system's network. Where it hands packets on, the others reach that by it."""
-        interfaces = [self.ends.interface(by, link) for link, _ in self.ends.links[by]] if self.ends.net.hosts[by].forwards else []
-        others = [address for name in self.network if name != by for address in self.ends.all_of(name) if ":" in address] if interfaces else []
+        interfaces = (
+            [self.ends.interface(by, link) for link, _ in self.ends.links[by]]
+            if self.ends.net.hosts[by].forwards
+            else []
+        )
+        others = (
+            [address for name in self.network if name != by for address in self.ends.all_of(name) if ":" in address]
+            if interfaces
+            else []
+        )
         ipv6 = outside.join(self.network[by], interfaces, others)
         for name in self.network if interfaces else ():
             enter(self.network[name])
@@ -141,4 +154,8 @@ class Rooms:
         for name, network in self.network.items():
             enter(network)
             by_host[name] = all_dropped()
-        return [by_host[name].get(self.ends.interface(name, number), 0) for number, link in enumerate(self.ends.net.links) for name in link.ends]
+        return [
+            by_host[name].get(self.ends.interface(name, number), 0)
+            for number, link in enumerate(self.ends.net.links)
+            for name in link.ends
+        ]

@@ -41,7 +41,9 @@ class CommandFailed(subprocess.CalledProcessError):
     """A command whose status isn't 0, with what it printed."""
 
     def __str__(self) -> str:
-        printed = "\n".join(text.rstrip() for text in (self.stdout, self.stderr) if isinstance(text, str) and text.strip())
+        printed = "\n".join(
+            text.rstrip() for text in (self.stdout, self.stderr) if isinstance(text, str) and text.strip()
+        )
         return f"{self.cmd}: status {self.returncode}" + f"\n{printed}" * bool(printed)
 
 
@@ -57,12 +59,16 @@ def words_of(command: Command) -> list[str]:
 
 
 class Net(Described):
-    """What is said before `start` is how it begins. `run`, and a change without a moment, start it where it hasn't begun."""
+    """What is said before `start` is how it begins. `run`, and a change without a moment, start it where it hasn't
+    begun."""
 
-    def __init__(self, folder: Union[str, Path, None] = None, *, seed: Optional[int] = None, mtu: Optional[int] = None, late: Optional[Time] = None,
-                 outside: Optional[str] = None, link: str = "", back: Optional[str] = None) -> None:
-        """The folder gets the history, the summary and what the hosts print; without one they are gone after the end. `link` and `back` are
-        the links of which nothing else is said. `outside` is a host that leads to the rest of the system's network."""
+    def __init__(
+        self, folder: Union[str, Path, None] = None, *, seed: Optional[int] = None, mtu: Optional[int] = None,
+        late: Optional[Time] = None, outside: Optional[str] = None, link: str = "", back: Optional[str] = None
+    ) -> None:
+        """The folder gets the history, the summary and what the hosts print; without one they are gone after the end.
+        `link` and `back` are the links of which nothing else is said. `outside` is a host that leads to the rest of the
+        system's network."""
         self.temporary = tempfile.TemporaryDirectory(prefix="hinge-net-") if folder is None else None
         super().__init__(Path(self.temporary.name if self.temporary else str(folder)).absolute(), link, back)
         self.seed, self.mtu, self.late, self.outside = seed, mtu, late, outside
@@ -97,14 +103,21 @@ class Net(Described):
         self.obeyed += [obeyed for obeyed, _ in told]
         return [obeyed for obeyed, _ in told]
 
-    def change(self, one: str, two: str, link: Optional[str] = None, back: Optional[str] = None, *, preset: Optional[str] = None,
-               at: Optional[Time] = None) -> list[Obeyed]:
+    def change(
+        self, one: str, two: str, link: Optional[str] = None, back: Optional[str] = None, *,
+        preset: Optional[str] = None, at: Optional[Time] = None
+    ) -> list[Obeyed]:
         """The link has other words from then on."""
         return self.obey(f"{one} {two} {self.words(link, back, preset)}", at=at)
 
-    def cut(self, host: str, lasting: Optional[Time] = None, *, off: Sequence[str] = (), at: Optional[Time] = None) -> list[Obeyed]:
+    def cut(
+        self, host: str, lasting: Optional[Time] = None, *, off: Sequence[str] = (), at: Optional[Time] = None
+    ) -> list[Obeyed]:
         """The links of a host, or those to some others, lose all packets, for so long or until they are healed."""
-        return self.obey(" ".join(["cut", host, *["from"] * bool(off), *off, *([] if lasting is None else [spelled(lasting)])]), at=at)
+        return self.obey(
+            " ".join(["cut", host, *["from"] * bool(off), *off, *([] if lasting is None else [spelled(lasting)])]),
+            at=at,
+        )
 
     def heal(self, host: str, *, off: Sequence[str] = (), at: Optional[Time] = None) -> list[Obeyed]:
         """Those links lose nothing any more."""
@@ -125,14 +138,21 @@ class Net(Described):
             self.description = read_description(str(file))
         except Wrong as wrong:
             raise NetError(str(wrong)) from None
-        given = {"seed": self.seed, "mtu": self.mtu, "late": None if self.late is None else spelled(self.late), "outside": self.outside}
+        given = {
+            "seed": self.seed, "mtu": self.mtu, "late": None if self.late is None else spelled(self.late),
+            "outside": self.outside
+        }
         more = [word for name, value in given.items() if value is not None for word in (f"--{name}", str(value))]
         read_end, self.leash = os.pipe()
-        words = [sys.executable, str(START), "net", str(file), "--transcripts", str(self.folder), "--logs", str(self.folder / "logs"), *more,
-                 "--control", str(self.socket), "--while-open", str(read_end)]
+        words = [
+            sys.executable, str(START), "net", str(file), "--transcripts", str(self.folder), "--logs",
+            str(self.folder / "logs"), *more, "--control", str(self.socket), "--while-open", str(read_end)
+        ]
         with open(self.folder / "net.log", "wb") as told:
             self.is_running = True
-            self.process = subprocess.Popen(words, stdin=subprocess.DEVNULL, stdout=told, stderr=told, pass_fds=[read_end], start_new_session=True)
+            self.process = subprocess.Popen(
+                words, stdin=subprocess.DEVNULL, stdout=told, stderr=told, pass_fds=[read_end], start_new_session=True
+            )
         os.close(read_end)
         self.wait_until_ready()
         return self
@@ -160,15 +180,23 @@ class Net(Described):
         return answer
 
     def popen(self, host: str, command: Command, **how: Any) -> "subprocess.Popen[Any]":
-        """A command on a host, which begins now. It ends with the net. What else is given is that of subprocess.Popen."""
+        """A command on a host, which begins now. It ends with the net. What else is given is that of
+        subprocess.Popen."""
         self.start()
-        return subprocess.Popen([sys.executable, str(START), "exec", str(self.socket), host, "--", *words_of(command)], **how)
+        return subprocess.Popen(
+            [sys.executable, str(START), "exec", str(self.socket), host, "--", *words_of(command)], **how
+        )
 
-    def run(self, host: str, command: Command, *, check: bool = True, timeout: Optional[float] = None, input: Optional[str] = None,
-            env: Optional[Mapping[str, str]] = None, cwd: Union[str, Path, None] = None) -> "subprocess.CompletedProcess[str]":
-        """Runs a command on a host until it ends, with what it printed. CommandFailed tells of a status that isn't 0, where it is checked."""
+    def run(
+        self, host: str, command: Command, *, check: bool = True, timeout: Optional[float] = None,
+        input: Optional[str] = None, env: Optional[Mapping[str, str]] = None, cwd: Union[str, Path, None] = None
+    ) -> "subprocess.CompletedProcess[str]":
+        """Runs a command on a host until it ends, with what it printed. CommandFailed tells of a status that isn't 0,
+        where it is checked."""
         stdin: Union[int, IO[str]] = subprocess.DEVNULL if input is None else subprocess.PIPE
-        process = self.popen(host, command, stdin=stdin, stdout=subprocess.PIPE, stderr=subprocess.PIPE, text=True, env=env, cwd=cwd)
+        process = self.popen(
+            host, command, stdin=stdin, stdout=subprocess.PIPE, stderr=subprocess.PIPE, text=True, env=env, cwd=cwd
+        )
         try:
             stdout, stderr = process.communicate(input, timeout)
         except BaseException:
@@ -246,7 +274,9 @@ class Net(Described):
     def __enter__(self) -> Net:
         return self
 
-    def __exit__(self, kind: Optional[type[BaseException]], error: Optional[BaseException], trace: Optional[TracebackType]) -> None:
+    def __exit__(
+        self, kind: Optional[type[BaseException]], error: Optional[BaseException], trace: Optional[TracebackType]
+    ) -> None:
         self.close()
 
     def close(self) -> None:

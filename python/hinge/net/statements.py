@@ -80,6 +80,10 @@ def statements(path: str) -> Iterator[Statement]:
         before = line[:-1].rstrip() + " " if line.endswith("\\") else ""
         if before or line.startswith("#"):
             continue
-        text = " ".join(line.split(None, 1)) if line.split(None, 1)[:1] and line.split(None, 1)[0] in TAKES_A_COMMAND else bare(line)
+        text = (
+            " ".join(line.split(None, 1))
+            if line.split(None, 1)[:1] and line.split(None, 1)[0] in TAKES_A_COMMAND
+            else bare(line)
+        )
         if text:
             yield Statement(path, begun, text)

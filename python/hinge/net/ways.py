@@ -1,4 +1,5 @@
-"""The shortest ways between the hosts of a net, over hosts that hand packets on: of those that are as short, by the links that come first."""
+"""The shortest ways between the hosts of a net, over hosts that hand packets on: of those that are as short, by the
+links that come first."""
 
 from __future__ import annotations
 

@@ -39,11 +39,16 @@ class Changes:
     def ends_of(self, change: Change) -> list[int]:
         """When outages end that go on at a change of their pipe."""
         target = target_of(change.line)
-        return [one.moment + one.length for one in self.outages
-                if Target("pipe", one.pipe) == target and one.moment <= change.moment < one.moment + one.length < LAST_MOMENT]
+        return [
+            one.moment + one.length
+            for one in self.outages
+            if Target("pipe", one.pipe) == target
+            and one.moment <= change.moment < one.moment + one.length < LAST_MOMENT
+        ]
 
     def shared(self) -> set[int]:
-        """The pipes with queues of their own or with masks, whose packets don't begin in the order in which they came."""
+        """The pipes with queues of their own or with masks, whose packets don't begin in the order in which they
+        came."""
         found = set()
         for line in [*self.begun.values(), *(change.line for change in self.lines)]:
             words, target = line.split(), target_of(line)
@@ -58,7 +63,11 @@ class Changes:
         """The outages of pipes of one queue, each with its pipe, beginning and end: those that meet are one."""
         found: list[tuple[int, int, int]] = []
         shared = self.shared()
-        for pipe, begin, end in sorted((one.pipe, one.moment, one.moment + one.length) for one in self.outages if not one.lossy and one.pipe not in shared):
+        for pipe, begin, end in sorted(
+            (one.pipe, one.moment, one.moment + one.length)
+            for one in self.outages
+            if not one.lossy and one.pipe not in shared
+        ):
             if found and found[-1][0] == pipe and begin <= found[-1][2]:
                 found[-1] = (pipe, found[-1][1], max(end, found[-1][2]))
             else:
@@ -67,7 +76,9 @@ class Changes:
 
     def of_outage(self, outage: Outage, lines: list[Change], moments: list[int]) -> list[Change]:
         """What an outage does to a pipe of these lines, which have these moments."""
-        before, after = (lines[bisect_right(moments, moment) - 1].line for moment in (outage.moment, outage.moment + outage.length))
+        before, after = (
+            lines[bisect_right(moments, moment) - 1].line for moment in (outage.moment, outage.moment + outage.length)
+        )
         if not configures(before):
             return []  # it was deleted before
         end = [Change(outage.moment + outage.length, after)] * configures(after)

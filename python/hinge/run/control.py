@@ -1,5 +1,5 @@
-"""A socket by which a link is changed, asked and entered while it runs: `hinge change`, `hinge status` and `hinge exec` speak to it, a JSON
-object a line."""
+"""A socket by which a link is changed, asked and entered while it runs: `hinge change`, `hinge status` and `hinge exec`
+speak to it, a JSON object a line."""
 
 from __future__ import annotations
 
@@ -42,12 +42,15 @@ def nobody(host: str) -> Room:
 
 
 class Control:
-    """The socket of a run. It is made before the links, and answers once `serve` was called; a thread of its own serves one client after the
-    other. Nothing else uses the plan from then on."""
+    """The socket of a run. It is made before the links, and answers once `serve` was called; a thread of its own serves
+    one client after the other. Nothing else uses the plan from then on."""
 
-    def __init__(self, path: str, plan: Plan, page: Page, event: Callable[[str, str], None], status: Callable[[], Record],
-                 enter: Enter = nobody) -> None:
-        """`event` gives the plan what words say of a moment, as 5s; `status` tells how it goes; `enter` opens a host."""
+    def __init__(
+        self, path: str, plan: Plan, page: Page, event: Callable[[str, str], None], status: Callable[[], Record],
+        enter: Enter = nobody
+    ) -> None:
+        """`event` gives the plan what words say of a moment, as 5s; `status` tells how it goes; `enter` opens a
+        host."""
         self.path, self.plan, self.page, self.event, self.status, self.enter = path, plan, page, event, status, enter
         self.latest = 0  # the last moment of the links that is known
         self.own, self.hosts = socket.socketpair(socket.AF_UNIX, socket.SOCK_SEQPACKET)
@@ -125,7 +128,9 @@ class Control:
         del changes.lines[lines:], changes.outages[outages:]
         if not all(outage.lossy for outage in found):
             raise Wrong("an outage from now on loses packets: write `outage LENGTH lossy`")
-        return [told for change in new for told in self.obeyed(change.line)] + [told for outage in found for told in self.began(outage)]
+        return [told for change in new for told in self.obeyed(change.line)] + [
+            told for outage in found for told in self.began(outage)
+        ]
 
     def obeyed(self, line: str) -> list[Record]:
         """A line from now on, also after outages that go on: the host can't take back the lines that end them."""
@@ -140,7 +145,11 @@ class Control:
         """An outage from now on."""
         lines = self.plan.changes.lines_of(outage.pipe)
         both = self.plan.changes.of_outage(outage, lines, [line.moment for line in lines])
-        told = [self.asked_of_host(change.line, change.moment - outage.moment) for change in both if change.moment < LAST_MOMENT]
+        told = [
+            self.asked_of_host(change.line, change.moment - outage.moment)
+            for change in both
+            if change.moment < LAST_MOMENT
+        ]
         if told and not told[-1]["refused"]:
             end = told[-1]["moment"] if len(told) == len(both) else LAST_MOMENT
             assert isinstance(end, int)

@@ -1,5 +1,5 @@
-"""The doors of a run's rooms: descriptors of the first process's namespaces and of a room's network, by which another process enters that
-room and runs a command there as the run's own commands do."""
+"""The doors of a run's rooms: descriptors of the first process's namespaces and of a room's network, by which another
+process enters that room and runs a command there as the run's own commands do."""
 
 from __future__ import annotations
 
@@ -32,7 +32,8 @@ def is_here(namespace: int, kind: str) -> bool:
 
 
 def started_behind(doors: Sequence[int], host: str, words: Sequence[str], mask: Mask) -> int:
-    """Starts a command in a room of a run, and returns its process. This process's later children are in that run too, and end with it."""
+    """Starts a command in a room of a run, and returns its process. This process's later children are in that run too,
+    and end with it."""
     folder = os.getcwd()
     root, *namespaces, network = doors
     strange = [(namespace, flag) for (kind, flag), namespace in zip(KINDS, namespaces) if not is_here(namespace, kind)]

@@ -1,6 +1,8 @@
-"""What a link of dummynet doesn't do, and the host builds of what it does: `jitter 5ms` and `duplicate 1%` among the words of a link.
+"""What a link of dummynet doesn't do, and the host builds of what it does: `jitter 5ms` and `duplicate 1%` among the
+words of a link.
 
-A packet with jitter goes through a second pipe, of 0, 1 .. 5 ms, which is drawn for each; a duplicate is submitted twice."""
+A packet with jitter goes through a second pipe, of 0, 1 .. 5 ms, which is drawn for each; a duplicate is submitted
+twice."""
 
 from __future__ import annotations
 

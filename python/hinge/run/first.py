@@ -30,7 +30,8 @@ def live(run: Callable[[], int]) -> NoReturn:
 
 
 def status_of(first: int) -> int:
-    """Waits for the first process, and hands signals on. A ^C of the terminal came to the command too, and is its affair."""
+    """Waits for the first process, and hands signals on. A ^C of the terminal came to the command too, and is its
+    affair."""
     interrupted = False
     while True:
         came = signal.sigwaitinfo(BLOCKED)

@@ -20,15 +20,20 @@ POLL = 0.0005  # s between looks at the page
 
 
 def program() -> str:
-    """What the variable HINGE_LINK names, else the host beside this module, as it is installed, else that of the repository in which
-    this module lies: the one that tools/hosts has built, or the released one."""
+    """What the variable HINGE_LINK names, else the host beside this module, as it is installed, else that of the
+    repository in which this module lies: the one that tools/hosts has built, or the released one."""
     if sys.platform != "linux":
         raise Missing("the host is a program of Linux")
     repository = HERE.parents[2]
-    for place in (os.environ.get("HINGE_LINK"), HERE / NAME, repository / "built" / NAME, repository / "release" / NAME):
+    for place in (
+        os.environ.get("HINGE_LINK"), HERE / NAME, repository / "built" / NAME, repository / "release" / NAME
+    ):
         if place and os.access(place, os.X_OK):
             return str(place)
-    raise Missing(f"there is no host {NAME}: in a clone tools/hosts builds it, with a C compiler; the variable HINGE_LINK can name it")
+    raise Missing(
+        f"there is no host {NAME}: in a clone tools/hosts builds it, with a C compiler; the variable HINGE_LINK can"
+        " name it"
+    )
 
 
 def plan_file(text: str) -> int:
@@ -43,8 +48,10 @@ def plan_file(text: str) -> int:
 class Link:
     """The host, which runs from when this is made, and its page of counts."""
 
-    def __init__(self, processes: Processes, page: Page, words: Sequence[str], descriptors: Iterable[int], plan: str, mask: Mask,
-                 control: Optional[Control] = None) -> None:
+    def __init__(
+        self, processes: Processes, page: Page, words: Sequence[str], descriptors: Iterable[int], plan: str, mask: Mask,
+        control: Optional[Control] = None
+    ) -> None:
         self.processes, self.page, self.control = processes, page, control
         plan_read = plan_file(plan + control.line() if control else plan)
         passed = [*descriptors, page.descriptor, *([control.descriptor()] if control else [])]
@@ -61,8 +68,11 @@ class Link:
                 os._exit(127)
 
     def failed(self) -> Optional[int]:
-        """Waits until the link is ready; the status of a host that ended before, which has told why, or that of a signal that came."""
-        came = self.processes.poll(lambda: self.page.state() != STARTING or self.process in self.processes.ended, math.inf, POLL)
+        """Waits until the link is ready; the status of a host that ended before, which has told why, or that of a
+        signal that came."""
+        came = self.processes.poll(
+            lambda: self.page.state() != STARTING or self.process in self.processes.ended, math.inf, POLL
+        )
         return SIGNALLED + came if came else self.processes.ended.get(self.process)
 
     def end(self) -> None:

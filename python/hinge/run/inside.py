@@ -30,7 +30,9 @@ LISTEN_POLL, QUIET_POLL = 0.01, 0.02  # s
 
 
 class Inside:
-    def __init__(self, order: Order, server_wait: float, own_users: bool, outside: Optional[Outside], network: Optional[int]) -> None:
+    def __init__(
+        self, order: Order, server_wait: float, own_users: bool, outside: Optional[Outside], network: Optional[int]
+    ) -> None:
         """The command waits for its server at most so many seconds. `network` is one that is there already."""
         self.server_wait = server_wait
         self.order, self.outside, self.page = order, outside, Page()
@@ -40,12 +42,15 @@ class Inside:
         self.begun = time.monotonic()
 
     def started_server(self) -> tuple[Optional[int], Optional[int]]:
-        """The server's process, once something listens in its room, or its time is over; and a signal that came before."""
+        """The server's process, once something listens in its room, or its time is over; and a signal that came
+        before."""
         if not self.order.asked.server:
             return None, None
         server = self.rooms.start_server(self.order.asked.server, self.order.mask)
         enter(self.rooms.server)
-        came = self.processes.poll(lambda: something_listens() or server in self.processes.ended, self.server_wait, LISTEN_POLL)
+        came = self.processes.poll(
+            lambda: something_listens() or server in self.processes.ended, self.server_wait, LISTEN_POLL
+        )
         if came is None and server in self.processes.ended:
             say(f"the server ended with {name_of(self.processes.ended[server])} before it listened")
         elif came is None and not something_listens():
@@ -111,8 +116,13 @@ class Inside:
         server, came = self.started_server()
         if came:
             return SIGNALLED + came
-        control = self.order.control(self.page, lambda: record(self.page.read(), self.rooms.dropped(), None, self.order.seed, []), self.doors())
-        link = Link(self.processes, self.page, ["tun", *map(str, self.rooms.interfaces)], self.rooms.interfaces, self.order.plan, self.order.mask, control)
+        control = self.order.control(
+            self.page, lambda: record(self.page.read(), self.rooms.dropped(), None, self.order.seed, []), self.doors()
+        )
+        link = Link(
+            self.processes, self.page, ["tun", *map(str, self.rooms.interfaces)], self.rooms.interfaces,
+            self.order.plan, self.order.mask, control
+        )
         failed = link.failed()
         if failed is not None:
             return failed

@@ -23,21 +23,25 @@ FREEBIND = 78  # IPV6_FREEBIND
 ADVERTISEMENT, OVERRIDE = 136, 0x20000000  # ND_NEIGHBOR_ADVERT, ND_NA_FLAG_OVERRIDE
 REJECTS = 0x200  # RTF_REJECT, in /proc/net/ipv6_route
 MAIN_TABLE, BY_BOOT, UNICAST, GATEWAY = 254, 3, 1, 5  # RT_TABLE_MAIN, RTPROT_BOOT, RTN_UNICAST, RTA_GATEWAY
-DESTINATION, OUT_BY, PREFERRED, ROUTE_TABLE, LINK_SCOPE = 1, 4, 7, 15, 253  # RTA_DST, RTA_OIF, RTA_PREFSRC, RTA_TABLE, RT_SCOPE_LINK
+# RTA_DST, RTA_OIF, RTA_PREFSRC, RTA_TABLE, RT_SCOPE_LINK
+DESTINATION, OUT_BY, PREFERRED, ROUTE_TABLE, LINK_SCOPE = 1, 4, 7, 15, 253
 TUNSETIFF, TUN_WITH_NOTE = 0x400454CA, 0x5001  # IFF_TUN | IFF_NO_PI | IFF_VNET_HDR
 TUNSETOFFLOAD, LEFT_TO_A_CARD = 0x400454D0, 7  # TUN_F_CSUM | TUN_F_TSO4 | TUN_F_TSO6
 TUNSETPERSIST = 0x400454CB
 DROPPED_OUT = 11  # the column of /proc/net/dev
 LISTENS = (("tcp", "0A"), ("tcp6", "0A"), ("udp", "07"), ("udp6", "07"))  # in /proc/net, and the state there
 QUIET = (("accept_dad", "0"), ("accept_ra", "0"), ("router_solicitations", "0"))  # of IPv6
-OF_FAMILIES, INET_CONF, ADDRESS_MODE, NO_ADDRESS = 26, 1, 8, 1  # IFLA_AF_SPEC, IFLA_INET_CONF, IFLA_INET6_ADDR_GEN_MODE, IN6_ADDR_GEN_MODE_NONE
+# IFLA_AF_SPEC, IFLA_INET_CONF, IFLA_INET6_ADDR_GEN_MODE, IN6_ADDR_GEN_MODE_NONE
+OF_FAMILIES, INET_CONF, ADDRESS_MODE, NO_ADDRESS = 26, 1, 8, 1
 FORWARDING, PROXY_ARP = 1, 3  # IPV4_DEVCONF_FORWARDING, IPV4_DEVCONF_PROXY_ARP
 TUN_ADVICE = {errno.ENOENT: "in a container give it --device /dev/net/tun; elsewhere sudo modprobe tun",
               errno.EACCES: "let users open it, as most systems do: sudo chmod 666 /dev/net/tun"}
 
 
 def packed(attributes: Iterable[tuple[int, bytes]]) -> bytes:
-    return b"".join(struct.pack("HH", 4 + len(data), number) + data + bytes(-len(data) % 4) for number, data in attributes)
+    return b"".join(
+        struct.pack("HH", 4 + len(data), number) + data + bytes(-len(data) % 4) for number, data in attributes
+    )
 
 
 def ask(kind: int, body: bytes, attributes: Iterable[tuple[int, bytes]]) -> None:
@@ -64,8 +68,8 @@ def of_family(family: int, settings: bytes) -> list[tuple[int, bytes]]:
 
 
 def hand_on(name: str, does: bool = True) -> None:
-    """Lets an interface take packets of IPv4 for others, and be asked for their addresses, or not. It asks as /proc/sys would, which a
-    container may not let write."""
+    """Lets an interface take packets of IPv4 for others, and be asked for their addresses, or not. It asks as /proc/sys
+    would, which a container may not let write."""
     settings = packed([(FORWARDING, struct.pack("I", does)), (PROXY_ARP, struct.pack("I", does))])
     change(name, 0, 0, of_family(socket.AF_INET, packed([(INET_CONF, settings)])))
 
@@ -87,7 +91,10 @@ def family_and_bytes(text: str) -> tuple[int, bytes]:
 
 def add_address(name: str, text: str, bits: int) -> None:
     family, data = family_and_bytes(text)
-    ask(NEWADDR, struct.pack("BBBBi", family, bits, NODAD, 0, socket.if_nametoindex(name)), [(LOCAL, data), (ADDRESS, data)])
+    ask(
+        NEWADDR, struct.pack("BBBBi", family, bits, NODAD, 0, socket.if_nametoindex(name)),
+        [(LOCAL, data), (ADDRESS, data)]
+    )
 
 
 def add_route(gateway: str) -> None:
@@ -97,22 +104,34 @@ def add_route(gateway: str) -> None:
 
 
 def add_interface_route(text: str, name: str, source: str, bits: Optional[int] = None, table: int = MAIN_TABLE) -> None:
-    """The way to one address, or to all with so many bits of it, by an interface without a gateway, for packets that have the source where
-    they have no other."""
+    """The way to one address, or to all with so many bits of it, by an interface without a gateway, for packets that
+    have the source where they have no other."""
     family, data = family_and_bytes(text)
     index, bits = struct.pack("I", socket.if_nametoindex(name)), 8 * len(data) if bits is None else bits
-    ask(NEWROUTE, struct.pack("BBBBBBBBI", family, bits, 0, 0, 0, BY_BOOT, LINK_SCOPE if family == socket.AF_INET else 0, UNICAST, 0),
-        [(DESTINATION, data), (OUT_BY, index), (PREFERRED, family_and_bytes(source)[1]), (ROUTE_TABLE, struct.pack("I", table))])
+    ask(
+        NEWROUTE,
+        struct.pack(
+            "BBBBBBBBI", family, bits, 0, 0, 0, BY_BOOT, LINK_SCOPE if family == socket.AF_INET else 0, UNICAST, 0
+        ),
+        [
+            (DESTINATION, data), (OUT_BY, index), (PREFERRED, family_and_bytes(source)[1]),
+            (ROUTE_TABLE, struct.pack("I", table))
+        ],
+    )
 
 
 def announce(name: str, text: str) -> None:
-    """Tells those at an interface that an IPv6 address, which lies behind another one, is reached by it: a neighbour advertisement from there."""
+    """Tells those at an interface that an IPv6 address, which lies behind another one, is reached by it: a neighbour
+    advertisement from there."""
     index = socket.if_nametoindex(name)
     with socket.socket(socket.AF_INET6, socket.SOCK_RAW, socket.IPPROTO_ICMPV6) as teller:
         teller.setsockopt(socket.IPPROTO_IPV6, FREEBIND, 1)
         teller.setsockopt(socket.IPPROTO_IPV6, socket.IPV6_MULTICAST_HOPS, 255)
         teller.bind((text, 0))
-        teller.sendto(struct.pack("!BBHI", ADVERTISEMENT, 0, 0, OVERRIDE) + socket.inet_pton(socket.AF_INET6, text), ("ff02::1", 0, 0, index))
+        teller.sendto(
+            struct.pack("!BBHI", ADVERTISEMENT, 0, 0, OVERRIDE) + socket.inet_pton(socket.AF_INET6, text),
+            ("ff02::1", 0, 0, index),
+        )
 
 
 def leads_out_in_ipv6() -> bool:
@@ -125,8 +144,8 @@ def leads_out_in_ipv6() -> bool:
 
 
 def add_tun(address: str, address6: str, mtu: int, name: str = NAME, bits: int = 24, persists: bool = True) -> int:
-    """Makes an interface of this namespace, and returns its descriptor. It has no multicast, so the kernel says nothing by itself on it,
-    and packet 1 is the command's."""
+    """Makes an interface of this namespace, and returns its descriptor. It has no multicast, so the kernel says nothing
+    by itself on it, and packet 1 is the command's."""
     try:
         made = os.open("/dev/net/tun", os.O_RDWR | os.O_CLOEXEC)
     except OSError as error:
@@ -134,7 +153,8 @@ def add_tun(address: str, address6: str, mtu: int, name: str = NAME, bits: int =
         raise Missing(f"/dev/net/tun: {error.strerror}: {advice}") from None
     fcntl.ioctl(made, TUNSETIFF, struct.pack("16sH22x", name.encode(), TUN_WITH_NOTE))
     fcntl.ioctl(made, TUNSETOFFLOAD, LEFT_TO_A_CARD)
-    # One that persists goes with its namespace: the kernel takes all of one away at once, and each closed one by itself.
+    # One that persists goes with its namespace: the kernel takes all of one away at once, and each closed one by
+    # itself.
     fcntl.ioctl(made, TUNSETPERSIST, int(persists))
     be_silent(name)
     set_up(name, UP | MULTICAST, ((MTU, mtu), (QUEUE_LENGTH, QUEUE)))
@@ -147,7 +167,8 @@ def add_tun(address: str, address6: str, mtu: int, name: str = NAME, bits: int =
 
 
 def all_dropped() -> dict[str, int]:
-    """Packets that the system dropped on the way into the host, since its queue was full, by the interfaces of this namespace."""
+    """Packets that the system dropped on the way into the host, since its queue was full, by the interfaces of this
+    namespace."""
     with open("/proc/thread-self/net/dev") as file:
         rows = [line.partition(":") for line in list(file)[2:]]
     return {name.strip(): int(counts.split()[DROPPED_OUT]) for name, _, counts in rows}

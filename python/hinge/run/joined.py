@@ -1,8 +1,9 @@
-"""A link inside a network that is there already, as a container's: between its programs and its interface, in IPv4, by rules of routing.
+"""A link inside a network that is there already, as a container's: between its programs and its interface, in IPv4, by
+rules of routing.
 
-What its programs send goes into one interface and, behind the link, out of the other one to where it went before. What comes goes the other
-way. The interfaces go with the host of the link, however that ends, and their ways with them: then all goes by the rules that are left as it
-went before. Those are taken away at the end, or by the next run there."""
+What its programs send goes into one interface and, behind the link, out of the other one to where it went before. What
+comes goes the other way. The interfaces go with the host of the link, however that ends, and their ways with them: then
+all goes by the rules that are left as it went before. Those are taken away at the end, or by the next run there."""
 
 from __future__ import annotations
 
@@ -26,7 +27,8 @@ MAIN, LOCAL, OF_UP, OF_DOWN = 254, 255, 7701, 7702  # tables
 FIRST = 10  # the priority of the first rule; the others follow it
 SETTINGS = "/proc/sys/net/ipv4/"
 TAKES_ROOT = "--netns: only root may enter the network of another one: sudo hinge run --netns PID"
-# A packet comes by another interface than its answer goes, has an address of this network as its source, and isn't taken by a socket before
+# A packet comes by another interface than its answer goes, has an address of this network as its source, and isn't
+# taken by a socket before
 # it was on the link.
 OF_INTERFACES, OF_ALL = {"rp_filter": "0", "accept_local": "1"}, {"ip_early_demux": "0"}
 
@@ -104,11 +106,20 @@ class Joined(Rooms):
         try:
             enter(network)
         except OSError as error:
-            raise Missing(TAKES_ROOT if error.errno == errno.EPERM else f"--netns: {error.strerror}: it is no network") from None
+            raise Missing(
+                TAKES_ROOT if error.errno == errno.EPERM else f"--netns: {error.strerror}: it is no network"
+            ) from None
         self.out = way_out()
         without_rules(self.out.interface)
         self.interfaces = (add_tun(*ENDS[UP], mtu, UP, persists=False), add_tun(*ENDS[DOWN], mtu, DOWN, persists=False))
-        needed = {**{f"conf/{name}/{key}": value for name in ("all", self.out.interface, UP, DOWN) for key, value in OF_INTERFACES.items()}, **OF_ALL}
+        needed = {
+            **{
+                f"conf/{name}/{key}": value
+                for name in ("all", self.out.interface, UP, DOWN)
+                for key, value in OF_INTERFACES.items()
+            },
+            **OF_ALL,
+        }
         self.before = {name: setting(name) for name in needed}
         self.handed_on = setting(f"conf/{self.out.interface}/forwarding") == "1"
         for name, value in needed.items():

@@ -1,4 +1,5 @@
-"""Which packets are lost, where the loss rate of the link doesn't decide: by Gilbert's and Elliott's two states, or by a list."""
+"""Which packets are lost, where the loss rate of the link doesn't decide: by Gilbert's and Elliott's two states, or by
+a list."""
 
 from __future__ import annotations
 
@@ -11,7 +12,8 @@ MOST_LISTED = 10**6
 
 
 def gilbert(text: str) -> str:
-    """`P,R[,B[,G]]`: the chances to turn bad, to turn good, and to lose a packet in the bad state and in the good one."""
+    """`P,R[,B[,G]]`: the chances to turn bad, to turn good, and to lose a packet in the bad state and in the good
+    one."""
     to_bad, to_good, in_bad, in_good = (parts(rate) for rate in read_rates(text))
     return f"{to_bad} {to_good} {in_good} {in_bad}"
 
@@ -38,7 +40,8 @@ def remedy(text: str) -> str:
 
 
 def loss_lines(text: str, link: int = 0) -> dict[int, str]:
-    """The line of a plan for each way of a link that a model is for: `[up:|down:]gilbert:P,R[,B[,G]]` or `[up:|down:]list:N,N-M`."""
+    """The line of a plan for each way of a link that a model is for: `[up:|down:]gilbert:P,R[,B[,G]]` or
+    `[up:|down:]list:N,N-M`."""
     first, _, more = text.partition(":")
     ways, model = ([WAYS[first]], more) if first in WAYS else ([0, 1], text)
     kind, _, value = model.partition(":")

@@ -44,7 +44,10 @@ def order_of(asked: argparse.Namespace, longest: int, mask: Mask) -> Order:
     transcript = os.path.abspath(asked.transcript) if asked.transcript else None
     text = plan.text(seed, transcript, asked.realtime, asked.most, is_simulated())
     changes = [(change.moment, change.line) for change in plan.changes.all()]
-    return Order(asked, text, changes, limit_of(asked.late), seed, draws(plan), mask, duration(getattr(asked, "server_end", "0")) / 1e9, plan)
+    return Order(
+        asked, text, changes, limit_of(asked.late), seed, draws(plan), mask,
+        duration(getattr(asked, "server_end", "0")) / 1e9, plan
+    )
 
 
 def note_realtime(page: Page) -> None:
@@ -62,10 +65,16 @@ def report(order: Order, page: Page, drops: Sequence[int], status: int, server: 
         is_real = not getattr(asked, "simulated", False)
         for line in cautions(counts, drops, order.plan) if order.limit is None and is_real and status != 127 else ():
             say(line)
-    for line in [*(told(asked.transcript, counts["parts"]) if asked.transcript else []), *(f"void: {fault}" for fault in faults)]:
+    for line in [
+        *(told(asked.transcript, counts["parts"]) if asked.transcript else []),
+        *(f"void: {fault}" for fault in faults),
+    ]:
         say(line)
     if asked.json:
-        told_all = {**record(counts, drops, status, order.seed, faults), **({"server": server._asdict()} if server else {})}
+        told_all = {
+            **record(counts, drops, status, order.seed, faults),
+            **({"server": server._asdict()} if server else {}),
+        }
         status = status_with_json(asked.json, told_all, status)
     return VOID if faults else status
 

@@ -1,5 +1,5 @@
-"""The rest of the network behind a host, by pasta or slirp4netns: it stays in the system's network and joins the host's room to it.
-IPv6 is led out where the system has a way out in it."""
+"""The rest of the network behind a host, by pasta or slirp4netns: it stays in the system's network and joins the host's
+room to it. IPv6 is led out where the system has a way out in it."""
 
 from __future__ import annotations
 
@@ -45,18 +45,25 @@ def side_beside(network: str) -> Side:
 
 
 def words_for(process: str, own_users: bool, ipv6: bool, loopback: bool, outer: Side) -> list[str]:
-    """The command that joins the network of a process to this one's: slirp4netns where it is there, else pasta, which serves no root.
+    """The command that joins the network of a process to this one's: slirp4netns where it is there, else pasta, which
+    serves no root.
 
-    Both lead the gateway to the system's own loopback unless they are asked not to. What listens there takes its callers for this machine."""
+    Both lead the gateway to the system's own loopback unless they are asked not to. What listens there takes its
+    callers for this machine."""
     network, users = f"/proc/{process}/ns/net", f"/proc/{process}/ns/user"
     if shutil.which("slirp4netns"):
-        return ["slirp4netns", "--configure", "--mtu=1500", f"--cidr={outer.net}", *["--enable-ipv6"] * ipv6, "--netns-type=path",
-                *["--disable-host-loopback"] * (not loopback),
-                *[f"--userns-path={users}"] * own_users, network, INTERFACE]
+        return [
+            "slirp4netns", "--configure", "--mtu=1500", f"--cidr={outer.net}", *["--enable-ipv6"] * ipv6,
+            "--netns-type=path", *["--disable-host-loopback"] * (not loopback), *[f"--userns-path={users}"] * own_users,
+            network, INTERFACE
+        ]
     more = ["--address", OWN6, "--gateway", GATEWAY6] if ipv6 else ["--ipv4-only"]
-    return ["pasta", "--foreground", "--quiet", "--config-net", "--ns-ifname", INTERFACE, *more, "--mtu", "1500", "--address", outer.own, "--netmask", "24",
-            "--gateway", outer.gateway, "--dns-forward", outer.resolver, "-t", "none", "-u", "none", "-T", "none", "-U", "none",
-            *["--no-map-gw"] * (not loopback), "--userns", users, "--netns", network]
+    return [
+        "pasta", "--foreground", "--quiet", "--config-net", "--ns-ifname", INTERFACE, *more, "--mtu", "1500",
+        "--address", outer.own, "--netmask", "24", "--gateway", outer.gateway, "--dns-forward", outer.resolver, "-t",
+        "none", "-u", "none", "-T", "none", "-U", "none", *["--no-map-gw"] * (not loopback), "--userns", users,
+        "--netns", network
+    ]
 
 
 def unless_there(error: OSError) -> None:
@@ -72,7 +79,10 @@ class Outside:
         """`network` is that of the hosts."""
         self.loopback, self.outer = loopback, side_beside(network)
         if not shutil.which("slirp4netns") and (os.geteuid() == 0 or not shutil.which("pasta")):
-            raise Missing("--outside: slirp4netns isn't there, nor pasta, which serves users but root: sudo apt install slirp4netns")
+            raise Missing(
+                "--outside: slirp4netns isn't there, nor pasta, which serves users but root: sudo apt install"
+                " slirp4netns"
+            )
         self.ipv6 = leads_out_in_ipv6()
         self.said = os.memfd_create("said")  # what the joining program says: told where there is no way out
         read_end, self.write_end = os.pipe()
@@ -110,16 +120,20 @@ class Outside:
             return False
 
     def join(self, network: int, interfaces: Sequence[str], others: Sequence[str]) -> bool:
-        """In the first process: waits for the interface, and lets the room with this network hand packets on between it and these interfaces,
-        behind which others with these addresses of IPv6 are. Whether IPv6 leads out too."""
+        """In the first process: waits for the interface, and lets the room with this network hand packets on between it
+        and these interfaces, behind which others with these addresses of IPv6 are. Whether IPv6 leads out too."""
         enter(network)
         for name in ("accept_dad", "accept_ra"):
-            try_to_write(f"/proc/sys/net/ipv6/conf/default/{name}", "0")  # else it asks for a second whether its address is another's
+            # else it asks for a second whether its address is another's
+            try_to_write(f"/proc/sys/net/ipv6/conf/default/{name}", "0")
         os.write(self.write_end, b"!")
         until = time.monotonic() + PATIENCE
         while not self.joined():
             if time.monotonic() > until:
-                raise Missing(f"--outside: the host gets no way out: {os.pread(self.said, 1000, 0).decode(errors='replace').strip()}")
+                raise Missing(
+                    "--outside: the host gets no way out:"
+                    f" {os.pread(self.said, 1000, 0).decode(errors='replace').strip()}"
+                )
             time.sleep(0.01)
         for name in (*interfaces, INTERFACE) if interfaces else ():
             hand_on(name)
@@ -127,8 +141,8 @@ class Outside:
         return self.ipv6 and self.hands_on_ipv6(others)
 
     def hands_on_ipv6(self, others: Sequence[str]) -> bool:
-        """The same of the other family, where the system lets it be changed; whether it does. pasta has given the address and the way
-        out, and slirp4netns hasn't."""
+        """The same of the other family, where the system lets it be changed; whether it does. pasta has given the
+        address and the way out, and slirp4netns hasn't."""
         try:
             write("/proc/sys/net/ipv6/conf/all/forwarding", "1")
         except OSError:

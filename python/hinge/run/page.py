@@ -1,4 +1,5 @@
-"""The page of counts that the host writes while it runs: memory that both share, so that reading it costs the host nothing."""
+"""The page of counts that the host writes while it runs: memory that both share, so that reading it costs the host
+nothing."""
 
 from __future__ import annotations
 
@@ -8,8 +9,10 @@ import struct
 
 BINS = 480  # of times in us: 16 for each power of two; page.h has the same
 HEAD = ("state", "moment", "wakes", "turns", "underway", "realtime", "parts")
-COUNTS = ("came", "came_bytes", "sent", "sent_bytes", "lost", "full", "no_target", "refused", "not_ip", "turned_away", "dropped", "held", "discarded", "stayed",
-          "late_most", "unread_most")
+COUNTS = (
+    "came", "came_bytes", "sent", "sent_bytes", "lost", "full", "no_target", "refused", "not_ip", "turned_away",
+    "dropped", "held", "discarded", "stayed", "late_most", "unread_most"
+)
 WAY = len(COUNTS) + 2 * BINS
 STARTING, RUNNING, ENDED_WELL = range(3)  # the states
 NOT_ALLOWED = 2  # of `realtime`
@@ -38,7 +41,9 @@ class Way:
     def __init__(self, numbers: tuple[int, ...]) -> None:
         self.counts = dict(zip(COUNTS, numbers))
         bins = numbers[len(COUNTS):]
-        self.late, self.unread = Times(bins[:BINS], self.counts["late_most"]), Times(bins[BINS:], self.counts["unread_most"])
+        self.late, self.unread = Times(bins[:BINS], self.counts["late_most"]), Times(
+            bins[BINS:], self.counts["unread_most"]
+        )
 
     def __getitem__(self, name: str) -> int:
         return self.counts[name]

@@ -1,9 +1,12 @@
-"""What the host hinge-link shall do, from the words of the command line: a text with a line for each thing. Nothing here asks the
-system for more than files to read.
+"""What the host hinge-link shall do, from the words of the command line: a text with a line for each thing. Nothing
+here asks the system for more than files to read.
 
-    transcript BYTES FILE              where the calls and replies go, in parts of so many bytes where the link is ever idle
-    seed WAY N; gilbert WAY TO_BAD TO_GOOD LOST_IN_GOOD LOST_IN_BAD (of 2^31); list WAY N ..       which packets are lost
-    map WAY KIND NUMBER PROTO DSCP SRC MASK DST MASK SPORT SPORT DPORT DPORT     KIND 0 pipe, 1 queue; -1 any; addresses of IPv6 in hex
+    transcript BYTES FILE              where the calls and replies go, in parts of so many bytes where the link is ever
+                                       idle
+    seed WAY N; gilbert WAY TO_BAD TO_GOOD LOST_IN_GOOD LOST_IN_BAD (of 2^31); list WAY N ..
+                                       which packets are lost
+    map WAY KIND NUMBER PROTO DSCP SRC MASK DST MASK SPORT SPORT DPORT DPORT
+                                       KIND 0 pipe, 1 queue; -1 any; addresses of IPv6 in hex
     line LINE                          a configuration line, before the first packet
     at NS LINE                         one at a moment
     outage NS PIPE LENGTH              where nothing waits for a pipe, a packet of so many bytes that nobody sent
@@ -12,14 +15,17 @@ system for more than files to read.
     realtime                           before all other programs, where the system allows
     simulated                          time passes only while all wait: behind `realtime` the clock is read once a turn
 
-    jitter WAY FIRST COUNT SEED        what has left its pipe goes through one of so many pipes from FIRST on, drawn by the seed
+    jitter WAY FIRST COUNT SEED        what has left its pipe goes through one of so many pipes from FIRST on, drawn by
+                                       the seed
     copies WAY CHANCE SEED             the chance of 2^31 that a packet enters twice
     control DESCRIPTOR                 a socket from which lines come while packets pass (control.h)
-    epoch NS                           the time of the monotonic clock at which moments begin; else the beginning of the host
-    remark WORDS; contents             a remark in the transcript; by what each packet is known again on another link, as remarks
+    epoch NS                           the time of the monotonic clock at which moments begin; else the beginning of the
+                                       host
+    remark WORDS; contents             a remark in the transcript; by what each packet is known again on another link,
+                                       as remarks
 
-WAY 0 is up, from the client through pipe 1; WAY 1 is down, from the server through pipe 2. A second link has ways 2 and 3 and pipes 3
-and 4, and so on. What a link is given names its own pipes 1 and 2."""
+WAY 0 is up, from the client through pipe 1; WAY 1 is down, from the server through pipe 2. A second link has ways 2
+and 3 and pipes 3 and 4, and so on. What a link is given names its own pipes 1 and 2."""
 
 from __future__ import annotations
 
@@ -31,7 +37,10 @@ from hinge.run.losses import loss_lines
 from hinge.run.rules import Rule
 from hinge.run.spelling import spelled
 from hinge.run.traces import MAHIMAHI_BYTES, MOST_BINS, MS, Rate, counted, read_trace
-from hinge.run.words import LAST_MOMENT, WAYS, Target, Wrong, bare, configures, duration, link_line, of_link, read_lines, target_of, with_bandwidth
+from hinge.run.words import (
+    LAST_MOMENT, WAYS, Target, Wrong, bare, configures, duration, link_line, of_link, read_lines, target_of,
+    with_bandwidth
+)
 
 TRACE_BIN = 100 * 10**6  # ns
 LAST_PIPE = 65535
@@ -92,7 +101,9 @@ class Plan:
             raise Wrong(f"--map {text}: {rule.target.kind} {rule.target.number} isn't configured")
         way = self.way_of(rule.target) if rule.way is None else 2 * link + rule.way
         if way is None:
-            raise Wrong(f"--map {text}: say `up` or `down`, since {rule.target.kind} {rule.target.number} isn't of pipe 1 or 2")
+            raise Wrong(
+                f"--map {text}: say `up` or `down`, since {rule.target.kind} {rule.target.number} isn't of pipe 1 or 2"
+            )
         self.rest += rule.lines(way)
 
     def loss(self, text: str, link: int = 0) -> None:
@@ -136,8 +147,8 @@ class Plan:
                 raise Wrong(f"{path} line {number}: {wrong}") from None
 
     def trace(self, way: int, path: str, bin_ns: Optional[int], lasting: int) -> None:
-        """The bandwidth of a way by a file. mahimahi's moments are obeyed each, where no bin is given and the pipe is one queue; else they
-        are counted over bins, which begin anew for so many ns."""
+        """The bandwidth of a way by a file. mahimahi's moments are obeyed each, where no bin is given and the pipe is
+        one queue; else they are counted over bins, which begin anew for so many ns."""
         line = self.current.get(Target("pipe", way + 1))
         if line is None:
             raise Wrong(f"{path}: pipe {way + 1} isn't configured")
@@ -145,14 +156,19 @@ class Plan:
         if found.moments and bin_ns is None and way + 1 not in self.changes.shared():
             self.rest.append(f"slots {way + 1} {' '.join(map(str, found.moments))}")
         elif found.moments:
-            self.bins(line, path, found.moments, min(TRACE_BIN, found.moments[-1] * MS) if bin_ns is None else bin_ns, lasting)
+            self.bins(
+                line, path, found.moments, min(TRACE_BIN, found.moments[-1] * MS) if bin_ns is None else bin_ns, lasting
+            )
         else:
             self.rates(way, line, found.rates)
 
     def bins(self, line: str, path: str, moments: list[int], bin_ns: int, lasting: int) -> None:
         rates, period = counted(path, moments, bin_ns, self.longest), moments[-1] * MS
         if len(rates) > 1 and len(rates) * (lasting // period) > MOST_BINS:
-            raise Wrong(f"{path}: it has {len(rates)} rates and would begin {lasting // period} times; take a longer --bin, or a shorter --trace-for")
+            raise Wrong(
+                f"{path}: it has {len(rates)} rates and would begin {lasting // period} times; take a longer --bin, or"
+                " a shorter --trace-for"
+            )
         for base in range(0, lasting, period) if len(rates) > 1 else [0]:
             self.changes.lines += [Change(base + moment, with_bandwidth(line, rate)) for moment, rate in rates]
 
@@ -164,12 +180,19 @@ class Plan:
             elif end > moment:
                 self.changes.outages.append(Outage(moment, end - moment, way + 1, False))
 
-    def text(self, seed: int, transcript: Optional[str] = None, realtime: bool = False, most: int = MOST, simulated: bool = False) -> str:
+    def text(
+        self, seed: int, transcript: Optional[str] = None, realtime: bool = False, most: int = MOST,
+        simulated: bool = False
+    ) -> str:
         out = [f"transcript {most} {transcript}"] if transcript else []
         out += [f"seed {way} {seed}" for way in range(self.ways)] + self.rest + self.extra_lines(seed)
         out += [f"hold {pipe} {begin} {end}" for pipe, begin, end in self.changes.holds()]
         out += [f"line {spelled(self.lossy(line))}" for line in self.configured]
         for change in self.changes.all():
             kind, _, rest = change.line.partition(" ")
-            out.append(f"outage {change.moment} {rest}" if kind == "outage" else f"at {change.moment} {spelled(self.lossy(change.line))}")
+            out.append(
+                f"outage {change.moment} {rest}"
+                if kind == "outage"
+                else f"at {change.moment} {spelled(self.lossy(change.line))}"
+            )
         return "\n".join([*out, *["realtime"] * realtime, *["simulated"] * simulated, ""])

@@ -69,12 +69,17 @@ class Processes:
                 process, status = os.waitpid(-1, os.WNOHANG)
                 if not process:
                     return
-                self.ended[process] = os.WEXITSTATUS(status) if os.WIFEXITED(status) else SIGNALLED + os.WTERMSIG(status)
+                self.ended[process] = (
+                    os.WEXITSTATUS(status) if os.WIFEXITED(status) else SIGNALLED + os.WTERMSIG(status)
+                )
                 self.ended_at[process] = time.monotonic()
         except ChildProcessError:
             pass
 
-    def wait(self, process: int, lasting: Optional[float] = None, ticker: Optional[Ticker] = None, needed: Optional[int] = None) -> Optional[int]:
+    def wait(
+        self, process: int, lasting: Optional[float] = None, ticker: Optional[Ticker] = None,
+        needed: Optional[int] = None
+    ) -> Optional[int]:
         """Waits until a process has ended, or one that it needs, or so many seconds; a signal that came before."""
         until = None if lasting is None else time.monotonic() + lasting
         self.reap()
@@ -103,8 +108,8 @@ class Processes:
         return None
 
     def end_all(self, processes: list[int], patience: float) -> set[int]:
-        """Has processes end with their groups, where they have some of their own, and kills those that are there after so many seconds;
-        which these are."""
+        """Has processes end with their groups, where they have some of their own, and kills those that are there after
+        so many seconds; which these are."""
         self.reap()
         left = [process for process in processes if process not in self.ended]
         for process in left:
@@ -118,14 +123,19 @@ class Processes:
         return killed
 
     def endings(self, started: dict[str, int], begun: float, patience: float) -> dict[str, Ended]:
-        """How commands ended, which are all ended now: those by names and processes that didn't end by themselves. `begun` is when they began,
-        by the monotonic clock."""
+        """How commands ended, which are all ended now: those by names and processes that didn't end by themselves.
+        `begun` is when they began, by the monotonic clock."""
         self.reap()
         themselves = {name for name, process in started.items() if process in self.ended}
         killed = self.end_all([process for name, process in started.items() if name not in themselves], patience)
-        return {name: Ended(self.ended.get(process, SIGNALLED + signal.SIGKILL), round(self.ended_at.get(process, time.monotonic()) - begun, 3),
-                            "itself" if name in themselves else "SIGKILL" if process in killed else "SIGTERM")
-                for name, process in started.items()}
+        return {
+            name: Ended(
+                self.ended.get(process, SIGNALLED + signal.SIGKILL),
+                round(self.ended_at.get(process, time.monotonic()) - begun, 3),
+                "itself" if name in themselves else "SIGKILL" if process in killed else "SIGTERM"
+            )
+            for name, process in started.items()
+        }
 
     def is_there(self, process: int) -> bool:
         """Whether a process or one of its group is there."""

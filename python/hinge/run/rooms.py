@@ -1,7 +1,9 @@
-"""Two rooms, which are network namespaces: the client's and the server's, joined by nothing but the host between two tun interfaces.
+"""Two rooms, which are network namespaces: the client's and the server's, joined by nothing but the host between two
+tun interfaces.
 
-All of it hangs on one process, the first of a namespace of processes: when that ends, by itself or because `hinge run` was killed,
-the kernel ends everything in the rooms and takes the rooms away. No root is needed where users may make namespaces. Linux alone.
+All of it hangs on one process, the first of a namespace of processes: when that ends, by itself or because `hinge run`
+was killed, the kernel ends everything in the rooms and takes the rooms away. No root is needed where users may make
+namespaces. Linux alone.
 """
 
 from __future__ import annotations
@@ -17,8 +19,10 @@ from hinge.command import say
 from hinge.run.ends import Ends
 from hinge.run.interfaces import add_route, add_tun, dropped, set_up
 from hinge.run.processes import Mask
-from hinge.run.system import (BIND, NEWNET, NEWNS, NEWPID, NEWUSER, Missing, enter, keep_mounts_to_itself, keep_network_rights, mount, setting, try_to_write,
-                              unmount, unshare, write)
+from hinge.run.system import (
+    BIND, NEWNET, NEWNS, NEWPID, NEWUSER, Missing, enter, keep_mounts_to_itself, keep_network_rights, mount, setting,
+    try_to_write, unmount, unshare, write
+)
 from hinge.run.users import Users, make_terminals
 
 CANNOT_EXECUTE, NOT_FOUND = 126, 127
@@ -38,13 +42,18 @@ def advice(number: Optional[int]) -> str:
     if number == errno.EPERM and is_chrooted():
         return "in a chroot the kernel gives them to root alone: run it as root"
     if setting("kernel/apparmor_restrict_unprivileged_userns") == "1":
-        return "AppArmor keeps users from it: sudo sysctl kernel.apparmor_restrict_unprivileged_userns=0, or run it as root"
+        return (
+            "AppArmor keeps users from it: sudo sysctl kernel.apparmor_restrict_unprivileged_userns=0, or run it as"
+            " root"
+        )
     if setting("kernel/unprivileged_userns_clone") == "0":
         return "users may not make them: sudo sysctl kernel.unprivileged_userns_clone=1, or run it as root"
     if setting("user/max_user_namespaces") == "0" or number == errno.ENOSPC:
         return "their number is limited: sudo sysctl user.max_user_namespaces=10000"
-    return ("in a container, give it --device /dev/net/tun and --security-opt seccomp=unconfined --security-opt apparmor=unconfined, "
-            "or --cap-add SYS_ADMIN --cap-add NET_ADMIN; elsewhere run it as root")
+    return (
+        "in a container, give it --device /dev/net/tun and --security-opt seccomp=unconfined --security-opt"
+        " apparmor=unconfined, or --cap-add SYS_ADMIN --cap-add NET_ADMIN; elsewhere run it as root"
+    )
 
 
 def unshared() -> bool:
@@ -71,7 +80,10 @@ def leave_the_system() -> bool:
     try:
         keep_mounts_to_itself()
     except OSError as error:
-        raise Missing(f"{error.filename or 'mounts'}: {error.strerror}: in a chroot mount /proc there first: mount -t proc proc /proc") from None
+        raise Missing(
+            f"{error.filename or 'mounts'}: {error.strerror}: in a chroot mount /proc there first: mount -t proc proc"
+            " /proc"
+        ) from None
     return own
 
 
@@ -96,8 +108,8 @@ def furnish() -> int:
 
 
 def put_over(path: str, text: str) -> None:
-    """Puts a text in the place of a file, in these namespaces alone. Its file system is in no folder, so that nothing outlives the
-    run; and its file has a name there, so that a run inside this one can do the same."""
+    """Puts a text in the place of a file, in these namespaces alone. Its file system is in no folder, so that nothing
+    outlives the run; and its file has a name there, so that a run inside this one can do the same."""
     folder = gettempdir()
     made = os.path.join(folder, "made")
     mount("none", folder, "tmpfs", 0)
@@ -110,7 +122,8 @@ def put_over(path: str, text: str) -> None:
 
 
 def add_names(names: str, example: str, address: str) -> None:
-    """Lets hosts be found by name, in these namespaces alone: `names` has lines of /etc/hosts, one of them for the example."""
+    """Lets hosts be found by name, in these namespaces alone: `names` has lines of /etc/hosts, one of them for the
+    example."""
     try:
         with open("/etc/hosts") as file:
             all_names = names + file.read()
@@ -124,8 +137,8 @@ def add_names(names: str, example: str, address: str) -> None:
 
 
 def start(words: Sequence[str], mask: Mask, enter_room: Callable[[], None], own_users: bool) -> int:
-    """Starts a command in the room that `enter_room` enters, and returns its process. The command has what signals `mask` blocks, and no
-    others."""
+    """Starts a command in the room that `enter_room` enters, and returns its process. The command has what signals
+    `mask` blocks, and no others."""
     process = os.fork()
     if process:
         return process
@@ -177,7 +190,8 @@ class Rooms:
         return start(words, mask, lambda: enter(room), self.own_users)
 
     def start_server(self, command: str, mask: Mask) -> int:
-        """Starts a command of the shell in the server's room, in a process group of its own, which a terminal doesn't let read."""
+        """Starts a command of the shell in the server's room, in a process group of its own, which a terminal doesn't
+        let read."""
         def enter_room() -> None:
             os.setpgid(0, 0)
             if os.isatty(0):

@@ -70,6 +70,14 @@ class Rule:
 
     def lines(self, way: int) -> list[str]:
         """The lines of a plan that say the same of a way."""
-        head, dscp = f"map {way} {int(self.target.kind == 'queue')} {self.target.number}", -1 if self.short.dscp is None else self.short.dscp
-        return [f"{head} {protocol} {dscp} {net_words(src)} {net_words(dst)} {sport.low} {sport.high} {dport.low} {dport.high}"
-                for protocol, (src, dst), (sport, dport) in product(self.short.protocols or (-1,), self.nets(), self.spans())]
+        head, dscp = (
+            f"map {way} {int(self.target.kind == 'queue')} {self.target.number}",
+            -1 if self.short.dscp is None else self.short.dscp,
+        )
+        return [
+            f"{head} {protocol} {dscp} {net_words(src)} {net_words(dst)} "
+            f"{sport.low} {sport.high} {dport.low} {dport.high}"
+            for protocol, (src, dst), (sport, dport) in product(
+                self.short.protocols or (-1,), self.nets(), self.spans()
+            )
+        ]

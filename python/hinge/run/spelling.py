@@ -1,4 +1,5 @@
-"""Configuration lines in the program's spelling, so that a transcript is like that of `dummynet live` and readable by the kit."""
+"""Configuration lines in the program's spelling, so that a transcript is like that of `dummynet live` and readable by
+the kit."""
 
 from __future__ import annotations
 
@@ -47,4 +48,9 @@ def spelled(line: str) -> str:
     words = words[1:] if words[:1] == ["ipfw"] else words
     if words[2:] == ["delete"]:
         return f"{words[0]} delete {words[1]}"
-    return " ".join([*words[:3], *(VALUES[before](word) if before in VALUES else word for before, word in zip(words[2:], words[3:]))])
+    return " ".join(
+        [
+            *words[:3],
+            *(VALUES[before](word) if before in VALUES else word for before, word in zip(words[2:], words[3:])),
+        ]
+    )

@@ -16,7 +16,11 @@ Record = dict[str, Union[int, float]]
 
 def times(way: Way) -> dict[str, float]:
     """How late packets left and how long they can have been unread, in ms."""
-    return {f"{name}_{label}_ms": kind.within(share) for name, kind in (("late", way.late), ("unread", way.unread)) for label, share in SHARES}
+    return {
+        f"{name}_{label}_ms": kind.within(share)
+        for name, kind in (("late", way.late), ("unread", way.unread))
+        for label, share in SHARES
+    }
 
 
 def judged(name: str, way: Way, drops: int, limit: float) -> Iterator[str]:
@@ -44,26 +48,45 @@ SECOND_PASS = re.compile(r"^jitter \d+ (\d+)", re.MULTILINE)
 
 
 def cautions(counts: Counts, drops: Sequence[int], plan: str) -> list[str]:
-    """What is told of a run that nothing judges, if the host was late by more than a part of the least delay of the plan's links."""
+    """What is told of a run that nothing judges, if the host was late by more than a part of the least delay of the
+    plan's links."""
     second = min(map(int, SECOND_PASS.findall(plan)), default=MOST_PIPE + 1)
     delays = [int(delay) for pipe, delay in DELAY.findall(plan) if int(delay) and int(pipe or 0) < second]
     limit = min(delays) / PART_OF_DELAY if delays else WITHOUT_DELAY
-    found = [line for name, way, dropped in zip(NAMES, counts.ways, drops) for line in judged(name, way, dropped, limit)]
-    return [f"CAUTION, this machine was too busy: {line}" for line in found] + [f"--late {limit:g}ms makes such a run void"] * bool(found)
+    found = [
+        line for name, way, dropped in zip(NAMES, counts.ways, drops) for line in judged(name, way, dropped, limit)
+    ]
+    return [f"CAUTION, this machine was too busy: {line}" for line in found] + [
+        f"--late {limit:g}ms makes such a run void"
+    ] * bool(found)
 
 
-SELDOM = (("discarded", "discarded"), ("no_target", "had no pipe"), ("not_ip", "not IP"), ("turned_away", "turned away"))
+SELDOM = (
+    ("discarded", "discarded"), ("no_target", "had no pipe"), ("not_ip", "not IP"), ("turned_away", "turned away")
+)
 
 
 def direction(name: str, way: Way, drops: int) -> list[str]:
     """What became of the packets of a direction, and how good the host was to them."""
     if not way["came"]:
-        return [f"{name}: nothing came"] + [f"{name}: system drops {drops} before, {way['refused']} behind"] * bool(drops)
+        return [f"{name}: nothing came"] + [f"{name}: system drops {drops} before, {way['refused']} behind"] * bool(
+            drops
+        )
     told = times(way)
     seldom = "".join(f", {way[key]} {words}" for key, words in SELDOM if way[key])
-    late, unread = ("{} p99 {:.3f} p99.9 {:.3f} max {:.3f} ms".format(kind, *(told[f"{kind}_{label}_ms"] for label in ("p99", "p99.9", "max"))) for kind in ("late", "unread"))
-    return [f"{name}: {way['came']} came, {way['sent']} delivered, {way['lost']} lost, {way['full']} met a full queue, {way.underway} under way{seldom}",
-            f"{name}: {late}, {unread}, system drops {drops} before, {way['refused']} behind"]
+    late, unread = (
+        "{} p99 {:.3f} p99.9 {:.3f} max {:.3f} ms".format(
+            kind, *(told[f"{kind}_{label}_ms"] for label in ("p99", "p99.9", "max"))
+        )
+        for kind in ("late", "unread")
+    )
+    return [
+        (
+            f"{name}: {way['came']} came, {way['sent']} delivered, {way['lost']} lost, {way['full']} met a full queue,"
+            f" {way.underway} under way{seldom}"
+        ),
+        f"{name}: {late}, {unread}, system drops {drops} before, {way['refused']} behind",
+    ]
 
 
 def lines(counts: Counts, drops: Sequence[int]) -> list[str]:
@@ -71,11 +94,18 @@ def lines(counts: Counts, drops: Sequence[int]) -> list[str]:
 
 
 def way_record(way: Way, dropped: int) -> Record:
-    return {**{key: way[key] for key in COUNTS if not key.endswith("_most")}, **times(way), "underway": way.underway, "system_drops": dropped}
+    return {
+        **{key: way[key] for key in COUNTS if not key.endswith("_most")}, **times(way), "underway": way.underway,
+        "system_drops": dropped
+    }
 
 
-def record(counts: Counts, drops: Sequence[int], status: Optional[int], seed: int, faults: list[str]) -> dict[str, object]:
+def record(
+    counts: Counts, drops: Sequence[int], status: Optional[int], seed: int, faults: list[str]
+) -> dict[str, object]:
     """The same, as JSON takes it."""
     ways = [way_record(way, dropped) for way, dropped in zip(counts.ways, drops)]
-    return {"format": FORMAT, "status": status, "seed": seed, "void": faults, "moment": counts["moment"], "wakeups": counts["wakes"],
-            "turns": counts["turns"], "up": ways[0], "down": ways[1]}
+    return {
+        "format": FORMAT, "status": status, "seed": seed, "void": faults, "moment": counts["moment"],
+        "wakeups": counts["wakes"], "turns": counts["turns"], "up": ways[0], "down": ways[1]
+    }

@@ -1,4 +1,5 @@
-"""The calls of Linux that Python's standard library lacks before 3.12: namespaces, mounts, and the rights that a command keeps."""
+"""The calls of Linux that Python's standard library lacks before 3.12: namespaces, mounts, and the rights that a
+command keeps."""
 
 from __future__ import annotations
 
@@ -51,7 +52,11 @@ def enter(network: int) -> None:
 
 def mount(source: str, target: str, kind: str, flags: int, more: Optional[str] = None) -> None:
     """`more` are the options of its kind."""
-    must(libc.mount(source.encode(), target.encode(), kind.encode(), ctypes.c_ulong(flags), more.encode() if more else None))
+    must(
+        libc.mount(
+            source.encode(), target.encode(), kind.encode(), ctypes.c_ulong(flags), more.encode() if more else None
+        )
+    )
 
 
 def unmount(target: str) -> None:
@@ -60,14 +65,16 @@ def unmount(target: str) -> None:
 
 
 def keep_mounts_to_itself() -> None:
-    """Keeps what is mounted in this mount namespace out of all others. The kernel takes such a wish at the root of a file system alone,
-    which that of a chroot isn't, so it is made from the namespace's own root."""
+    """Keeps what is mounted in this mount namespace out of all others. The kernel takes such a wish at the root of a
+    file system alone, which that of a chroot isn't, so it is made from the namespace's own root."""
     try:
         mount("none", "/", "none", REC | PRIVATE)
     except OSError as error:
         if error.errno != errno.EINVAL:
             raise
-        root, place, own = (os.open(name, os.O_RDONLY | os.O_CLOEXEC) for name in ("/", ".", "/proc/thread-self/ns/mnt"))
+        root, place, own = (
+            os.open(name, os.O_RDONLY | os.O_CLOEXEC) for name in ("/", ".", "/proc/thread-self/ns/mnt")
+        )
         must(libc.setns(own, NEWNS))
         mount("none", "/", "none", REC | PRIVATE)
         os.fchdir(root)
@@ -80,7 +87,8 @@ def die_with_parent() -> None:
 
 
 def keep_network_rights() -> None:
-    """Lets what this process executes use raw sockets, ports below 1024 and the interfaces of its namespace, though it isn't root."""
+    """Lets what this process executes use raw sockets, ports below 1024 and the interfaces of its namespace, though it
+    isn't root."""
     rights = (BIND_SERVICE, NET_ADMIN, NET_RAW)
     kept = sum(1 << right for right in rights)
     libc.syscall(CAPSET, struct.pack("Ii", CAPABILITY_VERSION, 0), struct.pack("6I", kept, kept, kept, 0, 0, 0))

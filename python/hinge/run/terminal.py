@@ -20,7 +20,11 @@ class Terminal:
         self.size = os.get_terminal_size(2)
         if curses.tigetstr("csr") is None or self.size.lines < LEAST_LINES or self.size.columns < LEAST_COLUMNS:
             raise curses.error
-        self.write("\n" * self.height + self.code("csr", 0, self.size.lines - self.height - 1) + self.code("cup", self.size.lines - self.height - 1, 0))
+        self.write(
+            "\n" * self.height
+            + self.code("csr", 0, self.size.lines - self.height - 1)
+            + self.code("cup", self.size.lines - self.height - 1, 0)
+        )
 
     @staticmethod
     def code(name: str, *numbers: int) -> str:
@@ -32,12 +36,21 @@ class Terminal:
         sys.stderr.flush()
 
     def show(self, lines: list[str]) -> None:
-        rows = "".join(self.code("cup", self.size.lines - self.height + row, 0) + line[:self.size.columns] + self.code("el") for row, line in enumerate(lines))
+        rows = "".join(
+            self.code("cup", self.size.lines - self.height + row, 0) + line[: self.size.columns] + self.code("el")
+            for row, line in enumerate(lines)
+        )
         self.write(self.code("sc") + rows + self.code("rc"))
 
     def end(self) -> None:
         """Gives the whole terminal back."""
-        self.write(self.code("sc") + self.code("csr", 0, self.size.lines - 1) + self.code("cup", self.size.lines - self.height, 0) + self.code("ed") + self.code("rc"))
+        self.write(
+            self.code("sc")
+            + self.code("csr", 0, self.size.lines - 1)
+            + self.code("cup", self.size.lines - self.height, 0)
+            + self.code("ed")
+            + self.code("rc")
+        )
 
 
 def opened(height: int) -> Optional[Terminal]:

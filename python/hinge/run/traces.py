@@ -27,8 +27,8 @@ class Trace(NamedTuple):
 
 
 def outage_rate(length: int, longest: int) -> int:
-    """The rate at which the longest packet takes an outage's length, in ns: a packet keeps the rate at which it began, so with a lower
-    one the first packet of the outage would go on behind its end."""
+    """The rate at which the longest packet takes an outage's length, in ns: a packet keeps the rate at which it began,
+    so with a lower one the first packet of the outage would go on behind its end."""
     return max(1, longest * 8 * SECOND // max(1, length))
 
 
@@ -83,8 +83,8 @@ def read_moments(path: str, rows: list[tuple[int, list[str]]]) -> list[int]:
 
 
 def counted(path: str, moments: list[int], bin_ns: int, longest: int) -> list[Rate]:
-    """The rate of each bin of moments, those of equal bins as one; the last bin ends with the period. A bin without a moment lets the
-    longest packet leave in as long as there is none."""
+    """The rate of each bin of moments, those of equal bins as one; the last bin ends with the period. A bin without a
+    moment lets the longest packet leave in as long as there is none."""
     period = moments[-1] * MS
     if bin_ns > period:
         raise Wrong(f"{path}: the bin is longer than the trace, which begins anew after {moments[-1]} ms")
@@ -99,7 +99,11 @@ def counted(path: str, moments: list[int], bin_ns: int, longest: int) -> list[Ra
         while end < len(counts) - 1 and counts[end] == counts[at] and at < len(counts) - 1:
             end += 1
         length = min(end * bin_ns, period) - at * bin_ns
-        rate = counts[at] * (end - at) * MAHIMAHI_BYTES * 8 * SECOND // length if counts[at] else outage_rate(length, longest)
+        rate = (
+            counts[at] * (end - at) * MAHIMAHI_BYTES * 8 * SECOND // length
+            if counts[at]
+            else outage_rate(length, longest)
+        )
         found.append(Rate(at * bin_ns, rate))
         at = end
     return found

@@ -1,5 +1,5 @@
-"""The users of the rooms: this process's own, and subordinate ones if the system gives it some (subuid(5)), so that a server finds groups
-there that it gives files to, as that of terminals."""
+"""The users of the rooms: this process's own, and subordinate ones if the system gives it some (subuid(5)), so that a
+server finds groups there that it gives files to, as that of terminals."""
 
 from __future__ import annotations
 
@@ -40,17 +40,25 @@ def subordinate(path: str, user: int) -> Optional[Subordinate]:
 def mapping(own: int, given: Subordinate) -> list[str]:
     """The words of newuidmap: an id is itself, and the others from 0 on are subordinate ones."""
     below = min(own, given.length)
-    parts = [(0, given.first, below), (own, own, 1), (own + 1, given.first + below, given.length - below if own < given.length else 0)]
+    parts = [
+        (0, given.first, below), (own, own, 1),
+        (own + 1, given.first + below, given.length - below if own < given.length else 0)
+    ]
     return [str(number) for part in parts if part[2] for number in part]
 
 
 class Users:
-    """Made before the process leaves the users of the system: a child stays there, and maps those of the new namespace when it is told."""
+    """Made before the process leaves the users of the system: a child stays there, and maps those of the new namespace
+    when it is told."""
 
     def __init__(self) -> None:
         self.child, self.own = 0, {"uid": os.geteuid(), "gid": os.getegid()}
         given = {kind: subordinate(path, os.geteuid()) for kind, path in FILES.items()}
-        words = {kind: [PROGRAMS[kind], str(os.getpid()), *mapping(self.own[kind], found)] for kind, found in given.items() if found}
+        words = {
+            kind: [PROGRAMS[kind], str(os.getpid()), *mapping(self.own[kind], found)]
+            for kind, found in given.items()
+            if found
+        }
         if len(words) < len(FILES) or not all(map(shutil.which, PROGRAMS.values())):
             return
         read_end, self.write_end = os.pipe()
@@ -58,7 +66,11 @@ class Users:
         if self.child == 0:
             os.close(self.write_end)
             os.dup2(os.open(os.devnull, os.O_WRONLY), 2)  # where it refuses, the user is alone there
-            os._exit(0 if os.read(read_end, 1) and all(os.spawnvp(os.P_WAIT, said[0], said) == 0 for said in words.values()) else 1)
+            os._exit(
+                0
+                if os.read(read_end, 1) and all(os.spawnvp(os.P_WAIT, said[0], said) == 0 for said in words.values())
+                else 1
+            )
         os.close(read_end)
 
     def map(self, is_new: bool) -> None:
@@ -84,8 +96,8 @@ class Users:
 
 
 def make_terminals() -> None:
-    """Gives this process terminals of its own, which the group of terminals has, as a login wants it. Where that isn't allowed it has the
-    system's."""
+    """Gives this process terminals of its own, which the group of terminals has, as a login wants it. Where that isn't
+    allowed it has the system's."""
     try:
         group = grp.getgrnam("tty").gr_gid
         unshare(NEWNS)

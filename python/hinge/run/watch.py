@@ -85,12 +85,17 @@ class Watch:
 
     def lines(self, at: float, counts: Counts, columns: int) -> list[str]:
         """The lines of the graphs, both directions beside each other."""
-        following = next((f", at {moment / 1e9:.1f} s: {line}" for moment, line in self.changes if moment > counts["moment"]), "")
+        following = next(
+            (f", at {moment / 1e9:.1f} s: {line}" for moment, line in self.changes if moment > counts["moment"]), ""
+        )
         half = columns // 2 - 1
         room = half - LABEL - VALUE - 1
         rows = [f"{at:.0f} s{following} ".ljust(columns, "─"), "  ".join(f"{name:<{half}}" for name in NAMES)]
         for label, of, form in ROWS:
-            halves = (f"{label:<{LABEL}}{graph([of(one) for one in seconds], room)} {form.format(of(seconds[-1])):<{VALUE}}" for seconds in self.seconds)
+            halves = (
+                f"{label:<{LABEL}}{graph([of(one) for one in seconds], room)} {form.format(of(seconds[-1])):<{VALUE}}"
+                for seconds in self.seconds
+            )
             rows.append("  ".join(halves))
         return rows
 

@@ -45,7 +45,8 @@ def read_lines(path: str) -> list[str]:
 
 
 def link_line(number: int, text: str, option: str) -> str:
-    """`10Mbit/s 20ms queue 100 loss 1%` as a line for a pipe; Wrong names the option of the command line that has a wrong word."""
+    """`10Mbit/s 20ms queue 100 loss 1%` as a line for a pipe; Wrong names the option of the command line that has a
+    wrong word."""
     try:
         return f"pipe {number} config {in_full(read_link(text))}".strip()
     except WordError as wrong:

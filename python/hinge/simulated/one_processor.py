@@ -1,7 +1,7 @@
 """The processor of the system on which a machine is.
 
-The kernel of a machine and its processes wait for each other at each call. On one processor that takes two thirds of the
-time that it takes on several. So a machine is on one at a time, and goes to another where it waits for its own.
+The kernel of a machine and its processes wait for each other at each call. On one processor that takes two thirds of
+the time that it takes on several. So a machine is on one at a time, and goes to another where it waits for its own.
 """
 
 from __future__ import annotations

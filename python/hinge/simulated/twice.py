@@ -59,7 +59,11 @@ def compared(machines: "list[Machine]", status: int, seed: int) -> int:
         return status
     faults = [] if one.ended() == other.ended() else [f"one ended with {one.ended()}, the other with {other.ended()}"]
     for name, what in COMPARED:
-        found = difference(one.folder / name, other.folder / name, what) if length(one, name) or length(other, name) else None
+        found = (
+            difference(one.folder / name, other.folder / name, what)
+            if length(one, name) or length(other, name)
+            else None
+        )
         if found:
             faults.append(found)
     for fault in faults:
