@@ -120,17 +120,17 @@ class Panels:
         return Panel("One-way delay", "sent at, s", "ms", items + lines, notes + above, from_zero=False)
 
     def bounds(self) -> tuple[list[Item], list[str]]:
-        """The proved bound on the delay of each pipe that has one: a line, or a note if it is far above the delays."""
+        """The proved bound on the delay of each pipe that has one: a line, or a note if it is far above its delays."""
         lines, notes = list[Item](), list[str]()
-        most = max((float(flow.delays[-1]) for flow in self.found.flows if len(flow.delays)), default=0)
         for one in self.found.bounds:
-            bound, told = one.bound.due_ns / NS_PER_MS, f"bound on the delay of {one.name}: {{:,.6g}} ms"
+            bound, most = one.bound.due_ns / NS_PER_MS, (one.delay_ns or 0) / NS_PER_MS
+            told = f"bound on the delay of {one.name}: {bound:,.6g} ms"
             if bound <= MOST_ABOVE * most:
                 ends = np.array([0, self.found.steps.span]) / NS_PER_S
-                lines.append(Line(told.format(bound), ends, np.array([bound, bound]), self.pipes[one.name][0],
-                                  width=0.9, dash=DASHED, is_behind=True))
+                lines.append(Line(told, ends, np.array([bound, bound]), self.pipes[one.name][0], width=0.9,
+                                  dash=DASHED, is_behind=True))
             else:
-                notes.append(f"{told.format(bound)}, above this panel")
+                notes.append(f"{told}; the greatest is {most:,.6g} ms" if most else told)
         return lines, notes
 
     def distribution(self) -> Optional[Panel]:

@@ -120,4 +120,11 @@ pipe  longest  max wait  wait bound  max delay  delay bound
         """One packet takes 32 ms, and 632 ms are more than twice that."""
         panel = delays(history(FULL[0], [packet(1500)]))
         self.assertEqual(bound_lines(panel), [])
-        self.assertEqual(panel.notes, ["bound on the delay of pipe 1: 632 ms, above this panel"])
+        self.assertEqual(panel.notes, ["bound on the delay of pipe 1: 632 ms; the greatest is 32 ms"])
+
+    def test_a_bound_is_far_above_by_its_own_pipe(self) -> None:
+        """The delays of the first pipe reach 632 ms, and the one packet of the second takes 32 ms."""
+        both = f"{FULL[0]}\npipe 2 config bw 1Mbit/s delay 20"
+        panel = delays(history(both, [*FULL[1], packet(1500, 0, "pipe,2")]))
+        self.assertEqual([line.name for line in bound_lines(panel)], ["bound on the delay of pipe 1: 632 ms"])
+        self.assertEqual(panel.notes, ["bound on the delay of pipe 2: 632 ms; the greatest is 32 ms"])
