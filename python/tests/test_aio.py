@@ -1,4 +1,5 @@
-"""asyncio in simulated time: moments worked out by hand, runs that repeat, what can't go on, and histories that are lawful.
+"""asyncio in simulated time: moments worked out by hand, runs that repeat, what can't go on, and histories that are
+lawful.
 
 A packet of 1,000 bytes takes 1 ms at 8 Mbit/s; a datagram has 28 bytes more than its data.
 """
@@ -66,7 +67,8 @@ class Number:
 def text_of_run(folder: str, hash_seed: str) -> str:
     """The history of a process of its own."""
     history = Path(folder) / f"h{hash_seed}"
-    subprocess.run([sys.executable, "-c", RUN.format(path=sys.path), history], check=True, env={**os.environ, "PYTHONHASHSEED": hash_seed})
+    subprocess.run([sys.executable, "-c", RUN.format(path=sys.path), history], check=True,
+                   env={**os.environ, "PYTHONHASHSEED": hash_seed})
     return history.read_text()
 
 
@@ -115,7 +117,9 @@ class Moments(unittest.TestCase):
                 net.path(middle, leaf)
             links = [net.routes.next(near, far) for near, far in zip(leaves, leaves[1:])]
             self.assertEqual([net.links[near, middle] for near in leaves[:-1]], links)
-            self.assertEqual([net.links[middle, leaf] for leaf in leaves], [net.routes.next(middle, leaf) for leaf in leaves])
+            self.assertEqual(
+                [net.links[middle, leaf] for leaf in leaves], [net.routes.next(middle, leaf) for leaf in leaves]
+            )
             self.assertEqual([middle], list(net.routes.first))
         with aio.Network() as net:
             ring = [net.host(f"10.0.0.{n}") for n in range(5)]
@@ -224,7 +228,9 @@ class Moments(unittest.TestCase):
 
                 got = net.run(main()).got
             done = subprocess.run([PROGRAM, "audit", history], capture_output=True, text=True)
-        self.assertEqual([(it[0][:1], it[2]) for it in got], [(b"1", 3 * MS), (b"1", 4 * MS), (b"2", 10 * MS), (b"0", 12 * MS)])
+        self.assertEqual(
+            [(it[0][:1], it[2]) for it in got], [(b"1", 3 * MS), (b"1", 4 * MS), (b"2", 10 * MS), (b"0", 12 * MS)]
+        )
         self.assertRegex(done.stdout, r"^lawful \d+\n$")
 
 
@@ -355,7 +361,8 @@ class Repeats(unittest.TestCase):
         self.assertIn("10.0.0.1: 65508 bytes, and a datagram has at most 65507: 1 refused", report)
 
     def test_a_host_that_crashes_and_comes_back(self) -> None:
-        """Of a question a second, those of the 2 s without the server get no answer. What was under way to it is lost."""
+        """Of a question a second, those of the 2 s without the server get no answer. What was under way to it is
+        lost."""
         async def main(net: aio.Network) -> list[int]:
             one, other = net.hosts["10.0.0.1"], net.hosts["10.0.0.2"]
             await other.create_task(opened(True, ("0.0.0.0", 7)))
@@ -465,7 +472,8 @@ class Histories(unittest.TestCase):
         self.assertEqual(lines[0], "dummynet-history,3")
         self.assertEqual([it for it in lines if it.startswith("#")], [])
         replies = [reply for call, reply in zip(lines, lines[1:]) if call.startswith("c,0,submit")]
-        self.assertEqual([it.row for it in dropped], [row for row, reply in enumerate(replies, 1) if not reply.startswith("r,queued")])
+        self.assertEqual([it.row for it in dropped],
+                         [row for row, reply in enumerate(replies, 1) if not reply.startswith("r,queued")])
 
 
     def test_lines_that_are_refused_or_say_nothing(self) -> None:
@@ -474,7 +482,10 @@ class Histories(unittest.TestCase):
             with network("8Mbit/s", history=history) as net:
                 async def main() -> None:
                     await exchange(net, 3, 1)
-                    for line, error in (("queue 9 config pipe 999", RefusedError), ("pipe 7 delete", RefusedError), ("pipe 1 bad", LineError)):
+                    for line, error in (
+                        ("queue 9 config pipe 999", RefusedError), ("pipe 7 delete", RefusedError),
+                        ("pipe 1 bad", LineError)
+                    ):
                         with self.assertRaises(error):
                             net.obey(line)
                     for line in ("# nothing", "pipe 2\rconfig  delay 5ms # a note", "pipe delete 2"):
@@ -484,9 +495,14 @@ class Histories(unittest.TestCase):
             lines = history.read_text().splitlines()
             done = subprocess.run([PROGRAM, "audit", history], capture_output=True, text=True)
         self.assertRegex(done.stdout, r"^lawful \d+\n$")
-        self.assertEqual([("c,0,configure,queue 9 config pipe 999", "r,no-such-pipe"), ("c,0,configure,pipe 7 delete", "r,no-such-pipe"),
-                          ("c,0,configure,pipe 2 config delay 5ms", "r,configured"), ("c,0,configure,pipe delete 2", "r,deleted")],
-                         [pair for pair in zip(lines, lines[1:]) if pair[0].startswith("c,0,configure")][2:])
+        self.assertEqual(
+            [
+                ("c,0,configure,queue 9 config pipe 999", "r,no-such-pipe"),
+                ("c,0,configure,pipe 7 delete", "r,no-such-pipe"),
+                ("c,0,configure,pipe 2 config delay 5ms", "r,configured"), ("c,0,configure,pipe delete 2", "r,deleted")
+            ],
+            [pair for pair in zip(lines, lines[1:]) if pair[0].startswith("c,0,configure")][2:],
+        )
 
 
 class Recorded(unittest.TestCase):
@@ -494,9 +510,14 @@ class Recorded(unittest.TestCase):
         with tempfile.TemporaryDirectory() as folder:
             history = Path(folder) / "h"
             with RecordedShaper(history, seed=1) as shaper:
-                for line in ("pipe 1 config bw 8Mbit/s # a note", bytearray(b"queue 1 config pipe 1"), "# nothing", "queue delete 1", "pipe 1\rconfig\tbw\r8Mbit/s"):
+                for line in (
+                    "pipe 1 config bw 8Mbit/s # a note", bytearray(b"queue 1 config pipe 1"), "# nothing",
+                    "queue delete 1", "pipe 1\rconfig\tbw\r8Mbit/s"
+                ):
                     shaper.configure(line)
-                for line, error in ((b"pipe \xff", LineError), ("queue delete 1", RefusedError), ("queue 1 config pipe 9", RefusedError)):
+                for line, error in (
+                    (b"pipe \xff", LineError), ("queue delete 1", RefusedError), ("queue 1 config pipe 9", RefusedError)
+                ):
                     with self.assertRaises(error):
                         shaper.configure(line)
                 shaper.submit(0, 1000, pipe=1)
@@ -522,7 +543,10 @@ class Faults(unittest.TestCase):
                 while True:
                     await asyncio.sleep(0)
 
-            with self.assertRaisesRegex(aio.Stuck, r"(?s)at 0\.000000000 s nothing can happen any more.*waits in waits, .*test_aio.py:\d+: await"):
+            with self.assertRaisesRegex(
+                aio.Stuck,
+                r"(?s)at 0\.000000000 s nothing can happen any more.*waits in waits, .*test_aio.py:\d+: await",
+            ):
                 net.run(waits())
             with self.assertRaisesRegex(asyncio.TimeoutError, "after 5 s of simulated time.*\n.*waits in waits"):
                 net.run(waits(), timeout=5)
@@ -537,7 +561,9 @@ class Faults(unittest.TestCase):
             async def waits() -> None:
                 await asyncio.get_running_loop().create_future()
 
-            with aio.Network() as net, self.assertRaisesRegex(aio.Stuck, r"Other threads run \(answers\), and simulated time waits for none"):
+            with aio.Network() as net, self.assertRaisesRegex(
+                aio.Stuck, r"Other threads run \(answers\), and simulated time waits for none"
+            ):
                 net.run(waits())
         finally:
             ended.set()
@@ -551,7 +577,9 @@ class Faults(unittest.TestCase):
             async def main() -> None:
                 await net.hosts["10.0.0.2"].create_task(waits(), name="reader")
 
-            with self.assertRaisesRegex(aio.Stuck, r"reader on 10\.0\.0\.2 waits in waits, .*await asyncio.Queue\(\).get\(\)"):
+            with self.assertRaisesRegex(
+                aio.Stuck, r"reader on 10\.0\.0\.2 waits in waits, .*await asyncio.Queue\(\).get\(\)"
+            ):
                 net.run(main())
 
     def test_ports(self) -> None:
@@ -602,7 +630,9 @@ class Faults(unittest.TestCase):
                     ends.transport.sendto(b"to nobody")
                 with self.assertRaises(TypeError):
                     ends.transport.sendto("text", ("10.0.0.2", 1))
-                for data, host in ((bytes(65508), "10.0.0.2"), (b"x", "10.0.0.9"), (b"x", "10.9.9.9"), (bytes(65507), "10.0.0.2")):
+                for data, host in (
+                    (bytes(65508), "10.0.0.2"), (b"x", "10.0.0.9"), (b"x", "10.9.9.9"), (bytes(65507), "10.0.0.2")
+                ):
                     ends.transport.sendto(data, (host, 1))
                 await asyncio.sleep(1)
                 connected = await opened(remote=("10.0.0.2", 1))

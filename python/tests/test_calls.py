@@ -18,7 +18,9 @@ from tempfile import TemporaryDirectory
 from typing import Callable
 
 import hingetulip
-from hingetulip import Deliveries, Delivery, Fate, FlowStatus, InUseError, LineError, Outcome, Packets, RangeError, Shaper
+from hingetulip import (
+    Deliveries, Delivery, Fate, FlowStatus, InUseError, LineError, Outcome, Packets, RangeError, Shaper
+)
 
 MS = 1_000_000
 LINE = "pipe 1 config bw 8Mbit/s delay 20ms queue 1"
@@ -33,7 +35,9 @@ class Calls(unittest.TestCase):
 
     def test_the_four_fates(self) -> None:
         fates = [self.shaper.submit(5, 1000, pipe=1) for _ in range(3)]
-        self.assertEqual([Fate(Outcome.QUEUED, 5, 0, 0), Fate(Outcome.QUEUED, 5, 0, 1), Fate(Outcome.FULL, 5, 0, None)], fates)
+        self.assertEqual(
+            [Fate(Outcome.QUEUED, 5, 0, 0), Fate(Outcome.QUEUED, 5, 0, 1), Fate(Outcome.FULL, 5, 0, None)], fates
+        )
         self.assertEqual(Fate(Outcome.NO_TARGET, 7, None, None), self.shaper.submit(7, 1000, queue=1))
         self.shaper.configure("pipe 2 config plr 0.5")
         self.assertEqual(Fate(Outcome.LOST, 7, 1, None), self.shaper.submit(0, 1000, pipe=2, word=2**30 - 1))
@@ -57,12 +61,21 @@ class Calls(unittest.TestCase):
         self.assertTrue(self.shaper.reserve(pipe=9), "nothing is configured, so no room is needed")
         self.shaper.submit(0, 1000, pipe=1)
         self.shaper.submit(0, 1000, queue=3, dport=5)
-        self.assertEqual([True, True, False], [self.shaper.reserve(pipe=1, src=7), self.shaper.reserve(queue=3, dport=5),
-                                               self.shaper.reserve(queue=3, dport=6)])
-        self.assertEqual([FlowStatus(0, None, 1, 0, 0, 0, 0, 0, 0, 0, 0, 0, 1, 0), FlowStatus(1, 3, 1, 0, 0, 0, 0, 5, 0, 0, 0, 0, 1, 0)],
+        self.assertEqual([True, True, False],
+                         [
+                             self.shaper.reserve(pipe=1, src=7), self.shaper.reserve(queue=3, dport=5),
+                             self.shaper.reserve(queue=3, dport=6)
+                         ])
+        self.assertEqual([
+                             FlowStatus(0, None, 1, 0, 0, 0, 0, 0, 0, 0, 0, 0, 1, 0),
+                             FlowStatus(1, 3, 1, 0, 0, 0, 0, 5, 0, 0, 0, 0, 1, 0),
+                         ],
                          self.shaper.show())
-        for given, error in (({}, TypeError), ({"pipe": 1, "queue": 1}, TypeError), ({"pipe": 0}, RangeError), ({"pipe": 2**16}, RangeError),
-                             ({"queue": 1, "src": -1}, RangeError), ({"queue": 1, "dport": "1"}, TypeError)):
+        for given, error in (
+            ({}, TypeError), ({"pipe": 1, "queue": 1}, TypeError), ({"pipe": 0}, RangeError),
+            ({"pipe": 2**16}, RangeError), ({"queue": 1, "src": -1}, RangeError),
+            ({"queue": 1, "dport": "1"}, TypeError)
+        ):
             with self.assertRaises(error):
                 self.shaper.reserve(**given)  # type: ignore[arg-type]
 
@@ -71,7 +84,10 @@ class Calls(unittest.TestCase):
         for _ in range(3):
             self.shaper.submit(0, 1000, queue=3, src=0x0A000001, dst=2, proto=17, sport=4, dport=5)
         self.shaper.submit(0, 500, pipe=1)
-        self.assertEqual([FlowStatus(0, 3, 1, 1, 0, 17, 0, 1, 2, 2000, 0, 0, 1, 0), FlowStatus(1, None, 1, 0, 0, 0, 0, 0, 0, 0, 0, 0, 1, 0)],
+        self.assertEqual([
+                             FlowStatus(0, 3, 1, 1, 0, 17, 0, 1, 2, 2000, 0, 0, 1, 0),
+                             FlowStatus(1, None, 1, 0, 0, 0, 0, 0, 0, 0, 0, 0, 1, 0),
+                         ],
                          self.shaper.show())
         self.shaper.configure("queue 3 delete")
         self.assertEqual((0, 0, 1, 2), self.shaper.show()[0][-6:-4] + self.shaper.show()[0][-2:])
@@ -85,7 +101,8 @@ class Calls(unittest.TestCase):
             self.assertEqual(list(fates.packet), [delivery.packet for delivery in self.shaper.collect(0)])
 
     def test_rules(self) -> None:
-        """A packet that is sent when the delay was cut overtakes by one rule, and waits for the one before it by the other."""
+        """A packet that is sent when the delay was cut overtakes by one rule, and waits for the one before it by the
+        other."""
         for rule, dues in ((hingetulip.Rule.ORDERED, [20 * MS, 20 * MS]), (hingetulip.Rule.FREE, [0, 20 * MS])):
             with Shaper(rule) as shaper:
                 shaper.configure("pipe 1 config delay 20")
@@ -129,8 +146,11 @@ class Calls(unittest.TestCase):
                 return 7
 
         shaper = self.shaper
-        for call in (shaper.wake, shaper.show, shaper.close, lambda: shaper.submit(0, 1000, pipe=1), lambda: shaper.configure("pipe 2 config"),
-                     lambda: shaper.collect(0), lambda: shaper.submit_many(Packets(1, moment=0, length=1, pipe=1))):
+        for call in (
+            shaper.wake, shaper.show, shaper.close, lambda: shaper.submit(0, 1000, pipe=1),
+            lambda: shaper.configure("pipe 2 config"), lambda: shaper.collect(0),
+            lambda: shaper.submit_many(Packets(1, moment=0, length=1, pipe=1))
+        ):
             with self.assertRaises(InUseError):
                 shaper.submit(Meddling(call), 1000, pipe=1)  # type: ignore[arg-type]
             with self.assertRaises(InUseError):
@@ -178,9 +198,11 @@ class Batches(unittest.TestCase):
     def test_columns(self) -> None:
         packets = Packets(3, moment=array("Q", [0, 0, MS]), length=1000, pipe=1, word=0)
         fates = self.shaper.submit_many(packets)
-        self.assertEqual(([0, 0, MS], [0, 0, 0], [0, 1, 2], [0, 0, 0]), tuple(map(list, (fates.at, fates.flow, fates.packet, fates.outcome))))
+        self.assertEqual(([0, 0, MS], [0, 0, 0], [0, 1, 2], [0, 0, 0]),
+                         tuple(map(list, (fates.at, fates.flow, fates.packet, fates.outcome))))
         taken = self.shaper.collect_many(22 * MS)
-        self.assertEqual(([21 * MS, 22 * MS], [0, 1], [0, 0], [0, MS]), tuple(map(list, (taken.due, taken.packet, taken.flow, taken.start))))
+        self.assertEqual(([21 * MS, 22 * MS], [0, 1], [0, 0], [0, MS]),
+                         tuple(map(list, (taken.due, taken.packet, taken.flow, taken.start))))
         self.assertEqual(["<Packets: 3>", "<Fates: 3>", "<Deliveries: 2>"], list(map(repr, (packets, fates, taken))))
         packets.moment[:] = array("Q", [30 * MS] * 3)
         packets.length[2] = 500
@@ -211,8 +233,10 @@ class Batches(unittest.TestCase):
     def test_values_that_do_not_fit(self) -> None:
         for values in (dict(moment=-1), dict(length=65536), dict(src=[0, 2**32, 0]), dict(proto=256)):
             self.assertRaises(RangeError, Packets, 3, **{"moment": 0, "length": 1, "pipe": 1, **values})
-        for values, error in ((dict(moment=[1, 2]), ValueError), (dict(length=1.5), TypeError), (dict(sport=["x"] * 3), TypeError),
-                              (dict(queue=1), TypeError), (dict(pipe=None), TypeError)):
+        for values, error in (
+            (dict(moment=[1, 2]), ValueError), (dict(length=1.5), TypeError), (dict(sport=["x"] * 3), TypeError),
+            (dict(queue=1), TypeError), (dict(pipe=None), TypeError)
+        ):
             self.assertRaises(error, Packets, 3, **{"moment": 0, "length": 1, "pipe": 1, **values})
 
 
@@ -223,9 +247,11 @@ class Faults(unittest.TestCase):
         self.shaper.configure(LINE)
 
     def test_lines(self) -> None:
-        for line, text, kind, word in (("pipe 1 config bw 8Mbps", "word 5: bad number", "bad number", 5),
-                                       ("queue 1 config weight 3", "word 1: needs a pipe", "needs a pipe", 1),
-                                       (b"pipe 1 config # \xff", "not UTF-8", "not UTF-8", 0), ("pipe \udcff", "not UTF-8", "not UTF-8", 0)):
+        for line, text, kind, word in (
+            ("pipe 1 config bw 8Mbps", "word 5: bad number", "bad number", 5),
+            ("queue 1 config weight 3", "word 1: needs a pipe", "needs a pipe", 1),
+            (b"pipe 1 config # \xff", "not UTF-8", "not UTF-8", 0), ("pipe \udcff", "not UTF-8", "not UTF-8", 0)
+        ):
             with self.assertRaises(LineError) as raised:
                 self.shaper.configure(line)
             fault = raised.exception
@@ -237,14 +263,20 @@ class Faults(unittest.TestCase):
 
     def test_refusals(self) -> None:
         self.shaper.configure("queue 1 config pipe 1")
-        for line, text in (("queue 2 config pipe 3", "no such pipe"), ("pipe 1 delete", "pipe has queues"), ("queue 2 delete", "no such queue")):
+        for line, text in (
+            ("queue 2 config pipe 3", "no such pipe"), ("pipe 1 delete", "pipe has queues"),
+            ("queue 2 delete", "no such queue")
+        ):
             with self.assertRaises(hingetulip.RefusedError) as raised:
                 self.shaper.configure(line)
             self.assertEqual(text, str(raised.exception))
 
     def test_numbers(self) -> None:
-        for values in (dict(moment=-1), dict(moment=2**62 + 1), dict(moment=2**64), dict(length=0), dict(length=65536), dict(pipe=0),
-                       dict(pipe=65536), dict(src=2**32), dict(dst=-1), dict(sport=65536), dict(dport=-1), dict(proto=256), dict(word=2**32)):
+        for values in (
+            dict(moment=-1), dict(moment=2**62 + 1), dict(moment=2**64), dict(length=0), dict(length=65536),
+            dict(pipe=0), dict(pipe=65536), dict(src=2**32), dict(dst=-1), dict(sport=65536), dict(dport=-1),
+            dict(proto=256), dict(word=2**32)
+        ):
             with self.subTest(values):
                 self.assertRaises(RangeError, self.shaper.submit, **{"moment": 0, "length": 1, "pipe": 1, **values})
         for values in (dict(moment=0.5), dict(length="1"), dict(src="10.0.0.1"), dict(pipe=None), dict(queue=1)):
@@ -262,8 +294,11 @@ class Faults(unittest.TestCase):
         self.assertTrue(self.shaper.closed)
         self.shaper.close()
         packets = Packets(1, moment=0, length=1, pipe=1)
-        for call in (lambda: self.shaper.submit(0, 1, pipe=1), lambda: self.shaper.submit_many(packets), lambda: self.shaper.collect(0),
-                     lambda: self.shaper.advance(0), self.shaper.show, self.shaper.wake, lambda: self.shaper.configure(LINE)):
+        for call in (
+            lambda: self.shaper.submit(0, 1, pipe=1), lambda: self.shaper.submit_many(packets),
+            lambda: self.shaper.collect(0), lambda: self.shaper.advance(0), self.shaper.show, self.shaper.wake,
+            lambda: self.shaper.configure(LINE)
+        ):
             self.assertRaises(hingetulip.ClosedError, call)
 
     def test_no_copies(self) -> None:
@@ -275,8 +310,10 @@ class Finding(unittest.TestCase):
     def run_at(self, place: Path, **variables: str) -> subprocess.CompletedProcess[str]:
         """Imports the module that lies in a folder, and prints where its library was found."""
         kept = {name: value for name, value in os.environ.items() if name not in ("HINGETULIP_LIBRARY", "PYTHONPATH")}
-        return subprocess.run([sys.executable, "-c", "import hingetulip; print(hingetulip.LIBRARY)"], cwd=place, capture_output=True, text=True,
-                              env={**kept, "PYTHONPATH": str(place), "PYTHONDONTWRITEBYTECODE": "1", **variables})
+        return subprocess.run(
+            [sys.executable, "-c", "import hingetulip; print(hingetulip.LIBRARY)"], cwd=place, capture_output=True,
+            text=True, env={**kept, "PYTHONPATH": str(place), "PYTHONDONTWRITEBYTECODE": "1", **variables}
+        )
 
     def test_places(self) -> None:
         with TemporaryDirectory() as prefix:
@@ -288,7 +325,9 @@ class Finding(unittest.TestCase):
             done = self.run_at(module.parent, HINGETULIP_LIBRARY=str(top / "none.so"))
             self.assertIn("none.so", done.stderr)
             self.assertIn("HINGETULIP_LIBRARY can name it", done.stderr)
-            for place in (top / "lib" / "libhingetulip.so", top / "lib" / "libhingetulip.so.1", module / "libhingetulip.so"):
+            for place in (
+                top / "lib" / "libhingetulip.so", top / "lib" / "libhingetulip.so.1", module / "libhingetulip.so"
+            ):
                 place.symlink_to(Path(hingetulip.LIBRARY).resolve())
                 done = self.run_at(module.parent)
                 self.assertEqual((f"{place}\n", ""), (done.stdout, done.stderr))

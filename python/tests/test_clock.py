@@ -58,11 +58,17 @@ class WithClock(unittest.TestCase):
             made = Path(folder) / "hinge-clock.so"
             flags = ["-std=c17", "-O2", "-Wall", "-Wextra", "-Werror", "-shared", "-fPIC"]
             subprocess.run(["cc", *flags, TOP / "hosts" / "clock.c", "-o", made], check=True)
-            env = {**os.environ, "HINGE_CLOCK": str(made), "PYTHONPATH": str(TOP / "python"), "PYTHONDONTWRITEBYTECODE": "1"}
-            words = [sys.executable, TOP / "python" / "hinge" / "__main__.py", "with-clock", sys.executable, "-c", ASKED]
+            env = {
+                **os.environ, "HINGE_CLOCK": str(made), "PYTHONPATH": str(TOP / "python"),
+                "PYTHONDONTWRITEBYTECODE": "1"
+            }
+            words = [
+                sys.executable, TOP / "python" / "hinge" / "__main__.py", "with-clock", sys.executable, "-c", ASKED
+            ]
             done = subprocess.run(words, env=env, capture_output=True, text=True)
         self.assertEqual(done.stderr, "")
-        self.assertEqual(done.stdout.splitlines(), ["(1700000090000001000, 90000001000, 1700000090000001, 1700000090, True)", "True True"])
+        self.assertEqual(done.stdout.splitlines(),
+                         ["(1700000090000001000, 90000001000, 1700000090000001, 1700000090, True)", "True True"])
 
 
 class Warnings(unittest.TestCase):
@@ -84,7 +90,9 @@ class Warnings(unittest.TestCase):
             self.assertEqual(self.warned(7200), [])
 
     def test_a_run_with_dtls_that_does_not_end(self) -> None:
-        with mock.patch.dict(sys.modules, OpenSSL=types.ModuleType("OpenSSL")), self.assertRaisesRegex(asyncio.TimeoutError, "hinge with-clock"):
+        with mock.patch.dict(sys.modules, OpenSSL=types.ModuleType("OpenSSL")), self.assertRaisesRegex(
+            asyncio.TimeoutError, "hinge with-clock"
+        ):
             aio.run(asyncio.sleep(10), timeout=5)
 
 

@@ -13,19 +13,27 @@ from hingetulip import errors, layout, library
 TOP = Path(__file__).resolve().parents[2]
 INCLUDE = TOP / "crates" / "hingetulip_c" / "include"
 HEADER, SERVICE_HEADER = ((INCLUDE / f"{name}.h").read_text() for name in ("hingetulip", "hingetulip_service"))
-RUST, RUST_SERVICE, RUST_ERRORS = ((TOP / "rust" / "hingetulip" / "src" / f"{name}.rs").read_text() for name in ("raw", "raw_service", "error"))
-DECLARED = ((RUST, HEADER, "dn_status", {"dn_open"}), (RUST_SERVICE, SERVICE_HEADER, "dn_service_status", {"dn_service_open"}))
+RUST, RUST_SERVICE, RUST_ERRORS = (
+    (TOP / "rust" / "hingetulip" / "src" / f"{name}.rs").read_text() for name in ("raw", "raw_service", "error")
+)
+DECLARED = (
+    (RUST, HEADER, "dn_status", {"dn_open"}),
+    (RUST_SERVICE, SERVICE_HEADER, "dn_service_status", {"dn_service_open"}),
+)
 WIDTHS = {"uint64_t": 8, "uint32_t": 4, "uint16_t": 2, "uint8_t": 1, "void *": 8, "bool": 1}
 KINDS = {"u64": "uint64_t", "u32": "uint32_t", "u16": "uint16_t", "u8": "uint8_t", "usize": "size_t", "c_void": "void",
          "bool": "bool"}
 EXCEPTIONS = {
-    "DN_EXHAUSTED": errors.ExhaustedError, "DN_NO_SUCH_PIPE": errors.RefusedError, "DN_PIPE_HAS_QUEUES": errors.RefusedError,
-    "DN_NO_SUCH_QUEUE": errors.RefusedError, "DN_CLOSED": errors.ClosedError, "DN_MEMORY": errors.OutOfMemoryError,
-    "DN_BAD_MOMENT": errors.RangeError, "DN_BAD_RULE": errors.RangeError, "DN_BAD_KIND": errors.RangeError,
-    "DN_BAD_NUMBER": errors.RangeError, "DN_BAD_LENGTH": errors.RangeError,
+    "DN_EXHAUSTED": errors.ExhaustedError, "DN_NO_SUCH_PIPE": errors.RefusedError,
+    "DN_PIPE_HAS_QUEUES": errors.RefusedError, "DN_NO_SUCH_QUEUE": errors.RefusedError, "DN_CLOSED": errors.ClosedError,
+    "DN_MEMORY": errors.OutOfMemoryError, "DN_BAD_MOMENT": errors.RangeError, "DN_BAD_RULE": errors.RangeError,
+    "DN_BAD_KIND": errors.RangeError, "DN_BAD_NUMBER": errors.RangeError, "DN_BAD_LENGTH": errors.RangeError
 }
-FAULTS = {"DN_NOT_UTF8": "not UTF-8", "DN_UNKNOWN_WORD": "unknown word", "DN_MISSING_VALUE": "missing value", "DN_NOT_A_NUMBER": "bad number",
-          "DN_OUT_OF_RANGE": "out of range", "DN_LEFT_OUT": "left out", "DN_NEEDS_PIPE": "needs a pipe"}
+FAULTS = {
+    "DN_NOT_UTF8": "not UTF-8", "DN_UNKNOWN_WORD": "unknown word", "DN_MISSING_VALUE": "missing value",
+    "DN_NOT_A_NUMBER": "bad number", "DN_OUT_OF_RANGE": "out of range", "DN_LEFT_OUT": "left out",
+    "DN_NEEDS_PIPE": "needs a pipe"
+}
 
 
 def numbers(name: str, header: str = HEADER) -> dict[str, int]:
@@ -70,7 +78,9 @@ def as_in_c(kind: str) -> str:
 
 def rust_fields(name: str, source: str) -> list[tuple[str, str]]:
     body = re.search(rf"#\[repr\(C\)\]\n(?:#\[derive\(.*\)\]\n)?pub struct {name} \{{(.*?)\n\}}", source, re.S)
-    return [(as_in_c(kind), field) for field, kind in re.findall(r"^ +pub (\w+): (.+),$", body[1] if body else "", re.M)]
+    return [
+        (as_in_c(kind), field) for field, kind in re.findall(r"^ +pub (\w+): (.+),$", body[1] if body else "", re.M)
+    ]
 
 
 class Header(unittest.TestCase):
@@ -105,7 +115,9 @@ class Header(unittest.TestCase):
         for kind, enum in ((hingetulip.Outcome, "dn_outcome"), (hingetulip.Rule, "dn_rule")):
             self.assertEqual(numbers(enum), {f"DN_{one.name}": one.value for one in kind})
         self.assertEqual({"DN_PIPE": 0, "DN_QUEUE": 1}, numbers("dn_kind"))
-        self.assertEqual({name: library.FAULT_KINDS.index(text) for name, text in FAULTS.items()}, numbers("dn_fault_kind"))
+        self.assertEqual(
+            {name: library.FAULT_KINDS.index(text) for name, text in FAULTS.items()}, numbers("dn_fault_kind")
+        )
         self.assertIn(f"#define DN_VERSION {library.MAJOR}0", HEADER)
 
     def test_functions(self) -> None:
@@ -130,7 +142,9 @@ class Crate(unittest.TestCase):
             found = re.findall(r"^    pub fn (\w+)\((.*)\) -> u32;$", source, re.M)
             self.assertEqual({*declared} - {name for name, _ in found}, left_out)
             for name, given in found:
-                self.assertEqual([(as_in_c(kind), one) for one, kind in re.findall(r"(\w+): ([^,]+)", given)], declared[name], name)
+                self.assertEqual(
+                    [(as_in_c(kind), one) for one, kind in re.findall(r"(\w+): ([^,]+)", given)], declared[name], name
+                )
 
     def test_numbers(self) -> None:
         statuses: dict[str, int] = {}

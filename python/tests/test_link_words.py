@@ -1,4 +1,5 @@
-"""The words of links: short and in full, what is said of a wrong one, and whether the emulator takes all that the reader takes."""
+"""The words of links: short and in full, what is said of a wrong one, and whether the emulator takes all that the
+reader takes."""
 
 from __future__ import annotations
 
@@ -12,8 +13,7 @@ from hingetulip_words.presets import PRESETS, preset, table
 from simulated_hosts import TOP
 
 WRONG = (
-    ("10mbps", "'10mbps': not a bandwidth; write 10Mbit/s"),
-    ("10mbit", "'10mbit': not a bandwidth; write 10Mbit/s"),
+    ("10mbps", "'10mbps': not a bandwidth; write 10Mbit/s"), ("10mbit", "'10mbit': not a bandwidth; write 10Mbit/s"),
     ("1.5Mbit/s", "'1.5Mbit/s': not a bandwidth; write 1500Kbit/s"),
     ("5Mbit/s 20 ms", "'20 ms': a number and its unit are one word; write 20ms"),
     ("delay 20 ms", "'20 ms': a number and its unit are one word; write 20ms"),
@@ -21,10 +21,18 @@ WRONG = (
     ("10Mbit/s,20ms", "'10Mbit/s,20ms': blanks alone part the words; write 10Mbit/s 20ms"),
     ("10Mbit/s; 20ms", "'10Mbit/s;': ends in ';', and blanks alone part the words; write 10Mbit/s"),
     ("20ms jitter 5ms", "'jitter': dummynet has no such option; leave it and its value out"),
-    ("latency 20", "'latency': no option; write delay"),
-    ("rate 10Mbit/s", "'rate': no option; write bw"),
-    ("100us", "'100us': dummynet has no delay below a millisecond, and no audit could judge one; leave it out, or write 1ms"),
-    ("delay 0.1", "'delay 0.1': dummynet has no delay below a millisecond, and no audit could judge one; leave it out, or write 1ms"),
+    ("latency 20", "'latency': no option; write delay"), ("rate 10Mbit/s", "'rate': no option; write bw"),
+    (
+        "100us",
+        "'100us': dummynet has no delay below a millisecond, and no audit could judge one; leave it out, or write 1ms",
+    ),
+    (
+        "delay 0.1",
+        (
+            "'delay 0.1': dummynet has no delay below a millisecond, and no audit could judge one; leave it out, or"
+            " write 1ms"
+        ),
+    ),
     ("1.5ms", "'1.5ms': a delay is whole milliseconds, and this is none; write 1ms or 2ms"),
     ("2s", "'2s': not a delay; write 2000ms"),
     ("20", "'20': a number without a unit; write 20ms for a delay, 20Mbit/s for a bandwidth or queue 20"),
@@ -35,9 +43,17 @@ WRONG = (
     ("plr 1%", "'plr 1%': a loss rate is no percentage; write 0.01"),
     ("bw", "'bw': its value is missing; write 8Mbit/s, 300Kbit/s or 1MByte/s"),
     ("red 0.002/3/7/0.1", "'red': ipfw(8) has it, and this program leaves it out; leave it and its values out"),
-    ("pipe 1 config bw 5Mbit/s", "'pipe': a link has the options alone; leave out all before them, or give the whole line by --line"),
-    ("weight 3", "'weight': an option of queues, and this line is of a pipe; write it in the line of the queue; "
-                 "a pipe takes bw, delay, queue, plr, buckets, mask"),
+    (
+        "pipe 1 config bw 5Mbit/s",
+        "'pipe': a link has the options alone; leave out all before them, or give the whole line by --line",
+    ),
+    (
+        "weight 3",
+        (
+            "'weight': an option of queues, and this line is of a pipe; write it in the line of the queue; "
+            "a pipe takes bw, delay, queue, plr, buckets, mask"
+        ),
+    ),
     ("mask 5", "'mask 5': a mask names the fields that tell flows apart; write mask src-ip 0xffffffff, or mask all"),
 )
 TWICE = (
@@ -55,8 +71,11 @@ OUTSIDE = (
     ("loss 100.5%", "'loss 100.5%': out of range; a loss is 0% to 100%"),
     ("mask proto 0x1ff", "'proto 0x1ff': out of range; a mask of proto has at most 8 bits"),
 )
-WORDS = ("bw delay queue plr buckets weight mask src-ip dst-ip src-port dst-port proto all 0 1 7 50 100 10000 10001 65536 3600001 8Mbit/s 0Kbit/s 8mBYTES/S "
-         "1000001Mbit/s 20ms 020ms 64K 64kBytes 1025KB .5 1. . 0.01 1.000000000000000001 0xff 0X1FFFFFFFF 255 ² loss % 1e3 +1 red sched /24").split()
+WORDS = (
+    "bw delay queue plr buckets weight mask src-ip dst-ip src-port dst-port proto all 0 1 7 50 100 10000 10001 65536"
+    " 3600001 8Mbit/s 0Kbit/s 8mBYTES/S 1000001Mbit/s 20ms 020ms 64K 64kBytes 1025KB .5 1. . 0.01 1.000000000000000001"
+    " 0xff 0X1FFFFFFFF 255 ² loss % 1e3 +1 red sched /24"
+).split()
 
 
 class Words(unittest.TestCase):
@@ -68,9 +87,13 @@ class Words(unittest.TestCase):
 
     def test_short_words_and_those_in_full(self) -> None:
         wanted = "bw 5Mbit/s delay 20ms queue 100 plr 0.01"
-        for text in ("5Mbit/s 20ms queue 100 loss 1%", "bw 5Mbit/s delay 20ms queue 100 plr 0.01", "bw 5Mbit/s  20ms queue 100 loss 1.0% # slow"):
+        for text in (
+            "5Mbit/s 20ms queue 100 loss 1%", "bw 5Mbit/s delay 20ms queue 100 plr 0.01",
+            "bw 5Mbit/s  20ms queue 100 loss 1.0% # slow"
+        ):
             self.assertEqual(in_full(read_link(text)), wanted)
-        self.assertEqual(in_full(read_link("20 queue 64Kbytes".replace("20", "delay 20") + " mask src-ip 0xff all")), "delay 20 queue 64Kbytes mask src-ip 0xff all")
+        self.assertEqual(in_full(read_link("20 queue 64Kbytes".replace("20", "delay 20") + " mask src-ip 0xff all")),
+                         "delay 20 queue 64Kbytes mask src-ip 0xff all")
         self.assertEqual(read_link("weight 3 loss 0.5%", "queue"), {"weight": "3", "plr": "0.005"})
         self.assertEqual(read_link(" "), {})
 
@@ -84,7 +107,8 @@ class Words(unittest.TestCase):
         self.told(OUTSIDE)
 
     def test_the_emulator_takes_what_the_reader_takes_and_no_more(self) -> None:
-        """The library is the judge of random words in full: each text that it takes, without a repeated option, is taken here too."""
+        """The library is the judge of random words in full: each text that it takes, without a repeated option, is
+        taken here too."""
         rng, taken = random.Random(5), 0
         with Shaper() as shaper:
             shaper.configure("pipe 1 config")
@@ -128,7 +152,8 @@ class Presets(unittest.TestCase):
 
     def test_the_page_has_the_same(self) -> None:
         page = (TOP / "docs" / "LINKS.md").read_text(encoding="utf-8")
-        self.assertEqual(re.findall(r"^\| `([\w-]+)` \| (\d.*?) \| (.*?) \| (.*) \|$", page, re.M), [(name, *it) for name, it in PRESETS.items()])
+        self.assertEqual(re.findall(r"^\| `([\w-]+)` \| (\d.*?) \| (.*?) \| (.*) \|$", page, re.M),
+                         [(name, *it) for name, it in PRESETS.items()])
 
     def test_one_that_is_none(self) -> None:
         self.assertRaisesRegex(ValueError, "^'fiber': no preset; write fibre$", preset, "fiber")
@@ -138,9 +163,12 @@ class Presets(unittest.TestCase):
         """The figures are those of the profile Mobile LTE: 12 Mbit/s each way, and 70 ms there and back."""
         with aio.Network() as net:
             there, back = net.path(net.host("10.0.0.1"), net.host("10.0.0.2"), preset="lte")
-            self.assertEqual([it.line for it in (there, back)], [f"pipe {n} config bw 12Mbit/s delay 35ms queue 250" for n in (1, 2)])
+            self.assertEqual(
+                [it.line for it in (there, back)], [f"pipe {n} config bw 12Mbit/s delay 35ms queue 250" for n in (1, 2)]
+            )
             there, back = net.path(net.host("10.0.0.3"), net.host("10.0.0.2"), back="5ms", preset="3g")
-            self.assertEqual([it.line for it in (there, back)], ["pipe 3 config bw 768Kbit/s delay 150ms queue 20", "pipe 4 config delay 5ms"])
+            self.assertEqual([it.line for it in (there, back)],
+                             ["pipe 3 config bw 768Kbit/s delay 150ms queue 20", "pipe 4 config delay 5ms"])
 
 
 if __name__ == "__main__":

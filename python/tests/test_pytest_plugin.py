@@ -1,4 +1,5 @@
-"""The plugin of pytest: what a passing test has, what a failing one says, and whether it gets along with xdist and pytest-asyncio.
+"""The plugin of pytest: what a passing test has, what a failing one says, and whether it gets along with xdist and
+pytest-asyncio.
 
 Each test is a run of pytest over a file, in a process of its own.
 """
@@ -61,7 +62,8 @@ def lacking(*names: str) -> Optional[str]:
 def no_rooms() -> str:
     """Why this machine or this user can't have hosts, or nothing."""
     command = [sys.executable, "-m", "hinge", "run", "--quiet", "--", "true"]
-    tried = subprocess.run(command, capture_output=True, text=True, env={**os.environ, "DUMMYNET": PROGRAM, "PYTHONPATH": str(TOP / "python")})
+    tried = subprocess.run(command, capture_output=True, text=True,
+                           env={**os.environ, "DUMMYNET": PROGRAM, "PYTHONPATH": str(TOP / "python")})
     return "" if tried.returncode == 0 else tried.stderr.strip()
 
 
@@ -71,7 +73,9 @@ class Done:
     def __init__(self, text: str, status: int) -> None:
         self.text, self.status = text, status
         last = text.strip().splitlines()[-1] if text.strip() else ""
-        self.counts = {word: int(count) for count, word in re.findall(r"(\d+) (passed|failed|errors?|skipped|warnings?)", last)}
+        self.counts = {
+            word: int(count) for count, word in re.findall(r"(\d+) (passed|failed|errors?|skipped|warnings?)", last)
+        }
 
 
 @unittest.skipIf(lacking("pytest"), "no pytest")
@@ -81,8 +85,14 @@ class Plugin(unittest.TestCase):
         self.addCleanup(folder.cleanup)
         file = Path(folder.name) / "test_it.py"
         file.write_text(COMMON + dedent(body))
-        env = {**os.environ, "DUMMYNET": PROGRAM, "PYTHONPATH": str(TOP / "python"), "PYTHONDONTWRITEBYTECODE": "1", "PYTEST_DISABLE_PLUGIN_AUTOLOAD": "1"}
-        command = [sys.executable, "-m", "pytest", "-p", "hinge.pytest_plugin", "-p", "no:cacheprovider", f"--basetemp={folder.name}/tmp", *words, str(file)]
+        env = {
+            **os.environ, "DUMMYNET": PROGRAM, "PYTHONPATH": str(TOP / "python"), "PYTHONDONTWRITEBYTECODE": "1",
+            "PYTEST_DISABLE_PLUGIN_AUTOLOAD": "1"
+        }
+        command = [
+            sys.executable, "-m", "pytest", "-p", "hinge.pytest_plugin", "-p", "no:cacheprovider",
+            f"--basetemp={folder.name}/tmp", *words, str(file)
+        ]
         done = subprocess.run(command, capture_output=True, text=True, env=env, cwd=folder.name)
         return Done(done.stdout + done.stderr, done.returncode)
 
@@ -92,7 +102,8 @@ class Plugin(unittest.TestCase):
             async def test_coroutine(sim_net, link_seed):
                 assert link_seed == 7 == sim_net.seed
                 assert 30 < await session(sim_net) < 60
-                assert [link.line for link in sim_net.links.values()] == ["pipe 1 config bw 8Mbit/s delay 20ms plr 0.1", "pipe 2 config delay 5ms"]
+                lines = [link.line for link in sim_net.links.values()]
+                assert lines == ["pipe 1 config bw 8Mbit/s delay 20ms plr 0.1", "pipe 2 config delay 5ms"]
 
             class TestOfAClass:
                 @pytest.mark.parametrize("count", (1, 2))
@@ -124,10 +135,15 @@ class Plugin(unittest.TestCase):
             """)
         self.assertEqual(done.counts, {"failed": 1}, done.text)
         section = done.text.partition("emulated link")[2]
-        sent, lost = map(int, re.search(r"10\.0\.0\.1 > 10\.0\.0\.2: (\d+) sent, (\d+) lost, 0 met a full queue", section).groups())
+        sent, lost = map(
+            int, re.search(r"10\.0\.0\.1 > 10\.0\.0\.2: (\d+) sent, (\d+) lost, 0 met a full queue", section).groups()
+        )
         self.assertEqual(sent, 100)
         self.assertGreater(lost, 20)
-        rows = re.findall(r"^  row  *(\d+), (\d+)\.000000000 s, 10\.0\.0\.1:49152 > 10\.0\.0\.2:9, (?:29|30) bytes: lost$", section, re.M)
+        rows = re.findall(
+            r"^  row  *(\d+), (\d+)\.000000000 s, 10\.0\.0\.1:49152 > 10\.0\.0\.2:9, (?:29|30) bytes: lost$", section,
+            re.M
+        )
         self.assertEqual(len(rows), 20)
         self.assertIn(f"  and {lost - 20} more\n", section)
         self.assertRegex(section, r"simulated time 100\.0\d+ s\nseed 1, lawful \d+: hinge look /.*/link\.history\n")
@@ -214,7 +230,10 @@ class Plugin(unittest.TestCase):
             def test_ends():
                 assert [round(it - ended[0]) for it in ended[:2]] == [0, 1] and len(ended) == 6
             """
-        for words in ((), ("-p", "pytest_asyncio.plugin", "--asyncio-mode=strict"), ("-p", "pytest_asyncio.plugin", "--asyncio-mode=auto")):
+        for words in (
+            (), ("-p", "pytest_asyncio.plugin", "--asyncio-mode=strict"),
+            ("-p", "pytest_asyncio.plugin", "--asyncio-mode=auto")
+        ):
             if words and lacking("pytest_asyncio"):
                 continue
             done = self.run_pytest(body, *words)
@@ -321,8 +340,10 @@ class Plugin(unittest.TestCase):
             done = self.run_pytest(body, "-p", "pytest_asyncio.plugin", f"--asyncio-mode={mode}")
             self.assertEqual((done.counts.get("passed"), done.status), (3, 0), done.text)
 
-    @unittest.skipUnless(os.environ.get("HINGE_LINK") or any((TOP / folder / "hinge-link").exists() for folder in ("built", "release")),
-                         "no hinge-link: tools/hosts builds it")
+    @unittest.skipUnless(
+        os.environ.get("HINGE_LINK") or any((TOP / folder / "hinge-link").exists() for folder in ("built", "release")),
+        "no hinge-link: tools/hosts builds it",
+    )
     def test_udp_paths(self) -> None:
         done = self.run_pytest("""
             @pytest.fixture
@@ -362,7 +383,9 @@ class Plugin(unittest.TestCase):
         self.assertEqual(done.counts, {"failed": 1, "passed": 1}, done.text)
         section = done.text.partition("emulated link")[2]
         self.assertRegex(section, r"up: 100 came, \d+ delivered, \d+ lost")
-        self.assertRegex(section, r"(?m)^  row  *\d+, \d+\.\d{9} s, 127\.0\.0\.1:\d+ > 127\.0\.0\.1:\d+, (29|30) bytes: lost$")
+        self.assertRegex(
+            section, r"(?m)^  row  *\d+, \d+\.\d{9} s, 127\.0\.0\.1:\d+ > 127\.0\.0\.1:\d+, (29|30) bytes: lost$"
+        )
         self.assertRegex(section, r"(?m)^seed 5, lawful \d+: hinge look /.*/link1\.history$")
 
     def test_nets(self) -> None:
@@ -401,7 +424,9 @@ class Plugin(unittest.TestCase):
         self.assertRegex(section, r"(?m)^a printed last \(/.*/net/logs/a\.log\):\n  what a says$")
         self.assertRegex(section, r"(?m)^seed 4, lawful \d+: hinge look /.*/net/net\.history$")
         self.assertIn("NetError: the link: '1mss': ", never)
-        self.assertRegex(word, r"NetError: /.*/described\.net line 1: 'hots': no word of a net, .*; did you mean 'host'\?")
+        self.assertRegex(
+            word, r"NetError: /.*/described\.net line 1: 'hots': no word of a net, .*; did you mean 'host'\?"
+        )
         self.assertNotIn("def run(self", done.text)  # a test's own line is shown
 
 

@@ -8,7 +8,8 @@ from random import Random
 
 import hingetulip
 from reference import (
-    STYLES, FastDummynet, LineFault, answer, bad_line, deliveries, model, next_event, packets_of, parse_line, reply_of, scenarios,
+    STYLES, FastDummynet, LineFault, answer, bad_line, deliveries, model, next_event, packets_of, parse_line, reply_of,
+    scenarios
 )
 
 
@@ -20,7 +21,9 @@ class Scenarios(unittest.TestCase):
                     self.assertEqual(wanted, answer(shaper, call, wanted))
 
     def test_two_shapers_by_turns(self) -> None:
-        for (rule, calls, replies), (other_rule, other_calls, other_replies) in zip(scenarios()[::2], scenarios()[1::2]):
+        for (rule, calls, replies), (other_rule, other_calls, other_replies) in zip(
+            scenarios()[::2], scenarios()[1::2]
+        ):
             with hingetulip.Shaper(rule) as shaper, hingetulip.Shaper(other_rule) as other:
                 for call, wanted, other_call, other_wanted in zip(calls, replies, other_calls, other_replies):
                     self.assertEqual(wanted, answer(shaper, call, wanted))
@@ -35,7 +38,9 @@ class Scenarios(unittest.TestCase):
                 for kind, group in groupby(calls, type):
                     found = list(group)
                     if kind is model.Submit:
-                        self.assertEqual([next(wanted) for _ in found], list(map(reply_of, shaper.submit_many(packets_of(found)))))
+                        self.assertEqual(
+                            [next(wanted) for _ in found], list(map(reply_of, shaper.submit_many(packets_of(found))))
+                        )
                         most = max(most, len(found))
                         continue
                     for call in found:
@@ -47,7 +52,8 @@ class Scenarios(unittest.TestCase):
         self.assertGreater(most, 5)
 
     def test_wake(self) -> None:
-        """After each call `wake` tells when the reference starts or delivers a packet next; a collect before it gives nothing."""
+        """After each call `wake` tells when the reference starts or delivers a packet next; a collect before it gives
+        nothing."""
         told = 0
         for number, (rule, calls, _) in enumerate(scenarios()):
             net = FastDummynet(rule.name.lower())
@@ -64,7 +70,8 @@ class Scenarios(unittest.TestCase):
         self.assertGreater(told, 1000)
 
     def test_a_scenario_by_waking(self) -> None:
-        """Collected at each `wake`, a scenario's packets come as they do in one collect at the end, each at its due moment."""
+        """Collected at each `wake`, a scenario's packets come as they do in one collect at the end, each at its due
+        moment."""
         for number, (rule, calls, _) in enumerate(scenarios()):
             arrivals = [call for call in calls if isinstance(call, (model.Submit, model.Configure))]
             net, found, last = FastDummynet(rule.name.lower()), [], 0

@@ -127,7 +127,9 @@ class Calls(unittest.TestCase):
             done = subprocess.run([PROGRAM, "audit", history], capture_output=True, text=True)
         self.assertEqual(([errno.ECONNREFUSED], 2 * 20 * MS + (29 + 57) * 1000), (faults, at))
         answers = [line.split(",") for line in lines if line.startswith("c,0,submit,pipe,2")]
-        self.assertEqual([[OTHER, ONE, "1", "0", "0", length] for length in ("57", "576", "57", "57")], [it[5:11] for it in answers])
+        self.assertEqual(
+            [[OTHER, ONE, "1", "0", "0", length] for length in ("57", "576", "57", "57")], [it[5:11] for it in answers]
+        )
         self.assertRegex(done.stdout, r"^lawful \d+\n$")
 
     def test_a_host_that_is_down_answers_nothing(self) -> None:
@@ -150,11 +152,13 @@ class Calls(unittest.TestCase):
 
             one, second, third = udp(), udp(), udp()
             one.bind((ONE, 7))
-            found = [number(second.bind, ("", 7)), number(second.bind, (OTHER, 7)), number(second.bind, ("10.9.9.9", 7)),
-                     number(one.bind, (ONE, 8)), number(second.send, b"x"), number(second.getpeername),
-                     number(second.sendto, b"x" * 65508, (OTHER, 9)), number(second.sendto, b"x", ("10.9.9.9", 9)),
-                     number(second.sendto, b"x", ("255.255.255.255", 9)), number(second.listen),
-                     second.connect_ex(("10.0.0.2", 1)), number(second.sendto, b"x", (OTHER_OF_6, 9))]
+            found = [
+                number(second.bind, ("", 7)), number(second.bind, (OTHER, 7)), number(second.bind, ("10.9.9.9", 7)),
+                number(one.bind, (ONE, 8)), number(second.send, b"x"), number(second.getpeername),
+                number(second.sendto, b"x" * 65508, (OTHER, 9)), number(second.sendto, b"x", ("10.9.9.9", 9)),
+                number(second.sendto, b"x", ("255.255.255.255", 9)), number(second.listen),
+                second.connect_ex(("10.0.0.2", 1)), number(second.sendto, b"x", (OTHER_OF_6, 9))
+            ]
             third.setblocking(True)
             with self.assertRaisesRegex(aio.RealTimeError, "await loop.sock_recv"):
                 third.recv(100)
@@ -200,7 +204,9 @@ class Calls(unittest.TestCase):
             self.assertIs(made, ends.transport.get_extra_info("socket"))
             self.assertGreater(made.fileno(), 0)
             net.loop.call_soon(ends.transport.close)
-            return made.getsockopt(socket.SOL_SOCKET, socket.SO_RCVBUF), made.getsockopt(socket.IPPROTO_IP, socket.IP_TTL, 4)
+            return made.getsockopt(socket.SOL_SOCKET, socket.SO_RCVBUF), made.getsockopt(
+                socket.IPPROTO_IP, socket.IP_TTL, 4
+            )
 
         with both() as net:
             self.assertEqual((5000, b"\x40\0\0\0"), on(net, ONE, main(net)))
@@ -211,7 +217,9 @@ class SecondNames(unittest.TestCase):
         """1,000 bytes of IPv6 have 952 of data. A socket of IPv6 takes both, and has an IPv4 address in its own way."""
         async def main(net: aio.Network) -> list[Any]:
             loop, made = asyncio.get_running_loop(), udp(socket.AF_INET6)
-            server = (await net.hosts[OTHER].create_task(loop.create_datagram_endpoint(lambda: Ends(True), ("::", 7))))[1]
+            server = (await net.hosts[OTHER].create_task(loop.create_datagram_endpoint(lambda: Ends(True), ("::", 7))))[
+                1
+            ]
             made.setsockopt(socket.IPPROTO_IPV6, socket.IPV6_V6ONLY, 0)
             made.bind(("::", 5000, 0, 0))
             ends = (await loop.create_datagram_endpoint(Ends, sock=made))[1]
@@ -244,9 +252,11 @@ class SecondNames(unittest.TestCase):
 
     def test_names(self) -> None:
         async def main(net: aio.Network) -> list[Any]:
-            return [socket.gethostname(), socket.gethostbyname("other"), [it[4] for it in socket.getaddrinfo("other", 9)],
-                    [it[4] for it in socket.getaddrinfo("other", 9, socket.AF_INET6)],
-                    [it[4] for it in await asyncio.get_running_loop().getaddrinfo("224.0.0.251", 9)]]
+            return [
+                socket.gethostname(), socket.gethostbyname("other"), [it[4] for it in socket.getaddrinfo("other", 9)],
+                [it[4] for it in socket.getaddrinfo("other", 9, socket.AF_INET6)],
+                [it[4] for it in await asyncio.get_running_loop().getaddrinfo("224.0.0.251", 9)]
+            ]
 
         with both() as net:
             found = on(net, ONE, main(net))
@@ -295,7 +305,9 @@ class Kept(unittest.TestCase):
         """Modules of those names that have what those libraries have."""
         twisted, ifaddr, aioice = (types.ModuleType(name) for name in ("twisted.internet.base", "ifaddr", "aioice.ice"))
         own = lambda *_: ["of the machine"]  # noqa: E731
-        twisted.ReactorBase, ifaddr.IP, ifaddr.Adapter, ifaddr.get_adapters, aioice.get_host_addresses = ReactorBase, Ip, Adapter, own, own
+        twisted.ReactorBase, ifaddr.IP, ifaddr.Adapter, ifaddr.get_adapters, aioice.get_host_addresses = (
+            ReactorBase, Ip, Adapter, own, own
+        )
         modules = {module.__name__: module for module in (twisted, ifaddr, aioice)}
 
         async def main(net: aio.Network) -> list[Any]:
@@ -317,7 +329,9 @@ class Groups(unittest.TestCase):
         made = udp()
         made.setsockopt(socket.SOL_SOCKET, socket.SO_REUSEADDR, 1)
         made.bind(("", port))
-        made.setsockopt(socket.IPPROTO_IP, socket.IP_ADD_MEMBERSHIP, socket.inet_aton(self.GROUP[0]) + socket.inet_aton(interface))
+        made.setsockopt(
+            socket.IPPROTO_IP, socket.IP_ADD_MEMBERSHIP, socket.inet_aton(self.GROUP[0]) + socket.inet_aton(interface)
+        )
         return made
 
     def test_a_group_goes_over_each_link_of_its_host(self) -> None:
@@ -326,9 +340,13 @@ class Groups(unittest.TestCase):
                 return self.member()
 
             members = [await net.hosts[f"10.0.0.{n}"].create_task(listen()) for n in (1, 1, 2, 3, 4)]
-            members[1].setsockopt(socket.IPPROTO_IP, socket.IP_DROP_MEMBERSHIP, socket.inet_aton(self.GROUP[0]) + bytes(4))
+            members[1].setsockopt(
+                socket.IPPROTO_IP, socket.IP_DROP_MEMBERSHIP, socket.inet_aton(self.GROUP[0]) + bytes(4)
+            )
             members[0].sendto(b"to all", self.GROUP)
-            members[3].setsockopt(socket.IPPROTO_IP, socket.IP_DROP_MEMBERSHIP, socket.inet_aton(self.GROUP[0]) + bytes(4))
+            members[3].setsockopt(
+                socket.IPPROTO_IP, socket.IP_DROP_MEMBERSHIP, socket.inet_aton(self.GROUP[0]) + bytes(4)
+            )
             await asyncio.sleep(1)
             quiet = members[0]
             quiet.setsockopt(socket.IPPROTO_IP, socket.IP_MULTICAST_LOOP, 0)
@@ -351,9 +369,11 @@ class Groups(unittest.TestCase):
             async def listen() -> socket.socket:
                 made = udp(socket.AF_INET6)
                 made.bind(("::", 5353))
-                made.setsockopt(socket.IPPROTO_IPV6, socket.IPV6_JOIN_GROUP, socket.inet_pton(socket.AF_INET6, "ff02::fb") + bytes(4))
+                made.setsockopt(socket.IPPROTO_IPV6, socket.IPV6_JOIN_GROUP,
+                                socket.inet_pton(socket.AF_INET6, "ff02::fb") + bytes(4))
                 with self.assertRaises(OSError):
-                    made.setsockopt(socket.IPPROTO_IPV6, socket.IPV6_JOIN_GROUP, socket.inet_pton(socket.AF_INET6, "ff02::fb") + bytes(4))
+                    made.setsockopt(socket.IPPROTO_IPV6, socket.IPV6_JOIN_GROUP,
+                                    socket.inet_pton(socket.AF_INET6, "ff02::fb") + bytes(4))
                 return made
 
             member = await net.hosts[OTHER].create_task(listen())

@@ -257,8 +257,10 @@ class Look(unittest.TestCase):
         (folder() / "cut.history").write_text(whole[:-len("end,11")])
         done = run("look", "cut.history")
         self.assertEqual(done.returncode, 0)
-        self.assertIn("has no end behind line 32: the session was killed, or still goes on; it is looked at up to there",
-                      done.stderr)
+        self.assertIn(
+            "has no end behind line 32: the session was killed, or still goes on; it is looked at up to there",
+            done.stderr,
+        )
 
     def test_a_transcript_of_each_form(self) -> None:
         """Under either first record, with remarks and empty lines between entries, quotes and other line ends, of any

@@ -194,7 +194,9 @@ class Paths(unittest.TestCase):
                          (0, "60 packets on links, 30 handed on by hosts, 30 arrived"), done.stderr)
 
     def test_ipv6_by_its_stand_ins(self) -> None:
-        stand_ins = "".join(f"#,address,240.0.0.{host},fd08:0000:0000:0000:0000:0000:0000:000{host}\n" for host in (1, 2))
+        stand_ins = "".join(
+            f"#,address,240.0.0.{host},fd08:0000:0000:0000:0000:0000:0000:000{host}\n" for host in (1, 2)
+        )
         packets = [Packet(place, "240.0.0.1", "240.0.0.2") for place in range(5)]
         text = Net(good,
                    [packet._replace(src="10.8.0.1")

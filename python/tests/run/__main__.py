@@ -1,7 +1,8 @@
-"""Tests of `hinge run` and `hinge udp`: python3 python/tests/run [--long] [NAME ..]. The last line is 'N passed, M failed'.
+"""Tests of `hinge run` and `hinge udp`: python3 python/tests/run [--long] [NAME ..]. The last line is 'N passed, M
+failed'.
 
-A NAME is that of a file test_NAME.py. The variable DUMMYNET names the program and HINGE_LINK the host, those of this checkout by
-default. A test that needs what this machine lacks or doesn't allow is skipped, with the reason.
+A NAME is that of a file test_NAME.py. The variable DUMMYNET names the program and HINGE_LINK the host, those of this
+checkout by default. A test that needs what this machine lacks or doesn't allow is skipped, with the reason.
 """
 
 from __future__ import annotations

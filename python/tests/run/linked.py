@@ -30,8 +30,11 @@ Done = subprocess.CompletedProcess
 Word = Union[str, Path]
 
 
-AS_IN_A_CONTAINER = ["unshare", "-m", "sh", "-c", 'mount --bind /proc/sys /proc/sys && mount -o remount,bind,ro /proc/sys && '
-                     'exec setpriv --bounding-set=-sys_admin --inh-caps=-sys_admin "$0" "$@"']  # root without its rights, and no setting to change
+AS_IN_A_CONTAINER = [
+    "unshare", "-m", "sh", "-c",
+    'mount --bind /proc/sys /proc/sys && mount -o remount,bind,ro /proc/sys && '
+    'exec setpriv --bounding-set=-sys_admin --inh-caps=-sys_admin "$0" "$@"',
+]  # root without its rights, and no setting to change
 
 
 @lru_cache(maxsize=None)
@@ -47,7 +50,10 @@ needs_host = unittest.skipIf(bool(no_host()), no_host())
 
 
 def hinge(command: str, *words: Word, seconds: float = 60, folder: Optional[Word] = None) -> Done[str]:
-    return subprocess.run([*HINGE, command, *map(str, words)], capture_output=True, text=True, timeout=seconds, stdin=subprocess.DEVNULL, cwd=folder)
+    return subprocess.run(
+        [*HINGE, command, *map(str, words)], capture_output=True, text=True, timeout=seconds, stdin=subprocess.DEVNULL,
+        cwd=folder
+    )
 
 
 def run(*words: Word, seconds: float = 60) -> Done[str]:
@@ -88,7 +94,9 @@ def audited(path: Word) -> str:
 
 
 def ip4(src: str, dst: str, proto: int, sport: int, dport: int, length: int, tos: int = 0, fragment: int = 0) -> bytes:
-    head = struct.pack("!BBHHHBBH4s4s", 0x45, tos, length, 0, fragment, 64, proto, 0, socket.inet_aton(src), socket.inet_aton(dst))
+    head = struct.pack(
+        "!BBHHHBBH4s4s", 0x45, tos, length, 0, fragment, 64, proto, 0, socket.inet_aton(src), socket.inet_aton(dst)
+    )
     return (head + struct.pack("!HH", sport, dport)).ljust(length, b"\0")
 
 
@@ -141,7 +149,10 @@ class Linked:
         self.near, self.far = self.ends[:2]
         self.page = Page(2 * links)
         passed = [*(its.fileno() for _, its in pairs), self.page.descriptor]
-        self.process = subprocess.Popen([program(), *([carrier] if carrier else []), *map(str, passed)], pass_fds=passed, stdin=subprocess.PIPE, stderr=subprocess.PIPE)
+        self.process = subprocess.Popen(
+            [program(), *([carrier] if carrier else []), *map(str, passed)], pass_fds=passed, stdin=subprocess.PIPE,
+            stderr=subprocess.PIPE
+        )
         assert self.process.stdin
         self.process.stdin.write(f"transcript {most} {self.transcript}\n{plan}".encode())
         self.process.stdin.close()

@@ -12,7 +12,9 @@ import tempfile
 import time
 import unittest
 
-from linked import AT_ONCE, SEEDS, Ended, Linked, audited, audited_as_lawful, found, ip4, ip6, needs_host, stopped, until, with_sigterm
+from linked import (
+    AT_ONCE, SEEDS, Ended, Linked, audited, audited_as_lawful, found, ip4, ip6, needs_host, stopped, until, with_sigterm
+)
 from hinge.captures.random_words import word
 from hinge.loss import LOST, GilbertElliott
 from hinge.run.page import ENDED_WELL
@@ -54,7 +56,8 @@ class OfPackets(unittest.TestCase):
         self.assertGreaterEqual(time.monotonic() - begun, 0.1)
         self.assertEqual(got, sent)
         up = ended.counts.ways[0]
-        self.assertEqual((up["came"], up["sent"], up["came_bytes"], ended.counts["state"]), (50, 50, sum(range(100, 150)), ENDED_WELL))
+        self.assertEqual((up["came"], up["sent"], up["came_bytes"], ended.counts["state"]),
+                         (50, 50, sum(range(100, 150)), ENDED_WELL))
         self.assertEqual((sum(up.late.bins), sum(up.unread.bins), up.underway), (50, 50, 0))
 
     def test_the_way_back(self) -> None:
@@ -66,7 +69,10 @@ class OfPackets(unittest.TestCase):
     def test_ipv6_has_stand_ins_and_ports_behind_headers(self) -> None:
         ports = struct.pack("!HHHH", 7, 8, 8, 0)
         options, later = struct.pack("!BB6x", 17, 0) + ports, struct.pack("!BBHI", 17, 0, 8, 0) + ports
-        packets = [ip6("fd08::1", "fd08::2", 17, ports), ip6("fd08::1", "fd08::2", 0, options), ip6("fd08::1", "fd08::3", 44, later), b"\x15odd"]
+        packets = [
+            ip6("fd08::1", "fd08::2", 17, ports), ip6("fd08::1", "fd08::2", 0, options),
+            ip6("fd08::1", "fd08::3", 44, later), b"\x15odd"
+        ]
         _, ended = self.run_link("line pipe 1 config\n", packets, 3)
         self.assertEqual(found(r"pipe,1,(.*?,\d+,\d+,\d+,\d+),", ended.history), [
             "240.0.0.1,240.0.0.2,17,7,8,48", "240.0.0.1,240.0.0.2,17,7,8,56", "240.0.0.1,240.0.0.3,17,0,0,56"])
@@ -77,18 +83,24 @@ class OfPackets(unittest.TestCase):
         plan = plan_of("pipe 1 config", "pipe 2 config", "queue 3 config pipe 1 weight 9", "queue 4 config pipe 1")
         for rule in ("tcp port 443 => queue 3", "dscp ef => queue 4", "udp dst 10.8.0.0/30 dst-port 5-7 => queue 3"):
             plan.rule(rule)
-        sent = [ip4(CLIENT, SERVER, 6, 443, 9, 40), ip4(CLIENT, SERVER, 6, 9, 443, 40), ip4(CLIENT, SERVER, 6, 9, 9, 40),
-                ip4(CLIENT, SERVER, 1, 9, 9, 40, tos=46 << 2), ip4(CLIENT, SERVER, 17, 9, 7, 40), ip4(CLIENT, "10.8.0.9", 17, 9, 7, 40),
-                ip4(CLIENT, SERVER, 6, 443, 9, 40, fragment=1)]
+        sent = [
+            ip4(CLIENT, SERVER, 6, 443, 9, 40), ip4(CLIENT, SERVER, 6, 9, 443, 40), ip4(CLIENT, SERVER, 6, 9, 9, 40),
+            ip4(CLIENT, SERVER, 1, 9, 9, 40, tos=46 << 2), ip4(CLIENT, SERVER, 17, 9, 7, 40),
+            ip4(CLIENT, "10.8.0.9", 17, 9, 7, 40), ip4(CLIENT, SERVER, 6, 443, 9, 40, fragment=1)
+        ]
         _, ended = self.run_link(plan.text(1), sent, 7)
-        self.assertEqual(found(r"submit,(\w+,\d+)", ended.history), ["queue,3", "queue,3", "pipe,1", "queue,4", "queue,3", "pipe,1", "pipe,1"])
+        self.assertEqual(found(r"submit,(\w+,\d+)", ended.history),
+                         ["queue,3", "queue,3", "pipe,1", "queue,4", "queue,3", "pipe,1", "pipe,1"])
 
     def test_networks_of_ipv6_in_the_map(self) -> None:
         plan = plan_of("pipe 1 config", "queue 1 config pipe 1", "queue 2 config pipe 1")
         for rule in ("dst fd08:1::/33 => queue 1", "src 10.8.0.1 => queue 2", "dst ::/0 => queue 2"):
             plan.rule(rule)
         far, near = "fd08:1:7fff::9", "fd08:1:8000::9"
-        sent = [ip6("fd08::1", far, 17, bytes(8)), ip6("fd08::1", near, 17, bytes(8)), udp(1), ip4("10.8.0.3", SERVER, 17, 1, 1, 40)]
+        sent = [
+            ip6("fd08::1", far, 17, bytes(8)), ip6("fd08::1", near, 17, bytes(8)), udp(1),
+            ip4("10.8.0.3", SERVER, 17, 1, 1, 40)
+        ]
         _, ended = self.run_link(plan.text(1), sent, 4)
         self.assertEqual(found(r"submit,(\w+,\d+)", ended.history), ["queue,1", "queue,2", "queue,2", "queue,2"])
 
@@ -117,7 +129,8 @@ class OfLosses(unittest.TestCase):
         self.assertEqual((got, link.end().counts.ways[0]["lost"]), ([0, 2, 5, 6, 7], 3))
 
     def test_words_and_losses_are_those_of_the_models(self) -> None:
-        """hinge.captures.random_words draws the words of a loss rate, and hinge.loss decides by the same seed what a burst loses."""
+        """hinge.captures.random_words draws the words of a loss rate, and hinge.loss decides by the same seed what a
+        burst loses."""
         link = Linked("seed 0 9\nseed 1 9\nline pipe 1 config plr 0.3\nline pipe 2 config\n")
         for number in range(30):
             link.near.send(udp(1))
@@ -136,7 +149,8 @@ class OfLosses(unittest.TestCase):
         self.assertNotEqual(first, self.fates(6))
 
     def test_the_share_of_losses_is_that_of_the_model(self) -> None:
-        """To bad 0.25, to good 0.75: a quarter of all packets; five standard deviations of 4,000 that are drawn one by one are 0.034."""
+        """To bad 0.25, to good 0.75: a quarter of all packets; five standard deviations of 4,000 that are drawn one by
+        one are 0.034."""
         plan = plan_of("pipe 1 config")
         plan.loss("gilbert:0.25,0.75")
         link = Linked(plan.text(3))
@@ -209,8 +223,10 @@ class OfTime(unittest.TestCase):
         self.assertEqual([audited(part).split()[0] for part in parts], ["lawful"] * 4)
         texts = [open(part).read() for part in parts]
         self.assertEqual([text.count("submit") for text in texts], [1, 1, 1, 0])
-        self.assertEqual([found("c,0,configure,(.*)", text) for text in texts], [["pipe 1 config delay 5", "queue 2 config pipe 1 weight 7"]] * 4)
-        self.assertEqual((ended.status, ended.counts.ways[0]["sent"], sorted(os.listdir(link.folder.name))), (0, 3, sorted(map(os.path.basename, parts))))
+        self.assertEqual([found("c,0,configure,(.*)", text) for text in texts],
+                         [["pipe 1 config delay 5", "queue 2 config pipe 1 weight 7"]] * 4)
+        self.assertEqual((ended.status, ended.counts.ways[0]["sent"], sorted(os.listdir(link.folder.name))),
+                         (0, 3, sorted(map(os.path.basename, parts))))
 
 
 @needs_host
@@ -221,7 +237,10 @@ class OfALoadedMachine(unittest.TestCase):
         one = min(os.sched_getaffinity(0))
         os.sched_setaffinity(link.process.pid, {one})
         os.setpriority(os.PRIO_PROCESS, link.process.pid, 19)
-        loads = [subprocess.Popen([sys.executable, "-c", "while 1: pass"], preexec_fn=lambda: os.sched_setaffinity(0, {one})) for _ in range(4)]
+        loads = [
+            subprocess.Popen([sys.executable, "-c", "while 1: pass"], preexec_fn=lambda: os.sched_setaffinity(0, {one}))
+            for _ in range(4)
+        ]
         try:
             for number in range(40):
                 link.near.send(udp(number))
@@ -231,7 +250,9 @@ class OfALoadedMachine(unittest.TestCase):
             for load in loads:
                 load.kill(), load.wait()
         counts = link.end().counts
-        self.assertRegex("\n".join(void(counts, [0, 0], 1.0)), r"up: of 100 packets more than one was (late|unread) by over 1 ms")
+        self.assertRegex(
+            "\n".join(void(counts, [0, 0], 1.0)), r"up: of 100 packets more than one was (late|unread) by over 1 ms"
+        )
         self.assertGreater(max(counts.ways[0].unread.most, counts.ways[0].late.most), 1_000_000)
 
 
@@ -265,13 +286,17 @@ class OfTheEnd(unittest.TestCase):
             link.near.send(udp(number))
         until(lambda: link.came() == 3)
         ended = link.end()
-        self.assertEqual((ended.counts["underway"], ended.counts.ways[0].underway, ended.counts.ways[0]["discarded"]), (3, 3, 0))
+        self.assertEqual(
+            (ended.counts["underway"], ended.counts.ways[0].underway, ended.counts.ways[0]["discarded"]), (3, 3, 0)
+        )
         self.assertNotIn("\nd,", ended.history)
         audited_as_lawful(self, link.transcript)
 
     def test_a_wrong_line_is_told_before_the_first_packet(self) -> None:
-        for text, told in (("line pipe 1 config bw 8Mbps\n", "word 5: bad number"), ("at 5 queue 1 config weight 2\n", "needs a pipe"),
-                           ("at 5 pipe delete 7\n", "no-such-pipe"), ("nonsense\n", "no line of a plan")):
+        for text, told in (
+            ("line pipe 1 config bw 8Mbps\n", "word 5: bad number"), ("at 5 queue 1 config weight 2\n", "needs a pipe"),
+            ("at 5 pipe delete 7\n", "no-such-pipe"), ("nonsense\n", "no line of a plan")
+        ):
             link = Linked(text)
             self.assertEqual((link.process.wait(5), told in link.process.stderr.read().decode()), (3, True))
             link.process.stderr.close()

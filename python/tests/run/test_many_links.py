@@ -34,7 +34,9 @@ int epoll_wait(int polling, struct epoll_event *told, int most, int timeout) {
 }
 int ppoll(struct pollfd *polled, nfds_t count, const struct timespec *timeout, const sigset_t *mask) {
     timed += timeout && (timeout->tv_sec || timeout->tv_nsec);
-    return ((int (*)(struct pollfd *, nfds_t, const struct timespec *, const sigset_t *))dlsym(RTLD_NEXT, "ppoll"))(polled, count, timeout, mask);
+    int (*next)(struct pollfd *, nfds_t, const struct timespec *, const sigset_t *);
+    *(void **)&next = dlsym(RTLD_NEXT, "ppoll");
+    return next(polled, count, timeout, mask);
 }
 __attribute__((destructor)) static void tell(void) {
     FILE *file = fopen(getenv("CLOCK_READS"), "w");
@@ -52,16 +54,23 @@ class OfManyLinks(unittest.TestCase):
     """Three links of one host: ends 0 and 1, 2 and 3, 4 and 5."""
 
     def test_each_way_has_its_pipe_and_its_counts(self) -> None:
-        link = Linked("".join(f"seed {way} 1\nline pipe {way + 1} config delay {10 * (6 - way)}\n" for way in range(6)), links=3)
+        link = Linked(
+            "".join(f"seed {way} 1\nline pipe {way + 1} config delay {10 * (6 - way)}\n" for way in range(6)), links=3
+        )
         for way in range(6):
             link.ends[way].send(udp(way))
         self.assertEqual([link.ends[way ^ 1].recv(99) for way in range(6)], [udp(way) for way in range(6)])
         ended = link.end()
         audited_as_lawful(self, link.transcript)
         self.assertEqual(found(r"^c,0,submit,pipe,(\d),", ended.history), [*"123456"])
-        dues = [int(due) - int(begun) for begun, due in sorted(found(r"^d,\d+,\d+,(\d+),(\d+)$", ended.history), key=lambda one: int(one[0]))]
+        dues = [
+            int(due) - int(begun)
+            for begun, due in sorted(found(r"^d,\d+,\d+,(\d+),(\d+)$", ended.history), key=lambda one: int(one[0]))
+        ]
         self.assertEqual(dues, [10**7 * (6 - way) for way in range(6)])
-        self.assertEqual([(way["came"], way["sent"], sum(way.unread.bins)) for way in ended.counts.ways], [(1, 1, 1)] * 6)
+        self.assertEqual(
+            [(way["came"], way["sent"], sum(way.unread.bins)) for way in ended.counts.ways], [(1, 1, 1)] * 6
+        )
 
     def test_what_a_plan_says_of_a_link_is_of_that_alone(self) -> None:
         """A loss, an outage and a change of the second link, of three."""
@@ -116,12 +125,17 @@ class OfManyLinks(unittest.TestCase):
 @needs("cc")
 class OfItsClock(unittest.TestCase):
     def counted(self, *plan: str) -> tuple[int, int, int]:
-        """Of 100 packets that come one after the other: the readings of the clock, the waits with a timeout, and the turns."""
+        """Of 100 packets that come one after the other: the readings of the clock, the waits with a timeout, and the
+        turns."""
         with tempfile.TemporaryDirectory() as name:
             counter, told = Path(name, "counter.so"), Path(name, "reads")
-            subprocess.run(["cc", "-shared", "-fPIC", "-x", "c", "-", "-o", str(counter)], input=COUNTER, text=True, check=True)
+            subprocess.run(
+                ["cc", "-shared", "-fPIC", "-x", "c", "-", "-o", str(counter)], input=COUNTER, text=True, check=True
+            )
             with mock.patch.dict(os.environ, {"LD_PRELOAD": str(counter), "CLOCK_READS": str(told)}):
-                link = Linked("\n".join(["line pipe 1 config delay 1", "line pipe 2 config bw 10Mbit/s delay 1", *plan, ""]))
+                link = Linked(
+                    "\n".join(["line pipe 1 config delay 1", "line pipe 2 config bw 10Mbit/s delay 1", *plan, ""])
+                )
             for number in range(50):
                 link.near.send(udp(number)), link.far.recv(99)
                 link.far.send(udp(number)), link.near.recv(99)
@@ -133,8 +147,8 @@ class OfItsClock(unittest.TestCase):
         return reads, timed, turns
 
     def test_it_is_read_twice_a_turn(self) -> None:
-        """Once behind the wait, and once as something is read or written: a packet that comes alone has a turn to come and one to leave. No
-        wait has a timeout, to which the system gives a slack of a thousandth."""
+        """Once behind the wait, and once as something is read or written: a packet that comes alone has a turn to come
+        and one to leave. No wait has a timeout, to which the system gives a slack of a thousandth."""
         reads, timed, turns = self.counted()
         self.assertLessEqual(reads, 2 * turns + 5)
         self.assertGreater(reads, 2 * turns - 50)

@@ -54,7 +54,8 @@ class InAFolder(unittest.TestCase):
 class OfNets(InAFolder):
     def test_commands_on_hosts(self) -> None:
         net = self.two()
-        done = net.run("a", "hostname; cat; echo $HINGE_HOST $X >&2; exit 3", check=False, input="said\n", env={**os.environ, "X": "x"}, cwd=self.folder)
+        done = net.run("a", "hostname; cat; echo $HINGE_HOST $X >&2; exit 3", check=False, input="said\n",
+                       env={**os.environ, "X": "x"}, cwd=self.folder)
         self.assertEqual((done.returncode, done.stdout, done.stderr), (3, "a\nsaid\n", "a x\n"))
         self.assertEqual(net.run("b", ["sh", "-c", "pwd; printf '%s' \"$1\"", "sh", "a  b"], cwd="/").stdout, "/\na  b")
         with self.assertRaisesRegex(CommandFailed, "^a: echo out; false: status 1\nout$"):
@@ -62,7 +63,9 @@ class OfNets(InAFolder):
         self.assertRaises(subprocess.TimeoutExpired, net.run, "a", "sleep 100", timeout=0.5)
         self.assertRaisesRegex(CommandFailed, "no host of this net, which are a, b", net.run, "c", "true")
         net.run("a", f"{PING} b && {PING} {net.address('b')} && {PING} {net.address('a')}")
-        self.assertEqual([(way["from"], way["to"], way["came"]) for way in net.status()["ways"]], [("a", "b", 2), ("b", "a", 2)])
+        self.assertEqual(
+            [(way["from"], way["to"], way["came"]) for way in net.status()["ways"]], [("a", "b", 2), ("b", "a", 2)]
+        )
         self.assertEqual((net.audit().split()[0], [way["came"] for way in net.status()["ways"]]), ("lawful", [2, 2]))
 
     def test_what_is_between_links(self) -> None:
@@ -75,18 +78,28 @@ class OfNets(InAFolder):
         net.run("a", f"{PING} c")
         self.assertEqual([(way["pipe"], way["came"]) for way in net.status()["ways"]], [(1, 1), (2, 1), (3, 1), (4, 1)])
         self.assertEqual(net.paths(), "lawful between links")
-        lines = [line.split(",")[-1] for line in net.history.read_text().splitlines() if line.startswith("c,0,configure")]
-        self.assertEqual(lines, [f"pipe {pipe} config delay {delay}" for pipe, delay in ((1, 1), (2, 2), (3, 3), (4, 3))])
+        lines = [
+            line.split(",")[-1] for line in net.history.read_text().splitlines() if line.startswith("c,0,configure")
+        ]
+        self.assertEqual(
+            lines, [f"pipe {pipe} config delay {delay}" for pipe, delay in ((1, 1), (2, 2), (3, 3), (4, 3))]
+        )
 
     def test_a_partition_and_its_end(self) -> None:
         net = self.two()
         pings = []
-        for change in (lambda: net.cut("a"), lambda: net.heal("a", off=["b"]), lambda: net.cut("b", off=["a"]), lambda: net.change("b", "a", "9ms", "8ms")):
+        for change in (
+            lambda: net.cut("a"), lambda: net.heal("a", off=["b"]), lambda: net.cut("b", off=["a"]),
+            lambda: net.change("b", "a", "9ms", "8ms")
+        ):
             change()
             pings.append(net.run("a", f"{PING} b", check=False).returncode)
         self.assertEqual(pings, [1, 0, 1, 0])
-        self.assertEqual([one.line for one in net.obeyed], [f"pipe {pipe} config delay {words}" for words in ("5 plr 1", "5", "5 plr 1") for pipe in (1, 2)]
-                         + ["pipe 1 config delay 8", "pipe 2 config delay 9"])
+        self.assertEqual(
+            [one.line for one in net.obeyed],
+            [f"pipe {pipe} config delay {words}" for words in ("5 plr 1", "5", "5 plr 1") for pipe in (1, 2)]
+            + ["pipe 1 config delay 8", "pipe 2 config delay 9"],
+        )
         self.assertEqual(net.audit().split()[0], "lawful")
         self.assertEqual([way["lost"] for way in net.status()["ways"]], [2, 0])
 
@@ -98,7 +111,11 @@ class OfNets(InAFolder):
         self.assertGreaterEqual(told[1].seconds, cut.seconds)
         until(lambda: net.run("a", PING + " b").returncode == 0 and net.status()["moment"] / 1e9 > told[3].seconds)
         net.end()
-        lines = [line.split(",")[-1] for line in net.history.read_text().splitlines() if line.startswith("c,0,configure,pipe 1")]
+        lines = [
+            line.split(",")[-1]
+            for line in net.history.read_text().splitlines()
+            if line.startswith("c,0,configure,pipe 1")
+        ]
         self.assertEqual(lines[-2:], ["pipe 1 config delay 5", "pipe 1 config delay 9"])
 
     def test_a_port_is_waited_for(self) -> None:
@@ -112,8 +129,10 @@ class OfNets(InAFolder):
         self.assertIn("c,0,configure,pipe 1 config bw 384000bit/s delay 25 queue 10\n", net.history.read_text())
 
     def test_a_port_that_nobody_serves(self) -> None:
-        for command, wanted in (("echo my fault; exit 3", "a doesn't listen at port 7; its command ended with 3\n  my fault"),
-                                ("echo x; exec sleep 100", "a doesn't listen at port 7 after 0.2 s\n  x")):
+        for command, wanted in (
+            ("echo my fault; exit 3", "a doesn't listen at port 7; its command ended with 3\n  my fault"),
+            ("echo x; exec sleep 100", "a doesn't listen at port 7 after 0.2 s\n  x"),
+        ):
             net = Net(self.folder / wanted[-1])
             net.host("a", command, port=7, wait="200ms")
             net.host("b")
@@ -126,9 +145,13 @@ class OfNets(InAFolder):
 
     def test_what_is_refused(self) -> None:
         net = self.two()
-        self.assertRaisesRegex(NetError, "^the link: '10mbit': not a bandwidth; write 10Mbit/s$", net.link, "a", "b", "10mbit")
+        self.assertRaisesRegex(
+            NetError, "^the link: '10mbit': not a bandwidth; write 10Mbit/s$", net.link, "a", "b", "10mbit"
+        )
         net.cut("a", 1, at=2), net.heal("a", at=3)
-        self.assertRaisesRegex(NetError, r"described.net line 5: 'heal': no cut without a LENGTH is before it", net.start)
+        self.assertRaisesRegex(
+            NetError, r"described.net line 5: 'heal': no cut without a LENGTH is before it", net.start
+        )
         net = Net(self.folder / "second", mtu=7)
         net.host("a"), net.host("b"), net.link("a", "b")
         self.assertRaisesRegex(NetError, "argument --mtu: '7' is no number from 576 to 65535", net.start)
@@ -169,7 +192,10 @@ class OfNets(InAFolder):
 
         for number in (signal.SIGKILL, signal.SIGTERM, signal.SIGINT):
             folder = self.folder / str(int(number))
-            caller = subprocess.Popen([sys.executable, "-c", LAUNCHER.format(mark=mark), str(folder)], stdout=subprocess.PIPE, stderr=subprocess.DEVNULL, text=True)
+            caller = subprocess.Popen(
+                [sys.executable, "-c", LAUNCHER.format(mark=mark), str(folder)], stdout=subprocess.PIPE,
+                stderr=subprocess.DEVNULL, text=True
+            )
             assert caller.stdout
             self.assertEqual(caller.stdout.readline(), "begun\n")
             until(lambda: left() == 3)

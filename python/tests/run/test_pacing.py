@@ -19,7 +19,9 @@ def passages(history: str) -> list[Passage]:
     """The packets of pipe 1 that were delivered, in the order in which they came, without those that nobody sent."""
     came = {int(number): (int(moment), int(length)) for length, moment, number in
             found_all(r"^c,0,submit,pipe,1,[\d.]+,[\d.]+,17,\d+,\d+,(\d+),\d+,(\d+)\nr,queued,\d+,\d+,(\d+)$", history)}
-    left = {int(number): (int(start), int(due)) for number, start, due in found_all(r"^d,(\d+),\d+,(\d+),(\d+)$", history)}
+    left = {
+        int(number): (int(start), int(due)) for number, start, due in found_all(r"^d,(\d+),\d+,(\d+),(\d+)$", history)
+    }
     return [(*came[number], *left[number]) for number in sorted(came) if number in left]
 
 
@@ -42,7 +44,8 @@ def opportunities(moments: list[int]) -> Iterator[int]:
 
 
 def by_opportunities(packets: list[Passage], moments: list[int]) -> list[int]:
-    """When each packet leaves: at each opportunity so many bytes of those that are there, and what nobody uses is lost."""
+    """When each packet leaves: at each opportunity so many bytes of those that are there, and what nobody uses is
+    lost."""
     left, waiting, coming = [], deque[list[int]](), deque(packets)
     for moment in opportunities(moments):
         while coming and coming[0][0] <= moment:
@@ -60,7 +63,9 @@ def by_opportunities(packets: list[Passage], moments: list[int]) -> list[int]:
 
 @needs_host
 class OfTraces(unittest.TestCase):
-    def dues(self, moments: list[int], sizes: list[int], gaps: list[float], more: str = "") -> tuple[list[Passage], str]:
+    def dues(
+        self, moments: list[int], sizes: list[int], gaps: list[float], more: str = ""
+    ) -> tuple[list[Passage], str]:
         link = Linked(f"{SEEDS}slots 1 {' '.join(map(str, moments))}\nline pipe 1 config queue 1000{more}\n")
         for size, gap in zip(sizes, gaps):
             link.near.send(ip4("10.8.0.1", "10.8.0.2", 17, 1, 2, size))
@@ -71,7 +76,8 @@ class OfTraces(unittest.TestCase):
         return passages(ended.history), ended.history
 
     def close(self, told: list[Passage], moments: list[int]) -> None:
-        """A rate is in whole bit/s, so that a packet ends some ns later than it should, and never sooner; and one that shares a moment takes 1 ns or more."""
+        """A rate is in whole bit/s, so that a packet ends some ns later than it should, and never sooner; and one that
+        shares a moment takes 1 ns or more."""
         wanted = by_opportunities(told, moments)
         self.assertEqual(len(wanted), len(told))
         for (_, length, start, due), moment in zip(told, wanted):
@@ -108,7 +114,9 @@ class OfTraces(unittest.TestCase):
         self.close(passages(ended.history), [5])
 
     def test_what_is_no_trace(self) -> None:
-        for line in ("slots 1", "slots 1 x", "slots 1 3 2", "slots 1 0", "slots 3 5", "list 0 x", "hold 1 5 4", "hold 9 1 2"):
+        for line in (
+            "slots 1", "slots 1 x", "slots 1 3 2", "slots 1 0", "slots 3 5", "list 0 x", "hold 1 5 4", "hold 9 1 2"
+        ):
             ended = Linked(line + "\n").ended()
             self.assertEqual((ended.status, ended.said), (3, f"hinge: {line}: no line of a plan\n"))
 
@@ -116,11 +124,15 @@ class OfTraces(unittest.TestCase):
 @needs_host
 class OfOutages(unittest.TestCase):
     def test_nothing_leaves_in_an_outage_whatever_the_length_of_packets(self) -> None:
-        """What begins in it leaves at its end, as exactly as a rate in whole bit/s can say. It begins where packets wait, and where none do."""
+        """What begins in it leaves at its end, as exactly as a rate in whole bit/s can say. It begins where packets
+        wait, and where none do."""
         begin, end = 100 * MS, 350 * MS
         for size in (40, 100, 800, 1200, 1500):
             for greedy in (True, False):
-                link = Linked(f"{SEEDS}hold 1 {begin} {end}\nline pipe 1 config bw 2000000bit/s queue 1000\noutage {begin} 1 1500\n")
+                link = Linked(
+                    f"{SEEDS}hold 1 {begin} {end}\nline pipe 1 config bw 2000000bit/s queue 1000\noutage {begin} 1"
+                    " 1500\n"
+                )
                 if not greedy:
                     until(lambda: link.page.read()["moment"] >= begin)
                 count = min(900, 2_000_000 // 8 // 5 // size) if greedy else 5
@@ -139,7 +151,10 @@ class OfOutages(unittest.TestCase):
                 self.assertEqual({due - start for _, _, start, due in told if not begin <= start < end}, {transmission})
 
     def test_a_change_of_the_line_holds_behind_the_outage(self) -> None:
-        link = Linked(f"{SEEDS}hold 1 0 {100 * MS}\nline pipe 1 config bw 2000000bit/s\noutage 0 1 1500\nat {50 * MS} pipe 1 config bw 1000000bit/s delay 3\n")
+        link = Linked(
+            f"{SEEDS}hold 1 0 {100 * MS}\nline pipe 1 config bw 2000000bit/s\noutage 0 1 1500\nat {50 * MS} pipe 1"
+            " config bw 1000000bit/s delay 3\n"
+        )
         for _ in range(3):
             link.near.send(ip4("10.8.0.1", "10.8.0.2", 17, 1, 2, 1000))
         until(lambda: link.page.read().ways[0]["sent"] == 3)

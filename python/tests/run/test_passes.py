@@ -41,8 +41,10 @@ class OfPasses(unittest.TestCase):
         self.assertEqual(got, [udp(number) for number in sorted(range(COUNT), key=lambda number: drawn[number])])
         ended = link.end()
         audited_as_lawful(self, link.transcript)
-        self.assertEqual(found(r"^c,0,submit,pipe,(6\d{4}),10.8.0.1,10.8.0.2,17,1,(\d+),100,2147483647,", ended.history),
-                         [(str(FIRST + place), str(number)) for number, place in enumerate(drawn)])
+        self.assertEqual(
+            found(r"^c,0,submit,pipe,(6\d{4}),10.8.0.1,10.8.0.2,17,1,(\d+),100,2147483647,", ended.history),
+            [(str(FIRST + place), str(number)) for number, place in enumerate(drawn)],
+        )
         way = ended.counts.ways[0]
         self.assertEqual((way["came"], way["sent"], way["held"], way.underway), (COUNT, COUNT, 0, 0))
 
@@ -56,13 +58,18 @@ class OfPasses(unittest.TestCase):
         link = Linked(f"{SEEDS}line pipe 1 config delay 3\ncopies 0 {CERTAIN // 4} 9\n")
         for number in range(COUNT):
             link.near.send(udp(number))
-        wanted = [udp(number) for number in range(COUNT) for _ in range(1 + (word(9, number + 1, 1 + OF_COPIES) < CERTAIN // 4))]
+        wanted = [
+            udp(number)
+            for number in range(COUNT)
+            for _ in range(1 + (word(9, number + 1, 1 + OF_COPIES) < CERTAIN // 4))
+        ]
         self.assertTrue(COUNT < len(wanted) < 2 * COUNT)
         self.assertEqual([link.far.recv(1000) for _ in wanted], wanted)
         ended = link.end()
         audited_as_lawful(self, link.transcript)
         way = ended.counts.ways[0]
-        self.assertEqual((way["came"], way["came_bytes"], way["sent"], way.underway), (len(wanted), 100 * len(wanted), len(wanted), 0))
+        self.assertEqual((way["came"], way["came_bytes"], way["sent"], way.underway),
+                         (len(wanted), 100 * len(wanted), len(wanted), 0))
 
     def test_copies_draw_losses_of_their_own(self) -> None:
         link = Linked(f"{SEEDS}line pipe 1 config plr 0.5\ncopies 0 {CERTAIN} 9\n")
@@ -73,7 +80,10 @@ class OfPasses(unittest.TestCase):
         self.assertEqual(words, [str(word(1, number)) for number in range(1, 2 * COUNT + 1)])
 
     def test_a_second_pipe_that_was_deleted(self) -> None:
-        link = Linked(f"{SEEDS}line pipe 1 config delay 20\nline pipe {FIRST} config\njitter 0 {FIRST} 1 7\nat 0 pipe delete {FIRST}\n")
+        link = Linked(
+            f"{SEEDS}line pipe 1 config delay 20\nline pipe {FIRST} config\njitter 0 {FIRST} 1 7\nat 0 pipe delete"
+            f" {FIRST}\n"
+        )
         link.near.send(udp(1))
         until(lambda: link.page.read().ways[0]["no_target"] == 1)
         ended = link.end()
@@ -81,27 +91,39 @@ class OfPasses(unittest.TestCase):
         self.assertEqual((ended.counts.ways[0].underway, ended.counts.ways[0]["held"]), (0, 0))
 
     def test_lines_that_are_none(self) -> None:
-        for line in ("jitter 0 1", "jitter 2 60000 5 7", "jitter 0 0 5 7", "jitter 0 65530 7 7", "copies 0 1", "copies 5 1 1"):
+        for line in (
+            "jitter 0 1", "jitter 2 60000 5 7", "jitter 0 0 5 7", "jitter 0 65530 7 7", "copies 0 1", "copies 5 1 1"
+        ):
             ended = Linked(f"{SEEDS}{line}\n").ended()
             self.assertEqual((ended.status, ended.said), (3, f"hinge: {line}: no line of a plan\n"))
 
 
 class OfWords(unittest.TestCase):
     def test_they_are_parted_from_the_others(self) -> None:
-        self.assertEqual(parted("10Mbit/s jitter 5ms 20ms duplicate 0.5%", "x"), ("10Mbit/s 20ms", Extra(5, round(CERTAIN / 200))))
+        self.assertEqual(
+            parted("10Mbit/s jitter 5ms 20ms duplicate 0.5%", "x"), ("10Mbit/s 20ms", Extra(5, round(CERTAIN / 200)))
+        )
         self.assertEqual((parted("", "x"), parted("duplicate 100%", "x")), (("", Extra()), ("", Extra(0, CERTAIN))))
-        for text, wanted in (("jitter", "'jitter '"), ("jitter 5", "'jitter 5'"), ("jitter 0ms", "'jitter 0ms'"), ("jitter 1001ms", "'jitter 1001ms'"),
-                             ("duplicate 101%", "'duplicate 101%'"), ("duplicate", "'duplicate '"), ("reorder 5%", "'reorder': write jitter 5ms"),
-                             ("jitter 1ms 5ms jitter 2ms", "'jitter': it is there twice")):
+        for text, wanted in (
+            ("jitter", "'jitter '"), ("jitter 5", "'jitter 5'"), ("jitter 0ms", "'jitter 0ms'"),
+            ("jitter 1001ms", "'jitter 1001ms'"), ("duplicate 101%", "'duplicate 101%'"), ("duplicate", "'duplicate '"),
+            ("reorder 5%", "'reorder': write jitter 5ms"), ("jitter 1ms 5ms jitter 2ms", "'jitter': it is there twice")
+        ):
             with self.assertRaisesRegex(Wrong, f"^--up: {wanted}"):
                 parted(text, "--up")
 
     def test_a_plan_has_a_pipe_for_each_delay(self) -> None:
         told = plan_words("--up", "20ms jitter 2ms", "--down", "jitter 1ms duplicate 50%", "--seed", "7")
-        self.assertEqual([line for line in told if line.startswith("line")],
-                         ["line pipe 1 config delay 20", "line pipe 2 config", "line pipe 65533 config", "line pipe 65534 config delay 1", "line pipe 65535 config delay 2",
-                          "line pipe 65531 config", "line pipe 65532 config delay 1"])
-        self.assertEqual([line for line in told if line.startswith(("jitter", "copies"))], ["jitter 0 65533 3 7", "jitter 1 65531 2 7", f"copies 1 {CERTAIN // 2} 7"])
+        self.assertEqual(
+            [line for line in told if line.startswith("line")],
+            [
+                "line pipe 1 config delay 20", "line pipe 2 config", "line pipe 65533 config",
+                "line pipe 65534 config delay 1", "line pipe 65535 config delay 2", "line pipe 65531 config",
+                "line pipe 65532 config delay 1"
+            ],
+        )
+        self.assertEqual([line for line in told if line.startswith(("jitter", "copies"))],
+                         ["jitter 0 65533 3 7", "jitter 1 65531 2 7", f"copies 1 {CERTAIN // 2} 7"])
         with self.assertRaisesRegex(Wrong, "jitter: pipe 65535 is needed for it, and is another's"):
             plan_words("--up", "jitter 2ms", "--line", "pipe 65535 config")
 
@@ -110,10 +132,21 @@ class OfWords(unittest.TestCase):
 @needs("ping")
 class OfRuns(InAFolder):
     def test_a_net_is_lawful_between_links_too(self) -> None:
-        done = self.net("host a\nrouter r\nmain b ping -c 100 -i 0.002 -W 5 -q a; ping -c 10 -i 0.01 -q ip6-a\nlink a r 2ms jitter 4ms\nlink r b duplicate 20% / jitter 3ms\n", "--seed", "1")
+        done = self.net(
+            (
+                "host a\nrouter r\nmain b ping -c 100 -i 0.002 -W 5 -q a; ping -c 10 -i 0.01 -q ip6-a\nlink a r 2ms"
+                " jitter 4ms\nlink r b duplicate 20% / jitter 3ms\n"
+            ),
+            "--seed",
+            "1",
+        )
         self.assertEqual((done.returncode, "100 received, +" in done.stdout), (0, True), done.stdout + done.stderr)
-        self.assertEqual(found("^#,(?:pipe|copies),(.*)$", self.history()), ["1,a,a~r", *(f"{pipe},a~r,r" for pipe in range(65531, 65536)), "2,r,r~a", *(f"{pipe},r~a,a" for pipe in range(65526, 65531)),
-                                                                        "3,r,b", "3", "4,b,b~r", *(f"{pipe},b~r,r" for pipe in range(65522, 65526))])
+        self.assertEqual(found("^#,(?:pipe|copies),(.*)$", self.history()),
+                         [
+                             "1,a,a~r", *(f"{pipe},a~r,r" for pipe in range(65531, 65536)), "2,r,r~a",
+                             *(f"{pipe},r~a,a" for pipe in range(65526, 65531)), "3,r,b", "3", "4,b,b~r",
+                             *(f"{pipe},b~r,r" for pipe in range(65522, 65526))
+                         ])
         paths = hinge("paths", self.folder / "out")
         if paths.returncode == 7:
             self.skipTest("no numpy")
@@ -123,7 +156,10 @@ class OfRuns(InAFolder):
     def test_they_are_of_a_whole_run(self) -> None:
         (self.folder / "t").write_text("5s up 20ms jitter 3ms\n")
         for words in (["--timeline", self.folder / "t"],):
-            self.assertRegex(run("--up", "5ms", *words, "--", "true").stderr, "line 1: 5s: jitter and duplicate are of a whole run: they belong to --up, --down and a line `link`$")
+            self.assertRegex(
+                run("--up", "5ms", *words, "--", "true").stderr,
+                "line 1: 5s: jitter and duplicate are of a whole run: they belong to --up, --down and a line `link`$",
+            )
         self.file.write_text("host a\nhost b\nlink a b 5ms\nat 1s a b jitter 5ms\n")
         self.assertRegex(hinge("net", self.file, "--dry-run").stderr, "line 4: jitter and duplicate are of a whole run")
 

@@ -40,14 +40,18 @@ class Words(unittest.TestCase):
         for text in ("10Mbit/s 20ms queue 100 loss 1%", "bw 10Mbit/s delay 20ms queue 100 plr 0.01"):
             self.assertEqual(link_line(2, text, "--down"), wanted)
         self.assertEqual(link_line(1, "", "--up"), "pipe 1 config")
-        self.assertRaisesRegex(Wrong, "^--up: '10mbit': not a bandwidth; write 10Mbit/s$", link_line, 1, "10mbit", "--up")
+        self.assertRaisesRegex(
+            Wrong, "^--up: '10mbit': not a bandwidth; write 10Mbit/s$", link_line, 1, "10mbit", "--up"
+        )
 
     def test_the_spelling_of_the_program(self) -> None:
-        for line, wanted in (("ipfw pipe 1 config bw 5Mbit/s delay 5ms", "pipe 1 config bw 5000000bit/s delay 5"),
-                             ("pipe 1 config bw 1KByte/s queue 64K", "pipe 1 config bw 8000bit/s queue 64Kbytes"),
-                             ("queue 2 config pipe 1 weight 3 queue 7", "queue 2 config pipe 1 weight 3 queue 7"),
-                             ("pipe 1 delete", "pipe delete 1"), ("pipe 1 config bw fast plr x", "pipe 1 config bw fast plr x"),
-                             ("pipe 1 config plr 0.5", "pipe 1 config plr 0.5"), ("pipe 1 config plr 1.", "pipe 1 config plr 1")):
+        for line, wanted in (
+            ("ipfw pipe 1 config bw 5Mbit/s delay 5ms", "pipe 1 config bw 5000000bit/s delay 5"),
+            ("pipe 1 config bw 1KByte/s queue 64K", "pipe 1 config bw 8000bit/s queue 64Kbytes"),
+            ("queue 2 config pipe 1 weight 3 queue 7", "queue 2 config pipe 1 weight 3 queue 7"),
+            ("pipe 1 delete", "pipe delete 1"), ("pipe 1 config bw fast plr x", "pipe 1 config bw fast plr x"),
+            ("pipe 1 config plr 0.5", "pipe 1 config plr 0.5"), ("pipe 1 config plr 1.", "pipe 1 config plr 1")
+        ):
             self.assertEqual(spelled(line), wanted)
 
     def test_a_loss_rate_keeps_its_whole_part(self) -> None:
@@ -56,18 +60,24 @@ class Words(unittest.TestCase):
         self.assertTrue(21474836 <= kept < 21474836.001, kept)
 
     def test_times(self) -> None:
-        self.assertEqual([duration(text) for text in ("5s", "600ms", "0.5", "2min")], [5 * 10**9, 6 * 10**8, 5 * 10**8, 120 * 10**9])
+        self.assertEqual([duration(text) for text in ("5s", "600ms", "0.5", "2min")],
+                         [5 * 10**9, 6 * 10**8, 5 * 10**8, 120 * 10**9])
         for text in ("x", "5 s", "-1s", "1e3s", "9999999h", ""):
             self.assertRaises(Wrong, duration, text)
 
     def test_rules_that_are_wrong(self) -> None:
         plan = Plan()
         plan.link("pipe 1 config")
-        for rule in ("tcp", "=> queue x", "tcp => queue 1", "tcp port => pipe 1", "foo => pipe 1", "port 9-1 => pipe 1", "dst 10.0.0.0/33 => pipe 1"):
+        for rule in (
+            "tcp", "=> queue x", "tcp => queue 1", "tcp port => pipe 1", "foo => pipe 1", "port 9-1 => pipe 1",
+            "dst 10.0.0.0/33 => pipe 1"
+        ):
             self.assertRaises(Wrong, plan.rule, rule)
 
     def test_losses_that_are_wrong(self) -> None:
-        for text in ("gilbert:1", "gilbert:0.1,2", "list:", "list:0", "list:5-3", "list:1-99999999", "random:1", "gilbert:nan,1"):
+        for text in (
+            "gilbert:1", "gilbert:0.1,2", "list:", "list:0", "list:5-3", "list:1-99999999", "random:1", "gilbert:nan,1"
+        ):
             self.assertRaises(Wrong, Plan().loss, text)
 
     def test_shares_of_times(self) -> None:
@@ -82,11 +92,17 @@ class Traces(OfFiles):
 
     def test_seconds_with_and_without_a_header(self) -> None:
         found = Trace([Rate(0, 100), Rate(1_500_000_000, 200)], [])
-        for text in ("seconds,bit/s\n0,100\n1.5,200\n", "0,100\n1.5,200\n", " 0 , 100\n\n# a comment\n1.5,200 # another\n", "\ufeff0,100\r\n1.5,200\r\n"):
+        for text in (
+            "seconds,bit/s\n0,100\n1.5,200\n", "0,100\n1.5,200\n", " 0 , 100\n\n# a comment\n1.5,200 # another\n",
+            "\ufeff0,100\r\n1.5,200\r\n"
+        ):
             self.assertEqual(self.rates(text), found)
 
     def test_what_is_no_trace_is_told_by_its_line(self) -> None:
-        for text in ("-,5\n", "inf,5\n", "-1,5\n", "0,inf\n", "0,nan\n", "0,1e300\n", "1e300,5\n", "0,-1\n", "0,5,6\n", "0,5\nx,y\n", "2,1\n1,1\n", "1\n2,3\n", "a\nb\n"):
+        for text in (
+            "-,5\n", "inf,5\n", "-1,5\n", "0,inf\n", "0,nan\n", "0,1e300\n", "1e300,5\n", "0,-1\n", "0,5,6\n",
+            "0,5\nx,y\n", "2,1\n1,1\n", "1\n2,3\n", "a\nb\n"
+        ):
             self.assertRaises(Wrong, self.rates, text)
         self.assertRaisesRegex(Wrong, "line 2: not of the form", self.rates, "0,5\nx,y\n")
         self.assertRaisesRegex(Wrong, "isn't UTF-8", self.rates, b"0,5\n\xff,5\n")
@@ -102,8 +118,14 @@ class Traces(OfFiles):
     def test_a_rate_of_0_is_an_outage(self) -> None:
         """Of a pipe with masks it is one longest packet over its length: 1,500 bytes in 2 s are 6,000 bit/s."""
         text = "0,1000000\n10,0\n12,2000000\n"
-        first, last = (f"at {moment}000000000 pipe 1 config bw {rate}000000bit/s delay 5" for moment, rate in ((0, 1), (12, 2)))
-        self.assertEqual(self.plan(text), ["hold 1 10000000000 12000000000", first.replace("0000000000", "0"), last[:0] + "outage 10000000000 1 1500", last])
+        first, last = (
+            f"at {moment}000000000 pipe 1 config bw {rate}000000bit/s delay 5" for moment, rate in ((0, 1), (12, 2))
+        )
+        self.assertEqual(self.plan(text),
+                         [
+                             "hold 1 10000000000 12000000000", first.replace("0000000000", "0"),
+                             last[:0] + "outage 10000000000 1 1500", last
+                         ])
         slow = "at 10000000000 pipe 1 config bw 6000bit/s delay 5 mask src-port 0xffff"
         self.assertIn(slow, self.plan(text, more=" mask src-port 0xffff"))
         self.assertEqual(outage_rate(2 * 10**9, 1500), 6000)
@@ -112,18 +134,31 @@ class Traces(OfFiles):
         """Each moment as it is; counted over bins where that is asked, of which the last ends with the period."""
         self.assertEqual(self.plan("1\n1\n2\n350\n"), ["slots 1 1 1 2 350"])
         rates = ((0, 360_000), (100, 60_000), (300, 240_000))
-        begins = [f"at {(350 * turn + moment) * 10**6} pipe 1 config bw {rate}bit/s delay 5" for turn in range(2) for moment, rate in rates]
+        begins = [
+            f"at {(350 * turn + moment) * 10**6} pipe 1 config bw {rate}bit/s delay 5"
+            for turn in range(2)
+            for moment, rate in rates
+        ]
         self.assertEqual(self.plan("1\n1\n2\n350\n", BIN, 700_000_000), begins)
-        self.assertEqual(self.plan("1\n1\n2\n350\n", None, 700_000_000, " mask src-port 0xffff"), [f"{line} mask src-port 0xffff" for line in begins])
+        self.assertEqual(self.plan("1\n1\n2\n350\n", None, 700_000_000, " mask src-port 0xffff"),
+                         [f"{line} mask src-port 0xffff" for line in begins])
 
     def test_a_trace_of_one_rate_is_one_line(self) -> None:
         """12 Mbit/s, and 1.2: mahimahi's traces of a slot each, however often they begin anew."""
         for text, rate in (("1\n", 12), ("10\n", 1.2), ("0\n", 12)):
-            self.assertEqual(self.plan(text, None, 3600 * 10**9, " mask src-port 0xffff"), [f"at 0 pipe 1 config bw {round(rate * 10**6)}bit/s delay 5 mask src-port 0xffff"])
+            self.assertEqual(self.plan(text, None, 3600 * 10**9, " mask src-port 0xffff"),
+                             [f"at 0 pipe 1 config bw {round(rate * 10**6)}bit/s delay 5 mask src-port 0xffff"])
 
     def test_bins_that_cannot_be(self) -> None:
-        for words, wanted in ((("10\n", 10**8), "the bin is longer than the trace, which begins anew after 10 ms"), (("1\n4000000000\n", 10**6), "4000000000 bins; take a longer --bin"),
-                              (("1\n1\n7\n", 10**6, 3600 * 10**9), "would begin 514285 times; take a longer --bin, or a shorter --trace-for"), (("4294967296\n",), "up to 4294967295")):
+        for words, wanted in (
+            (("10\n", 10**8), "the bin is longer than the trace, which begins anew after 10 ms"),
+            (("1\n4000000000\n", 10**6), "4000000000 bins; take a longer --bin"),
+            (
+                ("1\n1\n7\n", 10**6, 3600 * 10**9),
+                "would begin 514285 times; take a longer --bin, or a shorter --trace-for",
+            ),
+            (("4294967296\n",), "up to 4294967295"),
+        ):
             self.assertRaisesRegex(Wrong, wanted, self.plan, *words)
 
 
@@ -136,8 +171,12 @@ class Timelines(OfFiles):
         return [change.line for change in plan.changes.all()]
 
     def test_an_outage_ends_with_what_was_asked_meanwhile(self) -> None:
-        self.assertEqual(self.lines("1s up outage 2s\n2s pipe 1 config bw 5Mbit/s\n", "pipe 1 config bw 1Mbit/s", "queue 1 config pipe 1"),
-                         ["pipe 1 config bw 6000bit/s", "outage 1 1500", "pipe 1 config bw 5Mbit/s", "pipe 1 config bw 5Mbit/s"])
+        self.assertEqual(
+            self.lines(
+                "1s up outage 2s\n2s pipe 1 config bw 5Mbit/s\n", "pipe 1 config bw 1Mbit/s", "queue 1 config pipe 1"
+            ),
+            ["pipe 1 config bw 6000bit/s", "outage 1 1500", "pipe 1 config bw 5Mbit/s", "pipe 1 config bw 5Mbit/s"],
+        )
 
     def test_an_outage_of_one_queue_is_held(self) -> None:
         """Those that meet are one, and each begins with a packet that nobody sent."""
@@ -145,12 +184,17 @@ class Timelines(OfFiles):
         plan.link("pipe 1 config bw 1Mbit/s"), plan.link("pipe 2 config"), plan.link("queue 1 config pipe 2")
         plan.timeline(self.file("1s up outage 2s\n3s up outage 1s\n2s up outage 1s\n9s outage 1s\n"))
         told = [line for line in plan.text(1).splitlines() if line.startswith(("hold", "outage"))]
-        self.assertEqual(told, ["hold 1 1000000000 4000000000", "hold 1 9000000000 10000000000",
-                                *(f"outage {moment}000000000 {pipe} 1500" for moment, pipe in ((1, 1), (9, 1), (9, 2)))])
+        self.assertEqual(told,
+                         [
+                             "hold 1 1000000000 4000000000", "hold 1 9000000000 10000000000",
+                             *(f"outage {moment}000000000 {pipe} 1500" for moment, pipe in ((1, 1), (9, 1), (9, 2)))
+                         ])
 
     def test_many_outages_in_a_long_trace(self) -> None:
         """36,000 lines and 2,000 outages take a second, and not their product."""
-        text = "".join(f"{n / 10} pipe 1 config bw {n + 1}\n" for n in range(36000)) + "".join(f"{n} up outage 200ms\n" for n in range(2000))
+        text = "".join(f"{n / 10} pipe 1 config bw {n + 1}\n" for n in range(36000)) + "".join(
+            f"{n} up outage 200ms\n" for n in range(2000)
+        )
         begun = time.process_time()
         self.assertEqual(len(self.lines(text, "pipe 1 config")), 36000 + 2000)
         self.assertEqual(len(self.lines(text, "pipe 1 config", "queue 1 config pipe 1")), 36000 + 3 * 2000)
@@ -160,11 +204,15 @@ class Timelines(OfFiles):
         self.assertEqual(self.lines("1s up outage 2s\n2s pipe delete 1\n", "pipe 1 config")[-1], "pipe delete 1")
 
     def test_a_lossy_outage(self) -> None:
-        self.assertEqual(self.lines("1s down outage 2s lossy\n", "pipe 2 config delay 3"), ["pipe 2 config delay 3 plr 1", "pipe 2 config delay 3"])
+        self.assertEqual(self.lines("1s down outage 2s lossy\n", "pipe 2 config delay 3"),
+                         ["pipe 2 config delay 3 plr 1", "pipe 2 config delay 3"])
 
     def test_a_link_names_its_own_pipes(self) -> None:
-        for text, wanted in (("pipe 1 config delay 1", "pipe 7 config delay 1"), ("ipfw pipe delete 2", "ipfw pipe delete 8"), ("pipe 2 delete", "pipe 8 delete"),
-                             ("queue 1 config pipe 2 weight 3", "queue 1 config pipe 8 weight 3"), ("pipe 9 config", "pipe 9 config"), ("pipe", "pipe")):
+        for text, wanted in (
+            ("pipe 1 config delay 1", "pipe 7 config delay 1"), ("ipfw pipe delete 2", "ipfw pipe delete 8"),
+            ("pipe 2 delete", "pipe 8 delete"), ("queue 1 config pipe 2 weight 3", "queue 1 config pipe 8 weight 3"),
+            ("pipe 9 config", "pipe 9 config"), ("pipe", "pipe")
+        ):
             self.assertEqual((of_link(text, 3), of_link(text, 0)), (wanted, text))
 
     def test_lines_that_are_wrong(self) -> None:
@@ -179,11 +227,13 @@ class OfOptions(OfFiles):
         return plan_of(parser.parse_args(words), 1500).configured
 
     def test_the_order_of_lines(self) -> None:
-        """Queues can be of the pipes of --up and --down, which go before lines that configure the same pipe; what isn't named is open."""
+        """Queues can be of the pipes of --up and --down, which go before lines that configure the same pipe; what isn't
+        named is open."""
         queue, up = "queue 1 config pipe 1 weight 3", "pipe 1 config bw 10Mbit/s"
         self.assertEqual(self.configured("--line", queue, "--up", "10Mbit/s"), [up, queue, "pipe 2 config"])
         file = self.file(f"pipe 1 config delay 3\n{queue}  # of it\n")
-        self.assertEqual(self.configured("--config", file, "--up", "10Mbit/s", "--down", "5ms"), ["pipe 2 config delay 5ms", "pipe 1 config delay 3", queue, up])
+        self.assertEqual(self.configured("--config", file, "--up", "10Mbit/s", "--down", "5ms"),
+                         ["pipe 2 config delay 5ms", "pipe 1 config delay 3", queue, up])
         self.assertEqual(self.configured("--line", queue), [queue, "pipe 1 config", "pipe 2 config"])
 
     def test_a_preset_is_for_what_nothing_else_says(self) -> None:
@@ -213,12 +263,25 @@ class Cautions(unittest.TestCase):
         """A tenth of 1 ms is 100 us; bins end above their time."""
         plan = "line pipe 1 config bw 8000bit/s delay 20\nline pipe 2 config delay 1\nline pipe 3 config delay 0\n"
         self.assertEqual(cautions(self.counts(30), [0, 0], plan), [])
-        self.assertEqual(cautions(self.counts(30), [2, 0], plan),
-                         ["CAUTION, this machine was too busy: up: the system dropped 2 packets before the link and 0 behind it", "--late 0.1ms makes such a run void"])
+        self.assertEqual(
+            cautions(self.counts(30), [2, 0], plan),
+            [
+                "CAUTION, this machine was too busy: up: the system dropped 2 packets before the link and 0 behind it",
+                "--late 0.1ms makes such a run void",
+            ],
+        )
         slow = self.counts(30)
         slow.ways[0].late = Times((*[0] * 135, 100, *[0] * (BINS - 136)), 3_000_000)
-        self.assertEqual(cautions(slow, [0, 0], plan),
-                         ["CAUTION, this machine was too busy: up: of 100 packets more than one was late by over 0.1 ms (p99 3.000 ms)", "--late 0.1ms makes such a run void"])
+        self.assertEqual(
+            cautions(slow, [0, 0], plan),
+            [
+                (
+                    "CAUTION, this machine was too busy: up: of 100 packets more than one was late by over 0.1 ms (p99"
+                    " 3.000 ms)"
+                ),
+                "--late 0.1ms makes such a run void",
+            ],
+        )
         self.assertEqual(cautions(slow, [0, 0], "line pipe 1 config delay 50\n"), [])
         self.assertEqual(cautions(slow, [0, 0], "line pipe 1 config\n"), [])
 
@@ -228,7 +291,8 @@ class Cautions(unittest.TestCase):
 
 class OfTranscripts(OfFiles):
     def test_what_is_told_of_long_ones(self) -> None:
-        """A file that is longer than an audit reads by itself has the command that reads it; the file is as short as that allows."""
+        """A file that is longer than an audit reads by itself has the command that reads it; the file is as short as
+        that allows."""
         path = self.file("dummynet-live,1\n#" + "x" * 100 + "\nend,0\n")
         with open(path, "r+b") as file:
             self.assertEqual(list(told(path, 1)), [])
@@ -239,7 +303,11 @@ class OfTranscripts(OfFiles):
             file.write(b"\n")
         [line] = told(path, 1)
         size, command = AUDITED + 1, line.rpartition(": ")[2]
-        self.assertEqual((line.partition(",")[0], command), (f"{path} has {size} bytes", f"dummynet audit --most-history {size} {path}"))
-        refused, read = (subprocess.run([dummynet(), *words], capture_output=True, text=True) for words in (["audit", path], command.split()[1:]))
+        self.assertEqual((line.partition(",")[0], command),
+                         (f"{path} has {size} bytes", f"dummynet audit --most-history {size} {path}"))
+        refused, read = (
+            subprocess.run([dummynet(), *words], capture_output=True, text=True)
+            for words in (["audit", path], command.split()[1:])
+        )
         self.assertEqual((refused.stderr, refused.returncode), ("history too long\n", 6))
         self.assertNotIn("too long", read.stderr)

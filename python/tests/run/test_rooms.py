@@ -12,7 +12,9 @@ import sys
 import tempfile
 import unittest
 
-from linked import AS_IN_A_CONTAINER, HINGE, audited, audited_as_lawful, found, needs, needs_mounts, needs_rooms, run, until
+from linked import (
+    AS_IN_A_CONTAINER, HINGE, audited, audited_as_lawful, found, needs, needs_mounts, needs_rooms, run, until
+)
 
 
 CHROOTED = """mount --make-rshared / && cd "$0" || exit 99
@@ -38,24 +40,35 @@ class OfCommands(unittest.TestCase):
         self.assertEqual(run("--", "sh", "-c", "kill -9 $$").returncode, 137)
 
     def test_what_is_wrong_is_told_before_anything_starts(self) -> None:
-        for words, status, told in ((["--up", "10Mbps"], 2, "hinge run: --up: '10Mbps': not a bandwidth; write 10Mbit/s\n"),
-                                    (["--loss", "1%"], 2, "hinge run: --loss 1%: none of gilbert:P,R[,B[,G]] and list:N,N-M; "
-                                     "a rate of loss is a word of a link, as in --up 'loss 1%'\n"),
-                                    (["--line", "queue 1 config pipe 9"], 3, "hinge: queue 1 config pipe 9: no-such-pipe\n"),
-                                    (["--late", "soon"], 2, "hinge run: soon: no time, as 5s or 600ms\n"),
-                                    (["--late", "2"], 2, "hinge run: --late 2: it has no unit; write 2ms or 2s\n"),
-                                    (["--json", "/none/json"], 2, "hinge run: --json /none/json: it can't be written\n"),
-                                    (["--config", "/none"], 2, "hinge run: /none: No such file or directory\n"),
-                                    (["--map", "tcp"], 2, "hinge run: --map tcp: it doesn't end in `=> pipe N` or `=> queue N`\n")):
+        for words, status, told in (
+            (["--up", "10Mbps"], 2, "hinge run: --up: '10Mbps': not a bandwidth; write 10Mbit/s\n"),
+            (
+                ["--loss", "1%"],
+                2,
+                "hinge run: --loss 1%: none of gilbert:P,R[,B[,G]] and list:N,N-M; "
+                "a rate of loss is a word of a link, as in --up 'loss 1%'\n",
+            ),
+            (["--line", "queue 1 config pipe 9"], 3, "hinge: queue 1 config pipe 9: no-such-pipe\n"),
+            (["--late", "soon"], 2, "hinge run: soon: no time, as 5s or 600ms\n"),
+            (["--late", "2"], 2, "hinge run: --late 2: it has no unit; write 2ms or 2s\n"),
+            (["--json", "/none/json"], 2, "hinge run: --json /none/json: it can't be written\n"),
+            (["--config", "/none"], 2, "hinge run: /none: No such file or directory\n"),
+            (["--map", "tcp"], 2, "hinge run: --map tcp: it doesn't end in `=> pipe N` or `=> queue N`\n")
+        ):
             got = run(*words, "--", "echo", "started")
             self.assertEqual((got.returncode, got.stdout, got.stderr), (status, "", told))
         self.assertEqual(run().returncode, 2)
 
     def test_an_option_of_another_tool_is_answered_by_the_words_of_a_link(self) -> None:
-        for option, value, words in (("--rate", "10Mbit/s", "10Mbit/s"), ("--delay", "20ms", "20ms"), ("--jitter", "5ms", "jitter 5ms")):
+        for option, value, words in (
+            ("--rate", "10Mbit/s", "10Mbit/s"), ("--delay", "20ms", "20ms"), ("--jitter", "5ms", "jitter 5ms")
+        ):
             got = run(option, value, "--", "echo", "started")
             self.assertEqual((got.returncode, got.stdout), (2, ""))
-            self.assertIn(f"{option}: the words of a link are in --up and --down; write --up '{words}' --down '{words}'\n", got.stderr)
+            self.assertIn(
+                f"{option}: the words of a link are in --up and --down; write --up '{words}' --down '{words}'\n",
+                got.stderr,
+            )
             self.assertIn("nothing came", run("--up", words, "--", "true").stderr)
 
     def test_a_transcript_that_is_a_file_to_be_read_is_refused(self) -> None:
@@ -83,10 +96,15 @@ class OfCommands(unittest.TestCase):
     @needs("ip")
     def test_an_interface_that_goes_away_ends_the_run(self) -> None:
         got = run("--", "sh", "-c", "sleep 0.2; ip link del dev link; sleep 1000")
-        self.assertEqual((got.returncode, "void: the link broke off before the end" in got.stderr), (75, True), got.stderr)
+        self.assertEqual(
+            (got.returncode, "void: the link broke off before the end" in got.stderr), (75, True), got.stderr
+        )
 
     def test_a_server(self) -> None:
-        serve = f"{sys.executable} -c \"import socket; s=socket.create_server(('',80)); c=s.accept()[0]; c.send(b'hello'); c.close()\""
+        serve = (
+            f"{sys.executable} -c \"import socket; s=socket.create_server(('',80)); c=s.accept()[0]; c.send(b'hello');"
+            " c.close()\""
+        )
         ask = "import socket; print(socket.create_connection(('server',80)).recv(9))"
         got = run("--up", "10ms", "--server", serve, "--", sys.executable, "-c", ask)
         self.assertEqual((got.returncode, got.stdout.strip()), (0, "b'hello'"), got.stderr)
@@ -97,9 +115,13 @@ class OfCommands(unittest.TestCase):
 @needs("chroot", "getent")
 class OfChroots(unittest.TestCase):
     def test_a_root_that_is_no_file_system_s(self) -> None:
-        """The folder is in mounts that are shared, so that one that the run doesn't keep to itself would be seen from outside."""
+        """The folder is in mounts that are shared, so that one that the run doesn't keep to itself would be seen from
+        outside."""
         with tempfile.TemporaryDirectory() as folder:
-            words = ["unshare", "-m", "sh", "-c", CHROOTED, folder, *HINGE, "run", "--quiet", "--", "getent", "ahostsv4", "server"]
+            words = [
+                "unshare", "-m", "sh", "-c", CHROOTED, folder, *HINGE, "run", "--quiet", "--", "getent", "ahostsv4",
+                "server"
+            ]
             got = subprocess.run(words, capture_output=True, text=True, timeout=30)
         self.assertEqual((got.returncode, got.stderr), (0, ""))
         self.assertIn("10.8.0.2", got.stdout)
@@ -114,7 +136,9 @@ class OfContainers(unittest.TestCase):
         """Six entries: two lines, a packet there and back, and the two moments at which they leave."""
         with tempfile.TemporaryDirectory() as folder:
             words = [*AS_IN_A_CONTAINER, *HINGE, "run", "--quiet", "--up", "10ms", "--transcript", f"{folder}/h", "--"]
-            got = subprocess.run([*words, "sh", "-c", "sleep 2; ping -c 1 server6"], capture_output=True, text=True, timeout=30)
+            got = subprocess.run(
+                [*words, "sh", "-c", "sleep 2; ping -c 1 server6"], capture_output=True, text=True, timeout=30
+            )
             self.assertEqual((got.returncode, got.stderr), (0, ""))
             self.assertEqual(audited(f"{folder}/h"), "lawful 6")
 
@@ -125,7 +149,10 @@ class OfPings(unittest.TestCase):
     def test_round_trips_and_an_audit(self) -> None:
         for name in ("server", "server6"):
             with tempfile.TemporaryDirectory() as folder:
-                got = run("--up", "30ms", "--down", "40ms", "--transcript", f"{folder}/h", "--", "ping", "-c", "3", "-i", "0.2", name)
+                got = run(
+                    "--up", "30ms", "--down", "40ms", "--transcript", f"{folder}/h", "--", "ping", "-c", "3", "-i",
+                    "0.2", name
+                )
                 times = [float(text) for text in found(r"time=([0-9.]+)", got.stdout)]
                 self.assertEqual((got.returncode, len(times)), (0, 3), got.stderr)
                 self.assertGreaterEqual(min(times), 70)
@@ -133,7 +160,13 @@ class OfPings(unittest.TestCase):
 
     def test_late_makes_a_run_void(self) -> None:
         got = run("--late", "1ns", "--up", "1ms", "--", "ping", "-c", "2", "-i", "0.2", "server")
-        self.assertEqual((got.returncode, "hinge run: void: up: of 100 packets more than one was late by over 1e-06 ms" in got.stderr), (75, True))
+        self.assertEqual(
+            (
+                got.returncode,
+                "hinge run: void: up: of 100 packets more than one was late by over 1e-06 ms" in got.stderr,
+            ),
+            (75, True),
+        )
 
     def test_many_at_once_and_one_in_another(self) -> None:
         words = ["run", "--quiet", "--up", "5ms", "--", "ping", "-q", "-c", "2", "-i", "0.2", "server"]
@@ -147,7 +180,10 @@ class OfPings(unittest.TestCase):
 @needs("pgrep")
 class OfTheEnd(unittest.TestCase):
     def left(self, mark: str) -> list[int]:
-        return [int(word) for word in subprocess.run(["pgrep", "-f", mark], stdout=subprocess.PIPE, text=True).stdout.split()]
+        return [
+            int(word)
+            for word in subprocess.run(["pgrep", "-f", mark], stdout=subprocess.PIPE, text=True).stdout.split()
+        ]
 
     def end_all(self, mark: str) -> None:
         """A test that fails leaves nothing behind: what sleeps for two hours would hold the output of who runs it."""
@@ -159,7 +195,9 @@ class OfTheEnd(unittest.TestCase):
         for number, status in ((signal.SIGTERM, 143), (signal.SIGINT, 130), (signal.SIGKILL, -9)):
             mark = f"sleep {7000 + os.getpid() % 1000}.{int(number)}"
             self.addCleanup(self.end_all, mark)
-            words = ["run", "--quiet", "--server", mark, "--server-wait", "50ms", "--", "sh", "-c", f"setsid {mark} & {mark}"]
+            words = [
+                "run", "--quiet", "--server", mark, "--server-wait", "50ms", "--", "sh", "-c", f"setsid {mark} & {mark}"
+            ]
             begun = subprocess.Popen([*HINGE, *words], stdout=subprocess.DEVNULL, stderr=subprocess.DEVNULL)
             until(lambda: len(self.left(f"^{mark}$")) == 3, 30)
             begun.send_signal(number)
@@ -173,21 +211,30 @@ class OfNetworks(unittest.TestCase):
     """--net"""
 
     def test_addresses_of_ones_choice(self) -> None:
-        done = run("--quiet", "--net", "10.20.4.8/30", "--up", "5ms", "--", "sh", "-c", "grep -E 'server6?$' /etc/hosts; ping -c 1 -q 10.20.4.10 && ping -c 1 -q server")
-        self.assertEqual((done.returncode, done.stdout.splitlines()[:2]), (0, ["10.20.4.10 server", "fd08:a14:408::2 server6"]), done.stderr)
+        done = run("--quiet", "--net", "10.20.4.8/30", "--up", "5ms", "--", "sh", "-c",
+                   "grep -E 'server6?$' /etc/hosts; ping -c 1 -q 10.20.4.10 && ping -c 1 -q server")
+        self.assertEqual(
+            (done.returncode, done.stdout.splitlines()[:2]), (0, ["10.20.4.10 server", "fd08:a14:408::2 server6"]),
+            done.stderr
+        )
 
     def test_a_run_inside_a_run_reaches_the_outer_server(self) -> None:
         if shutil.which("slirp4netns") is None or shutil.which("curl") is None:
             self.skipTest("no slirp4netns or no curl")
         ask = ["curl", "-s", "-o", "/dev/null", "-w", "%{http_code} %{time_connect}", "http://10.8.0.2:8000/"]
         inner = [*HINGE, "run", "--quiet", "--net", "10.9.0.0/24", "--outside", "--up", "30ms", "--", *ask]
-        done = run("--quiet", "--up", "20ms", "--server", f"exec {sys.executable} -m http.server 8000 >/dev/null 2>&1", "--", *inner)
+        done = run(
+            "--quiet", "--up", "20ms", "--server", f"exec {sys.executable} -m http.server 8000 >/dev/null 2>&1", "--",
+            *inner
+        )
         code, _, seconds = done.stdout.partition(" ")
         self.assertEqual((done.returncode, code), (0, "200"), done.stderr)
         self.assertGreaterEqual(float(seconds), 0.03)
 
     def test_networks_that_are_none(self) -> None:
-        for text, wanted in (("10.20.0.0/31", "no network of hosts with /8 to /30"), ("10.20.0.1/24", "no network of IPv4"), ("fd00::/64", "no network of IPv4"),
-                             ("127.0.0.0/8", "no network of hosts"), ("x", "no network of IPv4")):
+        for text, wanted in (
+            ("10.20.0.0/31", "no network of hosts with /8 to /30"), ("10.20.0.1/24", "no network of IPv4"),
+            ("fd00::/64", "no network of IPv4"), ("127.0.0.0/8", "no network of hosts"), ("x", "no network of IPv4")
+        ):
             done = run("--net", text, "--", "true")
             self.assertEqual((done.returncode, wanted in done.stderr), (2, True), done.stderr)

@@ -1,4 +1,5 @@
-"""TCP that is handed over as one packet is cut as a card would cut it: the host between two sockets, each packet behind its note."""
+"""TCP that is handed over as one packet is cut as a card would cut it: the host between two sockets, each packet behind
+its note."""
 
 from __future__ import annotations
 
@@ -12,7 +13,8 @@ from typing import Callable
 
 from linked import SEEDS, Linked, audited_as_lawful, found, ip4, needs_host, until
 
-NOTE = struct.Struct("=BBHHHH")  # struct virtio_net_hdr: flags, kind, headers' length, size, start and offset of the checksum
+# struct virtio_net_hdr: flags, kind, headers' length, size, start and offset of the checksum
+NOTE = struct.Struct("=BBHHHH")
 CHECKSUM, TCP4, TCP6, ECN = 1, 1, 4, 0x80
 FIN, PUSH, ACK, ECHO, REDUCED = 1, 8, 16, 64, 128
 TCP_CHECKSUM = 16
@@ -31,14 +33,22 @@ def tcp(ends: bytes, sequence: int, flags: int, data: bytes) -> bytes:
     """With the sum of what a card adds the packet's own to: both addresses, the protocol and the length."""
     length = 20 + len(TIMES) + len(data)
     begun = summed(ends + struct.pack("!HH", 6, length))
-    return struct.pack("!HHIIBBHHH", 40000, 443, sequence % 2**32, 77, (20 + len(TIMES)) // 4 << 4, flags, 500, begun, 0) + TIMES + data
+    return (
+        struct.pack("!HHIIBBHHH", 40000, 443, sequence % 2**32, 77, (20 + len(TIMES)) // 4 << 4, flags, 500, begun, 0)
+        + TIMES
+        + data
+    )
 
 
 def in_ipv4(sequence: int, flags: int, data: bytes, number: int) -> bytes:
     """With an option of IP, and a right checksum of the header."""
     ends = socket.inet_aton("10.8.0.1") + socket.inet_aton("10.8.0.2")
     inside = tcp(ends, sequence, flags, data)
-    head = struct.pack("!BBHHHBBH", 0x46, 2, 24 + len(inside), number % 2**16, 0x4000, 64, 6, 0) + ends + bytes([1, 1, 1, 0])
+    head = (
+        struct.pack("!BBHHHBBH", 0x46, 2, 24 + len(inside), number % 2**16, 0x4000, 64, 6, 0)
+        + ends
+        + bytes([1, 1, 1, 0])
+    )
     return head[:10] + struct.pack("!H", 0xffff - summed(head)) + head[12:] + inside
 
 
@@ -68,18 +78,27 @@ class OfSegments(unittest.TestCase):
         return got, ended.history
 
     def test_each_packet_is_as_a_card_makes_it(self) -> None:
-        """The place in the stream and the number of the packet go on, beyond their ends too; FIN and PUSH are the last one's, and CWR the first's."""
+        """The place in the stream and the number of the packet go on, beyond their ends too; FIN and PUSH are the last
+        one's, and CWR the first's."""
         size, sequence, number = 1448, 2**32 - 2000, 2**16 - 2
         for build, kind, headers in ((in_ipv4, TCP4, 56), (in_ipv6, TCP6, 72)):
             for length in (size + 1, 3 * size, 40 * size + 7):
                 data = os.urandom(length)
                 whole = build(sequence, ACK | ECHO | PUSH | FIN | REDUCED, data, number)
-                wanted = [noted(build(sequence + at, ACK | ECHO | (PUSH | FIN) * (at + size >= length) | REDUCED * (at == 0), data[at:at + size], number + at // size))
-                          for at in range(0, length, size)]
+                wanted = [
+                    noted(
+                        build(
+                            sequence + at, ACK | ECHO | (PUSH | FIN) * (at + size >= length) | REDUCED * (at == 0),
+                            data[at : at + size], number + at // size
+                        )
+                    )
+                    for at in range(0, length, size)
+                ]
                 got, history = self.through([noted(whole, kind | ECN, size)], len(wanted))
                 self.assertEqual([NOTE.unpack(one[:10])[:4] for one in got], [(CHECKSUM, 0, 0, 0)] * len(wanted))
                 self.assertEqual(got, wanted)
-                self.assertEqual(found(r",40000,443,(\d+),", history), [str(headers + len(data[at:at + size])) for at in range(0, length, size)])
+                self.assertEqual(found(r",40000,443,(\d+),", history),
+                                 [str(headers + len(data[at : at + size])) for at in range(0, length, size)])
 
     def test_segments_shorter_than_their_headers(self) -> None:
         data = os.urandom(1000)
@@ -90,7 +109,9 @@ class OfSegments(unittest.TestCase):
         """Packets with and without a note, a whole one among them, and one whose note doesn't fit it."""
         data = os.urandom(3000)
         plain = NOTE.pack(0, 0, 0, 0, 0, 0) + ip4("10.8.0.1", "10.8.0.2", 17, 7, 8, 60000)
-        small, odd = noted(in_ipv4(1, ACK, b"x", 9)), NOTE.pack(CHECKSUM, TCP4, 0, 1448, 65000, TCP_CHECKSUM) + in_ipv4(1, ACK, b"x", 9)
+        small, odd = noted(in_ipv4(1, ACK, b"x", 9)), NOTE.pack(CHECKSUM, TCP4, 0, 1448, 65000, TCP_CHECKSUM) + in_ipv4(
+            1, ACK, b"x", 9
+        )
         sent = [plain, small, noted(in_ipv4(0, ACK, data, 3), TCP4, 1500), small, odd, plain]
         got, _ = self.through(sent, 7)
         cut = [noted(in_ipv4(at, ACK, data[at:at + 1500], 3 + at // 1500)) for at in (0, 1500)]
@@ -132,7 +153,8 @@ class OfJoins(unittest.TestCase):
         return got
 
     def test_they_are_cut_again_as_they_were(self) -> None:
-        """However many are in a write, which a busy machine decides, it is what a card had handed on whole; and so it is behind another link."""
+        """However many are in a write, which a busy machine decides, it is what a card had handed on whole; and so it
+        is behind another link."""
         for build, kind in ((bare_ipv4, TCP4), (in_ipv6, TCP6)):
             data, first, start = os.urandom(3 * 1448 + 7), 2**32 - 3000, 20 if kind == TCP4 else 40
 
@@ -140,7 +162,10 @@ class OfJoins(unittest.TestCase):
                 return build(first + at, ACK | PUSH * (end == len(data)), data[at:end], 2**16 - 2 + at // 1448)
 
             sent = [of_card(built(at, min(at + 1448, len(data)))) for at in range(0, len(data), 1448)]
-            for packets in (sent, [NOTE.pack(CHECKSUM, kind, start + 32, 1448, start, TCP_CHECKSUM) + built(0, len(data))]):
+            for packets in (
+                sent,
+                [NOTE.pack(CHECKSUM, kind, start + 32, 1448, start, TCP_CHECKSUM) + built(0, len(data))],
+            ):
                 at, joined = 0, 0
                 for one in self.writes(packets, len(data), len(sent)):
                     end = at + len(one) - 10 - start - 32
@@ -151,16 +176,20 @@ class OfJoins(unittest.TestCase):
                 self.assertGreater(joined, 0)
 
     def test_those_that_do_not_follow_are_not_joined(self) -> None:
-        """Another port, place, number, time to live, time stamp or flag, a longer one, or what comes behind a PUSH or a short one."""
+        """Another port, place, number, time to live, time stamp or flag, a longer one, or what comes behind a PUSH or a
+        short one."""
         data = os.urandom(1448)
         first, good = bare_ipv4(0, ACK, data, 1), bare_ipv4(1448, ACK, data, 2)
         self.assertEqual(len(self.writes([of_card(first), of_card(good)], 2896, 2)), 1)
         stamped = good[:52 - 1] + bytes([good[51] ^ 1]) + good[52:]
-        others = [bare_ipv4(1449, ACK, data, 2), bare_ipv4(1448, ACK, data, 3), bare_ipv4(1448, ACK | FIN, data, 2), good[:8] + b"\x3f" + good[9:],
-                  stamped, good[:21] + b"?" + good[22:], bare_ipv4(1448, ACK, data + b"x", 2)]
+        others = [
+            bare_ipv4(1449, ACK, data, 2), bare_ipv4(1448, ACK, data, 3), bare_ipv4(1448, ACK | FIN, data, 2),
+            good[:8] + b"\x3f" + good[9:], stamped, good[:21] + b"?" + good[22:], bare_ipv4(1448, ACK, data + b"x", 2)
+        ]
         for other in others:
             self.assertEqual(self.writes([of_card(first), of_card(other)], 2896, 2), [of_card(first), of_card(other)])
-        shorter, lacking = bare_ipv4(1448, ACK, data[:1000], 2), bare_ipv4(2896, ACK, data, 3)  # of the second 448 bytes are lost
+        # of the second 448 bytes are lost
+        shorter, lacking = bare_ipv4(1448, ACK, data[:1000], 2), bare_ipv4(2896, ACK, data, 3)
         self.assertEqual(len(self.writes([of_card(one) for one in (first, shorter, lacking)], 3896, 3)), 2)
         for before in (bare_ipv4(0, ACK | PUSH, data, 1), bare_ipv4(1, ACK, data[1:], 1)):
             self.assertEqual(len(self.writes([of_card(before), of_card(good)], 2895, 2)), 2)

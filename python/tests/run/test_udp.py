@@ -16,9 +16,12 @@ import time
 import unittest
 from typing import Iterator, Optional
 
-from linked import AT_ONCE, HINGE, audited_as_lawful, found, hinge, needs, needs_host, only_long, stopped, until, with_sigterm
+from linked import (
+    AT_ONCE, HINGE, audited_as_lawful, found, hinge, needs, needs_host, only_long, stopped, until, with_sigterm
+)
 
-SIZE, ROUND = 972, 0.041  # bytes of a datagram, 1,000 with its headers; the seconds that it takes there and back at 8 Mbit/s and 2 x 20 ms
+# bytes of a datagram, 1,000 with its headers; the seconds that it takes there and back at 8 Mbit/s and 2 x 20 ms
+SIZE, ROUND = 972, 0.041
 LINKS = ["pipe 1 config bw 8Mbit/s delay 20", "pipe 2 config delay 20"]
 LOOPBACK = {socket.AF_INET: "127.0.0.1", socket.AF_INET6: "::1"}
 
@@ -29,8 +32,10 @@ class Path:
     def __init__(self, *words: object, files: Optional[int] = None) -> None:
         """With `files`, so many descriptors at most."""
         limit = (lambda: resource.setrlimit(resource.RLIMIT_NOFILE, (files, files))) if files else None
-        self.process = subprocess.Popen([*HINGE, "udp", *map(str, words)], text=True, stdin=subprocess.DEVNULL, stdout=subprocess.PIPE,
-                                        stderr=subprocess.PIPE, preexec_fn=limit)
+        self.process = subprocess.Popen(
+            [*HINGE, "udp", *map(str, words)], text=True, stdin=subprocess.DEVNULL, stdout=subprocess.PIPE,
+            stderr=subprocess.PIPE, preexec_fn=limit
+        )
         assert self.process.stdout
         self.port = int(self.process.stdout.readline().rpartition(":")[2] or 0)
 
@@ -104,7 +109,10 @@ class OfDatagrams(InAFolder):
             status, said = path.end()
         self.assertGreaterEqual(min(took), ROUND)
         self.assertEqual([at for i, at in enumerate(came) if at < 0.021 + i / 1000], [])
-        self.assertEqual((status, counts(said, "up")["came"], counts(said, "up")["delivered"], counts(said, "down")["delivered"]), (0, 44, 44, 24))
+        self.assertEqual(
+            (status, counts(said, "up")["came"], counts(said, "up")["delivered"], counts(said, "down")["delivered"]),
+            (0, 44, 44, 24),
+        )
         with open(kept) as file:
             history = file.read()
         self.assertEqual(len(found(r"^c,0,submit,pipe,[12],127.0.0.1,127.0.0.1,17,\d+,\d+,1000,", history)), 68)
@@ -121,7 +129,8 @@ class OfDatagrams(InAFolder):
             self.assertEqual(len(found(rf"submit,pipe,1,240.0.0.1,240.0.0.1,17,\d+,\d+,{SIZE + 48},", file.read())), 3)
 
     def test_no_datagram_of_ipv6_is_cut(self) -> None:
-        """A link's packet has at most 65,535 bytes with its headers: what is longer is dropped whole, and counted, there and back."""
+        """A link's packet has at most 65,535 bytes with its headers: what is longer is dropped whole, and counted,
+        there and back."""
         with sockets(2, socket.AF_INET6) as (client, server):
             path = Path("[::1]:0", f"[::1]:{port_of(server)}")
             client.setsockopt(socket.SOL_SOCKET, socket.SO_SNDBUF, 1 << 20)
@@ -145,7 +154,12 @@ class OfDatagrams(InAFolder):
             one = min(os.sched_getaffinity(0))
             os.sched_setaffinity(host, {one})
             os.setpriority(os.PRIO_PROCESS, host, 19)
-            loads = [subprocess.Popen([sys.executable, "-c", "while 1: pass"], preexec_fn=lambda: os.sched_setaffinity(0, {one})) for _ in range(4)]
+            loads = [
+                subprocess.Popen(
+                    [sys.executable, "-c", "while 1: pass"], preexec_fn=lambda: os.sched_setaffinity(0, {one})
+                )
+                for _ in range(4)
+            ]
             try:
                 for _ in range(40):
                     client.sendto(b"some", ("127.0.0.1", path.port))
@@ -194,7 +208,9 @@ class OfDatagrams(InAFolder):
             path = Path(0, port_of(server), "--transcript", "/dev/full")
             self.assertLess(0, min(rounds(client, server, path, 2)))
             status, said = path.end()
-        self.assertEqual((status, "hinge: /dev/full: No space left on device\n" in said, "broke off" in said), (75, True, True), said)
+        self.assertEqual(
+            (status, "hinge: /dev/full: No space left on device\n" in said, "broke off" in said), (75, True, True), said
+        )
 
 
 @needs_host
@@ -251,7 +267,9 @@ class OfHostileEnds(InAFolder):
                 client.sendto(b"last", ("127.0.0.1", path.port))
                 self.assertEqual(late.recv(9), b"last")
                 status, said = path.end()
-        self.assertEqual((status, counts(said, "up")["came"], "system drops 0 before, 5 behind" in said), (0, 6, True), said)
+        self.assertEqual(
+            (status, counts(said, "up")["came"], "system drops 0 before, 5 behind" in said), (0, 6, True), said
+        )
 
     def test_a_client_at_port_0_is_counted(self) -> None:
         try:
@@ -273,7 +291,9 @@ class OfHostileEnds(InAFolder):
         with sockets(2) as [server, client]:
             path = Path(0, port_of(server))
             self.assertLess(0, min(rounds(client, server, path, 1)))
-            host = subprocess.run(["pgrep", "-P", str(path.process.pid), "hinge-link"], stdout=subprocess.PIPE, text=True)
+            host = subprocess.run(
+                ["pgrep", "-P", str(path.process.pid), "hinge-link"], stdout=subprocess.PIPE, text=True
+            )
             with stopped(int(host.stdout)):
                 for _ in range(4 * AT_ONCE):
                     client.sendto(b"x", ("127.0.0.1", path.port))
@@ -306,11 +326,17 @@ class OfWords(InAFolder):
             self.assertEqual(file.read(), "pipe 1 config delay 20\n")
 
     def test_what_is_wrong_is_told_before_it_listens(self) -> None:
-        self.assertEqual(self.refused("pipe 1 config dely 20"), (3, "hinge: pipe 1 config dely 20: word 4: unknown word\n"))
+        self.assertEqual(
+            self.refused("pipe 1 config dely 20"), (3, "hinge: pipe 1 config dely 20: word 4: unknown word\n")
+        )
         self.assertEqual(self.refused("queue 1 config pipe 9"), (3, "hinge: queue 1 config pipe 9: no-such-pipe\n"))
-        self.assertEqual(self.refused(f"{self.folder}/none"), (2, f"hinge udp: {self.folder}/none: No such file or directory\n"))
+        self.assertEqual(
+            self.refused(f"{self.folder}/none"), (2, f"hinge udp: {self.folder}/none: No such file or directory\n")
+        )
 
     def test_a_port_that_is_taken(self) -> None:
         with sockets(1) as [taken]:
             done = hinge("udp", str(port_of(taken)), "1")
-            self.assertEqual((done.returncode, done.stderr), (6, f"hinge udp: 127.0.0.1:{port_of(taken)}: Address already in use\n"))
+            self.assertEqual(
+                (done.returncode, done.stderr), (6, f"hinge udp: 127.0.0.1:{port_of(taken)}: Address already in use\n")
+            )

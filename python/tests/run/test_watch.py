@@ -28,12 +28,15 @@ class Watched(unittest.TestCase):
 
     def test_lines(self) -> None:
         got = run(*self.WORDS)
-        self.assertRegex(got.stderr, r"^   1\.0 s  \| up       0\.00\d Mbit/s      \d in link    \d\d\.\d+ ms     0 dropped  \| down")
+        self.assertRegex(
+            got.stderr, r"^   1\.0 s  \| up       0\.00\d Mbit/s      \d in link    \d\d\.\d+ ms     0 dropped  \| down"
+        )
 
     def test_a_terminal_is_given_back(self) -> None:
         ours, theirs = pty.openpty()
         fcntl.ioctl(theirs, termios.TIOCSWINSZ, struct.pack("HHHH", 30, 100, 0, 0))
-        done = subprocess.Popen([*HINGE, "run", *self.WORDS], stdin=theirs, stdout=theirs, stderr=theirs, env={**os.environ, "TERM": "xterm"})
+        done = subprocess.Popen([*HINGE, "run", *self.WORDS], stdin=theirs, stdout=theirs, stderr=theirs,
+                                env={**os.environ, "TERM": "xterm"})
         os.close(theirs)
         text = b""
         try:
