@@ -34,7 +34,7 @@ examples:
 SHELL = "sh"
 
 
-def read_words() -> argparse.Namespace:
+def command_line() -> argparse.Namespace:
     words = sys.argv[2 if sys.argv[1:2] == ["exec"] else 1:]  # `hinge net exec` is the same
     parser = argparse.ArgumentParser(prog=NAME[0], usage=f"{NAME[0]} SOCKET HOST [-- COMMAND [ARGUMENT ..]]", description=WHAT, epilog=TELLS,
                                      formatter_class=argparse.RawDescriptionHelpFormatter)
@@ -49,7 +49,7 @@ def read_words() -> argparse.Namespace:
 
 
 def main() -> NoReturn:
-    asked = read_words()
+    asked = command_line()
     with refusals():
         answer, doors = asked_at(asked.socket, {"enter": asked.host}, 2 * PATIENCE)
         if "refused" in answer:

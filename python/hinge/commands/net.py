@@ -15,9 +15,9 @@ from typing import Iterator, NoReturn, Optional
 from hinge.command import Fault
 from hinge.commands.exec import main as exec_main
 from hinge.net.description import Description, read_description
-from hinge.net.net_inside import Inside, Order
+from hinge.net.net_inside import NetInside, NetOrder
 from hinge.net.net_plan import NetPlan
-from hinge.net.net_rooms import NETWORK, Ends
+from hinge.net.net_rooms import NETWORK, NetEnds
 from hinge.net.statements import Unobeyed
 from hinge.run.first import BLOCKED, live, status_of
 from hinge.run.host import program
@@ -93,7 +93,7 @@ def descriptor(text: str) -> int:
         raise argparse.ArgumentTypeError(f"{text!r} is no open descriptor") from None
 
 
-def read_words() -> argparse.Namespace:
+def command_line() -> argparse.Namespace:
     """The options, and `command`, the main command that stands behind --."""
     words = sys.argv[1:]
     if words[:1] == ["exec"]:
@@ -154,19 +154,19 @@ def outside_of(asked: argparse.Namespace, net: Description) -> Optional[str]:
     return found
 
 
-def order_of(asked: argparse.Namespace, net: Description, mask: Mask) -> Order:
+def net_order(asked: argparse.Namespace, net: Description, mask: Mask) -> NetOrder:
     made, drawn = NetPlan(net, asked.mtu), drawn_seed(asked)
     plan = made.plan
     text = plan.text(drawn, absolute(asked.transcript), asked.realtime, MOST, is_simulated())
-    return Order(net=net, plan=text, folder=os.path.dirname(os.path.abspath(asked.file)), command=asked.command, mtu=asked.mtu, seed=drawn, draws=draws(plan),
-                 limit=limit_of(asked.late), end_wait=duration(asked.end_wait) / 1e9, transcript=asked.transcript, json=asked.json, logs=asked.logs,
-                 quiet=asked.quiet, made=made, control=asked.control, stay=asked.stay or asked.while_open is not None, shell=asked.shell,
-                 outside=outside_of(asked, net), mask=mask)
+    return NetOrder(net=net, plan=text, folder=os.path.dirname(os.path.abspath(asked.file)), command=asked.command, mtu=asked.mtu, seed=drawn, draws=draws(plan),
+                    limit=limit_of(asked.late), end_wait=duration(asked.end_wait) / 1e9, transcript=asked.transcript, json=asked.json, logs=asked.logs,
+                    quiet=asked.quiet, made=made, control=asked.control, stay=asked.stay or asked.while_open is not None, shell=asked.shell,
+                    outside=outside_of(asked, net), mask=mask)
 
 
 def show(net: Description) -> None:
     """Hosts with their addresses and links."""
-    ends = Ends(net)
+    ends = NetEnds(net)
     for name, host in net.hosts.items():
         print(f"{name} {' '.join(ends.own[name])}{' router' * host.forwards}{' main' * (name == net.main)}{f': {host.command}' if host.command else ''}")
     for number, link in enumerate(net.links):
@@ -179,7 +179,7 @@ def net_of(asked: argparse.Namespace) -> Description:
 
 
 def main() -> None:
-    asked = read_words()
+    asked = command_line()
     with net_refusals():
         net = net_of(asked)
         if asked.dry_run or asked.simulated:
@@ -192,7 +192,7 @@ def main() -> None:
         name_files(asked)
         if asked.simulated:
             refuse_staying(asked)
-            sys.exit(start.run("net", asked))
+            sys.exit(start.run_simulated("net", asked))
     begin(asked)
 
 
@@ -206,7 +206,7 @@ def begin(asked: argparse.Namespace) -> NoReturn:
     mask = signal.pthread_sigmask(signal.SIG_BLOCK, ())
     with net_refusals():
         program()
-        order = order_of(asked, net_of(asked), mask)
+        order = net_order(asked, net_of(asked), mask)
         signal.pthread_sigmask(signal.SIG_BLOCK, BLOCKED)  # once all files are read, which a FIFO may put off for ever
         most = resource.getrlimit(resource.RLIMIT_NOFILE)[1]
         resource.setrlimit(resource.RLIMIT_NOFILE, (most, most))  # two descriptors for each link
@@ -216,7 +216,7 @@ def begin(asked: argparse.Namespace) -> NoReturn:
         own_users = leave_the_system()
     first = os.fork()
     if first == 0:
-        live(lambda: Inside(order, own_users, outside).run())
+        live(lambda: NetInside(order, own_users, outside).run())
     if outside:
         outside.tell(first, own_users)
     if asked.while_open is not None:

@@ -58,7 +58,7 @@ def options() -> argparse.ArgumentParser:
     return parser
 
 
-def read_words() -> argparse.Namespace:
+def command_line() -> argparse.Namespace:
     parser = options()
     asked = parser.parse_args()
     if asked.command[:1] == ["--"]:
@@ -76,7 +76,7 @@ def refuse_beside_netns(asked: argparse.Namespace) -> None:
 
 
 def main() -> None:
-    asked = read_words()
+    asked = command_line()
     with refusals():
         refuse_beside_netns(asked)
     if not asked.simulated:
@@ -85,7 +85,7 @@ def main() -> None:
         begin(asked)
     with refusals():
         ends_of(asked.net), plan_of(asked, asked.mtu)  # so that a wrong word is told before a machine is made
-        sys.exit(start.run("run", asked))
+        sys.exit(start.run_simulated("run", asked))
 
 
 def begin(asked: argparse.Namespace) -> NoReturn:

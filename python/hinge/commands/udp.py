@@ -79,7 +79,7 @@ def options() -> argparse.ArgumentParser:
     return parser
 
 
-def bound(address: SocketAddress) -> socket.socket:
+def bound_socket(address: SocketAddress) -> socket.socket:
     family, place = found_address(address, socket.AF_INET if not address.host else 0)
     made = socket.socket(family, socket.SOCK_DGRAM)
     try:
@@ -120,7 +120,7 @@ def main() -> None:
         asked.inputs = [word for word in asked.links if " " not in word]
         order = order_of(asked, LONGEST, mask)
         signal.pthread_sigmask(signal.SIG_BLOCK, SIGNALS)  # once all files are read, which a FIFO may put off for ever
-        with bound(asked.listen) as front:
+        with bound_socket(asked.listen) as front:
             if not asked.server.port:
                 raise Wrong("SERVER: port 0 is none at which a server listens")
             _, server = found_address(asked.server, front.family)

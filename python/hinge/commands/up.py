@@ -31,7 +31,7 @@ POLL = 0.02  # s
 PATIENCE = 600.0  # s
 
 
-def read_words() -> argparse.Namespace:
+def command_line() -> argparse.Namespace:
     parser = argparse.ArgumentParser(prog=NAME[0], usage=f"{NAME[0]} FILE [--name NAME] [OPTION of hinge net ..]", description=WHAT, epilog=TELLS,
                                      formatter_class=argparse.RawDescriptionHelpFormatter)
     parser.add_argument("file", metavar="FILE")
@@ -58,7 +58,7 @@ def wait_until_ready(process: "subprocess.Popen[bytes]", socket: str, log: Path)
 
 
 def main() -> None:
-    asked = read_words()
+    asked = command_line()
     with refusals():
         socket, folder = new_socket(asked.name), Path(asked.transcripts)
         if os.path.exists(socket) and is_answered(socket):

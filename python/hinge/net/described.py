@@ -6,7 +6,7 @@ import shlex
 from pathlib import Path
 from typing import Optional, Sequence, Union
 
-from hinge.run.extras import parted
+from hinge.run.extras import without_extras
 from hinge.run.words import Wrong, link_line
 from hingetulip_words.presets import either_way
 
@@ -19,7 +19,7 @@ class NetError(Exception):
     """Why a net doesn't begin, or what it doesn't obey."""
 
 
-def spelled(lasting: Time) -> str:
+def spelled_time(lasting: Time) -> str:
     return lasting if isinstance(lasting, str) else f"{lasting:.9f}".rstrip("0").rstrip(".") + "s"
 
 
@@ -48,7 +48,7 @@ class Described:
             text = f". {shlex.quote(str(self.folder / f'{name}.sh'))}"
         self.describe(f"{word} {name} {text.strip()}")
         if port is not None:
-            self.describe(f"wait {name} port {port} {spelled(wait)}")
+            self.describe(f"wait {name} port {port} {spelled_time(wait)}")
 
     def router(self, name: str, command: Command = "", *, port: Optional[int] = None) -> None:
         """A host that hands packets on."""
@@ -63,7 +63,7 @@ class Described:
         ways = [link or ""] if back is None else [link or "", back]
         for way in ways:
             try:
-                link_line(1, parted(way, "the link")[0], "the link")
+                link_line(1, without_extras(way, "the link")[0], "the link")
             except Wrong as wrong:
                 raise NetError(str(wrong)) from None
         return " / ".join(ways) if any(ways) else ""

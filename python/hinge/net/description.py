@@ -25,7 +25,7 @@ class Host:
 
 
 @dataclass(frozen=True)
-class Link:
+class NetLink:
     """The words of a link's two ways, from the first end and back."""
 
     ends: tuple[str, str]
@@ -46,7 +46,7 @@ class Wait:
 @dataclass
 class Description:
     hosts: dict[str, Host] = field(default_factory=dict)
-    links: list[Link] = field(default_factory=list)
+    links: list[NetLink] = field(default_factory=list)
     waits: list[Wait] = field(default_factory=list)
     of_links: list[Statement] = field(default_factory=list)  # what is said of links, for plan.py
     main: Optional[str] = None
@@ -99,7 +99,7 @@ class Description:
             raise statement.wrong(two, "a link has two ends")
         if len(self.links) == MOST_LINKS:
             raise statement.wrong("", f"more than {MOST_LINKS} links")
-        self.links.append(Link((one, two), statement.both_ways(words), statement))
+        self.links.append(NetLink((one, two), statement.both_ways(words), statement))
 
     def link(self, statement: Statement) -> None:
         one, two = self.host(statement, LINK), self.host(statement, LINK)

@@ -12,10 +12,10 @@ from typing import NamedTuple, Optional, Sequence
 from hinge.command import say
 from hinge.net.description import Description
 from hinge.net.net_plan import NetPlan
-from hinge.net.net_rooms import Rooms
-from hinge.net.net_summary import lines, of_hosts, record, void
+from hinge.net.net_rooms import NetRooms
+from hinge.net.net_summary import net_lines, of_hosts, net_record, net_void
 from hinge.net.statements import Statement
-from hinge.run.control import Control, Room, opened
+from hinge.run.control import Control, HostRoom, opened
 from hinge.run.doors import Doors
 from hinge.run.extras import Extra
 from hinge.run.host import Link
@@ -38,7 +38,7 @@ NO_PRIORITY = (
 )
 
 
-class Order(NamedTuple):
+class NetOrder(NamedTuple):
     """What is asked of a net."""
 
     net: Description
@@ -62,12 +62,12 @@ class Order(NamedTuple):
     mask: Mask  # of what is started
 
 
-class Inside:
-    def __init__(self, order: Order, own_users: bool, outside: Optional[Outside]) -> None:
+class NetInside:
+    def __init__(self, order: NetOrder, own_users: bool, outside: Optional[Outside]) -> None:
         self.order, self.net, self.own_users = order, order.net, own_users
         self.page = Page(2 * len(self.net.links))
         self.processes = Processes(WATCHED if self.net.main or order.shell else WATCHED | {signal.SIGINT})
-        self.rooms = Rooms(self.net, order.mtu)
+        self.rooms = NetRooms(self.net, order.mtu)
         if outside and order.outside:
             self.rooms.lead_out(outside, order.outside)
         self.started: dict[str, int] = {}
@@ -115,15 +115,16 @@ class Inside:
                 name: self.processes.ended[pid] for name, pid in self.started.items() if pid in self.processes.ended
             }
             return {
-                **record(self.net, self.page.read(), self.rooms.dropped(), {}), "ended": ended, "silent": self.silent
+                **net_record(self.net, self.page.read(), self.rooms.dropped(), {}), "ended": ended,
+                "silent": self.silent
             }
 
         doors = Doors()
 
-        def enter_host(name: str) -> Room:
+        def enter_host(name: str) -> HostRoom:
             if name not in self.net.hosts:
                 raise Wrong(f"{name!r}: no host of this net, which are {', '.join(self.net.hosts)}")
-            return Room(doors.to(self.rooms.network[name]), self.variables(name))
+            return HostRoom(doors.to(self.rooms.network[name]), self.variables(name))
 
         return opened(self.order.control, self.order.made.plan, self.page, event, status, enter_host)
 
@@ -227,9 +228,9 @@ class Inside:
         """Tells how it went, on standard error and in the file that --json names; the status, or that of a void run."""
         order, counts = self.order, self.page.read()
         others = {name: one for name, one in ended.items() if name != self.net.main}
-        faults = void(self.net, counts, drops, order.limit)
+        faults = net_void(self.net, counts, drops, order.limit)
         if not order.quiet:
-            for line in [*lines(self.net, counts, drops), *[f"seed {order.seed}"] * order.draws]:
+            for line in [*net_lines(self.net, counts, drops), *[f"seed {order.seed}"] * order.draws]:
                 say(line)
         for line in [
             *of_hosts(others), *(told(order.transcript, counts["parts"]) if order.transcript else []),
@@ -237,6 +238,8 @@ class Inside:
         ]:
             say(line)
         if order.json:
-            told_all = {"status": status, "seed": order.seed, "void": faults, **record(self.net, counts, drops, ended)}
+            told_all = {
+                "status": status, "seed": order.seed, "void": faults, **net_record(self.net, counts, drops, ended)
+            }
             status = status_with_json(order.json, told_all, status)
         return VOID if faults else status

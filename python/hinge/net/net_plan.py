@@ -12,7 +12,7 @@ from hinge.net.description import Description
 from hinge.net.net_rooms import own_addresses
 from hinge.net.statements import Statement, Unobeyed
 from hinge.run.changes import Change, Outage
-from hinge.run.extras import parted, refuse_extras
+from hinge.run.extras import refuse_extras, without_extras
 from hinge.run.options import TRACE_LASTING
 from hinge.run.plan import Plan
 from hinge.run.words import LAST_MOMENT, WAYS, Wrong, bare, duration, link_line
@@ -50,7 +50,7 @@ class NetPlan:
         self.is_made = False
         for number, link in enumerate(net.links):
             for way, text in enumerate(link.ways):
-                rest, extra = parted(text, link.statement.place)
+                rest, extra = without_extras(text, link.statement.place)
                 self.configure(link.statement, self.link_line(link.statement, 2 * number + way + 1, rest))
                 self.plan.extra(2 * number + way, extra)
         for word, add in (

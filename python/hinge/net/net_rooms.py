@@ -36,7 +36,7 @@ def end_addresses(link: int, end: int) -> Addresses:
     return Addresses(f"10.{9 + (place >> 8)}.{place & 255}.{end + 1}", f"fd09:{place:x}::{end + 1}")
 
 
-class Ends:
+class NetEnds:
     """The names and addresses of a net's hosts and of the ends of its links."""
 
     def __init__(self, net: Description) -> None:
@@ -79,11 +79,11 @@ def in_ipv6(do: Callable[[], None]) -> None:
         pass
 
 
-class Rooms:
+class NetRooms:
     """Made in the first process."""
 
     def __init__(self, net: Description, mtu: int) -> None:
-        self.ends = Ends(net)
+        self.ends = NetEnds(net)
         self.network: dict[str, int] = {}
         tuns: dict[tuple[int, str], int] = {}
         see_own_processes()

@@ -33,7 +33,7 @@ def all_ways(counts: Counts) -> tuple[Times, Times]:
     return one, two
 
 
-def lines(net: Description, counts: Counts, drops: Sequence[int]) -> Iterator[str]:
+def net_lines(net: Description, counts: Counts, drops: Sequence[int]) -> Iterator[str]:
     for name, way, dropped in zip(way_names(net), counts.ways, drops):
         if way["came"] or dropped:
             seldom = "".join(
@@ -56,7 +56,7 @@ def lines(net: Description, counts: Counts, drops: Sequence[int]) -> Iterator[st
     )
 
 
-def void(net: Description, counts: Counts, drops: Sequence[int], limit: Optional[float]) -> list[str]:
+def net_void(net: Description, counts: Counts, drops: Sequence[int], limit: Optional[float]) -> list[str]:
     """Why a run can't be relied on: nothing where it can. Without a limit that is where the host broke off alone."""
     found: list[str] = []
     for name, way, dropped in zip(way_names(net), counts.ways, drops):
@@ -64,7 +64,7 @@ def void(net: Description, counts: Counts, drops: Sequence[int], limit: Optional
     return found + ["the links broke off before the end"] * (counts["state"] != ENDED_WELL)
 
 
-def record(net: Description, counts: Counts, drops: Sequence[int], ended: dict[str, Ended]) -> dict[str, object]:
+def net_record(net: Description, counts: Counts, drops: Sequence[int], ended: dict[str, Ended]) -> dict[str, object]:
     """The same, as JSON takes it."""
     ends = [one for link in net.links for one in (link.ends, link.ends[::-1])]
     ways: list[dict[str, object]] = [

@@ -22,9 +22,9 @@ from pathlib import Path
 from types import TracebackType
 from typing import IO, Any, Mapping, NamedTuple, Optional, Sequence, Union
 
-from hinge.net.described import Command, Described, NetError, Time, spelled
+from hinge.net.described import Command, Described, NetError, Time, spelled_time
 from hinge.net.description import Description, read_description
-from hinge.net.net_rooms import Ends
+from hinge.net.net_rooms import NetEnds
 from hinge.program import dummynet
 from hinge.run.control import ask, is_answered
 from hinge.run.words import Wrong
@@ -54,7 +54,7 @@ class Obeyed(NamedTuple):
     line: str
 
 
-def words_of(command: Command) -> list[str]:
+def shell_words(command: Command) -> list[str]:
     return ["sh", "-c", command] if isinstance(command, str) else list(command)
 
 
@@ -92,7 +92,7 @@ class Net(Described):
     def obey(self, words: str, *, at: Optional[Time] = None) -> list[Obeyed]:
         """Does what a line `at` says: at a moment, where the net hasn't begun, or now."""
         if at is not None:
-            self.describe(f"at {spelled(at)} {words}")
+            self.describe(f"at {spelled_time(at)} {words}")
             return []
         self.start()
         answer = self.asked(change=words)
@@ -115,7 +115,7 @@ class Net(Described):
     ) -> list[Obeyed]:
         """The links of a host, or those to some others, lose all packets, for so long or until they are healed."""
         return self.obey(
-            " ".join(["cut", host, *["from"] * bool(off), *off, *([] if lasting is None else [spelled(lasting)])]),
+            " ".join(["cut", host, *["from"] * bool(off), *off, *([] if lasting is None else [spelled_time(lasting)])]),
             at=at,
         )
 
@@ -139,7 +139,7 @@ class Net(Described):
         except Wrong as wrong:
             raise NetError(str(wrong)) from None
         given = {
-            "seed": self.seed, "mtu": self.mtu, "late": None if self.late is None else spelled(self.late),
+            "seed": self.seed, "mtu": self.mtu, "late": None if self.late is None else spelled_time(self.late),
             "outside": self.outside
         }
         more = [word for name, value in given.items() if value is not None for word in (f"--{name}", str(value))]
@@ -184,7 +184,7 @@ class Net(Described):
         subprocess.Popen."""
         self.start()
         return subprocess.Popen(
-            [sys.executable, str(START), "exec", str(self.socket), host, "--", *words_of(command)], **how
+            [sys.executable, str(START), "exec", str(self.socket), host, "--", *shell_words(command)], **how
         )
 
     def run(
@@ -215,7 +215,7 @@ class Net(Described):
 
     def addresses(self) -> dict[str, list[str]]:
         """All addresses of the hosts of a net that has begun; the first two are a host's own."""
-        ends = Ends(self.description) if self.description else None
+        ends = NetEnds(self.description) if self.description else None
         return {name: ends.all_of(name) for name in ends.own} if ends else {}
 
     def output(self, host: str) -> str:

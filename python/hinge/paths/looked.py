@@ -53,7 +53,7 @@ def text_of(found: Matched, line: Timeline, top: int) -> Iterator[str]:
     yield summary(found)
 
 
-def record(found: Matched, line: Timeline, folder: str, seed: str | None) -> dict[str, Any]:
+def look_record(found: Matched, line: Timeline, folder: str, seed: str | None) -> dict[str, Any]:
     """docs/JSON.md has its keys."""
     pipes = found.passages.topology.pipes
     hosts = found.passages.topology.hosts
@@ -84,7 +84,7 @@ def look_at_net(asked: argparse.Namespace, folder: str) -> None:
         print(text)
     if asked.json:
         with writing(asked.json) as out:
-            json.dump(record(found, line, folder, seed), out, indent=1)
+            json.dump(look_record(found, line, folder, seed), out, indent=1)
             out.write("\n")
     if asked.o:
         with written(asked.o) as place:

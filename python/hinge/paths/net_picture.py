@@ -6,8 +6,8 @@ from typing import Optional
 
 from hinge.lazy import np
 from hinge.paths.matching import Matched
-from hinge.paths.report import MS, Path, Way, hosts_of, paths, ways
-from hinge.paths.timeline import SECOND, Timeline, carried
+from hinge.paths.report import MS, Path, WayFigures, hosts_of, paths, ways
+from hinge.paths.timeline import SECOND, Timeline, carried_by_way
 from hinge.pictures.drawing import Bars, Drawing, Item, Key, Line, Panel, Points
 from hinge.pictures.panels import CAUSE_COLORS, COLORS, PIPES, RESTS, time_of
 from hinge.pictures.series import round_step, spread
@@ -29,12 +29,12 @@ class NetPicture:
         self.edges = np.arange(self.count + 1) * self.step / SECOND
         every = sorted(ways(found), key=lambda way: -way.packets)
         self.left_out = len(every[MOST_WAYS:])
-        self.ways: list[tuple[Way, str]] = list(zip(every[:MOST_WAYS], COLORS))
+        self.ways: list[tuple[WayFigures, str]] = list(zip(every[:MOST_WAYS], COLORS))
 
     def throughput(self) -> Panel:
         items: list[Item] = []
         for number, (way, color) in enumerate(self.ways):
-            rates = carried(self.found, way.pipe, self.step, self.count)
+            rates = carried_by_way(self.found, way.pipe, self.step, self.count)
             items.append(Line(way.name, self.edges, np.append(rates, rates[-1]), color, number))
         notes = [f"{self.left_out} other ways, which carried fewer packets, aren't drawn"] * bool(self.left_out)
         return Panel(f"Throughput of each way, per {time_of(self.step)}", "s", "Mbit/s", items, notes)

@@ -29,7 +29,7 @@ class Path:
 
 
 @dataclass(frozen=True)
-class Way:
+class WayFigures:
     """What a way of a link carried, in packets; times are in ns, None where nothing was delivered."""
 
     pipe: int
@@ -79,7 +79,7 @@ def hosts_of(found: Matched, path: Path) -> list[str]:
     return [topology.hosts[host] for host in [*(topology.pipes[pipe][0] for pipe in path.pipes), topology.pipes[path.pipes[-1]][1]]]
 
 
-def ways(found: Matched) -> list[Way]:
+def ways(found: Matched) -> list[WayFigures]:
     """The ways that had packets."""
     passages, topology, told = found.passages, found.passages.topology, []
     for pipe, (start, end) in sorted(topology.pipes.items()):
@@ -90,8 +90,8 @@ def ways(found: Matched) -> list[Way]:
         if own.any():
             lost, full = (int((own & (passages.event == event)).sum()) for event in (LOST, FULL))
             span = int(np.ptp(passages.due[out])) if len(delay) else 0
-            told.append(Way(pipe, (topology.hosts[start], topology.hosts[end]), int(own.sum()), lost, full,
-                            int(passages.length[out].sum()), span, mean, p99))
+            told.append(WayFigures(pipe, (topology.hosts[start], topology.hosts[end]), int(own.sum()), lost, full,
+                                   int(passages.length[out].sum()), span, mean, p99))
     return told
 
 

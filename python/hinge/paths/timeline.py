@@ -10,7 +10,7 @@ from typing import Iterator, NamedTuple
 
 from hinge.lazy import Reals, np
 from hinge.paths.matching import Matched
-from hinge.paths.report import Way
+from hinge.paths.report import WayFigures
 from hinge.replays.replay import OUT
 
 SECOND = 1e9  # ns
@@ -22,7 +22,7 @@ CONFIGURES = re.compile(r"(?:ipfw )?pipe (\d+) config ?(.*)")
 LOSES = re.compile(r"\bplr (\S+)")
 
 
-class Change(NamedTuple):
+class WayChange(NamedTuple):
     """What a pipe is from a moment on, in ns, in the words of a configuration; `is_cut` where it loses all packets."""
 
     moment: int
@@ -35,26 +35,26 @@ class Change(NamedTuple):
 class Timeline:
     """The changes of the ways that weren't there from the beginning, and the times in which each lost all packets, in ns."""
 
-    changes: list[Change]
+    changes: list[WayChange]
     cuts: dict[int, list[tuple[int, int]]]
     span: int
 
 
-def read_change(moment: int, text: str) -> Change | None:
+def read_change(moment: int, text: str) -> WayChange | None:
     found = CONFIGURES.fullmatch(text)
     if not found:
         return None
     rates = LOSES.findall(found[2])
     is_cut = bool(rates) and float(rates[-1]) == 1
-    return Change(moment, int(found[1]), found[2].removesuffix(" plr 1") if is_cut else found[2], is_cut)
+    return WayChange(moment, int(found[1]), found[2].removesuffix(" plr 1") if is_cut else found[2], is_cut)
 
 
 def timeline(found: Matched, obeyed: list[tuple[int, str]]) -> Timeline:
     passages = found.passages
     changes = [change for moment, text in obeyed if (change := read_change(moment, text))]
     span = max([int(passages.came.max(initial=0)), int(passages.due.max(initial=0)), *(change.moment for change in changes)])
-    before: dict[int, Change] = {}
-    new, cuts = list[Change](), dict[int, list[tuple[int, int]]]()
+    before: dict[int, WayChange] = {}
+    new, cuts = list[WayChange](), dict[int, list[tuple[int, int]]]()
     for change in changes:
         last = before.get(change.pipe)
         if last and last.is_cut:
@@ -69,7 +69,7 @@ def timeline(found: Matched, obeyed: list[tuple[int, str]]) -> Timeline:
     return Timeline(new, cuts, span)
 
 
-def name_of(found: Matched, pipe: int) -> str:
+def name_of_way(found: Matched, pipe: int) -> str:
     topology = found.passages.topology
     start, end = topology.pipes.get(pipe, (-1, -1))
     return f"{topology.hosts[start]} > {topology.hosts[end]}" if start >= 0 else f"pipe {pipe}"
@@ -77,16 +77,16 @@ def name_of(found: Matched, pipe: int) -> str:
 
 def told_changes(found: Matched, line: Timeline) -> Iterator[str]:
     """A line for the changes of one kind that were made at once."""
-    groups: list[list[Change]] = []
+    groups: list[list[WayChange]] = []
     for change in line.changes:
-        like = [group for group in groups if change.moment - group[0].moment < AT_ONCE and kind_of(group[0]) == kind_of(change)]
+        like = [group for group in groups if change.moment - group[0].moment < AT_ONCE and words_of_change(group[0]) == words_of_change(change)]
         like[-1].append(change) if like else groups.append([change])
     for group in groups:
-        names = ", ".join(dict.fromkeys(name_of(found, change.pipe) for change in group))
+        names = ", ".join(dict.fromkeys(name_of_way(found, change.pipe) for change in group))
         yield f"{group[0].moment / SECOND:10.3f} s  {names}: {'cut' if group[0].is_cut else group[0].words or 'open'}"
 
 
-def kind_of(change: Change) -> str:
+def words_of_change(change: WayChange) -> str:
     return "cut" if change.is_cut else change.words
 
 
@@ -98,7 +98,7 @@ def letters() -> str:
         return ASCII_BLOCKS
 
 
-def carried(found: Matched, pipe: int, step: int, count: int) -> Reals:
+def carried_by_way(found: Matched, pipe: int, step: int, count: int) -> Reals:
     """Mbit/s of a way in each step of so many ns."""
     passages = found.passages
     out = (passages.pipe == pipe) & (passages.event == OUT)
@@ -117,7 +117,7 @@ def row_of(rates: Reals, cuts: list[tuple[int, int]], step: int, blocks: str) ->
     return "".join(row)
 
 
-def chart(found: Matched, line: Timeline, told: list[Way]) -> Iterator[str]:
+def chart(found: Matched, line: Timeline, told: list[WayFigures]) -> Iterator[str]:
     """The rows of the ways, each by its own most, with x where it was cut."""
     if not told or not line.span:
         return
@@ -127,5 +127,5 @@ def chart(found: Matched, line: Timeline, told: list[Way]) -> Iterator[str]:
     end = f"{line.span / SECOND:.3f} s"
     yield f"{'way'.ljust(width)}  0 s{end.rjust(count - 3)}  most, Mbit/s"
     for way in told:
-        rates = carried(found, way.pipe, step, count)
+        rates = carried_by_way(found, way.pipe, step, count)
         yield f"{way.name.ljust(width)}  {row_of(rates, line.cuts.get(way.pipe, []), step, letters())}  {rates.max():.3f}"

@@ -26,17 +26,17 @@ MOST_DOORS = 8  # descriptors with an answer
 Record = dict[str, object]
 
 
-class Room(NamedTuple):
+class HostRoom(NamedTuple):
     """A host's room, as another process enters it."""
 
     doors: list[int]  # of doors.py
     variables: dict[str, str]  # of the environment there
 
 
-Enter = Callable[[str], Room]
+Enter = Callable[[str], HostRoom]
 
 
-def nobody(host: str) -> Room:
+def nobody(host: str) -> HostRoom:
     """Of a run without rooms."""
     raise Wrong(f"{host!r}: it has no hosts of its own")
 

@@ -44,7 +44,7 @@ def chance_of(text: str, option: str) -> int:
     return round(float(found[1]) * CERTAIN / 100)
 
 
-def parted(text: str, option: str) -> tuple[str, Extra]:
+def without_extras(text: str, option: str) -> tuple[str, Extra]:
     """The words of a link without these, and what they say."""
     words, rest, found = text.split(), list[str](), Extra()
     while words:
@@ -64,5 +64,5 @@ def parted(text: str, option: str) -> tuple[str, Extra]:
 
 def refuse_extras(text: str, option: str) -> None:
     """They are of a whole run."""
-    if parted(text, option)[1] != Extra():
+    if without_extras(text, option)[1] != Extra():
         raise Wrong(f"{option}: jitter and duplicate are of a whole run: they belong to --up, --down and a line `link`")

@@ -7,7 +7,7 @@ import time
 from typing import Optional
 
 from hinge.command import say
-from hinge.run.control import Enter, Room
+from hinge.run.control import Enter, HostRoom
 from hinge.run.doors import Doors
 from hinge.run.ends import ends_of
 from hinge.run.host import Link
@@ -103,10 +103,10 @@ class Inside:
         """What opens the rooms to `hinge exec`."""
         doors = Doors()
 
-        def enter_host(host: str) -> Room:
+        def enter_host(host: str) -> HostRoom:
             if host not in HOSTS:
                 raise Wrong(f"{host!r}: the hosts are {' and '.join(HOSTS)}")
-            return Room(doors.to(self.rooms.client if host == HOSTS[0] else self.rooms.server), {})
+            return HostRoom(doors.to(self.rooms.client if host == HOSTS[0] else self.rooms.server), {})
 
         return enter_host
 

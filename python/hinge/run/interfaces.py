@@ -44,7 +44,7 @@ def packed(attributes: Iterable[tuple[int, bytes]]) -> bytes:
     )
 
 
-def ask(kind: int, body: bytes, attributes: Iterable[tuple[int, bytes]]) -> None:
+def ask_kernel(kind: int, body: bytes, attributes: Iterable[tuple[int, bytes]]) -> None:
     """Asks the kernel for a change. An ioctl would take root for some."""
     body += packed(attributes)
     with socket.socket(socket.AF_NETLINK, socket.SOCK_RAW, 0) as asked:
@@ -56,7 +56,7 @@ def ask(kind: int, body: bytes, attributes: Iterable[tuple[int, bytes]]) -> None
 
 def change(name: str, flags: int, changed: int, attributes: Iterable[tuple[int, bytes]]) -> None:
     """Changes an interface: which flags it has of those that are to change, and its attributes."""
-    ask(SETLINK, struct.pack("BxHiII", 0, 0, socket.if_nametoindex(name), flags, changed), attributes)
+    ask_kernel(SETLINK, struct.pack("BxHiII", 0, 0, socket.if_nametoindex(name), flags, changed), attributes)
 
 
 def set_up(name: str, changed: int = UP, attributes: tuple[tuple[int, int], ...] = ()) -> None:
@@ -91,7 +91,7 @@ def family_and_bytes(text: str) -> tuple[int, bytes]:
 
 def add_address(name: str, text: str, bits: int) -> None:
     family, data = family_and_bytes(text)
-    ask(
+    ask_kernel(
         NEWADDR, struct.pack("BBBBi", family, bits, NODAD, 0, socket.if_nametoindex(name)),
         [(LOCAL, data), (ADDRESS, data)]
     )
@@ -100,7 +100,9 @@ def add_address(name: str, text: str, bits: int) -> None:
 def add_route(gateway: str) -> None:
     """The way to all other networks of the gateway's family."""
     family, data = family_and_bytes(gateway)
-    ask(NEWROUTE, struct.pack("BBBBBBBBI", family, 0, 0, 0, MAIN_TABLE, BY_BOOT, 0, UNICAST, 0), [(GATEWAY, data)])
+    ask_kernel(
+        NEWROUTE, struct.pack("BBBBBBBBI", family, 0, 0, 0, MAIN_TABLE, BY_BOOT, 0, UNICAST, 0), [(GATEWAY, data)]
+    )
 
 
 def add_interface_route(text: str, name: str, source: str, bits: Optional[int] = None, table: int = MAIN_TABLE) -> None:
@@ -108,7 +110,7 @@ def add_interface_route(text: str, name: str, source: str, bits: Optional[int] =
     have the source where they have no other."""
     family, data = family_and_bytes(text)
     index, bits = struct.pack("I", socket.if_nametoindex(name)), 8 * len(data) if bits is None else bits
-    ask(
+    ask_kernel(
         NEWROUTE,
         struct.pack(
             "BBBBBBBBI", family, bits, 0, 0, 0, BY_BOOT, LINK_SCOPE if family == socket.AF_INET else 0, UNICAST, 0

@@ -14,7 +14,7 @@ import struct
 from typing import NamedTuple
 
 from hinge.run.ends import OWN
-from hinge.run.interfaces import add_interface_route, add_tun, ask, dropped, hand_on
+from hinge.run.interfaces import add_interface_route, add_tun, ask_kernel, dropped, hand_on
 from hinge.run.rooms import Rooms, see_own_processes
 from hinge.run.system import Missing, enter, try_to_write
 from hinge.run.words import Wrong
@@ -46,7 +46,7 @@ def network_of(text: str) -> int:
         raise Wrong(f"--netns {text}: {error.strerror}: it is a process, or a path as /run/netns/NAME") from None
 
 
-def setting(name: str) -> str:
+def read_setting(name: str) -> str:
     with open(SETTINGS + name) as file:
         return file.read().strip()
 
@@ -70,8 +70,8 @@ def way_out() -> WayOut:
 
 def rule(kind: int, priority: int, table: int, comes_by: str = "") -> None:
     given = [(COMES_BY, comes_by.encode() + b"\0")] if comes_by else []
-    ask(kind, struct.pack("BBBBBBBBI", socket.AF_INET, 0, 0, 0, 0, 0, 0, TO_TABLE, 0),
-        [*given, (PRIORITY, struct.pack("I", priority)), (TABLE, struct.pack("I", table))])
+    ask_kernel(kind, struct.pack("BBBBBBBBI", socket.AF_INET, 0, 0, 0, 0, 0, 0, TO_TABLE, 0),
+               [*given, (PRIORITY, struct.pack("I", priority)), (TABLE, struct.pack("I", table))])
 
 
 def rules(by: str) -> list[tuple[int, str]]:
@@ -120,8 +120,8 @@ class Joined(Rooms):
             },
             **OF_ALL,
         }
-        self.before = {name: setting(name) for name in needed}
-        self.handed_on = setting(f"conf/{self.out.interface}/forwarding") == "1"
+        self.before = {name: read_setting(name) for name in needed}
+        self.handed_on = read_setting(f"conf/{self.out.interface}/forwarding") == "1"
         for name, value in needed.items():
             try_to_write(SETTINGS + name, value)
         for name in (DOWN, self.out.interface):

@@ -12,7 +12,7 @@ from hinge.run.words import Wrong
 NAME = re.compile(r"[A-Za-z0-9][A-Za-z0-9._-]{0,99}", re.ASCII)
 
 
-def folder() -> str:
+def folder_of_names() -> str:
     """That of this user's names, which may not be there."""
     if os.environ.get("XDG_RUNTIME_DIR"):
         return os.path.join(os.environ["XDG_RUNTIME_DIR"], "hinge")
@@ -21,7 +21,7 @@ def folder() -> str:
 
 def socket_of(text: str) -> str:
     """A path as it is, and the socket of a name."""
-    named = os.path.join(folder(), text)
+    named = os.path.join(folder_of_names(), text)
     return named if NAME.fullmatch(text) and not os.path.exists(text) and os.path.exists(named) else text
 
 
@@ -29,7 +29,7 @@ def new_socket(name: str) -> str:
     """Where a run gets a socket by name. Its folder is made, and must be this user's alone."""
     if not NAME.fullmatch(name):
         raise Wrong(f"--name {name}: a name has letters, digits, dots and hyphens")
-    place = folder()
+    place = folder_of_names()
     os.makedirs(place, 0o700, exist_ok=True)
     found = os.lstat(place)
     if not stat.S_ISDIR(found.st_mode) or found.st_uid != os.geteuid():

@@ -8,7 +8,7 @@ import random
 from typing import Iterable, NoReturn, Optional
 
 from hinge.captures.rule_words import HELP
-from hinge.run.extras import parted
+from hinge.run.extras import without_extras
 from hinge.run.plan import MOST, Plan
 from hinge.run.transcripts import refuse_own_input
 from hinge.run.words import WAYS, Target, Wrong, bare, duration, link_line, read_lines, target_of
@@ -167,7 +167,7 @@ def lines_of(asked: argparse.Namespace) -> list[str]:
         if text is None and named and not is_given:
             text = getattr(named, option)
         if text is not None:
-            text, _ = parted(text, f"--{option}")
+            text, _ = without_extras(text, f"--{option}")
         if text is not None and not (is_given and not text.strip()):
             (last if is_given else first).append(link_line(number, text, f"--{option}"))
         elif not is_given:
@@ -201,7 +201,7 @@ def plan_of(asked: argparse.Namespace, longest: int) -> Plan:
     for line in lines_of(asked):
         plan.link(line)
     for way, option in enumerate(WAYS):
-        plan.extra(way, parted(getattr(asked, option) or "", f"--{option}")[1])
+        plan.extra(way, without_extras(getattr(asked, option) or "", f"--{option}")[1])
     for rule in asked.map:
         plan.rule(rule)
     for model in asked.loss:

@@ -53,7 +53,7 @@ class Terminal:
         )
 
 
-def opened(height: int) -> Optional[Terminal]:
+def opened_terminal(height: int) -> Optional[Terminal]:
     """Standard error, where it is a terminal that is large enough."""
     try:
         return Terminal(height) if os.isatty(2) else None

@@ -58,7 +58,7 @@ def rate_of(fields: list[str]) -> Rate:
     return Rate(round(seconds * SECOND), round(rate))
 
 
-def read_rates(path: str, rows: list[tuple[int, list[str]]]) -> list[Rate]:
+def rates_of_rows(path: str, rows: list[tuple[int, list[str]]]) -> list[Rate]:
     found: list[Rate] = []
     for at, fields in rows:
         try:
@@ -115,7 +115,7 @@ def read_trace(path: str) -> Trace:
     if not rows:
         raise Wrong(f"{path}: it has no moments")
     if len(rows[0][1]) > 1:
-        return Trace(read_rates(path, rows), [])
+        return Trace(rates_of_rows(path, rows), [])
     if any(len(fields) > 1 for _, fields in rows):
         raise Wrong(f"{path}: lines of seconds,bit/s and of milliseconds")
     return Trace([], read_moments(path, rows))

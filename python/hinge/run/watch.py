@@ -51,10 +51,10 @@ def graph(values: list[float], columns: int) -> str:
 def terminal() -> Optional[Terminal]:
     """The terminal, where standard error is one that has graphs, and this Python has its curses."""
     try:
-        from hinge.run.terminal import opened
+        from hinge.run.terminal import opened_terminal
     except ImportError:
         return None
-    return opened(HEIGHT)
+    return opened_terminal(HEIGHT)
 
 
 class Watch:

@@ -58,24 +58,24 @@ def checksum_of(*paths: Path, begin: str = "") -> str:
     return digest.hexdigest()[:LETTERS]
 
 
-def inputs() -> str:
+def checksum_of_inputs() -> str:
     """A checksum of what a kernel is built of beside the source of Linux."""
     return checksum_of(CONFIG, PATCH, begin=repr(sorted(VERSION.items())))
 
 
 def folder_of(version: str) -> Path:
     """Where the kernel of a version of Linux is kept."""
-    return cache() / f"{version}-{inputs()}"
+    return cache() / f"{version}-{checksum_of_inputs()}"
 
 
-def by_version(folder: Path) -> list[int]:
+def version_numbers(folder: Path) -> list[int]:
     return [int(part) if part.isdecimal() else 0 for part in folder.name.partition("-")[0].split(".")]
 
 
 def kept() -> Iterator[Kernel]:
     """The kernels that were built of the present configuration and patch, the newest Linux first."""
     for place in (cache(), PACKAGED):
-        for folder in sorted(place.glob(f"*-{inputs()}"), key=by_version, reverse=True):
+        for folder in sorted(place.glob(f"*-{checksum_of_inputs()}"), key=version_numbers, reverse=True):
             if Kernel(folder).is_built:
                 yield Kernel(folder)
 

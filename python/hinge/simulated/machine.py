@@ -35,7 +35,7 @@ class Settings(NamedTuple):
     scratch: bool  # whether what is written in it is thrown away
 
 
-class Ended(NamedTuple):
+class MachineEnded(NamedTuple):
     """How a job ended by itself, in ns of simulated time."""
 
     status: int
@@ -43,7 +43,7 @@ class Ended(NamedTuple):
     spun: int
 
 
-def words_of(kernel: Kernel, settings: Settings) -> list[str]:
+def kernel_words(kernel: Kernel, settings: Settings) -> list[str]:
     """The command line. The kernel draws random numbers from it too, so it names no folder."""
     return [str(kernel.linux), f"mem={settings.memory >> 20}M", "uml_dir=.", "umid=machine", "root=/dev/root",
             "rootfstype=hostfs", "rootflags=/", "rw", "init=/proc/self/cwd/init", "time-travel=inf-cpu",
@@ -94,7 +94,7 @@ class Machine:
             self.processor.take()
 
         with open(self.folder / "log", "wb") as log:
-            return subprocess.Popen(words_of(kernel, settings), stdin=subprocess.DEVNULL, stdout=log,
+            return subprocess.Popen(kernel_words(kernel, settings), stdin=subprocess.DEVNULL, stdout=log,
                                     stderr=subprocess.STDOUT, start_new_session=True, cwd=self.folder,
                                     preexec_fn=begin, env=names)
 
@@ -138,10 +138,10 @@ class Machine:
             self.cut = status
             os.killpg(self.process.pid, signal.SIGKILL)
 
-    def ended(self) -> Optional[Ended]:
+    def ended(self) -> Optional[MachineEnded]:
         """How its job ended, if it did by itself."""
         try:
-            return Ended(*map(int, (self.folder / "status").read_text().split()))
+            return MachineEnded(*map(int, (self.folder / "status").read_text().split()))
         except (OSError, TypeError, ValueError):
             return None
 

@@ -46,7 +46,7 @@ class Keeper:
             file.write(json.dumps(data) + "\n")
 
 
-def words_of(mark: pytest.Mark) -> Iterator[str]:
+def options_of_mark(mark: pytest.Mark) -> Iterator[str]:
     """The options of the mark, as `hinge run` has them: real_limit="60s" is --real-limit 60s."""
     for name, value in mark.kwargs.items():
         for one in value if isinstance(value, (list, tuple)) else [value]:
@@ -102,7 +102,7 @@ def of_the_link(told: str, seed: int, history: Path) -> str:
 def reports(item: pytest.Item, mark: pytest.Mark, links: list[str], seed: int) -> list[pytest.TestReport]:
     """Runs a test in a machine; its reports. One that failed has what the link did, whose transcript stays."""
     folder = Path(tempfile.mkdtemp(prefix="hinge-test-"))
-    run = ran(item, [*links, *words_of(mark)], seed, folder)
+    run = ran(item, [*links, *options_of_mark(mark)], seed, folder)
     found = [read(item.config, data) for data in run.reports]
     if all(report.when == "setup" and report.passed for report in found):
         found.append(failed(item, f"the simulated machine ended with {run.status} before the test had"))

@@ -7,20 +7,20 @@ from typing import Iterator, NamedTuple, Union
 
 from hinge.simulated.interrupts import LONG
 from hinge.simulated.kernel import Kernel
-from hinge.simulated.machine import Ended, Machine, Settings
+from hinge.simulated.machine import MachineEnded, Machine, Settings
 
 Record = dict[str, Union[str, int, float, bool]]
 
 
 class Outcome(NamedTuple):
-    ended: Ended
+    ended: MachineEnded
     real: float  # s
     interrupts: int
     hides_the_processor: bool
     settings: Settings
 
     @classmethod
-    def of(cls, machine: Machine, ended: Ended, settings: Settings) -> Outcome:
+    def of(cls, machine: Machine, ended: MachineEnded, settings: Settings) -> Outcome:
         return cls(ended, machine.real(), machine.interrupts.count, machine.hides_the_processor, settings)
 
     def differences(self) -> Iterator[str]:

@@ -20,7 +20,7 @@ from hinge.simulated.kernel import Kernel, found
 from hinge.simulated.machine import TIMED_OUT, Machine, Settings
 from hinge.simulated.outcome import Outcome, with_record
 from hinge.simulated.streams import has_terminal, is_same_file, read_input
-from hinge.simulated.time_options import BEGINNING, date, limit_of, refuse_outside, size
+from hinge.simulated.time_options import BEGINNING, date, real_limit_of, refuse_outside, size
 from hinge.simulated.twice import compared
 
 HISTORY, SUMMARY = "history", "summary"  # names in the folder that outlives a machine
@@ -77,12 +77,12 @@ def hand_over(machine: Machine, asked: argparse.Namespace) -> None:
             say(line)
 
 
-def report(machine: Machine, asked: argparse.Namespace, settings: Settings, kernel: Kernel) -> int:
+def report_of_machine(machine: Machine, asked: argparse.Namespace, settings: Settings, kernel: Kernel) -> int:
     """Tells how a run went; its status."""
     hand_over(machine, asked)
     if machine.cut is not None:
         if machine.cut == TIMED_OUT:
-            say(f"it was ended after {limit_of(asked):g} s of real time, by --real-limit")
+            say(f"it was ended after {real_limit_of(asked):g} s of real time, by --real-limit")
         return machine.cut
     ended = machine.ended()
     if ended is None:
@@ -96,10 +96,10 @@ def report(machine: Machine, asked: argparse.Namespace, settings: Settings, kern
     return ended.status
 
 
-def run(name: str, asked: argparse.Namespace) -> int:
+def run_simulated(name: str, asked: argparse.Namespace) -> int:
     """Runs the command of this name of the kit as the user asked; its status."""
     refuse_outside(asked, has_terminal())
-    limit, kernel = limit_of(asked), found()
+    limit, kernel = real_limit_of(asked), found()
     asked.seed = drawn_seed(asked)
     settings, machines = settings_of(asked), list[Machine]()
     with job_of(name, asked) as job, ending(machines) as came:
@@ -115,7 +115,7 @@ def run(name: str, asked: argparse.Namespace) -> int:
             machines[0].wait(limit)
             for other in others:
                 other.join()
-            status = report(machines[0], asked, settings, kernel)
+            status = report_of_machine(machines[0], asked, settings, kernel)
             return compared(machines, status, settings.seed) if asked.twice else status
         finally:
             for machine in machines:

@@ -73,6 +73,6 @@ def refuse_outside(asked: argparse.Namespace, has_terminal: bool) -> None:
                     "or on standard input")
 
 
-def limit_of(asked: argparse.Namespace) -> "float | None":
+def real_limit_of(asked: argparse.Namespace) -> "float | None":
     """The seconds of --real-limit."""
     return None if asked.real_limit is None else duration(asked.real_limit) / 1e9

@@ -8,7 +8,7 @@ from pathlib import Path
 from hinge.command import Fault
 from hinge.simulated.job import Job
 from hinge.simulated.kernel import Kernel
-from hinge.simulated.machine import Ended, Machine, Settings
+from hinge.simulated.machine import MachineEnded, Machine, Settings
 from hinge.simulated.time_options import BEGINNING, date, size
 
 HOUR = 3600 * 10**9  # ns
@@ -17,7 +17,7 @@ FAILED = 6
 REAL = 300.0  # s after which a trial is over
 
 
-def ended(kernel: Kernel, *words: str) -> Ended:
+def ended(kernel: Kernel, *words: str) -> MachineEnded:
     """How a command ends in a machine of a kernel; what it writes is dropped."""
     with tempfile.TemporaryDirectory(prefix="hinge-") as place:
         empty = Path(place) / "in"

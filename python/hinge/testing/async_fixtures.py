@@ -58,7 +58,7 @@ async def step(made: AsyncGenerator[object, None]) -> object:
     return await made.__anext__()
 
 
-def is_simulated(request: pytest.FixtureRequest, scope: str) -> bool:
+def is_in_simulated_time(request: pytest.FixtureRequest, scope: str) -> bool:
     """Whether a fixture of a scope belongs to simulated time: its test has the network, and it isn't shared with another test."""
     return scope == "function" and NETWORK in request.fixturenames
 
@@ -67,7 +67,7 @@ def is_simulated(request: pytest.FixtureRequest, scope: str) -> bool:
 def pytest_fixture_setup(fixturedef: Any, request: pytest.FixtureRequest) -> Generator[None, None, None]:
     """A fixture that is asynchronous runs in the network of its test."""
     own, call = fixturedef.func, asynchronous(fixturedef.func)
-    if call is not None and is_simulated(request, fixturedef.scope):
+    if call is not None and is_in_simulated_time(request, fixturedef.scope):
         fixturedef.func = synchronous(bound(call, request.instance), request.getfixturevalue(NETWORK))
     yield
     fixturedef.func = own

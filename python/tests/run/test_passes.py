@@ -9,7 +9,7 @@ from linked import SEEDS, Linked, audited_as_lawful, found, hinge, ip4, needs, n
 from test_net import InAFolder
 
 from hinge.captures.random_words import word
-from hinge.run.extras import CERTAIN, Extra, parted
+from hinge.run.extras import CERTAIN, Extra, without_extras
 from hinge.run.options import add_link, add_run, plan_of
 from hinge.run.words import Wrong
 
@@ -100,17 +100,18 @@ class OfPasses(unittest.TestCase):
 
 class OfWords(unittest.TestCase):
     def test_they_are_parted_from_the_others(self) -> None:
+        self.assertEqual(without_extras("10Mbit/s jitter 5ms 20ms duplicate 0.5%", "x"),
+                         ("10Mbit/s 20ms", Extra(5, round(CERTAIN / 200))))
         self.assertEqual(
-            parted("10Mbit/s jitter 5ms 20ms duplicate 0.5%", "x"), ("10Mbit/s 20ms", Extra(5, round(CERTAIN / 200)))
+            (without_extras("", "x"), without_extras("duplicate 100%", "x")), (("", Extra()), ("", Extra(0, CERTAIN)))
         )
-        self.assertEqual((parted("", "x"), parted("duplicate 100%", "x")), (("", Extra()), ("", Extra(0, CERTAIN))))
         for text, wanted in (
             ("jitter", "'jitter '"), ("jitter 5", "'jitter 5'"), ("jitter 0ms", "'jitter 0ms'"),
             ("jitter 1001ms", "'jitter 1001ms'"), ("duplicate 101%", "'duplicate 101%'"), ("duplicate", "'duplicate '"),
             ("reorder 5%", "'reorder': write jitter 5ms"), ("jitter 1ms 5ms jitter 2ms", "'jitter': it is there twice")
         ):
             with self.assertRaisesRegex(Wrong, f"^--up: {wanted}"):
-                parted(text, "--up")
+                without_extras(text, "--up")
 
     def test_a_plan_has_a_pipe_for_each_delay(self) -> None:
         told = plan_words("--up", "20ms jitter 2ms", "--down", "jitter 1ms duplicate 50%", "--seed", "7")
