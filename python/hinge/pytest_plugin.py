@@ -14,14 +14,15 @@
         net.link("client", "store", "10Mbit/s 20ms")
         net.run("client", "redis-cli -h store ping")
 
-    def test_again(simulated_net): ..              # the same in simulated time, in a machine of its own: one seed gives one run
+    def test_again(simulated_net): ..              # the same in simulated time, in a machine of its own: one seed gives
+                                                   # one run
 
     @pytest.mark.simulated                         # any programs, in a machine of their own: hinge run --simulated
     @pytest.mark.link("8Mbit/s 20ms")
     def test_programs(): ..
 
-A test that is no coroutine runs one by `sim_net.run(main())`. The fixture `link_seed` has the seed: --link-seed N, 1 if it isn't given,
-or what a test parametrizes it with.
+A test that is no coroutine runs one by `sim_net.run(main())`. The fixture `link_seed` has the seed: --link-seed N, 1 if
+it isn't given, or what a test parametrizes it with.
 """
 
 from __future__ import annotations
@@ -42,20 +43,30 @@ if TYPE_CHECKING:
     from hinge.testing.emulated import Emulated, UdpPath
     from hingetulip.aio import Network
 
-MARKS = ("link(options, back=options, preset=name): the link of a test, as \"8Mbit/s 20ms plr 0.05\", and that of the way back if it is another",
-         "simulated(**options): the test runs in a simulated machine of its own, with options of `hinge run`, as server=COMMAND")
+MARKS = (
+    (
+        "link(options, back=options, preset=name): the link of a test, as \"8Mbit/s 20ms plr 0.05\", and that of the"
+        " way back if it is another"
+    ),
+    (
+        "simulated(**options): the test runs in a simulated machine of its own, with options of `hinge run`, as"
+        " server=COMMAND"
+    ),
+)
 INSIDE = "HINGE_TEST_REPORTS"  # in a simulated machine: the file that the reports of its test go to
 
 
 class MakeUdpPath(Protocol):
     """Makes a path to a server: a port of the loopback, or HOST:PORT."""
 
-    def __call__(self, server: Union[int, str], there: Optional[str] = None, back: Optional[str] = None, *, preset: Optional[str] = None,
-                 seed: Optional[int] = None) -> UdpPath: ...
+    def __call__(self, server: Union[int, str], there: Optional[str] = None, back: Optional[str] = None, *,
+                 preset: Optional[str] = None, seed: Optional[int] = None) -> UdpPath: ...
 
 
 def pytest_addoption(parser: pytest.Parser) -> None:
-    parser.getgroup("hingetulip").addoption("--link-seed", type=int, default=1, metavar="N", help="seed of emulated links (default: 1)")
+    parser.getgroup("hingetulip").addoption(
+        "--link-seed", type=int, default=1, metavar="N", help="seed of emulated links (default: 1)"
+    )
 
 
 def pytest_configure(config: pytest.Config) -> None:
@@ -94,7 +105,11 @@ def emulated_links(request: pytest.FixtureRequest) -> Generator[list[Emulated], 
     yield links
     for link in links:
         link.finish()
-    wrong = [f"the history {link.history} isn't lawful: {link.verdict}" for link in links if not (link.verdict or "").startswith("lawful")]
+    wrong = [
+        f"the history {link.history} isn't lawful: {link.verdict}"
+        for link in links
+        if not (link.verdict or "").startswith("lawful")
+    ]
     wrong += [f"nobody took an exception: {it}" for link in links for it in link.faults]
     if wrong:
         pytest.fail("\n".join(wrong), pytrace=False)
@@ -104,19 +119,26 @@ LINKS = pytest.StashKey["list[Emulated]"]()
 
 
 @pytest.fixture
-def udp_path(request: pytest.FixtureRequest, emulated_links: list[Emulated], link_seed: int, tmp_path: Path) -> MakeUdpPath:
-    """Makes UDP paths in real time: `udp_path(server, there, back=there)`, of a port or HOST:PORT and the options of two links."""
+def udp_path(
+    request: pytest.FixtureRequest, emulated_links: list[Emulated], link_seed: int, tmp_path: Path
+) -> MakeUdpPath:
+    """Makes UDP paths in real time: `udp_path(server, there, back=there)`, of a port or HOST:PORT and the options of
+    two links."""
     from hinge.testing.emulated import UdpPath
 
-    def make(server: Union[int, str], there: Optional[str] = None, back: Optional[str] = None, *, preset: Optional[str] = None,
-             seed: Optional[int] = None) -> UdpPath:
+    def make(
+        server: Union[int, str], there: Optional[str] = None, back: Optional[str] = None, *,
+        preset: Optional[str] = None, seed: Optional[int] = None
+    ) -> UdpPath:
         if preset is not None:
             there, back = either_way(preset, there, back)
         elif there is None:
             there, back = marked(request.node)
         history = tmp_path / f"link{len(emulated_links) + 1}.history"
-        made = UdpPath(f"127.0.0.1:{server}" if isinstance(server, int) else server, there, there if back is None else back,
-                       link_seed if seed is None else seed, history)
+        made = UdpPath(
+            f"127.0.0.1:{server}" if isinstance(server, int) else server, there, there if back is None else back,
+            link_seed if seed is None else seed, history
+        )
         emulated_links.append(made)
         return made
 
@@ -135,8 +157,8 @@ def sim_net(request: pytest.FixtureRequest, emulated_links: list[Emulated], link
 
 @pytest.fixture
 def net(request: pytest.FixtureRequest, emulated_links: list[Emulated], link_seed: int, tmp_path: Path) -> Net:
-    """A net of hosts with any programs, in real time, or in simulated time in a test with the mark `simulated`. Its links are those of the
-    mark `link`, where nothing else is said of them."""
+    """A net of hosts with any programs, in real time, or in simulated time in a test with the mark `simulated`. Its
+    links are those of the mark `link`, where nothing else is said of them."""
     from hinge.net import Net
     from hinge.testing.net_of_test import NetOfTest
 
@@ -164,7 +186,8 @@ def in_simulated_time(test: Callable[..., Coroutine[object, object, None]]) -> C
 
 @pytest.hookimpl(tryfirst=True)  # type: ignore[misc]
 def pytest_pycollect_makeitem(collector: pytest.Collector, name: str, obj: object) -> None:
-    """A coroutine that has the fixture sim_net runs in simulated time. It is collected as a plain test, so that no other plugin runs it."""
+    """A coroutine that has the fixture sim_net runs in simulated time. It is collected as a plain test, so that no
+    other plugin runs it."""
     if not inspect.iscoroutinefunction(obj) or "sim_net" not in inspect.signature(obj).parameters:
         return
     is_test = getattr(collector, "istestfunction", None)  # of modules and classes
@@ -173,7 +196,9 @@ def pytest_pycollect_makeitem(collector: pytest.Collector, name: str, obj: objec
 
 
 @pytest.hookimpl(hookwrapper=True)  # type: ignore[misc]
-def pytest_runtest_makereport(item: pytest.Item, call: pytest.CallInfo[None]) -> Generator[None, pytest.TestReport, None]:
+def pytest_runtest_makereport(
+    item: pytest.Item, call: pytest.CallInfo[None]
+) -> Generator[None, pytest.TestReport, None]:
     outcome = yield
     report = outcome.get_result()
     if report.when == "call" and report.failed:

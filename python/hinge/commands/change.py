@@ -16,8 +16,11 @@ timeline without the moment: a configuration line, [up|down] LINK or [up|down] o
 
 
 def main() -> None:
-    line = parser(WHAT, "hinge run --control link.socket --up 10Mbit/s -- bash\n  hinge change link.socket up 1Mbit/s 50ms\n"
-                  "  hinge change net.socket cut n1 from n2 n3 5s")
+    line = parser(
+        WHAT,
+        "hinge run --control link.socket --up 10Mbit/s -- bash\n  hinge change link.socket up 1Mbit/s 50ms\n"
+        "  hinge change net.socket cut n1 from n2 n3 5s",
+    )
     line.add_argument("socket", metavar="SOCKET")
     line.add_argument("words", nargs="+", metavar="WORDS")
     asked = line.parse_args()

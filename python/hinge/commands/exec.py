@@ -36,8 +36,10 @@ SHELL = "sh"
 
 def command_line() -> argparse.Namespace:
     words = sys.argv[2 if sys.argv[1:2] == ["exec"] else 1:]  # `hinge net exec` is the same
-    parser = argparse.ArgumentParser(prog=NAME[0], usage=f"{NAME[0]} SOCKET HOST [-- COMMAND [ARGUMENT ..]]", description=WHAT, epilog=TELLS,
-                                     formatter_class=argparse.RawDescriptionHelpFormatter)
+    parser = argparse.ArgumentParser(
+        prog=NAME[0], usage=f"{NAME[0]} SOCKET HOST [-- COMMAND [ARGUMENT ..]]", description=WHAT, epilog=TELLS,
+        formatter_class=argparse.RawDescriptionHelpFormatter
+    )
     parser.add_argument("socket", metavar="SOCKET")
     parser.add_argument("host", metavar="HOST")
     parser.add_argument("command", nargs=argparse.REMAINDER, metavar="COMMAND", help=argparse.SUPPRESS)

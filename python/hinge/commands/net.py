@@ -61,28 +61,59 @@ CONFIGURATION = 3
 
 
 def options() -> argparse.ArgumentParser:
-    parser = argparse.ArgumentParser(prog="hinge net", usage=USAGE, formatter_class=argparse.RawDescriptionHelpFormatter, epilog=TELLS,
-                                     description="Runs the programs of FILE, each on a host with a network of its own, over the emulated links between them.")
+    parser = argparse.ArgumentParser(
+        prog="hinge net", usage=USAGE, formatter_class=argparse.RawDescriptionHelpFormatter, epilog=TELLS,
+        description=(
+            "Runs the programs of FILE, each on a host with a network of its own, over the emulated links between them."
+        ),
+    )
     parser.add_argument("file", metavar="FILE", help="the net")
-    parser.add_argument("--transcript", metavar="FILE", help="the history of all links, for `dummynet audit` and `hinge paths`")
-    parser.add_argument("--transcripts", metavar="FOLDER", help="a folder for the history, net.history, and the summary, net.json")
+    parser.add_argument(
+        "--transcript", metavar="FILE", help="the history of all links, for `dummynet audit` and `hinge paths`"
+    )
+    parser.add_argument(
+        "--transcripts", metavar="FOLDER", help="a folder for the history, net.history, and the summary, net.json"
+    )
     parser.add_argument("--json", metavar="FILE", help="the summary for a program")
     parser.add_argument("--logs", metavar="FOLDER", help="what each host prints, in NAME.log")
-    parser.add_argument("--late", metavar="TIME", help="status 75 where more than 1 of 100 packets of a way was late or unread by more, or the system dropped any")
-    parser.add_argument("--seed", metavar="N", type=seed, help="of what is drawn, for each way by itself (drawn, and told)")
+    parser.add_argument(
+        "--late", metavar="TIME",
+        help="status 75 where more than 1 of 100 packets of a way was late or unread by more, or the system dropped any"
+    )
+    parser.add_argument(
+        "--seed", metavar="N", type=seed, help="of what is drawn, for each way by itself (drawn, and told)"
+    )
     parser.add_argument("--mtu", metavar="BYTES", type=mtu, default=1500, help="of all interfaces (1500)")
-    parser.add_argument("--end-wait", metavar="TIME", default="2s", help="how long commands have to end after SIGTERM (2s)")
-    parser.add_argument("--control", metavar="SOCKET", help="where `hinge change`, `status` and `exec` find it")
-    parser.add_argument("--outside", metavar="HOST", help="a host leads to the rest of the network, by slirp4netns or pasta: a router for all hosts")
-    parser.add_argument("--outside-loopback", metavar="HOST", help="the same, with this system's own loopback at 10.9.0.2 and fd00::2")
-    parser.add_argument("--shell", metavar="HOST", help="a shell on a host is the main command")
-    parser.add_argument("--stay", action="store_true", help="until ^C or SIGTERM, also after all commands")
-    parser.add_argument("--while-open", metavar="N", type=descriptor, help="the same, and until the other end of descriptor N, a pipe, is closed")
+    parser.add_argument(
+        "--end-wait", metavar="TIME", default="2s", help="how long commands have to end after SIGTERM (2s)"
+    )
+    add_staying(parser)
     parser.add_argument("--quiet", action="store_true", help="no summary of the links")
-    parser.add_argument("--realtime", action=argparse.BooleanOptionalAction, default=True, help="the links before all other programs, where the system allows")
+    parser.add_argument(
+        "--realtime", action=argparse.BooleanOptionalAction, default=True,
+        help="the links before all other programs, where the system allows"
+    )
     parser.add_argument("--dry-run", action="store_true", help="prints hosts, addresses and links, and starts nothing")
     add_simulated(parser)
     return parser
+
+
+def add_staying(parser: argparse.ArgumentParser) -> None:
+    """Ways into a net that runs and out of it, and how long it stays."""
+    parser.add_argument("--control", metavar="SOCKET", help="where `hinge change`, `status` and `exec` find it")
+    parser.add_argument(
+        "--outside", metavar="HOST",
+        help="a host leads to the rest of the network, by slirp4netns or pasta: a router for all hosts"
+    )
+    parser.add_argument(
+        "--outside-loopback", metavar="HOST", help="the same, with this system's own loopback at 10.9.0.2 and fd00::2"
+    )
+    parser.add_argument("--shell", metavar="HOST", help="a shell on a host is the main command")
+    parser.add_argument("--stay", action="store_true", help="until ^C or SIGTERM, also after all commands")
+    parser.add_argument(
+        "--while-open", metavar="N", type=descriptor,
+        help="the same, and until the other end of descriptor N, a pipe, is closed"
+    )
 
 
 def descriptor(text: str) -> int:
@@ -116,7 +147,11 @@ def with_command(net: Description, command: list[str], path: str, shell: Optiona
     """The net with the main command of the command line."""
     if shell is not None:
         if shell not in net.hosts or command:
-            raise Wrong(f"--shell {shell}: no host of {path}" if shell not in net.hosts else "--shell: the command behind -- is the main one already")
+            raise Wrong(
+                f"--shell {shell}: no host of {path}"
+                if shell not in net.hosts
+                else "--shell: the command behind -- is the main one already"
+            )
         if net.main:
             net.hosts[net.main].command = ""
         net.main = None
@@ -158,20 +193,31 @@ def net_order(asked: argparse.Namespace, net: Description, mask: Mask) -> NetOrd
     made, drawn = NetPlan(net, asked.mtu), drawn_seed(asked)
     plan = made.plan
     text = plan.text(drawn, absolute(asked.transcript), asked.realtime, MOST, is_simulated())
-    return NetOrder(net=net, plan=text, folder=os.path.dirname(os.path.abspath(asked.file)), command=asked.command, mtu=asked.mtu, seed=drawn, draws=draws(plan),
-                    limit=limit_of(asked.late), end_wait=duration(asked.end_wait) / 1e9, transcript=asked.transcript, json=asked.json, logs=asked.logs,
-                    quiet=asked.quiet, made=made, control=asked.control, stay=asked.stay or asked.while_open is not None, shell=asked.shell,
-                    outside=outside_of(asked, net), mask=mask)
+    return NetOrder(
+        net=net, plan=text, folder=os.path.dirname(os.path.abspath(asked.file)), command=asked.command, mtu=asked.mtu,
+        seed=drawn, draws=draws(plan), limit=limit_of(asked.late), end_wait=duration(asked.end_wait) / 1e9,
+        transcript=asked.transcript, json=asked.json, logs=asked.logs, quiet=asked.quiet, made=made,
+        control=asked.control, stay=asked.stay or asked.while_open is not None, shell=asked.shell,
+        outside=outside_of(asked, net), mask=mask
+    )
 
 
 def show(net: Description) -> None:
     """Hosts with their addresses and links."""
     ends = NetEnds(net)
     for name, host in net.hosts.items():
-        print(f"{name} {' '.join(ends.own[name])}{' router' * host.forwards}{' main' * (name == net.main)}{f': {host.command}' if host.command else ''}")
+        print(
+            f"{name} {' '.join(ends.own[name])}{' router' * host.forwards}{' main' * (name == net.main)}"
+            f"{f': {host.command}' if host.command else ''}"
+        )
     for number, link in enumerate(net.links):
-        for pipe, (one, two, words) in enumerate(((*link.ends, link.ways[0]), (*link.ends[::-1], link.ways[1])), 2 * number + 1):
-            print(f"pipe {pipe}: {one} {ends.at_end(one, number).four} > {two} {ends.at_end(two, number).four}: {words or 'open'}")
+        for pipe, (one, two, words) in enumerate(
+            ((*link.ends, link.ways[0]), (*link.ends[::-1], link.ways[1])), 2 * number + 1
+        ):
+            print(
+                f"pipe {pipe}: {one} {ends.at_end(one, number).four} > {two} {ends.at_end(two, number).four}:"
+                f" {words or 'open'}"
+            )
 
 
 def net_of(asked: argparse.Namespace) -> Description:
@@ -225,7 +271,8 @@ def begin(asked: argparse.Namespace) -> NoReturn:
 
 
 def end_behind(pipe: int) -> None:
-    """Has the system send SIGTERM to this process, as a thread of it can't be made here any more, when a pipe's other end is closed."""
+    """Has the system send SIGTERM to this process, as a thread of it can't be made here any more, when a pipe's other
+    end is closed."""
     fcntl.fcntl(pipe, fcntl.F_SETOWN, os.getpid())
     fcntl.fcntl(pipe, fcntl.F_SETSIG, signal.SIGTERM)
     fcntl.fcntl(pipe, fcntl.F_SETFL, fcntl.fcntl(pipe, fcntl.F_GETFL) | os.O_ASYNC)

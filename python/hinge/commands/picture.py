@@ -15,7 +15,8 @@ Draws throughput and offered load by flow, one-way delay over time and its distr
 drops by cause and by flow. The ending of the file says how: .png, .svg or .pdf, or .html for a page of one file in
 which one zooms and reads over a packet why it took so long. The largest flows have a color each, the others one
 together. With --config the capacity of each pipe is a line, and so is the proved bound on its delay. A page tells of
-each packet what `why` tells. A history has its configuration. Of several reports of the same packets, up to four, the panels stand side by side."""
+each packet what `why` tells. A history has its configuration. Of several reports of the same packets, up to four, the
+panels stand side by side."""
 EXAMPLE = """\
 hinge picture packets.csv report.csv -o dsl.png
   hinge picture packets.csv report.csv --config dsl.config -o dsl.html

@@ -39,19 +39,40 @@ examples:
 
 
 def options() -> argparse.ArgumentParser:
-    parser = argparse.ArgumentParser(prog="hinge run", usage=USAGE, formatter_class=argparse.RawDescriptionHelpFormatter, epilog=TELLS,
-                                     description="Runs COMMAND behind an emulated link: what it sends goes through pipe 1 to the host `server` "
-                                                 "(10.8.0.2, fd08::2), what comes back through pipe 2.")
+    parser = argparse.ArgumentParser(
+        prog="hinge run", usage=USAGE, formatter_class=argparse.RawDescriptionHelpFormatter, epilog=TELLS,
+        description="Runs COMMAND behind an emulated link: what it sends goes through pipe 1 to the host `server` "
+        "(10.8.0.2, fd08::2), what comes back through pipe 2.",
+    )
     add_link(parser)
     more = parser.add_argument_group("the run")
     more.add_argument("--mtu", metavar="BYTES", type=mtu, default=1500, help="of both interfaces (1500)")
-    more.add_argument("--net", metavar="NETWORK", help="of both hosts, for a run inside another one or beside a network of your own (10.8.0.0/24)")
-    more.add_argument("--netns", metavar="PID", help="puts the link on the way out of a container or network that is there, in IPv4, as root; without COMMAND until ^C")
-    more.add_argument("--server", metavar="COMMAND", help="what runs at the other end, by sh; COMMAND waits until it listens")
+    more.add_argument(
+        "--net", metavar="NETWORK",
+        help="of both hosts, for a run inside another one or beside a network of your own (10.8.0.0/24)"
+    )
+    more.add_argument(
+        "--netns",
+        metavar="PID",
+        help=(
+            "puts the link on the way out of a container or network that is there, in IPv4, as root; without COMMAND"
+            " until ^C"
+        ),
+    )
+    more.add_argument(
+        "--server", metavar="COMMAND", help="what runs at the other end, by sh; COMMAND waits until it listens"
+    )
     more.add_argument("--server-wait", metavar="TIME", default="5s", help="how long (5s)")
-    more.add_argument("--server-end", metavar="TIME", default="2s", help="how long the server has to end after SIGTERM (2s)")
-    more.add_argument("--outside", action="store_true", help="the rest of the network behind the link, by slirp4netns or pasta")
-    more.add_argument("--outside-loopback", action="store_true", help="the same, with this system's own loopback at 10.9.0.2 and fd00::2")
+    more.add_argument(
+        "--server-end", metavar="TIME", default="2s", help="how long the server has to end after SIGTERM (2s)"
+    )
+    more.add_argument(
+        "--outside", action="store_true", help="the rest of the network behind the link, by slirp4netns or pasta"
+    )
+    more.add_argument(
+        "--outside-loopback", action="store_true",
+        help="the same, with this system's own loopback at 10.9.0.2 and fd00::2"
+    )
     add_run(more)
     add_simulated(parser)
     parser.add_argument("command", nargs=argparse.REMAINDER, metavar="COMMAND", help=argparse.SUPPRESS)
@@ -70,7 +91,11 @@ def command_line() -> argparse.Namespace:
 
 def refuse_beside_netns(asked: argparse.Namespace) -> None:
     """What a network that is there already has no place for."""
-    given = [f"--{name.replace('_', '-')}" for name in ("server", "outside", "outside_loopback", "net", "simulated") if getattr(asked, name)]
+    given = [
+        f"--{name.replace('_', '-')}"
+        for name in ("server", "outside", "outside_loopback", "net", "simulated")
+        if getattr(asked, name)
+    ]
     if asked.netns is not None and given:
         raise Wrong(f"{given[0]}: there is no such thing beside --netns, whose hosts are there already")
 

@@ -1,4 +1,5 @@
-"""A UDP path between two programs through emulated links: what comes to a port goes on to a server, and its datagrams come back."""
+"""A UDP path between two programs through emulated links: what comes to a port goes on to a server, and its datagrams
+come back."""
 
 from __future__ import annotations
 
@@ -53,7 +54,10 @@ class SocketAddress(NamedTuple):
 def found_address(address: SocketAddress, family: int) -> tuple[int, tuple[str, int]]:
     """The family, numeric host and port of an address, of the given family."""
     try:
-        infos = socket.getaddrinfo(address.host or ("::1" if family == socket.AF_INET6 else "127.0.0.1"), address.port, family, socket.SOCK_DGRAM)
+        infos = socket.getaddrinfo(
+            address.host or ("::1" if family == socket.AF_INET6 else "127.0.0.1"), address.port, family,
+            socket.SOCK_DGRAM
+        )
     except socket.gaierror as fault:
         other = " of the family of LISTEN" if family else ""
         raise Wrong(f"{address.host}: no address{other}: {fault.strerror}") from None
@@ -67,13 +71,25 @@ def links_in_order(words: list[str]) -> list[str]:
 
 
 def options() -> argparse.ArgumentParser:
-    parser = argparse.ArgumentParser(prog="hinge udp", formatter_class=argparse.RawDescriptionHelpFormatter, epilog=TELLS,
-                                     usage="hinge udp [OPTION ..] LISTEN SERVER [LINK ..]",
-                                     description="Sends what comes to LISTEN through pipe 1 to SERVER, and what SERVER sends back through pipe 2, until ^C. "
-                                                 "Prints `ready at HOST:PORT` once it listens. Each client has a socket of its own towards SERVER.")
-    parser.add_argument("listen", type=SocketAddress.read, metavar="LISTEN", help="PORT or HOST:PORT to which the client sends; port 0 takes a free one")
-    parser.add_argument("server", type=SocketAddress.read, metavar="SERVER", help="PORT or HOST:PORT of the server, of the same family")
-    parser.add_argument("links", nargs="*", default=[], metavar="LINK", help="a configuration line, or a file of such lines, as --line and --config")
+    parser = argparse.ArgumentParser(
+        prog="hinge udp", formatter_class=argparse.RawDescriptionHelpFormatter, epilog=TELLS,
+        usage="hinge udp [OPTION ..] LISTEN SERVER [LINK ..]",
+        description=(
+            "Sends what comes to LISTEN through pipe 1 to SERVER, and what SERVER sends back through pipe 2, until ^C. "
+            "Prints `ready at HOST:PORT` once it listens. Each client has a socket of its own towards SERVER."
+        ),
+    )
+    parser.add_argument(
+        "listen", type=SocketAddress.read, metavar="LISTEN",
+        help="PORT or HOST:PORT to which the client sends; port 0 takes a free one"
+    )
+    parser.add_argument(
+        "server", type=SocketAddress.read, metavar="SERVER", help="PORT or HOST:PORT of the server, of the same family"
+    )
+    parser.add_argument(
+        "links", nargs="*", default=[], metavar="LINK",
+        help="a configuration line, or a file of such lines, as --line and --config"
+    )
     add_link(parser)
     add_run(parser.add_argument_group("the run"))
     return parser
@@ -92,8 +108,13 @@ def bound_socket(address: SocketAddress) -> socket.socket:
 def what_is_carried(order: Order, front: socket.socket, server: tuple[str, int]) -> int:
     """Has the host carry datagrams until a signal comes; the status."""
     page, processes = Page(), Processes(SIGNALS)
-    control = order.control(page, lambda: record(page.read(), [way["dropped"] for way in page.read().ways], None, order.seed, []))
-    link = Link(processes, page, ["udp", str(front.fileno()), server[0], str(server[1])], [front.fileno()], order.plan, order.mask, control)
+    control = order.control(
+        page, lambda: record(page.read(), [way["dropped"] for way in page.read().ways], None, order.seed, [])
+    )
+    link = Link(
+        processes, page, ["udp", str(front.fileno()), server[0], str(server[1])], [front.fileno()], order.plan,
+        order.mask, control
+    )
     failed = link.failed()
     if failed is not None:
         return failed

@@ -32,11 +32,17 @@ PATIENCE = 600.0  # s
 
 
 def command_line() -> argparse.Namespace:
-    parser = argparse.ArgumentParser(prog=NAME[0], usage=f"{NAME[0]} FILE [--name NAME] [OPTION of hinge net ..]", description=WHAT, epilog=TELLS,
-                                     formatter_class=argparse.RawDescriptionHelpFormatter)
+    parser = argparse.ArgumentParser(
+        prog=NAME[0], usage=f"{NAME[0]} FILE [--name NAME] [OPTION of hinge net ..]", description=WHAT, epilog=TELLS,
+        formatter_class=argparse.RawDescriptionHelpFormatter
+    )
     parser.add_argument("file", metavar="FILE")
-    parser.add_argument("--name", metavar="NAME", help="by which change, status, exec and down find it (FILE's name without .net)")
-    parser.add_argument("--transcripts", metavar="FOLDER", help="for its history, its summary and what hosts print (NAME.session)")
+    parser.add_argument(
+        "--name", metavar="NAME", help="by which change, status, exec and down find it (FILE's name without .net)"
+    )
+    parser.add_argument(
+        "--transcripts", metavar="FOLDER", help="for its history, its summary and what hosts print (NAME.session)"
+    )
     asked, more = parser.parse_known_args()
     asked.more = more
     asked.name = asked.name or Path(asked.file).stem
@@ -66,8 +72,16 @@ def main() -> None:
         folder.mkdir(parents=True, exist_ok=True)
         log = folder / "net.log"
         logs = [] if "--logs" in asked.more else ["--logs", str(folder / "logs")]
-        words = [sys.executable, str(START), "net", asked.file, "--transcripts", str(folder), *logs, "--stay", "--control", socket, *asked.more]
+        words = [
+            sys.executable, str(START), "net", asked.file, "--transcripts", str(folder), *logs, "--stay", "--control",
+            socket, *asked.more
+        ]
         with open(log, "wb") as told:
-            process = subprocess.Popen(words, stdin=subprocess.DEVNULL, stdout=told, stderr=told, start_new_session=True)
+            process = subprocess.Popen(
+                words, stdin=subprocess.DEVNULL, stdout=told, stderr=told, start_new_session=True
+            )
         silent = wait_until_ready(process, socket, log)
-    print("".join(f"{line}\n" for line in silent) + f"{asked.name} runs, and keeps what it does in {folder}: hinge down {asked.name} ends it")
+    print(
+        "".join(f"{line}\n" for line in silent)
+        + f"{asked.name} runs, and keeps what it does in {folder}: hinge down {asked.name} ends it"
+    )

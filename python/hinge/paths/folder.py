@@ -1,4 +1,5 @@
-"""The folder of `hinge net --transcripts`, or a transcript alone, with what the system dropped by the summary of the run."""
+"""The folder of `hinge net --transcripts`, or a transcript alone, with what the system dropped by the summary of the
+run."""
 
 from __future__ import annotations
 

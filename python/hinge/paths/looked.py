@@ -1,4 +1,5 @@
-"""`hinge look` of a net's folder: its ways, its paths hop by hop, and what was changed when: as text, as a picture and for programs."""
+"""`hinge look` of a net's folder: its ways, its paths hop by hop, and what was changed when: as text, as a picture and
+for programs."""
 
 from __future__ import annotations
 
@@ -36,9 +37,15 @@ def audit(files: list[str]) -> None:
 
 def refuse_others(asked: argparse.Namespace, folder: str) -> None:
     """What is of one link alone."""
-    for name, is_given in (("--why", bool(asked.why)), ("--by", asked.by != "tuple"), ("-o FILE.html", bool(asked.o) and asked.o.lower().endswith(".html"))):
+    for name, is_given in (
+        ("--why", bool(asked.why)), ("--by", asked.by != "tuple"),
+        ("-o FILE.html", bool(asked.o) and asked.o.lower().endswith(".html"))
+    ):
         if is_given:
-            raise Fault(f"{folder}: {name} is of one history, as {os.path.join(folder, HISTORY)}, and not of a net's folder", ROWS)
+            raise Fault(
+                f"{folder}: {name} is of one history, as {os.path.join(folder, HISTORY)}, and not of a net's folder",
+                ROWS,
+            )
 
 
 def text_of(found: Matched, line: Timeline, top: int) -> Iterator[str]:
@@ -59,13 +66,35 @@ def look_record(found: Matched, line: Timeline, folder: str, seed: str | None) -
     hosts = found.passages.topology.hosts
     ends = {pipe: {"pipe": pipe, "from": hosts[start], "to": hosts[end]} for pipe, (start, end) in pipes.items()}
     return {
-        "format": FORMAT, "history": os.path.join(folder, HISTORY), "seed": seed, "span_ns": line.span, "lawful_between_links": found.is_lawful,
-        "ways": [{**ends[way.pipe], "packets": way.packets, "lost": way.lost, "full": way.full, "carried_mbit_s": way.mbit_s, "mean_ns": way.mean, "p99_ns": way.p99}
-                 for way in ways(found)],
-        "paths": [{"hosts": hosts_of(found, path), "pipes": list(path.pipes), "packets": len(path.sent), "links_ns": [int(time) for time in path.links.mean(axis=0)],
-                   "hosts_ns": [int(time) for time in path.hosts.mean(axis=0)], "most_in_hosts_ns": path.most_in_hosts} for path in paths(found)],
-        "changes": [{**ends.get(change.pipe, {"pipe": change.pipe}), "moment_ns": change.moment, "line": change.words, "cut": change.is_cut} for change in line.changes],
-        "cuts": [{**ends.get(pipe, {"pipe": pipe}), "begin_ns": begin, "end_ns": end} for pipe, times in sorted(line.cuts.items()) for begin, end in times],
+        "format": FORMAT, "history": os.path.join(folder, HISTORY), "seed": seed, "span_ns": line.span,
+        "lawful_between_links": found.is_lawful,
+        "ways": [
+            {
+                **ends[way.pipe], "packets": way.packets, "lost": way.lost, "full": way.full,
+                "carried_mbit_s": way.mbit_s, "mean_ns": way.mean, "p99_ns": way.p99
+            }
+            for way in ways(found)
+        ],
+        "paths": [
+            {
+                "hosts": hosts_of(found, path), "pipes": list(path.pipes), "packets": len(path.sent),
+                "links_ns": [int(time) for time in path.links.mean(axis=0)],
+                "hosts_ns": [int(time) for time in path.hosts.mean(axis=0)], "most_in_hosts_ns": path.most_in_hosts
+            }
+            for path in paths(found)
+        ],
+        "changes": [
+            {
+                **ends.get(change.pipe, {"pipe": change.pipe}), "moment_ns": change.moment, "line": change.words,
+                "cut": change.is_cut
+            }
+            for change in line.changes
+        ],
+        "cuts": [
+            {**ends.get(pipe, {"pipe": pipe}), "begin_ns": begin, "end_ns": end}
+            for pipe, times in sorted(line.cuts.items())
+            for begin, end in times
+        ],
     }
 
 

@@ -1,5 +1,5 @@
-"""Which passage is the continuation of which: a packet that came to a host that is not its destination leaves it on another link, once,
-not before it came, and in the order of its flow."""
+"""Which passage is the continuation of which: a packet that came to a host that is not its destination leaves it on
+another link, once, not before it came, and in the order of its flow."""
 
 from __future__ import annotations
 
@@ -16,7 +16,8 @@ KINDS = ("came from nowhere", "came twice", "too early", "out of order", "lost i
 
 @dataclass(frozen=True)
 class Matched:
-    """`before` has the passage that each one continues, NONE for the first of a path; `faults` the passages that have each kind of fault."""
+    """`before` has the passage that each one continues, NONE for the first of a path; `faults` the passages that have
+    each kind of fault."""
 
     passages: Passages
     before: Integers
@@ -49,7 +50,8 @@ def place_in_group(group: Integers, order: Integers) -> Integers:
 
 @dataclass(frozen=True)
 class Handings:
-    """What hosts got to hand on, and what they sent that others had begun: passages, and by what each is known again at its host."""
+    """What hosts got to hand on, and what they sent that others had begun: passages, and by what each is known again at
+    its host."""
 
     got: Integers
     sent: Integers
@@ -66,8 +68,8 @@ def handings(passages: Passages, is_own: Mask, is_there: Mask) -> Handings:
 
 
 def matched_by_places(passages: Passages, found: Handings) -> tuple[Integers, Integers]:
-    """For each that was sent the place in `got` of what it continues, where the N-th that was sent came behind the N-th that was got; and the
-    keys of which that isn't so for some."""
+    """For each that was sent the place in `got` of what it continues, where the N-th that was sent came behind the N-th
+    that was got; and the keys of which that isn't so for some."""
     got_order = in_order_of(found.got_key, passages.handed[found.got])
     sent_order = in_order_of(found.sent_key, passages.submitted[found.sent])
     got_place, sent_place = place_in_group(found.got_key, got_order), place_in_group(found.sent_key, sent_order)
@@ -83,9 +85,11 @@ def matched_by_places(passages: Passages, found: Handings) -> tuple[Integers, In
     return match, np.unique(found.sent_key[~behind])
 
 
-def matched_one_by_one(passages: Passages, found: Handings, match: Integers, keys: Integers) -> tuple[list[int], list[int]]:
-    """Mends the matches of these keys: what is sent continues the first that was got and isn't continued. The places in `sent` of what
-    continues nothing: what came from nowhere, and what had been sent before."""
+def matched_one_by_one(
+    passages: Passages, found: Handings, match: Integers, keys: Integers
+) -> tuple[list[int], list[int]]:
+    """Mends the matches of these keys: what is sent continues the first that was got and isn't continued. The places in
+    `sent` of what continues nothing: what came from nowhere, and what had been sent before."""
     got, sent = np.flatnonzero(np.isin(found.got_key, keys)), np.flatnonzero(np.isin(found.sent_key, keys))
     moments = [(int(passages.handed[found.got[at]]), int(found.got_key[at]), at, True) for at in got.tolist()]
     moments += [(int(passages.submitted[found.sent[at]]), int(found.sent_key[at]), at, False) for at in sent.tolist()]
@@ -128,8 +132,8 @@ def last_sent(passages: Passages, before: Integers, sent: Integers, got: Integer
 
 
 def match(passages: Passages, end: int, told: dict[int, int]) -> Matched:
-    """What came to a host less than `end` ns before the last call, and behind which nothing of its flow was sent, may be there still. `told`
-    has the packets that the system dropped before the links, by hosts."""
+    """What came to a host less than `end` ns before the last call, and behind which nothing of its flow was sent, may
+    be there still. `told` has the packets that the system dropped before the links, by hosts."""
     topology = passages.topology
     is_own = topology.hosts_of(passages.flow[0]) == passages.start
     is_there = topology.hosts_of(passages.flow[1]) == passages.end
@@ -150,5 +154,12 @@ def match(passages: Passages, end: int, told: dict[int, int]) -> Matched:
     early = early[passages.came[early] < passages.due[before[early]]]
     again = found.sent[twice]
     again = again[~np.isin(passages.pipe[again], sorted(topology.copied))]
-    faults = dict(zip(KINDS, (found.sent[nowhere], again, early, out_of_order(passages, found.sent, before), lost[unexplained[hosts]])))
-    return Matched(passages, before, is_own, is_there & (passages.handed >= 0), int(may_be_there.sum()), int(told_of.sum()), faults)
+    faults = dict(
+        zip(
+            KINDS,
+            (found.sent[nowhere], again, early, out_of_order(passages, found.sent, before), lost[unexplained[hosts]]),
+        )
+    )
+    return Matched(
+        passages, before, is_own, is_there & (passages.handed >= 0), int(may_be_there.sum()), int(told_of.sum()), faults
+    )

@@ -1,4 +1,5 @@
-"""The picture of a net: what each way carried, how long packets took on ways and on paths hop by hop, drops, and cuts."""
+"""The picture of a net: what each way carried, how long packets took on ways and on paths hop by hop, drops, and
+cuts."""
 
 from __future__ import annotations
 
@@ -45,7 +46,12 @@ class NetPicture:
             out = np.flatnonzero((passages.pipe == way.pipe) & (passages.event == OUT))
             kept = out[spread(np.arange(len(out)), MOST_DOTS)]
             if len(kept):
-                items.append(Points(way.name, kept, passages.came[kept] / SECOND, (passages.due - passages.came)[kept] / MS, color, number))
+                items.append(
+                    Points(
+                        way.name, kept, passages.came[kept] / SECOND, (passages.due - passages.came)[kept] / MS, color,
+                        number
+                    )
+                )
         return Panel("Delay on each way", "came at, s", "ms", items) if items else None
 
     def cuts(self) -> Optional[Panel]:
@@ -57,8 +63,15 @@ class NetPicture:
             x = np.array([moment for begin, end in times for moment in (begin, end, end)]) / SECOND
             y = np.array([level for _ in times for level in (place, place, np.nan)], float)
             color = next((color for way, color in self.ways if way.pipe == pipe), RESTS[place % len(RESTS)])
-            items.append(Line(f"{place}: {name}, {sum(end - begin for begin, end in times) / SECOND:.3g} s", x, y, color, width=CUT_WIDTH))
-        return Panel("Ways that lose all packets", "s", "", items, most=len(items) + 1, is_whole=True) if items else None
+            items.append(
+                Line(
+                    f"{place}: {name}, {sum(end - begin for begin, end in times) / SECOND:.3g} s", x, y, color,
+                    width=CUT_WIDTH
+                )
+            )
+        return (
+            Panel("Ways that lose all packets", "s", "", items, most=len(items) + 1, is_whole=True) if items else None
+        )
 
     def drops(self) -> Optional[Panel]:
         items: list[Item] = []
@@ -67,8 +80,16 @@ class NetPicture:
             counts = np.bincount(came // self.step, minlength=self.count)[:self.count]
             if counts.any():
                 name = EVENT_NAMES[event]
-                items.append(Bars(f"{name} {int(counts.sum()):,}", self.edges[:-1], self.step / SECOND, counts, CAUSE_COLORS[name]))
-        return Panel(f"Drops by cause, packets per {time_of(self.step)}", "s", "packets", items, is_whole=True) if items else None
+                items.append(
+                    Bars(
+                        f"{name} {int(counts.sum()):,}", self.edges[:-1], self.step / SECOND, counts, CAUSE_COLORS[name]
+                    )
+                )
+        return (
+            Panel(f"Drops by cause, packets per {time_of(self.step)}", "s", "packets", items, is_whole=True)
+            if items
+            else None
+        )
 
     def over_links(self) -> list[Path]:
         return [path for path in paths(self.found) if len(path.pipes) > 1][:MOST_PATHS]
@@ -79,7 +100,9 @@ class NetPicture:
         for path, (color, _) in zip(self.over_links(), PIPES):
             kept = spread(np.arange(len(path.sent)), MOST_DOTS)
             total = (path.links.sum(axis=1) + path.hosts.sum(axis=1))[kept]
-            items.append(Points(" - ".join(hosts_of(self.found, path)), kept, path.sent[kept] / SECOND, total / MS, color))
+            items.append(
+                Points(" - ".join(hosts_of(self.found, path)), kept, path.sent[kept] / SECOND, total / MS, color)
+            )
         return Panel("Delay of paths", "sent at, s", "ms", items) if items else None
 
     def hops(self) -> Optional[Panel]:
@@ -93,7 +116,12 @@ class NetPicture:
         items: list[Item] = []
         for place, column in enumerate(path.links.T):
             hops = [(f"in {hosts[place]}", path.hosts[:, place - 1], PIPES[0][0])] if place else []
-            hops.append((f"from {hosts[place]} to {hosts[place + 1]}", column, colors.get(path.pipes[place], RESTS[place % len(RESTS)])))
+            hops.append(
+                (
+                    f"from {hosts[place]} to {hosts[place + 1]}", column,
+                    colors.get(path.pipes[place], RESTS[place % len(RESTS)])
+                )
+            )
             for name, times, color in hops:
                 mean = np.bincount(of, weights=times, minlength=self.count) / np.maximum(counts, 1) / MS
                 items.append(Bars(name, self.edges[:-1], self.step / SECOND, mean, color))
@@ -101,7 +129,13 @@ class NetPicture:
 
     def drawing(self, below: list[str]) -> Drawing:
         panels = [self.throughput(), self.delays(), self.of_paths(), self.hops(), self.drops(), self.cuts()]
-        keys = [Key(way.name, color, f"{way.name}: {way.packets:,} packets, {way.lost:,} lost, {way.full:,} met a full queue") for way, color in self.ways]
+        keys = [
+            Key(
+                way.name, color,
+                f"{way.name}: {way.packets:,} packets, {way.lost:,} lost, {way.full:,} met a full queue"
+            )
+            for way, color in self.ways
+        ]
         return Drawing(panels, keys, "", self.timeline.span / SECOND, below, "Ways, those with most packets first")
 
 

@@ -58,8 +58,13 @@ class Topology:
                 self.six[str(address)] = host
 
     def add_pipe(self, pipe: int, ends: tuple[int, int]) -> None:
-        """The pipes of a second pass, from where the jitter of a way begins, are told together: as the first of them."""
-        same = [number for number, others in self.pipes.items() if others == ends] if BETWEEN in self.hosts[ends[0]] else []
+        """The pipes of a second pass, from where the jitter of a way begins, are told together: as the first of
+        them."""
+        same = (
+            [number for number, others in self.pipes.items() if others == ends]
+            if BETWEEN in self.hosts[ends[0]]
+            else []
+        )
         self.same[pipe] = min(same, default=pipe)
         if not same:
             self.pipes[pipe] = ends
@@ -74,13 +79,17 @@ class Topology:
         known = np.array(sorted(self.host_of), np.int64)
         hosts = np.array([self.host_of[address] for address in known.tolist()], np.int64)
         at = np.minimum(np.searchsorted(known, addresses), max(len(known) - 1, 0))
-        return np.where(known[at] == addresses, hosts[at], self.outside) if len(known) else np.full(len(addresses), self.outside)
+        return (
+            np.where(known[at] == addresses, hosts[at], self.outside)
+            if len(known)
+            else np.full(len(addresses), self.outside)
+        )
 
 
 @dataclass(frozen=True)
 class Passages:
-    """Columns of passages, in the order in which they were submitted. `submitted` and `handed` are the places of their calls in that of all
-    records, -1 for one that wasn't handed to a host; `line` and `file` say where the call is."""
+    """Columns of passages, in the order in which they were submitted. `submitted` and `handed` are the places of their
+    calls in that of all records, -1 for one that wasn't handed to a host; `line` and `file` say where the call is."""
 
     topology: Topology
     flow: Integers  # five columns: addresses, protocol, ports
@@ -167,9 +176,14 @@ class Reader:
             self.changes += [(moment, text) for _, moment, text in entries.changes()]
         except Bad:
             every = entries.records
-            raise entries.bad(every.of(np.union1d(np.union1d(places, places + 1), np.flatnonzero(every.starts(b"d,"))))) from None
+            raise entries.bad(
+                every.of(np.union1d(np.union1d(places, places + 1), np.flatnonzero(every.starts(b"d,"))))
+            ) from None
         handed = np.where((event == OUT) & ~np.isin(packet, refused_in(data)), handed, -1)
-        self.add(path, calls, rows, [event, replies[1], due, self.records + places, np.where(handed < 0, -1, self.records + handed)])
+        self.add(
+            path, calls, rows,
+            [event, replies[1], due, self.records + places, np.where(handed < 0, -1, self.records + handed)]
+        )
         self.records += len(entries.records)
 
     def add(self, path: str, calls: Records, rows: Integers, told: list[Integers]) -> None:
@@ -178,25 +192,35 @@ class Reader:
         content = content_before(calls)
         is_own = (flow[2] == OUTAGE_PROTOCOL) & (content == 0)
         unknown = set(number[kind == 1].tolist()) - set(self.pipe_of_queue)
-        pipes = np.array([self.pipe_of_queue.get(queue, 0) for queue in range(int(number.max(initial=0)) + 1)], np.int64)
+        pipes = np.array(
+            [self.pipe_of_queue.get(queue, 0) for queue in range(int(number.max(initial=0)) + 1)], np.int64
+        )
         pipe = np.where(kind == 1, pipes[number], number)
         used, place = np.unique(pipe, return_inverse=True)
         unknown |= set(used.tolist()) - set(self.topology.same)
         if unknown:
-            raise Fault(f"{path}: no remark says between which hosts pipe {min(unknown)} is: hinge net writes them", ROWS)
+            raise Fault(
+                f"{path}: no remark says between which hosts pipe {min(unknown)} is: hinge net writes them", ROWS
+            )
         pipe = np.array([self.topology.same[number] for number in used.tolist()], np.int64)[place.ravel()]
         file = np.full(len(pipe), len(self.columns))
         self.columns.append([column[~is_own] for column in (*flow, length, content, pipe, *told, calls.line, file)])
 
     def passages(self) -> Passages:
-        *flow, length, content, pipe, event, came, due, submitted, handed, line, file = (np.concatenate(column) for column in zip(*self.columns))
+        *flow, length, content, pipe, event, came, due, submitted, handed, line, file = (
+            np.concatenate(column) for column in zip(*self.columns)
+        )
         most = max(self.topology.pipes, default=0) + 1
         ends = np.array([self.topology.pipes.get(number, (NO_HOST, NO_HOST)) for number in range(most)], np.int64)
-        return Passages(self.topology, np.stack(flow), length, content, pipe, ends[pipe, 0], ends[pipe, 1], event, came, due, submitted, handed, line, file)
+        return Passages(
+            self.topology, np.stack(flow), length, content, pipe, ends[pipe, 0], ends[pipe, 1], event, came, due,
+            submitted, handed, line, file
+        )
 
 
 def read_transcript(paths: list[str]) -> tuple[Passages, list[tuple[int, str]]]:
-    """The passages of a transcript, whose files are in their order, and the lines that were obeyed, with their moments."""
+    """The passages of a transcript, whose files are in their order, and the lines that were obeyed, with their
+    moments."""
     reader = Reader()
     for path in paths:
         reader.read(path)

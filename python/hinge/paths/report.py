@@ -15,8 +15,8 @@ SHOWN = 10  # faults of a kind
 
 @dataclass(frozen=True)
 class Path:
-    """The packets that went over the same ways: `sent` has when each began, and `links` and `hosts` how long each was in each link and in each
-    host between two, in ns: a row for each packet."""
+    """The packets that went over the same ways: `sent` has when each began, and `links` and `hosts` how long each was
+    in each link and in each host between two, in ns: a row for each packet."""
 
     pipes: tuple[int, ...]
     sent: Integers
@@ -52,7 +52,8 @@ class WayFigures:
 
 
 def chains(found: Matched) -> Iterator[Integers]:
-    """The passages of packets that arrived: a row for each packet, a column for each passage; all of one array are as long."""
+    """The passages of packets that arrived: a row for each packet, a column for each passage; all of one array are as
+    long."""
     last = np.flatnonzero(found.is_there)
     chain = last[:, None]
     while len(chain):
@@ -76,7 +77,10 @@ def paths(found: Matched) -> list[Path]:
 
 def hosts_of(found: Matched, path: Path) -> list[str]:
     topology = found.passages.topology
-    return [topology.hosts[host] for host in [*(topology.pipes[pipe][0] for pipe in path.pipes), topology.pipes[path.pipes[-1]][1]]]
+    return [
+        topology.hosts[host]
+        for host in [*(topology.pipes[pipe][0] for pipe in path.pipes), topology.pipes[path.pipes[-1]][1]]
+    ]
 
 
 def ways(found: Matched) -> list[WayFigures]:
@@ -104,7 +108,9 @@ def of_ways(found: Matched) -> Iterator[str]:
     rows: list[tuple[str, ...]] = [("way", "packets", "lost", "full", "Mbit/s", "mean ms", "p99 ms")]
     for way in ways(found):
         times = (None if time is None else time / MS for time in (way.mean, way.p99))
-        rows.append((way.name, f"{way.packets:,}", f"{way.lost:,}", f"{way.full:,}", *map(told_or_none, (way.mbit_s, *times))))
+        rows.append(
+            (way.name, f"{way.packets:,}", f"{way.lost:,}", f"{way.full:,}", *map(told_or_none, (way.mbit_s, *times)))
+        )
     widths = [max(map(len, column)) for column in zip(*rows)]
     for name, *fields in rows:
         yield "  ".join([name.ljust(widths[0]), *(field.rjust(width) for field, width in zip(fields, widths[1:]))])
@@ -116,8 +122,11 @@ def of_paths(found: Matched, top: int) -> Iterator[str]:
     for path in told[:top]:
         in_links, in_hosts = path.links.mean(axis=0), path.hosts.mean(axis=0)
         links, hosts = (" + ".join(f"{time / MS:.3f}" for time in times) for times in (in_links, in_hosts))
-        yield (f"{' - '.join(hosts_of(found, path))}: {len(path.sent):,} packets, {(in_links.sum() + in_hosts.sum()) / MS:.3f} ms: links {links}, hosts {hosts}, "
-               f"at most {path.most_in_hosts / MS:.3f}")
+        yield (
+            f"{' - '.join(hosts_of(found, path))}: {len(path.sent):,} packets,"
+            f" {(in_links.sum() + in_hosts.sum()) / MS:.3f} ms: links {links}, hosts {hosts}, at most"
+            f" {path.most_in_hosts / MS:.3f}"
+        )
     if len(told) > top:
         yield f"{len(told) - top} other paths"
 
@@ -133,11 +142,25 @@ def of_faults(found: Matched, files: list[str]) -> Iterator[str]:
             lost = kind == "lost in a host"
             host = topology.hosts[passages.end[row] if lost else passages.start[row]]
             moment = passages.due[row] if lost else passages.came[row]
-            yield (f"  {files[passages.file[row]]} line {passages.line[row]}: {host} {'got' if lost else 'sent'} a packet of {passages.length[row]} bytes at "
-                   f"{moment / MS:.6f} ms, content {np.uint64(passages.content[row] & 0x7fffffffffffffff) | np.uint64(0 if passages.content[row] >= 0 else 1 << 63):016x}")
+            content = int(passages.content[row]) % 2**64  # which is read as signed
+            yield (
+                f"  {files[passages.file[row]]} line {passages.line[row]}: {host} {'got' if lost else 'sent'} a packet"
+                f" of {passages.length[row]} bytes at "
+                f"{moment / MS:.6f} ms, content {content:016x}"
+            )
 
 
 def summary(found: Matched) -> str:
     handed_on = int((found.before != NONE).sum())
-    more = [f"{found.at_the_end:,} at hosts at the end"] * (found.at_the_end > 0) + [f"{found.told:,} dropped by the system, as it told"] * (found.told > 0)
-    return ", ".join([f"{len(found.passages):,} packets on links, {handed_on:,} handed on by hosts, {int(found.is_there.sum()):,} arrived", *more])
+    more = [f"{found.at_the_end:,} at hosts at the end"] * (found.at_the_end > 0) + [
+        f"{found.told:,} dropped by the system, as it told"
+    ] * (found.told > 0)
+    return ", ".join(
+        [
+            (
+                f"{len(found.passages):,} packets on links, {handed_on:,} handed on by hosts,"
+                f" {int(found.is_there.sum()):,} arrived"
+            ),
+            *more,
+        ]
+    )

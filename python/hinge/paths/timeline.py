@@ -1,4 +1,5 @@
-"""What was changed in a net while it ran, and what each way carried in the meantime, as text: a row for each way, a letter for each step."""
+"""What was changed in a net while it ran, and what each way carried in the meantime, as text: a row for each way, a
+letter for each step."""
 
 from __future__ import annotations
 
@@ -33,7 +34,8 @@ class WayChange(NamedTuple):
 
 @dataclass(frozen=True)
 class Timeline:
-    """The changes of the ways that weren't there from the beginning, and the times in which each lost all packets, in ns."""
+    """The changes of the ways that weren't there from the beginning, and the times in which each lost all packets, in
+    ns."""
 
     changes: list[WayChange]
     cuts: dict[int, list[tuple[int, int]]]
@@ -52,7 +54,9 @@ def read_change(moment: int, text: str) -> WayChange | None:
 def timeline(found: Matched, obeyed: list[tuple[int, str]]) -> Timeline:
     passages = found.passages
     changes = [change for moment, text in obeyed if (change := read_change(moment, text))]
-    span = max([int(passages.came.max(initial=0)), int(passages.due.max(initial=0)), *(change.moment for change in changes)])
+    span = max(
+        [int(passages.came.max(initial=0)), int(passages.due.max(initial=0)), *(change.moment for change in changes)]
+    )
     before: dict[int, WayChange] = {}
     new, cuts = list[WayChange](), dict[int, list[tuple[int, int]]]()
     for change in changes:
@@ -79,7 +83,11 @@ def told_changes(found: Matched, line: Timeline) -> Iterator[str]:
     """A line for the changes of one kind that were made at once."""
     groups: list[list[WayChange]] = []
     for change in line.changes:
-        like = [group for group in groups if change.moment - group[0].moment < AT_ONCE and words_of_change(group[0]) == words_of_change(change)]
+        like = [
+            group
+            for group in groups
+            if change.moment - group[0].moment < AT_ONCE and words_of_change(group[0]) == words_of_change(change)
+        ]
         like[-1].append(change) if like else groups.append([change])
     for group in groups:
         names = ", ".join(dict.fromkeys(name_of_way(found, change.pipe) for change in group))
@@ -109,7 +117,9 @@ def carried_by_way(found: Matched, pipe: int, step: int, count: int) -> Reals:
 
 def row_of(rates: Reals, cuts: list[tuple[int, int]], step: int, blocks: str) -> str:
     most = float(rates.max(initial=0))
-    row = [NOTHING if not rate else blocks[min(int(rate / most * len(blocks)), len(blocks) - 1)] for rate in rates.tolist()]
+    row = [
+        NOTHING if not rate else blocks[min(int(rate / most * len(blocks)), len(blocks) - 1)] for rate in rates.tolist()
+    ]
     for begin, end in cuts:
         first = round(begin / step)
         for place in range(first, min(max(round(end / step), first + 1), len(row))):
@@ -128,4 +138,6 @@ def chart(found: Matched, line: Timeline, told: list[WayFigures]) -> Iterator[st
     yield f"{'way'.ljust(width)}  0 s{end.rjust(count - 3)}  most, Mbit/s"
     for way in told:
         rates = carried_by_way(found, way.pipe, step, count)
-        yield f"{way.name.ljust(width)}  {row_of(rates, line.cuts.get(way.pipe, []), step, letters())}  {rates.max():.3f}"
+        yield (
+            f"{way.name.ljust(width)}  {row_of(rates, line.cuts.get(way.pipe, []), step, letters())}  {rates.max():.3f}"
+        )

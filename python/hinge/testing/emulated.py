@@ -26,7 +26,8 @@ def audited(history: Path) -> str:
 
 
 def dropped_in_history(history: Path) -> list[str]:
-    """The packets that a history says were lost or refused, a line each, and how many more there are than a report lists."""
+    """The packets that a history says were lost or refused, a line each, and how many more there are than a report
+    lists."""
     lines, row, call = list[str](), 0, [""]
     with open(history, encoding="utf-8") as file:
         for record in (line.rstrip("\n").split(",") for line in file):
@@ -34,7 +35,10 @@ def dropped_in_history(history: Path) -> list[str]:
                 call = record
                 row += call[2] == "submit"
             elif record[0] == "r" and call[2:3] == ["submit"] and record[1] != "queued":
-                lines.append(f"  row {row:>5}, {int(record[2]) / 1e9:.9f} s, {call[5]}:{call[8]} > {call[6]}:{call[9]}, {call[10]} bytes: {record[1]}")
+                lines.append(
+                    f"  row {row:>5}, {int(record[2]) / 1e9:.9f} s, {call[5]}:{call[8]} > {call[6]}:{call[9]},"
+                    f" {call[10]} bytes: {record[1]}"
+                )
     return lines[:MOST_DROPPED] + ([f"  and {len(lines) - MOST_DROPPED} more"] if len(lines) > MOST_DROPPED else [])
 
 
@@ -62,7 +66,9 @@ class UdpPath:
         self.faults: list[str] = []
         links = [f"pipe {number} config {Options(text)}".strip() for number, text in enumerate((there, back), 1)]
         words = ["udp", "0", server, *links, "--seed", str(seed), "--transcript", str(history)]
-        self.process = subprocess.Popen([sys.executable, str(START), *words], stdout=subprocess.PIPE, stderr=subprocess.PIPE, text=True)
+        self.process = subprocess.Popen(
+            [sys.executable, str(START), *words], stdout=subprocess.PIPE, stderr=subprocess.PIPE, text=True
+        )
         self.address = self._ready()
 
     @property

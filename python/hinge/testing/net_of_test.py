@@ -34,9 +34,15 @@ class NetOfTest:
         if not self.history.exists():
             return self.net.told() or "the net didn't begin"
         changes = [f"  {one.seconds:.6f} s, changed: {one.line}" for one in self.net.obeyed]
-        said = [f"{name} printed last ({self.log(name)}):\n{text}" for name in self.net.addresses() if (text := self.net.last_lines(name))]
+        said = [
+            f"{name} printed last ({self.log(name)}):\n{text}"
+            for name in self.net.addresses()
+            if (text := self.net.last_lines(name))
+        ]
         lost = [self.named(line) for line in dropped_in_history(self.history)]
-        return "\n".join([self.net.told(), *changes, *lost, *said, closing(self.net.drawn_seed(), self.verdict, self.history)])
+        return "\n".join(
+            [self.net.told(), *changes, *lost, *said, closing(self.net.drawn_seed(), self.verdict, self.history)]
+        )
 
     def log(self, host: str) -> Path:
         return self.net.folder / "logs" / f"{host}.log"
