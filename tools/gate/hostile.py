@@ -93,6 +93,15 @@ def rows(form: str) -> Cost:
     return cost
 
 
+def lines(end: bytes) -> Cost:
+    """A live session of short calls, whose lines have this end."""
+    def cost(program: str, count: int, folder: str) -> int:
+        calls = Path(folder) / "calls"
+        calls.write_bytes((b"c,0,advance,1" + end) * count)
+        return counted([program, "live"], str(calls))
+    return cost
+
+
 def entries(end: bytes) -> Cost:
     """An audit of the shortest entries, whose lines have this end."""
     def cost(program: str, count: int, folder: str) -> int:
@@ -112,13 +121,13 @@ CASES: dict[str, Cost] = {
     "KiB of digits as a moment": digits("moment"), "KiB of digits as an address": digits("address"),
     "rows that end in CR LF": rows("returns"), "rows behind a byte order mark": rows("mark"),
     "rows behind one in quotes": rows("quoted-first"), "rows in quotes": rows("quoted"),
-    "entries that end in CR LF": entries(b"\r\n"),
+    "entries that end in CR LF": entries(b"\r\n"), "live lines that end in CR LF": lines(b"\r\n"),
 }
-# A form of rows or entries, the plainest one, and at most how many times its instructions.
+# A form of rows, entries or lines, the plainest one, and at most how many times its instructions.
 RATIOS: list[tuple[str, Cost, float]] = [
     ("rows that end in CR LF", rows("plain"), 1.3), ("rows behind a byte order mark", rows("plain"), 1.05),
     ("rows behind one in quotes", rows("plain"), 1.05), ("rows in quotes", rows("plain"), 2.0),
-    ("entries that end in CR LF", entries(b"\n"), 1.3),
+    ("entries that end in CR LF", entries(b"\n"), 1.3), ("live lines that end in CR LF", lines(b"\n"), MOST),
 ]
 
 

@@ -3,8 +3,8 @@
     python3 tools/gate/live.py PROGRAM SEED COUNT
 
 COUNT random sessions of the seed, with bad lines, comments and questions between their calls; one that is fed byte by byte,
-where each answer has to come before the next line; lines at the limit of their length; pipes that are closed or full; and the
-audit of a session as it stands, and with one byte of it changed.
+where each answer has to come before the next line; lines that end in CR LF; lines at the limit of their length; pipes that are closed
+or full; and the audit of a session as it stands, and with one byte of it changed.
 """
 
 from __future__ import annotations
@@ -42,7 +42,13 @@ BAD = [
     (SUBMIT.replace(b",17,", b",256,") % 0, "8,bad field"), (SUBMIT.replace(b",1000,2", b",65536,2") % 0, "9,bad field"),
     (SUBMIT.replace(b",2000,", b",+2,") % 0, "10,bad field"), (SUBMIT.replace(b"2000,1000", b"2000,0") % 0, "11,bad field"),
     (SUBMIT.replace(b"1000,0,", b"1000,4294967296,") % 0, "12,bad field"), (SUBMIT % 2**63, "13,bad field"),
-    (b"c,0,show\rc,0,show", "0,not one record"), (b"next\rc,0,show", "0,not one record"), (b"\"next\"\rnext", "0,not one record"),
+    (b"c,0,show\rc,0,show", "0,not one record"), (b"c,0,show\rc,0,show\r", "0,not one record"), (b"c,0,shows\r", "3,bad field"),
+    (b"next\rc,0,show", "0,not one record"), (b"\"next\"\rnext", "0,not one record"),
+]
+# Lines that mean something else, or the same, with a carriage return behind them.
+RETURNED = [
+    b"", b"\r", b"next", b"c,0,show", b"c,0,show\r", b"\rc,0,show", b"c,0,show\rnext", b'"c",0,show', b"pipe 2 config",
+    b"# a note", b"\xef\xbb\xbfc,0,show", b"\xef\xbb\xbf", b"\xefc,0,show", b"c,0,configure,\xef\xbb\xbf", b"," * 20,
 ]
 
 
@@ -123,6 +129,13 @@ def bad_lines(tally: Tally, program: str) -> None:
         tally.equal(f"{line!r} is told", (4, 1, rest), (status, out.count(remark), out.replace(remark, b"")))
 
 
+def returned_lines(tally: Tally, program: str) -> None:
+    """A line that ends in CR LF is answered as the reference answers it."""
+    for line in RETURNED:
+        data = b"".join(one + b"\r\n" for one in (b"pipe 1 config bw 8Mbit/s", SUBMIT % 0, line, b"c,3,collect,1000000"))
+        tally.equal(f"{line!r} before CR LF", wanted(data), told(program, data))
+
+
 def limits(tally: Tally, program: str) -> None:
     for line in (b"#" + b"x" * (LINE_LIMIT - 1), b"pipe 1 config" + b" " * (LINE_LIMIT - 13)):
         tally.equal(f"a line of {len(line)} bytes", wanted(line + b"\n"), told(program, line + b"\n"))
@@ -159,6 +172,7 @@ def main(program: str, seed: str, count: str) -> int:
              b"c,1,collect,1000000", b"next", b"c,1,collect,2000000", b"next", b'"c",0,show', b"pipe 1 delete\r"]
     byte_by_byte(tally, program, lines)
     bad_lines(tally, program)
+    returned_lines(tally, program)
     limits(tally, program)
     devices(tally, program)
     audits(tally, program, b"".join(line + b"\n" for line in lines[1:]))

@@ -1,6 +1,7 @@
 pub mod Callers
 pub mod Commands
 pub mod FieldSteps
+pub mod LineReturns
 pub mod LineSteps
 pub mod SessionSteps
 pub mod Transcripts

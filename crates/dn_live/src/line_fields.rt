@@ -1,4 +1,4 @@
-ghost use Rattle.std.specs.Prelude.{◌≡◌, IfOk};
+ghost use Rattle.std.specs.Prelude.{◌≡◌, ◌∷◌, ◌++◌, [], true, false, IfOk};
 ghost use Rattle.csv.specs.Records.{fields_of};
 ghost use Rattle.dn_records.specs.Records.{records_of};
 ghost use Rattle.dn_live.specs.Asked.{records_in};
@@ -6,6 +6,7 @@ ghost use Rattle.dn_live.specs.LinesTaken.{has_none, IsRead};
 
 use csv::ByteRecord;
 use dn_records::{RecordReader, read_plain_line};
+use memchr::memchr;
 use std::alloc::{AllocError, Global};
 
 /// Whether no record is left.
@@ -36,10 +37,41 @@ fn read_quoted(alloc: Global, line: &[u8], fields: &mut ByteRecord) -> Result<bo
     is_at_end(alloc, &mut records)
 }
 
+/// Reads a line that ends in a carriage return, and is given without it, if it is written plainly.
+///
+/// Returns whether it is. Any other may have more than one record, or begin with a byte order mark.
+fn read_before_return(line: &[u8], fields: &mut ByteRecord) -> Result<bool, AllocError>
+    ensures { IfOk result (λ plain. plain ≡ true → IsRead (records_of (line.now ++ 13 ∷ [])) true (fields_of fields.new)) }
+{
+    let [first, ..] = line else {
+        fields.clear();
+        return Ok(true);
+    };
+    if *first == 0xEF {
+        return Ok(false);
+    }
+    if memchr(b'\n', line).is_some() {
+        return Ok(false);
+    }
+    read_plain_line(line, fields)
+}
+
+/// Reads a line if it is written plainly, and returns whether it is. A carriage return may end it.
+#[tactic(auto, unfolding(crate::specs::Asked::records_in))]
+fn read_bare(line: &[u8], fields: &mut ByteRecord) -> Result<bool, AllocError>
+    ensures read { IfOk result (λ plain. plain ≡ true → IsRead (records_in line.now) true (fields_of fields.new)) }
+    ensures left { IfOk result (λ plain. plain ≡ false → records_in line.now ≡ records_of line.now) }
+{
+    match line.strip_suffix(b"\r") {
+        Some(front) => read_before_return(front, fields),
+        None => read_plain_line(line, fields),
+    }
+}
+
 /// Reads the first record of a line into `fields`, and returns whether there is no more than one.
 ///
-/// Only if a line has quotes or carriage returns is a reader of CSV made, which takes some ten times as long.
-#[tactic(auto, unfolding(crate::specs::Asked::records_in))]
+/// A reader of CSV is made only if the line has quotes, or a carriage return before its end. That takes some fifty times
+/// as long.
 pub(crate) fn read_fields(
     alloc: Global,
     line: &[u8],
@@ -47,7 +79,7 @@ pub(crate) fn read_fields(
 ) -> Result<bool, AllocError>
     ensures { IfOk result (λ one. IsRead (records_in line.now) one (fields_of fields.new)) }
 {
-    match read_plain_line(line, fields) {
+    match read_bare(line, fields) {
         Ok(true) => Ok(true),
         Ok(false) => read_quoted(alloc, line, fields),
         Err(error) => Err(error),
