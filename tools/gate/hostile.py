@@ -1,5 +1,5 @@
 """Calls that a stranger chose cost no more than their count: twice as many take at most 2.3 times the instructions. Rows in a form of
-CSV that isn't the plainest take little more than plain ones.
+CSV that isn't the plainest take little more than plain ones. A row of commas takes no more memory than one of letters.
 
     python3 tools/gate/hostile.py PROGRAM
 
@@ -8,6 +8,7 @@ The instructions are counted by valgrind, so that no other work on the machine m
 
 from __future__ import annotations
 
+import os
 import re
 import subprocess
 import sys
@@ -22,6 +23,8 @@ COUNTED = ["valgrind", "--tool=cachegrind", "--cache-sim=no", "--cachegrind-out-
 FEWER = 4_000
 MOST = 2.3
 KIB = 1024
+WIDE = 8_000_000
+HEADER = b"moment,target,number,src,dst,proto,sport,dport,len,word\n"
 Cost = Callable[[str, int, str], int]
 
 
@@ -131,6 +134,27 @@ RATIOS: list[tuple[str, Cost, float]] = [
 ]
 
 
+def memory(program: str, row: bytes, folder: str) -> int:
+    """How many KiB of memory a replay of a packet file with this one bad row takes."""
+    config, packets = Path(folder) / "config", Path(folder) / "packets"
+    config.write_bytes(b"pipe 1 config\n")
+    packets.write_bytes(HEADER + row + b"\n")
+    child = subprocess.Popen([program, "replay", config, packets], stderr=subprocess.DEVNULL)
+    _, status, used = os.wait4(child.pid, 0)
+    child.returncode = os.waitstatus_to_exitcode(status)
+    if child.returncode != 4:
+        raise subprocess.CalledProcessError(child.returncode, child.args)
+    return used.ru_maxrss
+
+
+def compare_memory(program: str, tally: Tally) -> None:
+    """A row of commas takes no more memory than one of letters."""
+    with TemporaryDirectory() as folder:
+        letters, commas = (memory(program, byte * WIDE, folder) for byte in (b"x", b","))
+    print(f"a row of {WIDE} letters takes {letters} KiB, and one of commas {commas} KiB")
+    tally.note("the memory of a row of commas", "" if commas <= 1.1 * letters else "more than that of a row of letters")
+
+
 def compare_with_plain(program: str, tally: Tally) -> None:
     """Each form takes little more than the plainest one."""
     for name, plain, most in RATIOS:
@@ -148,6 +172,7 @@ def main(program: str) -> int:
         print(f"{FEWER} {name} take {fewer} instructions, and {2 * FEWER} take {more}: {more / fewer:.2f} times as many")
         tally.note(name, "" if more <= MOST * fewer else f"more than {MOST} times the instructions")
     compare_with_plain(program, tally)
+    compare_memory(program, tally)
     return tally.end()
 
 

@@ -12,3 +12,4 @@ pub mod PlainRows
 pub mod PlainRowsBack
 pub mod QuotedRows
 pub mod Rows
+pub mod WideRows

@@ -9,4 +9,5 @@ pub mod PlainRow
 pub mod QuotedRow
 pub mod Reading
 pub mod Unread
+pub mod WideRows
 pub mod Writing

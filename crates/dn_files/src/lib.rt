@@ -19,6 +19,7 @@ mod replay_fault;
 mod row;
 mod row_fields;
 mod source;
+mod wide_row;
 
 pub use chunks::{rows_of_chunk, rows_of_chunk_by_threads, rows_of_text_by_threads};
 pub use config::{CONFIG_LIMIT, command_at, read_config};

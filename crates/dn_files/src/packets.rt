@@ -10,6 +10,7 @@ use crate::replay_fault::ReplayFault;
 use crate::row::Row;
 use crate::row_fields::{is_header, read_row};
 use crate::source::Source;
+use crate::wide_row::begins_wide;
 use csv::ByteRecord;
 use dn_records::{Inlet, RecordReader};
 use std::alloc::Global;
@@ -69,10 +70,14 @@ fn rows_below(
 ///
 /// BadRow names the first bad row, from 1 on and 0 for the header, and its first bad field. OutOfMemory says that a growth
 /// was refused.
+#[tactic(auto, using(crate::proofs::WideRows::wide_header))]
 pub fn rows_of_text(alloc: Global, text: &[u8]) -> Result<Vec<Row>, ReplayFault>
     ensures ok { IfOk result (λ rows. rows_of text.now ≡ Ok rows.items) }
     ensures err { IfErr result (λ fault. IsFaultOf (rows_of text.now) fault) }
 {
+    if begins_wide(alloc, text) {
+        return Err(ReplayFault::BadRow { row: 0, field: 0 });
+    }
     let mut reader = RecordReader::new(alloc, text);
     let mut fields = ByteRecord::new(alloc);
     let Ok(found) = reader.read(&mut fields) else {
@@ -88,6 +93,7 @@ pub fn rows_of_text(alloc: Global, text: &[u8]) -> Result<Vec<Row>, ReplayFault>
 }
 
 /// The rows of a text without a header, the first with this number.
+#[tactic(auto, using(crate::proofs::WideRows::wide_row))]
 pub(crate) fn rows_from_text(
     alloc: Global,
     text: &[u8],
@@ -97,6 +103,12 @@ pub(crate) fn rows_from_text(
     ensures ok { IfOk result (λ rows. rows_from first (records_of text.now) ≡ Ok rows.items) }
     ensures err { IfErr result (λ fault. IsFaultOf (rows_from first (records_of text.now)) fault) }
 {
+    if begins_wide(alloc, text) {
+        return Err(ReplayFault::BadRow {
+            row: first,
+            field: 0,
+        });
+    }
     let mut reader = RecordReader::new(alloc, text);
     let mut fields = ByteRecord::new(alloc);
     rows_below(alloc, &mut reader, &mut fields, first)

@@ -1,0 +1,59 @@
+ghost use Rattle.std.specs.Prelude.{◌≡◌, ◌≤◌, true};
+ghost use Rattle.dn_records.specs.Records.{records_of};
+ghost use Rattle.dn_files.specs.WideRows.{BeginsWide, has_commas, is_mark, missing_behind};
+
+use dn_records::Records;
+use std::alloc::Global;
+
+// How many fields a row has.
+const FIELDS: u64 = 10;
+
+/// Whether a byte means something else to CSV than itself, except a comma.
+fn is_mark(byte: u8) -> bool
+    ensures { result ≡ is_mark byte }
+{
+    byte == b'"' || byte == b'\r' || byte == b'\n'
+}
+
+/// How many commas are missing behind a byte.
+fn missing_behind(byte: u8, missing: u64) -> u64
+    requires { 1 ≤ missing }
+    ensures { result ≡ missing_behind byte missing }
+{
+    if byte == b',' { missing - 1 } else { missing }
+}
+
+/// Whether a text has so many commas ahead of the first quote and of the end of its first line.
+#[tactic(auto, using(crate::proofs::WideRows::byte_more))]
+fn has_commas(text: &[u8], count: u64) -> bool
+    ensures { result ≡ has_commas count text.now }
+{
+    let mut left = text;
+    let mut missing = count;
+    loop {
+        if missing == 0 {
+            return true;
+        }
+        let [byte, rest @ ..] = left else {
+            return false;
+        };
+        if is_mark(*byte) {
+            return false;
+        }
+        missing = missing_behind(*byte, missing);
+        left = rest;
+    }
+}
+
+/// Whether the first record of a text is seen to have more fields than a row.
+///
+/// Its fields aren't gathered, so a long line of commas takes no memory.
+#[tactic(auto, using(crate::proofs::WideRows::wide_records))]
+pub(crate) fn begins_wide(alloc: Global, text: &[u8]) -> bool
+    ensures { result ≡ true → BeginsWide (records_of text.now) }
+{
+    match Records::new(alloc, text).lines() {
+        Some(lines) => has_commas(lines, FIELDS),
+        None => false,
+    }
+}
