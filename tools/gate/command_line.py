@@ -128,6 +128,8 @@ FAULTS = [
     fault("another header", replay(), 4, "packet row 0, field 0: bad", files={"c": CONFIG, "p": "moment,target\n"}),
     fault("a short row", replay(), 4, "packet row 2, field 0: bad", files={"c": CONFIG, "p": f"{PACKETS}\n\n0,pipe,1\n"}),
     fault("a row of commas", replay(), 4, "packet row 2, field 0: bad", files={"c": CONFIG, "p": f"{PACKETS}{',' * 90_000}\n"}),
+    fault("empty lines and a row of commas", replay(), 4, "packet row 2, field 0: bad",
+          files={"c": CONFIG, "p": f"{PACKETS}\n\r\n{',' * 90_000}\n"}),
     fault("a row of commas with a quote", replay(), 4, "packet row 2, field 0: bad",
           files={"c": CONFIG, "p": f'{PACKETS}{"," * 10}"\n{ROW}'}),
     fault("a header of commas", replay(), 4, "packet row 0, field 0: bad", files={"c": CONFIG, "p": f"{MARK}{',' * 90_000}\n"}),

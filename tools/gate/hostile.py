@@ -23,7 +23,7 @@ COUNTED = ["valgrind", "--tool=cachegrind", "--cache-sim=no", "--cachegrind-out-
 FEWER = 4_000
 MOST = 2.3
 KIB = 1024
-WIDE = 8_000_000
+WIDE = 8_000
 HEADER = b"moment,target,number,src,dst,proto,sport,dport,len,word\n"
 Cost = Callable[[str, int, str], int]
 
@@ -134,11 +134,14 @@ RATIOS: list[tuple[str, Cost, float]] = [
 ]
 
 
-def memory(program: str, row: bytes, folder: str) -> int:
-    """How many KiB of memory a replay of a packet file with this one bad row takes."""
+def memory(program: str, front: bytes, byte: bytes, folder: str) -> int:
+    """How many KiB of memory a replay takes whose one row is bad: a front, and then this byte many times."""
     config, packets = Path(folder) / "config", Path(folder) / "packets"
     config.write_bytes(b"pipe 1 config\n")
-    packets.write_bytes(HEADER + row + b"\n")
+    with packets.open("wb") as file:
+        file.write(HEADER + front)
+        file.writelines(byte * KIB for _ in range(WIDE))
+        file.write(b"\n")
     child = subprocess.Popen([program, "replay", config, packets], stderr=subprocess.DEVNULL)
     _, status, used = os.wait4(child.pid, 0)
     child.returncode = os.waitstatus_to_exitcode(status)
@@ -150,9 +153,10 @@ def memory(program: str, row: bytes, folder: str) -> int:
 def compare_memory(program: str, tally: Tally) -> None:
     """A row of commas takes no more memory than one of letters."""
     with TemporaryDirectory() as folder:
-        letters, commas = (memory(program, byte * WIDE, folder) for byte in (b"x", b","))
-    print(f"a row of {WIDE} letters takes {letters} KiB, and one of commas {commas} KiB")
-    tally.note("the memory of a row of commas", "" if commas <= 1.1 * letters else "more than that of a row of letters")
+        rows = (b"", b"x"), (b"", b","), (b"\r\n", b",")
+        letters, commas, behind = (memory(program, front, byte, folder) for front, byte in rows)
+    print(f"{WIDE} KiB of letters take {letters} KiB of memory, of commas {commas}, and behind an empty line {behind}")
+    tally.note("the memory of a row of commas", "" if max(commas, behind) <= 1.1 * letters else "more than that of a row of letters")
 
 
 def compare_with_plain(program: str, tally: Tally) -> None:

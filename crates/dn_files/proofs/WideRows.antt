@@ -1,5 +1,5 @@
 -- A text that begins with too many commas: its first record has as many fields, whatever follows them.
-use Rattle.std.proofs.Common.{◌≡◌, ◌≢◌, refl, ℕ, zero, suc, ◌+◌, ◌-◌, ◌<◌, ◌≤◌, ◌==◌, Bool, true, false, inl, inr, List, [], ◌∷◌, ◌++◌, Option, Some, None, Err, length, take, drop, get_or, arith, add-one, length-append}
+use Rattle.std.proofs.Common.{◌≡◌, ◌≢◌, ◌∙◌, refl, ℕ, zero, suc, ◌+◌, ◌-◌, ◌<◌, ◌≤◌, ◌==◌, Bool, true, false, inl, inr, List, [], ◌∷◌, ◌++◌, Option, Some, None, Err, length, take, drop, get_or, arith, add-one, length-append}
 use Rattle.std.proofs.lemmas.Bool.{cases_Bool, eqb-true, ne_eqb, or_parts}
 use Rattle.std.proofs.lemmas.List.{take_rest}
 use Rattle.csv.specs.Machine.{Read, ends_at_end, field_after, fields_after, in_field, is_end, next_record, start_field, step}
@@ -9,10 +9,11 @@ use Rattle.csv.specs.declared.parser.Action.TheVariants as act
 use Rattle.csv.specs.declared.parser.State.{State}
 use Rattle.csv.specs.declared.parser.State.TheVariants as st
 use Rattle.csv.proofs.RoundTrip.{record-same}
+use Rattle.dn_records.proofs.NextRecord.{turns}
 use Rattle.dn_records.specs.Reading.{records_after}
 use Rattle.dn_records.specs.Records.{Fields, records_of}
 use Rattle.dn_files.specs.PacketFile.{is_header, row_of, rows_below, rows_from}
-use Rattle.dn_files.specs.WideRows.{BeginsWide, has_commas, is_mark, missing_behind}
+use Rattle.dn_files.specs.WideRows.{BeginsWide, has_commas, is_line_end, is_mark, missing_behind}
 use Rattle.dn_files.specs.declared.replay_fault.ReplayFault.TheVariants.{BadRow}
 
 some_eq : {A : Type 0} (x y : A) → ◌≡◌ {A = Option A} (Some x) (Some y) → x ≡ y
@@ -180,9 +181,21 @@ wide-next more None gives = absurd gives
 wide-next more (Some q) gives = gives
 
 -- Ten commas ahead make eleven fields.
-pub wide_records : (text lines : List ℕ) → records_of text ≡ records_after st.StartRecord lines → has_commas 10 lines ≡ true → BeginsWide (records_of text)
+pub wide_records : (text lines below : List ℕ) → records_of text ≡ records_after st.StartRecord lines → records_after st.StartRecord lines ≡ records_after st.StartRecord below
+    → has_commas 10 below ≡ true → BeginsWide (records_of text)
 unfolding records_from
-wide_records text lines is has = rw (is, add-one) (wide-next (records_from default_config (length lines)) (next_record default_config st.StartRecord [] [] lines) (record-read lines 10 refl has))
+wide_records text lines below is same has =
+    rw (is ∙ same, add-one) (wide-next (records_from default_config (length below)) (next_record default_config st.StartRecord [] [] below) (record-read below 10 refl has))
+
+-- An end of a line at the front of a text is no record.
+end-alone : (byte : ℕ) (rest : List ℕ) → is_line_end byte ≡ true → records_after st.StartRecord (byte ∷ rest) ≡ records_after st.StartRecord rest
+unfolding records_from next_record
+end-alone byte rest ends = rw (add-one, ends) (turns (suc (length (byte ∷ rest))) (length rest + 1) st.StartRecord rest refl (omega arith) (omega arith))
+
+pub end_more : (left : List ℕ) (all : List Fields) → 1 ≤ length left → is_line_end (get_or left 0 0) ≡ true → all ≡ records_after st.StartRecord left
+    → all ≡ records_after st.StartRecord (take (length left - 1) (drop 1 left))
+end_more [] all there ends is = absurd (omega arith)
+end_more (byte ∷ rest) all there ends is = rw (take_rest (byte ∷ rest) 1) (is ∙ end-alone byte rest ends)
 
 -- One byte more.
 pub byte_more : (left : List ℕ) (missing : ℕ) (all : Bool) → 1 ≤ length left → (missing == 0) ≡ false → is_mark (get_or left 0 0) ≡ false → has_commas missing left ≡ all

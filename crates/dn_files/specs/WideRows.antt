@@ -6,6 +6,10 @@ use Rattle.dn_records.specs.Records.{Fields}
 abbrev pub is_mark : ℕ → Bool
 is_mark byte = (byte == 34) || ((byte == 13) || (byte == 10))
 
+-- Whether a byte ends a line.
+abbrev pub is_line_end : ℕ → Bool
+is_line_end byte = (byte == 13) || (byte == 10)
+
 -- How many commas are missing behind a byte.
 abbrev pub missing_behind : ℕ → ℕ → ℕ
 missing_behind byte missing = cond (byte == 44) (missing - 1) missing

@@ -1,6 +1,8 @@
 ghost use Rattle.std.specs.Prelude.{◌≡◌, ◌≤◌, true};
+ghost use Rattle.csv.specs.declared.parser.State.TheVariants as st;
+ghost use Rattle.dn_records.specs.Reading.{records_after};
 ghost use Rattle.dn_records.specs.Records.{records_of};
-ghost use Rattle.dn_files.specs.WideRows.{BeginsWide, has_commas, is_mark, missing_behind};
+ghost use Rattle.dn_files.specs.WideRows.{BeginsWide, has_commas, is_line_end, is_mark, missing_behind};
 
 use dn_records::Records;
 use std::alloc::Global;
@@ -45,6 +47,30 @@ fn has_commas(text: &[u8], count: u64) -> bool
     }
 }
 
+/// Whether a byte ends a line.
+fn is_line_end(byte: u8) -> bool
+    ensures { result ≡ is_line_end byte }
+{
+    byte == b'\r' || byte == b'\n'
+}
+
+/// A text behind the empty lines at its front, which are no records.
+#[tactic(auto, using(crate::proofs::WideRows::end_more))]
+fn behind_empty(text: &[u8]) -> &[u8]
+    ensures { records_after st.StartRecord text.now ≡ records_after st.StartRecord result.now }
+{
+    let mut left = text;
+    loop {
+        let [byte, rest @ ..] = left else {
+            return left;
+        };
+        if !is_line_end(*byte) {
+            return left;
+        }
+        left = rest;
+    }
+}
+
 /// Whether the first record of a text is seen to have more fields than a row.
 ///
 /// Its fields aren't gathered, so a long line of commas takes no memory.
@@ -53,7 +79,7 @@ pub(crate) fn begins_wide(alloc: Global, text: &[u8]) -> bool
     ensures { result ≡ true → BeginsWide (records_of text.now) }
 {
     match Records::new(alloc, text).lines() {
-        Some(lines) => has_commas(lines, FIELDS),
+        Some(lines) => has_commas(behind_empty(lines), FIELDS),
         None => false,
     }
 }
