@@ -30,6 +30,8 @@ FAILURES: dict[int, tuple[type[HingetulipError], str]] = {
     12: (RangeError, "the number of a pipe or queue isn't in 1 to 65535"),
     13: (RangeError, "a length isn't in 1 to 65535 bytes"),
     16: (RangeError, "the number of callers isn't in 1 to 15"),
+    20: (RangeError, "the number of a history's caller isn't in 0 to 15"),
+    21: (RangeError, "an outcome that is none"),
 }
 FAULT_KINDS = ("not UTF-8", "unknown word", "missing value", "bad number", "out of range", "left out", "needs a pipe")
 
@@ -42,7 +44,8 @@ class Handle(Structure):
 
 FUNCTIONS = ("dn_version", "dn_open", "dn_open_with_key", "dn_close", "dn_configure", "dn_submit", "dn_submit_many", "dn_advance",
              "dn_collect", "dn_show", "dn_wake")
-LATER_FUNCTIONS = ("dn_reserve",)  # a library of before 1.2 lacks them, and serves those who don't call them
+# A library of before 1.2 lacks the first, and one of before 1.3 the others. It serves those who don't call them.
+LATER_FUNCTIONS = ("dn_reserve", "dn_submit_text", "dn_advance_text", "dn_collect_text")
 
 
 def failure(status: int) -> HingetulipError:

@@ -16,8 +16,9 @@ HEADER, SERVICE_HEADER = ((INCLUDE / f"{name}.h").read_text() for name in ("hing
 RUST, RUST_SERVICE, RUST_ERRORS = (
     (TOP / "rust" / "hingetulip" / "src" / f"{name}.rs").read_text() for name in ("raw", "raw_service", "error")
 )
+LEFT_OUT = {"dn_open", "dn_submit_text", "dn_advance_text", "dn_collect_text"}
 DECLARED = (
-    (RUST, HEADER, "dn_status", {"dn_open"}),
+    (RUST, HEADER, "dn_status", LEFT_OUT),
     (RUST_SERVICE, SERVICE_HEADER, "dn_service_status", {"dn_service_open"}),
 )
 WIDTHS = {"uint64_t": 8, "uint32_t": 4, "uint16_t": 2, "uint8_t": 1, "void *": 8, "bool": 1}
@@ -27,7 +28,8 @@ EXCEPTIONS = {
     "DN_EXHAUSTED": errors.ExhaustedError, "DN_NO_SUCH_PIPE": errors.RefusedError,
     "DN_PIPE_HAS_QUEUES": errors.RefusedError, "DN_NO_SUCH_QUEUE": errors.RefusedError, "DN_CLOSED": errors.ClosedError,
     "DN_MEMORY": errors.OutOfMemoryError, "DN_BAD_MOMENT": errors.RangeError, "DN_BAD_RULE": errors.RangeError,
-    "DN_BAD_KIND": errors.RangeError, "DN_BAD_NUMBER": errors.RangeError, "DN_BAD_LENGTH": errors.RangeError
+    "DN_BAD_KIND": errors.RangeError, "DN_BAD_NUMBER": errors.RangeError, "DN_BAD_LENGTH": errors.RangeError,
+    "DN_BAD_CALLER": errors.RangeError, "DN_BAD_OUTCOME": errors.RangeError
 }
 FAULTS = {
     "DN_NOT_UTF8": "not UTF-8", "DN_UNKNOWN_WORD": "unknown word", "DN_MISSING_VALUE": "missing value",

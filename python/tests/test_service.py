@@ -241,7 +241,8 @@ class Header(unittest.TestCase):
                              "DN_NO_ENTRY": str(service.NO_ENTRY)
                          },
                          statuses)
-        self.assertIn(f'#define DN_HISTORY_FRONT "{history_file.FRONT.decode().strip()}\\n"', text)
+        front = f'#define DN_HISTORY_FRONT "{history_file.FRONT.decode().strip()}\\n"'
+        self.assertIn(front, HEADER.with_name("hingetulip.h").read_text())  # which the header of services includes
 
 
 def work(shared: Service, number: int) -> int:

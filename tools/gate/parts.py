@@ -21,6 +21,7 @@ CASES_BY_THREADS = 40
 LIVE_SESSIONS = 200
 SCENARIOS_IN_C = 200
 SERVICES_IN_C = 40
+TEXTS_IN_C = 60
 # The seconds after which a part that hasn't ended is ended and counts as failed: ten times what the longest takes, and
 # for the edits what they take on one processor.
 LONGEST_PART, LONGEST_EDITS = 1800, 7200
@@ -99,6 +100,7 @@ def parts(cases: str, seed: int, program: str) -> list[Part]:
         Part("live sessions", [python, "tools/gate/live.py", *words, str(LIVE_SESSIONS)]),
         Part("the C library", [python, "tools/gate/c_library.py", str(seed), str(SCENARIOS_IN_C)], "gcc"),
         Part("the service from C", [python, "tools/gate/c_service.py", *words, str(SERVICES_IN_C)], "gcc", True),
+        Part("texts of entries from C", [python, "tools/gate/c_texts.py", *words, str(TEXTS_IN_C)], "gcc"),
         Part("the C library and Python from a prefix", [python, "tools/gate/embedding.py"], "cc"),
         Part("the program without memory", [python, "tools/gate/memory.py", program], "cc", True),
         Part("chosen keys", [python, "tools/gate/hostile.py", program], "valgrind", True),

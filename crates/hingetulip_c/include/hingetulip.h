@@ -37,6 +37,10 @@ extern "C" {
 /* What dn_wake tells where nothing waits and nothing is under way. */
 #define DN_NEVER UINT64_MAX
 
+/* The first line of a history file, and the last line behind its entries, which has their count. */
+#define DN_HISTORY_FRONT "dummynet-history,3\n"
+#define DN_HISTORY_END "end,%llu\n"
+
 enum dn_status {
     DN_OK = 0,
     DN_EXHAUSTED = 1,       /* the handle answered 2^62 calls before: nothing changes any more */
@@ -53,7 +57,9 @@ enum dn_status {
     DN_BAD_NUMBER = 12,     /* a pipe or a queue numbered 0 */
     DN_BAD_LENGTH = 13,     /* a packet of 0 bytes */
     DN_BAD_RESERVED = 14,   /* a field `reserved` that isn't 0 */
-    DN_NEW_FLOW = 19        /* the packet's flow is new, so that no room was made for it; 15 to 18 are hingetulip_service.h's */
+    DN_NEW_FLOW = 19,       /* the packet's flow is new, so that no room was made for it; 15 to 18 are hingetulip_service.h's */
+    DN_BAD_CALLER = 20,     /* the number of a history's caller isn't in 0 to 15 */
+    DN_BAD_OUTCOME = 21     /* no enum dn_outcome */
 };
 
 /* How the due moments of the packets on one link follow one another. */
@@ -198,6 +204,23 @@ uint32_t dn_show(struct dn_handle *handle, struct dn_flow *list, size_t room, ui
 /* When to collect: DN_OK writes *moment, the first moment at which a packet is due or its transmission begins, if no other call
    comes, or DN_NEVER. Each dn_collect before it gives nothing. It changes nothing, and counts as no call. */
 uint32_t dn_wake(struct dn_handle *handle, uint64_t *moment);
+
+/* The next three write a call and its answer as lines of a history file, which `dummynet audit` checks. They use no handle. DN_OK: the
+   first *length bytes of `text`, which has `room` bytes, are these lines, and the others are as they were. DN_ROOM: the lines have
+   *length bytes, which is more than `room`. DN_MEMORY: nothing is written. A history has callers 0 to 15, and a handle's is 0. */
+
+/* A dn_submit of the packet that was answered by the fate. `packet` of a fate is read under DN_QUEUED alone, and `flow` isn't read under
+   DN_NO_TARGET. */
+uint32_t dn_submit_text(uint64_t caller, const struct dn_packet *packet, const struct dn_fate *fate, uint8_t *text, size_t room,
+                        uint64_t *length);
+
+/* A dn_advance to the moment, which wrote `at`. */
+uint32_t dn_advance_text(uint64_t caller, uint64_t moment, uint64_t at, uint8_t *text, size_t room, uint64_t *length);
+
+/* A dn_collect at the moment, which wrote the first `count` places of `list`. The clock was at `at` after it, as a dn_advance to 0
+   tells. */
+uint32_t dn_collect_text(uint64_t caller, uint64_t moment, uint64_t at, const struct dn_delivery *list, size_t count, uint8_t *text,
+                         size_t room, uint64_t *length);
 
 #ifdef __cplusplus
 }

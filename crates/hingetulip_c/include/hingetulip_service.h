@@ -26,10 +26,6 @@ extern "C" {
 /* The most callers of a service. */
 #define DN_MOST_CALLERS 15
 
-/* What a history file begins with. Behind the entries it ends with DN_HISTORY_END and their count. */
-#define DN_HISTORY_FRONT "dummynet-history,3\n"
-#define DN_HISTORY_END "end,%llu\n"
-
 enum dn_service_status {
     DN_BUSY = 15,      /* *holder is the number of another caller, who was in a call: nothing has changed */
     DN_BAD_COUNT = 16, /* the number of callers isn't in 1 to DN_MOST_CALLERS */

@@ -7,3 +7,4 @@ pub mod RawBoxes
 pub mod Rooms
 pub mod ServiceHandles
 pub mod Serving
+pub mod Texts

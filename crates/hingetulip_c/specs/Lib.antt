@@ -7,3 +7,4 @@ pub mod Room
 pub mod Services
 pub mod Statuses
 pub mod Submits
+pub mod Texts

@@ -10,4 +10,5 @@ mod service;
 mod show;
 mod submit;
 mod submit_many;
+mod texts;
 mod wake;

@@ -1,4 +1,4 @@
-ghost use Rattle.std.specs.Prelude.{◌≡◌, ◌≢◌, ◌⊎◌, ◌<◌, ◌+◌, [], ◌∷◌, ◌≤◌, drop, take, length, vec_len, IfOk, IfErr, OnOk, OnErr};
+ghost use Rattle.std.specs.Prelude.{◌≡◌, ◌≢◌, ◌⊎◌, ◌<◌, ◌+◌, [], ◌∷◌, drop, take, length, vec_len, IfOk, IfErr, OnOk, OnErr};
 ghost use Rattle.std.specs.Option.{MatchOption};
 ghost use Rattle.dn_history.specs.HistoryText.{entry_records};
 ghost use Rattle.dn_records.specs.Records.{text_of};
@@ -6,9 +6,8 @@ ghost use Rattle.dn_service.specs.Lasting.{Takes};
 ghost use Rattle.dn_types.specs.declared.entry.Entry.{Entry as EntryValue};
 ghost use Rattle.hingetulip_c.specs.Services.{next_text, service_losing, waiting, NotTaken, Written};
 
+use crate::history_lines::{entry_text, put_line};
 use crate::status::{BUSY, MEMORY, NO_ENTRY, OK, ROOM, UNWRITTEN};
-use dn_history::write_entry;
-use dn_records::RecordWriter;
 use dn_service::{Segment, Taker};
 use dn_types::Entry;
 use std::alloc::{AllocError, Global};
@@ -21,24 +20,6 @@ pub struct Ledger {
     pub(crate) entries: Vec<Entry>,
     /// How many of the entries were written.
     pub(crate) written: usize,
-}
-
-/// The text of an entry in a history file.
-fn entry_text(alloc: Global, entry: &Entry) -> Result<Vec<u8>, AllocError>
-    ensures { IfOk result (λ text. text.items ≡ text_of (entry_records entry.now)) }
-{
-    let mut writer = RecordWriter::new(alloc);
-    write_entry(alloc, &mut writer, entry)?;
-    Ok(writer.into_text())
-}
-
-/// Puts the line into the first bytes of the text.
-fn put_line(line: &[u8], text: &mut [u8])
-    requires { length line.now ≤ length text.old }
-    ensures line { take (length line.now) text.new ≡ line.now }
-    ensures others { drop (length line.now) text.new ≡ drop (length line.now) text.old }
-{
-    text[..line.len()].copy_from_slice(line);
 }
 
 impl Ledger {

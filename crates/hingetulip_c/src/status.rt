@@ -39,3 +39,7 @@ pub(crate) const UNWRITTEN: u32 = 17;
 pub(crate) const NO_ENTRY: u32 = 18;
 
 pub(crate) const NEW_FLOW: u32 = 19;
+
+pub(crate) const BAD_CALLER: u32 = 20;
+
+pub(crate) const BAD_OUTCOME: u32 = 21;

@@ -1,4 +1,4 @@
-/* Every refusal of hingetulip.h: its status, and that nothing else changed; and two handles side by side. */
+/* Every refusal of hingetulip.h: its status, and that nothing else changed; two handles side by side; and texts. */
 #include "hingetulip.h"
 #include <stdio.h>
 #include <string.h>
@@ -151,6 +151,84 @@ static void packets_up_to_a_bad_one(struct dn_handle *handle) {
     HOLDS(fates[0].outcome == DN_QUEUED && fates[0].packet == 2 && untouched(fates + 1, 2 * sizeof *fates));
 }
 
+static struct dn_fate told = {.at = 9, .flow = 2, .packet = 3, .outcome = DN_QUEUED};
+static struct dn_delivery given[2] = {{.due = 9, .packet = 3, .flow = 2, .start = 8},
+                                      {.due = 9, .packet = 4, .flow = 2, .start = 9}};
+static uint8_t text[200];
+static uint64_t text_length;
+
+static void fill_text(void) {
+    memset(text, 77, sizeof text);
+    text_length = 77;
+}
+
+static bool is_text(const char *wanted) {
+    size_t length = strlen(wanted);
+    bool same = text_length == length && memcmp(text, wanted, length) == 0;
+    same = same && untouched(text + length, sizeof text - length);
+    fill_text();
+    return same;
+}
+
+static uint32_t submit_text(uint64_t caller, struct dn_packet packet, struct dn_fate fate) {
+    return dn_submit_text(caller, &packet, &fate, text, sizeof text, &text_length);
+}
+
+static uint32_t collect_text(uint64_t caller, uint64_t moment, size_t count) {
+    return dn_collect_text(caller, moment, UINT64_MAX, given, count, text, sizeof text, &text_length);
+}
+
+static void texts_of_each_kind(void) {
+    struct dn_fate fate = told;
+    fill_text();
+    HOLDS(submit_text(15, good(7), fate) == DN_OK);
+    HOLDS(is_text("c,15,submit,pipe,1,0.0.0.1,0.0.0.2,17,3,4,1000,0,7\nr,queued,9,2,3\n"));
+    fate.outcome = DN_LOST; /* the packet's number isn't read */
+    HOLDS(submit_text(0, good(7), fate) == DN_OK);
+    HOLDS(is_text("c,0,submit,pipe,1,0.0.0.1,0.0.0.2,17,3,4,1000,0,7\nr,lost,9,2\n"));
+    fate.outcome = DN_FULL;
+    HOLDS(submit_text(0, good(7), fate) == DN_OK);
+    HOLDS(is_text("c,0,submit,pipe,1,0.0.0.1,0.0.0.2,17,3,4,1000,0,7\nr,full,9,2\n"));
+    fate.outcome = DN_NO_TARGET;
+    HOLDS(submit_text(0, good(7), fate) == DN_OK);
+    HOLDS(is_text("c,0,submit,pipe,1,0.0.0.1,0.0.0.2,17,3,4,1000,0,7\nr,no-target,9\n"));
+    HOLDS(dn_advance_text(1, 7, UINT64_MAX, text, sizeof text, &text_length) == DN_OK);
+    HOLDS(is_text("c,1,advance,7\nr,advanced,18446744073709551615\n"));
+    HOLDS(collect_text(2, DN_LAST_MOMENT, 2) == DN_OK);
+    HOLDS(is_text("c,2,collect,4611686018427387904\nr,delivered,18446744073709551615,2\nd,3,2,8,9\nd,4,2,9,9\n"));
+    HOLDS(collect_text(2, 7, 0) == DN_OK && is_text("c,2,collect,7\nr,delivered,18446744073709551615,0\n"));
+}
+
+static void texts_that_are_refused(void) {
+    struct dn_packet packet = good(7), other = good(DN_LAST_MOMENT + 1);
+    struct dn_fate fate = told;
+    fill_text();
+    HOLDS(submit_text(16, packet, told) == DN_BAD_CALLER && submit_text(UINT64_MAX, packet, told) == DN_BAD_CALLER);
+    HOLDS(collect_text(16, 7, 2) == DN_BAD_CALLER);
+    HOLDS(dn_advance_text(16, 7, 7, text, sizeof text, &text_length) == DN_BAD_CALLER);
+    HOLDS(submit_text(0, other, told) == DN_BAD_MOMENT && collect_text(0, DN_LAST_MOMENT + 1, 2) == DN_BAD_MOMENT);
+    HOLDS(dn_advance_text(0, UINT64_MAX, 7, text, sizeof text, &text_length) == DN_BAD_MOMENT);
+    other = packet, other.kind = 2;
+    HOLDS(submit_text(0, other, told) == DN_BAD_KIND);
+    other = packet, other.number = 0;
+    HOLDS(submit_text(0, other, told) == DN_BAD_NUMBER);
+    other = packet, other.length = 0;
+    HOLDS(submit_text(0, other, told) == DN_BAD_LENGTH);
+    other = packet, other.reserved = 1;
+    HOLDS(submit_text(0, other, told) == DN_BAD_RESERVED);
+    fate.outcome = 4;
+    HOLDS(submit_text(0, packet, fate) == DN_BAD_OUTCOME);
+    fate.outcome = UINT32_MAX;
+    HOLDS(submit_text(0, packet, fate) == DN_BAD_OUTCOME);
+    fate = told, fate.reserved = 1;
+    HOLDS(submit_text(0, packet, fate) == DN_BAD_RESERVED);
+    given[1].reserved = 1;
+    HOLDS(collect_text(0, 7, 2) == DN_BAD_RESERVED && text_length == 77 && untouched(text, sizeof text));
+    given[1].reserved = 0;
+    HOLDS(dn_advance_text(0, 7, 7, text, 26, &text_length) == DN_ROOM && text_length == 27 && untouched(text, sizeof text));
+    HOLDS(dn_advance_text(0, 7, 7, text, 27, &text_length) == DN_OK && is_text("c,0,advance,7\nr,advanced,7\n"));
+}
+
 static void two_handles_side_by_side(void) {
     struct dn_handle slow = {0}, fast = {0};
     struct dn_fault fault;
@@ -185,6 +263,8 @@ int main(void) {
     HOLDS(dn_open(&handle, DN_FREE) == DN_OK); /* lets go of what was open */
     HOLDS(dn_close(&handle) == DN_OK && dn_close(&handle) == DN_CLOSED);
     two_handles_side_by_side();
+    texts_of_each_kind();
+    texts_that_are_refused();
     printf("%d of %d hold\n", tried - failed, tried);
     return failed != 0;
 }

@@ -28,6 +28,18 @@ static const char *const LINES[] = {"pipe 1 config bw 8Mbit/s delay 2 queue 20",
                                     "queue 1 config pipe 2 weight 3 mask dst-port 3", "queue 2 config pipe 2 weight 1",
                                     "pipe 3 config plr 0.2 mask src-ip 0xff"};
 
+/* The text of a packet, and of a collect. */
+static void write_texts(const struct dn_packet *packet, const struct dn_fate *fate, const struct dn_delivery *list, uint64_t count) {
+    static uint8_t text[1 << 16];
+    uint64_t length = 0;
+    ASKED(dn_submit_text(3, packet, fate, text, sizeof text, &length));
+    mix(text, length);
+    ASKED(dn_advance_text(3, packet->moment, packet->moment, text, sizeof text, &length));
+    mix(text, length);
+    ASKED(dn_collect_text(3, packet->moment, packet->moment, list, count, text, sizeof text, &length));
+    mix(text, length);
+}
+
 static void packets_arrive(struct dn_handle *handle) {
     static struct dn_delivery list[512];
     static struct dn_flow flows[512];
@@ -48,6 +60,7 @@ static void packets_arrive(struct dn_handle *handle) {
         if (i % 3 == 0) {
             ASKED(dn_collect(handle, moment, list, 512, &count));
             mix(list, count * sizeof *list);
+            write_texts(&packet, &fate, list, count);
         }
         if (i % 50 == 0) {
             ASKED(dn_show(handle, flows, 512, &count));

@@ -1,0 +1,5 @@
+//! The calls of the header that write entries of a history.
+
+mod advance;
+mod collect;
+mod submit;

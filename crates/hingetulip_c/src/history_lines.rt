@@ -1,0 +1,50 @@
+//! The text of an entry, as lines of a history file.
+
+ghost use Rattle.std.specs.Prelude.{◌≡◌, ◌≢◌, ◌≤◌, ◌<◌, ◌⊎◌, drop, length, take, IfOk};
+ghost use Rattle.dn_history.specs.HistoryText.{entry_records};
+ghost use Rattle.dn_records.specs.Records.{text_of};
+
+use crate::status::{MEMORY, OK, ROOM};
+use dn_history::write_entry;
+use dn_records::RecordWriter;
+use dn_types::Entry;
+use std::alloc::{AllocError, Global};
+
+/// The text of an entry in a history file.
+pub(crate) fn entry_text(alloc: Global, entry: &Entry) -> Result<Vec<u8>, AllocError>
+    ensures { IfOk result (λ text. text.items ≡ text_of (entry_records entry.now)) }
+{
+    let mut writer = RecordWriter::new(alloc);
+    write_entry(alloc, &mut writer, entry)?;
+    Ok(writer.into_text())
+}
+
+/// Puts the line into the first bytes of the text.
+pub(crate) fn put_line(line: &[u8], text: &mut [u8])
+    requires { length line.now ≤ length text.old }
+    ensures line { take (length line.now) text.new ≡ line.now }
+    ensures others { drop (length line.now) text.new ≡ drop (length line.now) text.old }
+{
+    text[..line.len()].copy_from_slice(line);
+}
+
+/// Writes the text of an entry if it has room, and how many bytes it has.
+pub(crate) fn put_entry(alloc: Global, entry: &Entry, text: &mut [u8], size: &mut u64) -> u32
+    ensures statuses { (result ≡ 0) ⊎ (result ≡ 6) ⊎ (result ≡ 7) }
+    ensures wrote { result ≡ 0 → take size.new text.new ≡ text_of (entry_records entry.now) }
+    ensures others { result ≡ 0 → drop size.new text.new ≡ drop size.new text.old }
+    ensures refused { result ≢ 0 → text.new ≡ text.old }
+    ensures size { result ≢ 6 → size.new ≡ length (text_of (entry_records entry.now)) }
+    ensures room { result ≡ 7 → length text.old < size.new }
+    ensures memory { result ≡ 6 → size.new ≡ size.old }
+{
+    let Ok(line) = entry_text(alloc, entry) else {
+        return MEMORY;
+    };
+    *size = line.len() as u64;
+    if text.len() < line.len() {
+        return ROOM;
+    }
+    put_line(line.as_slice(), text);
+    OK
+}

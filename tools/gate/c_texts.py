@@ -1,0 +1,66 @@
+"""The texts of entries from C: histories of the program are written anew by the C library, with the same bytes.
+
+    python3 tools/gate/c_texts.py PROGRAM SEED COUNT
+
+It takes the library of the present sources, as tools/library finds it. The histories are those of the examples' replays,
+and the transcripts of COUNT live sessions with random calls by sixteen callers. c_library/texts.c makes their calls on a
+handle, and writes them with the handle's answers. It is compiled with the sanitizers for addresses and undefined behaviour.
+"""
+
+from __future__ import annotations
+
+import os
+import subprocess
+import sys
+from pathlib import Path
+from random import Random
+from tempfile import TemporaryDirectory
+
+from c_library import STYLES, TOOLS, program, random_calls
+from history import call_text
+from tally import Tally
+
+EXAMPLES = TOOLS.parent / "examples"
+CALLS = 150
+KINDS = ("submit", "advance", "collect")
+
+
+def session(dummynet: str, rng: Random, number: int) -> bytes:
+    """The transcript of a live session."""
+    calls = random_calls(rng, STYLES[number % len(STYLES)], CALLS, 16, rng.random() < 0.6)
+    lines = "".join(f"{call_text(caller, call)}\n" for caller, call in calls)
+    return subprocess.run([dummynet, "live"], input=lines.encode(), stdout=subprocess.PIPE, check=True).stdout
+
+
+def replay(dummynet: str, config: Path, history: Path) -> bytes:
+    """The history of a replay."""
+    words = [dummynet, "replay", config, config.with_suffix(".csv"), "--history", history]
+    subprocess.run(words, stdout=subprocess.DEVNULL, check=True)
+    return history.read_bytes()
+
+
+def written_anew(tally: Tally, name: str, texts: Path, history: bytes) -> None:
+    done = subprocess.run([texts], input=history, capture_output=True)
+    tally.note(name, done.stderr.decode(errors="replace").strip(), "" if done.stdout == history else "other bytes")
+
+
+def main(dummynet: str, seed: str, count: str) -> int:
+    tally, rng, written = Tally(), Random(int(seed)), dict.fromkeys(KINDS, 0)
+    os.environ["ASAN_OPTIONS"] = "detect_leaks=1"
+    print(f"seed {seed}", flush=True)
+    with TemporaryDirectory() as folder:
+        texts = program(Path(folder), "texts")
+        file = Path(folder) / "history"
+        histories = {config.stem: replay(dummynet, config, file) for config in sorted(EXAMPLES.glob("*.config"))}
+        histories.update((f"session {number}", session(dummynet, rng, number)) for number in range(int(count)))
+        for name, history in histories.items():
+            written_anew(tally, name, texts, history)
+            for kind in KINDS:
+                written[kind] += history.count(f",{kind},".encode())
+    tally.note("each kind of call", "" if all(written.values()) else str(written))
+    print(", ".join(f"{many} of {kind}" for kind, many in written.items()))
+    return tally.end()
+
+
+if __name__ == "__main__":
+    sys.exit(main(*sys.argv[1:]))
