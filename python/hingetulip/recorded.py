@@ -2,33 +2,42 @@
 
 from __future__ import annotations
 
-from functools import lru_cache
-from ipaddress import IPv4Address
-from operator import index
+from ctypes import byref, c_char, c_size_t, c_uint64
 from pathlib import Path
-from typing import Optional, TextIO, Union
+from typing import Any, BinaryIO, Callable, Optional, Union
 
 from hingetulip.batches import Deliveries, Fates, Packets
-from hingetulip.errors import RefusedError
-from hingetulip.records import Delivery, Fate, Outcome
-from hingetulip.shaper import Shaper
+from hingetulip.errors import HingetulipError, RefusedError
+from hingetulip.library import CALLS, LIBRARY, ROOM, failure
+from hingetulip.records import Delivery, Fate
+from hingetulip.shaper import Shaper, Turn
 
-DROPPED = {Outcome.LOST: "lost", Outcome.FULL: "full"}
+CALLER = c_uint64(0)
 ONE_BY_ONE = "a recorded shaper takes packets one by one"
 
 
-@lru_cache(maxsize=4096)
-def dotted(address: int) -> str:
-    return str(IPv4Address(address))
+class EntryText:
+    """Room for the text of an entry, which grows to what an entry asks for."""
 
+    def __init__(self) -> None:
+        self.length = c_uint64()
+        self.room = self.made(256)
 
-def fate_record(fate: Fate) -> str:
-    """The reply to a submit, as a record has it."""
-    if fate.outcome == Outcome.QUEUED:
-        return f"queued,{fate.at},{fate.flow},{fate.packet}"
-    if fate.outcome == Outcome.NO_TARGET:
-        return f"no-target,{fate.at}"
-    return f"{DROPPED[fate.outcome]},{fate.at},{fate.flow}"
+    def made(self, count: int) -> tuple[memoryview, tuple[Any, ...]]:
+        """So many bytes, and the last arguments of a call that writes them."""
+        text = bytearray(count)
+        return memoryview(text), (byref((c_char * count).from_buffer(text)), c_size_t(count), byref(self.length))
+
+    def written(self, call: Callable[..., int], *entry: Any) -> memoryview:
+        """The text of an entry, which stays until the next one is written."""
+        text, room = self.room
+        status = call(CALLER, *entry, *room)
+        if status == ROOM:
+            text, room = self.room = self.made(2 * self.length.value)
+            status = call(CALLER, *entry, *room)
+        if status:
+            raise failure(status)
+        return text[:self.length.value]
 
 
 class RecordedShaper(Shaper):
@@ -38,46 +47,65 @@ class RecordedShaper(Shaper):
     """
 
     def __init__(self, path: Union[str, Path], *, seed: Optional[int] = None) -> None:
+        if not hasattr(CALLS, "dn_submit_text"):
+            raise HingetulipError(f"the library {LIBRARY} is of before 1.3 and writes no entries")
         super().__init__(seed=seed)
         self.path, self.entries = Path(path), 0
-        self.file: Optional[TextIO] = open(path, "w", encoding="utf-8", newline="\n")
-        self.file.write("dummynet-history,3\n")
+        self._noting, self._text = Turn(), EntryText()
+        # The arguments of short texts are made once, as those of calls.
+        self._short, room = self._text.room
+        self._submit_text = CALLER, *self._submitted[1:], *room
+        self._advance_text = CALLER, self._moment, self._number, *room
+        self.file: Optional[BinaryIO] = open(path, "wb")
+        self.file.write(b"dummynet-history,3\n")
 
-    def _note(self, call: str, reply: str, items: str = "") -> None:
+    def _note(self, text: Union[bytes, memoryview]) -> None:
         if self.file is not None:
             self.entries += 1
-            self.file.write(f"c,0,{call}\nr,{reply}\n{items}")
+            self.file.write(text)
+
+    def _note_short(self, status: int) -> None:
+        """Notes a submit or an advance, whose text has less than 256 bytes."""
+        if status:
+            raise failure(status)
+        self._note(self._short[:self._text.length.value])
+
+    def _note_line(self, text: str, reply: str) -> None:
+        self._note(f"c,0,configure,{text}\nr,{reply}\n".encode())
 
     def configure(self, line: Union[str, bytes]) -> None:
         # A carriage return separates words of a line, and would end a record.
         text = " ".join((line if isinstance(line, str) else bytes(line).decode(errors="replace")).partition("#")[0].split())
-        try:
-            super().configure(line)
-        except RefusedError as refused:
-            self._note(f"configure,{text}", str(refused).replace(" ", "-"))
-            raise
-        if text:
-            self._note(f"configure,{text}", "deleted" if "delete" in text.split() else "configured")
+        with self._noting:
+            try:
+                super().configure(line)
+            except RefusedError as refused:
+                self._note_line(text, str(refused).replace(" ", "-"))
+                raise
+            if text:
+                self._note_line(text, "deleted" if "delete" in text.split() else "configured")
 
     def submit(self, moment: int, length: int, *, pipe: Optional[int] = None, queue: Optional[int] = None, src: int = 0, dst: int = 0,
                proto: int = 0, sport: int = 0, dport: int = 0, word: Optional[int] = None) -> Fate:
-        word = self._random.getrandbits(32) if word is None else word
-        fate = super().submit(moment, length, pipe=pipe, queue=queue, src=src, dst=dst, proto=proto, sport=sport, dport=dport, word=word)
-        target = f"queue,{index(queue)}" if queue is not None else f"pipe,{index(pipe or 0)}"
-        places = f"{dotted(index(src))},{dotted(index(dst))},{index(proto)},{index(sport)},{index(dport)}"
-        self._note(f"submit,{target},{places},{index(length)},{index(word)},{index(moment)}", fate_record(fate))
-        return fate
+        with self._noting:
+            fate = super().submit(moment, length, pipe=pipe, queue=queue, src=src, dst=dst, proto=proto, sport=sport, dport=dport, word=word)
+            self._note_short(CALLS.dn_submit_text(*self._submit_text))
+            return fate
 
     def advance(self, moment: int) -> int:
-        at = super().advance(moment)
-        self._note(f"advance,{index(moment)}", f"advanced,{at}")
-        return at
+        with self._noting:
+            at = super().advance(moment)
+            self._note_short(CALLS.dn_advance_text(*self._advance_text))
+            return at
 
     def collect(self, moment: int) -> list[Delivery]:
-        found = super().collect(moment)
-        items = "".join(f"d,{it.packet},{it.flow},{it.start},{it.due}\n" for it in found)
-        self._note(f"collect,{index(moment)}", f"delivered,{super().advance(0)},{len(found)}", items)
-        return found
+        with self._noting:
+            found = super().collect(moment)
+            asked = c_uint64(self._moment.value)
+            super().advance(0)  # which tells the clock
+            place = self._collected.room[1][-3]
+            self._note(self._text.written(CALLS.dn_collect_text, asked, self._number, place, c_size_t(len(found))))
+            return found
 
     def submit_many(self, packets: Packets) -> Fates:
         raise NotImplementedError(ONE_BY_ONE)
@@ -88,7 +116,7 @@ class RecordedShaper(Shaper):
     def close(self) -> None:
         if getattr(self, "file", None) is not None:
             assert self.file is not None
-            self.file.write(f"end,{self.entries}\n")
+            self.file.write(b"end,%d\n" % self.entries)
             self.file.close()
             self.file = None
         super().close()

@@ -532,6 +532,25 @@ class Recorded(unittest.TestCase):
             done = subprocess.run([PROGRAM, "audit", history], capture_output=True, text=True)
         self.assertEqual(done.stdout, "lawful 12\n")
 
+    def test_its_texts_are_the_programs(self) -> None:
+        with tempfile.TemporaryDirectory() as folder:
+            history = Path(folder) / "h"
+            with RecordedShaper(history, seed=2) as shaper:
+                shaper.configure("pipe 1 config bw 8000000bit/s queue 20 plr 0.500000000000000000")
+                for i in range(300):
+                    shaper.submit(i * MS // 2, 65535 if i % 50 == 0 else 500, pipe=1 + i % 7 // 6, src=2**32 - 1 - i, dport=65535 - i)
+                    if i % 3 == 0:
+                        shaper.advance(i * MS // 3)
+                    if i % 40 == 0:
+                        shaper.collect(i * MS // 4)
+                self.assertGreater(len(shaper.collect(10**10)), 10)
+            text = history.read_bytes()
+        calls = b"".join(line for line in text.splitlines(keepends=True) if line.startswith(b"c,"))
+        done = subprocess.run([PROGRAM, "live"], input=calls, capture_output=True)
+        self.assertEqual(done.stdout.partition(b"\n")[2], text.partition(b"\n")[2])
+        for reply in (b"\nr,lost,", b"\nr,full,", b"\nr,no-target,", b"\nd,"):
+            self.assertIn(reply, text)
+
 
 class Faults(unittest.TestCase):
     def test_what_cannot_go_on(self) -> None:
