@@ -1,10 +1,10 @@
 -- Rows that stand in lists, and parts of a packets' text that are taken one after the other.
-use Rattle.std.proofs.Common.{◌≡◌, ◌∙◌, sym, ap, subst, ℕ, ◌+◌, ◌<◌, Bool, List, [], ◌++◌, take, length, get_or, flat_map, append_assoc}
+use Rattle.std.proofs.Common.{◌≡◌, ◌∙◌, sym, ap, subst, ℕ, ◌+◌, ◌<◌, Bool, List, [], ◌++◌, take, length, get_or, flat_map, append_assoc, append-nil}
 use Rattle.std.proofs.lemmas.List.{flat_map_more, take_more}
 use Rattle.dn_types.specs.declared.call.Call.{Call}
 use Rattle.dn_types.specs.declared.delivery.Delivery.{Delivery}
 use Rattle.dn_files.specs.declared.row.Row.{Row}
-use Rattle.dn_replay.specs.OnePass.{HasAnswered, HasFed}
+use Rattle.dn_replay.specs.OnePass.{HasAnswered, HasFed, HasReady}
 use Rattle.dn_replay.specs.Runs.{submitted}
 use Rattle.dn_replay.specs.declared.config.run.Run.{Run}
 use Rattle.dn_replay.specs.declared.replays.pass.Pass.{Pass}
@@ -32,3 +32,15 @@ pub fed_in_three : (records : Bool) (pass : Pass) (calls : List Call) (text firs
     → HasFed records pass calls (((text ++ first) ++ chunk) ++ last) → HasFed records pass calls (text ++ part)
 fed_in_three records pass calls text first rest chunk last part cut whole h =
     subst (HasFed records pass calls) (three_parts text first chunk last ∙ ap (λ (t : List ℕ). text ++ t) (ap (λ (t : List ℕ). first ++ t) cut ∙ whole)) h
+
+-- A pass that has submitted all rows that it read has none ready.
+pub none_ready : (records : Bool) (pass : Pass) (calls : List Call) (text : List ℕ) → HasFed records pass calls text → HasReady records pass calls text []
+none_ready records pass calls text fed = record {
+  records_is = fed.records_is;
+  rows = fed.rows;
+  read = rw (append-nil fed.rows) fed.read;
+  answered = fed.answered;
+}
+
+pub ready_first : (records : Bool) (pass : Pass) (calls : List Call) (text : List ℕ) → HasFed records pass calls text → HasReady records pass calls (text ++ []) []
+ready_first records pass calls text fed = rw (append-nil text) (none_ready records pass calls text fed)

@@ -82,6 +82,13 @@ pub record HasFed (records : Bool) (pass : Pass) (calls : List Call) (text : Lis
   pub read : HasRead pass.reader text rows
   pub answered : HasAnswered records pass.run pass.kept pass.given.items (submitted calls rows)
 
+-- The same, but the last rows of that text were read and aren't submitted yet.
+pub record HasReady (records : Bool) (pass : Pass) (calls : List Call) (text : List ℕ) (ready : List Row) : Type 0 where
+  pub records_is : pass.records ≡ records
+  pub rows : List Row
+  pub read : HasRead pass.reader text (rows ++ ready)
+  pub answered : HasAnswered records pass.run pass.kept pass.given.items (submitted calls rows)
+
 -- A pass has made these calls and then the Collect at the last moment, so that their report can be written. Where they are recorded, its
 -- history is that of all.
 abbrev pub HasMadeLast : Bool → Pass → List Call → Type 0

@@ -1,11 +1,11 @@
 //! Parts of the packets' text whose rows are read by many threads.
 
-ghost use Rattle.std.specs.Prelude.{◌≡◌, ◌≤◌, ◌++◌, ℕ, Bool, List, flat_map, length, IfSome, MatchBool, OnOk};
+ghost use Rattle.std.specs.Prelude.{◌≡◌, ◌<◌, ◌≤◌, ◌++◌, ℕ, Bool, List, flat_map, length, IfOk, IfSome, MatchBool, OnOk};
 ghost use Rattle.dn_types.specs.declared.call.Call.{Call as CallValue};
 ghost use Rattle.dn_files.specs.InChunks.{HasRows};
 ghost use Rattle.dn_files.specs.PacketParts.{HasRead};
 ghost use Rattle.dn_files.specs.declared.row.Row.{Row as RowValue};
-ghost use Rattle.dn_replay.specs.OnePass.{HasAnswered, HasFed};
+ghost use Rattle.dn_replay.specs.OnePass.{HasAnswered, HasFed, HasReady};
 ghost use Rattle.dn_replay.specs.Runs.{submitted};
 
 use crate::config::run::Run;
@@ -14,10 +14,13 @@ use crate::report::Kept;
 use dn_files::{PacketReader, Row, rows_of_chunk_by_threads};
 use dn_types::Delivery;
 use std::alloc::{AllocError, Global};
-use std::thread::Threads;
+use std::thread::{Threads, join_mut};
 
 // A thread of its own isn't worth its start for fewer bytes.
 const LEAST: usize = 65_536;
+
+// So many bytes a thread are read at once, while the rows before them are submitted.
+const EACH: usize = 262_144;
 
 /// The place behind the first line feed, or the end.
 fn behind_first_line(part: &[u8]) -> usize
@@ -80,7 +83,129 @@ fn pass_over(reader: &mut PacketReader, lists: &[Vec<Row>]) -> bool
     }
 }
 
+/// The place behind the last line that ends within so many bytes of a text, or its end if there is none.
+fn behind_step(rest: &[u8], most: usize) -> usize
+    requires { 0 < length rest.now }
+    ensures inside { result ≤ length rest.now }
+    ensures some { 0 < result }
+{
+    let (front, _) = rest.split_at(rest.len().min(most));
+    match behind_last_line(front) {
+        0 => rest.len(),
+        at => at,
+    }
+}
+
+/// Submits the rows that are ready, while so many threads read those of the chunk behind them.
+fn read_beside<R: Threads>(
+    rt: &R,
+    alloc: Global,
+    threads: usize,
+    chunk: &[u8],
+    ready: &[Vec<Row>],
+    pass: &mut Pass,
+) -> Result<Option<Vec<Vec<Row>>>, AllocError>
+    ensures read { IfOk result (λ found. IfSome found (λ lists. HasRows chunk.now (flat_map (λ l. l.items) lists.items))) }
+    ensures fed { OnOk result ((records : Bool) (calls : List CallValue) (text : List ℕ)
+        → HasReady records pass.old calls text (flat_map (λ l. l.items) ready.now) → HasFed records pass.new calls text) }
+{
+    let (submitted, found) = join_mut(
+        rt,
+        &mut || -> Result<(), AllocError>
+            ensures { OnOk result ((records : Bool) (calls : List CallValue) (text : List ℕ)
+                → HasReady records pass.entry.now calls text (flat_map (λ l. l.items) ready.entry.now) → HasFed records pass.exit.now calls text) }
+        { pass.submit_ready(ready) },
+        &mut || -> Result<Option<Vec<Vec<Row>>>, AllocError>
+            ensures { IfOk result (λ found. IfSome found (λ lists. HasRows chunk.entry.now (flat_map (λ l. l.items) lists.items))) }
+        { rows_of_chunk_by_threads(rt, alloc, chunk, threads) },
+    );
+    submitted?;
+    found
+}
+
 impl Pass {
+    /// Submits the packet of each row that is ready.
+    fn submit_ready(&mut self, ready: &[Vec<Row>]) -> Result<(), AllocError>
+        ensures { OnOk result ((records : Bool) (calls : List CallValue) (text : List ℕ)
+            → HasReady records self.old calls text (flat_map (λ l. l.items) ready.now) → HasFed records self.new calls text) }
+    {
+        submit_lists(
+            &mut self.run,
+            &mut self.kept,
+            &mut self.given,
+            self.records,
+            ready,
+        )
+    }
+
+    /// Takes a chunk by one thread, so that no row is ready.
+    fn feed_alone(&mut self, alloc: Global, chunk: &[u8]) -> Result<Vec<Vec<Row>>, AllocError>
+        ensures { IfOk result (λ ready. (records : Bool) (calls : List CallValue) (text : List ℕ)
+            → HasFed records self.old calls text → HasReady records self.new calls (text ++ chunk.now) (flat_map (λ l. l.items) ready.items)) }
+    {
+        self.feed(chunk)?;
+        Ok(Vec::new(alloc))
+    }
+
+    /// Goes on behind a chunk whose rows these are, which are then ready. If they aren't known, one thread takes it.
+    fn make_ready(
+        &mut self,
+        alloc: Global,
+        found: Option<Vec<Vec<Row>>>,
+        chunk: &[u8],
+    ) -> Result<Vec<Vec<Row>>, AllocError>
+        requires { IfSome found (λ lists. HasRows chunk.now (flat_map (λ l. l.items) lists.items)) }
+        ensures { IfOk result (λ ready. (records : Bool) (calls : List CallValue) (text : List ℕ)
+            → HasFed records self.old calls text → HasReady records self.new calls (text ++ chunk.now) (flat_map (λ l. l.items) ready.items)) }
+    {
+        let Some(lists) = found else {
+            return self.feed_alone(alloc, chunk);
+        };
+        if !pass_over(&mut self.reader, lists.as_slice()) {
+            return self.feed_alone(alloc, chunk);
+        }
+        Ok(lists)
+    }
+
+    /// Takes a step more, whose rows are ready then, and submits those of the step before.
+    fn take_step<R: Threads>(
+        &mut self,
+        rt: &R,
+        alloc: Global,
+        threads: usize,
+        ready: Vec<Vec<Row>>,
+        step: &[u8],
+    ) -> Result<Vec<Vec<Row>>, AllocError>
+        ensures { IfOk result (λ next. (records : Bool) (calls : List CallValue) (text : List ℕ)
+            → HasReady records self.old calls text (flat_map (λ l. l.items) ready.items)
+            → HasReady records self.new calls (text ++ step.now) (flat_map (λ l. l.items) next.items)) }
+    {
+        let found = read_beside(rt, alloc, threads, step, ready.as_slice(), self)?;
+        self.make_ready(alloc, found, step)
+    }
+
+    /// Takes whole lines in steps. While so many threads read the rows of a step, one more submits those of the step before.
+    fn feed_steps<R: Threads>(
+        &mut self,
+        rt: &R,
+        alloc: Global,
+        threads: usize,
+        chunk: &[u8],
+    ) -> Result<(), AllocError>
+        ensures { OnOk result ((records : Bool) (calls : List CallValue) (text : List ℕ)
+            → HasFed records self.old calls text → HasFed records self.new calls (text ++ chunk.now)) }
+    {
+        let most = threads.saturating_mul(EACH);
+        let mut ready = Vec::new(alloc);
+        let mut rest = chunk;
+        while !rest.is_empty() {
+            let (step, behind) = rest.split_at(behind_step(rest, most));
+            ready = self.take_step(rt, alloc, threads, ready, step)?;
+            rest = behind;
+        }
+        self.submit_ready(ready.as_slice())
+    }
+
     /// Takes a part that is whole lines.
     ///
     /// So many threads read its rows, if each is written plainly or in quotes, and no row before it is left.
@@ -98,6 +223,9 @@ impl Pass {
             return self.feed(chunk);
         }
         let most = threads.min(chunk.len() / LEAST);
+        if most > 1 {
+            return self.feed_steps(rt, alloc, most - 1, chunk);
+        }
         let Some(lists) = rows_of_chunk_by_threads(rt, alloc, chunk, most)? else {
             return self.feed(chunk);
         };

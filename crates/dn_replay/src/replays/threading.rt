@@ -54,7 +54,7 @@ impl Threading for OneThread {
     }
 }
 
-/// So many threads, of which 1 to 64 are used. They read the rows, and the caller's submits them.
+/// So many threads, of which 1 to 64 are used. One submits rows, while the others read the next.
 #[derive(Drop)]
 pub(crate) struct ManyThreads<'a, R> {
     pub(crate) rt: &'a R,
