@@ -19,8 +19,7 @@ VERSIONS = {
     "HINGETULIP_1.0": ("dn_version", "dn_open", "dn_open_with_key", "dn_close", "dn_configure", "dn_submit", "dn_submit_many", "dn_advance",
                        "dn_collect", "dn_show", "dn_wake"),
     "HINGETULIP_1.1": ("dn_service_*", "dn_caller_*"),
-    "HINGETULIP_1.2": ("dn_reserve",),
-    "HINGETULIP_1.3": ("dn_submit_text", "dn_advance_text", "dn_collect_text"),
+    "HINGETULIP_1.2": ("dn_reserve", "dn_submit_text", "dn_advance_text", "dn_collect_text"),
 }
 
 

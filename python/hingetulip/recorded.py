@@ -48,7 +48,7 @@ class RecordedShaper(Shaper):
 
     def __init__(self, path: Union[str, Path], *, seed: Optional[int] = None) -> None:
         if not hasattr(CALLS, "dn_submit_text"):
-            raise HingetulipError(f"the library {LIBRARY} is of before 1.3 and writes no entries")
+            raise HingetulipError(f"the library {LIBRARY} is of before 1.2 and writes no entries")
         super().__init__(seed=seed)
         self.path, self.entries = Path(path), 0
         self._noting, self._text = Turn(), EntryText()
