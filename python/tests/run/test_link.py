@@ -128,6 +128,17 @@ class OfLosses(unittest.TestCase):
         got = [struct.unpack("!H", link.far.recv(100)[22:24])[0] for _ in range(5)]
         self.assertEqual((got, link.end().counts.ways[0]["lost"]), ([0, 2, 5, 6, 7], 3))
 
+    def test_a_list_of_hundreds(self) -> None:
+        plan = plan_of("pipe 1 config")
+        plan.loss("up:list:" + ",".join(str(number) for number in range(1, 600, 2)))
+        link = Linked(plan.text(1))
+        got = []
+        for number in range(600):
+            link.near.send(udp(number))
+            if number % 2:
+                got.append(struct.unpack("!H", link.far.recv(100)[22:24])[0])
+        self.assertEqual((got, link.end().counts.ways[0]["lost"]), (list(range(1, 600, 2)), 300))
+
     def test_words_and_losses_are_those_of_the_models(self) -> None:
         """hinge.captures.random_words draws the words of a loss rate, and hinge.loss decides by the same seed what a
         burst loses."""
@@ -229,6 +240,31 @@ class OfTime(unittest.TestCase):
                          (0, 3, sorted(map(os.path.basename, parts))))
 
 
+    def test_a_deleted_queue_is_in_no_later_part(self) -> None:
+        """By both forms of the line, and a number that another line has with a pipe."""
+        queues = "".join(f"line queue {number} config pipe 1 weight {number}\n" for number in (1, 2, 23))
+        deletes = "at 100000000 queue delete 2\nat 110000000 ipfw queue 23 delete\n"
+        link = Linked(f"{SEEDS}line pipe 1 config delay 5\nline pipe 2 config\n{queues}{deletes}", most=1)
+        until(lambda: link.page.read()["moment"] >= 110_000_000)
+        link.near.send(udp(1))
+        link.far.recv(100)
+        until(lambda: link.page.read()["parts"] == 2)
+        link.end()
+        last = open(f"{link.transcript}.1").read()
+        self.assertEqual(found("c,0,configure,(.*)", last), ["pipe 1 config delay 5", "pipe 2 config", "queue 1 config pipe 1 weight 1"])
+        audited_as_lawful(self, link.transcript)
+
+    def test_an_outage_where_a_thousand_flows_wait(self) -> None:
+        """The second packet of one of them begins it, and none that nobody sent."""
+        link = Linked(f"{SEEDS}line pipe 1 config bw 100bit/s mask dst-port 0xffff\noutage 600000000 1 9000\n")
+        for port in [*range(1, 1101), 1100]:
+            link.near.send(ip4(CLIENT, SERVER, 17, 1, port, 40))
+        self.assertLess(link.page.read()["moment"], 600_000_000)
+        until(lambda: link.page.read()["moment"] >= 600_000_000)
+        ended = link.end()
+        self.assertEqual((ended.status, ended.counts.ways[0]["came"], found("submit,.*,0.0.0.0,255,", ended.history)), (0, 1101, []))
+
+
 @needs_host
 class OfALoadedMachine(unittest.TestCase):
     def test_it_reports_that_it_had_no_processor(self) -> None:
@@ -300,3 +336,16 @@ class OfTheEnd(unittest.TestCase):
             link = Linked(text)
             self.assertEqual((link.process.wait(5), told in link.process.stderr.read().decode()), (3, True))
             link.process.stderr.close()
+
+    def test_a_plan_has_no_other_lines(self) -> None:
+        """Each is told whole, and no packet is taken."""
+        wrong = ["transcript", "transcript x", "at", "at x pipe 1 config", "outage 5 1", "outage 5 0 9", "outage 5 3 9", "hold 1 5", "hold 3 5 6",
+                 "hold 1 6 5", "slots 0 1", "slots 3 1", "slots 1", "slots 1 x", "slots 1 5 4", "slots 1 0", "map 0 0 1", "seed", "seed 2 1", "seed -1 1",
+                 "gilbert 0 1 2 3", "gilbert 5 1 2 3 4", "list 0 x", "list 0 1 x", "list 2 1", "jitter 0 9 2", "jitter 0 0 2 1", "jitter 0 9 0 1",
+                 "jitter 0 65535 2 1", "jitter 7 9 2 1", "copies 0 5", "copies 2 5 1", "realtime now", "simulated now", "epoch", "epoch x", "epoch 5 x",
+                 "control 0", "contents too", "lines", "map 0 0 1 -1 -1 " + "x " * 4 + "0 65535 0 65535"]
+        for text in wrong:
+            link = Linked(text + "\n")
+            status, said = link.process.wait(5), link.process.stderr.read().decode()
+            link.process.stderr.close()
+            self.assertEqual((status, said), (3, f"hinge: {text}: no line of a plan\n"))
