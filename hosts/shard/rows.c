@@ -13,14 +13,17 @@ static bool is_digit(const struct reader *reader)
     return reader->at < reader->end && *reader->at >= '0' && *reader->at <= '9';
 }
 
-/* A number without leading zeros, of at most this value, which is at most 2^62, so that nothing overflows. */
+/* A number without leading zeros, of at most this value, which is 9 at least. One digit more than it has would overflow. */
 static bool number(struct reader *reader, uint64_t most, uint64_t *value)
 {
     const uint8_t *first = reader->at;
     *value = 0;
-    for (; is_digit(reader); reader->at++)
-        if ((*value = *value * 10 + (*reader->at - '0')) > most)
+    for (; is_digit(reader); reader->at++) {
+        uint64_t digit = (uint64_t)(*reader->at - '0');
+        if (*value > (most - digit) / 10)
             return false;
+        *value = *value * 10 + digit;
+    }
     return reader->at > first && (*first != '0' || reader->at == first + 1);
 }
 

@@ -60,6 +60,35 @@ class Shard(unittest.TestCase):
             os.write(out.fileno(), b"behind\n")
         self.assertEqual((folder() / "appended").read_bytes(), b"before\n" + report + b"behind\n")
 
+    def test_each_value_at_its_bounds_is_read_as_the_program_reads_it(self) -> None:
+        """In a row that others follow, and in the last row, which is read with care for where it ends."""
+        config = write("bounds.config", "pipe 1 config\npipe 65535 config\n")
+        good = ROW.format(moment=0, host=1)
+        changes = {0: ["0", "00", "01", str(2**62), str(2**62 + 1), str(2**64), "1" * 19, "1" * 25, "", "x"],
+                   1: ["queue", "pip", "pipes", ""], 2: ["0", "1", "01", "65535", "65536", ""],
+                   3: ["255.255.255.255", "256.0.0.1", "1.2.3", "1.2.3.4.5", "1.2.3.04", "1..2.3", "1,2,3,4", ""],
+                   5: ["0", "255", "256", "-1"], 6: ["0", "65535", "65536"], 7: ["0", "00", "65535", "65536"],
+                   8: ["0", "1", "65535", "65536"], 9: ["0", "4294967295", "4294967296", "7 ", "7,"]}
+        rows = [",".join([*good.strip().split(",")[:place], text, *good.strip().split(",")[place + 1:]]) + "\n"
+                for place, texts in changes.items() for text in texts]
+        for number, row in enumerate(rows):
+            for text in (HEADER + row + 3 * good, HEADER + good + row, HEADER + good + row[:-1]):
+                packets = write("bounds.csv", text)
+                done, wanted = (subprocess.run([*words, config, packets], capture_output=True)
+                                for words in ([program(), "-j", "2"], [dummynet(), "replay"]))
+                self.assertEqual((done.returncode, done.stdout, done.stderr),
+                                 (wanted.returncode, wanted.stdout, wanted.stderr), (number, text))
+
+    def test_files_of_a_header_at_most(self) -> None:
+        config, mark = write("one.config", "pipe 1 config\n"), "\ufeff"
+        for text in ("", mark, mark + "\n", mark + HEADER, mark + mark + HEADER, HEADER[:-1], "\r\n\n" + HEADER,
+                     HEADER[1:], "\n", HEADER + "\n\r\n", HEADER[:-1] + ",\n", mark + "moment", "\n" + mark):
+            packets = write("header.csv", text)
+            done, wanted = (subprocess.run([*words, config, packets], capture_output=True)
+                            for words in ([program()], [dummynet(), "replay"]))
+            self.assertEqual((done.returncode, done.stdout, done.stderr),
+                             (wanted.returncode, wanted.stdout, wanted.stderr), text)
+
     def test_files_that_cannot_be_read_or_written(self) -> None:
         config = write("one.config", "pipe 1 config\n")
         for words, status, told in (([config, "nowhere"], 6, "cannot read packets"),
