@@ -1,0 +1,114 @@
+"""The frame of every command: what it tells on a terminal, and how it ends where the system refuses something."""
+
+from __future__ import annotations
+
+import contextlib
+import errno
+import io
+import os
+import subprocess
+import sys
+import unittest
+from typing import Callable
+from unittest import mock
+
+from kit import folder
+
+from hinge import command
+
+CLEARED = "\r\x1b[K"
+
+
+class Terminal(io.StringIO):
+    def isatty(self) -> bool:
+        return True
+
+
+class Progress(unittest.TestCase):
+    def told(self, moments: list[float], terminal: io.StringIO) -> str:
+        """What is told of the counts 1000, 2000 .. at these moments, and at the end."""
+        clock = mock.patch.object(command.time, "monotonic", side_effect=[0.0, *moments])
+        with clock, contextlib.redirect_stderr(terminal):
+            progress = command.Progress("rows")
+            for number in range(len(moments)):
+                progress.at(1000 * number + 1000)
+            progress.done()
+        return terminal.getvalue()
+
+    def test_it_begins_after_two_seconds_and_goes_on_each_half(self) -> None:
+        self.assertEqual(self.told([1.9, 2.1, 2.2, 2.7], Terminal()), f"\rrows: 2,000\rrows: 4,000{CLEARED}")
+
+    def test_a_short_command_tells_nothing(self) -> None:
+        self.assertEqual(self.told([0.5, 1.9], Terminal()), "")
+
+    def test_elsewhere_than_on_a_terminal_it_tells_nothing(self) -> None:
+        self.assertEqual(self.told([2.1, 9.0], io.StringIO()), "")
+
+
+class Working(unittest.TestCase):
+    def told(self, terminal: io.StringIO, after: float) -> str:
+        with mock.patch.object(command, "PROGRESS_AFTER", after), contextlib.redirect_stderr(terminal):
+            with command.working("reading"):
+                end = command.time.monotonic() + 2
+                while after < 1 and terminal.isatty() and not terminal.getvalue() and command.time.monotonic() < end:
+                    command.time.sleep(0.005)
+        return terminal.getvalue()
+
+    def test_what_takes_long_is_told_and_taken_away(self) -> None:
+        self.assertEqual(self.told(Terminal(), 0.01), f"\rreading ..{CLEARED}")
+
+    def test_what_is_soon_done_is_not_told(self) -> None:
+        self.assertEqual(self.told(Terminal(), 60), CLEARED)
+
+    def test_elsewhere_than_on_a_terminal_nothing_is_told(self) -> None:
+        self.assertEqual(self.told(io.StringIO(), 0.0), "")
+
+
+class Ends(unittest.TestCase):
+    def ended(self, main: Callable[[], object]) -> tuple[object, str]:
+        said = io.StringIO()
+        with contextlib.redirect_stderr(said), mock.patch.object(command, "NAME", ["hinge some"]):
+            with self.assertRaises(SystemExit) as left:
+                command.run(main)
+        return left.exception.code, said.getvalue()
+
+    def raised(self, error: BaseException) -> tuple[object, str]:
+        def main() -> None:
+            raise error
+        return self.ended(main)
+
+    def test_well(self) -> None:
+        self.assertEqual(self.ended(lambda: None), (0, ""))
+
+    def test_a_fault_is_one_line_and_its_status(self) -> None:
+        self.assertEqual(self.raised(command.Fault("row 1: \x1b[31mbad", 4)), (4, "hinge some: row 1: \\x1b[31mbad\n"))
+
+    def test_an_error_of_the_system_names_its_file(self) -> None:
+        self.assertEqual(self.raised(FileNotFoundError(errno.ENOENT, "No such file or directory", "here")),
+                         (6, "hinge some: here: No such file or directory\n"))
+        self.assertEqual(self.raised(OSError(errno.ENOSPC, "No space left on device")),
+                         (6, "hinge some: standard output: No space left on device\n"))
+        self.assertEqual(self.raised(OSError(errno.EMFILE, "Too many open files")),
+                         (6, "hinge some: the system: Too many open files\n"))
+
+    def test_an_interrupt_is_no_fault(self) -> None:
+        self.assertEqual(self.raised(KeyboardInterrupt()), (130, ""))
+
+    def test_what_is_lacking_is_told_with_its_package(self) -> None:
+        self.assertEqual(self.ended(lambda: command.path_of_program("no-such", "its-package")),
+                         (7, "hinge some: needs no-such: apt-get install its-package\n"))
+        told = "needs Python's no_such: pip install no_such, or apt-get install python3-no"
+        self.assertEqual(self.ended(lambda: command.module("no_such.part", "python3-no")),
+                         (7, f"hinge some: {told}\n"))
+
+
+class Streams(unittest.TestCase):
+    def test_a_closed_one_takes_no_file_of_the_command(self) -> None:
+        """What is opened later would have its number, and what is told would be written there."""
+        script = ("from hinge import command; import os, sys; command.open_closed_streams(); "
+                  "made = os.open('stream', os.O_CREAT | os.O_RDWR); "
+                  "print('told', file=sys.stderr, flush=True); os.write(made, b'%d' % made)")
+        env = {**os.environ, "PYTHONPATH": os.pathsep.join(sys.path)}
+        words = ["sh", "-c", 'exec "$0" -c "$1" <&- >&- 2>&-', sys.executable, script]
+        subprocess.run(words, cwd=folder(), env=env, check=True)
+        self.assertGreater(int((folder() / "stream").read_text()), 2)
