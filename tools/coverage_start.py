@@ -1,0 +1,36 @@
+"""What tools/coverage.py has each Python do at its start: count its lines, also where it ends by os._exit or execv.
+
+A file `.pth` among a user's packages imports it. It does nothing unless COVERAGE_PROCESS_START names what to count.
+"""
+
+from __future__ import annotations
+
+import contextlib
+import os
+from typing import Any, Callable
+
+try:
+    import coverage
+
+    counting = coverage.process_startup()
+except ImportError:  # another Python, whose lines aren't counted
+    counting = None
+
+LEAVES = ("_exit", "execv", "execve")  # what execvp and the like call
+
+
+def keeping(leave: Callable[..., Any]) -> Callable[..., Any]:
+    """A call that leaves this Python for good, behind what keeps its counts where this user may write."""
+
+    def kept(*words: Any) -> Any:
+        with contextlib.suppress(Exception):
+            counting.stop()
+            counting.save()
+        return leave(*words)
+
+    return kept
+
+
+if counting is not None:
+    for name in LEAVES:
+        setattr(os, name, keeping(getattr(os, name)))
