@@ -79,6 +79,16 @@ class Shard(unittest.TestCase):
                 self.assertEqual((done.returncode, done.stdout, done.stderr),
                                  (wanted.returncode, wanted.stdout, wanted.stderr), (number, text))
 
+    def test_a_terminal_is_cleared_for_each_phase(self) -> None:
+        """And is told nothing by a run that takes under two seconds."""
+        config, packets = write("one.config", "pipe 1 config\n"), write("one.csv", HEADER + ROW.format(moment=0, host=1))
+        ours, theirs = os.openpty()
+        done = subprocess.run([program(), config, packets], stdout=subprocess.PIPE, stderr=theirs)
+        os.close(theirs)
+        told = os.read(ours, 1000)
+        os.close(ours)
+        self.assertEqual((done.returncode, done.stdout.count(b"\nout,"), told), (0, 1, 4 * b"\r\x1b[K"))
+
     def test_files_of_a_header_at_most(self) -> None:
         config, mark = write("one.config", "pipe 1 config\n"), "\ufeff"
         for text in ("", mark, mark + "\n", mark + HEADER, mark + mark + HEADER, HEADER[:-1], "\r\n\n" + HEADER,
