@@ -195,6 +195,31 @@ class Calls(unittest.TestCase):
 
         self.assertEqual(b"x", aio.run(main()))
 
+    def test_what_a_transport_refuses(self) -> None:
+        """As asyncio's own do: wrong calls raise, and the protocol is told what the system refuses. Nothing is sent."""
+        async def main(net: aio.Network) -> list[Any]:
+            server = await net.hosts[OTHER].create_task(opened(local=("0.0.0.0", 7)))
+            free, bound, later = await opened(), await opened(remote=(OTHER, 7)), Ends()
+            with self.assertRaisesRegex(TypeError, "not str"):
+                free.transport.sendto("text", (OTHER, 7))
+            with self.assertRaises(OSError) as without_peer:
+                free.transport.sendto(b"x")
+            with self.assertRaisesRegex(ValueError, "connected to .*10.0.0.2"):
+                bound.transport.sendto(b"x", (OTHER, 8))
+            bound.transport.sendto(b"x" * 65508)
+            told = [fault.errno for fault in bound.faults]
+            bound.transport.set_protocol(later)
+            self.assertIs(later, bound.transport.get_protocol())
+            bound.transport.sendto(b"x" * 65508, (OTHER, 7))
+            bound.transport.abort()
+            bound.transport.sendto(b"x")
+            bound.transport.close()
+            await asyncio.sleep(1)
+            return [without_peer.exception.errno, told, len(later.faults), bound.transport.is_closing(), server.got]
+
+        with both() as net:
+            self.assertEqual([errno.EDESTADDRREQ, [errno.EMSGSIZE], 1, True, []], on(net, ONE, main(net)))
+
     def test_options_of_a_transport(self) -> None:
         async def main(net: aio.Network) -> tuple[int, bytes]:
             ends = await opened()
