@@ -165,6 +165,22 @@ class Command(unittest.TestCase):
         self.assertEqual(done.returncode, 4, done.stdout)
         self.assertIn("another configuration", done.stderr)
 
+    def test_another_configuration_is_noticed_by_rows_that_did_not_leave(self) -> None:
+        """One row each that was lost, met a full queue and had no target, by configurations that would have taken it."""
+        packets = write("left.csv", HEADER + "\n" + "".join(
+            f"0,pipe,{pipe},10.0.0.1,10.0.0.2,17,1,2,1000,5\n" for pipe in (1, 1, 1, 2, 3)))
+        told = "pipe 1 config bw 8Mbit/s queue 1\npipe 2 config plr 1\n"
+        report = replay("left", write("left.config", told), packets)
+        for row, one, other, fault in ((3, "queue 1", "queue 2", "row 3 would have found room"),
+                                       (3, "queue 1", "queue 2Kbytes", "row 3 would have found room"),
+                                       (4, "plr 1", "", "row 4 would not have been lost"),
+                                       (5, "pipe 2", "pipe 3 config\npipe 2", "row 5 would have had a target")):
+            self.assertEqual(run("why", row, "left.config", packets, report).returncode, 0)
+            done = run("why", row, write("other.config", told.replace(one, other)), packets, report)
+            self.assertEqual((done.returncode, done.stdout), (4, ""))
+            self.assertIn(f"{fault} by ", done.stderr)
+            self.assertIn("the report of another configuration", done.stderr)
+
     def test_faults_are_one_line(self) -> None:
         config, packets, report = late()
         bad_config, bad_row = write("bad.config",
