@@ -150,6 +150,20 @@ class OfOutages(unittest.TestCase):
                 self.assertTrue(greedy or not held)
                 self.assertEqual({due - start for _, _, start, due in told if not begin <= start < end}, {transmission})
 
+    def test_a_moment_of_a_trace_at_which_it_ends_is_used(self) -> None:
+        """The trace has moments at 5 and 10 ms, again and again, and the outage ends at one of the first."""
+        end = 405 * MS
+        link = Linked(f"{SEEDS}slots 1 5 10\nhold 1 0 {end}\nline pipe 1 config\n")
+        for _ in range(2):
+            link.near.send(ip4("10.8.0.1", "10.8.0.2", 17, 1, 2, SLOT))
+        until(lambda: passed(link) == 2)
+        ended = link.end()
+        audited_as_lawful(self, link.transcript)
+        told = passages(ended.history)
+        self.assertLess(max(moment for moment, *_ in told), end)
+        for (*_, due), wanted in zip(told, (end, end + 5 * MS)):
+            self.assertTrue(wanted <= due < wanted + MS, told)
+
     def test_a_change_of_the_line_holds_behind_the_outage(self) -> None:
         link = Linked(
             f"{SEEDS}hold 1 0 {100 * MS}\nline pipe 1 config bw 2000000bit/s\noutage 0 1 1500\nat {50 * MS} pipe 1"
