@@ -6,7 +6,7 @@
 Each change is built in a copy of this repository, and the quick tests of its file run until one fails. A change that
 no test sees is printed, unless tools/mutations.txt says why none can. It exits 1 if another is left. With --files it
 takes only the files whose path has the word. As root the tests run among processes of their own, and can write only in
-the copy: a wrong program may end or remove anything.
+the copy: a wrong program may end or remove anything. SIGTERM ends it early, with the counts so far.
 """
 
 from __future__ import annotations
@@ -197,17 +197,19 @@ def main() -> int:
     words.add_argument("--files", default="")
     asked, known, counts = words.parse_args(), told(), dict.fromkeys(("seen", "told", "left"), 0)
     (TOP / "built").mkdir(exist_ok=True)
-    with TemporaryDirectory(dir=TOP / "built") as place:
-        copy = Copy(Path(place))
-        if not all(copy.build(name) for name in HOSTS):
-            sys.exit("mutations.py: the hosts don't compile")
-        for mutant in chosen(asked.kind, asked.files, asked.seed, copy):
-            verdict = judged(mutant, copy, known)
-            if verdict:
-                counts[verdict] += 1
-            if sum(counts.values()) == asked.count:
-                break
-    print(", ".join(f"{count} {name}" for name, count in counts.items()))
+    try:
+        with TemporaryDirectory(dir=TOP / "built") as place:
+            copy = Copy(Path(place))
+            if not all(copy.build(name) for name in HOSTS):
+                sys.exit("mutations.py: the hosts don't compile")
+            for mutant in chosen(asked.kind, asked.files, asked.seed, copy):
+                verdict = judged(mutant, copy, known)
+                if verdict:
+                    counts[verdict] += 1
+                if sum(counts.values()) == asked.count:
+                    break
+    finally:
+        print(", ".join(f"{count} {name}" for name, count in counts.items()))
     return int(counts["left"] > 0)
 
 
