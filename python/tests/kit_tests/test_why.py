@@ -5,6 +5,7 @@ from __future__ import annotations
 
 import re
 import unittest
+from collections import Counter
 from functools import lru_cache
 from pathlib import Path
 
@@ -43,14 +44,15 @@ def late() -> tuple[Path, Path, Path]:
     """A slow link: moments that go back, packets that are held beyond the last moment, on a link of their own and a
     shared one."""
     config = write("late.config", "pipe 1 config bw 1000bit/s delay 7 queue 3Kbytes plr 0.1 mask src-ip 0xff\n"
-                   "pipe 2 config bw 333bit/s delay 1\nqueue 1 config pipe 2 weight 2 queue 4\nqueue 2 config pipe 2\n")
+                   "pipe 2 config bw 333bit/s delay 1\nqueue 1 config pipe 2 weight 2 queue 4\nqueue 2 config pipe 2\n"
+                   "pipe 3 config bw 300bit/s delay 9\n")
     targets = ("pipe,1", "queue,1", "queue,2", "queue,3")
     lines = [HEADER]
     for row in range(1, 1201):
         chance = word(5, row)
         began = LAST - 40 * 10**9 if row > 900 else row * 10**9
         moment = min(began + chance % (3 * 10**9), LAST)
-        target = targets[chance % 5 % 4]
+        target = targets[chance % 5 % 4] if row <= 1190 else "pipe,3"
         flow = f"10.0.0.{chance % 2},10.0.1.0,17,{chance % 3},9"
         lines.append(f"{moment},{target},{flow},{40 + chance % 900},{word(6, row)}")
     packets = write("late.csv", "\n".join(lines) + "\n")
@@ -133,8 +135,11 @@ class Late(Sums, unittest.TestCase):
     paths = staticmethod(late)
 
     def test_every_kind_of_row_is_there(self) -> None:
-        kinds = {line["event"] for line in rows_of(late()[2])}
-        self.assertEqual(kinds, set(EVENT_NAMES))
+        packets, report = rows_of(late()[1]), rows_of(late()[2])
+        self.assertEqual({line["event"] for line in report}, set(EVENT_NAMES))
+        held = Counter(packets[int(line["row"]) - 1]["target"] for line in report if line["event"] == "held")
+        self.assertGreater(held["pipe"], 1)
+        self.assertGreater(held["queue"], 1)
 
 
 class Command(unittest.TestCase):
