@@ -72,7 +72,7 @@ class Shard(unittest.TestCase):
         rows = [",".join([*good.strip().split(",")[:place], text, *good.strip().split(",")[place + 1:]]) + "\n"
                 for place, texts in changes.items() for text in texts]
         for number, row in enumerate(rows):
-            for text in (HEADER + row + 3 * good, HEADER + good + row, HEADER + good + row[:-1]):
+            for text in (HEADER + row + 6 * good, HEADER + good + row, HEADER + good + row[:-1]):
                 packets = write("bounds.csv", text)
                 done, wanted = (subprocess.run([*words, config, packets], capture_output=True)
                                 for words in ([program(), "-j", "2"], [dummynet(), "replay"]))
@@ -88,6 +88,14 @@ class Shard(unittest.TestCase):
         told = os.read(ours, 1000)
         os.close(ours)
         self.assertEqual((done.returncode, done.stdout.count(b"\nout,"), told), (0, 1, 4 * b"\r\x1b[K"))
+
+    def test_a_configuration_of_a_mebibyte_at_most(self) -> None:
+        packets = write("one.csv", HEADER + ROW.format(moment=0, host=1))
+        for length, status, told in ((2**20, 0, b""), (2**20 + 1, 6, b"config too long\n")):
+            config = write("long.config", "#".ljust(length - 14, "#") + "\npipe 1 config")
+            for words in ([program()], [dummynet(), "replay"]):
+                done = subprocess.run([*words, config, packets], capture_output=True)
+                self.assertEqual((done.returncode, done.stderr), (status, told), words)
 
     def test_files_of_a_header_at_most(self) -> None:
         config, mark = write("one.config", "pipe 1 config\n"), "\ufeff"
