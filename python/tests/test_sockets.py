@@ -195,6 +195,48 @@ class Calls(unittest.TestCase):
 
         self.assertEqual(b"x", aio.run(main()))
 
+    def test_names_and_options_before_a_socket_has_a_port(self) -> None:
+        """Outside the tasks of hosts it keeps them for the host whose task uses it next."""
+        async def ask(made: socket.socket) -> tuple[Any, Any]:
+            made.sendto(b"x", (OTHER, 7))
+            return made.getsockname(), made.getsockopt(socket.SOL_SOCKET, socket.SO_BROADCAST)
+
+        async def main(net: aio.Network) -> list[Any]:
+            four, six = udp(), udp(socket.AF_INET6)
+            self.assertEqual((("0.0.0.0", 0), ("::", 0, 0, 0)), (four.getsockname(), six.getsockname()))
+            self.assertEqual((socket.IPPROTO_UDP, 0.0), (four.proto, four.gettimeout()))
+            four.setsockopt(socket.SOL_SOCKET, socket.SO_BROADCAST, 1)
+            four.bind(("", 5000))
+            self.assertEqual("<hingetulip.aio.DatagramSocket>", repr(four))
+            found = await net.hosts[ONE].create_task(ask(four))
+            self.assertIn(" on one, laddr=('0.0.0.0', 5000)>", repr(four))
+            four.close()
+            self.assertEqual("<hingetulip.aio.DatagramSocket [closed]>", repr(four))
+            return found
+
+        with both() as net:
+            self.assertEqual((("0.0.0.0", 5000), 1), net.run(main(net)))
+
+    def test_a_datagram_that_is_longer_than_its_room(self) -> None:
+        async def main(net: aio.Network) -> list[Any]:
+            made, room = udp(), bytearray(3)
+            made.settimeout(0.0)
+            made.bind(("", 7))
+            ends = await net.hosts[OTHER].create_task(opened(remote=(ONE, 7)))
+            for data in (b"longer", b"short", b"third"):
+                ends.transport.sendto(data)
+            await asyncio.sleep(1)
+            cut, whole = made.recvmsg(3), made.recvmsg(5)
+            self.assertEqual((3, b"thi"), (made.recv_into(room), bytes(room)))
+            with self.assertRaises(OSError) as unconnected:
+                made.shutdown(socket.SHUT_RDWR)
+            self.assertEqual(errno.ENOTCONN, unconnected.exception.errno)
+            self.assertRaises(NotImplementedError, made.detach)
+            return [cut[:3], whole[:3]]
+
+        with both() as net:
+            self.assertEqual([(b"lon", [], socket.MSG_TRUNC), (b"short", [], 0)], on(net, ONE, main(net)))
+
     def test_what_a_transport_refuses(self) -> None:
         """As asyncio's own do: wrong calls raise, and the protocol is told what the system refuses. Nothing is sent."""
         async def main(net: aio.Network) -> list[Any]:
