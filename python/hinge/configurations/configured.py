@@ -72,7 +72,7 @@ def setting_of(text: str) -> tuple[str, int, Optional[Setting]]:
     number, value = int(words[1]), dict(zip(words[3:], words[4:]))
     size = value.get("queue", "50")
     limit = Limit(None, int(size[:-6])) if size.endswith("Kbytes") else Limit(int(size), None)
-    loss = int(Fraction(value.get("plr", "0")) * LOSS_PARTS + Fraction(1, 2))
+    loss = int(Fraction(value.get("plr", "0")) * LOSS_PARTS)  # the whole part, as the program keeps it
     if words[0] == "pipe":
         return "pipe", number, Pipe(number, int(value.get("bw", "0bit/s")[:-5]), int(value.get("delay", 0)), limit,
                                     loss)

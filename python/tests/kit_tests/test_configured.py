@@ -2,9 +2,14 @@
 
 from __future__ import annotations
 
+import re
+import subprocess
 import unittest
 
-from hinge.configurations.configured import InForce, Limit, LineFault, Pipe, Queue, respelled, setting_of, spelled_lines
+from hinge.configurations.configured import (
+    InForce, Limit, LineFault, Pipe, Queue, respelled, setting_of, spelled_lines,
+)
+from hinge.program import dummynet
 
 
 class Settings(unittest.TestCase):
@@ -14,6 +19,17 @@ class Settings(unittest.TestCase):
         self.assertEqual(setting_of("pipe 1 config plr 0.5 delay 20 bw 2000000bit/s"), ("pipe", 1, wanted))
         self.assertEqual(setting_of("pipe 1 config bw 250KByte/s delay 20 plr 0.5"), ("pipe", 1, wanted))
         self.assertEqual(setting_of("pipe 1 config bw 2000000 delay 20 plr .5"), ("pipe", 1, wanted))
+
+    def test_a_loss_rate_is_kept_as_the_program_keeps_it(self) -> None:
+        """A packet is lost whose word is below the rate in parts of 2^31."""
+        for rate in ("0.7", "0.3", "0.0000000001", "0.000000001", "0.9999999999"):
+            (_, _, pipe) = setting_of(f"pipe 1 config plr {rate}")
+            words = [word for word in (pipe.loss - 1, pipe.loss) if 0 <= word < 2**31]
+            calls = "".join(f"c,0,submit,pipe,1,10.0.0.1,10.0.0.2,17,1,2,100,{word},0\n" for word in words)
+            text = f"pipe 1 config plr {rate}\n{calls}"
+            done = subprocess.run([dummynet(), "live"], input=text, stdout=subprocess.PIPE, text=True)
+            fates = re.findall("^r,(lost|queued)", done.stdout, re.M)
+            self.assertEqual(fates, ["lost" if word < pipe.loss else "queued" for word in words], rate)
 
     def test_a_queue_of_any_pipe(self) -> None:
         wanted = Queue(3, 9, 5, Limit(None, 10), 0)
