@@ -102,6 +102,8 @@ class OfWords(unittest.TestCase):
     def test_they_are_parted_from_the_others(self) -> None:
         self.assertEqual(without_extras("10Mbit/s jitter 5ms 20ms duplicate 0.5%", "x"),
                          ("10Mbit/s 20ms", Extra(5, round(CERTAIN / 200))))
+        within = [without_extras(text, "x")[1] for text in ("jitter 1ms", "jitter 1000ms duplicate 100%")]
+        self.assertEqual(within, [Extra(1), Extra(1000, CERTAIN)])
         self.assertEqual(
             (without_extras("", "x"), without_extras("duplicate 100%", "x")), (("", Extra()), ("", Extra(0, CERTAIN)))
         )
