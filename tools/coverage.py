@@ -31,7 +31,7 @@ _Noreturn void __real__exit(int status);
 _Noreturn void __wrap__exit(int status) { __gcov_dump(), __real__exit(status); }
 """
 SUITES = {  # each by its words behind those of Python; PROGRAM is that of the repository
-    "module": ["python/tests"], "run": ["python/tests/run"], "kit": ["python/tests/kit"],
+    "module": ["python/tests"], "run": ["python/tests/run", "--long"], "kit": ["python/tests/kit"],
     "simulated": ["python/tests/simulated"], "examples": ["tools/gate/examples.py", "PROGRAM"]}
 FIGURES = ("num_statements", "covered_lines", "num_branches", "covered_branches")  # as coverage.py names them
 LONGEST = 1800  # s of a suite
