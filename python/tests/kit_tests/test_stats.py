@@ -13,12 +13,24 @@ from kit import folder, mixed, needs_tshark, replay, rows_of, run, write
 from hinge.captures.packet_rows import HEADER
 from hinge.pictures.figures import exact_sum, jitter, mean, percentile
 from hinge.program import dummynet
+from hinge.replays.units import packets, rows
 
 
 def table(*words: object) -> dict[str, dict[str, str]]:
     done = run("stats", *words, "--csv")
     assert done.returncode == 0, done.stderr
     return {row["flow"]: row for row in csv.DictReader(io.StringIO(done.stdout))}
+
+
+class Words(unittest.TestCase):
+    def test_rows_by_runs(self) -> None:
+        for numbers, wanted in (([7], "row 7"), ([4, 3, 5], "rows 3-5"), ([1, 3], "rows 1, 3"),
+                                ([2, 9, 1], "rows 1-2, 9")):
+            self.assertEqual(rows(numbers), wanted)
+        self.assertEqual(rows([1, 3, 5, 7, 8, 1009], most=2), "rows 1, 3 and 4 more")
+
+    def test_packets(self) -> None:
+        self.assertEqual([packets(count) for count in (0, 1, 1000)], ["0 packets", "1 packet", "1,000 packets"])
 
 
 class ByHand(unittest.TestCase):
