@@ -55,6 +55,7 @@ TESTS = {  # by the beginning of a path, the first that fits: the tests that are
     "python/hinge/loss.py": "kit loss, run passes",
     "python/hinge/net/": "run net_file, run net_python, run net",
     "python/hinge/paths/": "kit paths, kit look_net",
+    "python/hinge/pictures/figures.py": "kit stats, kit look",
     "python/hinge/pictures/": "kit pictures, kit look",
     "python/hinge/replays/": "kit stats, kit why, kit look, kit through",
     "python/hinge/run/": "run plan, run passes, run link, run control, run manners, run udp, run joined, run rooms",
