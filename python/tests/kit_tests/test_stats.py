@@ -91,9 +91,10 @@ class ByHand(unittest.TestCase):
         self.assertEqual((exact_sum(column), mean(column)), (5 * 2**62, 2**62))
 
     def test_jitter_of_a_step(self) -> None:
-        """J += (|D| - J) / 16: a steady delay has none, and one step of 16 ms leaves 1 ms."""
+        """J += (|D| - J) / 16, rounded: a steady delay has none, a step of 16 ms leaves 1 ms, and 24 ns go to 0."""
         self.assertEqual(jitter(np.array([5, 5, 5])), 0)
         self.assertEqual(jitter(np.array([0, 16_000_000])), 1_000_000)
+        self.assertEqual([jitter(np.array([0, *[24] * steady])) for steady in (1, 8, 9)], [1, 1, 0])
         self.assertIsNone(jitter(np.array([7])))
 
 
