@@ -50,12 +50,14 @@ int main(int count, char **words)
     if (count != 3 || threads < 1 || threads > MOST_PARTS - 1)
         die(WRONG_COMMAND, USAGE);
     thread_count = part_count = (size_t)threads;
-    config = whole_file(words[1], "config");
-    packets = whole_file(words[2], "packets");
+    /* As the program does: both are opened before either is read, and a fault of the first comes before all of the second. */
+    int config_file = opened(words[1], "config"), packets_file = opened(words[2], "packets");
+    config = whole_file(config_file, "config", CONFIG_BYTES);
     if (config.length > CONFIG_BYTES)
         die(BAD_FILE, "config too long");
     struct dn_handle handle = {0};
     configure(&handle, true);
+    packets = whole_file(packets_file, "packets", SIZE_MAX);
     if (!read_packets())
         run_program(words[1], words[2]);
     ask_targets(&handle);

@@ -21,11 +21,11 @@ static void cannot_read(const char *name)
     die(BAD_FILE, line);
 }
 
-static struct bytes read_on(int file, const char *name)
+static struct bytes read_on(int file, const char *name, size_t most)
 {
     uint8_t *data = NULL;
     size_t length = 0, room = 0;
-    for (ssize_t count = 1; count; length += (size_t)count) {
+    for (ssize_t count = 1; count && length <= most; length += (size_t)count) {
         if (length + READ_BYTES > room)
             data = grown(data, room = room * 2 + (1 << 20));
         if ((count = read(file, data + length, READ_BYTES)) < 0)
@@ -34,14 +34,21 @@ static struct bytes read_on(int file, const char *name)
     return (struct bytes){data, length};
 }
 
-struct bytes whole_file(const char *path, const char *name)
+int opened(const char *path, const char *name)
+{
+    int file = strcmp(path, "-") ? open(path, O_RDONLY) : 0;
+    if (file < 0)
+        cannot_read(name);
+    return file;
+}
+
+struct bytes whole_file(int file, const char *name, size_t most)
 {
     struct stat is;
-    int file = strcmp(path, "-") ? open(path, O_RDONLY) : 0;
-    if (file < 0 || fstat(file, &is))
+    if (fstat(file, &is))
         cannot_read(name);
     if (!S_ISREG(is.st_mode) || !is.st_size)
-        return read_on(file, name);
+        return read_on(file, name, most);
     void *data = mmap(NULL, (size_t)is.st_size, PROT_READ, MAP_PRIVATE | MAP_POPULATE, file, 0);
     if (data == MAP_FAILED)
         cannot_read(name);

@@ -83,7 +83,8 @@ const uint8_t *read_plain_row(const uint8_t *at, struct dn_packet *row); /* wher
 int read_row(const uint8_t *from, const uint8_t *end, struct dn_packet *row); /* -1, or the first bad field */
 
 /* read.c */
-struct bytes whole_file(const char *path, const char *name);
+int opened(const char *path, const char *name); /* a file, or standard input of `-` */
+struct bytes whole_file(int file, const char *name, size_t most); /* of an input that isn't a file a little more than `most` bytes */
 bool read_packets(void); /* false: a field stands in quotes */
 
 /* configure.c */

@@ -97,6 +97,14 @@ class Shard(unittest.TestCase):
                 done = subprocess.run([*words, config, packets], capture_output=True)
                 self.assertEqual((done.returncode, done.stderr), (status, told), words)
 
+    def test_a_configuration_that_never_ends_or_is_faulty_comes_before_the_packets(self) -> None:
+        faulty, packets = write("bad.config", "pipe x\n"), write("one.csv", "moment\n")
+        for config, told in (("/dev/zero", (6, b"config too long\n")), (faulty, (3, b"config line 1, word 2: bad number\n"))):
+            for behind in (packets, "."):
+                for words in ([program()], [dummynet(), "replay"]):
+                    done = subprocess.run([*words, config, behind], capture_output=True, timeout=60)
+                    self.assertEqual((done.returncode, done.stderr), told, (words, config, behind))
+
     def test_files_of_a_header_at_most(self) -> None:
         config, mark = write("one.config", "pipe 1 config\n"), "\ufeff"
         for text in ("", mark, mark + "\n", mark + HEADER, mark + mark + HEADER, HEADER[:-1], "\r\n\n" + HEADER,
