@@ -128,7 +128,7 @@ def nothing(edits: list[Edit]) -> list[str]:
 
 
 def batches(edits: list[Edit]) -> list[list[Edit]]:
-    """The edits in as few groups as hold no two of one function or of one text."""
+    """The edits in as few groups as hold no two that meet."""
     groups: list[list[Edit]] = []
     for edit in edits:
         group = next((group for group in groups if not any(meet(edit, other) for other in group)), None)
@@ -140,6 +140,8 @@ def batches(edits: list[Edit]) -> list[list[Edit]]:
 
 
 def meet(one: Edit, other: Edit) -> bool:
-    """Whether two edits are of one function or of one text."""
-    texts = [(mine.old, its.old) for mine in one.pairs for its in other.pairs if mine.file == its.file]
-    return bool(one.functions & other.functions) or any(mine in its or its in mine for mine, its in texts)
+    """Whether two edits are of one function, or one writes or changes a text that the other seeks."""
+    pairs = [(mine, its) for mine in one.pairs for its in other.pairs if mine.file == its.file]
+    sought = any(mine.old in theirs or its.old in ours for mine, its in pairs
+                 for theirs, ours in ((its.old, mine.old), (its.new, mine.new)))
+    return sought or bool(one.functions & other.functions)
