@@ -19,6 +19,7 @@ import os
 import re
 import secrets
 import shutil
+import signal
 import subprocess
 import sys
 from concurrent.futures import ThreadPoolExecutor
@@ -122,6 +123,8 @@ def tried_and_told(words: list[str], is_quick: bool) -> tuple[list[Sum], str]:
 def main(words: list[str]) -> int:
     if words == ["--needs"]:
         return needs.main([])
+    # A shell that starts this in the background has ^C ignored, and so would all programs that the tests interrupt.
+    signal.signal(signal.SIGINT, signal.default_int_handler)
     lacks_prover = not words and shutil.which("rt") is None
     sums, note = tried_and_told(words, lacks_prover or words == ["--quick"])
     if lacks_prover:
