@@ -11,6 +11,7 @@ hour, and the library's bytes aren't compared.
 from __future__ import annotations
 
 import re
+import shutil
 import subprocess
 import sys
 from hashlib import sha256
@@ -86,6 +87,9 @@ def main(program: str) -> int:
     library = said(TOP / "tools" / "program_sources", LIBRARY)
     is_same = (RELEASE / "library-sources").read_text() == library
     tally.note("sources of the library", "" if is_same else f"the released library was built from other sources; {anew}, with ./build --lib before it")
+    if shutil.which("rt") is None:
+        print("there is no rt on the path, so the release's bytes aren't compared")
+        return tally.end()
     kit = said("rt", "version").split()[0]
     if f"built by {kit}." not in (RELEASE / "README.md").read_text().replace("\n", " "):
         print(f"the release was built by another kit than {kit}, so its bytes aren't compared")

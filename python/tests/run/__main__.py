@@ -1,34 +1,30 @@
-"""Tests of `hinge run` and `hinge udp`: python3 python/tests/run [--long] [NAME ..]. The last line is 'N passed, M
-failed'.
+"""Tests of `hinge run`, `hinge net` and `hinge udp`: python3 python/tests/run [--long] [NAME ..]. The last line is
+'N passed, M failed'.
 
-A NAME is that of a file test_NAME.py. The variable DUMMYNET names the program and HINGE_LINK the host, those of this
-checkout by default. A test that needs what this machine lacks or doesn't allow is skipped, with the reason.
+A NAME is that of a file test_NAME.py. Without one all files are tried, each in a process of its own, as many at once as there are
+processors. The variable DUMMYNET names the program and HINGE_LINK the host, those of this checkout by default. A test that needs
+what this machine lacks or doesn't allow is skipped, with the reason.
 """
 
 from __future__ import annotations
 
 import os
 import sys
-import unittest
 from pathlib import Path
 
 HERE = Path(__file__).resolve().parent
 PYTHON = HERE.parents[1]
-sys.path[:0] = [str(PYTHON), str(HERE)]
+sys.path[:0] = [str(PYTHON), str(HERE), str(HERE.parent)]
 os.environ["PYTHONPATH"] = str(PYTHON)
+
+from side_by_side import all_tried, files_tried  # noqa: E402
 
 
 def main(words: list[str]) -> int:
     if "--long" in words:
         os.environ["HINGE_LONG"] = "yes"
-    names = [word for word in words if word != "--long"] or ["*"]
-    suite = unittest.TestSuite(unittest.TestLoader().discover(str(HERE), f"test_{name}.py") for name in names)
-    result = unittest.TextTestRunner(stream=sys.stdout, warnings="ignore").run(suite)
-    failed = len({getattr(test, "test_case", test).id() for test, _ in result.failures + result.errors})
-    for test, reason in result.skipped:
-        print(f"skipped: {test.id()}: {reason}")
-    print(f"{result.testsRun - failed - len(result.skipped)} passed, {failed} failed")
-    return 1 if failed else 0
+    names = [word for word in words if word != "--long"]
+    return files_tried(HERE, names) if names else all_tried(HERE, [str(HERE)])
 
 
 if __name__ == "__main__":

@@ -182,15 +182,18 @@ class OfDatagrams(InAFolder):
         self.assertEqual((counts(said, "up")["lost"], "hinge udp: seed 7\n" in said), (10, True))
 
     def test_a_trace(self) -> None:
-        """From 8 Mbit/s to 80 kbit/s: 1 ms before, 100 ms behind."""
-        trace = self.written("trace", "seconds,bit/s\n0,8000000\n1,80000\n")
+        """From 8 Mbit/s to 80 kbit/s: by the link's own clock a packet takes 1 ms before, and 100 ms behind."""
+        trace, kept = self.written("trace", "seconds,bit/s\n0,8000000\n1,80000\n"), f"{self.folder}/history"
         with sockets(2) as [server, client]:
-            path = Path(0, port_of(server), "--up-trace", trace)
-            before = rounds(client, server, path, 4)
+            path = Path(0, port_of(server), "--up-trace", trace, "--transcript", kept)
+            rounds(client, server, path, 4)
             time.sleep(1)
-            behind = rounds(client, server, path, 2)
+            rounds(client, server, path, 2)
             path.end()
-        self.assertTrue(max(before) < 0.1 <= min(behind), (before, behind))
+        with open(kept) as file:
+            passed = [tuple(map(int, row)) for row in found(r"^d,\d+,0,(\d+),(\d+)$", file.read())]
+        took = [(start < 10**9, due - start) for start, due in passed]
+        self.assertEqual((len(took), set(took)), (6, {(True, 10**6), (False, 10**8)}), passed)
 
     def test_an_end_by_kill_leaves_a_whole_transcript(self) -> None:
         kept = f"{self.folder}/history"
@@ -201,7 +204,6 @@ class OfDatagrams(InAFolder):
             path.process.communicate()
             time.sleep(0.3)
         audited_as_lawful(self, kept)
-
 
     def test_a_transcript_that_cannot_be_written(self) -> None:
         with sockets(2) as [server, client]:
