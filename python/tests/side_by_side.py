@@ -30,7 +30,8 @@ def files_tried(folder: Path, names: list[str]) -> int:
 
 def told_of(words: list[str], name: str) -> tuple[int, int]:
     """Tries one file's tests in a process, prints what it said, and returns how many passed and failed."""
-    done = subprocess.run([sys.executable, *words, name], stdout=subprocess.PIPE, stderr=subprocess.STDOUT, text=True, errors="replace")
+    process = [sys.executable, *words, name]
+    done = subprocess.run(process, stdout=subprocess.PIPE, stderr=subprocess.STDOUT, text=True, errors="replace")
     found = TALLY.search(done.stdout)
     passed, failed = (int(found[1]), int(found[2])) if found else (0, 1)
     agrees = (done.returncode == 0) == (failed == 0)

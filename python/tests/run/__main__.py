@@ -1,9 +1,9 @@
 """Tests of `hinge run`, `hinge net` and `hinge udp`: python3 python/tests/run [--long] [NAME ..]. The last line is
 'N passed, M failed'.
 
-A NAME is that of a file test_NAME.py. Without one all files are tried, each in a process of its own, as many at once as there are
-processors. The variable DUMMYNET names the program and HINGE_LINK the host, those of this checkout by default. A test that needs
-what this machine lacks or doesn't allow is skipped, with the reason.
+A NAME is that of a file test_NAME.py. Without one all files are tried, each in a process of its own, as many at once
+as there are processors. The variable DUMMYNET names the program and HINGE_LINK the host, those of this checkout by
+default. A test that needs what this machine lacks or doesn't allow is skipped, with the reason.
 """
 
 from __future__ import annotations

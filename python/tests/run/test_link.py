@@ -2,37 +2,19 @@
 
 from __future__ import annotations
 
-import os
 import select
 import socket
 import struct
-import subprocess
-import sys
-import tempfile
 import time
 import unittest
 
 from linked import (
-    AT_ONCE, SEEDS, Ended, Linked, audited, audited_as_lawful, found, ip4, ip6, needs_host, stopped, until, with_sigterm
+    AT_ONCE, SEEDS, Ended, Linked, audited_as_lawful, found, ip4, ip6, needs_host, stopped, until, with_sigterm
 )
 from hinge.captures.random_words import word
 from hinge.loss import LOST, GilbertElliott
 from hinge.run.page import ENDED_WELL
-from hinge.run.plan import Plan
-from hinge.run.summary import void
-
-CLIENT, SERVER = "10.8.0.1", "10.8.0.2"
-
-
-def udp(number: int, length: int = 40) -> bytes:
-    return ip4(CLIENT, SERVER, 17, 1, number, length)
-
-
-def plan_of(*lines: str) -> Plan:
-    plan = Plan()
-    for line in lines:
-        plan.link(line)
-    return plan
+from link_packets import CLIENT, SERVER, plan_of, udp
 
 
 @needs_host
@@ -172,124 +154,6 @@ class OfLosses(unittest.TestCase):
             while select.select([link.far], [], [], 0)[0]:
                 link.far.recv(100)
         self.assertAlmostEqual(link.end().counts.ways[0]["lost"] / 4000, 0.25, delta=0.034)
-
-
-@needs_host
-class OfTime(unittest.TestCase):
-    def timeline(self, plan: Plan, text: str) -> str:
-        with tempfile.NamedTemporaryFile("w") as file:
-            file.write(text)
-            file.flush()
-            plan.timeline(file.name)
-        return plan.text(1)
-
-    def test_a_change_and_an_outage(self) -> None:
-        link = Linked(self.timeline(plan_of("pipe 1 config delay 0"), "0.2s up outage 300ms\n1s pipe delete 1\n"))
-        until(lambda: link.page.read().ways[0]["held"] == 1)  # the packet of the outage
-        link.near.send(udp(1))
-        link.far.recv(100)
-        until(lambda: link.page.read()["moment"] >= 10**9)  # it has made the delete
-        link.near.send(udp(1))
-        until(lambda: link.came() == 2)
-        ended = link.end()
-        self.assertEqual((ended.status, ended.counts.ways[0]["no_target"], ended.counts.ways[0]["sent"]), (0, 1, 1))
-        self.assertIn("c,0,advance,500000000\nr,advanced,500000000\n", ended.history)
-        self.assertGreaterEqual(int(found(r"^d,1,.*,(\d+)$", ended.history)[0]), 500_000_000)
-        audited_as_lawful(self, link.transcript)
-
-    def test_its_lateness_is_remarked(self) -> None:
-        """A host that was stopped is late, and a remark has the most that the page has. The audit passes over it."""
-        link = Linked(SEEDS + "line pipe 1 config delay 20\n")
-        link.near.send(udp(1))
-        until(lambda: link.came() == 1)
-        with stopped(link.process.pid):
-            time.sleep(0.1)
-        link.far.recv(100)
-        ended = link.end()
-        remarks = [list(map(int, text.split(","))) for text in found(r"^#,late,(.*)$", ended.history)]
-        most = [max(column) for column in zip(*remarks)][1:]
-        self.assertEqual(most, [way[f"{kind}_most"] for way in ended.counts.ways for kind in ("late", "unread")])
-        self.assertGreater(most[0], 0)
-        self.assertEqual(found(r"^#,seed,(\d+)$", ended.history), [SEEDS.split()[2]])
-        audited_as_lawful(self, link.transcript)
-
-    def test_a_delete_discards(self) -> None:
-        link = Linked(SEEDS + "line pipe 1 config bw 8kbit/s\nat 300000000 pipe delete 1\n")
-        for _ in range(5):
-            link.near.send(udp(1, 1000))
-        until(lambda: link.page.read()["moment"] >= 300_000_000)
-        up = link.end().counts.ways[0]
-        self.assertEqual((up["came"], up["sent"], up["discarded"]), (5, 0, 4))  # one is on its way
-
-    def test_a_long_transcript_goes_on_in_parts(self) -> None:
-        plan = plan_of("pipe 1 config delay 5", "queue 2 config pipe 1 weight 7")
-        plan.rule("=> queue 2")
-        link = Linked(plan.text(1), most=1)
-        for number in range(3):
-            link.near.send(udp(number))
-            link.far.recv(100)
-        until(lambda: link.page.read()["parts"] == 4)
-        ended = link.end()
-        parts = [link.transcript, *(f"{link.transcript}.{number}" for number in (1, 2, 3))]
-        self.assertEqual([audited(part).split()[0] for part in parts], ["lawful"] * 4)
-        texts = [open(part).read() for part in parts]
-        self.assertEqual([text.count("submit") for text in texts], [1, 1, 1, 0])
-        self.assertEqual([found("c,0,configure,(.*)", text) for text in texts],
-                         [["pipe 1 config delay 5", "queue 2 config pipe 1 weight 7"]] * 4)
-        self.assertEqual((ended.status, ended.counts.ways[0]["sent"], sorted(os.listdir(link.folder.name))),
-                         (0, 3, sorted(map(os.path.basename, parts))))
-
-
-    def test_a_deleted_queue_is_in_no_later_part(self) -> None:
-        """By both forms of the line, and a number that another line has with a pipe."""
-        queues = "".join(f"line queue {number} config pipe 1 weight {number}\n" for number in (1, 2, 23))
-        deletes = "at 100000000 queue delete 2\nat 110000000 ipfw queue 23 delete\n"
-        link = Linked(f"{SEEDS}line pipe 1 config delay 5\nline pipe 2 config\n{queues}{deletes}", most=1)
-        until(lambda: link.page.read()["moment"] >= 110_000_000)
-        link.near.send(udp(1))
-        link.far.recv(100)
-        until(lambda: link.page.read()["parts"] == 2)
-        link.end()
-        last = open(f"{link.transcript}.1").read()
-        self.assertEqual(found("c,0,configure,(.*)", last), ["pipe 1 config delay 5", "pipe 2 config", "queue 1 config pipe 1 weight 1"])
-        audited_as_lawful(self, link.transcript)
-
-    def test_an_outage_where_a_thousand_flows_wait(self) -> None:
-        """The second packet of one of them begins it, and none that nobody sent."""
-        link = Linked(f"{SEEDS}line pipe 1 config bw 100bit/s mask dst-port 0xffff\noutage 600000000 1 9000\n")
-        for port in [*range(1, 1101), 1100]:
-            link.near.send(ip4(CLIENT, SERVER, 17, 1, port, 40))
-        self.assertLess(link.page.read()["moment"], 600_000_000)
-        until(lambda: link.page.read()["moment"] >= 600_000_000)
-        ended = link.end()
-        self.assertEqual((ended.status, ended.counts.ways[0]["came"], found("submit,.*,0.0.0.0,255,", ended.history)), (0, 1101, []))
-
-
-@needs_host
-class OfALoadedMachine(unittest.TestCase):
-    def test_it_reports_that_it_had_no_processor(self) -> None:
-        """Four programs that do nothing but reckon share a processor with the host, which is the least of them."""
-        link = Linked(SEEDS + "line pipe 1 config delay 1\n")
-        one = min(os.sched_getaffinity(0))
-        os.sched_setaffinity(link.process.pid, {one})
-        os.setpriority(os.PRIO_PROCESS, link.process.pid, 19)
-        loads = [
-            subprocess.Popen([sys.executable, "-c", "while 1: pass"], preexec_fn=lambda: os.sched_setaffinity(0, {one}))
-            for _ in range(4)
-        ]
-        try:
-            for number in range(40):
-                link.near.send(udp(number))
-                time.sleep(0.03)
-            until(lambda: link.page.read().ways[0]["sent"] == 40, 30)
-        finally:
-            for load in loads:
-                load.kill(), load.wait()
-        counts = link.end().counts
-        self.assertRegex(
-            "\n".join(void(counts, [0, 0], 1.0)), r"up: of 100 packets more than one was (late|unread) by over 1 ms"
-        )
-        self.assertGreater(max(counts.ways[0].unread.most, counts.ways[0].late.most), 1_000_000)
 
 
 @needs_host

@@ -2,48 +2,15 @@
 
 from __future__ import annotations
 
-import json
 import os
-import shutil
-import signal
 import subprocess
-import sys
-import tempfile
-import time
-import unittest
-from pathlib import Path
-from typing import Any
 
-from linked import HINGE, Done, audited_as_lawful, found, hinge, needs, needs_rooms, until
+from linked import HINGE, found, hinge, needs, needs_rooms, until
 
 from hinge.run.control import ask, is_answered
-from hinge.run.outside import GATEWAY
+from in_a_folder import InAFolder
 
 PING = "ping -c 1 -W 5 -q"
-
-
-class InAFolder(unittest.TestCase):
-    def setUp(self) -> None:
-        folder = tempfile.TemporaryDirectory()
-        self.addCleanup(folder.cleanup)
-        self.folder = Path(folder.name)
-        self.file = self.folder / "x.net"
-
-    def net(self, text: str, *words: str, seconds: float = 60) -> Done[str]:
-        """A run, whose transcript and summary are in `out`."""
-        self.file.write_text(text)
-        return hinge("net", self.file, "--transcripts", self.folder / "out", *words, seconds=seconds)
-
-    def summary(self) -> Any:
-        return json.loads((self.folder / "out" / "net.json").read_text())
-
-    def history(self) -> str:
-        audited_as_lawful(self, self.folder / "out" / "net.history")
-        return (self.folder / "out" / "net.history").read_text()
-
-    def packets(self) -> dict[str, int]:
-        """How many came, by the ways that had any."""
-        return {f"{way['from']} > {way['to']}": way["came"] for way in self.summary()["ways"] if way["came"]}
 
 
 @needs_rooms
@@ -233,106 +200,3 @@ class OfCommands(InAFolder):
         done = self.net("host a sleep 0.1; exit 3\nhost b true\nlink a b\n")
         self.assertEqual((done.returncode, {name: one["status"] for name, one in self.summary()["hosts"].items()}),
                          (3, {"a": 3, "b": 0}), done.stderr)
-
-
-@needs_rooms
-@needs("curl", "slirp4netns")
-class OfOutside(InAFolder):
-    """What is at the system's own loopback stands for the rest of its network."""
-
-    def answers(self, option: str, host: str) -> list[str]:
-        """What each host gets of a server outside."""
-        with subprocess.Popen(
-            [sys.executable, "-u", "-m", "http.server", "0", "--bind", "127.0.0.1"], cwd=self.folder,
-            stdout=subprocess.PIPE, stderr=subprocess.DEVNULL, text=True
-        ) as server:
-            assert server.stdout
-            port = found(r"port (\d+)", server.stdout.readline())[0]
-            ask = f"curl -s -o /dev/null -m 3 -w '%{{http_code}} %{{time_total}}' http://{GATEWAY}:{port}/"
-            done = self.net(
-                (
-                    f"main a {ask}; until [ -s {self.folder}/logs/b.log ]; do sleep 0.05; done\nhost b {ask}; exec"
-                    " sleep 100\nrouter r\nlink a r 30ms\nlink r b 30ms\n"
-                ),
-                option, host, "--quiet", "--no-realtime", "--logs", str(self.folder / "logs")
-            )
-            server.terminate()
-        self.assertEqual(done.stderr, "")
-        return [(self.folder / "logs" / f"{name}.log").read_text() for name in "ab"]
-
-    def test_a_router_leads_outside(self) -> None:
-        for answer in self.answers("--outside-loopback", "r"):
-            self.assertRegex(answer, r"^200 \d")
-            self.assertGreaterEqual(float(answer.split()[1]), 0.12)  # two round trips
-        self.assertEqual(found("^#,outside,.*$", self.history()), ["#,outside,r"])
-        self.assertNotIn("200", [answer.split()[0] for answer in self.answers("--outside", "r")])
-
-    def test_another_host_leads_itself(self) -> None:
-        one, other = self.answers("--outside-loopback", "a")
-        self.assertEqual((one.split()[0], other.split()[0], self.packets()), ("200", "000", {}))
-        refused = hinge("net", self.file, "--outside", "z")
-        self.assertEqual((refused.returncode, refused.stderr), (2, f"hinge net: --outside z: no host of {self.file}\n"))
-
-
-@needs_rooms
-@needs("pgrep")
-class OfTheEnd(InAFolder):
-    def left(self, pattern: str) -> int:
-        return len(subprocess.run(["pgrep", "-f", pattern], capture_output=True, text=True).stdout.split())
-
-    def test_signals_leave_nothing(self) -> None:
-        """In the run and while a port is waited for."""
-        for number, status in ((signal.SIGTERM, 143), (signal.SIGINT, 130), (signal.SIGKILL, -9)):
-            for wait in ("", "wait a port 9 1h\n"):
-                mark = f"{7000 + os.getpid() % 1000}.{int(number)}{len(wait)}"
-                self.file.write_text(
-                    f"host a setsid sleep {mark} & sleep {mark}\nmain b exec sleep {mark}\nlink a b\n{wait}"
-                )
-                begun = subprocess.Popen([*HINGE, "net", str(self.file), "--quiet"], stderr=subprocess.DEVNULL)
-                try:
-                    until(lambda: self.left(f"^(setsid )?sleep {mark}") == (2 if wait else 3), 30)
-                    begun.send_signal(number)
-                    self.assertEqual(begun.wait(20), status)
-                    until(lambda: self.left(f"^(setsid )?sleep {mark}") == 0)
-                finally:
-                    begun.kill()
-
-    def test_a_link_that_broke_off_is_told(self) -> None:
-        mark = f"{7000 + os.getpid() % 1000}.5"
-        self.file.write_text(f"host a\nmain b exec sleep {mark}\nlink a b\n")
-        begun = subprocess.Popen([*HINGE, "net", str(self.file), "--quiet"], stderr=subprocess.PIPE, text=True)
-        try:
-            until(lambda: self.left(f"^sleep {mark}") == 1, 30)
-            parents = [
-                int(pid)
-                for pid in subprocess.run(
-                    ["pgrep", "-P", str(begun.pid)], capture_output=True, text=True
-                ).stdout.split()
-            ]
-            links = subprocess.run(
-                ["pgrep", "-P", ",".join(map(str, parents)), "hinge-link"], capture_output=True, text=True
-            ).stdout.split()
-            os.kill(int(links[0]), signal.SIGKILL)
-            _, said = begun.communicate(timeout=20)
-        finally:
-            begun.kill()
-        self.assertEqual((begun.returncode, "void: the links broke off before the end" in said), (75, True), said)
-
-
-@needs_rooms
-@unittest.skipUnless(shutil.which("setpriv") and os.geteuid() == 0, "only root can be another user")
-class OfUsers(InAFolder):
-    def test_no_root_is_needed(self) -> None:
-        self.file.write_text(f"host a\nmain b id -u && {PING} a >/dev/null\nlink a b 1ms\n")
-        self.folder.chmod(0o755), self.file.chmod(0o644)
-        done = subprocess.run(
-            ["setpriv", "--reuid=65534", "--regid=65534", "--clear-groups", *HINGE, "net", str(self.file)],
-            capture_output=True, text=True, cwd="/"
-        )
-        if done.returncode == 6:
-            self.skipTest(done.stderr.strip())
-        self.assertEqual((done.returncode, done.stdout), (0, "65534\n"), done.stderr)
-
-
-if __name__ == "__main__":
-    unittest.main()

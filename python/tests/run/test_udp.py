@@ -2,95 +2,16 @@
 
 from __future__ import annotations
 
-import contextlib
 import os
-import re
-import resource
-import signal
 import socket
-import struct
 import subprocess
 import sys
-import tempfile
 import time
-import unittest
-from typing import Iterator, Optional
 
-from linked import (
-    AT_ONCE, HINGE, audited_as_lawful, found, hinge, needs, needs_host, only_long, stopped, until, with_sigterm
-)
+from datagrams import InAFolder, Path, ROUND, SIZE, counts, port_of, rounds, sockets
+from linked import audited_as_lawful, found, hinge, needs_host
 
-# bytes of a datagram, 1,000 with its headers; the seconds that it takes there and back at 8 Mbit/s and 2 x 20 ms
-SIZE, ROUND = 972, 0.041
 LINKS = ["pipe 1 config bw 8Mbit/s delay 20", "pipe 2 config delay 20"]
-LOOPBACK = {socket.AF_INET: "127.0.0.1", socket.AF_INET6: "::1"}
-
-
-class Path:
-    """`hinge udp` that runs: where it listens, and in the end its status and what it said."""
-
-    def __init__(self, *words: object, files: Optional[int] = None) -> None:
-        """With `files`, so many descriptors at most."""
-        limit = (lambda: resource.setrlimit(resource.RLIMIT_NOFILE, (files, files))) if files else None
-        self.process = subprocess.Popen(
-            [*HINGE, "udp", *map(str, words)], text=True, stdin=subprocess.DEVNULL, stdout=subprocess.PIPE,
-            stderr=subprocess.PIPE, preexec_fn=limit
-        )
-        assert self.process.stdout
-        self.port = int(self.process.stdout.readline().rpartition(":")[2] or 0)
-
-    def ended(self) -> tuple[int, str]:
-        said = self.process.communicate(timeout=30)[1]
-        return self.process.returncode, said
-
-    def end(self, number: int = signal.SIGTERM) -> tuple[int, str]:
-        self.process.send_signal(number)
-        return self.ended()
-
-
-@contextlib.contextmanager
-def sockets(count: int, family: int = socket.AF_INET) -> Iterator[list[socket.socket]]:
-    """UDP sockets at free ports of this machine; what they wait for comes within five seconds."""
-    with contextlib.ExitStack() as stack:
-        made = [stack.enter_context(socket.socket(family, socket.SOCK_DGRAM)) for _ in range(count)]
-        for one in made:
-            one.bind((LOOPBACK[family], 0))
-            one.settimeout(5)
-        yield made
-
-
-def port_of(one: socket.socket) -> int:
-    return int(one.getsockname()[1])
-
-
-def rounds(client: socket.socket, server: socket.socket, path: Path, count: int) -> list[float]:
-    """Seconds of so many rounds, one after the other, through the path and back; 0 where another datagram came."""
-    took = []
-    for number in range(count):
-        sent, begun = number.to_bytes(4, "big") + bytes(SIZE - 4), time.monotonic()
-        client.sendto(sent, (LOOPBACK[client.family], path.port))
-        came, source = server.recvfrom(65536)
-        server.sendto(came, source)
-        back = client.recv(65536)
-        took.append(time.monotonic() - begun if sent == came == back else 0.0)
-    return took
-
-
-def counts(said: str, way: str) -> dict[str, int]:
-    line = found(rf"hinge udp: {way}: (\d+ came.*)", said)[0]
-    return {words: int(number) for number, words in re.findall(r"(\d+) ([a-zA-Z ]+)", line)}
-
-
-class InAFolder(unittest.TestCase):
-    def setUp(self) -> None:
-        folder = tempfile.TemporaryDirectory()
-        self.addCleanup(folder.cleanup)
-        self.folder = folder.name
-
-    def written(self, name: str, text: str) -> str:
-        with open(f"{self.folder}/{name}", "w") as file:
-            file.write(text)
-        return file.name
 
 
 @needs_host
@@ -213,97 +134,6 @@ class OfDatagrams(InAFolder):
         self.assertEqual(
             (status, "hinge: /dev/full: No space left on device\n" in said, "broke off" in said), (75, True, True), said
         )
-
-
-@needs_host
-class OfManyClients(InAFolder):
-    def test_1500_clients(self) -> None:
-        most = resource.getrlimit(resource.RLIMIT_NOFILE)[1]
-        if most < 2000:
-            self.skipTest(f"the system allows {most} descriptors")
-        resource.setrlimit(resource.RLIMIT_NOFILE, (most, most))
-        with sockets(1501) as [server, *clients]:
-            path = Path(0, port_of(server), "--up", "1ms", "--down", "1ms")
-            for client in clients:
-                self.assertLess(0, min(rounds(client, server, path, 1)))
-            self.assertLess(0, min(rounds(clients[0], server, path, 1)))
-            status, said = path.end()
-        self.assertEqual((status, counts(said, "down")["delivered"]), (0, 1501))
-
-    def test_a_full_table_turns_new_clients_away(self) -> None:
-        with sockets(101) as [server, *clients]:
-            path = Path(0, port_of(server), files=64)  # 32 clients
-            for client in clients:
-                client.sendto(b"some", ("127.0.0.1", path.port))
-            got = [server.recvfrom(9)[1] for _ in range(32)]
-            self.assertLess(0, min(rounds(clients[0], server, path, 3)))
-            status, said = path.end()
-        self.assertEqual((status, len(set(got)), counts(said, "up")["turned away"]), (0, 32, 68))
-        self.assertEqual(said.count("there are as many clients as the system allows"), 1)
-
-    @only_long
-    def test_a_client_that_was_quiet_for_a_minute_is_let_go(self) -> None:
-        with sockets(34) as [server, *clients]:
-            path = Path(0, port_of(server), files=64)
-            for client in clients[:32]:
-                self.assertLess(0, min(rounds(client, server, path, 1)))
-            time.sleep(62)
-            self.assertLess(0, min(rounds(clients[32], server, path, 1)))
-            status, said = path.end()
-        self.assertEqual((status, "too many" in said), (0, False))
-
-
-@needs_host
-class OfHostileEnds(InAFolder):
-    def test_a_server_that_is_not_there_is_counted(self) -> None:
-        with sockets(2) as [server, client]:
-            port = port_of(server)
-            server.close()
-            path = Path(0, port)
-            for _ in range(5):
-                client.sendto(b"some", ("127.0.0.1", path.port))
-                time.sleep(0.05)
-            with socket.socket(socket.AF_INET, socket.SOCK_DGRAM) as late:
-                late.bind(("127.0.0.1", port))
-                late.settimeout(5)
-                client.sendto(b"last", ("127.0.0.1", path.port))
-                self.assertEqual(late.recv(9), b"last")
-                status, said = path.end()
-        self.assertEqual(
-            (status, counts(said, "up")["came"], "system drops 0 before, 5 behind" in said), (0, 6, True), said
-        )
-
-    def test_a_client_at_port_0_is_counted(self) -> None:
-        try:
-            raw = socket.socket(socket.AF_INET, socket.SOCK_RAW, socket.IPPROTO_UDP)
-        except PermissionError:
-            self.skipTest("this user has no raw sockets")
-        with raw, sockets(2) as [server, client]:
-            path = Path(0, port_of(server))
-            raw.sendto(struct.pack("!HHHH", 0, path.port, 12, 0) + b"none", ("127.0.0.1", 0))
-            data, source = server.recvfrom(9)
-            server.sendto(b"back", source)
-            self.assertLess(0, min(rounds(client, server, path, 2)))
-            status, said = path.end()
-        self.assertEqual((status, data, "system drops 0 before, 1 behind" in said), (0, b"none", True), said)
-
-    @needs("pgrep")
-    def test_a_flood_does_not_put_off_the_end(self) -> None:
-        """Of what waits beside the signal the host takes no more than it takes at once."""
-        with sockets(2) as [server, client]:
-            path = Path(0, port_of(server))
-            self.assertLess(0, min(rounds(client, server, path, 1)))
-            host = subprocess.run(
-                ["pgrep", "-P", str(path.process.pid), "hinge-link"], stdout=subprocess.PIPE, text=True
-            )
-            with stopped(int(host.stdout)):
-                for _ in range(4 * AT_ONCE):
-                    client.sendto(b"x", ("127.0.0.1", path.port))
-                path.process.send_signal(signal.SIGTERM)
-                until(lambda: with_sigterm(int(host.stdout)))
-            status, said = path.ended()
-        self.assertEqual(status, 0, said)
-        self.assertLessEqual(counts(said, "up")["came"], 1 + AT_ONCE)
 
 
 @needs_host

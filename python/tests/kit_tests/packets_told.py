@@ -1,0 +1,14 @@
+"""A capture that was changed."""
+
+from __future__ import annotations
+
+import subprocess
+from pathlib import Path
+
+from kit import folder
+
+
+def edited(name: str, capture: Path, *words: str) -> Path:
+    """What editcap makes of a capture."""
+    subprocess.run(["editcap", *words, str(capture), str(folder() / name)], check=True, capture_output=True)
+    return folder() / name

@@ -1,0 +1,31 @@
+"""A command that runs behind `hinge run`, and the summary of it."""
+
+from __future__ import annotations
+
+import json
+import subprocess
+import tempfile
+import unittest
+from typing import Any
+
+from linked import Done, run
+
+CERTIFICATE = ["openssl", "req", "-x509", "-newkey", "rsa:2048", "-nodes", "-subj", "/CN=server", "-days", "2"]
+
+
+class Behind(unittest.TestCase):
+    def setUp(self) -> None:
+        folder = tempfile.TemporaryDirectory()
+        self.addCleanup(folder.cleanup)
+        self.folder = folder.name
+
+    def summary(self, *words: str, seconds: float = 60) -> tuple[Done[str], dict[str, Any]]:
+        """Runs a command, and reads the summary too."""
+        done = run("--json", f"{self.folder}/json", *words, seconds=seconds)
+        with open(f"{self.folder}/json") as file:
+            return done, json.load(file)
+
+    def certificate(self) -> tuple[str, str]:
+        key, certificate = f"{self.folder}/key", f"{self.folder}/certificate"
+        subprocess.run([*CERTIFICATE, "-keyout", key, "-out", certificate], check=True, capture_output=True)
+        return key, certificate

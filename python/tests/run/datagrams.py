@@ -1,0 +1,87 @@
+"""`hinge udp` that runs, and datagrams that go there and back through it."""
+
+from __future__ import annotations
+
+import contextlib
+import re
+import resource
+import signal
+import socket
+import subprocess
+import tempfile
+import time
+import unittest
+from typing import Iterator, Optional
+
+from linked import HINGE, found
+
+# bytes of a datagram, 1,000 with its headers; the seconds that it takes there and back at 8 Mbit/s and 2 x 20 ms
+SIZE, ROUND = 972, 0.041
+LOOPBACK = {socket.AF_INET: "127.0.0.1", socket.AF_INET6: "::1"}
+
+
+class Path:
+    """`hinge udp` that runs: where it listens, and in the end its status and what it said."""
+
+    def __init__(self, *words: object, files: Optional[int] = None) -> None:
+        """With `files`, so many descriptors at most."""
+        limit = (lambda: resource.setrlimit(resource.RLIMIT_NOFILE, (files, files))) if files else None
+        self.process = subprocess.Popen(
+            [*HINGE, "udp", *map(str, words)], text=True, stdin=subprocess.DEVNULL, stdout=subprocess.PIPE,
+            stderr=subprocess.PIPE, preexec_fn=limit
+        )
+        assert self.process.stdout
+        self.port = int(self.process.stdout.readline().rpartition(":")[2] or 0)
+
+    def ended(self) -> tuple[int, str]:
+        said = self.process.communicate(timeout=30)[1]
+        return self.process.returncode, said
+
+    def end(self, number: int = signal.SIGTERM) -> tuple[int, str]:
+        self.process.send_signal(number)
+        return self.ended()
+
+
+@contextlib.contextmanager
+def sockets(count: int, family: int = socket.AF_INET) -> Iterator[list[socket.socket]]:
+    """UDP sockets at free ports of this machine; what they wait for comes within five seconds."""
+    with contextlib.ExitStack() as stack:
+        made = [stack.enter_context(socket.socket(family, socket.SOCK_DGRAM)) for _ in range(count)]
+        for one in made:
+            one.bind((LOOPBACK[family], 0))
+            one.settimeout(5)
+        yield made
+
+
+def port_of(one: socket.socket) -> int:
+    return int(one.getsockname()[1])
+
+
+def rounds(client: socket.socket, server: socket.socket, path: Path, count: int) -> list[float]:
+    """Seconds of so many rounds, one after the other, through the path and back; 0 where another datagram came."""
+    took = []
+    for number in range(count):
+        sent, begun = number.to_bytes(4, "big") + bytes(SIZE - 4), time.monotonic()
+        client.sendto(sent, (LOOPBACK[client.family], path.port))
+        came, source = server.recvfrom(65536)
+        server.sendto(came, source)
+        back = client.recv(65536)
+        took.append(time.monotonic() - begun if sent == came == back else 0.0)
+    return took
+
+
+def counts(said: str, way: str) -> dict[str, int]:
+    line = found(rf"hinge udp: {way}: (\d+ came.*)", said)[0]
+    return {words: int(number) for number, words in re.findall(r"(\d+) ([a-zA-Z ]+)", line)}
+
+
+class InAFolder(unittest.TestCase):
+    def setUp(self) -> None:
+        folder = tempfile.TemporaryDirectory()
+        self.addCleanup(folder.cleanup)
+        self.folder = folder.name
+
+    def written(self, name: str, text: str) -> str:
+        with open(f"{self.folder}/{name}", "w") as file:
+            file.write(text)
+        return file.name

@@ -1,0 +1,35 @@
+"""A run of `hinge net`, and what it leaves in its folder."""
+
+from __future__ import annotations
+
+import json
+import tempfile
+import unittest
+from pathlib import Path
+from typing import Any
+
+from linked import Done, audited_as_lawful, hinge
+
+
+class InAFolder(unittest.TestCase):
+    def setUp(self) -> None:
+        folder = tempfile.TemporaryDirectory()
+        self.addCleanup(folder.cleanup)
+        self.folder = Path(folder.name)
+        self.file = self.folder / "x.net"
+
+    def net(self, text: str, *words: str, seconds: float = 60) -> Done[str]:
+        """A run, whose transcript and summary are in `out`."""
+        self.file.write_text(text)
+        return hinge("net", self.file, "--transcripts", self.folder / "out", *words, seconds=seconds)
+
+    def summary(self) -> Any:
+        return json.loads((self.folder / "out" / "net.json").read_text())
+
+    def history(self) -> str:
+        audited_as_lawful(self, self.folder / "out" / "net.history")
+        return (self.folder / "out" / "net.history").read_text()
+
+    def packets(self) -> dict[str, int]:
+        """How many came, by the ways that had any."""
+        return {f"{way['from']} > {way['to']}": way["came"] for way in self.summary()["ways"] if way["came"]}

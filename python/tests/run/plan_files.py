@@ -1,0 +1,15 @@
+"""Files that a plan is made of."""
+
+from __future__ import annotations
+
+import tempfile
+import unittest
+
+
+class OfFiles(unittest.TestCase):
+    def file(self, data: "str | bytes") -> str:
+        file = tempfile.NamedTemporaryFile()
+        self.addCleanup(file.close)
+        file.write(data if isinstance(data, bytes) else data.encode())
+        file.flush()
+        return file.name

@@ -1,0 +1,119 @@
+"""Histories of runs in simulated time: lawful, plain, and those of a shaper that writes one."""
+
+from __future__ import annotations
+
+import subprocess
+import tempfile
+import unittest
+from pathlib import Path
+
+from hingetulip import LineError, Outcome, RefusedError
+from hingetulip.recorded import RecordedShaper
+from simulated_hosts import PROGRAM, exchange, network
+
+MS = 10**6  # ns
+
+
+class Number:
+    """A whole number that is no int."""
+
+    def __index__(self) -> int:
+        return 7
+
+
+class Histories(unittest.TestCase):
+    def test_a_history_is_lawful_and_plain(self) -> None:
+        with tempfile.TemporaryDirectory() as folder:
+            history = Path(folder) / "h"
+            with network("bw 64Kbit/s plr 0.1 queue 2", history=history) as net:
+                async def main() -> None:
+                    net.loop.call_later(0.1, lambda: net.links[tuple(net.hosts.values())].change(bw="32Kbit/s"))
+                    await exchange(net, 200, 0.002)
+
+                net.run(main())
+                dropped = list(net.dropped)
+            self.assertEqual({it.outcome for it in dropped}, {Outcome.LOST, Outcome.FULL})
+            lines = history.read_text().splitlines()
+            done = subprocess.run([PROGRAM, "audit", history], capture_output=True, text=True)
+        self.assertRegex(done.stdout, r"^lawful \d+\n$")
+        self.assertEqual(lines[0], "dummynet-history,3")
+        self.assertEqual([it for it in lines if it.startswith("#")], [])
+        replies = [reply for call, reply in zip(lines, lines[1:]) if call.startswith("c,0,submit")]
+        self.assertEqual([it.row for it in dropped],
+                         [row for row, reply in enumerate(replies, 1) if not reply.startswith("r,queued")])
+
+
+    def test_lines_that_are_refused_or_say_nothing(self) -> None:
+        with tempfile.TemporaryDirectory() as folder:
+            history = Path(folder) / "h"
+            with network("8Mbit/s", history=history) as net:
+                async def main() -> None:
+                    await exchange(net, 3, 1)
+                    for line, error in (
+                        ("queue 9 config pipe 999", RefusedError), ("pipe 7 delete", RefusedError),
+                        ("pipe 1 bad", LineError)
+                    ):
+                        with self.assertRaises(error):
+                            net.obey(line)
+                    for line in ("# nothing", "pipe 2\rconfig  delay 5ms # a note", "pipe delete 2"):
+                        net.obey(line)
+
+                net.run(main())
+            lines = history.read_text().splitlines()
+            done = subprocess.run([PROGRAM, "audit", history], capture_output=True, text=True)
+        self.assertRegex(done.stdout, r"^lawful \d+\n$")
+        self.assertEqual(
+            [
+                ("c,0,configure,queue 9 config pipe 999", "r,no-such-pipe"),
+                ("c,0,configure,pipe 7 delete", "r,no-such-pipe"),
+                ("c,0,configure,pipe 2 config delay 5ms", "r,configured"), ("c,0,configure,pipe delete 2", "r,deleted")
+            ],
+            [pair for pair in zip(lines, lines[1:]) if pair[0].startswith("c,0,configure")][2:],
+        )
+
+
+class Recorded(unittest.TestCase):
+    def test_calls_of_a_recorded_shaper(self) -> None:
+        with tempfile.TemporaryDirectory() as folder:
+            history = Path(folder) / "h"
+            with RecordedShaper(history, seed=1) as shaper:
+                for line in (
+                    "pipe 1 config bw 8Mbit/s # a note", bytearray(b"queue 1 config pipe 1"), "# nothing",
+                    "queue delete 1", "pipe 1\rconfig\tbw\r8Mbit/s"
+                ):
+                    shaper.configure(line)
+                for line, error in (
+                    (b"pipe \xff", LineError), ("queue delete 1", RefusedError), ("queue 1 config pipe 9", RefusedError)
+                ):
+                    with self.assertRaises(error):
+                        shaper.configure(line)
+                shaper.submit(0, 1000, pipe=1)
+                shaper.submit(0, 1000, pipe=2)
+                shaper.submit(True, 1000, pipe=True, queue=None, dst=Number())
+                shaper.advance(5)
+                self.assertEqual([it.due for it in shaper.collect(MS)], [MS])
+                shaper.collect(0)
+                for call, given in ((shaper.submit_many, None), (shaper.collect_many, 0)):
+                    with self.assertRaises(NotImplementedError):
+                        call(given)
+            done = subprocess.run([PROGRAM, "audit", history], capture_output=True, text=True)
+        self.assertEqual(done.stdout, "lawful 12\n")
+
+    def test_its_texts_are_the_programs(self) -> None:
+        with tempfile.TemporaryDirectory() as folder:
+            history = Path(folder) / "h"
+            with RecordedShaper(history, seed=2) as shaper:
+                shaper.configure("pipe 1 config bw 8000000bit/s queue 20 plr 0.500000000000000000")
+                for i in range(300):
+                    shaper.submit(i * MS // 2, 65535 if i % 50 == 0 else 500, pipe=1 + i % 7 // 6, src=2**32 - 1 - i, dport=65535 - i)
+                    if i % 3 == 0:
+                        shaper.advance(i * MS // 3)
+                    if i % 40 == 0:
+                        shaper.collect(i * MS // 4)
+                self.assertGreater(len(shaper.collect(10**10)), 10)
+            text = history.read_bytes()
+        calls = b"".join(line for line in text.splitlines(keepends=True) if line.startswith(b"c,"))
+        done = subprocess.run([PROGRAM, "live"], input=calls, capture_output=True)
+        self.assertEqual(done.stdout.partition(b"\n")[2], text.partition(b"\n")[2])
+        for reply in (b"\nr,lost,", b"\nr,full,", b"\nr,no-target,", b"\nd,"):
+            self.assertIn(reply, text)
