@@ -1,5 +1,5 @@
-"""A replay by 1 to 8 threads writes what one by one thread does: over the cases of the independent reference, and over
-long packet files, also with rows that only csv reads and with faults.
+"""A replay by 1 to 8 threads, and by as many as it takes without the option, writes what one by one thread does: over the
+cases of the independent reference, and over long packet files, also with rows that only csv reads and with faults.
 
     python3 tools/gate/threads.py PROGRAM SEED COUNT
 
@@ -31,7 +31,7 @@ SOME_THREADS = (2, 5)
 USAGE = 2
 HEADER = "moment,target,number,src,dst,proto,sport,dport,len,word\n"
 CONFIG = "".join(f"pipe {n} config bw {n}Mbit/s delay {n}ms queue {2 * n} plr 0.05\n" for n in range(1, 6))
-ROWS = 75_000  # 5 MB: some steps for two threads
+ROWS = 75_000  # 5 MB: some steps for two threads, and some threads without the option
 
 
 class Packets(NamedTuple):
@@ -90,12 +90,12 @@ def try_long(tally: Tally, program: str, seed: str) -> None:
             (place / "config").write_text(CONFIG)
             (place / "packets").write_bytes(packets.text.encode())
             for words, counts in (([], THREADS), (["--history", "history"], SOME_THREADS)):
-                one = outcome(program, place, words)
-                for n in counts:
-                    many = outcome(program, place, [*words, "--threads", str(n)])
+                one = outcome(program, place, [*words, "--threads", "1"])
+                for option in [[], *(["--threads", str(n)] for n in counts if n > 1)]:
+                    many = outcome(program, place, [*words, *option])
                     wrong = [first_difference(a, b) for a, b in zip(one[1:], many[1:]) if a != b]
                     wrong += [] if one[0] == many[0] else [f"status: want {one[0]}, got {many[0]}"]
-                    tally.note(" ".join([packets.name, "by", str(n), "threads", *words]), *wrong)
+                    tally.note(" ".join([packets.name, *words, *option]), *wrong)
 
 
 def by_threads(folder: Path, name: str, n: int) -> str:
