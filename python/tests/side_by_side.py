@@ -4,6 +4,7 @@ from __future__ import annotations
 
 import os
 import re
+import signal
 import subprocess
 import sys
 import unittest
@@ -41,6 +42,8 @@ def told_of(words: list[str], name: str) -> tuple[int, int]:
 
 def all_tried(folder: Path, words: list[str]) -> int:
     """Tries all files of the folder by `words NAME` each, the largest first."""
+    # A shell's command in the background ignores it, and so would the programs that the tests interrupt.
+    signal.signal(signal.SIGINT, signal.default_int_handler)
     files = sorted(folder.glob("test_*.py"), key=lambda one: -one.stat().st_size)
     with ThreadPoolExecutor(len(os.sched_getaffinity(0))) as pool:
         sums = list(pool.map(lambda one: told_of(words, one.stem.removeprefix("test_")), files))
