@@ -2,6 +2,7 @@
 
 from __future__ import annotations
 
+import contextlib
 import os
 import shutil
 import subprocess
@@ -85,7 +86,10 @@ class Shard(unittest.TestCase):
         ours, theirs = os.openpty()
         done = subprocess.run([program(), config, packets], stdout=subprocess.PIPE, stderr=theirs)
         os.close(theirs)
-        told = os.read(ours, 1000)
+        told = b""
+        with contextlib.suppress(OSError):  # which is the end of a terminal
+            while part := os.read(ours, 1000):
+                told += part
         os.close(ours)
         self.assertEqual((done.returncode, done.stdout.count(b"\nout,"), told), (0, 1, 4 * b"\r\x1b[K"))
 
