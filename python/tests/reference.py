@@ -8,7 +8,7 @@ from pathlib import Path
 from typing import Iterable, Optional, Sequence
 
 TOOLS = Path(__file__).resolve().parents[2] / "tools"
-sys.path[:0] = [str(TOOLS), str(TOOLS / "oracle")]
+sys.path[:0] = [str(TOOLS / "reference"), str(TOOLS / "oracle")]
 
 import hingetulip  # noqa: E402
 import model  # noqa: E402

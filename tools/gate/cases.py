@@ -2,7 +2,7 @@
 
     python3 tools/gate/cases.py PROGRAM SEED COUNT FOLDER
 
-FOLDER has to be empty. tools/program_cases.py writes the cases, and tools/run_cases.py runs the program over them.
+FOLDER has to be empty. tools/reference/program_cases.py writes the cases, and tools/reference/run_cases.py runs the program over them.
 """
 
 from __future__ import annotations
@@ -16,8 +16,8 @@ TOOLS = Path(__file__).resolve().parent.parent
 
 def main(program: str, seed: str, count: str, folder: str) -> int:
     print(f"seed {seed}", flush=True)
-    subprocess.run([sys.executable, TOOLS / "program_cases.py", seed, count, folder], check=True, stdout=subprocess.DEVNULL)
-    return subprocess.run([sys.executable, TOOLS / "run_cases.py", program, folder]).returncode
+    subprocess.run([sys.executable, TOOLS / "reference" / "program_cases.py", seed, count, folder], check=True, stdout=subprocess.DEVNULL)
+    return subprocess.run([sys.executable, TOOLS / "reference" / "run_cases.py", program, folder]).returncode
 
 
 if __name__ == "__main__":

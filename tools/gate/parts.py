@@ -96,7 +96,7 @@ def parts(cases: str, seed: int, program: str) -> list[Part]:
         *growths(),
         Part("cases of the reference", [python, "tools/gate/cases.py", *words, str(RANDOM_CASES), cases]),
         Part("replays by threads", [python, "tools/gate/threads.py", *words, str(CASES_BY_THREADS)]),
-        Part("replays by callers", [python, "tools/callers_checks.py", *words, str(RUNS_BY_CALLERS)]),
+        Part("replays by callers", [python, "tools/reference/callers_checks.py", *words, str(RUNS_BY_CALLERS)]),
         Part("live sessions", [python, "tools/gate/live.py", *words, str(LIVE_SESSIONS)]),
         Part("the C library", [python, "tools/gate/c_library.py", str(seed), str(SCENARIOS_IN_C)], "gcc"),
         Part("the service from C", [python, "tools/gate/c_service.py", *words, str(SERVICES_IN_C)], "gcc", True),

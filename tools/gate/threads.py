@@ -3,7 +3,7 @@ cases of the independent reference, and over long packet files, also with rows t
 
     python3 tools/gate/threads.py PROGRAM SEED COUNT
 
-COUNT is that of the random cases of tools/program_cases.py. The report, the history, the fault and the status are
+COUNT is that of the random cases of tools/reference/program_cases.py. The report, the history, the fault and the status are
 compared.
 """
 
@@ -22,7 +22,7 @@ from typing import NamedTuple
 from tally import Tally
 
 TOOLS = Path(__file__).resolve().parent.parent
-sys.path.insert(0, str(TOOLS))
+sys.path.insert(0, str(TOOLS / "reference"))
 
 from run_cases import faults_of, first_difference  # noqa: E402
 
@@ -118,7 +118,7 @@ def is_replay(folder: Path, name: str) -> bool:
 def try_cases(tally: Tally, program: str, seed: str, count: str) -> None:
     with TemporaryDirectory() as place:
         folder = Path(place, "cases")
-        words = [sys.executable, str(TOOLS / "program_cases.py"), seed, count, str(folder)]
+        words = [sys.executable, str(TOOLS / "reference" / "program_cases.py"), seed, count, str(folder)]
         subprocess.run(words, check=True, stdout=subprocess.DEVNULL)
         names = [f.stem for f in sorted(folder.glob("*.args")) if is_replay(folder, f.stem)]
         cases = [by_threads(folder, name, n) for name in names for n in THREADS]

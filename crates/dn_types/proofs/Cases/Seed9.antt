@@ -1,4 +1,4 @@
--- Random lists of calls with the replies of an independent reference, written by tools/definition_cases.py.
+-- Random lists of calls with the replies of an independent reference, written by tools/reference/definition_cases.py.
 use Rattle.std.specs.Prelude.{[], ◌∷◌, refl, Some, None}
 use Rattle.dn_types.proofs.ExampleWords.{Answers, ◌⇒◌, tuple, mask, no_mask, packet, delivery, key, status}
 use Rattle.dn_types.specs.declared.call.Call.TheVariants.{Configure, Submit, Advance, Collect, Show}

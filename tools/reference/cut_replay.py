@@ -1,7 +1,7 @@
 #!/usr/bin/env python3
 """Replays random packet files whole and cut by pipes, and compares the reports.
 
-    tools/cut_replay.py PROGRAM FROM TO        the seeds FROM to TO - 1, as tools/cut_replay.py ./dummynet 0 60
+    tools/reference/cut_replay.py PROGRAM FROM TO        the seeds FROM to TO - 1, as tools/reference/cut_replay.py ./dummynet 0 60
 
 Each pipe's part is replayed from its own configuration lines and its own packets, each at its effective moment. It must report
 the same events at the same moments in the same order. Rows, flows and packets are numbered by their rank in the part. The laws

@@ -1,6 +1,6 @@
 """What the growth of virtual time costs: longest times on a shared link, by this project's rule and by that of the papers.
 
-    python3 tools/virtual_time_cost.py [PROGRAM]
+    python3 tools/reference/virtual_time_cost.py [PROGRAM]
 
 Here virtual time grows after a pick by the packet's length over the sum of the weights of the *heads*. In WF2Q+ as Bennett and
 Zhang have it (1997) it grows with time, at the link's rate over the sum of *all* weights. Each scenario is replayed by the program
@@ -204,7 +204,7 @@ def tell_shares(program: str) -> None:
 
 
 def main() -> None:
-    beside = Path(__file__).resolve().parent.parent / "dummynet"
+    beside = Path(__file__).resolve().parents[2] / "dummynet"
     program = sys.argv[1] if len(sys.argv) > 1 else str(beside)
     tell_times(program)
     print()

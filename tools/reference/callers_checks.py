@@ -1,6 +1,6 @@
 """Replays random packet files by several callers, and judges each run by the independent reference.
 
-    python3 tools/callers_checks.py PROGRAM SEED COUNT
+    python3 tools/reference/callers_checks.py PROGRAM SEED COUNT
 
 In which order the calls of the callers fall is theirs. A run is right if its history is lawful, caller 0 made the
 configuration's calls first and the Collect last, row i, from 1, was submitted by caller (i - 1) mod N, each caller's rows
@@ -16,7 +16,7 @@ from pathlib import Path
 from random import Random
 from tempfile import TemporaryDirectory
 
-sys.path.insert(0, str(Path(__file__).parent / "oracle"))
+sys.path.insert(0, str(Path(__file__).parent.parent / "oracle"))
 
 from definitions import first_difference  # noqa: E402
 from files import read_line, read_packets, report, split_lines  # noqa: E402

@@ -1,6 +1,6 @@
 """Writes random lists of calls with the reference's replies as theorems that the prover computes.
 
-    python3 tools/definition_cases.py CRATE COUNT CALLS SEED..      (those kept: crates/dn_types 40 30 9 14 41 88)
+    python3 tools/reference/definition_cases.py CRATE COUNT CALLS SEED..      (those kept: crates/dn_types 40 30 9 14 41 88)
 
 The lists go into files SeedN.antt in CRATE/proofs/Cases, which CRATE/proofs/Cases.antt names. Each
 theorem says that the definitions answer the calls as tools/oracle/definitions.py does, and is shown by `refl`. COUNT lists
@@ -15,7 +15,7 @@ import sys
 from pathlib import Path
 from random import Random
 
-sys.path.insert(0, str(Path(__file__).parent / "oracle"))
+sys.path.insert(0, str(Path(__file__).parent.parent / "oracle"))
 
 import mutants  # noqa: E402
 from definitions import run  # noqa: E402
@@ -149,7 +149,8 @@ def file_text(taken) -> str:
     words = set(body.replace("(", " ").replace(")", " ").split())
     plain = lambda w: {"[]": "[]", "◌∷◌": "∷", "◌⇒◌": "⇒"}.get(w, w.split()[-1])
     uses = [f"use {file}.{{{', '.join(w for w in names if plain(w) in words)}}}\n" for file, names in IMPORTS]
-    return "-- Random lists of calls with the replies of an independent reference, written by tools/definition_cases.py.\n" + "".join(uses) + body
+    head = "-- Random lists of calls with the replies of an independent reference, written by tools/reference/definition_cases.py.\n"
+    return head + "".join(uses) + body
 
 
 def parts(taken):

@@ -1,6 +1,6 @@
-"""Runs a program over the cases of tools/program_cases.py.
+"""Runs a program over the cases of tools/reference/program_cases.py.
 
-    python3 tools/run_cases.py PROGRAM FOLDER [PREFIX]
+    python3 tools/reference/run_cases.py PROGRAM FOLDER [PREFIX]
 
 PROGRAM may have several words, as 'python3 tools/oracle/program.py'. Only cases whose name begins with PREFIX are run,
 each in a folder of its own that holds its files. A line is printed for each difference, and the last line is

@@ -1,6 +1,6 @@
 """Writes one history with thousands of links, with the replies of tools/oracle/fast.py.
 
-    python3 tools/many_links_cases.py SEED PACKETS      (crates/check_histories reads it, by `rt try` or as it is built)
+    python3 tools/reference/many_links_cases.py SEED PACKETS      (crates/check_histories reads it, by `rt try` or as it is built)
 
 The packets go to the 16,384 flows of pipe 1, each with a link of its own, and one in ten to a queue on pipe 2. A link is
 made for each flow that is seen, so 20,000 packets make some 11,000. Collects, Advances and new bandwidths come in between,
@@ -14,7 +14,7 @@ import sys
 from pathlib import Path
 from random import Random
 
-sys.path.insert(0, str(Path(__file__).parent / "oracle"))
+sys.path.insert(0, str(Path(__file__).parent.parent / "oracle"))
 
 from fast import FastDummynet  # noqa: E402
 from history import history_text  # noqa: E402

@@ -1,6 +1,6 @@
 """Writes big inputs of the program, the same for the same arguments.
 
-    python3 tools/big_inputs.py SEED ROWS FLOWS FOLDER [--load L] [--form F] [--slots N] [--expect]
+    python3 tools/reference/big_inputs.py SEED ROWS FLOWS FOLDER [--load L] [--form F] [--slots N] [--expect]
 
 Writes FOLDER/big-F-ROWS-FLOWS.config, .packets and .joined. Forms:
   queues   one pipe with FLOWS queues (at most 10,000) of weights 1 to 100: one shared link
@@ -18,7 +18,7 @@ import sys
 from pathlib import Path
 from random import Random
 
-sys.path.insert(0, str(Path(__file__).parent / "oracle"))
+sys.path.insert(0, str(Path(__file__).parent.parent / "oracle"))
 
 from fast import FastDummynet  # noqa: E402
 from files import LIMITS, PACKET_HEADER, report  # noqa: E402

@@ -1,6 +1,6 @@
 """Writes random lists of calls with the reference's replies as histories, one after the other.
 
-    python3 tools/shaper_cases.py SEED COUNT CALLS      (those kept in crates/check_histories/stdin: 10 100 45)
+    python3 tools/reference/shaper_cases.py SEED COUNT CALLS      (those kept in crates/check_histories/stdin: 10 100 45)
 
 Each of the COUNT histories has some CALLS calls, and its first record says the rule: version 2 is Free, which is one in
 five, and version 3 is Ordered. The replies are those of tools/oracle/definitions.py, and the program ends where
@@ -15,7 +15,7 @@ from collections import Counter
 from pathlib import Path
 from random import Random
 
-sys.path.insert(0, str(Path(__file__).parent / "oracle"))
+sys.path.insert(0, str(Path(__file__).parent.parent / "oracle"))
 
 from definition_cases import refuses, wrong_bodies  # noqa: E402
 from definitions import run  # noqa: E402

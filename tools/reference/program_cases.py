@@ -1,6 +1,6 @@
 """Writes cases of the program, each with what it has to write and its status by the independent reference.
 
-    python3 tools/program_cases.py SEED COUNT FOLDER
+    python3 tools/reference/program_cases.py SEED COUNT FOLDER
 
 A case NAME is these files of FOLDER, which has to be empty:
   NAME.args     the command line, one word a line
@@ -11,7 +11,7 @@ A case NAME is these files of FOLDER, which has to be empty:
 Where NAME.stdout is absent the streams aren't compared (help and usage, whose text the program has from a library).
 The fixed cases are the same for every SEED. COUNT random ones follow, of four kinds in turn: joined inputs, two files,
 faulty configurations and faulty packet files, then a quarter as many that ask for the history, half of these by a service of
-one caller, and half as many audits of histories. `tools/run_cases.py` runs a program over them.
+one caller, and half as many audits of histories. `tools/reference/run_cases.py` runs a program over them.
 """
 
 from __future__ import annotations
@@ -24,7 +24,7 @@ from random import Random
 from tempfile import TemporaryDirectory
 from typing import Optional
 
-sys.path.insert(0, str(Path(__file__).parent / "oracle"))
+sys.path.insert(0, str(Path(__file__).parent.parent / "oracle"))
 
 from broken import bad_line, damaged_record, random_words_line  # noqa: E402
 from files import PACKET_HEADER  # noqa: E402
