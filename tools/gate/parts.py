@@ -123,7 +123,7 @@ def parts(cases: str, seed: int, program: str) -> list[Part]:
         Part("hardening of what is released", [python, "tools/gate/hardening.py"], "readelf"),
         Part("the texts of edits", [python, "tools/edit_controls.py", "--missing"]),
         Part("doc comments", [python, "tools/gate/doc_comments.py"]),
-        Part("words of the laws", [python, "tools/pinned_words.py"]),
+        Part("words of the laws", [python, "tools/laws/pinned_words.py"]),
         Part("the tables of CONTRIBUTING", [python, "tools/gate/contributing.py"], "git"),
         Part("types of Python", [python, "tools/gate/python_types.py"], "mypy"),
         Part("samples of the READMEs", [python, "tools/gate/samples.py"]),

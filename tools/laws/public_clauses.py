@@ -1,6 +1,6 @@
 """Compares the contracts of all public functions of the crates at two revisions.
 
-    python3 tools/public_clauses.py BASE [NEW]
+    python3 tools/laws/public_clauses.py BASE [NEW]
 
 NEW is the working tree if it isn't given. A clause is `requires`, `ensures` or `succeeds` with its name and its text, spaces
 folded. Printed are the functions that went, those that came, and of each function the clauses that went and came. "Inside" is
@@ -16,7 +16,7 @@ import sys
 from pathlib import Path
 from typing import NamedTuple
 
-ROOT = Path(__file__).resolve().parent.parent
+ROOT = Path(__file__).resolve().parents[2]
 EXPORT = re.compile(r"^pub use ([^;]*);", re.M)
 KEYWORDS = re.compile(r"\b(requires|ensures|succeeds)\b")
 HEAD = re.compile(r"^\s*pub (?:const )?fn (\w+)", re.M)

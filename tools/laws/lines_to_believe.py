@@ -3,7 +3,7 @@
 specs/, by lines and by characters, and how many lines there are of each subject: the emulation, the service, and the formats of files.
 Comments, imports and blank lines don't count, and neither do the toolchain's own words.
 
-    python3 tools/lines_to_believe.py          (in the top folder; prints a table in Markdown)
+    python3 tools/laws/lines_to_believe.py          (in the top folder; prints a table in Markdown)
 """
 
 from __future__ import annotations

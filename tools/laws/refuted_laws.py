@@ -1,13 +1,13 @@
 #!/usr/bin/env python3
 """Asks the prover to refute a law under each wrong definition: to prove that the law is false of it.
 
-    tools/refuted_laws.py              tries every row of wrong_definitions.py that has a file in tools/refuted
-    tools/refuted_laws.py 3 17         tries these rows alone
-    tools/refuted_laws.py --list       prints the rows and their files, and tries nothing
+    tools/laws/refuted_laws.py              tries every row of wrong_definitions.py that has a file in tools/laws/refuted
+    tools/laws/refuted_laws.py 3 17         tries these rows alone
+    tools/laws/refuted_laws.py --list       prints the rows and their files, and tries nothing
 
 wrong_definitions.py shows that the proof of a law doesn't go through under a wrong definition. That is weaker than that
 the law is false of it: a proof may only mirror the definition, and be repaired. Here the law is refuted. A file of
-tools/refuted has lemmas `NAME : LAW → ⊥`, each at an example, and a comment with the name of its row. They end in
+tools/laws/refuted has lemmas `NAME : LAW → ⊥`, each at an example, and a comment with the name of its row. They end in
 .proof, since `rt ci` wants each .antt file in a crate. Each is proved in a copy of dn_types and dn_laws in one crate.
 It has the specs with the row's wrong definition, but no proof of the crates: so nothing in it mirrors a definition. Of the right
 definitions the same file must not be proved. A row passes where both hold and one of its lemmas is about its own law.
@@ -25,8 +25,8 @@ from typing import Dict, List, NamedTuple, Sequence, Tuple, Union
 
 import wrong_definitions
 
-TOP = os.path.dirname(os.path.dirname(os.path.abspath(__file__)))
-REFUTED = os.path.join(TOP, 'tools', 'refuted')
+TOP = os.path.dirname(os.path.dirname(os.path.dirname(os.path.abspath(__file__))))
+REFUTED = os.path.join(TOP, 'tools', 'laws', 'refuted')
 WORDS = 'ExampleWords'
 ANSWER = '''use Rattle.dn_types.proofs.Refuted%d.{%s}
 use Rattle.dn_types.proofs.laws.%s.Goals as goal
@@ -42,7 +42,7 @@ Row = Tuple[str, Union[str, Tuple[str, ...]], Texts, Texts, str, str]
 
 
 class Refutation(NamedTuple):
-    """A file of tools/refuted: the name of its row, its text, and its lemmas, each with the law that it refutes."""
+    """A file of tools/laws/refuted: the name of its row, its text, and its lemmas, each with the law that it refutes."""
     row: str
     text: str
     lemmas: List[Tuple[str, str]]
@@ -68,7 +68,7 @@ def laws_of_the_crate() -> Laws:
 
 
 def read_refutations() -> Dict[str, Refutation]:
-    """The files of tools/refuted, by the names of their rows."""
+    """The files of tools/laws/refuted, by the names of their rows."""
     by_row = {}
     for name in sorted(os.listdir(REFUTED)):
         with open(os.path.join(REFUTED, name)) as file:

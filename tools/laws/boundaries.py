@@ -1,6 +1,6 @@
 """Takes clauses away from the contracts that dn_shaper stands on, and asks whether dn_shaper still proves.
 
-    python3 tools/boundaries.py COPY [WORD..]
+    python3 tools/laws/boundaries.py COPY [WORD..]
 
 COPY is a copy of the repository with the `out` folders of a whole check, which this program changes. A clause is taken away
 by `⊤` in its place, so that its name stays and only what it says is gone. Each round takes away one clause each of several
@@ -21,7 +21,7 @@ import subprocess
 import sys
 
 HEAP = "heap_of_links"
-TABLE = pathlib.Path(__file__).resolve().parent.parent / "out" / "boundaries.md"
+TABLE = pathlib.Path(__file__).resolve().parents[2] / "out" / "boundaries.md"
 # The functions of dn_shaper that call a function of a crate below, by file.
 CALLERS = {
     f"{HEAP} run_heap": {

@@ -1,12 +1,12 @@
 #!/usr/bin/env python3
 """Tries wrong definitions of dn_types one at a time, and asks that the laws of dn_laws refuse each.
 
-    tools/wrong_definitions.py              prints a table in Markdown: a law, and the wrong definitions that it refuses
-    tools/wrong_definitions.py 3 17         tries these rows alone
-    tools/wrong_definitions.py --list       prints the rows and tries nothing
-    tools/wrong_definitions.py --table      prints the table as it is if each row is refused, and tries nothing
+    tools/laws/wrong_definitions.py              prints a table in Markdown: a law, and the wrong definitions that it refuses
+    tools/laws/wrong_definitions.py 3 17         tries these rows alone
+    tools/laws/wrong_definitions.py --list       prints the rows and tries nothing
+    tools/laws/wrong_definitions.py --table      prints the table as it is if each row is refused, and tries nothing
 
-In the table a row without a file in tools/refuted has a star: refuted_laws.py doesn't show that the law is false of it.
+In the table a row without a file in tools/laws/refuted has a star: refuted_laws.py doesn't show that the law is false of it.
 
 Each row changes one line of crates/dn_types/specs, or a few, in a copy that has both crates in one. The worked
 examples, the lists of calls and the witnesses are taken out of it. A row checks the function with the law that is false
@@ -22,7 +22,7 @@ import subprocess
 import sys
 import tempfile
 
-TOP = os.path.dirname(os.path.dirname(os.path.abspath(__file__)))
+TOP = os.path.dirname(os.path.dirname(os.path.dirname(os.path.abspath(__file__))))
 SET_ASIDE = ['Cases', 'ExamplesDeletes', 'ExamplesLinks', 'ExamplesWf2q', 'ShortListsFlows', 'ShortListsWf2q',
              'Witnesses', 'FairWitness', 'LawWitnesses', 'DeleteWitnesses', 'PartWitnesses',
              'ReadingWitnesses', 'ReplyWitnesses', 'WaitWitnesses']
@@ -454,8 +454,8 @@ def try_row(crate, row):
 
 
 def refuted_rows():
-    """The names of the rows with a file in tools/refuted: each file begins with one."""
-    folder = os.path.join(TOP, 'tools', 'refuted')
+    """The names of the rows with a file in tools/laws/refuted: each file begins with one."""
+    folder = os.path.join(TOP, 'tools', 'laws', 'refuted')
     names = set()
     for name in os.listdir(folder):
         with open(os.path.join(folder, name)) as file:

@@ -1,8 +1,8 @@
 #!/usr/bin/env python3
 """Tells which definitions of dn_types the laws use, and asks that the table of dn_laws' page names a law for each that pins it.
 
-    python3 tools/pinned_words.py           prints what fails; the last line is 'N passed, M failed'
-    python3 tools/pinned_words.py --list    prints each word with the laws that use it
+    python3 tools/laws/pinned_words.py           prints what fails; the last line is 'N passed, M failed'
+    python3 tools/laws/pinned_words.py --list    prints each word with the laws that use it
 
 A law says no more than its words. So each definition of dn_types that a law's statement uses is pinned by a law in words of
 calls, replies and events. crates/dn_laws/README.md has a table of them: words, and the functions and clauses that pin them. A row
@@ -101,7 +101,7 @@ def faults_of(row: Row, laws: Dict[Clause, Set[str]], definitions: Definitions, 
 
 def main(arguments: List[str]) -> int:
     """Prints what fails, and how many words pass."""
-    top = Path(__file__).resolve().parent.parent
+    top = Path(__file__).resolve().parents[2]
     definitions = read_specs(top)
     laws = read_laws(top, definitions)
     reached = set().union(*laws.values())
