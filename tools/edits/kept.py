@@ -14,9 +14,13 @@ from edits.prover import kit
 from edits.verdict import Verdict
 
 
+SCRIPTS = ("edit_controls.py", "mustfail_reasons.py")  # beside these modules; they judge no edit
+
+
 def own_sum() -> bytes:
-    """The text of these tools, since another text may judge otherwise."""
-    return b"".join(path.read_bytes() for path in sorted(Path(__file__).parent.glob("*.py")))
+    """The text of these modules, since another text may judge otherwise."""
+    modules = sorted(path for path in Path(__file__).parent.glob("*.py") if path.name not in SCRIPTS)
+    return b"".join(path.read_bytes() for path in modules)
 
 
 def folder() -> Path:

@@ -121,7 +121,7 @@ def parts(cases: str, seed: int, program: str) -> list[Part]:
         Part("the notices of the crates", [python, "tools/notices.py", "--check"], "rt"),
         Part("the manual pages", [python, "tools/gate/manual.py", program], "mandoc"),
         Part("hardening of what is released", [python, "tools/gate/hardening.py"], "readelf"),
-        Part("the texts of edits", [python, "tools/edit_controls.py", "--missing"]),
+        Part("the texts of edits", [python, "tools/edits/edit_controls.py", "--missing"]),
         Part("doc comments", [python, "tools/gate/doc_comments.py"]),
         Part("words of the laws", [python, "tools/laws/pinned_words.py"]),
         Part("the tables of CONTRIBUTING", [python, "tools/gate/contributing.py"], "git"),

@@ -5,11 +5,11 @@ An edit that adds code, a wrapper or a field would prove nothing if a change tha
 too. So for each edit of the table below the mistake is undone and the form kept, and the crate has to prove. Edits that
 only change a value have no entry: without the mistake they are the crate itself.
 
-Usage: tools/edit_controls.py [CRATE..] [CRATE/EDIT..]. It works in a copy of the repository, so the checkout stays as it is,
+Usage: tools/edits/edit_controls.py [CRATE..] [CRATE/EDIT..]. It works in a copy of the repository, so the checkout stays as it is,
 and prints a line for each control and then 'N controls prove, M do not'. The controls of a crate are tried together, and in
 halves where together they are refused. RT is the command that checks, `rt` without it.
 
-`tools/edit_controls.py --missing` needs no prover. It names the edits that add code and have no control, and the edits and the
+`tools/edits/edit_controls.py --missing` needs no prover. It names the edits that add code and have no control, and the edits and the
 controls that no longer fit the sources, and ends with 'N passed, M failed'.
 """
 from __future__ import annotations
@@ -24,11 +24,13 @@ import tempfile
 from collections.abc import Iterator
 from pathlib import Path
 
-from build_program import copied, crate_of
-from edits.edit import BOTH, Pair
-from edits.edit import pairs_of as pairs_of_text
+TOP = Path(__file__).resolve().parents[2]
+sys.path.insert(0, str(TOP / "tools"))
 
-TOP = Path(__file__).resolve().parent.parent
+from build_program import copied, crate_of  # noqa: E402
+from edits.edit import BOTH, Pair  # noqa: E402
+from edits.edit import pairs_of as pairs_of_text  # noqa: E402
+
 # An edit adds code where its new texts have more characters than this beyond the old ones, or more of these words.
 MOST_ADDED = 40
 NEW_CODE = re.compile(r"\b(?:fn|impl|trait|struct|enum|for|while|loop)\b")

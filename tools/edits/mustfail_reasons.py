@@ -1,6 +1,6 @@
 """Sorts why each edit was refused, from what `rt must-fail`, `rt ci`, tools/gate/edits.py or `./check` printed.
 
-    ./check | tee log; python3 tools/mustfail_reasons.py < log
+    ./check | tee log; python3 tools/edits/mustfail_reasons.py < log
 
 The kinds are those of tools/edits/verdict.py: only a promise or an answer tells something of the contract. An answer is
 a proof file that no longer fits: look whether its goal is a promise or the name of a step. The last line counts each
@@ -12,9 +12,12 @@ from __future__ import annotations
 import re
 import sys
 from collections import Counter
+from pathlib import Path
 from typing import Optional
 
-from edits.verdict import DECIDED, goal_of, kind_of
+sys.path.insert(0, str(Path(__file__).resolve().parent.parent))
+
+from edits.verdict import DECIDED, goal_of, kind_of  # noqa: E402
 
 BY_RT = re.compile(r"must-fail (\S+?)(?:\.edit)?: (refused, as it must be|NOT REFUSED|BAD EDIT|NOT TRIED)(.*)")
 BY_US = re.compile(r"edit (\S+): (?:refused.*?, (\w+): (\S+) at (\S+)|(NOT REFUSED|BAD EDIT|not tried))")
