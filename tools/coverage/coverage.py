@@ -1,7 +1,7 @@
 #!/usr/bin/env python3
 """How much of the hosts in C and of python/ the tests reach: lines and branches by file, and the sums.
 
-    python3 tools/coverage.py [--suites NAME,..] [--not-reached]
+    python3 tools/coverage/coverage.py [--suites NAME,..] [--not-reached]
                               [--least-c-lines N] [--least-c-branches N] [--least-python N]
 
 It builds the hosts by gcc for gcov into a folder of its own, and runs the suites of tests over them, with each Python
@@ -23,7 +23,7 @@ from tempfile import TemporaryDirectory
 from typing import Any, Iterator, NamedTuple
 
 HERE = Path(__file__).resolve().parent
-TOP = HERE.parent
+TOP = HERE.parents[1]
 HOSTS = {"link": "hinge-link", "shard": "hinge-shard", "clock": "hinge-clock.so"}
 COUNTED = ["-std=gnu17", "-O0", "-g", "-w", "-fPIC", "-pthread", "--coverage"]
 KEPT_AT_EXIT = """void __gcov_dump(void);
@@ -82,7 +82,7 @@ def build(name: str, folder: Path, library: Path) -> Path:
 
 def environment(folder: Path, python: str) -> dict[str, str]:
     """Names the hosts, and has each Python count."""
-    library = Path(subprocess.run([HERE / "library"], stdout=subprocess.PIPE, text=True, check=True).stdout.strip())
+    library = Path(subprocess.run([TOP / "tools" / "library"], stdout=subprocess.PIPE, text=True, check=True).stdout.strip())
     hosts = {f"HINGE_{name.upper()}": str(build(name, folder, library)) for name in HOSTS}
     start = {**os.environ, "PYTHONUSERBASE": str(folder / "user")}
     asked = [python, "-c", "import coverage, site; print(site.getusersitepackages(), coverage.__path__[0])"]

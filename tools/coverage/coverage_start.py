@@ -1,4 +1,4 @@
-"""What tools/coverage.py has each Python do at its start: count its lines, also where it ends by os._exit or execv.
+"""What tools/coverage/coverage.py has each Python do at its start: count its lines, also where it ends by os._exit or execv.
 
 A file `.pth` among a user's packages imports it. It does nothing unless COVERAGE_PROCESS_START names what to count.
 """

@@ -1,10 +1,10 @@
 #!/usr/bin/env python3
 """Changes one operator, number or word of the hosts in C or of python/ at a time, and asks whether a test sees it.
 
-    python3 tools/mutations.py c|python [--count N] [--seed N] [--files WORD]
+    python3 tools/coverage/mutations.py c|python [--count N] [--seed N] [--files WORD]
 
 Each change is built in a copy of this repository, and the quick tests of its file run until one fails. A change that
-no test sees is printed, unless tools/mutations.txt says why none can. It exits 1 if another is left. With --files it
+no test sees is printed, unless tools/coverage/mutations.txt says why none can. It exits 1 if another is left. With --files it
 takes only the files whose path has the word. As root the tests run among processes of their own, and can write only in
 the copy: a wrong program may end or remove anything. SIGTERM ends it early, with the counts so far.
 """
@@ -28,7 +28,7 @@ from typing import Any, Optional
 from mutants import Mutant, mutants
 
 HERE = Path(__file__).resolve().parent
-TOP = HERE.parent
+TOP = HERE.parents[1]
 TOLD = HERE / "mutations.txt"
 SUITES = {"module": "python/tests", "run": "python/tests/run", "kit": "python/tests/kit_tests"}
 TESTS = {  # by the beginning of a path, the first that fits: the tests that are quick and touch it
