@@ -4,5 +4,5 @@
 set -e
 cd "$(dirname "$0")/.."
 (cd crates/test_service && rt test -- memory_refuses)
-REFUSE_IN_A_ROW=2 exec tools/refused_growths.sh test_service one_caller::a_call_that_memory_refuses_leaves_no_trace \
+REFUSE_IN_A_ROW=2 exec tools/gate/refused_growths.sh test_service one_caller::a_call_that_memory_refuses_leaves_no_trace \
     one_caller::a_try_that_memory_refuses_leaves_no_trace

@@ -8,7 +8,7 @@ kit=$(dirname "$(rt doc | tail -1)")
 ours=crates/bench_sched/out/libbench_sched.a
 work=$(mktemp -d)
 trap 'rm -rf "$work"' EXIT
-cc -O2 -o "$work/refused" bench/sched_refused.c tools/refused_growths.c "$ours" "$kit/c/liblibc_c.a" \
+cc -O2 -o "$work/refused" bench/sched_refused.c tools/gate/refused_growths.c "$ours" "$kit/c/liblibc_c.a" \
     -Wl,--wrap=rattle_alloc,--wrap=rattle_realloc
 "$work/refused"
 rustc --edition 2021 -O -o "$work/sched" bench/sched.rs -L native=crates/bench_sched/out -l static=bench_sched \

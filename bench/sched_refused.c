@@ -1,6 +1,6 @@
 /* Refuses each growth of a run of the scheduler in turn, and tries the refused call once more. The order of the picks
    and virtual time must be those of the run in which none was refused. bench/sched.sh builds and runs it with
-   tools/refused_growths.c, which refuses. */
+   tools/gate/refused_growths.c, which refuses. */
 #include <stdbool.h>
 #include <stddef.h>
 #include <stdint.h>

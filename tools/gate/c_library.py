@@ -138,7 +138,7 @@ def main(seed: str, count: str) -> int:
         ends_well(tally, "arguments", [program(place, "arguments")])
         wrapped = "-Wl,--wrap=rattle_alloc,--wrap=rattle_realloc"
         for name in ("growths", "reserved"):
-            ends_well(tally, name, [program(place, name, TOOLS / "refused_growths.c", wrapped)])
+            ends_well(tally, name, [program(place, name, TOOLS / "gate" / "refused_growths.c", wrapped)])
     return tally.end()
 
 

@@ -128,7 +128,7 @@ def main(audit: str, seed: str, count: str) -> int:
             races(tally, place, compiler, [shared, f"-Wl,-rpath,{shared.parent}"])
         ends_well(tally, "arguments", [program(place, "service_arguments")])
         wrapped = "-Wl,--wrap=rattle_alloc,--wrap=rattle_realloc"
-        ends_well(tally, "growths", [program(place, "service_growths", TOOLS / "refused_growths.c", wrapped)])
+        ends_well(tally, "growths", [program(place, "service_growths", TOOLS / "gate" / "refused_growths.c", wrapped)])
     print(f"{entries} entries of histories")
     return tally.end()
 

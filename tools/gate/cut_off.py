@@ -3,8 +3,8 @@ takes it without its last entry, with an end.
 
     python3 tools/gate/cut_off.py PROGRAM
 
-It needs cc, for the preload that kills (tools/killed_writes.c). The program replays into two files and takes a live session, and Python's
-service writes a history. A transcript of hinge-link, whose moments are a clock's, is audited alone.
+It needs cc, for the preload that kills (tools/gate/killed_writes.c). The program replays into two files and takes a live session, and
+Python's service writes a history. A transcript of hinge-link, whose moments are a clock's, is audited alone.
 """
 
 from __future__ import annotations
@@ -20,7 +20,7 @@ from tally import Tally
 from testing import environment
 
 TOP = Path(__file__).resolve().parent.parent.parent
-SOURCE = TOP / "tools" / "killed_writes.c"
+SOURCE = TOP / "tools" / "gate" / "killed_writes.c"
 ROWS, CALLS, DATAGRAMS = 30_000, 100, 3_000
 CONFIG = "pipe 1 config bw 800Mbit/s queue 100\n"
 HEADER = "moment,target,number,src,dst,proto,sport,dport,len,word\n"

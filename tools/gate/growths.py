@@ -4,7 +4,7 @@
 
 TESTS is a module, as `heap::`, or the whole name of a test. With IN_A_ROW above 1 as many are refused one after the other. A refusal that
 nobody sees proves nothing: where each growth is refused, one test at least has to fail for want of memory, and where some in a row are, one
-at least has to make a call again. tools/refused_growths.sh does it, over the tests that were built.
+at least has to make a call again. tools/gate/refused_growths.sh does it, over the tests that were built.
 """
 
 from __future__ import annotations
@@ -23,7 +23,7 @@ ENDED = re.compile(r"^(\S+): each of \d+ growths refused in turn, .* made again 
 
 def main(crate: str, tests: str, in_a_row: str = "1") -> int:
     tally = Tally()
-    words = [TOP / "tools" / "refused_growths.sh", crate, tests]
+    words = [TOP / "tools" / "gate" / "refused_growths.sh", crate, tests]
     done = subprocess.run(words, stdout=subprocess.PIPE, stderr=subprocess.STDOUT, text=True, env={**os.environ, "REFUSE_IN_A_ROW": in_a_row})
     print(done.stdout, end="")
     broken = re.findall(r"^(\S+) fails where growth ", done.stdout, re.M)

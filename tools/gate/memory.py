@@ -3,7 +3,7 @@ has with ample memory.
 
     python3 tools/gate/memory.py PROGRAM
 
-It needs cc, for the allocator that refuses (tools/refused_growths.c). Before want of memory a report is written whole or not at
+It needs cc, for the allocator that refuses (tools/gate/refused_growths.c). Before want of memory a report is written whole or not at
 all, of a live session whole lines from its front, and an older history stays as it was.
 """
 
@@ -18,7 +18,7 @@ from tempfile import TemporaryDirectory
 from command_line import CONFIG, FILES, HISTORY, OLDER, PACKETS, SESSION, laid
 from tally import Tally
 
-SOURCE = Path(__file__).resolve().parent.parent / "refused_growths.c"
+SOURCE = Path(__file__).resolve().with_name("refused_growths.c")
 REFUSED = b"refused\n"
 WANT = b"out of memory\n"
 Outcome = tuple[int, bytes, bytes, str]

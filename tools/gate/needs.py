@@ -1,4 +1,4 @@
-"""Says which of the packages that the gate wants are missing here: tools/packages has the list.
+"""Says which of the packages that the gate wants are missing here: tools/gate/packages has the list.
 
     python3 tools/gate/needs.py [--missing]
 
@@ -16,7 +16,7 @@ import sys
 from pathlib import Path
 from typing import NamedTuple
 
-LIST = Path(__file__).resolve().parent.parent / "packages"
+LIST = Path(__file__).resolve().with_name("packages")
 LINE = re.compile(r"(\S+)(?: (\S+))?: (.+)")
 PATH = f"{os.environ.get('PATH', '')}:/usr/sbin:/sbin"
 

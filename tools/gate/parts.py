@@ -92,7 +92,7 @@ def parts(cases: str, seed: int, program: str) -> list[Part]:
         Part("the kit", ["python/tests/kit"]),
         Part("writers that are killed", [python, "tools/gate/cut_off.py", program], "cc"),
         Part("programs in simulated time", [python, "tools/gate/simulated.py", program], LINUX, True),
-        Part("limits of input", [python, "tools/limit_checks.py", program], is_long=True),
+        Part("limits of input", [python, "tools/gate/limit_checks.py", program], is_long=True),
         *growths(),
         Part("cases of the reference", [python, "tools/gate/cases.py", *words, str(RANDOM_CASES), cases]),
         Part("replays by threads", [python, "tools/gate/threads.py", *words, str(CASES_BY_THREADS)]),

@@ -1,5 +1,5 @@
 /* Refuses each growth of a run in turn: the call is answered DN_MEMORY and made again, and then no answer differs from those of
-   the run in which none was refused. It is linked with tools/refused_growths.c, which refuses. */
+   the run in which none was refused. It is linked with tools/gate/refused_growths.c, which refuses. */
 #include "hingetulip.h"
 #include <stdio.h>
 #include <string.h>

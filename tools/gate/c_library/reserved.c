@@ -1,5 +1,5 @@
 /* A sender in real time: room is made for each packet before it comes, and then its dn_submit takes no memory. The packets' flows are
-   known, on pipes of their own and on one that queues share. It is linked with tools/refused_growths.c, which counts growths. */
+   known, on pipes of their own and on one that queues share. It is linked with tools/gate/refused_growths.c, which counts growths. */
 #include "hingetulip.h"
 #include <stdio.h>
 #include <string.h>

@@ -1,5 +1,5 @@
 /* Refuses each growth of a run by two callers in turn: the call is answered DN_MEMORY and made again, and then no answer and no byte of
-   the history differ from those of the run in which none was refused. It is linked with tools/refused_growths.c, which refuses. */
+   the history differ from those of the run in which none was refused. It is linked with tools/gate/refused_growths.c, which refuses. */
 #include "hingetulip_service.h"
 #include <stdio.h>
 #include <string.h>

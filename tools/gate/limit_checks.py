@@ -1,6 +1,6 @@
 """The limits of input, at the last byte and one beyond it, and inputs that never end.
 
-    python3 tools/limit_checks.py PROGRAM
+    python3 tools/gate/limit_checks.py PROGRAM
 
 Files of up to 256 MiB are made in the folder for temporary files, and removed. PROGRAM may have several words. A line is
 printed for each difference, and the last line is 'N passed, M failed'.
@@ -16,7 +16,7 @@ from pathlib import Path
 from tempfile import TemporaryDirectory
 from typing import Iterator, NamedTuple
 
-sys.path.insert(0, str(Path(__file__).parent / "oracle"))
+sys.path.insert(0, str(Path(__file__).parent.parent / "oracle"))
 
 from files import LIMITS, PACKET_HEADER, REPORT_HEADER  # noqa: E402
 

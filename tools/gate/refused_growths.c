@@ -3,7 +3,7 @@
    there were. Where COUNTED names a file, it counts them there too, as a `long`, so that the count is known however the program
    ends. A program can also set `first_refused` itself. The scripts under bench/ link it. Compiled with PRELOADED as a
    shared library and loaded before a program that is linked already, it refuses what that program itself asks of malloc and
-   realloc, and nothing that the C library asks for its own ends: tools/refused_growths.sh and tools/gate/memory.py. */
+   realloc, and nothing that the C library asks for its own ends: tools/gate/refused_growths.sh and tools/gate/memory.py. */
 #define _GNU_SOURCE
 #include <fcntl.h>
 #include <link.h>

@@ -14,7 +14,7 @@ row=${REFUSE_IN_A_ROW:-1}
 hidden=$([ "$row" -gt 1 ] && echo 0 || echo 1)
 work=$(mktemp -d)
 trap 'rm -rf "$work"' EXIT
-cp "$here/../crates/$crate/out/${crate}_tests" "$work/tests"
+cp "$here/../../crates/$crate/out/${crate}_tests" "$work/tests"
 cc -O2 -shared -fPIC -DPRELOADED -o "$work/refusing.so" "$here/refused_growths.c"
 cd "$work"
 ulimit -c 0
