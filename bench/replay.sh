@@ -6,6 +6,6 @@ work=$(mktemp -d)
 trap 'rm -rf "$work"' EXIT
 CARGO_TARGET_DIR="$work" cargo build --quiet --release --offline --manifest-path bench/twin/Cargo.toml
 ./dummynet --version >&2
-program=built/$(tools/program_sources)/dummynet
+program=built/$(tools/release/program_sources)/dummynet
 [ -x "$program" ] || program=release/dummynet
 python3 bench/replay.py "$program" "$work/release/twin" "$@"

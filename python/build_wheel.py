@@ -78,11 +78,11 @@ class File(NamedTuple):
 
 def released(name: str, sources: str, crate: str) -> Path:
     """A file of the release, if it was built from the present sources."""
-    present = subprocess.run([TOP / "tools" / "program_sources", crate], capture_output=True, text=True,
+    present = subprocess.run([TOP / "tools" / "release" / "program_sources", crate], capture_output=True, text=True,
                              check=True).stdout
     noted = RELEASE / sources
     if not noted.is_file() or noted.read_text() != present:
-        raise SystemExit(f"release/{name} isn't of these sources: tools/release makes it anew")
+        raise SystemExit(f"release/{name} isn't of these sources: tools/release/release makes it anew")
     return RELEASE / name
 
 
@@ -124,7 +124,7 @@ def beside() -> Iterator[File]:
     for name in ("dummynet", "hinge"):
         yield File(f"{share}/man/man1/{name}.1", manual(f"{name}.1"))
         yield File(f"{share}/bash-completion/completions/{name}",
-                   (TOP / "tools" / f"{name}-completion.bash").read_bytes())
+                   (TOP / "tools" / "release" / f"{name}-completion.bash").read_bytes())
 
 
 def information() -> Iterator[File]:

@@ -8,7 +8,7 @@
    UDP, for a server at ADDRESS and PORT; and the page of counts. Without `tun` any ends do that keep packets whole: tests take sockets.
    What comes at the first end, from the client, is on way 0 and goes to pipe 1 where no rule says otherwise; way 1 comes back through
    pipe 2; of the second link ways 2 and 3 go through pipes 3 and 4, and so on. The links are libhingetulip's, pipes of one shaper; each
-   call and its reply go to one transcript, which `dummynet audit` judges. It ends by SIGTERM. tools/hosts builds it. */
+   call and its reply go to one transcript, which `dummynet audit` judges. It ends by SIGTERM. tools/release/hosts builds it. */
 #define _GNU_SOURCE
 #include <errno.h>
 #include <hingetulip.h>

@@ -40,7 +40,7 @@ def dummynet() -> str:
 
 
 def clock() -> str:
-    """The library that gives C code the simulated clock; tools/hosts builds it."""
+    """The library that gives C code the simulated clock; tools/release/hosts builds it."""
     return program_named("HINGE_CLOCK", "hinge-clock.so", "built/hinge-clock.so", "release/hinge-clock.so")
 
 

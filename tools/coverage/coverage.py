@@ -82,7 +82,7 @@ def build(name: str, folder: Path, library: Path) -> Path:
 
 def environment(folder: Path, python: str) -> dict[str, str]:
     """Names the hosts, and has each Python count."""
-    library = Path(subprocess.run([TOP / "tools" / "library"], stdout=subprocess.PIPE, text=True, check=True).stdout.strip())
+    library = Path(subprocess.run([TOP / "tools" / "release" / "library"], stdout=subprocess.PIPE, text=True, check=True).stdout.strip())
     hosts = {f"HINGE_{name.upper()}": str(build(name, folder, library)) for name in HOSTS}
     start = {**os.environ, "PYTHONUSERBASE": str(folder / "user")}
     asked = [python, "-c", "import coverage, site; print(site.getusersitepackages(), coverage.__path__[0])"]

@@ -25,7 +25,7 @@ from collections.abc import Iterator
 from pathlib import Path
 
 TOP = Path(__file__).resolve().parents[2]
-sys.path.insert(0, str(TOP / "tools"))
+sys.path[:0] = [str(TOP / "tools"), str(TOP / "tools" / "release")]
 
 from build_program import copied, crate_of  # noqa: E402
 from edits.edit import BOTH, Pair  # noqa: E402
@@ -172,7 +172,7 @@ def missing() -> int:
 
 def below(crate: str) -> list[str]:
     """The crates of this repository that a crate stands on, lowest first, and itself."""
-    done = subprocess.run([TOP / "tools" / "program_sources", "--crates", crate], stdout=subprocess.PIPE, text=True, check=True)
+    done = subprocess.run([TOP / "tools" / "release" / "program_sources", "--crates", crate], stdout=subprocess.PIPE, text=True, check=True)
     return done.stdout.split()
 
 

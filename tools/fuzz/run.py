@@ -33,7 +33,8 @@ WITHOUT_LEAKS = {**os.environ, "ASAN_OPTIONS": "detect_leaks=0"}  # of a line wh
 
 def library() -> Path:
     """The static library of these sources if it was built here, else the released one."""
-    tag = subprocess.run([TOP / "tools" / "program_sources", "hingetulip_c"], stdout=subprocess.PIPE, text=True, check=True).stdout.strip()
+    words = [TOP / "tools" / "release" / "program_sources", "hingetulip_c"]
+    tag = subprocess.run(words, stdout=subprocess.PIPE, text=True, check=True).stdout.strip()
     built = TOP / "built" / tag / "libhingetulip.a"
     return built if built.exists() else TOP / "release" / "libhingetulip.a"
 

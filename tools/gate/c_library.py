@@ -2,7 +2,7 @@
 
     python3 tools/gate/c_library.py SEED COUNT
 
-It takes the library of the present sources, as tools/library finds it: `rt ci` proves it and builds none.
+It takes the library of the present sources, as tools/release/library finds it: `rt ci` proves it and builds none.
 COUNT random scenarios are written by the reference with the reply to each call, and made by c_library/scenarios.c through the
 header, packet by packet and many at once. All is compiled with the sanitizers for addresses and undefined behaviour, and with
 warnings as errors.
@@ -21,7 +21,7 @@ from typing import Iterator
 from tally import Tally
 
 TOOLS = Path(__file__).resolve().parent.parent
-sys.path[:0] = [str(TOOLS), str(TOOLS / "oracle")]
+sys.path[:0] = [str(TOOLS / "release"), str(TOOLS / "oracle")]
 
 from broken import bad_line  # noqa: E402
 from config_lines import LineFault, parse_line  # noqa: E402
@@ -104,7 +104,7 @@ def scenario(rng: Random) -> Iterator[str]:
 
 def library() -> Path:
     """The static library of the present sources."""
-    done = subprocess.run([TOOLS / "library"], stdout=subprocess.PIPE, text=True, check=True)
+    done = subprocess.run([TOOLS / "release" / "library"], stdout=subprocess.PIPE, text=True, check=True)
     return Path(done.stdout.strip()) / STATIC
 
 

@@ -2,7 +2,7 @@
 
     python3 tools/gate/c_service.py PROGRAM SEED COUNT
 
-It takes the library of the present sources, as tools/library finds it. Each run has 1 to 15 threads. Each is made twice, with the
+It takes the library of the present sources, as tools/release/library finds it. Each run has 1 to 15 threads. Each is made twice, with the
 sanitizers for addresses and undefined behaviour, and with the one for threads. The latter sees the program and the header alone: the
 shared library isn't made for it, and orders its threads by atomics that it doesn't see. The history has to be lawful, and each
 caller's entries have to be as many, and of the kinds, as its thread was told. Then each growth of memory is refused, and arguments of

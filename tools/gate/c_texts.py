@@ -2,7 +2,7 @@
 
     python3 tools/gate/c_texts.py PROGRAM SEED COUNT
 
-It takes the library of the present sources, as tools/library finds it. The histories are those of the examples' replays,
+It takes the library of the present sources, as tools/release/library finds it. The histories are those of the examples' replays,
 and the transcripts of COUNT live sessions with random calls by sixteen callers. c_library/texts.c makes their calls on a
 handle, and writes them with the handle's answers. It is compiled with the sanitizers for addresses and undefined behaviour.
 """

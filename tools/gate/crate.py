@@ -2,7 +2,7 @@
 
     python3 tools/gate/crate.py
 
-All is done offline, with the C library of the present sources, as tools/library finds it.
+All is done offline, with the C library of the present sources, as tools/release/library finds it.
 """
 
 from __future__ import annotations
@@ -70,9 +70,10 @@ def of_the_sources(tally: Tally, cargo: Cargo, crate: Path, library: str) -> Non
 
 
 def as_packed(tally: Tally, cargo: Cargo, place: Path) -> None:
-    done = subprocess.run([TOP / "tools" / "crate", place], stdin=subprocess.DEVNULL, stdout=subprocess.PIPE, stderr=subprocess.STDOUT, text=True)
+    script = TOP / "tools" / "release" / "crate"
+    done = subprocess.run([script, place], stdin=subprocess.DEVNULL, stdout=subprocess.PIPE, stderr=subprocess.STDOUT, text=True)
     packed = place / f"hingetulip-{VERSION}.crate"
-    tally.note("tools/crate", "" if done.returncode == 0 and packed.is_file() else done.stdout)
+    tally.note("tools/release/crate", "" if done.returncode == 0 and packed.is_file() else done.stdout)
     if not packed.is_file():
         return
     with tarfile.open(packed) as archive:
@@ -87,7 +88,7 @@ def as_packed(tally: Tally, cargo: Cargo, place: Path) -> None:
 
 def main() -> int:
     tally = Tally()
-    library = subprocess.run([TOP / "tools" / "library"], capture_output=True, text=True, check=True).stdout.strip()
+    library = subprocess.run([TOP / "tools" / "release" / "library"], capture_output=True, text=True, check=True).stdout.strip()
     with TemporaryDirectory() as folder:
         place = Path(folder)
         cargo = Cargo(place)

@@ -2,7 +2,7 @@
 
     python3 tools/gate/embedding.py
 
-`./install --lib` puts the library of the present sources, as tools/library finds it, below a new prefix. From there the
+`./install --lib` puts the library of the present sources, as tools/release/library finds it, below a new prefix. From there the
 programs of these pages are compiled by what pkg-config says, the page's Python session and its simulation are run, and so are the
 module's own tests.
 """

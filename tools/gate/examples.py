@@ -2,7 +2,7 @@
 
     python3 tools/gate/examples.py PROGRAM
 
-It also asks whether tools/examples.py still writes the packets, so that nobody edits them by hand.
+It also asks whether tools/release/examples.py still writes the packets, so that nobody edits them by hand.
 """
 
 from __future__ import annotations
@@ -27,9 +27,10 @@ def main(program: str) -> int:
         tally.note(name, "" if same else f"another report: status {done.returncode} {done.stderr!r}")
     tally.note("the count of examples", "" if len(list(EXAMPLES.glob("*.report"))) >= 10 else "fewer than ten have a report")
     with TemporaryDirectory() as folder:
-        subprocess.run([sys.executable, TOP / "tools" / "examples.py", folder], check=True)
+        subprocess.run([sys.executable, TOP / "tools" / "release" / "examples.py", folder], check=True)
         for made in sorted(Path(folder).iterdir()):
-            tally.note(f"{made.name} by tools/examples.py", "" if made.read_bytes() == (EXAMPLES / made.name).read_bytes() else "differs")
+            is_same = made.read_bytes() == (EXAMPLES / made.name).read_bytes()
+            tally.note(f"{made.name} by tools/release/examples.py", "" if is_same else "differs")
     with open(EXAMPLES / "first.txt", "rb") as first:
         done = subprocess.run([program], stdin=first, capture_output=True, text=True)
     tally.note("the report in README.md", "" if f"< examples/first.txt\n{done.stdout}```" in (TOP / "README.md").read_text() else "isn't what first.txt gives")

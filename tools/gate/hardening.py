@@ -25,7 +25,7 @@ def said(*words: str | Path) -> str:
 
 
 def lacking(file: Path, guarded: bool) -> list[str]:
-    """What a file lacks of the words of tools/hardened."""
+    """What a file lacks of the words of tools/release/hardened."""
     dynamic, headers, names = said("readelf", "-dW", file), said("readelf", "-lW", file), said("readelf", "--dyn-syms", "-W", file)
     found = {"bound before main": "NOW" in dynamic or "BIND_NOW" in dynamic, "read-only tables": "GNU_RELRO" in headers,
              "a stack without code": re.search(r"GNU_STACK.* RW ", headers) is not None,
@@ -39,7 +39,7 @@ def main() -> int:
     tally = Tally()
     with TemporaryDirectory() as place:
         folder = Path(place)
-        subprocess.run([TOP / "tools" / "hosts", folder], stdout=subprocess.DEVNULL, check=True)
+        subprocess.run([TOP / "tools" / "release" / "hosts", folder], stdout=subprocess.DEVNULL, check=True)
         subprocess.run([TOP / "hosts" / "shard" / "build", folder / "hinge-shard"], check=True)
         for file, guarded in ((folder / "hinge-link", True), (folder / "hinge-shard", True), (folder / "hinge-clock.so", False),
                               (TOP / "release" / "dummynet", False), (TOP / "release" / "libhingetulip.so.1", False)):

@@ -42,8 +42,8 @@ def tests(tally: Tally, program: str, folder: Path) -> None:
     """The tests of `hinge run`, `hinge net` and `hinge udp`, by the host of the present sources."""
     env = environment(program, folder)
     if shutil.which("cc"):
-        done = subprocess.run([TOP / "tools" / "hosts", folder], capture_output=True, text=True)
-        tally.equal("tools/hosts", (0, f"{folder.resolve()}/hinge-link\n", ""), (done.returncode, done.stdout, done.stderr))
+        done = subprocess.run([TOP / "tools" / "release" / "hosts", folder], capture_output=True, text=True)
+        tally.equal("tools/release/hosts", (0, f"{folder.resolve()}/hinge-link\n", ""), (done.returncode, done.stdout, done.stderr))
     # Into a file: what a failed test left running would hold a pipe.
     with TemporaryFile("w+", errors="replace") as said:
         words = [sys.executable, TOP / "python" / "tests" / "run"]

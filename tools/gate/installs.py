@@ -62,18 +62,18 @@ def status() -> str:
 
 
 def copied(place: Path, program: str) -> Path:
-    """A copy of the repository, with a release of this program and of the library that tools/library finds."""
+    """A copy of the repository, with a release of this program and of the library that tools/release/library finds."""
     copy = place / "repository"
     names = run("git", "ls-files", "-co", "--exclude-standard").stdout.splitlines()
     for name in names:
         if (TOP / name).is_file():
             (copy / name).parent.mkdir(parents=True, exist_ok=True)
             shutil.copy2(TOP / name, copy / name)
-    library = Path(run(TOP / "tools" / "library").stdout.strip())
+    library = Path(run(TOP / "tools" / "release" / "library").stdout.strip())
     for file in (Path(program), library / "libhingetulip.a", library / "libhingetulip.so.1"):
         shutil.copy2(file, copy / "release" / ("dummynet" if file == Path(program) else file.name))
-    (copy / "release" / "sources").write_text(run(copy / "tools" / "program_sources").stdout)
-    (copy / "release" / "library-sources").write_text(run(copy / "tools" / "program_sources", "hingetulip_c").stdout)
+    (copy / "release" / "sources").write_text(run(copy / "tools" / "release" / "program_sources").stdout)
+    (copy / "release" / "library-sources").write_text(run(copy / "tools" / "release" / "program_sources", "hingetulip_c").stdout)
     return copy
 
 
@@ -82,7 +82,7 @@ def with_hosts(tally: Tally, copy: Path) -> None:
     if shutil.which("cc") is None:
         print("hinge-link and hinge-shard: skipped, since there is no cc on the path")
         return
-    done(tally, "tools/hosts release", copy / "tools" / "hosts", "release")
+    done(tally, "tools/release/hosts release", copy / "tools" / "release" / "hosts", "release")
     done(tally, "hosts/shard/build", copy / "hosts" / "shard" / "build", copy / "release" / "hinge-shard",
          HINGETULIP_STATIC=str(copy / "release" / "libhingetulip.a"))
 
@@ -283,7 +283,7 @@ def as_packages(tally: Tally, copy: Path, place: Path) -> None:
         print(f"hingetulip-kernel: skipped: {kernel.stdout.strip()}")
     built, sums = kernel.returncode == 0, []
     for name in ("debs", "debs again"):
-        done(tally, "tools/deb", copy / "tools" / "deb", *["--kernel"] * built, place / name)
+        done(tally, "tools/release/deb", copy / "tools" / "release" / "deb", *["--kernel"] * built, place / name)
         sums.append({it.name: sha256(it.read_bytes()).hexdigest() for it in (place / name).iterdir()})
     packages = ["hingetulip", *["hingetulip-kernel"] * built, "libhingetulip-dev", "libhingetulip1", "python3-hingetulip"]
     names = [f"hingetulip-{VERSION}-x86_64.tar.gz", *(f"{name}_{VERSION}-1_amd64.deb" for name in packages)]

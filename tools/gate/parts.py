@@ -118,7 +118,7 @@ def parts(cases: str, seed: int, program: str) -> list[Part]:
         Part("tests in simulated time", [python, "tools/gate/testing.py"]),
         Part("libraries in simulated time", [python, "tools/libraries", "--seeds", "3"]),
         Part("fuzzing of the hosts", [python, "tools/fuzz/run.py", str(FUZZING)], FUZZER, True),
-        Part("the notices of the crates", [python, "tools/notices.py", "--check"], "rt"),
+        Part("the notices of the crates", [python, "tools/release/notices.py", "--check"], "rt"),
         Part("the manual pages", [python, "tools/gate/manual.py", program], "mandoc"),
         Part("hardening of what is released", [python, "tools/gate/hardening.py"], "readelf"),
         Part("the texts of edits", [python, "tools/edits/edit_controls.py", "--missing"]),

@@ -3,7 +3,7 @@
     python3 tools/gate/release.py PROGRAM
 
 The release is judged where it was made by the kit that is here; by another kit its bytes may be others. A release of other
-sources fails, since ./dummynet wouldn't run it: `tools/release` makes it anew. `rt ci` builds no library. So the library is built
+sources fails, since ./dummynet wouldn't run it: `tools/release/release` makes it anew. `rt ci` builds no library. So the library is built
 here once for its sources, where this clone keeps what was proved of the crates below it: without that it takes a quarter of an
 hour, and the library's bytes aren't compared.
 """
@@ -21,7 +21,7 @@ from tempfile import TemporaryDirectory
 from tally import Tally
 
 TOP = Path(__file__).resolve().parent.parent.parent
-sys.path.append(str(TOP / "tools"))
+sys.path.append(str(TOP / "tools" / "release"))
 
 from link_library import SHARED, STATIC  # noqa: E402
 
@@ -43,7 +43,7 @@ def are_kept(crates: list[str]) -> bool:
 def built_library(sum: str) -> Path | None:
     """The folder with the library that was built here from the sources of this checksum, and None where it wasn't."""
     folder = TOP / "built" / sum
-    crates = said(TOP / "tools" / "program_sources", "--crates", LIBRARY).split()
+    crates = said(TOP / "tools" / "release" / "program_sources", "--crates", LIBRARY).split()
     if not (folder / STATIC).is_file() and are_kept(crates[:-1]):
         subprocess.run([TOP / "build", "--lib"], check=True)
     return folder if (folder / STATIC).is_file() else None
@@ -76,15 +76,15 @@ def compare_library(tally: Tally, sum: str, anew: str) -> None:
 def main(program: str) -> int:
     tally = Tally()
     if not (RELEASE / "dummynet").is_file():
-        tally.note("release", "there is none; tools/release makes it from what ./check or ./build has built")
+        tally.note("release", "there is none; tools/release/release makes it from what ./check or ./build has built")
         return tally.end()
-    sources = said(TOP / "tools" / "program_sources")
+    sources = said(TOP / "tools" / "release" / "program_sources")
     names = ["dummynet", *(name for name in (STATIC, SHARED, *HOSTS) if (RELEASE / name).is_file())]
-    anew = "tools/release makes it anew from what ./check or ./build has built"
+    anew = "tools/release/release makes it anew from what ./check or ./build has built"
     tally.note("sources", "" if (RELEASE / "sources").read_text() == sources else f"the release was built from other sources; {anew}")
     sums = "".join(f"{sha256((RELEASE / name).read_bytes()).hexdigest()}  {name}\n" for name in names)
     tally.equal("checksums", sums, (RELEASE / "SHA256SUMS").read_text())
-    library = said(TOP / "tools" / "program_sources", LIBRARY)
+    library = said(TOP / "tools" / "release" / "program_sources", LIBRARY)
     is_same = (RELEASE / "library-sources").read_text() == library
     tally.note("sources of the library", "" if is_same else f"the released library was built from other sources; {anew}, with ./build --lib before it")
     if shutil.which("rt") is None:

@@ -39,7 +39,7 @@ MINUTES = TOP / "built" / "minutes"
 
 
 def sources() -> str:
-    script = TOP / "tools" / "program_sources"
+    script = TOP / "tools" / "release" / "program_sources"
     return subprocess.run([script], stdout=subprocess.PIPE, text=True, check=True).stdout.strip()
 
 

@@ -24,7 +24,7 @@ def main(program: str) -> int:
         print("0 passed, 1 failed")
         return 1
     with TemporaryDirectory() as folder:
-        subprocess.run([TOP / "tools" / "hosts", folder], check=True, stdout=subprocess.DEVNULL)
+        subprocess.run([TOP / "tools" / "release" / "hosts", folder], check=True, stdout=subprocess.DEVNULL)
         env = {**os.environ, "DUMMYNET": program, "HINGE_LINK": f"{folder}/hinge-link"}
         return subprocess.run([sys.executable, TOP / "python" / "tests" / "simulated"], env=env).returncode
 

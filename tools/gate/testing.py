@@ -38,11 +38,11 @@ def python() -> Optional[str]:
 
 def environment(place: Path) -> dict[str, str]:
     """What names the library of the present sources, and what is built from C where there is a compiler."""
-    library = subprocess.run([TOP / "tools" / "library"], stdout=subprocess.PIPE, text=True, check=True).stdout.strip()
+    library = subprocess.run([TOP / "tools" / "release" / "library"], stdout=subprocess.PIPE, text=True, check=True).stdout.strip()
     named = {"HINGETULIP_LIBRARY": f"{TOP / library}/libhingetulip.so.1", "PYTHONPATH": str(TOP / "python"),
              "PYTHONDONTWRITEBYTECODE": "1", "PYTEST_DISABLE_PLUGIN_AUTOLOAD": "1"}
     if shutil.which("cc"):
-        subprocess.run([TOP / "tools" / "hosts", place], check=True, stdout=subprocess.DEVNULL)
+        subprocess.run([TOP / "tools" / "release" / "hosts", place], check=True, stdout=subprocess.DEVNULL)
         named.update(HINGE_LINK=str(place / "hinge-link"), HINGE_CLOCK=str(place / "hinge-clock.so"))
     return {**os.environ, **named}
 

@@ -1,4 +1,4 @@
-"""The scripts ./dummynet, ./build, tools/release and ./install, in copies of the repository with a toolchain that only pretends.
+"""The scripts ./dummynet, ./build, tools/release/release and ./install, in copies of the repository with a toolchain that only pretends.
 
     python3 tools/gate/wrapper.py PROGRAM
 
@@ -20,8 +20,9 @@ from tempfile import TemporaryDirectory
 from tally import Tally
 
 TOP = Path(__file__).resolve().parent.parent.parent
-SCRIPTS = ("dummynet", "build", "install", "hinge", "tools/program_sources", "tools/build_program.py", "tools/link_library.py", "tools/library",
-           "tools/release", "tools/dummynet-completion.bash", "tools/hinge-completion.bash", "docs/dummynet.1", "docs/hinge.1", "docs/hingetulip.3",
+SCRIPTS = ("dummynet", "build", "install", "hinge", "tools/release/program_sources", "tools/release/build_program.py",
+           "tools/release/link_library.py", "tools/release/library", "tools/release/release", "tools/release/dummynet-completion.bash",
+           "tools/release/hinge-completion.bash", "docs/dummynet.1", "docs/hinge.1", "docs/hingetulip.3",
            "crates.txt", "HANDLES", "VERSION", "crates/hingetulip_c/include/hingetulip.h", "crates/hingetulip_c/include/hingetulip_service.h", "crates/hingetulip_c/hingetulip.pc.in",
            "crates/hingetulip_c/hingetulip.tsan",
            "crates/hingetulip_c/cmake/HingetulipConfig.cmake.in", "crates/hingetulip_c/cmake/HingetulipConfigVersion.cmake.in",
@@ -60,7 +61,8 @@ class Copy:
         for file in SCRIPTS:
             (self.top / file).parent.mkdir(parents=True, exist_ok=True)
             shutil.copy(TOP / file, self.top / file)
-        crates = subprocess.run([TOP / "tools" / "program_sources", "--crates"], capture_output=True, text=True, check=True).stdout.split()
+        words = [TOP / "tools" / "release" / "program_sources", "--crates"]
+        crates = subprocess.run(words, capture_output=True, text=True, check=True).stdout.split()
         for crate in [*crates, "hingetulip_c", "test_parts"]:
             shutil.copytree(TOP / "crates" / crate / "src", self.top / "crates" / crate / "src")
         self.crates = crates
@@ -85,7 +87,7 @@ class Copy:
         return subprocess.run([str(self.top / script), *words], cwd="/", env=env, capture_output=True, text=True, stdin=subprocess.DEVNULL)
 
     def sources(self) -> str:
-        return subprocess.run([self.top / "tools" / "program_sources"], capture_output=True, text=True, check=True).stdout
+        return subprocess.run([self.top / "tools" / "release" / "program_sources"], capture_output=True, text=True, check=True).stdout
 
     def release(self, sources: str) -> None:
         (self.top / "release").mkdir(exist_ok=True)
@@ -153,9 +155,9 @@ def stale(tally: Tally, copy: Copy) -> None:
 
 
 def released_and_installed(tally: Tally, copy: Copy) -> None:
-    """tools/release over what was built, and ./install."""
-    done = copy.run(script="tools/release")
-    tally.equal("tools/release", 0, done.returncode)
+    """tools/release/release over what was built, and ./install."""
+    done = copy.run(script="tools/release/release")
+    tally.equal("tools/release/release", 0, done.returncode)
     tally.equal("its sources", copy.sources(), (copy.top / "release" / "sources").read_text())
     done = subprocess.run(["sha256sum", "-c", "--quiet", "SHA256SUMS"], cwd=copy.top / "release", capture_output=True, text=True)
     tally.equal("its checksum", (0, ""), (done.returncode, done.stdout))
@@ -169,7 +171,7 @@ def released_and_installed(tally: Tally, copy: Copy) -> None:
     tally.equal("what is installed", PROGRAM, sorted(trees[0]))
     tally.equal("./install without a folder", 2, copy.run(script="install").returncode)
     copy.change("crates/dummynet/src/main.rt")
-    done = copy.run(script="tools/release")
+    done = copy.run(script="tools/release/release")
     tally.note("no release of what isn't built", "" if done.returncode == 1 and "isn't built" in done.stderr else f"got {done}")
 
 

@@ -54,7 +54,7 @@ def environment() -> dict[str, str]:
     more = {"PYTHONPATH": os.pathsep.join([str(TOP / "python"), *filter(None, [os.environ.get("PYTHONPATH")])]),
             "PYTHONDONTWRITEBYTECODE": "1", "PYTEST_DISABLE_PLUGIN_AUTOLOAD": "1"}
     if "HINGETULIP_LIBRARY" not in os.environ:
-        library = subprocess.run([TOP / "tools" / "library"], stdout=subprocess.PIPE, text=True, check=True).stdout.strip()
+        library = subprocess.run([TOP / "tools" / "release" / "library"], stdout=subprocess.PIPE, text=True, check=True).stdout.strip()
         more["HINGETULIP_LIBRARY"] = f"{TOP / library}/libhingetulip.so.1"
     return {**os.environ, **more}
 

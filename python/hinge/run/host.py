@@ -21,7 +21,7 @@ POLL = 0.0005  # s between looks at the page
 
 def program() -> str:
     """What the variable HINGE_LINK names, else the host beside this module, as it is installed, else that of the
-    repository in which this module lies: the one that tools/hosts has built, or the released one."""
+    repository in which this module lies: the one that tools/release/hosts has built, or the released one."""
     if sys.platform != "linux":
         raise Missing("the host is a program of Linux")
     repository = HERE.parents[2]
@@ -31,7 +31,7 @@ def program() -> str:
         if place and os.access(place, os.X_OK):
             return str(place)
     raise Missing(
-        f"there is no host {NAME}: in a clone tools/hosts builds it, with a C compiler; the variable HINGE_LINK can"
+        f"there is no host {NAME}: in a clone tools/release/hosts builds it, with a C compiler; the variable HINGE_LINK can"
         " name it"
     )
 

@@ -1,6 +1,6 @@
-"""The licences of the crates whose code the program and the C library have: `tools/notices.py` writes them into NOTICE, behind its own text.
+"""The licences of the crates whose code the program and the C library have: this writes them into NOTICE, behind its own text.
 
-    python3 tools/notices.py [--check]
+    python3 tools/release/notices.py [--check]
 
 With --check nothing is written, and the last line says whether NOTICE has those of crates.txt. The crates are those that crates.txt names for
 `dummynet` and `hingetulip_c`, and those that these use, as the toolchain has them: `rt doc` tells where.
@@ -14,7 +14,7 @@ import sys
 import textwrap
 from pathlib import Path
 
-TOP = Path(__file__).resolve().parent.parent
+TOP = Path(__file__).resolve().parents[2]
 NOTICE = TOP / "NOTICE"
 SHIPPED = ("dummynet", "hingetulip_c")
 BEGIN = "The program and the C library have code of these crates, as Rattle's toolchain has them"
@@ -80,7 +80,7 @@ def main() -> int:
     wanted = f"{before.rstrip()}\n\n{text()}"
     if sys.argv[1:] == ["--check"]:
         same = NOTICE.read_text(encoding="utf-8") == wanted
-        print("1 passed, 0 failed" if same else "NOTICE isn't of these crates: tools/notices.py writes it\n0 passed, 1 failed")
+        print("1 passed, 0 failed" if same else "NOTICE isn't of these crates: tools/release/notices.py writes it\n0 passed, 1 failed")
         return 0 if same else 1
     NOTICE.write_text(wanted, encoding="utf-8")
     return 0

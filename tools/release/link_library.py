@@ -1,6 +1,6 @@
 """Makes the C library of the archive that rt has built of crates/hingetulip_c: libhingetulip.a and libhingetulip.so.1.
 
-    python3 tools/link_library.py ARCHIVE FOLDER
+    python3 tools/release/link_library.py ARCHIVE FOLDER
 
 The toolchain's small C file between its allocator and malloc goes into both, so that a program needs nothing beside them. The
 shared one gives out the names of the headers alone. Each has the version that it came with: a program that needs a later one than the

@@ -1,6 +1,6 @@
 """What is released, installed and run in two fresh Debian roots without a compiler, from Debian's packages by apt, and from the wheel by pip.
 
-    sudo python3 tools/minimal_root.py FOLDER
+    sudo python3 tools/release/minimal_root.py FOLDER
 
 The commands of the pages that users read are run from there, each block of them as one script, in a folder that has the examples and captures
 of the pages and nothing else of this repository. It takes debootstrap, Debian's archive, 2 GB in FOLDER, where the roots stay to be looked
@@ -17,7 +17,7 @@ import sys
 from pathlib import Path
 from typing import Iterator, NamedTuple
 
-TOP = Path(__file__).resolve().parent.parent
+TOP = Path(__file__).resolve().parents[2]
 sys.path[:0] = [str(TOP / "tools" / "gate"), str(TOP / "python")]
 
 import build_wheel  # noqa: E402
@@ -108,7 +108,7 @@ def without_a_compiler(tally: Tally, root: Root) -> None:
 def by_apt(tally: Tally, base: Path, more: str) -> None:
     root = Root(base.with_name("apt"), "/usr/sbin:/usr/bin:/sbin:/bin")
     subprocess.run(["cp", "-a", base, root.folder], check=True)
-    subprocess.run([TOP / "tools" / "deb", root.folder / "debs"], check=True, stdout=subprocess.DEVNULL)
+    subprocess.run([TOP / "tools" / "release" / "deb", root.folder / "debs"], check=True, stdout=subprocess.DEVNULL)
     root.done(tally, "apt-get install ./debs/*.deb", f"apt-get install -qq --no-install-recommends ./debs/*.deb && {more}")
     without_a_compiler(tally, root)
     run_pages(tally, root)

@@ -1,8 +1,8 @@
 """Writes the examples: for each a configuration, a packet file, and the report by the independent reference.
 
-    python3 tools/examples.py FOLDER
+    python3 tools/release/examples.py FOLDER
 
-The files of examples/ but for first.txt and README.md are `python3 tools/examples.py examples`. The random words and the
+The files of examples/ but for first.txt and README.md are `python3 tools/release/examples.py examples`. The random words and the
 jitter come from a generator that is seeded by the example's name and SEED, so they are the same in each run.
 """
 
@@ -14,7 +14,7 @@ from pathlib import Path
 from random import Random
 from typing import Callable, Iterator, NamedTuple
 
-sys.path.insert(0, str(Path(__file__).parent / "oracle"))
+sys.path.insert(0, str(Path(__file__).parent.parent / "oracle"))
 
 from files import PACKET_HEADER  # noqa: E402
 from program import outcome  # noqa: E402

@@ -1,12 +1,12 @@
 """Proves and builds the program or the C library, crates that don't need one another side by side, and puts it into built/.
 
-    python3 tools/build_program.py [--lib]
+    python3 tools/release/build_program.py [--lib]
 
 Two commands of rt never work in one crate's folder at once, and one that works on a crate holds the folders of those below it.
 So each crate is built in a folder of its own, outside the repository, which gets the built libraries of the crates below.
 What was proved is given to the repository's crates/*/out in the end, so that the next build begins with it. The program
 stands in built/SUM/dummynet, and the library in built/SUM/libhingetulip.a and libhingetulip.so.1, where SUM is the checksum of the
-sources (tools/program_sources). A failed build leaves what was built before as it was, answers status 70, and names the log of the
+sources (tools/release/program_sources). A failed build leaves what was built before as it was, answers status 70, and names the log of the
 crate that failed.
 """
 
@@ -25,7 +25,7 @@ from typing import Callable, NamedTuple
 
 from link_library import STATIC, link
 
-TOP = Path(__file__).resolve().parent.parent
+TOP = Path(__file__).resolve().parents[2]
 BUILT = TOP / "built"
 PROGRAM = "dummynet"
 LIBRARY = "hingetulip_c"
@@ -57,8 +57,8 @@ def say(text: str) -> None:
 
 
 def sources(*words: str) -> str:
-    """The checksum of a crate's sources, or what it is built of, lowest first, as tools/program_sources gives them."""
-    done = subprocess.run([TOP / "tools" / "program_sources", *words], capture_output=True, text=True)
+    """The checksum of a crate's sources, or what it is built of, lowest first, as tools/release/program_sources gives them."""
+    done = subprocess.run([TOP / "tools" / "release" / "program_sources", *words], capture_output=True, text=True)
     if done.returncode:
         raise BuildFault(f"the sources can't be read: {done.stderr.strip()}")
     return done.stdout.strip()
