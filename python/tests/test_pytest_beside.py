@@ -58,7 +58,7 @@ class Beside(Runs):
 
     @unittest.skipUnless(
         os.environ.get("HINGE_LINK") or any((TOP / folder / "hinge-link").exists() for folder in ("built", "release")),
-        "no hinge-link: tools/hosts builds it",
+        "no hinge-link: tools/release/hosts builds it",
     )
     def test_udp_paths(self) -> None:
         done = self.run_pytest("""
