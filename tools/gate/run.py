@@ -35,6 +35,13 @@ from parts import TALLY, TOP, Sum, Tried, edits_part, left_out, parts, sum_in, t
 
 MADE = TOP / "crates" / "dummynet" / "out" / "dummynet"
 NOT_THE_GATE = 2
+MISTYPED = 2
+HELP = """usage: ./check [--quick | --built | --needs | --help]
+
+./check          the gate: proves all crates, tries the edits, runs the tests and the programs; 40 to 60 minutes
+./check --quick  what needs no prover, over the program of these sources; some two minutes
+./check --built  what the gate tries behind `rt ci`, over what an earlier one built
+./check --needs  which of Debian's packages the parts lack here"""
 MINUTES = TOP / "built" / "minutes"
 
 
@@ -121,6 +128,10 @@ def tried_and_told(words: list[str], is_quick: bool) -> tuple[list[Sum], str]:
 
 
 def main(words: list[str]) -> int:
+    if words not in ([], ["--built"], ["--quick"], ["--needs"]):
+        is_asked = words in (["--help"], ["-h"])
+        print(HELP, file=sys.stdout if is_asked else sys.stderr)
+        return 0 if is_asked else MISTYPED
     if words == ["--needs"]:
         return needs.main([])
     # A shell that starts this in the background has ^C ignored, and so would all programs that the tests interrupt.

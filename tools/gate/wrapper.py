@@ -1,8 +1,8 @@
-"""The scripts ./dummynet, ./build, tools/release/release and ./install, in copies of the repository with a toolchain that only pretends.
+"""The scripts ./dummynet, ./build, tools/release/release and ./install in copies of the repository, and the words of ./check.
 
     python3 tools/gate/wrapper.py PROGRAM
 
-The pretended `rt` proves nothing: it leaves the files that the real one leaves, and fails where it is told to. So which program
+The copies have a toolchain that only pretends. Its `rt` proves nothing: it leaves the files that the real one leaves, and fails where it is told to. So which program
 runs, what is told, and what is left when a build fails is tried in seconds. The streams and statuses of the real program are
 tried through the real ./dummynet.
 """
@@ -230,15 +230,24 @@ def through_the_wrapper(tally: Tally, program: str) -> None:
             tally.equal(f"./dummynet {' '.join(words)}", both[0], both[1])
 
 
+def words_of_check(tally: Tally) -> None:
+    """./check tries nothing for a word that it doesn't have."""
+    for word, status in (("--help", 0), ("--quik", 2), ("quick", 2)):
+        done = subprocess.run([TOP / "check", word], capture_output=True, text=True)
+        told = (done.stdout if status == 0 else done.stderr).startswith("usage: ./check ")
+        tally.equal(f"./check {word}", (status, True), (done.returncode, told))
+
+
 def main(program: str) -> int:
     tally = Tally()
+    words_of_check(tally)
     with TemporaryDirectory() as place:
         copy = Copy(place)
         which_program(tally, copy)
         stale(tally, copy)
         released_and_installed(tally, copy)
         the_library(tally, copy)
-    through_the_wrapper(tally, program)
+    through_the_wrapper(tally, os.path.abspath(program))
     return tally.end()
 
 

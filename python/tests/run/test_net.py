@@ -154,7 +154,8 @@ class OfCommands(InAFolder):
         words = [*HINGE, "net", str(self.file), "--quiet", "--no-realtime", "--shell"]
         env = {**os.environ, "SHELL": "/bin/sh"}
         done = subprocess.run(
-            [*words, "a"], input="hostname; echo $HINGE_HOST; exit 6", capture_output=True, text=True, env=env
+            [*words, "a"], capture_output=True, text=True, env=env,
+            input=f"until [ -s {told} ]; do sleep 0.01; done; hostname; echo $HINGE_HOST; exit 6"
         )
         self.assertEqual((done.returncode, done.stdout, done.stderr, told.read_text()), (6, "a\na\n", "", "on\n"))
         self.assertEqual(
