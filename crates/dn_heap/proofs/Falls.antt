@@ -18,7 +18,8 @@ module _ {K : Type 0} (R : K → K → Ordering) where
   by a b x y p q h = (λ k. lt_by_cmp R (p k) (q k)) ∙ h
 
   -- a key at j and the greater of its children change places
-  pub falls : (ys zs : List K) (n j c : ℕ) → j * 2 + 1 ≤ c → c ≤ j * 2 + 2 → c < n → c < length ys → zs ≡ holes.swap ys j c → IsGreaterChild R ys j c n → IsHeapWithHole (lt_by_cmp R) ys j n → IsHeapWithHole (lt_by_cmp R) zs c n
+  pub falls : (ys zs : List K) (n j c : ℕ) → j * 2 + 1 ≤ c → c ≤ j * 2 + 2
+      → c < n → c < length ys → zs ≡ holes.swap ys j c → IsGreaterChild R ys j c n → IsHeapWithHole (lt_by_cmp R) ys j n → IsHeapWithHole (lt_by_cmp R) zs c n
   unfolding IsGreaterChild
   falls ys zs n j c from to in' long is best h = (
     λ p k d a b f u v. let s = swap_places ys zs j c d (omega arith) long is in elim (which p j) [
@@ -66,7 +67,8 @@ module _ {K : Type 0} (R : K → K → Ordering) where
     left_out o within h = (
       λ p k d a b f u v. by _ _ _ _ (others p d u (omega arith)) (others k d v f) (h p k d (omega arith) a b (omega (arith, f, long))),
       λ p k d a b f g i.
-          by _ _ _ _ (others p d (omega arith) (omega arith)) (others k d (omega arith) i) ((ranks o).chain _ _ _ (h p at d (omega arith) a b (omega (arith, within, long))) (h at k d (omega arith) f g (omega (arith, i, long)))),
+          by _ _ _ _ (others p d (omega arith) (omega arith)) (others k d (omega arith) i)
+          ((ranks o).chain _ _ _ (h p at d (omega arith) a b (omega (arith, within, long))) (h at k d (omega arith) f g (omega (arith, i, long)))),
     )
 
     pub cut : n ≤ at → length ys ≡ n → IsHeap R xs → IsHeap R ys

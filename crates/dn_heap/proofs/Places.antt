@@ -1,5 +1,6 @@
 -- How the places follow the keys, where two change places.
-use Rattle.std.proofs.Common.{◌≡◌, ℕ, zero, suc, ◌<◌, Bool, List, [], ◌∷◌, ◌++◌, take, drop, take_all, append-nil, drop_of_length-le, length, get_or, set, swap, refl, sym, ap, subst, ◌∙◌, arith, inl, inr, length-set, get_or-set_same, get_or-set_other}
+use Rattle.std.proofs.Common.{◌≡◌, ℕ, zero, suc, ◌<◌, Bool, List, [], ◌∷◌, ◌++◌, take, drop, take_all, append-nil, drop_of_length-le, length, get_or, set}
+use Rattle.std.proofs.Common.{swap, refl, sym, ap, subst, ◌∙◌, arith, inl, inr, length-set, get_or-set_same, get_or-set_other}
 use Rattle.std.proofs.lemmas.List.{set-get_or}
 use Rattle.std.proofs.lemmas.List.Sorted.{IsPermutation-refl, IsPermutation-swap, IsPermutation-trans}
 use Rattle.std_alloc.proofs.Permutation.{as_core, swap_places, which}
@@ -93,8 +94,11 @@ module _ {K : Type 0} (number : K → ℕ) where
           | inr not_at ↦
               let in' : k < length keys = omega (arith, lt, long) in
               let z : number (get_or keys' k d) ≡ number (get_or keys k d) = ap number (s.2 k not_at not_to) in
-              let has = has_places keys places at k d in' h in
-              (omega (arith, z, has, count), ap (λ m. get_or (set (set places y at) x to) m 0) z ∙ others places x y at to apart has_x has_y was (number (get_or keys k d)) k (h d k in').1 not_at not_to)
+              let has = has_places keys places at k d in' h in (
+                omega (arith, z, has, count),
+                ap (λ m. get_or (set (set places y at) x to) m 0) z
+                    ∙ others places x y at to apart has_x has_y was (number (get_or keys k d)) k (h d k in').1 not_at not_to,
+              )
         ]
       ] in
       subst (λ l. (number (get_or keys' k d) < length l) × (get_or l (number (get_or keys' k d)) 0 ≡ k)) (λ i. set (set places (sym n_is i) at) (sym x_is i) to) there

@@ -10,13 +10,16 @@ pub mend-requires-clause-hole : goal.mend-requires-clause-hole
 mend-requires-clause-hole g c = λ within.
     let taken = c.swap_remove-key.ensures in
     let new = c.swap_remove-key.new.self in
-    left_out (back g.K.Ord.cmp) c.args.keys.now.items new.items (vec_len new) c.args.at (omega (arith, taken.len, c.args.keys.now.ok.0)) (λ k d apart lt. taken.by_index.1 k d apart (omega (arith, lt, taken.len))) (back_total g.met.K.Ord.total) within c.requires.heap
+    left_out (back g.K.Ord.cmp) c.args.keys.now.items new.items (vec_len new) c.args.at (omega (arith, taken.len, c.args.keys.now.ok.0))
+    (λ k d apart lt. taken.by_index.1 k d apart (omega (arith, lt, taken.len))) (back_total g.met.K.Ord.total) within c.requires.heap
 
 pub mend-requires-clause-heap : goal.mend-requires-clause-heap
 mend-requires-clause-heap g c = λ last.
     let taken = c.swap_remove-key.ensures in
     let new = c.swap_remove-key.new.self in
-    cut (back g.K.Ord.cmp) c.args.keys.now.items new.items (vec_len new) c.args.at (omega (arith, taken.len, c.args.keys.now.ok.0)) (λ k d apart lt. taken.by_index.1 k d apart (omega (arith, lt, taken.len))) last (omega (arith, new.ok.0)) c.requires.heap
+    cut (back g.K.Ord.cmp) c.args.keys.now.items new.items (vec_len new) c.args.at
+    (omega (arith, taken.len, c.args.keys.now.ok.0)) (λ k d apart lt. taken.by_index.1 k d apart (omega (arith, lt, taken.len))) last
+    (omega (arith, new.ok.0)) c.requires.heap
 
 pub returns-clause-keys : goal.returns-clause-keys
 returns-clause-keys g c =

@@ -23,7 +23,8 @@ loop-at-preserved g c =
     let new = c.move_hole-at.new in
     let is = l.invariant.0 in
     let long = length-set l.keys l.at key in
-    subst (λ k. (length new.keys ≡ length c.args.keys.now) × IsMoved g.K.Numbered.number was (set new.keys k key) c.args.places.now new.places k × IsHeapWithHole (lt_by_cmp (back g.K.Ord.cmp)) (set new.keys k key) k (length c.args.keys.now)) (sym step.place) (
+    subst (λ k. (length new.keys ≡ length c.args.keys.now) × IsMoved g.K.Numbered.number was (set new.keys k key) c.args.places.now new.places k
+    × IsHeapWithHole (lt_by_cmp (back g.K.Ord.cmp)) (set new.keys k key) k (length c.args.keys.now)) (sym step.place) (
       step.len ∙ is,
       moved_again g.K.Numbered.number was ys (set new.keys to key) c.args.places.now l.places new.places l.at to l.invariant.1 step.moved,
       falls (back g.K.Ord.cmp) ys (set new.keys to key) (length c.args.keys.now) l.at to child.child child.next child.within (omega (arith, child.within, is, long)) step.items

@@ -9,7 +9,8 @@ bounds-places-number g c =
     let x = c.index-keys-to.result in
     let long = length-set keys c.args.at c.args.key in
     let to : c.args.to < length (set keys c.args.at c.args.key) = omega (arith, long, c.requires.to) in
-    let is = read_at number keys c.args.to c.number-number.result x c.requires.to c.number-number.ensures c.index-keys-to.is x ∙ sym (ap number (beside number keys c.args.key c.args.at c.args.to c.requires.apart x)) in
+    let is = read_at number keys c.args.to c.number-number.result x c.requires.to c.number-number.ensures c.index-keys-to.is x
+    ∙ sym (ap number (beside number keys c.args.key c.args.at c.args.to c.requires.apart x)) in
     omega (arith, is, has_places number (set keys c.args.at c.args.key) c.args.places.now c.args.at c.args.to x to c.requires.placed)
 
 pub returns-clause-items : goal.returns-clause-items

@@ -30,11 +30,13 @@ loop-at-preserved g c =
     let order = back_total g.met.K.Ord.total in
     let at : l.at < length l.keys = omega (arith, within, length-set l.keys l.at key) in
     let less = compared g.K.Numbered.number (lt_by_cmp (back g.K.Ord.cmp)) l.keys key l.at to _ at (omega arith) c.if-precedes.ensures in
-    subst (λ k. (length new.keys ≡ length c.args.keys.now) × IsMoved g.K.Numbered.number was (set new.keys k key) c.args.places.now new.places k × (k ≤ c.args.at) × sifts.Rising (back g.K.Ord.cmp) order was c.args.at (set new.keys k key) k) (sym step.place) (
+    subst (λ k. (length new.keys ≡ length c.args.keys.now) × IsMoved g.K.Numbered.number was (set new.keys k key) c.args.places.now new.places k
+    × (k ≤ c.args.at) × sifts.Rising (back g.K.Ord.cmp) order was c.args.at (set new.keys k key) k) (sym step.place) (
       step.len ∙ l.invariant.0,
       moved_again g.K.Numbered.number was ys (set new.keys to key) c.args.places.now l.places new.places l.at to l.invariant.1 step.moved,
       omega (arith, l.invariant.2),
-      sifts.rise_steps (back g.K.Ord.cmp) order was ys (set new.keys to key) c.args.at l.at up l.invariant.2 (omega (arith, within)) (step.items ∙ as_swapped ys l.at to (omega (arith, within))) less l.invariant.3,
+      sifts.rise_steps (back g.K.Ord.cmp) order was ys (set new.keys to key) c.args.at l.at up l.invariant.2
+          (omega (arith, within)) (step.items ∙ as_swapped ys l.at to (omega (arith, within))) less l.invariant.3,
     )
 
 pub returns-else-precedes-clause-rises : goal.returns-else-precedes-clause-rises
