@@ -128,7 +128,8 @@ longer-return : (front rest : List ℕ) → length (10 ∷ rest) < length ((fron
 longer-return front rest = omega (arith, length-append (front ++ 13 ∷ []) (10 ∷ rest), length-append front (13 ∷ []))
 
 -- A line that ends in a line feed.
-pub feed-line : (text : List ℕ) (fields : Fields) (last field rest : List ℕ) → BeginsFields text fields (last ++ 10 ∷ rest) → Writes last field → Opens text → BeginsLine text (fields ++ field ∷ []) rest
+pub feed-line : (text : List ℕ) (fields : Fields) (last field rest : List ℕ)
+    → BeginsFields text fields (last ++ 10 ∷ rest) → Writes last field → Opens text → BeginsLine text (fields ++ field ∷ []) rest
 feed-line text fields last field rest begins ends opens = record {
   front = front;
   stands = stands;

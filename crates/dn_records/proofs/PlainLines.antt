@@ -1,5 +1,6 @@
 -- Records whose lines are written plainly: how a line is read from its bytes, and what is left behind it.
-use Rattle.std.proofs.Common.{◌≡◌, ◌≢◌, ◌∙◌, refl, sym, ap, subst, ℕ, ◌+◌, ◌-◌, ◌<◌, ◌≤◌, ◌==◌, Bool, true, false, inl, inr, List, [], ◌∷◌, ◌++◌, Option, Some, None, length, take, drop, get_or, min, arith, append_assoc, length-append, length-take}
+use Rattle.std.proofs.Common.{◌≡◌, ◌≢◌, ◌∙◌, refl, sym, ap, subst, ℕ, ◌+◌, ◌-◌, ◌<◌, ◌≤◌, ◌==◌, Bool, true, false, inl, inr, List, [], ◌∷◌, ◌++◌, Option, Some}
+use Rattle.std.proofs.Common.{None, length, take, drop, get_or, min, arith, append_assoc, length-append, length-take}
 use Rattle.std.specs.Prelude.{◌||◌}
 use Rattle.std.specs.List.{All, join_with_byte, list_any, onto_first, slice_split}
 use Rattle.std.specs.Option.{is_some}

@@ -7,8 +7,10 @@ write_digits-requires c =
     let short = length-decimal-le 3 (c.args.address / 16777216) (omega arith) (omega arith) (omega arith) in
     let fourth = c.write_byte-fourth.ensures.start in
     let third = c.write_byte-third.ensures.start in
-    let second = c.write_byte-second.ensures.start in
-    (omega (arith, short, fourth, third, second, c.requires), omega (arith, fourth, third, second, c.requires, c.write_byte-second.auto.bytes, c.write_byte-third.auto.bytes, c.write_byte-fourth.auto.bytes))
+    let second = c.write_byte-second.ensures.start in (
+      omega (arith, short, fourth, third, second, c.requires),
+      omega (arith, fourth, third, second, c.requires, c.write_byte-second.auto.bytes, c.write_byte-third.auto.bytes, c.write_byte-fourth.auto.bytes),
+    )
 
 pub returns : goal.returns
 returns c =
