@@ -84,7 +84,8 @@ module _ (rule : Rule) where
   undelivered-bounded [] h = All-nil IsInTime
   undelivered-bounded (opened l ∷ trace) h = undelivered-bounded trace h
   undelivered-bounded (arrived p ∷ trace) h = undelivered-bounded trace h.2
-  undelivered-bounded (started s ∷ trace) h = in_order-all IsInTime (delivery_of rule s (last_due rule s.packet.link trace)) (undelivered rule trace) (delivery-bounded s trace h) (undelivered-bounded trace h.3)
+  undelivered-bounded (started s ∷ trace) h = in_order-all IsInTime (delivery_of rule s (last_due rule s.packet.link trace)) (undelivered rule trace)
+      (delivery-bounded s trace h) (undelivered-bounded trace h.3)
   undelivered-bounded (lost l f ∷ trace) h = undelivered-bounded trace h
   undelivered-bounded (refused l f ∷ trace) h = undelivered-bounded trace h
   undelivered-bounded (discarded f ∷ trace) h = undelivered-bounded trace h
@@ -101,7 +102,8 @@ module _ (P : Reply → Type 0) (configured : P Configured) (no_pipe : P NoSuchP
   pub command-has : (set : Settings) (queues : List ℕ) (command : Command) → P (command_reply set queues command)
   command-has set queues (Pipe number bw delay limit loss buckets mask) = configured
   command-has set queues (Queue number pipe weight limit loss buckets mask) = either (is_some (set (ToPipe pipe))) Configured NoSuchPipe configured no_pipe
-  command-has set queues (DeletePipe number) = either (is_some (set (ToPipe number))) (cond (has_queues set queues number) PipeHasQueues Deleted) NoSuchPipe (either (has_queues set queues number) PipeHasQueues Deleted has_queues' deleted) no_pipe
+  command-has set queues (DeletePipe number) = either (is_some (set (ToPipe number))) (cond (has_queues set queues number) PipeHasQueues Deleted) NoSuchPipe
+      (either (has_queues set queues number) PipeHasQueues Deleted has_queues' deleted) no_pipe
   command-has set queues (DeleteQueue number) = either (is_some (set (ToQueue number))) Deleted NoSuchQueue deleted no_queue
 
 -- ---- Moments

@@ -32,13 +32,48 @@ use Rattle.dn_types.specs.declared.reply.Reply.TheVariants.{Delivered, Status, E
 -- ---- One event
 
 pub traffic-cons : (rule : Rule) (e : Event) (trace : List Event) → traffic rule (e ∷ trace) ≡ after_event rule e (traffic rule trace)
-traffic-cons rule (opened l) trace = λ i. record (traffic rule (opened l ∷ trace)) { lost = λ flow. count-event (is_loss_of flow) (opened l) trace i; full = λ flow. count-event (is_refusal_of flow) (opened l) trace i; started = λ flow. count-event (is_start_of flow) (opened l) trace i; accepted = count-event is_arrival (opened l) trace i }
-traffic-cons rule (arrived p) trace = λ i. record (traffic rule (arrived p ∷ trace)) { lost = λ flow. count-event (is_loss_of flow) (arrived p) trace i; full = λ flow. count-event (is_refusal_of flow) (arrived p) trace i; started = λ flow. count-event (is_start_of flow) (arrived p) trace i; accepted = count-event is_arrival (arrived p) trace i }
-traffic-cons rule (started s) trace = λ i. record (traffic rule (started s ∷ trace)) { lost = λ flow. count-event (is_loss_of flow) (started s) trace i; full = λ flow. count-event (is_refusal_of flow) (started s) trace i; started = λ flow. count-event (is_start_of flow) (started s) trace i; accepted = count-event is_arrival (started s) trace i }
-traffic-cons rule (lost l f) trace = λ i. record (traffic rule (lost l f ∷ trace)) { lost = λ flow. count-event (is_loss_of flow) (lost l f) trace i; full = λ flow. count-event (is_refusal_of flow) (lost l f) trace i; started = λ flow. count-event (is_start_of flow) (lost l f) trace i; accepted = count-event is_arrival (lost l f) trace i }
-traffic-cons rule (refused l f) trace = λ i. record (traffic rule (refused l f ∷ trace)) { lost = λ flow. count-event (is_loss_of flow) (refused l f) trace i; full = λ flow. count-event (is_refusal_of flow) (refused l f) trace i; started = λ flow. count-event (is_start_of flow) (refused l f) trace i; accepted = count-event is_arrival (refused l f) trace i }
-traffic-cons rule (discarded f) trace = λ i. record (traffic rule (discarded f ∷ trace)) { lost = λ flow. count-event (is_loss_of flow) (discarded f) trace i; full = λ flow. count-event (is_refusal_of flow) (discarded f) trace i; started = λ flow. count-event (is_start_of flow) (discarded f) trace i; accepted = count-event is_arrival (discarded f) trace i }
-traffic-cons rule (collected at) trace = λ i. record (traffic rule (collected at ∷ trace)) { lost = λ flow. count-event (is_loss_of flow) (collected at) trace i; full = λ flow. count-event (is_refusal_of flow) (collected at) trace i; started = λ flow. count-event (is_start_of flow) (collected at) trace i; accepted = count-event is_arrival (collected at) trace i }
+traffic-cons rule (opened l) trace = λ i. record (traffic rule (opened l ∷ trace)) {
+  lost = λ flow. count-event (is_loss_of flow) (opened l) trace i;
+  full = λ flow. count-event (is_refusal_of flow) (opened l) trace i;
+  started = λ flow. count-event (is_start_of flow) (opened l) trace i;
+  accepted = count-event is_arrival (opened l) trace i;
+}
+traffic-cons rule (arrived p) trace = λ i. record (traffic rule (arrived p ∷ trace)) {
+  lost = λ flow. count-event (is_loss_of flow) (arrived p) trace i;
+  full = λ flow. count-event (is_refusal_of flow) (arrived p) trace i;
+  started = λ flow. count-event (is_start_of flow) (arrived p) trace i;
+  accepted = count-event is_arrival (arrived p) trace i;
+}
+traffic-cons rule (started s) trace = λ i. record (traffic rule (started s ∷ trace)) {
+  lost = λ flow. count-event (is_loss_of flow) (started s) trace i;
+  full = λ flow. count-event (is_refusal_of flow) (started s) trace i;
+  started = λ flow. count-event (is_start_of flow) (started s) trace i;
+  accepted = count-event is_arrival (started s) trace i;
+}
+traffic-cons rule (lost l f) trace = λ i. record (traffic rule (lost l f ∷ trace)) {
+  lost = λ flow. count-event (is_loss_of flow) (lost l f) trace i;
+  full = λ flow. count-event (is_refusal_of flow) (lost l f) trace i;
+  started = λ flow. count-event (is_start_of flow) (lost l f) trace i;
+  accepted = count-event is_arrival (lost l f) trace i;
+}
+traffic-cons rule (refused l f) trace = λ i. record (traffic rule (refused l f ∷ trace)) {
+  lost = λ flow. count-event (is_loss_of flow) (refused l f) trace i;
+  full = λ flow. count-event (is_refusal_of flow) (refused l f) trace i;
+  started = λ flow. count-event (is_start_of flow) (refused l f) trace i;
+  accepted = count-event is_arrival (refused l f) trace i;
+}
+traffic-cons rule (discarded f) trace = λ i. record (traffic rule (discarded f ∷ trace)) {
+  lost = λ flow. count-event (is_loss_of flow) (discarded f) trace i;
+  full = λ flow. count-event (is_refusal_of flow) (discarded f) trace i;
+  started = λ flow. count-event (is_start_of flow) (discarded f) trace i;
+  accepted = count-event is_arrival (discarded f) trace i;
+}
+traffic-cons rule (collected at) trace = λ i. record (traffic rule (collected at ∷ trace)) {
+  lost = λ flow. count-event (is_loss_of flow) (collected at) trace i;
+  full = λ flow. count-event (is_refusal_of flow) (collected at) trace i;
+  started = λ flow. count-event (is_start_of flow) (collected at) trace i;
+  accepted = count-event is_arrival (collected at) trace i;
+}
 
 -- ---- Settling
 
@@ -64,7 +99,9 @@ settle-traffic : (rule : Rule) (most : ℕ) (settings : Settings) (at : ℕ) (tr
 settle-traffic rule zero settings at trace = refl
 settle-traffic rule (suc most) settings at trace =
     settle-one rule settings at most trace (first_start settings at (links trace) trace) (λ t. settle-traffic rule most settings at t)
-    ∙ ap (λ (o : Option Start). elim o as (λ _. Traffic) [ None ↦ traffic rule trace | Some s ↦ settle_most_in rule most settings at (after_event rule (started s) (traffic rule trace)) ]) (first_start-traffic rule settings at (links trace) trace)
+    ∙ ap (λ (o : Option Start). elim o as
+    (λ _. Traffic) [ None ↦ traffic rule trace | Some s ↦ settle_most_in rule most settings at (after_event rule (started s) (traffic rule trace)) ])
+    (first_start-traffic rule settings at (links trace) trace)
 
 waiting_all-traffic : (rule : Rule) (ls : List Link) (trace : List Event) → waiting_all ls trace ≡ waiting_all_in ls (traffic rule trace)
 waiting_all-traffic rule [] trace = refl
@@ -125,7 +162,8 @@ after_command-traffic rule _ command known trace = refl
 
 command-step : (rule : Rule) (calls : List Call) (command : Command) → queue_numbers (Configure command ∷ calls) ≡ queue_numbers_after command (queue_numbers calls)
     → standing_of_counted rule (Configure command ∷ calls) ≡ counted_step rule (standing_of_counted rule calls) (Configure command)
-command-step rule calls command e = λ i. record (standing_of_counted rule (Configure command ∷ calls)) { queue_numbers = e i; traffic = after_command-traffic rule (reply_to_command calls command) command (keys calls) (trace_of calls) i }
+command-step rule calls command e = λ i. record (standing_of_counted rule (Configure command ∷ calls))
+    { queue_numbers = e i; traffic = after_command-traffic rule (reply_to_command calls command) command (keys calls) (trace_of calls) i }
 
 submit-traffic : (rule : Rule) (calls : List Call) (target : Target) (packet : Packet) (moment : ℕ)
     → traffic rule (trace_of (Submit target packet moment ∷ calls)) ≡ (counted_step rule (standing_of_counted rule calls) (Submit target packet moment)).traffic
@@ -143,8 +181,10 @@ standing_of_counted-cons rule calls (Configure (Pipe number bw delay limit loss 
 standing_of_counted-cons rule calls (Configure (Queue number pipe weight limit loss buckets mask)) = command-step rule calls (Queue number pipe weight limit loss buckets mask) refl
 standing_of_counted-cons rule calls (Configure (DeletePipe number)) = command-step rule calls (DeletePipe number) refl
 standing_of_counted-cons rule calls (Configure (DeleteQueue number)) = command-step rule calls (DeleteQueue number) refl
-standing_of_counted-cons rule calls (Submit target packet moment) = λ i. record (standing_of_counted rule (Submit target packet moment ∷ calls)) { traffic = submit-traffic rule calls target packet moment i }
-standing_of_counted-cons rule calls (Advance moment) = λ i. record (standing_of_counted rule (Advance moment ∷ calls)) { traffic = settled-traffic rule (settings calls) (max (effective_moment calls) moment) (trace_of calls) i }
+standing_of_counted-cons rule calls (Submit target packet moment) =
+    λ i. record (standing_of_counted rule (Submit target packet moment ∷ calls)) { traffic = submit-traffic rule calls target packet moment i }
+standing_of_counted-cons rule calls (Advance moment) = λ i. record (standing_of_counted rule (Advance moment ∷ calls))
+    { traffic = settled-traffic rule (settings calls) (max (effective_moment calls) moment) (trace_of calls) i }
 standing_of_counted-cons rule calls (Collect moment) =
     let at = max (effective_moment calls) moment in
     let before = settled (settings calls) at (trace_of calls) in
@@ -240,4 +280,7 @@ replies-by-standing rule calls others same c = (
 
 -- A call after as many as the limit changes nothing.
 pub exhausted-changes-nothing : (rule : Rule) (calls : List Call) (c : Call) → call_limit ≤ length calls → (reply rule calls c ≡ Exhausted) × (standing rule (c ∷ calls) ≡ standing rule calls)
-exhausted-changes-nothing rule calls c h = (ap (λ b. cond b Exhausted (counted_reply rule calls c)) (le-leb call_limit (length calls) h), ap (λ (cs : List Call). standing_of_counted rule cs) (counted-full c calls h))
+exhausted-changes-nothing rule calls c h = (
+  ap (λ b. cond b Exhausted (counted_reply rule calls c)) (le-leb call_limit (length calls) h),
+  ap (λ (cs : List Call). standing_of_counted rule cs) (counted-full c calls h),
+)

@@ -20,7 +20,8 @@ use Rattle.dn_types.specs.declared.reply.Reply.TheVariants.{Deleted}
 use Rattle.dn_types.proofs.Giving.{count-event}
 
 -- Events that the test counts: none of those of which a call can make several.
-module _ (p : Event → Bool) (no_opening : (l : Link) → p (opened l) ≡ false) (no_start : (s : Start) → p (started s) ≡ false) (no_discard : (f : ℕ) → p (discarded f) ≡ false) (no_collect : (at : ℕ) → p (collected at) ≡ false) where
+module _ (p : Event → Bool) (no_opening : (l : Link) → p (opened l) ≡ false) (no_start : (s : Start) → p (started s) ≡ false)
+    (no_discard : (f : ℕ) → p (discarded f) ≡ false) (no_collect : (at : ℕ) → p (collected at) ≡ false) where
   pub count-none : (e : Event) (trace : List Event) → p e ≡ false → count_by p (e ∷ trace) ≡ count_by p trace
   count-none e trace h = let same = count-event p e trace in let none : cond {A = ℕ} (p e) 1 0 ≡ 0 = ap {B = ℕ} (λ b. cond b 1 0) h in omega (arith, same, none)
 

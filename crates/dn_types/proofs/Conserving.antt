@@ -27,7 +27,8 @@ Busy at trace = (link : Link) (flow : ℕ) → IsHome link flow → 0 < length (
 
 busy-settled : (set : Settings) (at : ℕ) (trace : List Event) → Busy at (settled set at trace)
 busy-settled set at trace link flow home some =
-    ⊎_elim (λ soon. let none = ap (λ (q : List Accepted). length q) (empty-home set at link flow (settled set at trace) home (settled-ends set at link trace) soon.1) in absurd (omega arith)) (λ later. later.1) (leb_tells (free link (settled set at trace)) at)
+    ⊎_elim (λ soon. let none = ap (λ (q : List Accepted). length q) (empty-home set at link flow (settled set at trace) home
+    (settled-ends set at link trace) soon.1) in absurd (omega arith)) (λ later. later.1) (leb_tells (free link (settled set at trace)) at)
 
 busy-opened : (at : ℕ) (b : Bool) (l : Link) (trace : List Event) → Busy at trace → Busy at (cond b (opened l ∷ trace) trace)
 busy-opened at true l trace h = h
@@ -46,14 +47,17 @@ busy-started : (set : Settings) (at : ℕ) (p : Accepted) (trace : List Event) �
 busy-started set at p trace soon h link flow home some = by (link_eq p.link link) (nat_eq p.stamped.flow flow) refl some
   where
     idle : link_eq p.link link ≡ true → length (backlog link flow trace) ≡ 0
-    idle e = ⊎_elim (λ none. omega (arith, none.1)) (λ more. let busy = h link flow home (omega (arith, more.1)) in let same = ap (λ (l : Link). free l trace) (link_eq-true p.link link e) in absurd (omega arith)) (leb_tells (length (backlog link flow trace)) 0)
+    idle e = ⊎_elim (λ none. omega (arith, none.1)) (λ more. let busy = h link flow home (omega (arith, more.1)) in let same =
+        ap (λ (l : Link). free l trace) (link_eq-true p.link link e) in absurd (omega arith)) (leb_tells (length (backlog link flow trace)) 0)
 
     one : (q : List Accepted) → length q ≡ 0 → 0 < length (drop 1 (q ++ p ∷ [])) → ⊥
     one [] e some = absurd (omega arith)
     one (x ∷ q) e some = absurd (omega arith)
 
     by : (b c : Bool) → link_eq p.link link ≡ b →
-        0 < length (cond (b && c) (drop 1 (cond (b && c) (backlog link flow trace ++ p ∷ []) (backlog link flow trace))) (cond (b && c) (backlog link flow trace ++ p ∷ []) (backlog link flow trace))) → at < cond b (at + (start_at set p.link p at).transmission) (free link trace)
+        0 < length (cond (b && c) (drop 1 (cond (b && c) (backlog link flow trace ++ p ∷ []) (backlog link flow trace)))
+        (cond (b && c) (backlog link flow trace ++ p ∷ []) (backlog link flow trace))) →
+        at < cond b (at + (start_at set p.link p at).transmission) (free link trace)
     by true true e some = absurd (one (backlog link flow trace) (idle e) some)
     by true false e some = let none = idle e in absurd (omega arith)
     by false c e some = h link flow home some

@@ -79,7 +79,8 @@ a_new_busy_period : Answers Ordered (two_queues 1 1 ++
     (b 10000000 ⇒ Queued 10000000 1 2) ∷
     (b 10000000 ⇒ Queued 10000000 1 3) ∷
     (a 10000000 ⇒ Queued 10000000 0 4) ∷
-    (Collect 20000000 ⇒ Delivered 20000000 (delivery 0 0 0 1000000 ∷ delivery 1 0 1000000 2000000 ∷ delivery 2 1 10000000 11000000 ∷ delivery 4 0 11000000 12000000 ∷ delivery 3 1 12000000 13000000 ∷ [])) ∷
+    (Collect 20000000 ⇒ Delivered 20000000 (delivery 0 0 0 1000000 ∷ delivery 1 0 1000000 2000000 ∷ delivery 2 1 10000000 11000000 ∷
+    delivery 4 0 11000000 12000000 ∷ delivery 3 1 12000000 13000000 ∷ [])) ∷
     [])
 a_new_busy_period = refl
 

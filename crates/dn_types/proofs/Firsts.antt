@@ -66,7 +66,8 @@ module _ (q : ℕ → List Stamped) (own_firsts : (f : ℕ) (h : Stamped) → sl
   heads-first (suc n) = All-append IsFirst (heads n q) (take 1 (q n)) (heads-first n) (take-first n (q n) refl)
 
   pub pick-first : (n v : ℕ) (h : Stamped) → pick v (heads n q) ≡ Some h → slice_get (q h.flow) 0 ≡ Some h
-  pick-first n v h e = first_to_go-one-of IsFirst (filter (λ x. nat_le x.start_tag (raised v (heads n q))) (heads n q)) h (All-filter (λ x. nat_le x.start_tag (raised v (heads n q))) IsFirst (heads n q) (heads-first n)) e
+  pick-first n v h e = first_to_go-one-of IsFirst (filter (λ x. nat_le x.start_tag (raised v (heads n q))) (heads n q)) h
+      (All-filter (λ x. nat_le x.start_tag (raised v (heads n q))) IsFirst (heads n q) (heads-first n)) e
 
 -- ---- The next packet of a shared link
 
@@ -92,7 +93,8 @@ module _ (pipe : ℕ) (trace : List Event) where
   own_firsts : (f : ℕ) (h : Stamped) → slice_get (q f) 0 ≡ Some h → h.flow ≡ f
   own_firsts f h e =
       let first = first-stamped (backlog l f trace) h e in
-      ap (λ (x : Stamped). x.flow) (sym first.2) ∙ eqb-true first.0.stamped.flow f (and-right (link_eq first.0.link l) (nat_eq first.0.stamped.flow f) (first-own l f first.0 (backlog l f trace) first.1 (backlog-own l f trace)))
+      ap (λ (x : Stamped). x.flow) (sym first.2) ∙ eqb-true first.0.stamped.flow f
+      (and-right (link_eq first.0.link l) (nat_eq first.0.stamped.flow f) (first-own l f first.0 (backlog l f trace) first.1 (backlog-own l f trace)))
 
   heads_are : heads (flow_bound trace) q ≡ link_heads l trace
   heads_are = heads-same (flow_bound trace) q (λ f. backlog l f trace) (λ f. refl)
@@ -101,7 +103,8 @@ module _ (pipe : ℕ) (trace : List Event) where
   pub next-picked : (p : Accepted) → next_packet (shared pipe) trace ≡ Some p → pick (virtual_time (shared pipe) trace) (link_heads (shared pipe) trace) ≡ Some p.stamped
   next-picked p next = by (pick (virtual_time l trace) (link_heads l trace)) refl next
     where
-      by : (o : Option Stamped) → pick (virtual_time l trace) (link_heads l trace) ≡ o → option_and_then (λ h. slice_get (backlog l h.flow trace) 0) o ≡ Some p → pick (virtual_time l trace) (link_heads l trace) ≡ Some p.stamped
+      by : (o : Option Stamped) → pick (virtual_time l trace) (link_heads l trace) ≡ o →
+          option_and_then (λ h. slice_get (backlog l h.flow trace) 0) o ≡ Some p → pick (virtual_time l trace) (link_heads l trace) ≡ Some p.stamped
       by None e is = absurd cc
       by (Some h) e is =
           let at_front = pick-first q own_firsts (flow_bound trace) (virtual_time l trace) h (ap (λ (hs : List Stamped). pick (virtual_time l trace) hs) heads_are ∙ e) in
@@ -132,4 +135,6 @@ module _ (pipe : ℕ) (trace : List Event) where
             absurd cc
 
     pub none-shared : (flow : ℕ) → backlog l flow trace ≡ []
-    none-shared flow = ⊎_elim (λ high. backlog-above l flow trace high.1) (λ low. total-at (flow_bound trace) (λ f. backlog l f trace) flow low.1 (heads-none (flow_bound trace) (λ f. backlog l f trace) (sym (length-stamped (heads (flow_bound trace) (λ f. backlog l f trace))) ∙ no_heads))) (leb_tells (flow_bound trace) flow)
+    none-shared flow = ⊎_elim (λ high. backlog-above l flow trace high.1)
+        (λ low. total-at (flow_bound trace) (λ f. backlog l f trace) flow low.1 (heads-none (flow_bound trace) (λ f. backlog l f trace)
+        (sym (length-stamped (heads (flow_bound trace) (λ f. backlog l f trace))) ∙ no_heads))) (leb_tells (flow_bound trace) flow)

@@ -43,7 +43,8 @@ module _ (p : Delivery → Bool) where
           by false e = grind (arith, nat_tests)
 
       by_test : (b c : Bool) → c ≡ not' b → count_by p (filter (λ d. nat_le d.due at) ds) + count_by p (filter (λ d. nat_lt at d.due) ds) ≡ count_by p ds →
-          count_by p (cond b (d ∷ filter (λ d. nat_le d.due at) ds) (filter (λ d. nat_le d.due at) ds)) + count_by p (cond c (d ∷ filter (λ d. nat_lt at d.due) ds) (filter (λ d. nat_lt at d.due) ds)) ≡ count_by p (d ∷ ds)
+          count_by p (cond b (d ∷ filter (λ d. nat_le d.due at) ds) (filter (λ d. nat_le d.due at) ds))
+          + count_by p (cond c (d ∷ filter (λ d. nat_lt at d.due) ds) (filter (λ d. nat_lt at d.due) ds)) ≡ count_by p (d ∷ ds)
       by_test true false e rest = let a = count-delivery p d (filter (λ d. nat_le d.due at) ds) in let b = count-delivery p d ds in omega arith
       by_test false true e rest = let a = count-delivery p d (filter (λ d. nat_lt at d.due) ds) in let b = count-delivery p d ds in omega arith
       by_test true true e rest = absurd cc
@@ -56,7 +57,12 @@ gives-started rule number (arrived p ∷ trace) = let rest = gives-started rule 
 gives-started rule number (started s ∷ trace) =
     let rest = gives-started rule number trace in
     let e = count-event (is_start_with number) (started s) trace in
-    let more = count-in_order (is_packet number) (record { due = due_by rule (arrival_time s) (last_due rule s.packet.link trace); packet = s.packet.packet; flow = s.packet.stamped.flow; start = s.moment }) (undelivered rule trace) in
+    let more = count-in_order (is_packet number) (record {
+      due = due_by rule (arrival_time s) (last_due rule s.packet.link trace);
+      packet = s.packet.packet;
+      flow = s.packet.stamped.flow;
+      start = s.moment;
+    }) (undelivered rule trace) in
     omega (arith, rest, e, more)
 gives-started rule number (lost l f ∷ trace) = let rest = gives-started rule number trace in let e = count-event (is_start_with number) (lost l f) trace in omega arith
 gives-started rule number (refused l f ∷ trace) = let rest = gives-started rule number trace in let e = count-event (is_start_with number) (refused l f) trace in omega arith

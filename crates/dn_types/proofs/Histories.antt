@@ -51,7 +51,8 @@ lawful-after rule calls [] e lawful is = (is, tt)
 lawful-after rule calls (x ∷ history) e lawful is = (
   lawful.0,
   lawful-after rule (x.call ∷ calls) history e lawful.1
-      (is ∙ ap (λ (cs : List Call). reply rule cs e.call) (ap (λ (cs : List Call). cs ++ calls) (reverse-cons x.call (map (λ y. y.call) history)) ∙ append_assoc (calls_of history) (x.call ∷ []) calls)),
+      (is ∙ ap (λ (cs : List Call). reply rule cs e.call)
+      (ap (λ (cs : List Call). cs ++ calls) (reverse-cons x.call (map (λ y. y.call) history)) ∙ append_assoc (calls_of history) (x.call ∷ []) calls)),
 )
 
 -- A lawful history stays so with one entry more whose reply is the one after its calls.

@@ -56,7 +56,8 @@ settings-kept (Configure command ∷ calls) target = by (target_eq (subject comm
   where
     by : (b : Bool) → target_eq (subject command) target ≡ b → IsKept target (settings calls target) → ((t : Target) → IsKept t (settings calls t)) →
         IsKept target (cond b (setting_after (command_reply (settings calls) (queue_numbers calls) command) command (settings calls target)) (settings calls target))
-    by true e h all = subst (λ (t : Target). IsKept t (setting_after (command_reply (settings calls) (queue_numbers calls) command) command (settings calls t))) (target_eq-true (subject command) target e) (kept-after (settings calls) (queue_numbers calls) command (all (subject command)))
+    by true e h all = subst (λ (t : Target). IsKept t (setting_after (command_reply (settings calls) (queue_numbers calls) command) command
+        (settings calls t))) (target_eq-true (subject command) target e) (kept-after (settings calls) (queue_numbers calls) command (all (subject command)))
     by false e h all = h
 settings-kept (Submit target' packet moment ∷ calls) target = settings-kept calls target
 settings-kept (Advance moment ∷ calls) target = settings-kept calls target
@@ -88,7 +89,12 @@ or-more true b e = refl
 or-more false b e = e
 
 whole-after : (set : Settings) (queues : List ℕ) (command : Command) → IsWhole set queues →
-    IsWhole (after set queues command) (elim command as (λ _. List ℕ) [ Pipe number bw delay limit loss buckets mask ↦ queues | Queue number pipe weight limit loss buckets mask ↦ number ∷ queues | DeletePipe number ↦ queues | DeleteQueue number ↦ queues ])
+    IsWhole (after set queues command) (elim command as (λ _. List ℕ) [
+      | Pipe number bw delay limit loss buckets mask ↦ queues
+      | Queue number pipe weight limit loss buckets mask ↦ number ∷ queues
+      | DeletePipe number ↦ queues
+      | DeleteQueue number ↦ queues
+    ])
 whole-after set queues (Pipe number bw delay limit loss buckets mask) h = record { listed = h.listed; carried = λ q n is. by n (nat_eq number n) (h.carried q n is) }
   where
     by : (n : ℕ) (b : Bool) → is_some (set (ToPipe n)) ≡ true → is_some (cond b (Some (Pipe number bw delay limit loss buckets mask)) (set (ToPipe n))) ≡ true

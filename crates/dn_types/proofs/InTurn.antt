@@ -35,11 +35,13 @@ no-then x y m n Equal Greater rest h k e = (omega arith, λ same. omega arith)
 no-then x y m n Greater b rest h k e = (omega arith, λ same. absurd (omega arith))
 
 before-then : (d e : Delivery) → is_given_before d e ≡ true → IsNoLater d e
-before-then d e is = yes-then d.due e.due d.packet e.packet (nat_cmp d.due e.due) (nat_cmp d.packet e.packet) (ordering_then (nat_cmp d.flow e.flow) (nat_cmp d.start e.start)) (ranks d.due e.due) (ranks d.packet e.packet) is
+before-then d e is = yes-then d.due e.due d.packet e.packet (nat_cmp d.due e.due) (nat_cmp d.packet e.packet)
+    (ordering_then (nat_cmp d.flow e.flow) (nat_cmp d.start e.start)) (ranks d.due e.due) (ranks d.packet e.packet) is
 
 not-before-then : (d e : Delivery) → is_given_before d e ≡ false → IsNoLater e d
 not-before-then d e is =
-    no-then d.due e.due d.packet e.packet (nat_cmp d.due e.due) (nat_cmp d.packet e.packet) (ordering_then (nat_cmp d.flow e.flow) (nat_cmp d.start e.start)) (ranks d.due e.due) (ranks d.packet e.packet) is
+    no-then d.due e.due d.packet e.packet (nat_cmp d.due e.due) (nat_cmp d.packet e.packet) (ordering_then (nat_cmp d.flow e.flow) (nat_cmp d.start e.start))
+    (ranks d.due e.due) (ranks d.packet e.packet) is
 
 chain-later : (d e f : Delivery) → IsNoLater d e → IsNoLater e f → IsNoLater d f
 chain-later d e f h k = let a = h.0 in let b = k.0 in (omega arith, λ same. let x = h.1 (omega arith) in let y = k.1 (omega arith) in omega (arith, x, y))

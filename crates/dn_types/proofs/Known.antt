@@ -228,7 +228,8 @@ module _ (calls : List Call) where
 
   -- A packet that is taken is of a known flow.
   taken-known : (target : Target) (packet : Packet) (how : Treatment) → treatment (set target) ≡ Some how →
-      IsKnown set (with_key (key_of target packet.tuple how) (keys calls)) (link_of target (flow_number (keys calls) (key_of target packet.tuple how)) how.pipe) (flow_number (keys calls) (key_of target packet.tuple how))
+      IsKnown set (with_key (key_of target packet.tuple how) (keys calls))
+      (link_of target (flow_number (keys calls) (key_of target packet.tuple how)) how.pipe) (flow_number (keys calls) (key_of target packet.tuple how))
   taken-known target packet how is =
       record {
         key = key_of target packet.tuple how;
@@ -260,7 +261,8 @@ module _ (calls : List Call) where
   known-verdict known packet at (loses link flow) trace here h = h
   known-verdict known packet at (refuses link flow) trace here h = h
   known-verdict known packet at (takes link flow how) trace here h =
-      known-join known at (accept link packet flow how (opening link at trace)) (opening link at trace) here (known-opened known (nat_eq (waiting link trace) 0 && nat_le (free link trace) at) link trace h)
+      known-join known at (accept link packet flow how (opening link at trace)) (opening link at trace) here
+      (known-opened known (nat_eq (waiting link trace) 0 && nat_le (free link trace) at) link trace h)
 
   verdict-known : (target : Target) (packet : Packet) (o : Option Treatment) (trace : List Event) → treatment (set target) ≡ o →
       IsTakenKnown (keys_with target packet.tuple o (keys calls)) (verdict_by (keys calls) target packet o trace)
@@ -289,7 +291,9 @@ all-known (Submit target packet moment ∷ calls) =
     let at = max (effective_moment calls) moment in
     let before = settled (settings calls) at (trace_of calls) in
     let o = treatment (settings calls target) in
-    known-verdict calls (keys_with target packet.tuple o (keys calls)) packet at (verdict calls target packet before) before (verdict-known calls target packet o before refl) (known-with calls target packet o before (known-settle (settings calls) (settings calls) (keys calls) (waiting_all (links (trace_of calls)) (trace_of calls)) at (trace_of calls) (all-known calls)))
+    known-verdict calls (keys_with target packet.tuple o (keys calls)) packet at (verdict calls target packet before) before
+    (verdict-known calls target packet o before refl) (known-with calls target packet o before (known-settle (settings calls) (settings calls) (keys calls)
+    (waiting_all (links (trace_of calls)) (trace_of calls)) at (trace_of calls) (all-known calls)))
 all-known (Advance moment ∷ calls) =
     known-settle (settings calls) (settings calls) (keys calls) (waiting_all (links (trace_of calls)) (trace_of calls)) (max (effective_moment calls) moment) (trace_of calls) (all-known calls)
 all-known (Collect moment ∷ calls) =

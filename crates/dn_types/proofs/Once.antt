@@ -132,7 +132,8 @@ module _ (n : ℕ) where
           let second = h m g m g in
           let here = waits-arrived l f p trace in
           let there = waits-arrived m g p trace in
-          let once = apart (is_of l f p) (is_of m g p) (link_eq l m && nat_eq f g) (is_number p) (waits l f (arrived p ∷ trace)) (waits m g (arrived p ∷ trace)) (λ a b. same-place l m f g p a b) (omega (arith, first, here, none)) (omega (arith, second, there, none)) in
+          let once = apart (is_of l f p) (is_of m g p) (link_eq l m && nat_eq f g) (is_number p) (waits l f (arrived p ∷ trace))
+          (waits m g (arrived p ∷ trace)) (λ a b. same-place l m f g p a b) (omega (arith, first, here, none)) (omega (arith, second, there, none)) in
           omega arith
         where
           new-number : (a k : ℕ) → k ≡ a → nat_eq k n ≡ true → nat_lt n a ≡ false

@@ -123,7 +123,9 @@ trace-proper (Configure command ∷ calls) = command-proper (reply_to_command ca
 trace-proper (Submit target packet moment ∷ calls) =
     let at = max (effective_moment calls) moment in
     let before = settled (settings calls) at (trace_of calls) in
-    verdict-proper (settings calls) at packet (verdict calls target packet before) before (verdict-home (keys calls) target packet (treatment (settings calls target)) before) (settled-proper (settings calls) at (trace_of calls) (trace-proper calls)) (λ link. settled-ends (settings calls) at link (trace_of calls))
+    verdict-proper (settings calls) at packet
+    (verdict calls target packet before) before (verdict-home (keys calls) target packet (treatment (settings calls target)) before)
+    (settled-proper (settings calls) at (trace_of calls) (trace-proper calls)) (λ link. settled-ends (settings calls) at link (trace_of calls))
 trace-proper (Advance moment ∷ calls) = settled-proper (settings calls) (max (effective_moment calls) moment) (trace_of calls) (trace-proper calls)
 trace-proper (Collect moment ∷ calls) = settled-proper (settings calls) (max (effective_moment calls) moment) (trace_of calls) (trace-proper calls)
 trace-proper (Show ∷ calls) = trace-proper calls

@@ -147,15 +147,19 @@ module _ (n : ℕ) where
   undelivered-below rule [] h few = All-nil IsNumbered
   undelivered-below rule (opened l ∷ trace) h few = undelivered-below rule trace h (same-count (opened l) trace refl few)
   undelivered-below rule (arrived p ∷ trace) h few = let lower = one-more p trace few in undelivered-below rule trace h.1 (omega (arith, lower))
-  undelivered-below rule (started s ∷ trace) h few = in_order-all IsNumbered (delivery_of rule s (last_due rule s.packet.link trace)) (undelivered rule trace) (start-below s trace h few) (undelivered-below rule trace h.2 (same-count (started s) trace refl few))
+  undelivered-below rule (started s ∷ trace) h few = in_order-all IsNumbered (delivery_of rule s (last_due rule s.packet.link trace)) (undelivered rule trace)
+      (start-below s trace h few) (undelivered-below rule trace h.2 (same-count (started s) trace refl few))
   undelivered-below rule (lost l f ∷ trace) h few = undelivered-below rule trace h (same-count (lost l f) trace refl few)
   undelivered-below rule (refused l f ∷ trace) h few = undelivered-below rule trace h (same-count (refused l f) trace refl few)
   undelivered-below rule (discarded f ∷ trace) h few = undelivered-below rule trace h (same-count (discarded f) trace refl few)
-  undelivered-below rule (collected at ∷ trace) h few = All-filter (λ d. nat_lt at d.due) IsNumbered (undelivered rule trace) (undelivered-below rule trace h (same-count (collected at) trace refl few))
+  undelivered-below rule (collected at ∷ trace) h few =
+      All-filter (λ d. nat_lt at d.due) IsNumbered (undelivered rule trace) (undelivered-below rule trace h (same-count (collected at) trace refl few))
 
   -- ---- Starts
 
-  starts-quiet : (flow : ℕ) (e : Event) (trace : List Event) → is_start_of flow e ≡ false → ((k : ℕ) → is_start_with k e ≡ false) → count_by (is_start_of flow) trace ≤ sum_below n (λ k. start_count k trace) → count_by (is_start_of flow) (e ∷ trace) ≤ sum_below n (λ k. start_count k (e ∷ trace))
+  starts-quiet : (flow : ℕ) (e : Event) (trace : List Event) →
+      is_start_of flow e ≡ false → ((k : ℕ) → is_start_with k e ≡ false) → count_by (is_start_of flow) trace ≤ sum_below n (λ k. start_count k trace) →
+      count_by (is_start_of flow) (e ∷ trace) ≤ sum_below n (λ k. start_count k (e ∷ trace))
   starts-quiet flow e trace is none h =
       let one = count-event (is_start_of flow) e trace in
       let zero' : cond {A = ℕ} (is_start_of flow e) 1 0 ≡ 0 = ap {B = ℕ} (λ b. cond b 1 0) is in

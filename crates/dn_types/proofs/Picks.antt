@@ -24,7 +24,8 @@ module _ (r : ℕ) where
 
   some-least : (most : ℕ) (xs : List Stamped) → least_start_tag most xs ≤ r → (most ≤ r) ⊎ (0 < length (filter (λ h. nat_le h.start_tag r) xs))
   some-least most [] h = inl h
-  some-least most (x ∷ xs) h = ⊎_elim (λ le. inr (some-first x xs le.1)) (λ gt. ⊎_elim (λ m. inl m) (λ some. inr (some-more x xs some)) (some-least most xs (omega (arith, gt.1)))) (leb_tells x.start_tag r)
+  some-least most (x ∷ xs) h = ⊎_elim (λ le. inr (some-first x xs le.1))
+      (λ gt. ⊎_elim (λ m. inl m) (λ some. inr (some-more x xs some)) (some-least most xs (omega (arith, gt.1)))) (leb_tells x.start_tag r)
 
   some-eligible : (x : Stamped) (xs : List Stamped) → least_start_tag x.start_tag xs ≤ r → 0 < length (filter (λ h. nat_le h.start_tag r) (x ∷ xs))
   some-eligible x xs h = ⊎_elim (λ le. some-first x xs le) (λ some. some-more x xs some) (some-least x.start_tag xs h)

@@ -63,7 +63,8 @@ settings-in-range [] h = λ target. tt
 settings-in-range (Configure command ∷ calls) h = λ target.
     let before = settings-in-range calls (all-rest (Configure command) calls h) target in
     let r = command_reply (settings calls) (queue_numbers calls) command in
-    either-in-range (target_eq (subject command) target) (setting_after r command (settings calls target)) (settings calls target) (after-in-range r command (settings calls target) (all-first (Configure command) calls h) before) before
+    either-in-range (target_eq (subject command) target) (setting_after r command (settings calls target)) (settings calls target)
+    (after-in-range r command (settings calls target) (all-first (Configure command) calls h) before) before
 settings-in-range (Submit target packet moment ∷ calls) h = settings-in-range calls (all-rest (Submit target packet moment) calls h)
 settings-in-range (Advance moment ∷ calls) h = settings-in-range calls (all-rest (Advance moment) calls h)
 settings-in-range (Collect moment ∷ calls) h = settings-in-range calls (all-rest (Collect moment) calls h)

@@ -91,9 +91,12 @@ backlog-unknown link flow (arrived p ∷ trace) e = by_test (list_any (link_eq p
     or-right false b h = h
     or-right true b h = absurd cc
 
-    by_test : (b : Bool) → list_any (link_eq p.link) (links trace) ≡ b → list_any (link_eq link) (cond b (links trace) (links trace ++ p.link ∷ [])) ≡ false → (list_any (link_eq link) (links trace) ≡ false → backlog link flow trace ≡ []) → cond (is_of link flow p) (backlog link flow trace ++ p ∷ []) (backlog link flow trace) ≡ []
+    by_test : (b : Bool) → list_any (link_eq p.link) (links trace) ≡ b → list_any (link_eq link) (cond b (links trace) (links trace ++ p.link ∷ [])) ≡ false
+        → (list_any (link_eq link) (links trace) ≡ false → backlog link flow trace ≡ [])
+        → cond (is_of link flow p) (backlog link flow trace ++ p ∷ []) (backlog link flow trace) ≡ []
     by_test true is absent rest =
-        not_here (apart (λ same. let there : list_any (link_eq link) (links trace) ≡ true = sym (ap (λ (m : Link). list_any (link_eq m) (links trace)) (link_eq-true p.link link same)) ∙ is in let t : true ≡ false = sym there ∙ absent in cc)) (rest absent)
+        not_here (apart (λ same. let there : list_any (link_eq link) (links trace) ≡ true = sym (ap (λ (m : Link). list_any (link_eq m) (links trace))
+        (link_eq-true p.link link same)) ∙ is in let t : true ≡ false = sym there ∙ absent in cc)) (rest absent)
     by_test false is absent rest =
         let split = sym (list_any-append (link_eq link) (links trace) (p.link ∷ [])) ∙ absent in
         let not_last = or-left (link_eq link p.link) false (or-right (list_any (link_eq link) (links trace)) (list_any (link_eq link) (p.link ∷ [])) split) in
@@ -157,11 +160,15 @@ pub first_start-of : (settings : Settings) (at : ℕ) (ls : List Link) (trace : 
 first_start-of settings at [] trace s e = absurd cc
 first_start-of settings at (l ∷ ls) trace s e = by_next (next_start settings at l trace) refl (first_start settings at ls trace) refl (λ is. first_start-of settings at ls trace s is) e
   where
-    by_test : (b : Bool) (x y : Start) → next_start settings at l trace ≡ Some x → first_start settings at ls trace ≡ Some y → (first_start settings at ls trace ≡ Some s → (link : Link) × (next_start settings at link trace ≡ Some s)) → Some (cond b y x) ≡ Some s → (link : Link) × (next_start settings at link trace ≡ Some s)
+    by_test : (b : Bool) (x y : Start) → next_start settings at l trace ≡ Some x → first_start settings at ls trace ≡ Some y
+        → (first_start settings at ls trace ≡ Some s → (link : Link) × (next_start settings at link trace ≡ Some s)) → Some (cond b y x) ≡ Some s
+        → (link : Link) × (next_start settings at link trace ≡ Some s)
     by_test true x y is is' rest e = rest (is' ∙ e)
     by_test false x y is is' rest e = (l, is ∙ e)
 
-    by_next : (o : Option Start) → next_start settings at l trace ≡ o → (p : Option Start) → first_start settings at ls trace ≡ p → (first_start settings at ls trace ≡ Some s → (link : Link) × (next_start settings at link trace ≡ Some s)) → sooner o p ≡ Some s → (link : Link) × (next_start settings at link trace ≡ Some s)
+    by_next : (o : Option Start) → next_start settings at l trace ≡ o → (p : Option Start) → first_start settings at ls trace ≡ p
+        → (first_start settings at ls trace ≡ Some s → (link : Link) × (next_start settings at link trace ≡ Some s)) → sooner o p ≡ Some s
+        → (link : Link) × (next_start settings at link trace ≡ Some s)
     by_next None is p is' rest e = rest (is' ∙ e)
     by_next (Some x) is None is' rest e = (l, is ∙ e)
     by_next (Some x) is (Some y) is' rest e = by_test (nat_lt y.moment x.moment) x y is is' rest e
@@ -195,11 +202,15 @@ waiting_all-first settings at (l ∷ ls) trace s e = by_next (next_start setting
     there : waiting_all ls (started s ∷ trace) < waiting_all ls trace → waiting_all (l ∷ ls) (started s ∷ trace) < waiting_all (l ∷ ls) trace
     there fewer = let same = waiting-no_more l s trace in omega arith
 
-    by_test : (b : Bool) (x y : Start) → next_start settings at l trace ≡ Some x → first_start settings at ls trace ≡ Some y → (first_start settings at ls trace ≡ Some s → waiting_all ls (started s ∷ trace) < waiting_all ls trace) → Some (cond b y x) ≡ Some s → waiting_all (l ∷ ls) (started s ∷ trace) < waiting_all (l ∷ ls) trace
+    by_test : (b : Bool) (x y : Start) → next_start settings at l trace ≡ Some x → first_start settings at ls trace ≡ Some y
+        → (first_start settings at ls trace ≡ Some s → waiting_all ls (started s ∷ trace) < waiting_all ls trace) → Some (cond b y x) ≡ Some s
+        → waiting_all (l ∷ ls) (started s ∷ trace) < waiting_all (l ∷ ls) trace
     by_test true x y is is' rest e = there (rest (is' ∙ e))
     by_test false x y is is' rest e = here (is ∙ e)
 
-    by_next : (o : Option Start) → next_start settings at l trace ≡ o → (p : Option Start) → first_start settings at ls trace ≡ p → (first_start settings at ls trace ≡ Some s → waiting_all ls (started s ∷ trace) < waiting_all ls trace) → sooner o p ≡ Some s → waiting_all (l ∷ ls) (started s ∷ trace) < waiting_all (l ∷ ls) trace
+    by_next : (o : Option Start) → next_start settings at l trace ≡ o → (p : Option Start) → first_start settings at ls trace ≡ p
+        → (first_start settings at ls trace ≡ Some s → waiting_all ls (started s ∷ trace) < waiting_all ls trace) → sooner o p ≡ Some s
+        → waiting_all (l ∷ ls) (started s ∷ trace) < waiting_all (l ∷ ls) trace
     by_next None is p is' rest e = there (rest (is' ∙ e))
     by_next (Some x) is None is' rest e = here (is ∙ e)
     by_next (Some x) is (Some y) is' rest e = by_test (nat_lt y.moment x.moment) x y is is' rest e
@@ -216,12 +227,15 @@ settle-ends (suc most) settings at trace h = step (first_start settings at (link
   where
     step : (o : Option Start) → first_start settings at (links trace) trace ≡ o
         → ((t : List Event) → waiting_all (links t) t ≤ most → first_start settings at (links (settle most settings at t)) (settle most settings at t) ≡ None)
-        → first_start settings at (links (elim o as (λ _. List Event) [ None ↦ trace | Some s ↦ settle most settings at (started s ∷ trace) ])) (elim o as (λ _. List Event) [ None ↦ trace | Some s ↦ settle most settings at (started s ∷ trace) ]) ≡ None
+        → first_start settings at (links (elim o as (λ _. List Event) [ None ↦ trace | Some s ↦ settle most settings at (started s ∷ trace) ]))
+        (elim o as (λ _. List Event) [ None ↦ trace | Some s ↦ settle most settings at (started s ∷ trace) ]) ≡ None
     step None e rest = e
     step (Some s) e rest = let fewer = waiting_all-first settings at (links trace) trace s e in rest (started s ∷ trace) (omega arith)
 
 -- After a settling no start is due on any link: a packet that waits does so for a link that is free later.
 pub settled-ends : (settings : Settings) (at : ℕ) (link : Link) (trace : List Event) → next_start settings at link (settled settings at trace) ≡ None
 settled-ends settings at link trace =
-    ⊎_elim (λ there. none-first settings at link (links (settled settings at trace)) (settled settings at trace) there (settle-ends (waiting_all (links trace) trace) settings at trace (omega arith))) (λ absent. none-unknown settings at link (settled settings at trace) absent)
+    ⊎_elim (λ there. none-first settings at link
+    (links (settled settings at trace)) (settled settings at trace) there (settle-ends (waiting_all (links trace) trace) settings at trace (omega arith)))
+    (λ absent. none-unknown settings at link (settled settings at trace) absent)
     (true_or_false (list_any (link_eq link) (links (settled settings at trace))))

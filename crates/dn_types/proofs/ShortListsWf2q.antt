@@ -18,7 +18,8 @@ virtual_time_stays_raised : Answers Ordered (
     (to_queue 1 0 ⇒ Queued 0 0 3) ∷
     (to_queue 2 0 ⇒ Queued 0 1 4) ∷
     (to_queue 2 3000000 ⇒ Queued 3000000 1 5) ∷
-    (Collect 27500000 ⇒ Delivered 27500000 (delivery 0 0 0 1000000 ∷ delivery 1 0 1000000 2000000 ∷ delivery 4 1 2000000 3000000 ∷ delivery 2 0 3000000 4000000 ∷ delivery 3 0 4000000 5000000 ∷ delivery 5 1 5000000 6000000 ∷ [])) ∷
+    (Collect 27500000 ⇒ Delivered 27500000 (delivery 0 0 0 1000000 ∷ delivery 1 0 1000000 2000000 ∷ delivery 4 1 2000000 3000000 ∷
+    delivery 2 0 3000000 4000000 ∷ delivery 3 0 4000000 5000000 ∷ delivery 5 1 5000000 6000000 ∷ [])) ∷
     [])
 virtual_time_stays_raised = refl
 
@@ -32,7 +33,8 @@ a_start_tag_equal_to_virtual_time_is_eligible : Answers Ordered (
     (to_queue 3 0 ⇒ Queued 15000000 1 2) ∷
     (to_queue 3 0 ⇒ Queued 15000000 1 3) ∷
     (Submit (ToQueue 1) (sized 64) 17000000 ⇒ Queued 17000000 0 4) ∷
-    (Collect 26000000 ⇒ Delivered 26000000 (delivery 0 0 15000000 16000000 ∷ delivery 1 0 16000000 17000000 ∷ delivery 2 1 17000000 18000000 ∷ delivery 4 0 18000000 18064000 ∷ delivery 3 1 18064000 19064000 ∷ [])) ∷
+    (Collect 26000000 ⇒ Delivered 26000000 (delivery 0 0 15000000 16000000 ∷ delivery 1 0 16000000 17000000 ∷ delivery 2 1 17000000 18000000 ∷
+    delivery 4 0 18000000 18064000 ∷ delivery 3 1 18064000 19064000 ∷ [])) ∷
     [])
 a_start_tag_equal_to_virtual_time_is_eligible = refl
 
@@ -48,7 +50,8 @@ a_start_tag_behind_a_waiting_packet : Answers Ordered (
     (Submit (ToQueue 3) (sized 3000) 0 ⇒ Queued 0 2 3) ∷
     (to_queue 1 6000000 ⇒ Queued 6000000 1 4) ∷
     (to_queue 2 0 ⇒ Queued 6000000 0 5) ∷
-    (Collect 10500004 ⇒ Delivered 10500004 (delivery 0 0 0 3000000 ∷ delivery 1 1 3000000 4000000 ∷ delivery 3 2 4000000 7000000 ∷ delivery 2 1 7000000 8000000 ∷ delivery 4 1 8000000 9000000 ∷ delivery 5 0 9000000 10000000 ∷ [])) ∷
+    (Collect 10500004 ⇒ Delivered 10500004 (delivery 0 0 0 3000000 ∷ delivery 1 1 3000000 4000000 ∷ delivery 3 2 4000000 7000000 ∷
+    delivery 2 1 7000000 8000000 ∷ delivery 4 1 8000000 9000000 ∷ delivery 5 0 9000000 10000000 ∷ [])) ∷
     [])
 a_start_tag_behind_a_waiting_packet = refl
 
@@ -89,6 +92,7 @@ no_busy_period_while_a_link_sends : Answers Ordered (
     (Submit (ToQueue 2) (sized 65535) 0 ⇒ Queued 353000000 1 3) ∷
     (to_queue 1 483000000 ⇒ Queued 483000000 0 4) ∷
     (Submit (ToQueue 2) (sized 20000) 0 ⇒ Queued 483000000 1 5) ∷
-    (Collect 733000000 ⇒ Delivered 733000000 (delivery 0 0 353000000 418535000 ∷ delivery 2 1 418535000 419535000 ∷ delivery 1 0 419535000 439535000 ∷ delivery 3 1 439535000 505070000 ∷ delivery 5 1 505070000 525070000 ∷ delivery 4 0 525070000 526070000 ∷ [])) ∷
+    (Collect 733000000 ⇒ Delivered 733000000 (delivery 0 0 353000000 418535000 ∷ delivery 2 1 418535000 419535000 ∷ delivery 1 0 419535000 439535000 ∷
+    delivery 3 1 439535000 505070000 ∷ delivery 5 1 505070000 525070000 ∷ delivery 4 0 525070000 526070000 ∷ [])) ∷
     [])
 no_busy_period_while_a_link_sends = refl

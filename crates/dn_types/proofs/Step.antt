@@ -191,7 +191,14 @@ counted_step rule s (Advance moment) =
     record { calls = suc s.calls; effective_moment = at; settings = s.settings; queue_numbers = s.queue_numbers; keys = s.keys; traffic = settle_in rule s.settings at s.traffic }
 counted_step rule s (Collect moment) =
     let at = max s.effective_moment moment in
-    record { calls = suc s.calls; effective_moment = at; settings = s.settings; queue_numbers = s.queue_numbers; keys = s.keys; traffic = after_event rule (collected at) (settle_in rule s.settings at s.traffic) }
+    record {
+      calls = suc s.calls;
+      effective_moment = at;
+      settings = s.settings;
+      queue_numbers = s.queue_numbers;
+      keys = s.keys;
+      traffic = after_event rule (collected at) (settle_in rule s.settings at s.traffic);
+    }
 counted_step rule s Show = record { calls = suc s.calls; effective_moment = max s.effective_moment 0; settings = s.settings; queue_numbers = s.queue_numbers; keys = s.keys; traffic = s.traffic }
 
 abbrev pub step : Rule → Standing → Call → Standing
