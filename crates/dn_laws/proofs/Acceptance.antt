@@ -46,7 +46,8 @@ verdict-takes : (known : List FlowKey) (target : Target) (packet : Packet) (o : 
     verdict_by known target packet o trace ≡ takes link flow how → IsVerdict known target packet o link flow how
 verdict-takes known target packet None trace link flow how e = absurd cc
 verdict-takes known target packet (Some h) trace link flow how e =
-    by (is_lost h.loss packet.word) (is_full h.limit (map (λ p. p.stamped.len) (backlog (link_of target (flow_number known (key_of target packet.tuple h)) h.pipe) (flow_number known (key_of target packet.tuple h)) trace))) e
+    by (is_lost h.loss packet.word) (is_full h.limit (map (λ p. p.stamped.len)
+    (backlog (link_of target (flow_number known (key_of target packet.tuple h)) h.pipe) (flow_number known (key_of target packet.tuple h)) trace))) e
   where
     f : ℕ
     f = flow_number known (key_of target packet.tuple h)
@@ -60,7 +61,10 @@ verdict-takes known target packet (Some h) trace link flow how e =
     )
 
     by : (b c : Bool) →
-        cond b (loses (link_of target (flow_number known (key_of target packet.tuple h)) h.pipe) (flow_number known (key_of target packet.tuple h))) (cond c (refuses (link_of target (flow_number known (key_of target packet.tuple h)) h.pipe) (flow_number known (key_of target packet.tuple h))) (takes (link_of target (flow_number known (key_of target packet.tuple h)) h.pipe) (flow_number known (key_of target packet.tuple h)) h)) ≡ takes link flow how →
+        cond b (loses (link_of target (flow_number known (key_of target packet.tuple h)) h.pipe) (flow_number known (key_of target packet.tuple h)))
+        (cond c (refuses (link_of target (flow_number known (key_of target packet.tuple h)) h.pipe) (flow_number known (key_of target packet.tuple h)))
+        (takes (link_of target (flow_number known (key_of target packet.tuple h)) h.pipe) (flow_number known (key_of target packet.tuple h)) h))
+        ≡ takes link flow how →
         IsVerdict known target packet (Some h) link flow how
     by true c e = absurd cc
     by false true e = absurd cc

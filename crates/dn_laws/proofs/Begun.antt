@@ -191,7 +191,8 @@ abbrev pub IsTaken : List Call → Call → Accepted → List Event → Type 0
 IsTaken calls (Submit target packet moment) p f =
     (how : Treatment) × (treatment (settings calls target) ≡ Some how)
     × (p ≡ accept (link_of target (flow_number (keys calls) (key_of target packet.tuple how)) how.pipe) packet (flow_number (keys calls) (key_of target packet.tuple how)) how (f ++ trace_of calls))
-    × (f ++ trace_of calls ≡ opening (link_of target (flow_number (keys calls) (key_of target packet.tuple how)) how.pipe) (effective_moment (Advance moment ∷ calls)) (trace_of (Advance moment ∷ calls)))
+    × (f ++ trace_of calls ≡ opening (link_of target (flow_number (keys calls) (key_of target packet.tuple how)) how.pipe)
+    (effective_moment (Advance moment ∷ calls)) (trace_of (Advance moment ∷ calls)))
 IsTaken calls _ p f = ⊥
 
 -- How each event of a call comes about.
@@ -267,7 +268,10 @@ taken-by calls target packet moment None is = tt
 taken-by calls target packet moment (Some how) is =
     let flow = flow_number (keys calls) (key_of target packet.tuple how) in
     let link = link_of target flow how.pipe in
-    by link flow (λ h. (how, is, ap (λ (r : List Event). accept link packet flow how r) h.1, sym h.1), ap (λ (n : ℕ). is_some (settings calls (ToPipe n))) (pipe_of-link target flow how.pipe) ∙ pipe-there calls target how is)
+    by link flow (
+      λ h. (how, is, ap (λ (r : List Event). accept link packet flow how r) h.1, sym h.1),
+      ap (λ (n : ℕ). is_some (settings calls (ToPipe n))) (pipe_of-link target flow how.pipe) ∙ pipe-there calls target how is,
+    )
     (is_lost how.loss packet.word) (is_full how.limit (map (λ p. p.stamped.len) (backlog link flow (trace_of (Advance moment ∷ calls)))))
   where
     before : List Event
@@ -289,8 +293,12 @@ call-causes calls (Configure command) = by (reply_to_command calls command)
 call-causes calls (Submit target packet moment) =
     let at = max (effective_moment calls) moment in
     let before = settled (settings calls) at (trace_of calls) in
-    causes-verdict calls (Submit target packet moment) packet (verdict calls target packet before) before (verdict-home (keys calls) target packet (treatment (settings calls target)) before) (taken-by calls target packet moment (treatment (settings calls target)) refl) (causes-settled calls (Submit target packet moment)) (λ link. settled-ends (settings calls) at link (trace_of calls))
+    causes-verdict calls (Submit target packet moment) packet
+    (verdict calls target packet before) before (verdict-home (keys calls) target packet (treatment (settings calls target)) before)
+    (taken-by calls target packet moment (treatment (settings calls target)) refl) (causes-settled calls (Submit target packet moment))
+    (λ link. settled-ends (settings calls) at link (trace_of calls))
 call-causes calls (Advance moment) = causes-settled calls (Advance moment)
 call-causes calls (Collect moment) =
-    add (IsCaused calls (Collect moment)) (trace_of calls) (collected (max (effective_moment calls) moment)) (settled (settings calls) (max (effective_moment calls) moment) (trace_of calls)) (causes-settled calls (Collect moment)) tt
+    add (IsCaused calls (Collect moment)) (trace_of calls) (collected (max (effective_moment calls) moment))
+    (settled (settings calls) (max (effective_moment calls) moment) (trace_of calls)) (causes-settled calls (Collect moment)) tt
 call-causes calls Show = ([], refl, tt)

@@ -56,7 +56,8 @@ status-few calls flow key h =
 
 statuses-few : (calls : List Call) (flow : ℕ) (known : List FlowKey) → length calls < 2 ^ 62 → All AreFew (statuses_from flow known (trace_of calls))
 statuses-few calls flow [] h = All-nil AreFew
-statuses-few calls flow (key ∷ known) h = All-cons AreFew (status_of flow key (trace_of calls)) (statuses_from (flow + 1) known (trace_of calls)) (status-few calls flow key h) (statuses-few calls (flow + 1) known h)
+statuses-few calls flow (key ∷ known) h = All-cons AreFew (status_of flow key (trace_of calls)) (statuses_from (flow + 1) known (trace_of calls))
+    (status-few calls flow key h) (statuses-few calls (flow + 1) known h)
 
 -- ---- Replies
 

@@ -78,7 +78,8 @@ module _ (pipe flow weight longest : ℕ) (some : 0 < weight) where
       by : (b : Bool) → is_of (shared pipe) flow s.packet ≡ b →
           (share (shared pipe) flow stretch * weight ≤ bytes_sent (shared pipe) flow stretch * 65536)
           × (bytes_sent (shared pipe) flow stretch * 65536 ≤ (share (shared pipe) flow stretch + packets_sent (shared pipe) flow stretch) * weight) →
-          ((cond b (s.packet.stamped.finish_tag - s.packet.stamped.start_tag) 0 + share (shared pipe) flow stretch) * weight ≤ (cond b s.packet.stamped.len 0 + bytes_sent (shared pipe) flow stretch) * 65536)
+          ((cond b (s.packet.stamped.finish_tag - s.packet.stamped.start_tag) 0 + share (shared pipe) flow stretch) * weight
+          ≤ (cond b s.packet.stamped.len 0 + bytes_sent (shared pipe) flow stretch) * 65536)
           × ((cond b s.packet.stamped.len 0 + bytes_sent (shared pipe) flow stretch) * 65536
           ≤ (cond b (s.packet.stamped.finish_tag - s.packet.stamped.start_tag) 0 + share (shared pipe) flow stretch + (cond b 1 0 + packets_sent (shared pipe) flow stretch)) * weight)
       by true is rest =
@@ -87,7 +88,8 @@ module _ (pipe flow weight longest : ℕ) (some : 0 < weight) where
           let tags = p.0 in
           let same = ap {B = ℕ} (λ k. s.packet.stamped.len * 65536 / k) p.1.0 in
           let cost : s.packet.stamped.finish_tag - s.packet.stamped.start_tag ≡ s.packet.stamped.len * 65536 / weight = omega (arith, tags, same) in
-          one-more (s.packet.stamped.finish_tag - s.packet.stamped.start_tag) (share (shared pipe) flow stretch) weight s.packet.stamped.len (bytes_sent (shared pipe) flow stretch) (packets_sent (shared pipe) flow stretch)
+          one-more (s.packet.stamped.finish_tag - s.packet.stamped.start_tag) (share (shared pipe) flow stretch) weight s.packet.stamped.len
+          (bytes_sent (shared pipe) flow stretch) (packets_sent (shared pipe) flow stretch)
           (subst (λ (k : ℕ). (k * weight ≤ s.packet.stamped.len * 65536) × (s.packet.stamped.len * 65536 ≤ (k + 1) * weight)) (sym cost) r) rest
       by false is rest = let lower = rest.0 in let upper = rest.1 in (omega (arith, lower), omega (arith, upper))
   in-bytes (opened l ∷ stretch) earlier h w = in-bytes stretch earlier h.1 w

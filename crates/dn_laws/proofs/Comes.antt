@@ -82,7 +82,9 @@ module _ (calls : List Call) (c : Call) where
       slice_get known n ≡ Some key → slice_get (keys calls) (n + from) ≡ Some key) → (new : List Event) → Adds-so new → Adds-so (discard_reached command from known new)
   comes-discards command each from [] place new h = h
   comes-discards command each from (key ∷ known) place new h =
-      comes-discards command each (from + 1) known (λ n k e. let s : n + 1 + from ≡ n + (from + 1) = omega arith in subst (λ (m : ℕ). slice_get (keys calls) m ≡ Some k) s (place (n + 1) k (next n k e))) (cond (reaches command key) (discarded from ∷ new) new) (by (reaches command key) refl)
+      comes-discards command each (from + 1) known
+      (λ n k e. let s : n + 1 + from ≡ n + (from + 1) = omega arith in subst (λ (m : ℕ). slice_get (keys calls) m ≡ Some k) s (place (n + 1) k (next n k e)))
+      (cond (reaches command key) (discarded from ∷ new) new) (by (reaches command key) refl)
     where
       next : (n : ℕ) (k : FlowKey) → slice_get known n ≡ Some k → slice_get (key ∷ known) (n + 1) ≡ Some k
       next n k e = let s : suc n ≡ n + 1 = omega arith in subst (λ (m : ℕ). slice_get (key ∷ known) m ≡ Some k) s e
@@ -120,8 +122,10 @@ module _ (calls : List Call) (target : Target) (packet : Packet) (moment : ℕ) 
       → (nat_eq (waiting link (trace_of (Advance moment ∷ calls))) 0 && nat_le (free link (trace_of (Advance moment ∷ calls))) at) ≡ true →
       (free link (trace_of (Advance moment ∷ calls)) ≤ effective_moment (Submit target packet moment ∷ calls)) × (waiting link (trace_of (Advance moment ∷ calls)) ≡ 0)
   is-idle link at same e =
-      let soon : nat_le (free link before) at ≡ true = and-right (nat_eq (waiting link before) 0) (nat_le (free link before) at) e in
-      (by-test (free link before) at (effective_moment (Submit target packet moment ∷ calls)) same soon, eqb-true (waiting link before) 0 (and-left (nat_eq (waiting link before) 0) (nat_le (free link before) at) e))
+      let soon : nat_le (free link before) at ≡ true = and-right (nat_eq (waiting link before) 0) (nat_le (free link before) at) e in (
+        by-test (free link before) at (effective_moment (Submit target packet moment ∷ calls)) same soon,
+        eqb-true (waiting link before) 0 (and-left (nat_eq (waiting link before) 0) (nat_le (free link before) at) e),
+      )
     where
       by-test : (a b c : ℕ) → b ≡ c → nat_le a b ≡ true → a ≤ c
       by-test a b c same h = grind (arith, nat_tests)
@@ -150,14 +154,17 @@ call-comes calls (Configure command) = by (reply_to_command calls command) refl
   where
     by : (r : Reply) → reply_to_command calls command ≡ r → Adds (Comes calls (Configure command)) (trace_of calls) (after_command r command (keys calls) (trace_of calls))
     by Deleted e =
-        comes-discards calls (Configure command) command (λ flow h. (e, h)) 0 (keys calls) (λ n key is. let s : n ≡ n + 0 = omega arith in subst (λ (m : ℕ). slice_get (keys calls) m ≡ Some key) s is) (trace_of calls) ([], refl, tt)
+        comes-discards calls (Configure command) command (λ flow h. (e, h)) 0 (keys calls)
+        (λ n key is. let s : n ≡ n + 0 = omega arith in subst (λ (m : ℕ). slice_get (keys calls) m ≡ Some key) s is) (trace_of calls) ([], refl, tt)
     by _ e = ([], refl, tt)
 call-comes calls (Submit target packet moment) =
     let at = max (effective_moment calls) moment in
-    comes-verdict calls target packet moment (settings calls) at refl (verdict calls target packet (trace_of (Advance moment ∷ calls))) refl (comes-settled calls (Submit target packet moment) (settings calls) at)
+    comes-verdict calls target packet moment (settings calls) at refl (verdict calls target packet (trace_of (Advance moment ∷ calls))) refl
+    (comes-settled calls (Submit target packet moment) (settings calls) at)
 call-comes calls (Advance moment) = comes-settled calls (Advance moment) (settings calls) (max (effective_moment calls) moment)
 call-comes calls (Collect moment) =
-    more calls (Collect moment) (collected (max (effective_moment calls) moment)) (trace_of (Advance moment ∷ calls)) (comes-settled calls (Collect moment) (settings calls) (max (effective_moment calls) moment)) tt
+    more calls (Collect moment) (collected (max (effective_moment calls) moment)) (trace_of (Advance moment ∷ calls))
+    (comes-settled calls (Collect moment) (settings calls) (max (effective_moment calls) moment)) tt
 call-comes calls Show = ([], refl, tt)
 
 -- ---- Discards

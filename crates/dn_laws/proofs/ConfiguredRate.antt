@@ -104,10 +104,12 @@ pub keeps-the-configured-rate : (after calls : List Call) (number bw delay : ℕ
     sent r.packet.link (between ++ started r ∷ []) * 8 * 10 ^ 9 + r.moment * bw ≤ s.moment * bw
 keeps-the-configured-rate after calls number bw delay limit loss buckets mask later between earlier s r stays some e of_pipe same =
     let added = calls-at number bw delay limit loss buckets mask r.packet.link of_pipe after calls stays in
-    let parts : added.0 ≡ later ++ (started s ∷ (between ++ (started r ∷ earlier))) = append_cancel_right added.0 (later ++ (started s ∷ (between ++ (started r ∷ earlier)))) (trace_of calls) (sym added.1 ∙ e) in
+    let parts : added.0 ≡ later ++ (started s ∷ (between ++ (started r ∷ earlier))) =
+    append_cancel_right added.0 (later ++ (started s ∷ (between ++ (started r ∷ earlier)))) (trace_of calls) (sym added.1 ∙ e) in
     let all : IsAtBandwidth bw r.packet.link (later ++ (started s ∷ (between ++ (started r ∷ earlier)))) = subst (IsAtBandwidth bw r.packet.link) parts added.2 in
     let behind : IsAtBandwidth bw r.packet.link (started s ∷ (between ++ (started r ∷ earlier))) = back-at bw r.packet.link later (started s ∷ (between ++ (started r ∷ earlier))) all in
-    let stretch : IsAtBandwidth bw r.packet.link (between ++ started r ∷ []) = front-at bw r.packet.link (between ++ started r ∷ []) earlier (subst (IsAtBandwidth bw r.packet.link) (sym (inner between)) behind.1) in
+    let stretch : IsAtBandwidth bw r.packet.link (between ++ started r ∷ []) =
+    front-at bw r.packet.link (between ++ started r ∷ []) earlier (subst (IsAtBandwidth bw r.packet.link) (sym (inner between)) behind.1) in
     keeps-the-rate (after ++ calls) later between (earlier ++ trace_of calls) s r bw (e ∙ outer later) same some stretch
   where
     inner : (xs : List Event) → (xs ++ started r ∷ []) ++ earlier ≡ xs ++ (started r ∷ earlier)

@@ -41,7 +41,8 @@ module _ (rule : Rule) where
   all-started (opened l ∷ trace) = all-still (opened l) trace (undelivered rule trace) (all-started trace)
   all-started (arrived p ∷ trace) = all-still (arrived p) trace (undelivered rule trace) (all-started trace)
   all-started (started s ∷ trace) =
-      in_order-all (IsDeliveryOf rule (started s ∷ trace)) (delivery_of rule s (last_due rule s.packet.link trace)) (undelivered rule trace) (new-start s trace) (all-still (started s) trace (undelivered rule trace) (all-started trace))
+      in_order-all (IsDeliveryOf rule (started s ∷ trace)) (delivery_of rule s (last_due rule s.packet.link trace)) (undelivered rule trace)
+      (new-start s trace) (all-still (started s) trace (undelivered rule trace) (all-started trace))
   all-started (lost l f ∷ trace) = all-still (lost l f) trace (undelivered rule trace) (all-started trace)
   all-started (refused l f ∷ trace) = all-still (refused l f) trace (undelivered rule trace) (all-started trace)
   all-started (discarded f ∷ trace) = all-still (discarded f) trace (undelivered rule trace) (all-started trace)

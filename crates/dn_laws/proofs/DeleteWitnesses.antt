@@ -79,4 +79,5 @@ by_the_clock = (other-pipes-change-nothing Ordered (Advance 5000000 ∷ pipe 2 8
 -- And the queue's flow keeps the finish tag of its second packet.
 its_tag : last_finish_tag (shared 1) 0 (trace_of (Advance 5000000 ∷ pipe 2 8000000 0 ∷ queued)) ≡ 32768000
 its_tag =
-    (other-pipes-change-nothing Ordered (Advance 5000000 ∷ pipe 2 8000000 0 ∷ []) queued (shared 1) (tt, ((λ (e : 2 ≡ 1). absurd (omega arith)), tt))).4 0 (key (ToQueue 1) 1 no_mask (tuple 0 0 0 0 0)) refl refl
+    (other-pipes-change-nothing Ordered (Advance 5000000 ∷ pipe 2 8000000 0 ∷ []) queued (shared 1) (tt, ((λ (e : 2 ≡ 1). absurd (omega arith)), tt))).4 0
+    (key (ToQueue 1) 1 no_mask (tuple 0 0 0 0 0)) refl refl

@@ -28,8 +28,22 @@ by-start rule calls collect flow number few h =
     let s : Start = h.2.0 in
     let last = last_due rule s.packet.link h.1 in
     let due = due_by rule (arrival_time s) last in
-    let at = due-is rule s last in
-    (h.0, h.1, (s, (due, h.2.1, h.2.2, h.2.3, at, λ soon. subst (λ (n : ℕ). times_told n (replies rule (Collect collect ∷ calls)) ≡ 1) h.2.2 (told-when-due rule calls collect due h.0 h.1 s few h.2.1 at soon))))
+    let at = due-is rule s last in (
+      h.0,
+      h.1,
+      (
+        s,
+        (
+          due,
+          h.2.1,
+          h.2.2,
+          h.2.3,
+          at,
+          λ soon. subst (λ (n : ℕ). times_told n (replies rule (Collect collect ∷ calls)) ≡ 1) h.2.2
+              (told-when-due rule calls collect due h.0 h.1 s few h.2.1 at soon),
+        ),
+      ),
+    )
 
 pub queued-packets-are-delivered : (rule : Rule) (after calls : List Call) (target : Target) (packet : Packet) (moment at flow number collect : ℕ) →
     reply rule calls (Submit target packet moment) ≡ Queued at flow number → length (after ++ Submit target packet moment ∷ calls) < call_limit →

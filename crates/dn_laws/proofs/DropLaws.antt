@@ -84,7 +84,9 @@ not-exhausted rule calls c h = let e : nat_le call_limit (length calls) ≡ fals
 
 pub drops-are-explained : (rule : Rule) (calls : List Call) (target : Target) (packet : Packet) (moment : ℕ) (command : Command) (rate : ℕ) (most : Limit) (carrier : ℕ) →
     length calls < call_limit → settings calls target ≡ Some command → IsJudgedBy command rate most carrier →
-    IsExplained rate most (packet.word % 2 ^ 31) (λ flow. map (λ p. p.stamped.len) (backlog (link_of target flow carrier) flow (trace_of (Advance moment ∷ calls)))) (reply rule calls (Submit target packet moment))
+    IsExplained rate most (packet.word % 2 ^ 31)
+    (λ flow. map (λ p. p.stamped.len) (backlog (link_of target flow carrier) flow (trace_of (Advance moment ∷ calls))))
+    (reply rule calls (Submit target packet moment))
 drops-are-explained rule calls target packet moment command rate most carrier few set judged =
     let at = max (effective_moment calls) moment in
     let before = settled (settings calls) at (trace_of calls) in

@@ -67,7 +67,8 @@ module _ (rule : Rule) (link : Link) where
   kept-elsewhere calls (DeletePipe number) flow k h =
       false-if (nat_eq k.key.pipe number) (λ same. h (sym (eqb-true k.key.pipe number same) ∙ sym (pipe_of-link k.key.target flow k.key.pipe) ∙ ap pipe_of (sym k.link_is)))
   kept-elsewhere calls (DeleteQueue number) flow k h =
-      false-if (target_eq k.key.target (ToQueue number)) (λ same. h k.at.before k.at.behind k.key k.at.parts (target_eq-true k.key.target (ToQueue number) same) (sym (pipe_of-link k.key.target flow k.key.pipe) ∙ ap pipe_of (sym k.link_is)))
+      false-if (target_eq k.key.target (ToQueue number)) (λ same. h k.at.before k.at.behind k.key k.at.parts
+      (target_eq-true k.key.target (ToQueue number) same) (sym (pipe_of-link k.key.target flow k.key.pipe) ∙ ap pipe_of (sym k.link_is)))
 
   command-backlog : (calls : List Call) (command : Command) → IsCommandElsewhere (pipe_of link) calls command → (flow : ℕ) →
       backlog link flow (trace_of (Configure command ∷ calls)) ≡ backlog link flow (trace_of calls)
@@ -103,7 +104,8 @@ module _ (rule : Rule) (link : Link) where
       by : (t : Target) (o : Option Command) → settings calls target ≡ o → IsKept t o → IsElsewhere (pipe_of link) calls (Submit target packet moment) →
           IsAlike rule link (trace_of (Submit target packet moment ∷ calls)) (trace_of (Advance moment ∷ calls))
       by t None set kept other =
-          subst (λ (o : Option Command). IsAlike rule link (after_verdict (settings calls) (max (effective_moment calls) moment) packet (verdict_by (keys calls) target packet (treatment o) before) before) before) (sym set) (alike-refl rule link before)
+          subst (λ (o : Option Command). IsAlike rule link (after_verdict (settings calls) (max (effective_moment calls) moment) packet
+          (verdict_by (keys calls) target packet (treatment o) before) before) before) (sym set) (alike-refl rule link before)
       by t (Some (Pipe number bw delay limit loss buckets mask)) set kept other =
           packets-keep-apart rule calls target packet moment (Pipe number bw delay limit loss buckets mask) loss limit number link set (refl, refl, refl)
           (λ same. other (Pipe number bw delay limit loss buckets mask) loss limit number set (refl, refl, refl) (sym same))
@@ -133,14 +135,16 @@ module _ (rule : Rule) (link : Link) where
   advanced : (now calls : List Call) (to : ℕ) → effective_moment now ≤ to → Follows now calls →
       IsAlike rule link (settled (settings now) to (trace_of now)) (settled (settings calls) to (trace_of calls))
   advanced now calls to le h =
-      alike-then rule link (settled (settings now) to (trace_of now)) (settled (settings calls) to (settled (settings calls) (effective_moment now) (trace_of calls))) (settled (settings calls) to (trace_of calls))
+      alike-then rule link (settled (settings now) to (trace_of now))
+      (settled (settings calls) to (settled (settings calls) (effective_moment now) (trace_of calls))) (settled (settings calls) to (trace_of calls))
       (settled-alike rule link (settings now) (settings calls) to (trace_of now) (settled (settings calls) (effective_moment now) (trace_of calls)) h.0 h.1)
       (settled-twice rule link (settings calls) (effective_moment now) to (trace_of calls) le)
 
   untimed : (now calls : List Call) (t : List Event) (to : ℕ) → effective_moment now ≡ to → IsAlike rule link t (trace_of now) → Follows now calls →
       IsAlike rule link t (settled (settings calls) to (trace_of calls))
   untimed now calls t to e same h =
-      subst (λ (m : ℕ). IsAlike rule link t (settled (settings calls) m (trace_of calls))) e (alike-then rule link t (trace_of now) (settled (settings calls) (effective_moment now) (trace_of calls)) same h.1)
+      subst (λ (m : ℕ). IsAlike rule link t (settled (settings calls) m (trace_of calls))) e
+      (alike-then rule link t (trace_of now) (settled (settings calls) (effective_moment now) (trace_of calls)) same h.1)
 
   followed : (now calls : List Call) (c : Call) → IsElsewhere (pipe_of link) now c → Follows now calls →
       IsAlike rule link (trace_of (c ∷ now)) (settled (settings calls) (effective_moment (c ∷ now)) (trace_of calls))
@@ -154,8 +158,11 @@ module _ (rule : Rule) (link : Link) where
   followed now calls Show h f = untimed now calls (trace_of now) (effective_moment (Show ∷ now)) (omega arith) (alike-refl rule link (trace_of now)) f
 
   all-followed : (after calls : List Call) → AreElsewhere (pipe_of link) after calls → Follows (after ++ calls) calls
-  all-followed [] calls h =
-      (refl, alike-sym rule link (settled (settings calls) (effective_moment calls) (trace_of calls)) (trace_of calls) (settled-still rule link (settings calls) (effective_moment calls) (trace_of calls) (quiet calls)))
+  all-followed [] calls h = (
+    refl,
+    alike-sym rule link (settled (settings calls) (effective_moment calls) (trace_of calls)) (trace_of calls)
+        (settled-still rule link (settings calls) (effective_moment calls) (trace_of calls) (quiet calls)),
+  )
   all-followed (c ∷ after) calls h = let rest = all-followed after calls h.1 in (setting-stays (after ++ calls) c h.0 ∙ rest.0, followed (after ++ calls) calls c h.0 rest)
 
 pub other-pipes-change-nothing : (rule : Rule) (after calls : List Call) (link : Link) → AreElsewhere (pipe_of link) after calls →

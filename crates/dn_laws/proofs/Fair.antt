@@ -32,13 +32,16 @@ module _ (pipe : ℕ) where
       let fair = pick-is-fair (virtual_time (shared pipe) t) (link_heads (shared pipe) t) p.stamped (next-picked pipe t p next) put in
       let over = subst (All (λ (z : Stamped). p.stamped.start_tag ≤ z.finish_tag)) (sym heads_are) fair in
       let low = is_below (shared pipe) flow (record { packet = x; moment = 0; transmission = 0; delay = 0 }) t first in
-      at-head (λ (z : Stamped). p.stamped.start_tag ≤ z.finish_tag) (flow_bound t) (λ f. stamped_of (backlog (shared pipe) f t)) flow x.stamped low (stamped-first (backlog (shared pipe) flow t) x first) over
+      at-head (λ (z : Stamped). p.stamped.start_tag ≤ z.finish_tag) (flow_bound t) (λ f. stamped_of (backlog (shared pipe) f t)) flow x.stamped low
+      (stamped-first (backlog (shared pipe) flow t) x first) over
     where
       heads_are : heads (flow_bound t) (λ f. stamped_of (backlog (shared pipe) f t)) ≡ link_heads (shared pipe) t
       heads_are = heads-same (flow_bound t) (λ f. stamped_of (backlog (shared pipe) f t)) (λ f. backlog (shared pipe) f t) (λ f. refl)
 
       put : All (λ (y : Stamped). y.start_tag ≤ y.finish_tag) (link_heads (shared pipe) t)
-      put = All-map (λ (y : Stamped). y.start_tag ≤ y.finish_tag) (λ (a : Accepted). a.stamped) (heads (flow_bound t) (λ f. backlog (shared pipe) f t)) (all-heads (λ (a : Accepted). a.stamped.start_tag ≤ a.stamped.finish_tag) (flow_bound t) (λ f. backlog (shared pipe) f t) (λ f. all-put (shared pipe) f t h))
+      put = All-map (λ (y : Stamped). y.start_tag ≤ y.finish_tag) (λ (a : Accepted). a.stamped) (heads (flow_bound t) (λ f. backlog (shared pipe) f t))
+          (all-heads (λ (a : Accepted). a.stamped.start_tag ≤ a.stamped.finish_tag) (flow_bound t)
+          (λ f. backlog (shared pipe) f t) (λ f. all-put (shared pipe) f t h))
 
   -- ---- A stretch
 
@@ -82,7 +85,9 @@ module _ (pipe : ℕ) where
       by None is = absurd cc
       by (Some y) is =
           let f : s.packet.stamped.flow ≡ flow = eqb-true s.packet.stamped.flow flow (and-right (link_eq s.packet.link (shared pipe)) (nat_eq s.packet.stamped.flow flow) e) in
-          let g : s.packet.stamped.flow ≡ y.flow = eqb-true s.packet.stamped.flow y.flow (and-right (link_eq s.packet.link (shared pipe)) (nat_eq s.packet.stamped.flow y.flow) (first-own (shared pipe) y.flow s.packet (backlog (shared pipe) y.flow t) is (backlog-own (shared pipe) y.flow t))) in
+          let g : s.packet.stamped.flow ≡ y.flow =
+          eqb-true s.packet.stamped.flow y.flow (and-right (link_eq s.packet.link (shared pipe)) (nat_eq s.packet.stamped.flow y.flow)
+          (first-own (shared pipe) y.flow s.packet (backlog (shared pipe) y.flow t) is (backlog-own (shared pipe) y.flow t))) in
           ap (λ m. slice_get (backlog (shared pipe) m t) 0) (sym f ∙ g) ∙ is
 
   -- How the head of a flow moves on over one event: by the cost of its packet where that starts.
@@ -216,7 +221,10 @@ module _ (pipe : ℕ) where
         let t = stretch ++ earlier in
         let x' = some-first (backlog link other (stretch ++ earlier)) (now other stretch earlier v.1) in
         let y' = some-first (backlog link one (stretch ++ earlier)) (now one stretch earlier w.1) in
-        by x'.0 y'.0 (close stretch earlier x'.0 y'.0 h.1 (waits-sooner link other (CostsAtMost most) e stretch earlier cheap) w.1 v.1 x'.1 y'.1) (passes e (stretch ++ earlier) x'.0 y'.0 x y h (waits-after link other (CostsAtMost most) stretch earlier (waits-sooner link other (CostsAtMost most) e stretch earlier cheap)) x'.1 y'.1 ex ey) (moves other e (stretch ++ earlier) x'.0 x h x'.1 ex) (rises one e (stretch ++ earlier) y'.0 y h y'.1 ey) (share-cons other e stretch)
+        by x'.0 y'.0 (close stretch earlier x'.0 y'.0 h.1 (waits-sooner link other (CostsAtMost most) e stretch earlier cheap) w.1 v.1 x'.1 y'.1)
+        (passes e (stretch ++ earlier) x'.0 y'.0 x y h
+        (waits-after link other (CostsAtMost most) stretch earlier (waits-sooner link other (CostsAtMost most) e stretch earlier cheap)) x'.1 y'.1 ex ey)
+        (moves other e (stretch ++ earlier) x'.0 x h x'.1 ex) (rises one e (stretch ++ earlier) y'.0 y h y'.1 ey) (share-cons other e stretch)
       where
         by : (x' y' : Accepted) → (share link other stretch ≡ 0) ⊎ (x'.stamped.start_tag ≤ y'.stamped.finish_tag + most) →
             (got other e ≡ 0) ⊎ (x.stamped.start_tag ≤ y.stamped.finish_tag + most) → x.stamped.start_tag ≡ x'.stamped.start_tag + got other e →
@@ -247,7 +255,9 @@ shares-fairly calls pipe one other most_one most_other later stretch earlier r e
     let fair = fair-start pipe earlier r.packet other po.0 start.1 mine.0 po.1 in
     let first_cost = cheap-of pipe other most_other earlier po.0 (waits-before (shared pipe) other (CostsAtMost most_other) all earlier cheap_other) po.1 in
     let last_cost = cheap-of pipe one most_one (all ++ earlier) y.0 (waits-after (shared pipe) one (CostsAtMost most_one) all earlier cheap_one) y.1 in
-    by (share (shared pipe) other all) (share (shared pipe) one all) x.0.stamped.start_tag y.0.stamped.start_tag y.0.stamped.finish_tag po.0.stamped.start_tag po.0.stamped.finish_tag r.packet.stamped.start_tag go gone fair first_cost last_cost (close pipe one other most_other all earlier x.0 y.0 h cheap_other w v x.1 y.1)
+    by (share (shared pipe) other all) (share (shared pipe) one all) x.0.stamped.start_tag y.0.stamped.start_tag
+    y.0.stamped.finish_tag po.0.stamped.start_tag po.0.stamped.finish_tag r.packet.stamped.start_tag go gone fair first_cost last_cost
+    (close pipe one other most_other all earlier x.0 y.0 h cheap_other w v x.1 y.1)
   where
     shape : (xs : List Event) → (xs ++ (started r ∷ [])) ++ earlier ≡ xs ++ (started r ∷ earlier)
     shape [] = refl

@@ -28,7 +28,8 @@ to queue = Submit (ToQueue queue) (packet (tuple 0 0 0 0 0) 1000 0) 0
 
 -- The first packet went by the weight 5, which is replaced before the others.
 abbrev older : List Call
-older = to 2 ∷ to 2 ∷ to 2 ∷ to 2 ∷ to 1 ∷ to 1 ∷ to 1 ∷ weighted 1 ∷ to 1 ∷ weighted 5 ∷ Configure (Queue 2 1 1 (Slots 50) 0 None no_mask) ∷ Configure (Pipe 1 8000000 0 (Slots 50) 0 None no_mask) ∷ []
+older = to 2 ∷ to 2 ∷ to 2 ∷ to 2 ∷ to 1 ∷ to 1 ∷ to 1 ∷ weighted 1 ∷ to 1 ∷ weighted 5 ∷ Configure (Queue 2 1 1 (Slots 50) 0 None no_mask) ∷
+    Configure (Pipe 1 8000000 0 (Slots 50) 0 None no_mask) ∷ []
 
 abbrev first : Start
 first = record {
@@ -81,7 +82,8 @@ lesser_flow =
 
 -- The pick among heads that are there: the first packet alone.
 its_own_finish : All (λ x. first.packet.stamped.start_tag ≤ x.finish_tag) (first.packet.stamped ∷ [])
-its_own_finish = pick-is-fair 13107200 (first.packet.stamped ∷ []) first.packet.stamped refl (All-cons (λ x. x.start_tag ≤ x.finish_tag) first.packet.stamped [] (leb-true _ _ refl) (All-nil (λ x. x.start_tag ≤ x.finish_tag)))
+its_own_finish = pick-is-fair 13107200 (first.packet.stamped ∷ []) first.packet.stamped refl
+    (All-cons (λ x. x.start_tag ≤ x.finish_tag) first.packet.stamped [] (leb-true _ _ refl) (All-nil (λ x. x.start_tag ≤ x.finish_tag)))
 
 raised_to_it : (0 ≤ 13107200) × All (λ h. 13107200 ≤ max 0 h.start_tag) (first.packet.stamped ∷ [])
 raised_to_it = raises-to-the-least 0 (first.packet.stamped ∷ [])

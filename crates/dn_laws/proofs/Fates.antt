@@ -58,7 +58,8 @@ module _ (number : ℕ) where
     -- What has ended stays so, and what waits goes on by the event.
     later : (e : Event) (t : List Event) → (Waits number flow t → Fate (e ∷ t)) → Fate t → Fate (e ∷ t)
     later e t waits fate =
-        ⊎_elim waits (λ ended. inr (⊎_elim (λ gone. inl (e ∷ gone.0, gone.1, (ap (λ (r : List Event). e ∷ r) gone.2.0, gone.2.1))) (λ begun. inr (e ∷ begun.0, begun.1, (begun.2.0, ap (λ (r : List Event). e ∷ r) begun.2.1, begun.2.2, begun.2.3))) ended)) fate
+        ⊎_elim waits (λ ended. inr (⊎_elim (λ gone. inl (e ∷ gone.0, gone.1, (ap (λ (r : List Event). e ∷ r) gone.2.0, gone.2.1)))
+        (λ begun. inr (e ∷ begun.0, begun.1, (begun.2.0, ap (λ (r : List Event). e ∷ r) begun.2.1, begun.2.2, begun.2.3))) ended)) fate
 
     step : (e : Event) (t : List Event) → IsProper (e ∷ t) → Waits number flow t → Fate (e ∷ t)
     step (opened l) t proper w = inl (w.0, w.1)

@@ -57,7 +57,9 @@ pub queue-delete-empties : (calls : List Call) (number : ℕ) (link : Link) (bef
     keys calls ≡ before ++ key ∷ behind → key.target ≡ ToQueue number → backlog link (length before) (trace_of (Configure (DeleteQueue number) ∷ calls)) ≡ []
 queue-delete-empties calls number link before behind key e parts mine =
     ap (backlog link (length before)) (after-deleted calls (DeleteQueue number) e) ∙
-    reached-emptied link (length before) (DeleteQueue number) (keys calls) (trace_of calls) key (record { before = before; behind = behind; parts = parts; place = refl }) (ap (λ (t : Target). target_eq t (ToQueue number)) mine ∙ target_eq-refl (ToQueue number))
+    reached-emptied link (length before) (DeleteQueue number)
+    (keys calls) (trace_of calls) key (record { before = before; behind = behind; parts = parts; place = refl })
+    (ap (λ (t : Target). target_eq t (ToQueue number)) mine ∙ target_eq-refl (ToQueue number))
 
 module _ (link : Link) (flow : ℕ) (command : Command) where
   left-by : (b : Bool) (from : ℕ) (trace : List Event) → nat_eq from flow ≡ false → backlog link flow (cond b (discarded from ∷ trace) trace) ≡ backlog link flow trace
@@ -99,7 +101,9 @@ only-commands-count calls Show target other = refl
 pub queue-delete-spares : (calls : List Call) (number : ℕ) (link : Link) (before behind : List FlowKey) (key : FlowKey) → keys calls ≡ before ++ key ∷ behind →
     key.target ≢ ToQueue number → backlog link (length before) (trace_of (Configure (DeleteQueue number) ∷ calls)) ≡ backlog link (length before) (trace_of calls)
 queue-delete-spares calls number link before behind key parts other =
-    spared-by calls (DeleteQueue number) link before behind key parts (false-if (target_eq key.target (ToQueue number)) (λ same. other (target_eq-true key.target (ToQueue number) same))) (reply_to_command calls (DeleteQueue number))
+    spared-by calls (DeleteQueue number) link before behind key parts
+    (false-if (target_eq key.target (ToQueue number)) (λ same. other (target_eq-true key.target (ToQueue number) same)))
+    (reply_to_command calls (DeleteQueue number))
 
 pub pipe-delete-spares : (calls : List Call) (number : ℕ) (link : Link) (before behind : List FlowKey) (key : FlowKey) → keys calls ≡ before ++ key ∷ behind → key.pipe ≢ number →
     backlog link (length before) (trace_of (Configure (DeletePipe number) ∷ calls)) ≡ backlog link (length before) (trace_of calls)
@@ -181,7 +185,8 @@ module _ (rule : Rule) (link : Link) where
   elsewhere-by known target packet (Some how) trace carrier pipe other =
       let flow = flow_number known (key_of target packet.tuple how) in
       let l = link_of target flow how.pipe in
-      let apart : link_eq l link ≡ false = ⊎_elim (λ same. absurd (other (ap pipe_of (sym (link_eq-true l link same)) ∙ pipe_of-link target flow how.pipe ∙ pipe how refl))) (λ no'. no') (true_or_false (link_eq l link)) in
+      let apart : link_eq l link ≡ false = ⊎_elim (λ same. absurd (other (ap pipe_of (sym (link_eq-true l link same)) ∙ pipe_of-link target flow how.pipe
+      ∙ pipe how refl))) (λ no'. no') (true_or_false (link_eq l link)) in
       by l flow apart (is_lost how.loss packet.word) (is_full how.limit (map (λ p. p.stamped.len) (backlog l flow trace)))
     where
       by : (l : Link) (flow : ℕ) → link_eq l link ≡ false → (b c : Bool) → IsElsewhere (cond b (loses l flow) (cond c (refuses l flow) (takes l flow how)))
@@ -238,4 +243,5 @@ commands-count calls command = (
 
 pub queues-have-pipes : (calls : List Call) (target : Target) (number pipe weight : ℕ) (limit : Limit) (loss : ℕ) (buckets : Option ℕ) (mask : Mask) →
     settings calls target ≡ Some (Queue number pipe weight limit loss buckets mask) → is_some (settings calls (ToPipe pipe)) ≡ true
-queues-have-pipes calls target number pipe weight limit loss buckets mask set = pipe-there calls target (record { pipe = pipe; weight = weight; mask = mask; loss = loss; limit = limit }) (ap treatment set)
+queues-have-pipes calls target number pipe weight limit loss buckets mask set =
+    pipe-there calls target (record { pipe = pipe; weight = weight; mask = mask; loss = loss; limit = limit }) (ap treatment set)

@@ -50,7 +50,8 @@ module _ (rule : Rule) (link : Link) where
       ∙ virtual-kept later earlier (All-tail (IsNoStart link) e later h) (All-tail (IsNoOpening link) e later k)
     where
       one : (e : Event) → IsNoStart link e → IsNoOpening link e → virtual_time link (e ∷ later ++ earlier) ≡ virtual_time link (later ++ earlier)
-      one (started s) h k = ap {B = ℕ} (λ b. cond b (grown (virtual_time link (later ++ earlier)) (link_heads link (later ++ earlier)) s.packet.stamped.len) (virtual_time link (later ++ earlier))) (other s h)
+      one (started s) h k = ap {B = ℕ} (λ b. cond b (grown (virtual_time link (later ++ earlier)) (link_heads link (later ++ earlier)) s.packet.stamped.len)
+          (virtual_time link (later ++ earlier))) (other s h)
       one (opened l) h k = ap {B = ℕ} (λ b. cond b 0 (virtual_time link (later ++ earlier))) (false-if (link_eq l link) (λ same. k (link_eq-true l link same)))
       one (arrived p) h k = refl
       one (lost l f) h k = refl
@@ -77,7 +78,8 @@ links-are-kept rule link later earlier h = (
   λ s same. (
     free-kept rule link later (started s ∷ earlier) h ∙ ap {B = ℕ} (λ b. cond b (s.moment + s.transmission) (free link earlier)) (here rule link s same),
     subst (λ (n : ℕ). IsDueBy rule s (last_due rule link earlier) n)
-        (sym (due-kept rule link later (started s ∷ earlier) h ∙ ap {B = ℕ} (λ b. cond b (due_by rule (arrival_time s) (last_due rule link earlier)) (last_due rule link earlier)) (here rule link s same)))
+        (sym (due-kept rule link later (started s ∷ earlier) h
+        ∙ ap {B = ℕ} (λ b. cond b (due_by rule (arrival_time s) (last_due rule link earlier)) (last_due rule link earlier)) (here rule link s same)))
         (due-is rule link rule s (last_due rule link earlier)),
   ),
   ap (free link) (sym (none-after rule link later)) ∙ free-kept rule link later [] h,

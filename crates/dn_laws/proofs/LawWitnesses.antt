@@ -76,7 +76,9 @@ to_port port = Submit (ToPipe 1) (packet (tuple 1 2 17 1000 port) 1000 0) 0
 
 -- 2000 and 1800 agree in their upper half.
 agree : AgreeUnder (mask 0 0 0 0 65280) (tuple 1 2 17 1000 2000) (tuple 1 2 17 1000 1800)
-agree = (flows-are-by-mask Ordered by_port [] (ToPipe 1) (packet (tuple 1 2 17 1000 2000) 1000 0) (packet (tuple 1 2 17 1000 1800) 1000 0) 0 0 (Pipe 1 8000000 0 (Slots 50) 0 None (mask 0 0 0 0 65280)) (Pipe 1 8000000 0 (Slots 50) 0 None (mask 0 0 0 0 65280)) (mask 0 0 0 0 65280) 1 0 0 refl (refl, refl) refl (refl, refl) refl refl).1 refl
+agree = (flows-are-by-mask Ordered by_port [] (ToPipe 1) (packet (tuple 1 2 17 1000 2000) 1000 0) (packet (tuple 1 2 17 1000 1800) 1000 0) 0 0
+    (Pipe 1 8000000 0 (Slots 50) 0 None (mask 0 0 0 0 65280)) (Pipe 1 8000000 0 (Slots 50) 0 None (mask 0 0 0 0 65280)) (mask 0 0 0 0 65280) 1 0 0 refl
+    (refl, refl) refl (refl, refl) refl refl).1 refl
 
 -- 3000 and 2000 don't.
 another_flow : reply Ordered (to_port 2000 ∷ by_port) (to_port 3000) ≡ Queued 0 1 1
@@ -133,7 +135,8 @@ apart = starts-apart (Advance 1000000 ∷ two) [] (take 1 (trace_of two)) (drop 
 
 -- 8,000 bits in a millisecond
 at_the_rate : 1000 * 8 * 10 ^ 9 + 0 * 8000000 ≤ 1000000 * 8000000
-at_the_rate = keeps-the-configured-rate (Advance 1000000 ∷ to_pipe 1 0 ∷ to_pipe 1 0 ∷ []) (pipe 1 8000000 50 ∷ []) 1 8000000 50 (Slots 50) 0 None no_mask [] (take 1 (trace_of two)) (drop 2 (trace_of two)) second first
+at_the_rate = keeps-the-configured-rate (Advance 1000000 ∷ to_pipe 1 0 ∷ to_pipe 1 0 ∷ []) (pipe 1 8000000 50 ∷ []) 1 8000000 50 (Slots 50) 0 None no_mask []
+    (take 1 (trace_of two)) (drop 2 (trace_of two)) second first
     (refl, (refl, (refl, refl))) (omega arith) refl refl refl
 
 -- The pipe is then slowed to 1 Mbit/s, at which the second starts. The first still counts at its own rate.
@@ -204,7 +207,8 @@ by_weight : IsTagged 1000 4 (trace_of (to_queue 1 0 ∷ weighted)) (tagged 1 163
 by_weight = tags-by-weight (to_queue 1 0 ∷ weighted) (ToQueue 1) (worded 0) 0 [] [] (tagged 1 16384000 32768000) 1 1 4 (Slots 50) 0 None no_mask refl refl
 
 begins_afresh : (tagged 0 0 16384000).stamped.start_tag ≡ 0
-begins_afresh = tags-begin-afresh weighted (ToQueue 1) (worded 0) 0 (take 1 (trace_of (to_queue 1 0 ∷ weighted))) (drop 2 (trace_of (to_queue 1 0 ∷ weighted))) (tagged 0 0 16384000) refl (leb-true 0 0 refl)
+begins_afresh = tags-begin-afresh weighted (ToQueue 1) (worded 0) 0 (take 1 (trace_of (to_queue 1 0 ∷ weighted))) (drop 2 (trace_of (to_queue 1 0 ∷ weighted)))
+    (tagged 0 0 16384000) refl (leb-true 0 0 refl)
 
 -- ---- Deletes
 
@@ -222,4 +226,5 @@ remembered : last_finish_tag (shared 1) 0 (trace_of one_queued) ≡ 32768000
 remembered = refl
 
 kept_apart : virtual_time (shared 1) (trace_of (to_pipe 2 0 ∷ pipe 2 8000000 0 ∷ one_queued)) ≡ virtual_time (shared 1) (trace_of (Advance 0 ∷ pipe 2 8000000 0 ∷ one_queued))
-kept_apart = (packets-keep-apart Ordered (pipe 2 8000000 0 ∷ one_queued) (ToPipe 2) (worded 0) 0 (Pipe 2 8000000 0 (Slots 50) 0 None no_mask) 0 (Slots 50) 2 (shared 1) refl (refl, refl, refl) (λ (same : 1 ≡ 2). absurd (omega arith))).3
+kept_apart = (packets-keep-apart Ordered (pipe 2 8000000 0 ∷ one_queued) (ToPipe 2) (worded 0) 0 (Pipe 2 8000000 0 (Slots 50) 0 None no_mask) 0 (Slots 50) 2
+    (shared 1) refl (refl, refl, refl) (λ (same : 1 ≡ 2). absurd (omega arith))).3

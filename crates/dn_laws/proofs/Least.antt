@@ -44,7 +44,8 @@ first-least (x ∷ xs) h e = by_rest (first_to_go xs) refl e (λ y is. first-lea
         → ((y : Stamped) → first_to_go xs ≡ Some y → All (λ z. goes_before z y ≡ false) xs) → All (λ z. goes_before z h ≡ false) (x ∷ xs)
     by_rest None is e rest =
         let same : x ≡ h = cc in
-        subst (λ (a : Stamped). All (λ z. goes_before z a ≡ false) (x ∷ xs)) same (All-cons (λ z. goes_before z x ≡ false) x xs (before-self x.finish_tag x.flow) (all-none (λ z. goes_before z x ≡ false) xs is))
+        subst (λ (a : Stamped). All (λ z. goes_before z a ≡ false) (x ∷ xs)) same
+        (All-cons (λ z. goes_before z x ≡ false) x xs (before-self x.finish_tag x.flow) (all-none (λ z. goes_before z x ≡ false) xs is))
     by_rest (Some y) is e rest = by_test (goes_before y x) refl e
       where
         by_test : (b : Bool) → goes_before y x ≡ b → Some (cond b y x) ≡ Some h → All (λ z. goes_before z h ≡ false) (x ∷ xs)

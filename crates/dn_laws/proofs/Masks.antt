@@ -35,7 +35,8 @@ stands-get known flow key at = ap (λ (ks : List FlowKey). slice_get ks flow) at
 told-by : (known : List FlowKey) (target : Target) (packet : Packet) (at : ℕ) (how : Treatment) (trace : List Event) (flow : ℕ) →
     flow_told (reply_to_verdict at (verdict_by known target packet (Some how) trace) trace) ≡ Some flow → flow_number known (key_of target packet.tuple how) ≡ flow
 told-by known target packet at how trace flow e = by (link_of target (flow_number known (key_of target packet.tuple how)) how.pipe) (flow_number known (key_of target packet.tuple how))
-    (is_lost how.loss packet.word) (is_full how.limit (map (λ p. p.stamped.len) (backlog (link_of target (flow_number known (key_of target packet.tuple how)) how.pipe) (flow_number known (key_of target packet.tuple how)) trace))) e
+    (is_lost how.loss packet.word) (is_full how.limit (map (λ p. p.stamped.len)
+    (backlog (link_of target (flow_number known (key_of target packet.tuple how)) how.pipe) (flow_number known (key_of target packet.tuple how)) trace))) e
   where
     by : (link : Link) (f : ℕ) (b c : Bool) → flow_told (reply_to_verdict at (cond b (loses link f) (cond c (refuses link f) (takes link f how))) trace) ≡ Some flow → f ≡ flow
     by link f true c e = cc
@@ -110,4 +111,10 @@ flows-are-by-mask rule calls between target a b m n first second mask carrier f 
     equal is = let both : Some (key_by target carrier mask a.tuple) ≡ Some (key_by target carrier mask b.tuple) = sym key_a ∙ ap (slice_get (keys later)) is ∙ key_b in cc
 
     fields : key_by target carrier mask a.tuple ≡ key_by target carrier mask b.tuple → AgreeUnder mask a.tuple b.tuple
-    fields e = (ap (λ (k : FlowKey). k.tuple.src) e, ap (λ (k : FlowKey). k.tuple.dst) e, ap (λ (k : FlowKey). k.tuple.proto) e, ap (λ (k : FlowKey). k.tuple.sport) e, ap (λ (k : FlowKey). k.tuple.dport) e)
+    fields e = (
+      ap (λ (k : FlowKey). k.tuple.src) e,
+      ap (λ (k : FlowKey). k.tuple.dst) e,
+      ap (λ (k : FlowKey). k.tuple.proto) e,
+      ap (λ (k : FlowKey). k.tuple.sport) e,
+      ap (λ (k : FlowKey). k.tuple.dport) e,
+    )

@@ -57,7 +57,8 @@ module _ (rule : Rule) (link : Link) where
       next_start set at link t ≡ next_start other at link u
   alike-start set other at t u s h =
       let next = alike-next rule link t u h in
-      λ i. cond (nat_le (h.1 i) at) (option_map (λ (p : Accepted). record { packet = p; moment = h.1 i; transmission = transmission_time (bandwidth_of (s i)) p.stamped.len; delay = delay_of (s i) }) (next i)) None
+      λ i. cond (nat_le (h.1 i) at) (option_map (λ (p : Accepted).
+      record { packet = p; moment = h.1 i; transmission = transmission_time (bandwidth_of (s i)) p.stamped.len; delay = delay_of (s i) }) (next i)) None
 
   alike-started : (s : Start) (t u : List Event) → IsAlike rule link t u → IsAlike rule link (started s ∷ t) (started s ∷ u)
   alike-started s t u h =
@@ -97,8 +98,10 @@ module _ (rule : Rule) (link : Link) where
 
       by : (o : Option Start) → next_start set at link t ≡ o → ((x : Start) → IsAlike rule link (steps k set at (started x ∷ t)) (steps k other at (started x ∷ u))) →
           IsAlike rule link (steps (suc k) set at t) (steps (suc k) other at u)
-      by None e rest = subst (λ (v : List Event). IsAlike rule link v (steps (suc k) other at u)) (sym (step-is k set at t None e)) (subst (λ (v : List Event). IsAlike rule link t v) (sym (step-is k other at u None (sym same ∙ e))) h)
-      by (Some x) e rest = subst (λ (v : List Event). IsAlike rule link v (steps (suc k) other at u)) (sym (step-is k set at t (Some x) e)) (subst (λ (v : List Event). IsAlike rule link (steps k set at (started x ∷ t)) v) (sym (step-is k other at u (Some x) (sym same ∙ e))) (rest x))
+      by None e rest = subst (λ (v : List Event). IsAlike rule link v (steps (suc k) other at u)) (sym (step-is k set at t None e))
+          (subst (λ (v : List Event). IsAlike rule link t v) (sym (step-is k other at u None (sym same ∙ e))) h)
+      by (Some x) e rest = subst (λ (v : List Event). IsAlike rule link v (steps (suc k) other at u)) (sym (step-is k set at t (Some x) e))
+          (subst (λ (v : List Event). IsAlike rule link (steps k set at (started x ∷ t)) v) (sym (step-is k other at u (Some x) (sym same ∙ e))) (rest x))
 
   -- Where the starts have ended they are the same, however many were tried.
   steps-one : (k j : ℕ) (set : Settings) (at : ℕ) (t : List Event) → next_start set at link (steps k set at t) ≡ None → next_start set at link (steps j set at t) ≡ None →
@@ -137,7 +140,11 @@ module _ (rule : Rule) (link : Link) where
 
           others : link_eq s.packet.link link ≡ false → (k : ℕ) × IsAlike rule link (settle most set at (started s ∷ t)) (steps k set at (started s ∷ t)) → (k : ℕ)
               × IsAlike rule link (settle most set at (started s ∷ t)) (steps k set at t)
-          others there r = (r.0, alike-then rule link (settle most set at (started s ∷ t)) (steps r.0 set at (started s ∷ t)) (steps r.0 set at t) r.1 (steps-alike r.0 set set at (started s ∷ t) t refl (alike-elsewhere s t there)))
+          others there r = (
+            r.0,
+            alike-then rule link (settle most set at (started s ∷ t)) (steps r.0 set at (started s ∷ t)) (steps r.0 set at t) r.1
+                (steps-alike r.0 set set at (started s ∷ t) t refl (alike-elsewhere s t there)),
+          )
 
   settled-steps : (set : Settings) (at : ℕ) (t : List Event) → (k : ℕ) × IsAlike rule link (settled set at t) (steps k set at t) × (next_start set at link (steps k set at t) ≡ None)
   settled-steps set at t =
@@ -186,10 +193,12 @@ module _ (rule : Rule) (link : Link) where
           let whole = subst (λ (v : List Event). IsAlike rule link (settled set to t) v) more (settled-is set to t (suc r.0) ends) in
           subst (λ (v : List Event). IsAlike rule link (settled set to v) (settled set to t)) (sym (step-is k set at t (Some x) e))
           (alike-then rule link (settled set to (steps k set at (started x ∷ t))) (settled set to (started x ∷ t)) (settled set to t) (rest x)
-          (alike-then rule link (settled set to (started x ∷ t)) (steps r.0 set to (started x ∷ t)) (settled set to t) r.1 (alike-sym rule link (settled set to t) (steps r.0 set to (started x ∷ t)) whole)))
+          (alike-then rule link (settled set to (started x ∷ t)) (steps r.0 set to (started x ∷ t)) (settled set to t) r.1
+          (alike-sym rule link (settled set to t) (steps r.0 set to (started x ∷ t)) whole)))
 
   -- A settling up to one moment and then to a later one is one up to the later.
   pub settled-twice : (set : Settings) (at to : ℕ) (t : List Event) → at ≤ to → IsAlike rule link (settled set to (settled set at t)) (settled set to t)
   settled-twice set at to t le =
       let r = settled-steps set at t in
-      alike-then rule link (settled set to (settled set at t)) (settled set to (steps r.0 set at t)) (settled set to t) (settled-alike set set to (settled set at t) (steps r.0 set at t) refl r.1) (ahead r.0 set at to t le)
+      alike-then rule link (settled set to (settled set at t)) (settled set to (steps r.0 set at t)) (settled set to t)
+      (settled-alike set set to (settled set at t) (steps r.0 set at t) refl r.1) (ahead r.0 set at to t le)

@@ -49,7 +49,8 @@ module _ (chosen : Choice) where
   queues-on (Configure (Queue number carrier weight limit loss buckets mask) ∷ calls) = ap (λ (qs : List ℕ). number ∷ qs) (queues-on calls)
   queues-on (Configure (DeletePipe number) ∷ calls) = queues-on calls
   queues-on (Configure (DeleteQueue number) ∷ calls) = queues-on calls
-  queues-on (Submit target packet moment ∷ calls) = queues-submit target packet moment (is_carried chosen target packet.tuple (treatment (settings calls target))) (calls_on chosen calls) ∙ queues-on calls
+  queues-on (Submit target packet moment ∷ calls) =
+      queues-submit target packet moment (is_carried chosen target packet.tuple (treatment (settings calls target))) (calls_on chosen calls) ∙ queues-on calls
   queues-on (Advance moment ∷ calls) = queues-on calls
   queues-on (Collect moment ∷ calls) = queues-on calls
   queues-on (Show ∷ calls) = queues-on calls
@@ -64,7 +65,8 @@ module _ (chosen : Choice) where
       let s = settings-on calls in
       let q = queues-on calls in
       λ i t. cond (target_eq (subject command) t) (setting_after (command_reply (s i) (q i) command) command (s i t)) (s i t)
-  settings-on (Submit target packet moment ∷ calls) = settings-submit target packet moment (is_carried chosen target packet.tuple (treatment (settings calls target))) (calls_on chosen calls) ∙ settings-on calls ∙ (λ i t. settings calls t)
+  settings-on (Submit target packet moment ∷ calls) = settings-submit target packet moment
+      (is_carried chosen target packet.tuple (treatment (settings calls target))) (calls_on chosen calls) ∙ settings-on calls ∙ (λ i t. settings calls t)
   settings-on (Advance moment ∷ calls) = (λ i t. settings (calls_on chosen calls) t) ∙ settings-on calls ∙ (λ i t. settings calls t)
   settings-on (Collect moment ∷ calls) = (λ i t. settings (calls_on chosen calls) t) ∙ settings-on calls ∙ (λ i t. settings calls t)
   settings-on (Show ∷ calls) = (λ i t. settings (calls_on chosen calls) t) ∙ settings-on calls ∙ (λ i t. settings calls t)
@@ -77,7 +79,8 @@ module _ (chosen : Choice) where
   pub moment-on : (calls : List Call) → effective_moment (calls_on chosen calls) ≡ effective_moment calls
   moment-on [] = refl
   moment-on (Configure command ∷ calls) = ap {B = ℕ} (λ m. max m 0) (moment-on calls)
-  moment-on (Submit target packet moment ∷ calls) = moment-submit target packet moment (is_carried chosen target packet.tuple (treatment (settings calls target))) (calls_on chosen calls) ∙ ap {B = ℕ} (λ m. max m moment) (moment-on calls)
+  moment-on (Submit target packet moment ∷ calls) = moment-submit target packet moment
+      (is_carried chosen target packet.tuple (treatment (settings calls target))) (calls_on chosen calls) ∙ ap {B = ℕ} (λ m. max m moment) (moment-on calls)
   moment-on (Advance moment ∷ calls) = ap {B = ℕ} (λ m. max m moment) (moment-on calls)
   moment-on (Collect moment ∷ calls) = ap {B = ℕ} (λ m. max m moment) (moment-on calls)
   moment-on (Show ∷ calls) = ap {B = ℕ} (λ m. max m 0) (moment-on calls)
@@ -143,7 +146,9 @@ module _ (chosen : Choice) where
   pub keys-on : (calls : List Call) → keys (calls_on chosen calls) ≡ keys-of (keys calls)
   keys-on [] = refl
   keys-on (Submit target packet moment ∷ calls) =
-      keys-submit target packet moment (treatment (settings calls target)) (calls_on chosen calls) (keys calls) (ap (λ (s : Settings). treatment (s target)) (settings-on calls)) (keys-on calls) (is_carried chosen target packet.tuple (treatment (settings calls target))) refl
+      keys-submit target packet moment (treatment (settings calls target))
+      (calls_on chosen calls) (keys calls) (ap (λ (s : Settings). treatment (s target)) (settings-on calls)) (keys-on calls)
+      (is_carried chosen target packet.tuple (treatment (settings calls target))) refl
   keys-on (Configure command ∷ calls) = keys-on calls
   keys-on (Advance moment ∷ calls) = keys-on calls
   keys-on (Collect moment ∷ calls) = keys-on calls
@@ -442,7 +447,8 @@ module _ (chosen : Choice) where
         lengths [] = refl
         lengths (p ∷ ps) = ap (λ (ls : List ℕ). p.stamped.len ∷ ls) (lengths ps)
 
-        either : (l : Link) (f : ℕ) (b c : Bool) → cond b (loses (link-on l) (place mine f)) (cond c (refuses (link-on l) (place mine f)) (takes (link-on l) (place mine f) how)) ≡ verdict-on (cond b (loses l f) (cond c (refuses l f) (takes l f how)))
+        either : (l : Link) (f : ℕ) (b c : Bool) → cond b (loses (link-on l) (place mine f)) (cond c (refuses (link-on l) (place mine f))
+            (takes (link-on l) (place mine f) how)) ≡ verdict-on (cond b (loses l f) (cond c (refuses l f) (takes l f how)))
         either l f true c = refl
         either l f false true = refl
         either l f false false = refl
@@ -471,7 +477,17 @@ module _ (chosen : Choice) where
           ap (λ (ps : List Accepted). length ps) (backlog-part chosen mine taken l on f hf t h) ∙ lengths (backlog l f t) in
           let tag = last_finish_tag-part chosen mine taken l on f hf t h in
           let v = virtual_time-part chosen mine taken l on t h in
-          λ i. record { packet = count i; link = link-on l; stamped = record { flow = place mine f; len = packet.len; weight = how.weight; start_tag = start_tag_on_arrival (nat_eq (lens i) 0) (tag i) (v i); finish_tag = start_tag_on_arrival (nat_eq (lens i) 0) (tag i) (v i) + scaled packet.len how.weight } }
+          λ i. record {
+            packet = count i;
+            link = link-on l;
+            stamped = record {
+              flow = place mine f;
+              len = packet.len;
+              weight = how.weight;
+              start_tag = start_tag_on_arrival (nat_eq (lens i) 0) (tag i) (v i);
+              finish_tag = start_tag_on_arrival (nat_eq (lens i) 0) (tag i) (v i) + scaled packet.len how.weight;
+            };
+          }
         where
           lengths : (ps : List Accepted) → length (map accepted-on ps) ≡ length ps
           lengths [] = refl
@@ -485,7 +501,8 @@ module _ (chosen : Choice) where
         where
           either : (b : Bool) → cond b (started (start' chosen mine taken (start_at set p.link p at)) ∷ arrived (accepted-on p) ∷ part-on t) (arrived (accepted-on p) ∷ part-on t) ≡
               part-on (cond b (started (start_at set p.link p at) ∷ arrived p ∷ t) (arrived p ∷ t))
-          either true = sym (λ i. cond (on i) (started (start' chosen mine taken (start_at set p.link p at)) ∷ cond (on i) (arrived (accepted-on p) ∷ part-on t) (part-on t)) (cond (on i) (arrived (accepted-on p) ∷ part-on t) (part-on t)))
+          either true = sym (λ i. cond (on i) (started (start' chosen mine taken (start_at set p.link p at)) ∷
+              cond (on i) (arrived (accepted-on p) ∷ part-on t) (part-on t)) (cond (on i) (arrived (accepted-on p) ∷ part-on t) (part-on t)))
           either false = sym (ap (λ b. cond b (arrived (accepted-on p) ∷ part-on t) (part-on t)) on)
 
       join-fit : (p : Accepted) (t : List Event) → IsFitHere p.link p.stamped.flow → AreFitHere t → AreFitHere (join set at p t)
@@ -644,7 +661,8 @@ module _ (chosen : Choice) where
         let at = max (effective_moment calls) moment in
         let before = settled (settings calls) at (trace_of calls) in
         let o = treatment (settings calls target) in
-        settled-on calls moment keyed same ∙ sym (after-elsewhere (settings calls) at packet (verdict_by (keys calls) target packet o before) before (verdict-at (keys calls) target packet o before false (flow-of mine (keys calls) target packet o k) off))
+        settled-on calls moment keyed same ∙ sym (after-elsewhere (settings calls) at packet (verdict_by (keys calls) target packet o before) before
+        (verdict-at (keys calls) target packet o before false (flow-of mine (keys calls) target packet o k) off))
 
     pub calls-part : (calls : List Call) → IsKeyed mine (keys calls) → AreTaken mine taken (trace_of calls) → trace_of (calls_on chosen calls) ≡ part-on (trace_of calls)
     calls-part [] k all = refl
@@ -656,7 +674,8 @@ module _ (chosen : Choice) where
         (λ i. after_command (command_reply (s i) (q i) command) command (ks i) (same i)) ∙ command-part (reply_to_command calls command) command (keys calls) (trace_of calls) k
     calls-part (Submit target packet moment ∷ calls) k all =
         let before = taken-before mine taken calls (Submit target packet moment) all in
-        submit-on calls target packet moment k before (calls-part calls (keyed-before mine calls (Submit target packet moment) k) before) (is_carried chosen target packet.tuple (treatment (settings calls target))) refl
+        submit-on calls target packet moment k before (calls-part calls (keyed-before mine calls (Submit target packet moment) k) before)
+        (is_carried chosen target packet.tuple (treatment (settings calls target))) refl
     calls-part (Advance moment ∷ calls) k all = settled-on calls moment k (calls-part calls k (taken-before mine taken calls (Advance moment) all))
     calls-part (Collect moment ∷ calls) k all =
         let m = moment-on calls in

@@ -161,7 +161,8 @@ module _ (chosen : Choice) (mine taken : ℕ → Bool) where
   in_order-part d [] h all = refl
   in_order-part d (e ∷ es) h all =
       let rest = in_order-part d es h (λ k x below. all (suc k) x (omega arith)) in
-      by (is_given_before d e) rest ∙ sym (ap (λ b. cond b (delivery-on d ∷ delivery-on e ∷ map delivery-on es) (delivery-on e ∷ in_order (delivery-on d) (map delivery-on es))) (before-part d e h (all 0 e (omega arith))))
+      by (is_given_before d e) rest ∙ sym (ap (λ b. cond b (delivery-on d ∷ delivery-on e ∷ map delivery-on es)
+      (delivery-on e ∷ in_order (delivery-on d) (map delivery-on es))) (before-part d e h (all 0 e (omega arith))))
     where
       by : (b : Bool) → map delivery-on (in_order d es) ≡ in_order (delivery-on d) (map delivery-on es) →
           map delivery-on (cond b (d ∷ e ∷ es) (e ∷ in_order d es)) ≡ cond b (delivery-on d ∷ delivery-on e ∷ map delivery-on es) (delivery-on e ∷ in_order (delivery-on d) (map delivery-on es))
@@ -182,7 +183,8 @@ module _ (chosen : Choice) (mine taken : ℕ → Bool) where
   filter-map at later (d ∷ ds) = by (cond later (nat_lt at d.due) (nat_le d.due at)) (filter-map at later ds)
     where
       by : (b : Bool) → filter (λ d. cond later (nat_lt at d.due) (nat_le d.due at)) (map delivery-on ds) ≡ map delivery-on (filter (λ d. cond later (nat_lt at d.due) (nat_le d.due at)) ds) →
-          cond b (delivery-on d ∷ filter (λ d. cond later (nat_lt at d.due) (nat_le d.due at)) (map delivery-on ds)) (filter (λ d. cond later (nat_lt at d.due) (nat_le d.due at)) (map delivery-on ds)) ≡
+          cond b (delivery-on d ∷ filter (λ d. cond later (nat_lt at d.due) (nat_le d.due at)) (map delivery-on ds))
+          (filter (λ d. cond later (nat_lt at d.due) (nat_le d.due at)) (map delivery-on ds)) ≡
           map delivery-on (cond b (d ∷ filter (λ d. cond later (nat_lt at d.due) (nat_le d.due at)) ds) (filter (λ d. cond later (nat_lt at d.due) (nat_le d.due at)) ds))
       by true rest = ap (λ (r : List Delivery). delivery-on d ∷ r) rest
       by false rest = rest
@@ -263,7 +265,8 @@ module _ (chosen : Choice) (mine taken : ℕ → Bool) where
   undelivered-part rule (arrived q ∷ t) f h a = skip (undelivered rule) (is_link_on chosen mine q.link) (arrived (accepted' chosen mine taken q)) (part-on t) refl ∙ undelivered-part rule t f.1 h.1 a.1
   undelivered-part rule (started s ∷ t) f h a = started-part rule s t f.0 f.1 a h.0 (all-taken rule t f.1 h.2 a) (undelivered-part rule t f.1 h.2 a)
   undelivered-part rule (lost l g ∷ t) f h a = skip (undelivered rule) (is_link_on chosen mine l) (lost (link' chosen mine taken l) (place mine g)) (part-on t) refl ∙ undelivered-part rule t f.1 h a
-  undelivered-part rule (refused l g ∷ t) f h a = skip (undelivered rule) (is_link_on chosen mine l) (refused (link' chosen mine taken l) (place mine g)) (part-on t) refl ∙ undelivered-part rule t f.1 h a
+  undelivered-part rule (refused l g ∷ t) f h a = skip (undelivered rule) (is_link_on chosen mine l) (refused (link' chosen mine taken l) (place mine g))
+      (part-on t) refl ∙ undelivered-part rule t f.1 h a
   undelivered-part rule (discarded g ∷ t) f h a = skip (undelivered rule) (mine g) (discarded (place mine g)) (part-on t) refl ∙ undelivered-part rule t f h a
   undelivered-part rule (collected at ∷ t) f h a =
       ap (filter (λ d. nat_lt at d.due)) (undelivered-part rule t f h a) ∙ filter-map at true (filter is-mine (undelivered rule t))

@@ -140,8 +140,10 @@ module _ (rule : Rule) (chosen : Choice) where
       let moments = one ∙ sym two in
       let s = h.set_is in
       let ks = h.keys_are in
-      let same : trace_of (Submit target packet at ∷ mine) ≡ trace_of (Submit target packet moment ∷ whole) = (λ i. after_verdict (s i) (moments i) packet (verdict_by (ks i) target packet (treatment (s i target)) (b i)) (b i)) in
-      let answer : counted_reply rule mine (Submit target packet at) ≡ counted_reply rule whole (Submit target packet moment) = (λ i. reply_to_verdict (moments i) (verdict_by (ks i) target packet (treatment (s i target)) (b i)) (b i)) in
+      let same : trace_of (Submit target packet at ∷ mine) ≡ trace_of (Submit target packet moment ∷ whole) =
+      (λ i. after_verdict (s i) (moments i) packet (verdict_by (ks i) target packet (treatment (s i target)) (b i)) (b i)) in
+      let answer : counted_reply rule mine (Submit target packet at) ≡ counted_reply rule whole (Submit target packet moment) =
+      (λ i. reply_to_verdict (moments i) (verdict_by (ks i) target packet (treatment (s i target)) (b i)) (b i)) in
       let left = counts rule mine (Submit target packet at) (omega (arith, n, few)) in
       let right = counts rule whole (Submit target packet moment) few in
       let before = settled (settings whole) (max (effective_moment whole) moment) (trace_of whole) in
@@ -177,7 +179,8 @@ module _ (rule : Rule) (chosen : Choice) where
 
   packets-behind : (calls : List Call) → ArePackets calls → length calls ≤ call_limit → IsBehind (own calls) (less calls) (effective_moment calls)
   packets-behind [] h few = behind-same [] [] refl refl
-  packets-behind (Configure command ∷ calls) h few = behind-same (Configure command ∷ calls) (own (Configure command ∷ calls)) (own-commands (Configure command ∷ calls) h) (all-told (Configure command ∷ calls) h few)
+  packets-behind (Configure command ∷ calls) h few = behind-same (Configure command ∷ calls) (own (Configure command ∷ calls))
+      (own-commands (Configure command ∷ calls) h) (all-told (Configure command ∷ calls) h few)
   packets-behind (Submit target packet moment ∷ calls) h few =
       by (is_carried chosen target packet.tuple (treatment (settings calls target))) (packets-behind calls h (omega (arith, few)))
     where
@@ -185,7 +188,8 @@ module _ (rule : Rule) (chosen : Choice) where
       below = let n = length-on chosen calls in omega (arith, n, few)
 
       by : (b : Bool) → IsBehind (own calls) (less calls) (effective_moment calls) →
-          IsBehind (cond b (Submit target packet (max (effective_moment calls) moment) ∷ own calls) (own calls)) (cond b (Submit target packet moment) (Advance moment) ∷ less calls) (max (effective_moment calls) moment)
+          IsBehind (cond b (Submit target packet (max (effective_moment calls) moment) ∷ own calls) (own calls))
+          (cond b (Submit target packet moment) (Advance moment) ∷ less calls) (max (effective_moment calls) moment)
       by true rest = submit-behind (own calls) (less calls) (effective_moment calls) target packet moment rest below
       by false rest = advance-behind (own calls) (less calls) (effective_moment calls) moment rest below
   packets-behind (Advance moment ∷ calls) h few = absurd h

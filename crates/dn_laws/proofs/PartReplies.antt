@@ -87,13 +87,19 @@ module _ (chosen : Choice) (mine taken : ℕ → Bool) where
     told l g h = (λ on. place-eq mine g f (h ∙ on) hf, λ off. apart-flow chosen mine taken g f (h ∙ off) hf)
 
     losses-part : (t : List Event) → AreFitHere t → count_by (is_loss_of (place mine f)) (part-on t) ≡ count_by (is_loss_of f) t
-    losses-part t h = count-part (is_loss_of f) (is_loss_of (place mine f)) (λ l. (λ e. refl, λ e. refl)) (λ q. (λ e. refl, λ e. refl)) (λ s fit. (λ e. refl, λ e. refl)) (λ l g fit. told l g fit) (λ l g fit. (λ e. refl, λ e. refl)) (λ g. (λ e. refl, λ e. refl)) (λ m. (λ e. refl, λ e. refl)) t h
+    losses-part t h = count-part (is_loss_of f) (is_loss_of (place mine f)) (λ l. (λ e. refl, λ e. refl))
+        (λ q. (λ e. refl, λ e. refl)) (λ s fit. (λ e. refl, λ e. refl)) (λ l g fit. told l g fit) (λ l g fit. (λ e. refl, λ e. refl))
+        (λ g. (λ e. refl, λ e. refl)) (λ m. (λ e. refl, λ e. refl)) t h
 
     refusals-part : (t : List Event) → AreFitHere t → count_by (is_refusal_of (place mine f)) (part-on t) ≡ count_by (is_refusal_of f) t
-    refusals-part t h = count-part (is_refusal_of f) (is_refusal_of (place mine f)) (λ l. (λ e. refl, λ e. refl)) (λ q. (λ e. refl, λ e. refl)) (λ s fit. (λ e. refl, λ e. refl)) (λ l g fit. (λ e. refl, λ e. refl)) (λ l g fit. told l g fit) (λ g. (λ e. refl, λ e. refl)) (λ m. (λ e. refl, λ e. refl)) t h
+    refusals-part t h = count-part (is_refusal_of f) (is_refusal_of (place mine f)) (λ l. (λ e. refl, λ e. refl))
+        (λ q. (λ e. refl, λ e. refl)) (λ s fit. (λ e. refl, λ e. refl)) (λ l g fit. (λ e. refl, λ e. refl)) (λ l g fit. told l g fit)
+        (λ g. (λ e. refl, λ e. refl)) (λ m. (λ e. refl, λ e. refl)) t h
 
     starts-part : (t : List Event) → AreFitHere t → count_by (is_start_of (place mine f)) (part-on t) ≡ count_by (is_start_of f) t
-    starts-part t h = count-part (is_start_of f) (is_start_of (place mine f)) (λ l. (λ e. refl, λ e. refl)) (λ q. (λ e. refl, λ e. refl)) (λ s fit. told s.packet.link s.packet.stamped.flow fit) (λ l g fit. (λ e. refl, λ e. refl)) (λ l g fit. (λ e. refl, λ e. refl)) (λ g. (λ e. refl, λ e. refl)) (λ m. (λ e. refl, λ e. refl)) t h
+    starts-part t h = count-part (is_start_of f) (is_start_of (place mine f)) (λ l. (λ e. refl, λ e. refl)) (λ q. (λ e. refl, λ e. refl))
+        (λ s fit. told s.packet.link s.packet.stamped.flow fit) (λ l g fit. (λ e. refl, λ e. refl)) (λ l g fit. (λ e. refl, λ e. refl))
+        (λ g. (λ e. refl, λ e. refl)) (λ m. (λ e. refl, λ e. refl)) t h
 
     skip-count : (l : Link) (b : Bool) (e : Event) (u : List Event) → discarded_count l (place mine f) (e ∷ u) ≡ discarded_count l (place mine f) u
         → discarded_count l (place mine f) (cond b (e ∷ u) u) ≡ discarded_count l (place mine f) u
@@ -162,23 +168,28 @@ module _ (chosen : Choice) (mine taken : ℕ → Bool) where
   statuses-part : (from : ℕ) (known : List FlowKey) (t : List Event) → IsKeyedFrom chosen mine taken from known → AreFitHere t
       → statuses_from (place mine from) (keys-of chosen known) (part-on t) ≡ statuses-on (statuses_from from known t)
   statuses-part from [] t k h = refl
-  statuses-part from (key ∷ known) t k h = by (is-on chosen key) refl (statuses-part (from + 1) known t k.1 h) ∙ sym (ap (λ b. map (status_by (place mine)) (cond b (status_of from key t ∷ filter (λ s. mine s.flow) (statuses_from (from + 1) known t)) (filter (λ s. mine s.flow) (statuses_from (from + 1) known t)))) k.0)
+  statuses-part from (key ∷ known) t k h = by (is-on chosen key) refl (statuses-part (from + 1) known t k.1 h)
+      ∙ sym (ap (λ b. map (status_by (place mine)) (cond b (status_of from key t ∷ filter (λ s. mine s.flow) (statuses_from (from + 1) known t))
+      (filter (λ s. mine s.flow) (statuses_from (from + 1) known t)))) k.0)
     where
       next : from + 1 ≡ suc from
       next = omega arith
 
       by : (b : Bool) → is-on chosen key ≡ b → statuses_from (place mine (from + 1)) (keys-of chosen known) (part-on t) ≡ statuses-on (statuses_from (from + 1) known t) →
           statuses_from (place mine from) (cond b (key ∷ keys-of chosen known) (keys-of chosen known)) (part-on t) ≡
-          map (status_by (place mine)) (cond (is-on chosen key) (status_of from key t ∷ filter (λ s. mine s.flow) (statuses_from (from + 1) known t)) (filter (λ s. mine s.flow) (statuses_from (from + 1) known t)))
+          map (status_by (place mine)) (cond (is-on chosen key) (status_of from key t ∷ filter (λ s. mine s.flow) (statuses_from (from + 1) known t))
+          (filter (λ s. mine s.flow) (statuses_from (from + 1) known t)))
       by true e rest =
           let more : place mine from + 1 ≡ place mine (from + 1) = let one = ap (place mine) next in let two = place-more mine from (k.0 ∙ e) in omega (arith, one, two) in
           (λ i. status-part from key t k.0 e h i ∷ statuses_from (more i) (keys-of chosen known) (part-on t))
           ∙ ap (λ (ss : List FlowStatus). status_by (place mine) (status_of from key t) ∷ ss) rest
-          ∙ sym (ap (λ b. map (status_by (place mine)) (cond b (status_of from key t ∷ filter (λ s. mine s.flow) (statuses_from (from + 1) known t)) (filter (λ s. mine s.flow) (statuses_from (from + 1) known t)))) e)
+          ∙ sym (ap (λ b. map (status_by (place mine)) (cond b (status_of from key t ∷ filter (λ s. mine s.flow) (statuses_from (from + 1) known t))
+          (filter (λ s. mine s.flow) (statuses_from (from + 1) known t)))) e)
       by false e rest =
           let same : place mine from ≡ place mine (from + 1) = sym (ap (place mine) next ∙ place-same mine from (k.0 ∙ e)) in
           ap (λ n. statuses_from n (keys-of chosen known) (part-on t)) same ∙ rest
-          ∙ sym (ap (λ b. map (status_by (place mine)) (cond b (status_of from key t ∷ filter (λ s. mine s.flow) (statuses_from (from + 1) known t)) (filter (λ s. mine s.flow) (statuses_from (from + 1) known t)))) e)
+          ∙ sym (ap (λ b. map (status_by (place mine)) (cond b (status_of from key t ∷ filter (λ s. mine s.flow) (statuses_from (from + 1) known t))
+          (filter (λ s. mine s.flow) (statuses_from (from + 1) known t)))) e)
 
   -- ---- Replies
 
@@ -258,7 +269,8 @@ module _ (chosen : Choice) (mine taken : ℕ → Bool) where
         let b = settled-on chosen mine taken calls moment keyed (calls-part chosen mine taken calls keyed all) in
         (λ i. reply_to_verdict (max (m i) moment) (verdict_by (ks i) target packet (treatment (s i target)) (b i)) (b i))
         ∙ ap (λ (w : Verdict). reply_to_verdict at w (part-on before)) (verdict-part chosen mine taken (keys calls) target packet o before keyed flow on fit)
-        ∙ told-on at v before (has-target (keys calls) target packet o before on) (verdict-fit chosen mine taken (keys calls) target packet o before flow) (verdict-at chosen mine taken (keys calls) target packet o before true flow on)
+        ∙ told-on at v before (has-target (keys calls) target packet o before on) (verdict-fit chosen mine taken (keys calls) target packet o before flow)
+        (verdict-at chosen mine taken (keys calls) target packet o before true flow on)
         (settled-proper (settings calls) at (trace_of calls) (trace-proper calls)) (taken-settled chosen mine taken (settings calls) at (trace_of calls) all)
     submit-reply target packet moment k false off =
         let at = max (effective_moment calls) moment in
@@ -282,12 +294,14 @@ module _ (chosen : Choice) (mine taken : ℕ → Bool) where
         let b = settled-on chosen mine taken calls moment k (calls-part chosen mine taken calls k all) in
         let fit = settled-fit chosen mine taken (settings calls) at (trace_of calls) (trace-fit chosen mine taken calls k) in
         (λ i. Delivered (max (m i) moment) (given rule (max (m i) moment) (b i)))
-        ∙ ap (Delivered at) (given-part chosen mine taken rule at (settled (settings calls) at (trace_of calls)) fit (settled-proper (settings calls) at (trace_of calls) (trace-proper calls)) (taken-settled chosen mine taken (settings calls) at (trace_of calls) all))
+        ∙ ap (Delivered at) (given-part chosen mine taken rule at (settled (settings calls) at (trace_of calls)) fit
+        (settled-proper (settings calls) at (trace_of calls) (trace-proper calls)) (taken-settled chosen mine taken (settings calls) at (trace_of calls) all))
     counted-reply Show k =
         let same = calls-part chosen mine taken calls k all in
         let ks = keys-on chosen calls in
         (λ i. Status (statuses_from 0 (ks i) (same i)))
-        ∙ ap Status (statuses-part 0 (keys calls) (trace_of calls) (keyed-from chosen mine taken 0 (keys calls) (λ f key e. let zero-on : 0 + f ≡ f = omega arith in ap mine zero-on ∙ k f key e)) (trace-fit chosen mine taken calls k))
+        ∙ ap Status (statuses-part 0 (keys calls) (trace_of calls) (keyed-from chosen mine taken 0 (keys calls)
+        (λ f key e. let zero-on : 0 + f ≡ f = omega arith in ap mine zero-on ∙ k f key e)) (trace-fit chosen mine taken calls k))
 
     reply-part : (c : Call) → IsKeyed chosen mine (keys (c ∷ calls)) → reply rule (calls_on chosen calls) (call_on chosen calls c) ≡ reply-part-of (reply rule calls c)
     reply-part c k =

@@ -112,7 +112,8 @@ module _ (pipe : ℕ) where
         let before = opening l at t in
         let p = accept l packet f how before in
         let s = start-same l p at h in
-        λ i. cond (nat_le (free l (opening l at t)) at) (started (s i) ∷ arrived (accept l packet f how (opening l at t)) ∷ opening l at t) (arrived (accept l packet f how (opening l at t)) ∷ opening l at t)
+        λ i. cond (nat_le (free l (opening l at t)) at) (started (s i) ∷ arrived (accept l packet f how (opening l at t)) ∷ opening l at t)
+        (arrived (accept l packet f how (opening l at t)) ∷ opening l at t)
 
     opened-on : (b : Bool) (l : Link) (t : List Event) → AreOn (links t) → AreOn (links (cond b (opened l ∷ t) t))
     opened-on true l t h = h
@@ -246,8 +247,12 @@ module _ (rule : Rule) (pipe : ℕ) where
   untimed : (c : Call) (calls : List Call) → IsUntimed c
       → (trace_of (c ∷ calls) ≡ emptied calls c ++ trace_of calls) × (keys (c ∷ calls) ≡ keys calls) × (effective_moment (c ∷ calls) ≡ effective_moment calls)
       × (AreOn pipe (links (trace_of calls)) → AreOn pipe (links (trace_of (c ∷ calls))))
-  untimed (Configure command) calls h =
-      (after-append (reply_to_command calls command) command (keys calls) (trace_of calls), refl, omega arith, λ on. after-links (reply_to_command calls command) command (keys calls) (trace_of calls) on)
+  untimed (Configure command) calls h = (
+    after-append (reply_to_command calls command) command (keys calls) (trace_of calls),
+    refl,
+    omega arith,
+    λ on. after-links (reply_to_command calls command) command (keys calls) (trace_of calls) on,
+  )
   untimed Show calls h = (refl, refl, omega arith, λ on. on)
   untimed (Submit target packet moment) calls h = absurd h
   untimed (Advance moment) calls h = absurd h
@@ -293,7 +298,8 @@ commands-act-by-force pipe calls others h =
 
 -- ---- Replays
 
-module _ (rule : Rule) (pipe : ℕ) (commands others : List Call) (commands_are : AreCommands commands) (others_are : AreCommands others) (same : settings commands (ToPipe pipe) ≡ settings others (ToPipe pipe)) where
+module _ (rule : Rule) (pipe : ℕ) (commands others : List Call) (commands_are : AreCommands commands) (others_are : AreCommands others)
+    (same : settings commands (ToPipe pipe) ≡ settings others (ToPipe pipe)) where
   abbrev here : Settings
   here = settings commands
 

@@ -414,4 +414,5 @@ module _ (chosen : Choice) (mine taken : ℕ → Bool) where
           let fit = settled-fit t h in
           let over = ap (λ (ls : List Link). first_start set at ls (part-on (settled set at t))) (links-part (settled set at t))
           ∙ first-none (settled set at t) fit (links (settled set at t)) (settle-ends (waiting_all (links t) t) set at t (omega arith)) in
-          r.1 ∙ settle-one set at r.0 (waiting_all (links (part-on t)) (part-on t)) (part-on t) (subst (HasEnded set at) r.1 over) (settle-ends (waiting_all (links (part-on t)) (part-on t)) set at (part-on t) (omega arith))
+          r.1 ∙ settle-one set at r.0 (waiting_all (links (part-on t)) (part-on t)) (part-on t) (subst (HasEnded set at) r.1 over)
+          (settle-ends (waiting_all (links (part-on t)) (part-on t)) set at (part-on t) (omega arith))

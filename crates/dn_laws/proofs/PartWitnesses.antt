@@ -33,7 +33,8 @@ use Rattle.std.proofs.lemmas.Bool.Decides.{nat_tests}
 
 abbrev mixed : List Call
 mixed =
-    Show ∷ Collect 100000000 ∷ Configure (DeleteQueue 3) ∷ to_queue 3 1500000 ∷ to_queue 3 1500000 ∷ queue 3 2 4 ∷ to_pipe 2 1000000 ∷ to_queue 3 0 ∷ to_queue 3 0 ∷ to_pipe 1 0 ∷ to_pipe 2 0 ∷ to_pipe 1 0
+    Show ∷ Collect 100000000 ∷ Configure (DeleteQueue 3) ∷ to_queue 3 1500000 ∷ to_queue 3 1500000 ∷ queue 3 2 4 ∷ to_pipe 2 1000000 ∷ to_queue 3 0 ∷
+    to_queue 3 0 ∷ to_pipe 1 0 ∷ to_pipe 2 0 ∷ to_pipe 1 0
     ∷ queue 3 1 1 ∷ pipe 2 8000000 10 ∷ pipe 1 1000000 0 ∷ []
 
 -- The fast pipe's packets are numbered 1, 5, 6 and 7 in all, and its flows 1 and 3. Of its own they are the first.
@@ -128,7 +129,8 @@ is_told_so = refl
 abbrev on_two : List Call
 on_two = to_pipe 2 0 ∷ to_pipe 1 0 ∷ both_pipes
 
-is_whole : All (λ d. (k : FlowKey) × (slice_get (keys on_two) d.flow ≡ Some k) × ((number : ℕ) → is_flow_on (of_pipe number) (keys on_two) d.flow ≡ nat_eq k.pipe number)) (given Ordered 100000000 (trace_of on_two))
+is_whole : All (λ d. (k : FlowKey) × (slice_get (keys on_two) d.flow ≡ Some k)
+    × ((number : ℕ) → is_flow_on (of_pipe number) (keys on_two) d.flow ≡ nat_eq k.pipe number)) (given Ordered 100000000 (trace_of on_two))
 is_whole = parts-are-whole Ordered on_two 100000000
 
 two_given : given Ordered 100000000 (trace_of on_two) ≡ delivery 0 0 0 1000000 ∷ delivery 1 1 0 17000000 ∷ []

@@ -221,7 +221,8 @@ module _ (chosen : Choice) (mine taken : ℕ → Bool) where
 
       heads-mine : (n : ℕ) → All (λ p. mine p.stamped.flow ≡ true) (heads n (λ f. backlog l f t))
       heads-mine zero = All-nil (λ p. mine p.stamped.flow ≡ true)
-      heads-mine (suc n) = All-append (λ (p : Accepted). mine p.stamped.flow ≡ true) (heads n (λ f. backlog l f t)) (take 1 (backlog l n t)) (heads-mine n) (All-take (λ (p : Accepted). mine p.stamped.flow ≡ true) 1 (backlog l n t) (by (mine n) refl))
+      heads-mine (suc n) = All-append (λ (p : Accepted). mine p.stamped.flow ≡ true) (heads n (λ f. backlog l f t)) (take 1 (backlog l n t)) (heads-mine n)
+          (All-take (λ (p : Accepted). mine p.stamped.flow ≡ true) 1 (backlog l n t) (by (mine n) refl))
         where
           by : (b : Bool) → mine n ≡ b → All (λ p. mine p.stamped.flow ≡ true) (backlog l n t)
           by true e = λ k d lt. let own = backlog-own l n t k d lt in ap mine (eqb-true (get_or (backlog l n t) k d).stamped.flow n (and-right (link_eq (get_or (backlog l n t) k d).link l) _ own)) ∙ e
@@ -234,7 +235,8 @@ module _ (chosen : Choice) (mine taken : ℕ → Bool) where
 
       pub link_heads-part : link_heads (link' l) (part' t) ≡ map stamped' (link_heads l t)
       link_heads-part =
-          ap (λ (ps : List Accepted). map (λ p. p.stamped) ps) (sym (heads-above (place mine (flow_bound t)) (flow_bound (part' t)) (λ g. backlog (link' l) g (part' t)) (bound-part t h) (λ f le. backlog-above (link' l) f (part' t) le))
+          ap (λ (ps : List Accepted). map (λ p. p.stamped) ps) (sym (heads-above (place mine (flow_bound t)) (flow_bound (part' t))
+          (λ g. backlog (link' l) g (part' t)) (bound-part t h) (λ f le. backlog-above (link' l) f (part' t) le))
           ∙ heads-part (flow_bound t))
           ∙ stamps (heads (flow_bound t) (λ f. backlog l f t))
         where
@@ -342,6 +344,7 @@ module _ (chosen : Choice) (mine taken : ℕ → Bool) where
       last_finish_tag-part (arrived q ∷ t) h = tag-arrived q t h.0 (last_finish_tag-part t h.1)
       last_finish_tag-part (started s ∷ t) h = skip (last_finish_tag (link' l) (place mine f)) (is_link_on chosen mine s.packet.link) (started (start' s)) (part' t) refl ∙ last_finish_tag-part t h.1
       last_finish_tag-part (lost k g ∷ t) h = skip (last_finish_tag (link' l) (place mine f)) (is_link_on chosen mine k) (lost (link' k) (place mine g)) (part' t) refl ∙ last_finish_tag-part t h.1
-      last_finish_tag-part (refused k g ∷ t) h = skip (last_finish_tag (link' l) (place mine f)) (is_link_on chosen mine k) (refused (link' k) (place mine g)) (part' t) refl ∙ last_finish_tag-part t h.1
+      last_finish_tag-part (refused k g ∷ t) h = skip (last_finish_tag (link' l) (place mine f)) (is_link_on chosen mine k) (refused (link' k) (place mine g))
+          (part' t) refl ∙ last_finish_tag-part t h.1
       last_finish_tag-part (discarded g ∷ t) h = tag-discarded g t (last_finish_tag-part t h)
       last_finish_tag-part (collected at ∷ t) h = last_finish_tag-part t h

@@ -58,7 +58,8 @@ module _ (rule : Rule) where
           HaveKeys known (elim o as (λ _. List Event) [ None ↦ t | Some s ↦ settle most in_force at (started s ∷ t) ])
       step None e rest = keyed
       step (Some s) e rest =
-          rest s (known-started set known s t h) (in_order-all (HasKey known) (delivery_of rule s (last_due rule s.packet.link t)) (undelivered rule t) (start-keyed set known in_force at t s h e) keyed)
+          rest s (known-started set known s t h) (in_order-all (HasKey known) (delivery_of rule s (last_due rule s.packet.link t)) (undelivered rule t)
+          (start-keyed set known in_force at t s h e) keyed)
 
   settled-keyed : (calls : List Call) (at : ℕ) → HaveKeys (keys calls) (trace_of calls) → HaveKeys (keys calls) (settled (settings calls) at (trace_of calls))
   settled-keyed calls at keyed = settle-keyed (settings calls) (settings calls) (keys calls) (waiting_all (links (trace_of calls)) (trace_of calls)) at (trace_of calls) (all-known calls) keyed

@@ -95,7 +95,8 @@ queues-share-the-rate after calls number bw delay limit loss buckets mask later 
 
     on_r : r.packet.link ≡ shared number
     on_r = link_eq-true r.packet.link (shared number)
-        (on-shared number known r.packet.link r.packet.stamped.flow (start-home known r rest (suffix-proper between (started r ∷ rest) (subst IsProper shape proper.2)) (suffix-homes known between (started r ∷ rest) (subst (HaveHomes known) shape homes))) ∙ of_r)
+        (on-shared number known r.packet.link r.packet.stamped.flow (start-home known r rest (suffix-proper between (started r ∷ rest)
+        (subst IsProper shape proper.2)) (suffix-homes known between (started r ∷ rest) (subst (HaveHomes known) shape homes))) ∙ of_r)
 
     same : sent_by_queues number (keys (after ++ calls)) (between ++ started r ∷ []) ≡ sent (shared number) (between ++ started r ∷ [])
     same = same-sent number known stretch rest proper.2 homes

@@ -69,7 +69,8 @@ module _ (bw : ℕ) (some : 0 < bw) (r : Start) (earlier : List Event) where
     where
       by : (b : Bool) → link_eq s.packet.link r.packet.link ≡ b →
           sent r.packet.link (between ++ started r ∷ []) * 8 * 10 ^ 9 + r.moment * bw ≤ free r.packet.link (between ++ started r ∷ earlier) * bw
-          → (cond b s.packet.stamped.len 0 + sent r.packet.link (between ++ started r ∷ [])) * 8 * 10 ^ 9 + r.moment * bw ≤ cond b (s.moment + s.transmission) (free r.packet.link (between ++ started r ∷ earlier)) * bw
+          → (cond b s.packet.stamped.len 0 + sent r.packet.link (between ++ started r ∷ [])) * 8 * 10 ^ 9 + r.moment * bw
+          ≤ cond b (s.moment + s.transmission) (free r.packet.link (between ++ started r ∷ earlier)) * bw
       by true e rest =
           let f = fits s.packet.stamped.len s.transmission (at.0 e) in
           let there = ap (λ (l : Link). free l (between ++ started r ∷ earlier)) (link_eq-true s.packet.link r.packet.link e) in

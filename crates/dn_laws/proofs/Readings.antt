@@ -28,7 +28,8 @@ use Rattle.dn_types.proofs.Giving.{count-event, count-delivery}
 use Rattle.dn_types.proofs.Settled.{and-left, both, link_eq-true, link_eq-refl}
 use Rattle.dn_types.proofs.Settling.{and-right}
 use Rattle.dn_laws.specs.FlowLaws.{IsMaskedBy}
-use Rattle.dn_laws.specs.ReadingLaws.{MomentsAreNamed, SubjectsAreNamed, CommandsAreAnswered, TargetsAreTreated, LinksAreToldApart, IsElsewhere, GoesBy, QueuesAreRead, StartsAreDue, starts_as, given_as, PacketsAreCounted}
+use Rattle.dn_laws.specs.ReadingLaws.{MomentsAreNamed, SubjectsAreNamed, CommandsAreAnswered, TargetsAreTreated, LinksAreToldApart, IsElsewhere, GoesBy}
+use Rattle.dn_laws.specs.ReadingLaws.{QueuesAreRead, StartsAreDue, starts_as, given_as, PacketsAreCounted}
 use Rattle.dn_laws.proofs.DropLaws.{not-exhausted}
 
 pub moments-are-named : MomentsAreNamed

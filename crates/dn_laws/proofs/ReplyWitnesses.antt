@@ -162,7 +162,8 @@ abbrev apart : List Call
 apart = to_pipe 2 0 ∷ pipe 2 8000000 0 ∷ two
 
 tag_stays : last_finish_tag (own 1 0) 0 (trace_of apart) ≡ 131072000
-tag_stays = packets-spare-tags Ordered (drop 1 apart) (ToPipe 2) (sized 1000) 0 (Pipe 2 8000000 0 (Slots 50) 0 None no_mask) 0 (Slots 50) 2 (own 1 0) 0 refl (refl, refl, refl) (λ (same : 1 ≡ 2). absurd (omega arith))
+tag_stays = packets-spare-tags Ordered (drop 1 apart) (ToPipe 2) (sized 1000) 0 (Pipe 2 8000000 0 (Slots 50) 0 None no_mask) 0 (Slots 50) 2 (own 1 0) 0 refl
+    (refl, refl, refl) (λ (same : 1 ≡ 2). absurd (omega arith))
 
 free_stays : free (own 1 0) (trace_of apart) ≡ 1000000
 free_stays = refl

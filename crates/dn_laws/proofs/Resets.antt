@@ -40,7 +40,8 @@ total-none (suc n) q h = let rest = total-none n q h in let one = ap (λ (ps : L
 -- For a link that is free none waits.
 idle : (calls : List Call) (link : Link) → free link (trace_of calls) ≤ effective_moment calls → waiting link (trace_of calls) ≡ 0
 idle calls link soon =
-    total-none (flow_bound (trace_of calls)) (λ flow. backlog link flow (trace_of calls)) (λ flow. none-left (backlog link flow (trace_of calls)) (λ some. let busy = busy-link calls link flow some in omega (arith, busy, soon)))
+    total-none (flow_bound (trace_of calls)) (λ flow. backlog link flow (trace_of calls))
+    (λ flow. none-left (backlog link flow (trace_of calls)) (λ some. let busy = busy-link calls link flow some in omega (arith, busy, soon)))
 
 zero-tag : (b : Bool) (last v : ℕ) → last ≡ 0 → v ≡ 0 → start_tag_on_arrival b last v ≡ 0
 zero-tag true last v e f = omega arith
@@ -49,7 +50,8 @@ zero-tag false last v e f = e
 opened-tag : (link : Link) (packet : Packet) (flow : ℕ) (how : Treatment) (at : ℕ) (before : List Event) → waiting link before ≡ 0 → free link before ≤ at →
     (accept link packet flow how (opening link at before)).stamped.start_tag ≡ 0
 opened-tag link packet flow how at before none soon =
-    ap (λ (b : Bool). (accept link packet flow how (cond b (opened link ∷ before) before)).stamped.start_tag) (both (nat_eq (waiting link before) 0) (nat_le (free link before) at) (eq-eqb (waiting link before) 0 none) (reached (free link before) at soon))
+    ap (λ (b : Bool). (accept link packet flow how (cond b (opened link ∷ before) before)).stamped.start_tag)
+    (both (nat_eq (waiting link before) 0) (nat_le (free link before) at) (eq-eqb (waiting link before) 0 none) (reached (free link before) at soon))
     ∙ zero-tag (nat_eq (length (backlog link flow (opened link ∷ before))) 0) (last_finish_tag link flow (opened link ∷ before)) (virtual_time link (opened link ∷ before))
     (ap {B = ℕ} (λ b. cond b 0 (last_finish_tag link flow before)) (link_eq-refl link)) (ap {B = ℕ} (λ b. cond b 0 (virtual_time link before)) (link_eq-refl link))
   where
@@ -60,7 +62,8 @@ pub tags-begin-afresh : (calls : List Call) (target : Target) (packet : Packet) 
     trace_of (Submit target packet moment ∷ calls) ≡ later ++ arrived p ∷ between ++ trace_of calls →
     free p.link (trace_of (Advance moment ∷ calls)) ≤ effective_moment (Advance moment ∷ calls) → p.stamped.start_tag ≡ 0
 tags-begin-afresh calls target packet moment later between p e soon =
-    let taken : IsTaken calls (Submit target packet moment) p between = adds-among (IsCaused calls (Submit target packet moment)) (trace_of calls) (trace_of (Submit target packet moment ∷ calls)) later between (arrived p) (call-causes calls (Submit target packet moment)) e in
+    let taken : IsTaken calls (Submit target packet moment) p between = adds-among (IsCaused calls (Submit target packet moment)) (trace_of calls)
+    (trace_of (Submit target packet moment ∷ calls)) later between (arrived p) (call-causes calls (Submit target packet moment)) e in
     let how : Treatment = taken.0 in
     let flow = flow_number (keys calls) (key_of target packet.tuple how) in
     let link = link_of target flow how.pipe in
@@ -77,7 +80,8 @@ pub queue-delete-resets : (calls : List Call) (number : ℕ) (link : Link) (befo
     last_finish_tag link (length before) (trace_of (Configure (DeleteQueue number) ∷ calls)) ≡ 0
 queue-delete-resets calls number link before behind key e parts mine =
     ap (last_finish_tag link (length before)) (after-deleted calls (DeleteQueue number) e)
-    ∙ reached-cleared (length before) (last_finish_tag link (length before)) 0 (λ f t. refl) (DeleteQueue number) (keys calls) (trace_of calls) key (record { before = before; behind = behind; parts = parts; place = refl })
+    ∙ reached-cleared (length before) (last_finish_tag link (length before)) 0 (λ f t. refl) (DeleteQueue number) (keys calls) (trace_of calls) key
+    (record { before = before; behind = behind; parts = parts; place = refl })
     (ap (λ (t : Target). target_eq t (ToQueue number)) mine ∙ target_eq-refl (ToQueue number))
 
 pub pipe-delete-resets : (calls : List Call) (number : ℕ) (link : Link) (before behind : List FlowKey) (key : FlowKey) →
@@ -85,7 +89,8 @@ pub pipe-delete-resets : (calls : List Call) (number : ℕ) (link : Link) (befor
     last_finish_tag link (length before) (trace_of (Configure (DeletePipe number) ∷ calls)) ≡ 0
 pipe-delete-resets calls number link before behind key e parts mine =
     ap (last_finish_tag link (length before)) (after-deleted calls (DeletePipe number) e)
-    ∙ reached-cleared (length before) (last_finish_tag link (length before)) 0 (λ f t. refl) (DeletePipe number) (keys calls) (trace_of calls) key (record { before = before; behind = behind; parts = parts; place = refl })
+    ∙ reached-cleared (length before) (last_finish_tag link (length before)) 0 (λ f t. refl) (DeletePipe number) (keys calls) (trace_of calls) key
+    (record { before = before; behind = behind; parts = parts; place = refl })
     (eq-eqb key.pipe number mine)
 
 -- ---- Drops

@@ -107,7 +107,8 @@ module _ (rule : Rule) (flow : ℕ) where
               slice_get (cond b (keys calls) (keys calls ++ key_of target packet.tuple how ∷ [])) flow ≡ Some key → 0 < told (replies rule (Submit target packet moment ∷ calls))
           by_known true there e = before (rest e)
           by_known false none e =
-              ⊎_elim (λ old. before (rest old)) (λ last. new how is (sym (place-is (key_of target packet.tuple how) (keys calls)) ∙ new-place (key_of target packet.tuple how) (keys calls) none ∙ sym last))
+              ⊎_elim (λ old. before (rest old)) (λ last. new how is (sym (place-is (key_of target packet.tuple how) (keys calls))
+              ∙ new-place (key_of target packet.tuple how) (keys calls) none ∙ sym last))
               (get-last (keys calls) (key_of target packet.tuple how) key flow e)
 
 pub flows-were-told : (rule : Rule) (calls : List Call) (flow : ℕ) (key : FlowKey) → length calls ≤ call_limit → slice_get (keys calls) flow ≡ Some key →

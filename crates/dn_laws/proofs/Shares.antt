@@ -45,7 +45,8 @@ pick-is-fair v hs h e proper = λ k d lt. one (get_or hs k d) (proper k d lt) (p
     one x fits least =
         let soon = leb-true h.start_tag (raised v hs) may_go in
         let own = own' in
-        ⊎_elim (λ able. let behind = not-before x.finish_tag h.finish_tag x.flow h.flow (least able.0) in omega arith) (λ unable. let later = unable.1 in omega arith) (leb_tells x.start_tag (raised v hs))
+        ⊎_elim (λ able. let behind = not-before x.finish_tag h.finish_tag x.flow h.flow (least able.0) in omega arith)
+        (λ unable. let later = unable.1 in omega arith) (leb_tells x.start_tag (raised v hs))
 
 no-later : (f g m n : ℕ) → (nat_lt f g || nat_eq f g && nat_lt m n) ≡ false → g ≡ f → n ≤ m
 no-later f g m n h e = grind (arith, nat_tests)
@@ -131,17 +132,20 @@ tagged link packet flow how before = record {
     is-none : (n : ℕ) → n ≡ 0 → nat_eq n 0 ≡ true
     is-none n h = grind (arith, nat_tests)
 
-pub tags-by-weight : (calls : List Call) (target : Target) (packet : Packet) (moment : ℕ) (later between : List Event) (p : Accepted) (number pipe weight : ℕ) (limit : Limit) (loss : ℕ) (buckets : Option ℕ) (mask : Mask) →
+pub tags-by-weight : (calls : List Call) (target : Target) (packet : Packet) (moment : ℕ) (later between : List Event) (p : Accepted) (number pipe weight : ℕ)
+    (limit : Limit) (loss : ℕ) (buckets : Option ℕ) (mask : Mask) →
     trace_of (Submit target packet moment ∷ calls) ≡ later ++ arrived p ∷ between ++ trace_of calls → settings calls target ≡ Some (Queue number pipe weight limit loss buckets mask) →
     IsTagged packet.len weight (between ++ trace_of calls) p
 tags-by-weight calls target packet moment later between p number pipe weight limit loss buckets mask e set =
-    let taken = adds-among (IsCaused calls (Submit target packet moment)) (trace_of calls) (trace_of (Submit target packet moment ∷ calls)) later between (arrived p) (call-causes calls (Submit target packet moment)) e in
+    let taken = adds-among (IsCaused calls (Submit target packet moment)) (trace_of calls) (trace_of (Submit target packet moment ∷ calls)) later between
+    (arrived p) (call-causes calls (Submit target packet moment)) e in
     let how : Treatment = taken.0 in
     let same : Some how ≡ treatment (Some (Queue number pipe weight limit loss buckets mask)) = sym taken.1 ∙ ap treatment set in
     let by_weight : how.weight ≡ weight = ap (weight-or 0) same in
     let flow = flow_number (keys calls) (key_of target packet.tuple how) in
     subst (λ (x : Accepted). IsTagged packet.len weight (between ++ trace_of calls) x) (sym taken.2)
-    (subst (λ (w : ℕ). IsTagged packet.len w (between ++ trace_of calls) (accept (link_of target flow how.pipe) packet flow how (between ++ trace_of calls))) by_weight (tagged (link_of target flow how.pipe) packet flow how (between ++ trace_of calls)))
+    (subst (λ (w : ℕ). IsTagged packet.len w (between ++ trace_of calls) (accept (link_of target flow how.pipe) packet flow how (between ++ trace_of calls)))
+    by_weight (tagged (link_of target flow how.pipe) packet flow how (between ++ trace_of calls)))
   where
     weight-or : ℕ → Option Treatment → ℕ
     weight-or d None = d

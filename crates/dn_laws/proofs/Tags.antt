@@ -25,7 +25,9 @@ module _ (link : Link) (flow : ℕ) where
   -- An event apart leaves the tag.
   left : (e : Event) (t : List Event) → IsApart link flow e → last_finish_tag link flow (e ∷ t) ≡ last_finish_tag link flow t
   left (opened l) t h = ap {B = ℕ} (λ b. cond b 0 (last_finish_tag link flow t)) (false-if (link_eq l link) (λ same. h (link_eq-true l link same)))
-  left (arrived p) t h = ap {B = ℕ} (λ b. cond b p.stamped.finish_tag (last_finish_tag link flow t)) (false-if (is_of link flow p) (λ mine. h (link_eq-true p.link link (and-left (link_eq p.link link) (nat_eq p.stamped.flow flow) mine)) (eqb-true p.stamped.flow flow (and-right (link_eq p.link link) (nat_eq p.stamped.flow flow) mine))))
+  left (arrived p) t h = ap {B = ℕ} (λ b. cond b p.stamped.finish_tag (last_finish_tag link flow t))
+      (false-if (is_of link flow p) (λ mine. h (link_eq-true p.link link (and-left (link_eq p.link link) (nat_eq p.stamped.flow flow) mine))
+      (eqb-true p.stamped.flow flow (and-right (link_eq p.link link) (nat_eq p.stamped.flow flow) mine))))
   left (discarded f) t h = ap {B = ℕ} (λ b. cond b 0 (last_finish_tag link flow t)) (false-if (nat_eq f flow) (λ same. h (eqb-true f flow same)))
   left (started s) t h = refl
   left (lost l f) t h = refl

@@ -88,7 +88,8 @@ module _ (rule : Rule) (link : Link) (flow : ℕ) where
       by : (t : Target) (o : Option Command) → settings calls target ≡ o → IsKept t o → IsElsewhere (pipe_of link) calls (Submit target packet moment) →
           last_finish_tag link flow (trace_of (Submit target packet moment ∷ calls)) ≡ last_finish_tag link flow (trace_of (Advance moment ∷ calls))
       by t None set kept other =
-          ap (λ (o : Option Command). last_finish_tag link flow (after_verdict (settings calls) (max (effective_moment calls) moment) packet (verdict_by (keys calls) target packet (treatment o) before) before)) set
+          ap (λ (o : Option Command). last_finish_tag link flow (after_verdict (settings calls) (max (effective_moment calls) moment) packet
+          (verdict_by (keys calls) target packet (treatment o) before) before)) set
       by t (Some (Pipe number bw delay limit loss buckets mask)) set kept other =
           packets-spare-tags rule calls target packet moment (Pipe number bw delay limit loss buckets mask) loss limit number link flow set (refl, refl, refl)
           (λ same. other (Pipe number bw delay limit loss buckets mask) loss limit number set (refl, refl, refl) (sym same))

@@ -179,7 +179,8 @@ not-before [] calls c later earlier s e number = ⊎_elim (λ new. now new.0 new
         omega (arith, low, more, all, number)
 not-before (c' ∷ after) calls c later earlier s e number =
     let rises = clock-later after (c ∷ calls) in
-    ⊎_elim (λ new. let in_time = (starts-in-time (after ++ c ∷ calls) c' later new.0 s new.1).0 in omega (arith, rises, in_time)) (λ before. not-before after calls c before.0 earlier s before.1 number) (placed (after ++ c ∷ calls) c' later earlier s e)
+    ⊎_elim (λ new. let in_time = (starts-in-time (after ++ c ∷ calls) c' later new.0 s new.1).0 in omega (arith, rises, in_time))
+    (λ before. not-before after calls c before.0 earlier s before.1 number) (placed (after ++ c ∷ calls) c' later earlier s e)
 
 pub none-starts-early : (rule : Rule) (after calls : List Call) (target : Target) (packet : Packet) (moment at flow number : ℕ) (later earlier : List Event) (s : Start) →
     reply rule calls (Submit target packet moment) ≡ Queued at flow number → trace_of (after ++ Submit target packet moment ∷ calls) ≡ later ++ started s ∷ earlier →

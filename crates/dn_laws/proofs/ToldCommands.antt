@@ -115,7 +115,8 @@ clock-is-the-greatest calls = (λ later c earlier e. subst (λ (cs : List Call).
         this low = inr ([], (c, (calls, refl, omega (arith, low))))
 
         rest : moment_of c < effective_moment calls → (effective_moment calls ≡ 0) ⊎ IsNamed calls → (effective_moment (c ∷ calls) ≡ 0) ⊎ IsNamed (c ∷ calls)
-        rest high before = ⊎_elim (λ none. inl (omega arith)) (λ (some : IsNamed calls). let is = some.1.1.2 in inr (c ∷ some.0, (some.1.0, (some.1.1.0, ap (λ (r : List Call). c ∷ r) some.1.1.1, omega arith)))) before
+        rest high before = ⊎_elim (λ none. inl (omega arith)) (λ (some : IsNamed calls). let is =
+            some.1.1.2 in inr (c ∷ some.0, (some.1.0, (some.1.1.0, ap (λ (r : List Call). c ∷ r) some.1.1.1, omega arith)))) before
 
 -- ---- Commands
 

@@ -60,8 +60,11 @@ pub told-few : (rule : Rule) (calls : List Call) (c : Call) → reply rule calls
 told-few rule calls c told = ⊎_elim (λ many. absurd (told (ap (λ b. cond b Exhausted (counted_reply rule calls c)) many.0))) (λ few. few.1) (leb_tells call_limit (length calls))
 
 -- Events that a call makes one of at most, each with the reply that tells it.
-module _ (p : Event → Bool) (no_opening : (l : Link) → p (opened l) ≡ false) (no_start : (s : Start) → p (started s) ≡ false) (no_discard : (f : ℕ) → p (discarded f) ≡ false) (no_collect : (at : ℕ) → p (collected at) ≡ false) where
-  module _ (q : Reply → Bool) (quiet : (r : Reply) → IsQuiet r → q r ≡ false) (one_lost : (at flow : ℕ) (link : Link) → p (lost link flow) ≡ q (Lost at flow)) (one_full : (at flow : ℕ) (link : Link) → p (refused link flow) ≡ q (Full at flow)) (one_queued : (at number : ℕ) (a : Accepted) → p (arrived a) ≡ q (Queued at a.stamped.flow number)) where
+module _ (p : Event → Bool) (no_opening : (l : Link) → p (opened l) ≡ false) (no_start : (s : Start) → p (started s) ≡ false)
+    (no_discard : (f : ℕ) → p (discarded f) ≡ false) (no_collect : (at : ℕ) → p (collected at) ≡ false) where
+  module _ (q : Reply → Bool) (quiet : (r : Reply) → IsQuiet r → q r ≡ false) (one_lost : (at flow : ℕ) (link : Link) → p (lost link flow) ≡ q (Lost at flow))
+      (one_full : (at flow : ℕ) (link : Link) → p (refused link flow) ≡ q (Full at flow))
+      (one_queued : (at number : ℕ) (a : Accepted) → p (arrived a) ≡ q (Queued at a.stamped.flow number)) where
     count-reply : (r : Reply) (rs : List Reply) → count_by q (r ∷ rs) ≡ cond (q r) 1 0 + count_by q rs
     count-reply r rs = sum_by-cons (λ x. cond (q x) 1 0) r rs
 
@@ -195,7 +198,8 @@ pub queued-count : (rule : Rule) (calls : List Call) → length calls ≤ call_l
 queued-count = all-told is_arrival (λ l. refl) (λ s. refl) (λ f. refl) (λ at. refl) is_queued quiet-queued (λ at f link. refl) (λ at f link. refl) (λ at number a. refl)
 
 pub queued-of-count : (flow : ℕ) (rule : Rule) (calls : List Call) → length calls ≤ call_limit → count_by (is_arrival_of flow) (trace_of calls) ≡ count_by (is_queued_of flow) (replies rule calls)
-queued-of-count flow = all-told (is_arrival_of flow) (λ l. refl) (λ s. refl) (λ f. refl) (λ at. refl) (is_queued_of flow) (quiet-queued-of flow) (λ at f link. refl) (λ at f link. refl) (λ at number a. refl)
+queued-of-count flow = all-told (is_arrival_of flow) (λ l. refl) (λ s. refl) (λ f. refl) (λ at. refl) (is_queued_of flow) (quiet-queued-of flow)
+    (λ at f link. refl) (λ at f link. refl) (λ at number a. refl)
 
 pub lost-of-count : (flow : ℕ) (rule : Rule) (calls : List Call) → length calls ≤ call_limit → count_by (is_loss_of flow) (trace_of calls) ≡ count_by (is_lost_of flow) (replies rule calls)
 lost-of-count flow = all-told (is_loss_of flow) (λ l. refl) (λ s. refl) (λ f. refl) (λ at. refl) (is_lost_of flow) (quiet-lost flow) (λ at f link. refl) (λ at f link. refl) (λ at number a. refl)

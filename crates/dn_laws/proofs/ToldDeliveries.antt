@@ -207,9 +207,12 @@ told-when-due rule calls moment due later earlier s few happened is_due soon =
         by true e =
             let mine : of.start.packet.packet ≡ s.packet.packet = sym of.number ∙ eqb-true d.packet s.packet.packet e in
             let parts : of.later ++ started of.start ∷ of.earlier ≡ later ++ started s ∷ earlier = sym of.happened ∙ happened in
-            let once : start_count s.packet.packet (of.later ++ started of.start ∷ of.earlier) ≤ 1 = subst (λ (t : List Event). start_count s.packet.packet t ≤ 1) of.happened (starts-once s.packet.packet (Collect moment ∷ calls)) in
+            let once : start_count s.packet.packet (of.later ++ started of.start ∷ of.earlier) ≤ 1 =
+            subst (λ (t : List Event). start_count s.packet.packet t ≤ 1) of.happened (starts-once s.packet.packet (Collect moment ∷ calls)) in
             let one = one-start s.packet.packet of.later later of.start s of.earlier earlier parts mine refl once in
-            let at : IsDueBy rule s (last_due rule s.packet.link earlier) d.due = (subst (λ (t : List Event). IsDueBy rule s (last_due rule s.packet.link t) d.due) one.1 (subst (λ (x : Start). IsDueBy rule x (last_due rule x.packet.link of.earlier) d.due) one.0 of.due)) in
+            let at : IsDueBy rule s (last_due rule s.packet.link earlier) d.due =
+            (subst (λ (t : List Event). IsDueBy rule s (last_due rule s.packet.link t) d.due) one.1
+            (subst (λ (x : Start). IsDueBy rule x (last_due rule x.packet.link of.earlier) d.due) one.0 of.due)) in
             let same = one-due rule s (last_due rule s.packet.link earlier) d.due due at is_due in
             absurd (omega (arith, late, soon, same))
 

@@ -80,7 +80,16 @@ abbrev all : List Event
 all = trace_of (Advance 3000000 ∷ to_queue 1 0 ∷ queued)
 
 abbrev last : Start
-last = record { packet = record { packet = 2; link = shared 1; stamped = record { flow = 1; len = 1000; weight = 1; start_tag = 65536000; finish_tag = 131072000 } }; moment = 2000000; transmission = 1000000; delay = 50000000 }
+last = record {
+  packet = record {
+    packet = 2;
+    link = shared 1;
+    stamped = record { flow = 1; len = 1000; weight = 1; start_tag = 65536000; finish_tag = 131072000 };
+  };
+  moment = 2000000;
+  transmission = 1000000;
+  delay = 50000000;
+}
 
 no_pause : 2000000 ≡ max 0 1000000 + 1000000
 no_pause = links-make-no-pause Ordered (Advance 3000000 ∷ []) queued (ToQueue 1) (sized 1000) 0 0 1 2 [] (take 2 (drop 1 all)) last refl refl refl

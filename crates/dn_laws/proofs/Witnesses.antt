@@ -63,7 +63,16 @@ none_starts = settled-ends (settings calls) 2000000 (shared 1) before
 
 -- The newest event is the start of a packet of queue 2 at 1 ms, at which the link is free of the packet before it.
 abbrev newest : Start
-newest = record { packet = record { packet = 2; link = shared 1; stamped = record { flow = 1; len = 1000; weight = 3; start_tag = 65536000; finish_tag = 87381333 } }; moment = 1000000; transmission = 1000000; delay = 0 }
+newest = record {
+  packet = record {
+    packet = 2;
+    link = shared 1;
+    stamped = record { flow = 1; len = 1000; weight = 3; start_tag = 65536000; finish_tag = 87381333 };
+  };
+  moment = 1000000;
+  transmission = 1000000;
+  delay = 0;
+}
 
 starts_when_free : free (shared 1) (drop 1 before) ≤ 1000000
 starts_when_free = sends-one-at-a-time (Advance 1000000 ∷ calls) [] (drop 1 before) newest refl
@@ -178,8 +187,10 @@ its_replies = lawful-replies Ordered history it_is_lawful
 it_stays_lawful : IsLawful Ordered (history ++ entry 1 (to_pipe 1 2000000) (Queued 2000000 0 1) ∷ [])
 it_stays_lawful = lawful-more Ordered history (entry 1 (to_pipe 1 2000000) (Queued 2000000 0 1)) it_is_lawful refl
 
-one_own_entry_more : own_entries 0 history ≡ own_entries 0 (entry 0 (pipe 1 8000000 0) Configured ∷ entry 1 (to_pipe 1 0) (Queued 0 0 0) ∷ []) ++ entry 0 (Collect 1000000) (Delivered 1000000 (delivery 0 0 0 1000000 ∷ [])) ∷ []
-one_own_entry_more = own-entries-grow 0 (entry 0 (pipe 1 8000000 0) Configured ∷ entry 1 (to_pipe 1 0) (Queued 0 0 0) ∷ []) (entry 0 (Collect 1000000) (Delivered 1000000 (delivery 0 0 0 1000000 ∷ [])))
+one_own_entry_more : own_entries 0 history ≡ own_entries 0 (entry 0 (pipe 1 8000000 0) Configured ∷ entry 1 (to_pipe 1 0) (Queued 0 0 0) ∷ [])
+    ++ entry 0 (Collect 1000000) (Delivered 1000000 (delivery 0 0 0 1000000 ∷ [])) ∷ []
+one_own_entry_more = own-entries-grow 0 (entry 0 (pipe 1 8000000 0) Configured ∷ entry 1 (to_pipe 1 0) (Queued 0 0 0) ∷ [])
+    (entry 0 (Collect 1000000) (Delivered 1000000 (delivery 0 0 0 1000000 ∷ [])))
 
 no_own_entry : own_entries 1 [] ≡ []
 no_own_entry = own-entries-begin 1
