@@ -129,7 +129,8 @@ none_weighs [] e = refl
 none_weighs (p ∷ q) e = absurd (omega arith)
 
 weight_or_none : (b : ℕ) (flows : List Flow) → All (AreTagsWithin b) flows
-    → (sum_by (λ fl. head_weight fl.backlog) flows ≡ 0 → sum_by (λ fl. presence fl.backlog) flows ≡ 0) × (sum_by (λ fl. presence fl.backlog) flows ≡ 0 → sum_by (λ fl. head_weight fl.backlog) flows ≡ 0)
+    → (sum_by (λ fl. head_weight fl.backlog) flows ≡ 0 → sum_by (λ fl. presence fl.backlog) flows ≡ 0)
+    × (sum_by (λ fl. presence fl.backlog) flows ≡ 0 → sum_by (λ fl. head_weight fl.backlog) flows ≡ 0)
 weight_or_none b [] all = (λ e. refl, λ e. refl)
 weight_or_none b (fl ∷ fls) all =
     let w = sum_by-cons (λ fl. head_weight fl.backlog) fl fls in

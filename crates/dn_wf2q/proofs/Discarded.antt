@@ -1,5 +1,6 @@
 -- The packets of a slot are discarded.
-use Rattle.std.proofs.Common.{◌≡◌, ℕ, ◌+◌, ◌-◌, ◌<◌, ◌≤◌, List, [], ◌∷◌, length, Option, Some, None, IfSome, IfNone, All, Contains, IsPermutation, refl, sym, ap, ◌∙◌, subst, arith, inl, inr, slice_index_or, get_or, set, sum_by, nat_lt}
+use Rattle.std.proofs.Common.{◌≡◌, ℕ, ◌+◌, ◌-◌, ◌<◌, ◌≤◌, List, [], ◌∷◌, length, Option, Some, None, IfSome, IfNone, All, Contains, IsPermutation, refl, sym}
+use Rattle.std.proofs.Common.{ap, ◌∙◌, subst, arith, inl, inr, slice_index_or, get_or, set, sum_by, nat_lt}
 use Rattle.std.proofs.lemmas.List.{get_or-set_same, get_or-set_other, length-set, get_or_read, get_or_past, set_past}
 use Rattle.std.proofs.lemmas.List.Sorted.{length_permutation, All-permutation}
 use Rattle.std.proofs.lemmas.List.Sums.{sum_by-set, get_or-le-sum_by}
@@ -14,7 +15,8 @@ use Rattle.dn_wf2q.specs.declared.sched_parts.SchedParts.{SchedParts}
 use Rattle.dn_wf2q.specs.Rank.{RankView}
 use Rattle.dn_wf2q.specs.Schedule.{Flow, flow_at, no_packets, after_discard}
 use Rattle.dn_wf2q.specs.Queue.{first_packet, places, packets_of, IsQueueKept}
-use Rattle.dn_wf2q.specs.Kept.{Kept, IsSchedKept, NoneDue, HeadIs, IsEligible, IsWaiting, IsWithin, AreTagsWithin, presence, behind, head_weight, ranks_at, bound, flows_of, seen, tagged, by_slot, none_absent}
+use Rattle.dn_wf2q.specs.Kept.{Kept, IsSchedKept, NoneDue, HeadIs, IsEligible, IsWaiting, IsWithin, AreTagsWithin, presence, behind, head_weight, ranks_at}
+use Rattle.dn_wf2q.specs.Kept.{bound, flows_of, seen, tagged, by_slot, none_absent}
 use Rattle.dn_wf2q.specs.Steps.{DiscardsSlot}
 use Rattle.dn_wf2q.proofs.BySlot.{length-by_slot, by_slot-set}
 use Rattle.dn_wf2q.proofs.Heads.{head_says, head_there, head_both, head_weighs, presence-le, flow_at_seen, room_grows, cond_zero, next_is}
@@ -242,7 +244,8 @@ module _ (p : SchedParts) (kept : IsSchedKept p) (slot : ℕ) (listed : slot < l
         omega (arith, weight_is)
 
     pub took_eligible : NoneDue p → h.start_tag ≤ p.virtual_time → (es : Heap RankView) (r : Option RankView) → IfSome r (λ k. k.slot ≡ slot)
-        → IfSome r (λ k. IsPermutation p.eligible.keys (k ∷ es.keys)) → IfSome r (λ k. es.room ≡ p.eligible.room + 1) → IfNone r (All (λ k. k.slot ≡ slot → ⊥) p.eligible.keys) → Took slot p.eligible es
+        → IfSome r (λ k. IsPermutation p.eligible.keys (k ∷ es.keys)) → IfSome r (λ k. es.room ≡ p.eligible.room + 1)
+        → IfNone r (All (λ k. k.slot ≡ slot → ⊥) p.eligible.keys) → Took slot p.eligible es
     took_eligible due early es r here keys room absent =
         took slot p.eligible es r (record { tag = h.finish_tag; slot = slot }) refl (in_eligible kept.kept slot listed' (tagged slot h) is' due early) here keys room absent
 

@@ -1,5 +1,6 @@
 -- A packet comes where none waits, and is sent at once.
-use Rattle.std.proofs.Common.{◌≡◌, ◌∙◌, ℕ, zero, suc, ◌+◌, ◌^◌, ◌<◌, ◌≤◌, max, cond, Option, Some, None, List, [], ◌∷◌, ◌++◌, length, map, take, All, IsPermutation, refl, sym, ap, subst, arith, inl, inr, true, get_or, set, sum_by, nat_lt}
+use Rattle.std.proofs.Common.{◌≡◌, ◌∙◌, ℕ, zero, suc, ◌+◌, ◌^◌, ◌<◌, ◌≤◌, max, cond, Option, Some, None, List, [], ◌∷◌, ◌++◌, length, map, take, All}
+use Rattle.std.proofs.Common.{IsPermutation, refl, sym, ap, subst, arith, inl, inr, true, get_or, set, sum_by, nat_lt}
 use Rattle.std.proofs.lemmas.Bool.{cases_eq, cases_lt}
 use Rattle.std.proofs.lemmas.Bool.Decides.{nat_tests}
 use Rattle.std.proofs.lemmas.List.{append-nil, get_or-set_same, get_or-set_other, get_or_past, length-map, length-set}
@@ -313,7 +314,8 @@ module _ (p : SchedParts) (kept : IsSchedKept p) (idle : IsIdle (flows_of p)) (s
         kept = subst (λ (fs : List Flow). Kept none_absent [] fs es p.waiting tag p.weights (p.arrivals + 1) (p.picks + 1)) (sym flows_are) kept_flows;
         few = omega arith;
         began = omega arith;
-        arrived = All-set (λ x. x.arrived ≤ p.arrivals + 1) p.flows.items slot r (omega arith) (All-weaker (λ x. x.arrived ≤ p.arrivals) (λ x. x.arrived ≤ p.arrivals + 1) (λ x k. omega arith) p.flows.items kept.arrived);
+        arrived = All-set (λ x. x.arrived ≤ p.arrivals + 1) p.flows.items slot r (omega arith)
+            (All-weaker (λ x. x.arrived ≤ p.arrivals) (λ x. x.arrived ≤ p.arrivals + 1) (λ x k. omega arith) p.flows.items kept.arrived);
         queues = All-set (IsQueueKept p.arrivals) p.flows.items slot r whole began.queues;
         slots = let s = kept.slots in let l = length-set p.flows.items slot r in omega arith;
       }

@@ -68,7 +68,8 @@ module _ (p : SchedParts) (kept : IsSchedKept p) (k : RankView) (slot : ℕ) (th
         → IsSchedKept (record p { eligible = es; waiting = ws })
     moved finish e es first low same tag into er em wr wm = record {
       kept = promoted_kept kept.kept k e es ws perm into (same ∙ this) low
-          (rw (← this, same_flow) (head_weaker (λ x. finish ≡ x.finish_tag) (λ x. e.tag ≡ x.finish_tag) (λ x y. tag ∙ y) (map (tagged slot) (packets_of q)) (first_finishes slot finish (packets_of q) has_head first)))
+          (rw (← this, same_flow) (head_weaker (λ x. finish ≡ x.finish_tag) (λ x. e.tag ≡ x.finish_tag) (λ x y. tag ∙ y) (map (tagged slot) (packets_of q))
+          (first_finishes slot finish (packets_of q) has_head first)))
           er em wr wm;
       few = kept.few;
       began = kept.began;

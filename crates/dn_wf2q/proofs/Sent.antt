@@ -1,5 +1,6 @@
 -- The head of a flow is sent.
-use Rattle.std.proofs.Common.{◌^◌, ◌≡◌, ℕ, ◌+◌, ◌-◌, ◌*◌, ◌==◌, ◌<◌, ◌≤◌, cond, Some, List, [], ◌∷◌, length, map, take, All, IsPermutation, refl, sym, ap, ◌∙◌, subst, arith, inl, inr, slice_index_or, get_or, set, sum_by}
+use Rattle.std.proofs.Common.{◌^◌, ◌≡◌, ℕ, ◌+◌, ◌-◌, ◌*◌, ◌==◌, ◌<◌, ◌≤◌, cond, Some, List, [], ◌∷◌, length, map, take, All, IsPermutation, refl, sym, ap, ◌∙◌}
+use Rattle.std.proofs.Common.{subst, arith, inl, inr, slice_index_or, get_or, set, sum_by}
 use Rattle.std.proofs.lemmas.List.{get_or-set_same, get_or-set_other, length-set, get_or_read}
 use Rattle.std.proofs.lemmas.List.Elements.{All-set, All-head, All-tail, All-weaker}
 use Rattle.std.proofs.lemmas.List.Sorted.{All-permutation, length_permutation}
@@ -15,7 +16,8 @@ use Rattle.dn_wf2q.specs.declared.sched_parts.SchedParts.{SchedParts}
 use Rattle.dn_wf2q.specs.Rank.{RankView}
 use Rattle.dn_wf2q.specs.Schedule.{Flow, flow_at, no_packets, heads_of, after_pick, without_head}
 use Rattle.dn_wf2q.specs.Queue.{first_packet, is_alone, places, packets_of, IsQueueKept}
-use Rattle.dn_wf2q.specs.Kept.{Kept, IsSchedKept, IsKeptBut, IsKeptWithout, HeadIs, IsEligible, IsWaiting, IsWithin, AreTagsWithin, flows_of, seen, tagged, presence, behind, head_weight, ranks_at, bound, none_absent, only_absent}
+use Rattle.dn_wf2q.specs.Kept.{Kept, IsSchedKept, IsKeptBut, IsKeptWithout, HeadIs, IsEligible, IsWaiting, IsWithin, AreTagsWithin, flows_of, seen, tagged}
+use Rattle.dn_wf2q.specs.Kept.{presence, behind, head_weight, ranks_at, bound, none_absent, only_absent}
 use Rattle.dn_wf2q.specs.Steps.{SendsHead}
 use Rattle.dn_wf2q.proofs.BySlot.{length-by_slot, by_slot-set}
 use Rattle.dn_wf2q.proofs.Heads.{head_listed, head_weaker, flow_at_seen, some_packets, flow_within, within_more, flow_within_more, length-split, room_grows, first_facts, cond_zero}

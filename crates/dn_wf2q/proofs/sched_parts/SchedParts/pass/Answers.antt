@@ -27,7 +27,8 @@ returns-clause-kept c =
     let none = no_key c.args.self.now c.requires.kept c.requires.idle c.args.slot c.args.len c.args.weight (omega arith) c.requires.room in
     let gone = through c.args.self.now.eligible c.push_pop.new.self c.new.result c.push_pop.result none c.push_pop.ensures.keys in
     passed_kept c.args.self.now c.requires.kept c.requires.idle c.args.slot c.args.len c.args.weight (omega arith) c.requires.room
-    c.index_mut-q.result.now c.index_mut-q.ensures.value c.cost-finish_tag.result c.cost-finish_tag.ensures.value c.push_pop.new.self gone c.push_pop.ensures.moves c.push_pop.ensures.room c.requires.few
+    c.index_mut-q.result.now c.index_mut-q.ensures.value c.cost-finish_tag.result c.cost-finish_tag.ensures.value c.push_pop.new.self gone
+    c.push_pop.ensures.moves c.push_pop.ensures.room c.requires.few
 
 pub returns-clause-none_due : goal.returns-clause-none_due
 returns-clause-none_due c = none_waits c.args.self.now c.requires.kept c.requires.idle c.cost-finish_tag.result

@@ -16,7 +16,11 @@ returns-then-slot-len-clause-reserves c =
 
 pub returns-then-slot-len-clause-ok : goal.returns-then-slot-len-clause-ok
 returns-then-slot-len-clause-ok c =
-    on_ok_always c.reserve_place.result _ (flows_same c.args.self.now c.requires.kept c.args.slot (omega (arith, c.args.self.now.flows.ok.0)) c.index_mut.result.now c.index_mut.ensures.value c.reserve_place.new.self c.reserve_place.ensures.packets c.reserve_place.ensures.last_finish_tag c.reserve_place.ensures.arrived c.reserve_place.ensures.kept c.reserve_place.ensures.room ∙ sym (padded_same c.args.self.now c.requires.kept c.args.slot (omega (arith, c.args.self.now.flows.ok.0)) c.index_mut.result.now c.index_mut.ensures.value c.reserve_place.new.self c.reserve_place.ensures.packets c.reserve_place.ensures.last_finish_tag c.reserve_place.ensures.arrived c.reserve_place.ensures.kept c.reserve_place.ensures.room))
+    on_ok_always c.reserve_place.result _ (flows_same c.args.self.now c.requires.kept c.args.slot (omega (arith, c.args.self.now.flows.ok.0))
+    c.index_mut.result.now c.index_mut.ensures.value c.reserve_place.new.self c.reserve_place.ensures.packets c.reserve_place.ensures.last_finish_tag
+    c.reserve_place.ensures.arrived c.reserve_place.ensures.kept c.reserve_place.ensures.room ∙ sym (padded_same c.args.self.now c.requires.kept c.args.slot
+    (omega (arith, c.args.self.now.flows.ok.0)) c.index_mut.result.now c.index_mut.ensures.value c.reserve_place.new.self c.reserve_place.ensures.packets
+    c.reserve_place.ensures.last_finish_tag c.reserve_place.ensures.arrived c.reserve_place.ensures.kept c.reserve_place.ensures.room))
 
 pub returns-then-slot-len-clause-err : goal.returns-then-slot-len-clause-err
 returns-then-slot-len-clause-err c =
