@@ -1,6 +1,7 @@
 -- The packets of a heap, in the order in which they are given: a push puts one into its place, and a pop of the least
 -- takes the first.
-use Rattle.std.proofs.Common.{◌≡◌, ℕ, suc, ◌<◌, Bool, true, false, cond, List, [], ◌∷◌, length, All, Contains, IsPermutation, refl, sym, ap, ◌∙◌, arith, remove, Option, Some, None, is_some, nat_le, IsSome, IfSome}
+use Rattle.std.proofs.Common.{◌≡◌, ℕ, suc, ◌<◌, Bool, true, false, cond, List, [], ◌∷◌, length, All, Contains, IsPermutation, refl, sym, ap, ◌∙◌, arith}
+use Rattle.std.proofs.Common.{remove, Option, Some, None, is_some, nat_le, IsSome, IfSome}
 use Rattle.std.specs.declared.cmp.Ordering.{Ordering}
 use Rattle.std.specs.declared.cmp.Ordering.TheVariants.{Less, Equal, Greater}
 use Rattle.std.specs.Cmp.{IsTotalOrder}
