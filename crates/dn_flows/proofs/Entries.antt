@@ -19,7 +19,8 @@ use Rattle.dn_flows.proofs.Places.{eq-no, get-more, get-set, get-set-other}
 
 module _ (keys : List FlowKey) (queues queues' : List FlowQueue) (m m' : Members) (flow : ℕ) (a : AreListed keys queues m) (keeps : KeepsOthers flow m m')
     (others : (g : ℕ) → g ≢ flow → slice_get queues' g ≡ slice_get queues g)
-    (here : (q' : FlowQueue) → slice_get queues' flow ≡ Some q' → IsListed q' × ((target : Target) (key : FlowKey) → slice_get keys flow ≡ Some key → is_at target key ≡ true → is_listed target q' ≡ true → IsMember target flow m')) where
+    (here : (q' : FlowQueue) → slice_get queues' flow ≡ Some q' → IsListed q' × ((target : Target) (key : FlowKey) → slice_get keys flow ≡ Some key
+    → is_at target key ≡ true → is_listed target q' ≡ true → IsMember target flow m')) where
   still-member : (g : ℕ) (q : FlowQueue) (key : FlowKey) (target : Target) → slice_get queues' g ≡ Some q → slice_get keys g ≡ Some key → is_at target key ≡ true → is_listed target q ≡ true
       → (g ≡ flow) ⊎ (g ≡ flow → ⊥) → IsMember target g m'
   still-member g q key target there its at listed (inl same) =
@@ -55,7 +56,8 @@ listed-set keys queues m flow q q' a there pipe queue is =
     here x same = (subst IsListed same is, λ target key its at listed. a.members flow q key target there its at (sym (flag target) ∙ ap (is_listed target) same ∙ listed))
 
 -- A queue that was listed is so with a place used up, or with no packet since.
-pub listed-q : (q q' : FlowQueue) → IsListed q → q'.on_pipe ≡ q.on_pipe → q'.of_queue ≡ q.of_queue → (q'.reserved ≡ true → q.reserved ≡ true) → (q'.active ≡ true → (q.reserved ≡ true) ⊎ (q.active ≡ true)) → IsListed q'
+pub listed-q : (q q' : FlowQueue) → IsListed q → q'.on_pipe ≡ q.on_pipe → q'.of_queue ≡ q.of_queue → (q'.reserved ≡ true → q.reserved ≡ true)
+    → (q'.active ≡ true → (q.reserved ≡ true) ⊎ (q.active ≡ true)) → IsListed q'
 listed-q q q' is pipe queue reserved active = record {
   reserved = λ h. let b = is.reserved (reserved h) in (pipe ∙ b.0, queue ∙ b.1);
   active = λ h. by (active h);

@@ -1,5 +1,6 @@
 -- The table of flows after one queue changed, or one was added or taken out.
-use Rattle.std.proofs.Common.{◌≡◌, ◌∙◌, ◌+◌, ◌-◌, ◌⊎◌, ℕ, zero, suc, ◌<◌, ◌≤◌, ◌^◌, List, [], ◌∷◌, ◌++◌, map, set, take, get_or, length, length-set, Bool, true, false, cond, refl, ap, sym, subst, arith, inl, inr}
+use Rattle.std.proofs.Common.{◌≡◌, ◌∙◌, ◌+◌, ◌-◌, ◌⊎◌, ℕ, zero, suc, ◌<◌, ◌≤◌, ◌^◌, List, [], ◌∷◌, ◌++◌, map, set, take, get_or, length, length-set, Bool}
+use Rattle.std.proofs.Common.{true, false, cond, refl, ap, sym, subst, arith, inl, inr}
 use Rattle.std.specs.Prelude.{Some, None, slice_get, sum}
 use Rattle.std.proofs.lemmas.Bool.{cases_eq}
 use Rattle.std.proofs.lemmas.List.{length-map}
@@ -8,7 +9,8 @@ use Rattle.dn_flows.specs.Packets.{Packets, ContainsKey, get}
 use Rattle.dn_flows.specs.declared.flow_queue.FlowQueue.{FlowQueue}
 use Rattle.dn_flows.specs.declared.unsent.Unsent.{Unsent}
 use Rattle.dn_flows.specs.declared.waiting.Waiting.{Waiting}
-use Rattle.dn_flows.specs.Store.{IsCounted, IsQueue, AreStored, Appends, TakesFront, Lies, Shortens, OnlyOwnLeft, all_with_unsent, state_of, stored_at, with_unsent, waiting_from, new_queue, reserved_one, reservations}
+use Rattle.dn_flows.specs.Store.{IsCounted, IsQueue, AreStored, Appends, TakesFront, Lies, Shortens, OnlyOwnLeft, all_with_unsent, state_of, stored_at}
+use Rattle.dn_flows.specs.Store.{with_unsent, waiting_from, new_queue, reserved_one, reservations}
 use Rattle.dn_flows.specs.Table.{FlowState, flow_at, new_flow, lengths, pushed, popped, popped_from, emptied, with_place}
 use Rattle.dn_flows.proofs.Appended.{Appended, appended, owner-appended, behind-appended, others-stay-appended}
 use Rattle.dn_flows.proofs.Bytes.{lengths-push, AreShort-push, no_more_than_bytes}
@@ -197,7 +199,8 @@ module _ {old : Packets} {queues : List FlowQueue} {unsent : List Unsent} {flow 
   listing new q' is same-packets = (a.stored, a.states ∙ set-read seen flow)
     where
       a : After new q' (flow_at seen flow)
-      a = counting new q' (λ s. s) (λ u s. refl) same-packets (ap (λ (x : FlowQueue). x.front) is, ap (λ (x : FlowQueue). x.back) is, ap (λ (x : FlowQueue). x.len) is, ap (λ (x : FlowQueue). x.bytes) is)
+      a = counting new q' (λ s. s) (λ u s. refl) same-packets
+          (ap (λ (x : FlowQueue). x.front) is, ap (λ (x : FlowQueue). x.back) is, ap (λ (x : FlowQueue). x.len) is, ap (λ (x : FlowQueue). x.bytes) is)
           (λ i. record { backlog = waiting_from old (is i).front (is i).len; reserved = (is i).reserved; active = (is i).active; lost = 0; full = 0; started = (is i).started; discarded = 0 })
 
   -- A place is reserved for it.
@@ -286,7 +289,8 @@ module _ {old : Packets} {queues : List FlowQueue} {unsent : List Unsent} {flow 
   -- All packets leave, and are counted beside the queue.
   pub emptying : (new : Packets) (q₁ q' : FlowQueue) (u : Unsent) → Shortens old q new q₁ → q' ≡ record q₁ { active = false } → q'.len ≡ 0 → length unsent ≡ length queues
       → u ≡ get_or unsent flow u
-      → AreStored new (set queues flow q') × (all_with_unsent (map (state_of new) (set queues flow q')) (set unsent flow (record u { discarded = u.discarded + q.len })) ≡ set seen flow (emptied (flow_at seen flow)))
+      → AreStored new (set queues flow q') × (all_with_unsent (map (state_of new) (set queues flow q'))
+      (set unsent flow (record u { discarded = u.discarded + q.len })) ≡ set seen flow (emptied (flow_at seen flow)))
   emptying new q₁ q' u s after none same is = (
     there-after.stored,
     ap (λ (states : List FlowState). all_with_unsent states (set unsent flow counted)) there-after.states

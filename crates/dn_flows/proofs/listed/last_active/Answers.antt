@@ -15,7 +15,8 @@ entries-preserved c =
     let go = c.let_go.ensures.lets_go in
     record {
       listed = lets-go c.args.target.now c.args.keys.now.keys queues c.let_go.new.queues.items c.entries.members c.take_out.new.self c.in-Some.flow before.listed c.take_out.ensures.keeps
-          c.take_out.ensures.others go (λ q key there. c.is_active_at.ensures.no c.if-is_active_at.false q key (ap (λ (qs : List FlowQueue). slice_get qs c.in-Some.flow) c.deref.ensures.value ∙ there));
+          c.take_out.ensures.others go (λ q key there. c.is_active_at.ensures.no c.if-is_active_at.false q key
+          (ap (λ (qs : List FlowQueue). slice_get qs c.in-Some.flow) c.deref.ensures.value ∙ there));
       counted = c.let_go.ensures.counted;
       fewer = let a = before.fewer in let b = c.let_go.ensures.fewer in omega arith;
       keeps = keep-more c.args.queues.now.items queues c.let_go.new.queues.items before.keeps (keep-let c.args.target.now c.in-Some.flow queues c.let_go.new.queues.items go);

@@ -73,7 +73,11 @@ invariant_of-self-in_err-list c =
 
 pub returns-in_err-list-clause-err : goal.returns-in_err-list-clause-err
 returns-in_err-list-clause-err c =
-    on-err c.from_residual.result (rw (← c.self.view_is) (refl, (listing (here (goal.at.returns-in_err-list-clause-err c).After-index_mut-queue) c.self.inside.packets c.list.new.queue c.list.ensures.same (λ key. refl)).1))
+    on-err c.from_residual.result (rw (← c.self.view_is) (
+      refl,
+      (listing (here (goal.at.returns-in_err-list-clause-err c).After-index_mut-queue)
+          c.self.inside.packets c.list.new.queue c.list.ensures.same (λ key. refl)).1,
+    ))
 
 -- A flow with a place would have had it.
 unreserved : (c : After-index_mut-queue) → c.index_mut-queue.result.now.reserved ≡ false → (flow_at (seen (here c)) c.args.flow).reserved ≡ true → ⊥
@@ -98,7 +102,8 @@ invariant_of-self-in_err-reserve c =
 pub returns-in_err-reserve-clause-err : goal.returns-in_err-reserve-clause-err
 returns-in_err-reserve-clause-err c =
     let w = goal.at.returns-in_err-reserve-clause-err c in
-    on-err c.from_residual-in_err-reserve.result (rw (← c.self.view_is) (refl, (listing (here w.After-index_mut-queue) c.reserve.new.self c.list.new.queue c.list.ensures.same (grown w.After-reserve)).1))
+    on-err c.from_residual-in_err-reserve.result (rw (← c.self.view_is)
+    (refl, (listing (here w.After-index_mut-queue) c.reserve.new.self c.list.new.queue c.list.ensures.same (grown w.After-reserve)).1))
 
 -- The flow has a place, in the room that was made.
 pub invariant_of-self-2 : goal.invariant_of-self-2

@@ -11,7 +11,8 @@ use Rattle.dn_flows.specs.Members.{KeepsOthers, last_of, list_of}
 use Rattle.dn_flows.proofs.Lists.{in-rest, less_last, one-fewer}
 use Rattle.dn_flows.proofs.members.Members.take_out.Goals as goal
 
-module _ (old new : Members) (target : Target) (flow : ℕ) (pop : (other : Target) → list_of other new ≡ less_last (target_eq target other) (list_of other old)) (last : last_of (list_of target old) ≡ Some flow) where
+module _ (old new : Members) (target : Target) (flow : ℕ) (pop : (other : Target) → list_of other new ≡ less_last (target_eq target other) (list_of other old))
+    (last : last_of (list_of target old) ≡ Some flow) where
   pub keeps-others : KeepsOthers flow old new
   keeps-others other g ne h = by (target_eq target other) refl
     where
@@ -29,4 +30,5 @@ module _ (old new : Members) (target : Target) (flow : ℕ) (pop : (other : Targ
       omega arith
 
 pub returns-then-last-flow-clause-keeps : goal.returns-then-last-flow-clause-keeps
-returns-then-last-flow-clause-keeps c = keeps-others c.args.self.now c.pop.new.self c.args.target.now c.args.flow c.pop.ensures (sym c.last.ensures ∙ c.in-Some.is ∙ ap (λ (n : ℕ). Some n) c.if-last-flow.true)
+returns-then-last-flow-clause-keeps c = keeps-others c.args.self.now c.pop.new.self c.args.target.now c.args.flow c.pop.ensures
+    (sym c.last.ensures ∙ c.in-Some.is ∙ ap (λ (n : ℕ). Some n) c.if-last-flow.true)
