@@ -54,7 +54,20 @@ length-mapped slot (p ∷ ps) = ap suc (length-mapped slot ps)
 
 -- The link's view where a busy period has begun, if one has.
 abbrev begun_view : Bool → LinkView → LinkView
-begun_view idle v = record { link = v.link; value = v.value; waits = v.waits; schedule = record { flows = begun_flows idle v.schedule; virtual_time = begun_time idle v.schedule; room = v.schedule.room; arrivals = v.schedule.arrivals; picks = v.schedule.picks; moves = v.schedule.moves }; slots = v.slots }
+begun_view idle v = record {
+  link = v.link;
+  value = v.value;
+  waits = v.waits;
+  schedule = record {
+    flows = begun_flows idle v.schedule;
+    virtual_time = begun_time idle v.schedule;
+    room = v.schedule.room;
+    arrivals = v.schedule.arrivals;
+    picks = v.schedule.picks;
+    moves = v.schedule.moves;
+  };
+  slots = v.slots;
+}
 
 module _ (settings : Settings) (at : ℕ) (h : Home) (flow len weight : ℕ) (idle : Bool) (old new : Parts) (s : ArrivesAt at h flow len weight idle old new)
     (more : List Link) (trace : List Event) (a : AgreesWith old more trace)

@@ -147,7 +147,8 @@ counted-items rule calls (Collect moment) = let few = collected-few rule calls m
 counted-items rule calls Show = let few = shown-few rule calls in omega arith
 
 -- What bounds the list of a call that counts bounds that of the call, since Exhausted has none.
-bounded : (most : List Call → ℕ) (rule : Rule) (calls : List Call) (call : Call) → ((cs : List Call) → items_in (counted_reply rule cs call) ≤ most cs) → items_in (reply rule calls call) ≤ most (counted calls)
+bounded : (most : List Call → ℕ) (rule : Rule) (calls : List Call) (call : Call) → ((cs : List Call) → items_in (counted_reply rule cs call) ≤ most cs) →
+    items_in (reply rule calls call) ≤ most (counted calls)
 bounded most rule calls call few = ⊎_elim
     (λ below. subst (λ (x : Reply × List Call). items_in x.0 ≤ most x.1) (λ i. (sym below.2 i, sym below.1 i)) (few calls))
     (λ many. subst (λ (r : Reply). items_in r ≤ most (counted calls)) (sym many.1) (omega arith))

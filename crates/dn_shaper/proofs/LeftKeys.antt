@@ -1,5 +1,6 @@
 -- The keys that emptied links left in the heap, and those that count: what each step does to both.
-use Rattle.std.proofs.Common.{◌≡◌, ◌∙◌, ◌⊎◌, ℕ, zero, suc, ◌+◌, ◌<◌, ◌≤◌, Bool, true, false, cond, not, nat_eq, List, [], ◌∷◌, ◌++◌, set, length, filter, slice_index_or, All, Contains, IsPermutation, refl, sym, ap, subst, arith, inl, inr}
+use Rattle.std.proofs.Common.{◌≡◌, ◌∙◌, ◌⊎◌, ℕ, zero, suc, ◌+◌, ◌<◌, ◌≤◌, Bool, true, false, cond, not, nat_eq, List, [], ◌∷◌, ◌++◌, set, length, filter}
+use Rattle.std.proofs.Common.{slice_index_or, All, Contains, IsPermutation, refl, sym, ap, subst, arith, inl, inr}
 use Rattle.std.specs.Prelude.{Option, Some, None, is_some, slice_get}
 use Rattle.std.specs.Ordering.{is_lt}
 use Rattle.std.proofs.lemmas.List.{get_or-set_same, get_or-set_other, length-set}
@@ -13,7 +14,9 @@ use Rattle.dn_shaper.specs.declared.links.next_start.NextStart.{NextStart}
 use Rattle.dn_shaper.specs.Refinement.Emptied.{is_moment, is_left, counting, counted_heap, IsFirstCounting, HasKept, IsTidy, KeepsCounting}
 use Rattle.dn_shaper.specs.Refinement.NextStarts.{next_start_cmp, next_at, one_at, keys_at, one_backlogged, backlogged, Holds}
 use Rattle.dn_shaper.proofs.HeldCounts.{counted-held, next-got}
-use Rattle.dn_shaper.proofs.KeyCounts.{key_eq, one_if, count_of, same_key, itself, one_is, one_not, one_elsewhere, count-cons, same_counts, counted, contains_counted, count-by_place, filter-in, filter-out, count-passing, count-failing, filter-none, filter-permutation, filter-with, filter-without, filter-lengths}
+use Rattle.dn_shaper.proofs.KeyCounts.{key_eq, one_if, count_of, same_key, itself, one_is, one_not, one_elsewhere, count-cons, same_counts, counted}
+use Rattle.dn_shaper.proofs.KeyCounts.{contains_counted, count-by_place, filter-in, filter-out, count-passing, count-failing, filter-none, filter-permutation}
+use Rattle.dn_shaper.proofs.KeyCounts.{filter-with, filter-without, filter-lengths}
 use Rattle.dn_shaper.proofs.NextStarts.{holds_none, next_listed, not_before}
 
 -- ---- Which keys were left

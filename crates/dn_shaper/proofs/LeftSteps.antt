@@ -11,7 +11,8 @@ use Rattle.dn_shaper.specs.Refinement.Emptied.{is_left, counting, IsFirstCountin
 use Rattle.dn_shaper.specs.Refinement.NextStarts.{next_start_cmp, next_at, keys_at, backlogged, Holds}
 use Rattle.dn_shaper.proofs.KeyCounts.{contains_counted, count_of, count-cons, one_if, same_counts}
 use Rattle.dn_shaper.proofs.LeavesKey.{leaves-held}
-use Rattle.dn_shaper.proofs.LeftKeys.{alike-first, alike-held, back-fewer, back-first, back-held, back-keys, back-not, cleared-first, cleared-held, cleared-keys, counted-lengths, left-once, none-at, none-left, one-least, with-first, with-held, with-keys, without-held}
+use Rattle.dn_shaper.proofs.LeftKeys.{alike-first, alike-held, back-fewer, back-first, back-held, back-keys, back-not, cleared-first, cleared-held}
+use Rattle.dn_shaper.proofs.LeftKeys.{cleared-keys, counted-lengths, left-once, none-at, none-left, one-least, with-first, with-held, with-keys, without-held}
 
 -- A heap without a key, and no place.
 pub nothing-tidy : (heap : Heap NextStart) (E : List (Option ℕ)) → heap.keys ≡ [] → heap.room ≡ 0 → E ≡ [] → IsTidy heap E

@@ -37,7 +37,8 @@ module _ (command : Command) (keys : List FlowKey) where
   pub one-done : (flow : ℕ) (key : FlowKey) (mid new : Parts) → slice_get keys flow ≡ Some key → reaches command key ≡ true → DiscardsFlow flow mid new → DiscardsSome command keys mid new
   one-done flow key mid new there reaches-it discards more trace a =
       let from-0 : 0 + flow ≡ flow = omega arith in
-      let same = subst (λ (n : ℕ). ReadsSame (discard_reached command 0 keys (discarded n ∷ trace)) (discard_reached command 0 keys trace)) from-0 (reached-once command 0 flow key keys trace there reaches-it) in
+      let same = subst (λ (n : ℕ). ReadsSame (discard_reached command 0 keys (discarded n ∷ trace)) (discard_reached command 0 keys trace)) from-0
+      (reached-once command 0 flow key keys trace there reaches-it) in
       (discarded flow ∷ trace, discards more trace a, same)
 
 -- Where no flow is active any more, all that the delete reaches are discarded.

@@ -5,7 +5,8 @@ use Rattle.std.specs.List.{count_by, list_any}
 use Rattle.std.proofs.lemmas.Bool.{cases_eq}
 use Rattle.dn_types.specs.Calls.{reaches, discard_reached}
 use Rattle.dn_types.specs.SharedLinks.{last_finish_tag, waiting}
-use Rattle.dn_types.specs.Trace.{Link, Accepted, Event, opened, arrived, started, lost, refused, discarded, collected, backlog, discarded_count, is_arrival, is_loss_of, is_refusal_of, is_start_of, is_of, link_eq}
+use Rattle.dn_types.specs.Trace.{Link, Accepted, Event, opened, arrived, started, lost, refused, discarded, collected, backlog, discarded_count, is_arrival}
+use Rattle.dn_types.specs.Trace.{is_loss_of, is_refusal_of, is_start_of, is_of, link_eq}
 use Rattle.dn_types.specs.Wf2q.{total}
 use Rattle.dn_types.specs.declared.command.Command.{Command}
 use Rattle.dn_types.specs.declared.delivery.Delivery.{Delivery}
@@ -154,14 +155,17 @@ reached-once command from zero key (k ∷ keys) t there reaches-it =
     let is : k ≡ key = cc in
     let here : reaches command k ≡ true = ap (reaches command) is ∙ reaches-it in
     let same : from + 0 ≡ from = omega arith in
-    subst (λ (x : Bool × ℕ). ReadsSame (discard_reached command (from + 1) keys (cond x.0 (discarded from ∷ discarded x.1 ∷ t) (discarded x.1 ∷ t))) (discard_reached command (from + 1) keys (cond x.0 (discarded from ∷ t) t)))
+    subst (λ (x : Bool × ℕ). ReadsSame (discard_reached command (from + 1) keys (cond x.0 (discarded from ∷ discarded x.1 ∷ t) (discarded x.1 ∷ t)))
+    (discard_reached command (from + 1) keys (cond x.0 (discarded from ∷ t) t)))
     (λ i. (sym here i, sym same i)) (reached-reads command (from + 1) keys _ _ (once-reads from t))
 reached-once command from (suc place) key (k ∷ keys) t there reaches-it =
     let next : from + suc place ≡ from + 1 + place = omega arith in
-    let here : ReadsSame (cond (reaches command k) (discarded from ∷ discarded (from + suc place) ∷ t) (discarded (from + suc place) ∷ t)) (discarded (from + suc place) ∷ cond (reaches command k) (discarded from ∷ t) t) = by (reaches command k) in
+    let here : ReadsSame (cond (reaches command k) (discarded from ∷ discarded (from + suc place) ∷ t) (discarded (from + suc place) ∷ t))
+    (discarded (from + suc place) ∷ cond (reaches command k) (discarded from ∷ t) t) = by (reaches command k) in
     let rest = reached-once command (from + 1) place key keys (cond (reaches command k) (discarded from ∷ t) t) there reaches-it in
     then-reads _ _ _ (reached-reads command (from + 1) keys _ _ here)
-    (subst (λ n. ReadsSame (discard_reached command (from + 1) keys (discarded n ∷ cond (reaches command k) (discarded from ∷ t) t)) (discard_reached command (from + 1) keys (cond (reaches command k) (discarded from ∷ t) t))) (sym next) rest)
+    (subst (λ n. ReadsSame (discard_reached command (from + 1) keys (discarded n ∷ cond (reaches command k) (discarded from ∷ t) t))
+    (discard_reached command (from + 1) keys (cond (reaches command k) (discarded from ∷ t) t))) (sym next) rest)
   where
     by : (b : Bool) → ReadsSame (cond b (discarded from ∷ discarded (from + suc place) ∷ t) (discarded (from + suc place) ∷ t)) (discarded (from + suc place) ∷ cond b (discarded from ∷ t) t)
     by true = swapped-reads from (from + suc place) t
@@ -300,7 +304,8 @@ none-active-reads command from (key ∷ keys) t idle = by (reaches command key) 
     next : (place : ℕ) → from + suc place ≡ from + 1 + place
     next place = omega arith
 
-    by : (b : Bool) → reaches command key ≡ b → ((u : List Event) → ((place : ℕ) (k : FlowKey) → slice_get keys place ≡ Some k → reaches command k ≡ true → is_active (from + 1 + place) u ≡ false) → ReadsSame u (discard_reached command (from + 1) keys u))
+    by : (b : Bool) → reaches command key ≡ b → ((u : List Event) → ((place : ℕ) (k : FlowKey) → slice_get keys place ≡ Some k → reaches command k ≡ true
+        → is_active (from + 1 + place) u ≡ false) → ReadsSame u (discard_reached command (from + 1) keys u))
         → ReadsSame t (discard_reached command (from + 1) keys (cond b (discarded from ∷ t) t))
     by true holds rest =
         let same : from + 0 ≡ from = omega arith in

@@ -1,5 +1,6 @@
 -- One step of the settling loop: the popped link's next packet is the first start of all links.
-use Rattle.std.proofs.Common.{◌≡◌, ◌∙◌, ◌≤◌, ◌<◌, ◌⊎◌, ◌^◌, ℕ, zero, suc, ◌+◌, Bool, true, false, cond, ◌||◌, List, [], ◌∷◌, ◌++◌, map, set, get_or, refl, ap, sym, subst, length, arith, inl, inr, All, IsPermutation}
+use Rattle.std.proofs.Common.{◌≡◌, ◌∙◌, ◌≤◌, ◌<◌, ◌⊎◌, ◌^◌, ℕ, zero, suc, ◌+◌, Bool, true, false, cond, ◌||◌, List, [], ◌∷◌, ◌++◌, map, set, get_or, refl, ap}
+use Rattle.std.proofs.Common.{sym, subst, length, arith, inl, inr, All, IsPermutation}
 use Rattle.std.specs.Prelude.{Contains, Option, Some, None, IfSome, nat_lt, slice_get, option_map}
 use Rattle.std.specs.List.{list_any}
 use Rattle.std.specs.Ordering.{is_lt}

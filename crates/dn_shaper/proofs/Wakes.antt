@@ -77,7 +77,8 @@ gives rule calls next is same = ⊎_elim (λ some. some) (λ none. absurd (late 
         let dues = none-due at (undelivered rule (trace_of calls)) (ap (λ (t : List Event). length (given rule at t)) (sym same) ∙ none) in
         let frees : IsAfter at (earliest (map (next_free (trace_of calls)) (links (trace_of calls)))) =
         subst (λ (t : List Event). IsAfter at (earliest (map (next_free t) (links (trace_of calls))))) same (links-later (Advance next ∷ calls) (links (trace_of calls))) in
-        let both = after-earlier at (earliest (map (λ (d : Delivery). Some d.due) (undelivered rule (trace_of calls)))) (earliest (map (next_free (trace_of calls)) (links (trace_of calls)))) dues frees in
+        let both = after-earlier at (earliest (map (λ (d : Delivery). Some d.due) (undelivered rule (trace_of calls))))
+        (earliest (map (next_free (trace_of calls)) (links (trace_of calls)))) dues frees in
         let beyond : at < next = subst (λ (o : Option ℕ). IsAfter at o) is both in
         omega (arith, beyond)
 

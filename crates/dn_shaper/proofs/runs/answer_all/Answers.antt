@@ -15,9 +15,11 @@ loop-call-preserved c =
     let count = ap (λ (rs : List Reply). length rs) more in
     let one = length-more c.loop-call.replies.items c.in_ok-apply.field-0 in
     record {
-      stands = λ new. stands-next c.args.calls.now c.loop-call.call-index c.call-item.result c.loop-call-test.true c.call-item.is c.loop-call.shaper c.apply.new.self c.in_ok-apply.field-0 c.in_ok-apply.ensures.ok
+      stands = λ new. stands-next c.args.calls.now c.loop-call.call-index c.call-item.result c.loop-call-test.true c.call-item.is c.loop-call.shaper
+          c.apply.new.self c.in_ok-apply.field-0 c.in_ok-apply.ensures.ok
           (inv.stands new);
-      told = λ new. told-next c.args.calls.now c.loop-call.call-index c.call-item.result c.loop-call-test.true c.call-item.is c.loop-call.shaper c.apply.new.self c.in_ok-apply.field-0 c.in_ok-apply.ensures.ok
+      told = λ new. told-next c.args.calls.now c.loop-call.call-index c.call-item.result c.loop-call-test.true c.call-item.is c.loop-call.shaper
+          c.apply.new.self c.in_ok-apply.field-0 c.in_ok-apply.ensures.ok
           (inv.stands new) c.loop-call.replies.items c.push_reserved.new.self.items more (inv.told new);
       so_far = omega arith;
       room = omega arith;

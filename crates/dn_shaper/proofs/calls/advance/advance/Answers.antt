@@ -14,5 +14,12 @@ returns-clause-sound c = advanced-sound c.args.state.now c.settle.new.parts c.se
     (let v = c.get.ensures.value in let r = c.get.ensures.in_range in omega arith)
 
 pub returns-clause-leaves : goal.returns-clause-leaves
-returns-clause-leaves c = keeps-room c.args.state.now (record { parts = c.settle.new.parts; heap = c.settle.new.heap; shared = c.args.state.now.shared; configured = c.args.state.now.configured; now = c.max-at.result; calls = c.args.state.now.calls + 1 })
+returns-clause-leaves c = keeps-room c.args.state.now (record {
+  parts = c.settle.new.parts;
+  heap = c.settle.new.heap;
+  shared = c.args.state.now.shared;
+  configured = c.args.state.now.configured;
+  now = c.max-at.result;
+  calls = c.args.state.now.calls + 1;
+})
     refl c.settle.ensures.only.keys c.settle.ensures.only.ready

@@ -7,4 +7,5 @@ use Rattle.dn_shaper.specs.Refinement.Calls.{Does}
 use Rattle.dn_shaper.proofs.calls.collect.collect_lent.Goals as goal
 
 pub returns-clause-does : goal.returns-clause-does
-returns-clause-does c = subst (λ (list : List Delivery). Does (Collect c.args.moment) c.args.state.now c.gather.new.state (Delivered c.in_ok-at.at list)) (sym (c.from_vec.ensures)) c.in_ok-at.ensures.does
+returns-clause-does c = subst (λ (list : List Delivery). Does (Collect c.args.moment) c.args.state.now c.gather.new.state (Delivered c.in_ok-at.at list))
+    (sym (c.from_vec.ensures)) c.in_ok-at.ensures.does

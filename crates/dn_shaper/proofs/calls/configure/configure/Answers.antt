@@ -12,7 +12,14 @@ put-requires c = record { accepted = λ queues lists. sym c.in-Configured.is ∙
 
 pub returns-in_err-put-in-Configured-clause-err : goal.returns-in_err-put-in-Configured-clause-err
 returns-in_err-put-in-Configured-clause-err c = on_err_always c.from_residual.result _
-    (λ rule calls s. record { rule_is = s.rule_is; calls_are = s.calls_are; now_is = s.now_is; settings_are = c.in_err-put-in-Configured.ensures.err ∙ s.settings_are; keys_are = s.keys_are; agrees = s.agrees })
+    (λ rule calls s. record {
+      rule_is = s.rule_is;
+      calls_are = s.calls_are;
+      now_is = s.now_is;
+      settings_are = c.in_err-put-in-Configured.ensures.err ∙ s.settings_are;
+      keys_are = s.keys_are;
+      agrees = s.agrees;
+    })
 
 pub returns-in_err-put-in-Configured-clause-only_accepted : goal.returns-in_err-put-in-Configured-clause-only_accepted
 returns-in_err-put-in-Configured-clause-only_accepted c = on_err_always c.from_residual.result _ (λ queues lists. sym c.in-Configured.is ∙ c.reply-reply.ensures queues lists)

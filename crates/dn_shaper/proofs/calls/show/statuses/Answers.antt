@@ -14,7 +14,8 @@ loop-flow-preserved c =
     let l = length-more c.loop-flow.list.items c.status.result in
     let cap = c.push_reserved.ensures.capacity in
     record {
-      told = told-next c.args.flows.now.keys c.args.flows.now.flows c.loop-flow.list.items c.push_reserved.new.self.items c.loop-flow.flow c.status.result c.push_reserved.ensures.items c.status.ensures.key c.status.ensures.value
+      told = told-next c.args.flows.now.keys c.args.flows.now.flows c.loop-flow.list.items c.push_reserved.new.self.items c.loop-flow.flow c.status.result
+          c.push_reserved.ensures.items c.status.ensures.key c.status.ensures.value
           ∙ inv.told;
       so_far = omega arith;
       room = omega arith;

@@ -22,11 +22,19 @@ returns-in-None-clause-does c =
     (treatment (settings_of old.configured c.args.target.now)) c.in-None.ensures.value)
 
 pub returns-in-None-clause-sound : goal.returns-in-None-clause-sound
-returns-in-None-clause-sound c = sound-settled c.args.state.now c.settle.new.parts c.settle.new.heap c.args.at c.requires.early c.requires.sound c.settle.ensures.kept c.settle.ensures.only.names c.settle.ensures.only.within c.settle.ensures.only.moves
+returns-in-None-clause-sound c = sound-settled c.args.state.now c.settle.new.parts c.settle.new.heap c.args.at c.requires.early c.requires.sound
+    c.settle.ensures.kept c.settle.ensures.only.names c.settle.ensures.only.within c.settle.ensures.only.moves
 
 pub returns-in_ok-flow-in-Some-clause-does : goal.returns-in_ok-flow-in-Some-clause-does
 returns-in_ok-flow-in-Some-clause-does c =
-    let new : State = record { parts = c.judge-reply.new.parts; heap = c.judge-reply.new.heap; shared = c.prepare.new.state.shared; configured = c.prepare.new.state.configured; now = c.prepare.new.state.now; calls = c.prepare.new.state.calls } in
+    let new : State = record {
+      parts = c.judge-reply.new.parts;
+      heap = c.judge-reply.new.heap;
+      shared = c.prepare.new.state.shared;
+      configured = c.prepare.new.state.configured;
+      now = c.prepare.new.state.now;
+      calls = c.prepare.new.state.calls;
+    } in
     let made = c.in_ok-flow-in-Some.ensures in
     let key_is = c.key.ensures ∙ ap (λ (t : Target). key_of t c.args.packet.now.tuple (treatment_of c.in-Some.how)) c.in-Some.ensures.target in
     submits-does c.args.state.now new c.args.target.now c.args.packet.now c.args.at c.judge-reply.result c.prepare.ensures.keeps.configured c.prepare.ensures.keeps.calls

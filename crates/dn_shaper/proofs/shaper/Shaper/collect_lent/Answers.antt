@@ -18,7 +18,8 @@ invariant_of-self c = holds-ok
 
 pub returns-else-self-eq-CALL_LIMIT-clause-ok : goal.returns-else-self-eq-CALL_LIMIT-clause-ok
 returns-else-self-eq-CALL_LIMIT-clause-ok c = answers-ok
-    (Collect c.args.moment) (Collect c.args.moment) c.self.inside.state c.args.self.now c.collect_lent.new.state c.collect_lent.result refl c.self.view_is c.if-self-eq-CALL_LIMIT.false c.collect_lent.ensures.does
+    (Collect c.args.moment) (Collect c.args.moment) c.self.inside.state c.args.self.now c.collect_lent.new.state c.collect_lent.result refl c.self.view_is
+    c.if-self-eq-CALL_LIMIT.false c.collect_lent.ensures.does
 
 -- The list has room for all that are held.
 pub returns-else-self-eq-CALL_LIMIT-clause-succeeds : goal.returns-else-self-eq-CALL_LIMIT-clause-succeeds
