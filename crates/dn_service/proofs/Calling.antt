@@ -17,7 +17,14 @@ use Rattle.dn_service.proofs.Taking.{slot_in}
 
 -- a caller, by its seat
 abbrev pub seen_from : TableId → ℕ → SeatState → CallerView
-seen_from service k m = record { service = record { table = service; callers = m.0.count }; number = k; front = front_in m.0.accounts; own = own_in m.0.accounts; lost = lost_in m.0.accounts; faced = faced_in m.0.accounts }
+seen_from service k m = record {
+  service = record { table = service; callers = m.0.count };
+  number = k;
+  front = front_in m.0.accounts;
+  own = own_in m.0.accounts;
+  lost = lost_in m.0.accounts;
+  faced = faced_in m.0.accounts;
+}
 
 -- the seat is that of the caller k, with nothing in hand
 abbrev pub IsSitting : ℕ → SeatState → Type 0
@@ -42,7 +49,8 @@ module _ (k : ℕ) (m : SeatState) (is : IsSitting k m) where
   pub stands_for : Has k m.0.accounts
   stands_for = subst (Has k) (sym accounts_is) (inl refl)
 
-  pub has_seen : (history : List Entry) → Each (Follows history) m.0.accounts → Follows history (record { number = k; front = front_in m.0.accounts; own = own_in m.0.accounts; lost = lost_in m.0.accounts; faced = faced_in m.0.accounts })
+  pub has_seen : (history : List Entry) → Each (Follows history) m.0.accounts → Follows history
+      (record { number = k; front = front_in m.0.accounts; own = own_in m.0.accounts; lost = lost_in m.0.accounts; faced = faced_in m.0.accounts })
   has_seen history h = (subst (Each (Follows history)) accounts_is h).0
 
 -- two readings of what is in hand agree

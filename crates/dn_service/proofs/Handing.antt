@@ -45,7 +45,8 @@ takes_in n id other a b k out ys front own lost faced v w e f =
 
 pub taken_in : (a : ℕ) (out : List Entry) (cs : List CallerView) (c : CallerView) (v w : SeatView) → v ≡ keeping a out (accounts_of cs)
     → w ≡ sitting c.service.callers c.number c.front c.own c.lost c.faced → joined v w ≡ keeping c.service.callers out (accounts_of (cs ++ c ∷ []))
-taken_in a out cs c v w e f = (λ i. joined (e i) (f i)) ∙ ap (keeping c.service.callers out) (sym (map-append (λ (x : CallerView). record { number = x.number; front = x.front; own = x.own; lost = x.lost; faced = x.faced }) cs (c ∷ [])))
+taken_in a out cs c v w e f = (λ i. joined (e i) (f i)) ∙ ap (keeping c.service.callers out)
+    (sym (map-append (λ (x : CallerView). record { number = x.number; front = x.front; own = x.own; lost = x.lost; faced = x.faced }) cs (c ∷ [])))
 
 -- what holds of each holds of the one between
 pub between : {X : Type 0} (P : X → Type 0) (xs : List X) (y : X) (ys all : List X) → xs ++ (y ∷ ys) ≡ all → All P all → P y

@@ -50,12 +50,16 @@ pub learns_at : (k b : ℕ) (seen : List Entry) (m m' m'' w : SeatState) → m �
 learns_at k b seen m m' m'' w sits is did after = after ∙ (λ i. (learned (did i).0, (did i).1)) ∙ (λ i. (learned (told_of (sits i).0 (is i).0), (sits i).1))
 
 pub learned_from : (k b : ℕ) (seen : List Entry) (m m' m'' w : SeatState) (table table' : TableId) (token : SeenView) (history : List Entry)
-    → m ≡ (sitting m.0.count k (front_in m.0.accounts) (own_in m.0.accounts) (lost_in m.0.accounts) (faced_in m.0.accounts), []) → w ≡ (witness b seen, []) → m' ≡ (told_of m.0 w.0, m.1) → m'' ≡ (learned m'.0, m'.1)
+    → m ≡ (sitting m.0.count k (front_in m.0.accounts) (own_in m.0.accounts) (lost_in m.0.accounts) (faced_in m.0.accounts), []) → w ≡ (witness b seen, [])
+    → m' ≡ (told_of m.0 w.0, m.1) → m'' ≡ (learned m'.0, m'.1)
     → Each (Follows history) m'.0.accounts → StartsWith history m'.0.seen → token.front ≡ seen
     → Learns (caller_at table k m) token (caller_at table' k m'')
 learned_from k b seen m m' m'' w table table' token history sits is did after follows starts same =
     let now = learns_at k b seen m m' m'' w sits is did after in
-    let at : m' ≡ (told_of (sitting m.0.count k (front_in m.0.accounts) (own_in m.0.accounts) (lost_in m.0.accounts) (faced_in m.0.accounts)) (witness b seen), []) = did ∙ (λ i. (told_of (sits i).0 (is i).0, (sits i).1)) in
+    let at : m' ≡ (
+      told_of (sitting m.0.count k (front_in m.0.accounts) (own_in m.0.accounts) (lost_in m.0.accounts) (faced_in m.0.accounts)) (witness b seen),
+      [],
+    ) = did ∙ (λ i. (told_of (sits i).0 (is i).0, (sits i).1)) in
     let f = (subst (λ (z : SeatState). Each (Follows history) z.0.accounts) at follows).0 in
     let g : StartsWith history seen = subst (λ (z : SeatState). StartsWith history z.0.seen) at starts in
     let both = both_begin history (front_in m.0.accounts) seen f.front g in
@@ -70,7 +74,9 @@ learned_from k b seen m m' m'' w table table' token history sits is did after fo
     }
 
 -- a caller's seat can be split from a seat that knows of what the caller has seen
-pub shows : (n id k : ℕ) (m : SeatState) → m ≡ (sitting m.0.count k (front_in m.0.accounts) (own_in m.0.accounts) (lost_in m.0.accounts) (faced_in m.0.accounts), []) → Splits (SeatRule n) id m.0 (as_it_was m.0) (witness_of m.0)
+pub shows : (n id k : ℕ) (m : SeatState)
+    → m ≡ (sitting m.0.count k (front_in m.0.accounts) (own_in m.0.accounts) (lost_in m.0.accounts) (faced_in m.0.accounts), [])
+    → Splits (SeatRule n) id m.0 (as_it_was m.0) (witness_of m.0)
 shows n id k m is =
     subst (λ v. Splits (SeatRule n) id v (as_it_was v) (witness_of v)) (sym (ap (λ x. x.0) is))
     (witnesses n id m.0.count k (front_in m.0.accounts) (own_in m.0.accounts) (lost_in m.0.accounts) (faced_in m.0.accounts))
@@ -80,10 +86,12 @@ pub is_told : (n id other b : ℕ) (seen : List Entry) (v : SeatView) (w : SeatS
 is_told n id other b seen v w is = subst (λ u. Joins (SeatRule n) id v other u (told_of v u) spent) (sym (ap (λ x. x.0) is)) (tells n id other b seen v)
 
 -- a seat that is said to be one that stands for one caller is told by its own words
-pub is_keeper : (k n : ℕ) (s front own : List Entry) (lost : List ℕ) (faced : ℕ) (m : SeatState) → m ≡ (keeping n s (record { number = k; front = front; own = own; lost = lost; faced = faced } ∷ []), []) → IsKeeperOf k m
+pub is_keeper : (k n : ℕ) (s front own : List Entry) (lost : List ℕ) (faced : ℕ) (m : SeatState)
+    → m ≡ (keeping n s (record { number = k; front = front; own = own; lost = lost; faced = faced } ∷ []), []) → IsKeeperOf k m
 is_keeper k n s front own lost faced m e = e ∙ (λ i. let z = sym e i in (keeping z.0.count (shed_in z.0.shed) (account_of k z ∷ []), []))
 
-pub is_sitting : (k n : ℕ) (front own : List Entry) (lost : List ℕ) (faced : ℕ) (m : SeatState) → m ≡ (sitting n k front own lost faced, []) → m ≡ (sitting m.0.count k (front_in m.0.accounts) (own_in m.0.accounts) (lost_in m.0.accounts) (faced_in m.0.accounts), [])
+pub is_sitting : (k n : ℕ) (front own : List Entry) (lost : List ℕ) (faced : ℕ) (m : SeatState) → m ≡ (sitting n k front own lost faced, [])
+    → m ≡ (sitting m.0.count k (front_in m.0.accounts) (own_in m.0.accounts) (lost_in m.0.accounts) (faced_in m.0.accounts), [])
 is_sitting k n front own lost faced m e = e ∙ (λ i. let z = sym e i in (sitting z.0.count k (front_in z.0.accounts) (own_in z.0.accounts) (lost_in z.0.accounts) (faced_in z.0.accounts), []))
 
 -- a caller's seat after a step that leaves the table and the count

@@ -92,7 +92,8 @@ pub has_faced : (f : ℕ → ℕ) (xs : List Account) (k : ℕ) → Has k xs →
 has_faced f [] k has = has
 has_faced f (x ∷ xs) k has = ⊎_elim (λ (e : x.number ≡ k). inl e) (λ (t : Has k xs). inr (has_faced f xs k t)) has
 
-pub faced_sit : (n : ℕ) (history : List Entry) (seat_of : ℕ → ℕ) (seat : ℕ) (f : ℕ → ℕ) (xs : List Account) → Each (Sits n history seat_of seat) xs → Each (Sits n history seat_of seat) (map (faces f) xs)
+pub faced_sit : (n : ℕ) (history : List Entry) (seat_of : ℕ → ℕ) (seat : ℕ) (f : ℕ → ℕ) (xs : List Account) → Each (Sits n history seat_of seat) xs
+    → Each (Sits n history seat_of seat) (map (faces f) xs)
 faced_sit n history seat_of seat f [] h = tt
 faced_sit n history seat_of seat f (x ∷ xs) h = (
   record { below = h.0.below; seated = h.0.seated; follows = record { front = h.0.follows.front; own = h.0.follows.own } },

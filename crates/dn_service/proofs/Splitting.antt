@@ -1,5 +1,6 @@
 -- A seat can be split, two can be joined, and the table can be opened: each keeps the rule.
-use Rattle.std.proofs.Common.{◌≡◌, ◌≢◌, ℕ, zero, suc, ◌+◌, ◌<◌, ◌≤◌, eqb, List, [], ◌∷◌, ◌++◌, length, get_or, set, sym, refl, ap, ◌∙◌, subst, ⊎_elim, inl, inr, arith, Some, length-set, eq-eqb, ne_eqb}
+use Rattle.std.proofs.Common.{◌≡◌, ◌≢◌, ℕ, zero, suc, ◌+◌, ◌<◌, ◌≤◌, eqb, List, [], ◌∷◌, ◌++◌, length, get_or, set, sym, refl, ap, ◌∙◌, subst, ⊎_elim, inl}
+use Rattle.std.proofs.Common.{inr, arith, Some, length-set, eq-eqb, ne_eqb}
 use mathlib.Core.Logic.{dite}
 use mathlib.Core.Option.{some, some-ne-none, some-injective}
 use native.Mathlib.Decide.{ℕ_discrete}
@@ -65,7 +66,8 @@ module _ (n : ℕ) where
       let count : m ≡ n = f.count (omega arith) in
       let seated : r.seat_of x.number ≡ id = f.accounts.0.seated in
       let at_word : (k : ℕ) → get_or s.words 0 0 ≡ k + 1 → seat_of k ≡ r.seat_of k = λ k e. same_seat_of k (λ q. let t = f.taken k e (ap r.seat_of q ∙ seated) in absurd (cc)) in
-      let fits : (j : ℕ) (a : SeatView) → get_elem? vs j ≡ some a → SeatFits n (get_or s.words 0 0) r.tally r.past seat_of j a = seats_set (SeatFits n (get_or s.words 0 0) r.tally r.past seat_of) s.views id u
+      let fits : (j : ℕ) (a : SeatView) → get_elem? vs j ≡ some a → SeatFits n (get_or s.words 0 0) r.tally r.past seat_of j a =
+      seats_set (SeatFits n (get_or s.words 0 0) r.tally r.past seat_of) s.views id u
       record {
         count = λ _. count;
         accounts = rehold r.past.history r.seat_of seat_of id id xs (λ k has e. same_seat_of k (λ q. once (subst (λ (z : ℕ). Has z xs) q has)) ∙ e) f.accounts.1;

@@ -1,5 +1,6 @@
 -- The steps on the lock word keep the rule of the table: the try, and the ways to give the word back.
-use Rattle.std.proofs.Common.{◌≡◌, ◌≢◌, ℕ, ◌+◌, ◌-◌, ◌<◌, ◌≤◌, eqb, List, [], ◌∷◌, ◌++◌, map, length, get_or, set, sym, refl, ap, ◌∙◌, subst, arith, Option, Some, None, length-set, get_or-set_same, eq-eqb, ne_eqb}
+use Rattle.std.proofs.Common.{◌≡◌, ◌≢◌, ℕ, ◌+◌, ◌-◌, ◌<◌, ◌≤◌, eqb, List, [], ◌∷◌, ◌++◌, map, length, get_or, set, sym, refl, ap, ◌∙◌, subst, arith, Option}
+use Rattle.std.proofs.Common.{Some, None, length-set, get_or-set_same, eq-eqb, ne_eqb}
 use mathlib.Core.Logic.{dite}
 use mathlib.Core.Option.{none, some}
 use mathlib.Core.Option as maybe
@@ -20,7 +21,8 @@ use Rattle.dn_service.specs.Seats.{SeatState, SeatView, Slot, with_taken, with_l
 use Rattle.dn_service.specs.Steps.{tried, returned, published, emptied}
 use Rattle.dn_service.proofs.Accounts.{each_map, each_at, has_some, has_updated}
 use Rattle.dn_service.proofs.HistoryLaws.{own-other, below_more, starts_more, starts_all}
-use Rattle.dn_service.proofs.Losses.{met_alone, met_none, faces_all, met_set, met_kept, met_map, met_note, noted_some, noted_sit, noted_faces, has_noted, faced_some, faced_sit, has_faced, one_more, faces_more, faces_taken, faces_free, faces_now, faces_known}
+use Rattle.dn_service.proofs.Losses.{met_alone, met_none, faces_all, met_set, met_kept, met_map, met_note, noted_some, noted_sit, noted_faces, has_noted}
+use Rattle.dn_service.proofs.Losses.{faced_some, faced_sit, has_faced, one_more, faces_more, faces_taken, faces_free, faces_now, faces_known}
 use Rattle.dn_service.proofs.Views.{one_home, seats_set, held_set}
 
 abbrev pub TableState : Type 0
@@ -52,7 +54,8 @@ module _ (n : ℕ) where
   pub moved : (s : TableState) (r : SeatRule n s) (id : ℕ) (v w : SeatView) (word : ℕ) (homes' : List (maybe.Option Slot)) (past : Past) (tally : ℕ → ℕ)
       → get_elem? s.views id ≡ some v → word ≤ n → length homes' ≡ 1 → IsLawful Ordered past.history → AreBelow n past.history → (word ≡ 0 → IsHome past homes')
       → SeatFits n word tally past r.seat_of id w → ((j : ℕ) (u : SeatView) → j ≢ id → get_elem? s.views j ≡ some u → SeatFits n word tally past r.seat_of j u)
-      → ((k : ℕ) → Has k v.accounts → Has k w.accounts) → ((k : ℕ) → met_in_all k (set s.views id w) ≡ tally k) → SeatRule n record { words = set s.words 0 word; homes = homes'; views = set s.views id w }
+      → ((k : ℕ) → Has k v.accounts → Has k w.accounts) → ((k : ℕ) → met_in_all k (set s.views id w) ≡ tally k)
+      → SeatRule n record { words = set s.words 0 word; homes = homes'; views = set s.views id w }
   moved s r id v w word homes' past tally at small one lawful below home mine theirs keep met =
       let wide = r.one_word in let now : get_or (set s.words 0 word) 0 0 ≡ word = get_or-set_same s.words 0 word 0 (omega arith) in record {
         past = past;
@@ -94,7 +97,10 @@ module _ (n : ℕ) where
 
   pub updated_sit : (was history : List Entry) (f seat_of : ℕ → ℕ) (id : ℕ) (xs : List Account) → Each (Sits n was seat_of id) xs → Each (Sits n history seat_of id) (map (up_to_date history f) xs)
   updated_sit was history f seat_of id [] h = tt
-  updated_sit was history f seat_of id (x ∷ xs) h = (record { below = h.0.below; seated = h.0.seated; follows = record { front = starts_all history; own = refl } }, updated_sit was history f seat_of id xs h.1)
+  updated_sit was history f seat_of id (x ∷ xs) h = (
+    record { below = h.0.below; seated = h.0.seated; follows = record { front = starts_all history; own = refl } },
+    updated_sit was history f seat_of id xs h.1,
+  )
 
   pub tries : (slots id : ℕ) (me : SeatState) (k : ℕ) → me.0.taken ≡ None → Has k me.0.accounts
       → Allows (SeatRule n) slots id me 0 (λ x. either (eqb x 0) (k + 1) x) (tried (step slots 0 0 (k + 1) none) me)

@@ -122,7 +122,8 @@ module _ (n : ℕ) where
             (λ ne. let h = held_set s.views id v u at (r.seat_of k) k (λ q. q) t in (h.0, set_else vs other (r.seat_of k) spent ne ∙ h.1, h.2));
       }
 
-  learned_sit : (past seen : List Entry) (seat_of : ℕ → ℕ) (id : ℕ) (xs : List Account) → StartsWith past seen → Each (Sits n past seat_of id) xs → Each (Sits n past seat_of id) (map (having_seen seen) xs)
+  learned_sit : (past seen : List Entry) (seat_of : ℕ → ℕ) (id : ℕ) (xs : List Account) → StartsWith past seen → Each (Sits n past seat_of id) xs
+      → Each (Sits n past seat_of id) (map (having_seen seen) xs)
   learned_sit past seen seat_of id [] q h = tt
   learned_sit past seen seat_of id (x ∷ xs) q h = (
     record { below = h.0.below; seated = h.0.seated; follows = record { front = starts_longer past x.front seen h.0.follows.front q; own = h.0.follows.own } },

@@ -39,7 +39,8 @@ returns-in-Ok-clause-ok c = let won = c.in-Ok.ensures.taken in let m = c.args.se
     let whole : won.past.history ≡ shed_in m.0.shed ++ c.take.new.list.items =
     won.keeps.whole ∙ (λ i. sym (won.shed (shed_in m.0.shed) (ap (λ x. x.0.shed) c.requires.seat)) i ++ sym c.take.ensures.entries i) in record {
       faced = c.give_empty.ensures.seat.0;
-      now = c.give_empty.ensures.seat.1 won.past (ap (λ v. v.taken) won.view) ∙ ap (λ v. (with_shed v c.give_empty.ensures.seat.0 won.past.history, [])) won.view ∙ ap (λ h. (with_shed m.0 c.give_empty.ensures.seat.0 h, [])) whole;
+      now = c.give_empty.ensures.seat.1 won.past (ap (λ v. v.taken) won.view) ∙ ap (λ v. (with_shed v c.give_empty.ensures.seat.0 won.past.history, []))
+          won.view ∙ ap (λ h. (with_shed m.0 c.give_empty.ensures.seat.0 h, [])) whole;
       lawful = subst (IsLawful Ordered) whole won.keeps.lawful;
       below = subst (AreBelow m.0.count) whole won.below;
       follows = subst (λ h. Each (Follows h) m.0.accounts) whole won.follows;

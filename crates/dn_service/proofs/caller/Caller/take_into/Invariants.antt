@@ -3,4 +3,5 @@ use Rattle.dn_service.specs.Callers.{IsSameCaller, KeepsSeen}
 use Rattle.dn_service.proofs.caller.Caller.take_into.Given as goal
 
 abbrev pub invariant-loop : goal.invariant-loop
-invariant-loop g l = (goal.iterator-loop g).can_next l.iterator' × (goal.iterator-loop g).is_finite l.iterator' × IsSameCaller l.initial.self l.self × KeepsSeen l.initial.self l.self × (l.lasting ≡ l.initial.lasting) × (l.list ≡ l.initial.list)
+invariant-loop g l = (goal.iterator-loop g).can_next l.iterator' × (goal.iterator-loop g).is_finite l.iterator' × IsSameCaller l.initial.self l.self
+    × KeepsSeen l.initial.self l.self × (l.lasting ≡ l.initial.lasting) × (l.list ≡ l.initial.list)

@@ -13,7 +13,8 @@ join_seat-requires c =
     let s = c.args.seat.now in let l = c.self.inside.seat in let sits = c.requires.caller.sits in
     let same : c.replace.result ≡ s = c.replace.ensures.value in (
       search rules,
-      ap (λ x. x.table_id) same ∙ (c.requires.caller.at_table ∙ (sym (ap (λ v. v.service.table) c.self.view_is) ∙ (c.self.invariant.0.at_table ∙ sym (ap (λ d. d.table.shared.table_id) c.deref-desk.ensures)))),
+      ap (λ x. x.table_id) same ∙ (c.requires.caller.at_table
+          ∙ (sym (ap (λ v. v.service.table) c.self.view_is) ∙ (c.self.invariant.0.at_table ∙ sym (ap (λ d. d.table.shared.table_id) c.deref-desk.ensures)))),
       ap (λ x. x.me.1) same ∙ ap (λ x. x.1) sits,
       search rules,
       takes_in _ _ _ _ s.me.0.count c.args.number (shed_in l.me.0.shed) [] _ _ _ _ _ _ (ap (λ x. x.0) c.self.invariant.0.waits) (ap (λ x. x.me.0) same ∙ ap (λ x. x.0) sits),
