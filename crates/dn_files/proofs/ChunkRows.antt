@@ -20,7 +20,8 @@ use Rattle.dn_files.proofs.Rows.{one_more, starts}
 
 -- What is left of a chunk behind these rows is read behind them.
 abbrev pub GoesOn : List ℕ → List Row → List ℕ → Type 0
-GoesOn chunk rows rest = (number : ℕ) (more : List ℕ) → with_front rows (rows_from (number + length rows) (records_after st.StartRecord (rest ++ more))) ≡ rows_from number (records_after st.StartRecord (chunk ++ more))
+GoesOn chunk rows rest = (number : ℕ) (more : List ℕ) → with_front rows (rows_from (number + length rows) (records_after st.StartRecord (rest ++ more)))
+    ≡ rows_from number (records_after st.StartRecord (chunk ++ more))
 
 pub begun : (chunk : List ℕ) → GoesOn chunk [] chunk
 begun chunk = λ number more.
@@ -93,5 +94,6 @@ passed_over number count left old text chunk rows new view behind has begins cou
     let seen : HasRead (record { number = number; text = left }) text rows = subst (λ (u : Unread). HasRead u text rows) (sym view) has in
     let had : HasRead (record { number = number; text = [] }) text rows = subst (λ (t : List ℕ). HasRead (record { number = number; text = t }) text rows) empty seen in
     let here = chunk_read number text chunk rows new some had begins in
-    let counts : HasRead (record { number = number + count; text = [] }) (text ++ chunk) (rows ++ new) = subst (λ (n : ℕ). HasRead (record { number = number + n; text = [] }) (text ++ chunk) (rows ++ new)) counted here in
+    let counts : HasRead (record { number = number + count; text = [] }) (text ++ chunk) (rows ++ new) =
+    subst (λ (n : ℕ). HasRead (record { number = number + n; text = [] }) (text ++ chunk) (rows ++ new)) counted here in
     subst (λ (t : List ℕ). HasRead (record { number = number + count; text = t }) (text ++ chunk) (rows ++ new)) (sym empty) counts

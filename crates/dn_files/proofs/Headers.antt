@@ -85,7 +85,16 @@ nine-begin : (rest : List ℕ) → BeginsFields (names ++ rest) nine (codes "wor
 nine-begin rest = record {
   written = nine;
   stands = refl;
-  all = (plain-writes _ refl, (plain-writes _ refl, (plain-writes _ refl, (plain-writes _ refl, (plain-writes _ refl, (plain-writes _ refl, (plain-writes _ refl, (plain-writes _ refl, (plain-writes _ refl, tt)))))))));
+  all = (
+    plain-writes _ refl,
+    (
+      plain-writes _ refl,
+      (
+        plain-writes _ refl,
+        (plain-writes _ refl, (plain-writes _ refl, (plain-writes _ refl, (plain-writes _ refl, (plain-writes _ refl, (plain-writes _ refl, tt)))))),
+      ),
+    ),
+  );
 }
 
 -- The same names in quotes.
@@ -127,7 +136,8 @@ feed-header : (more : List ℕ) → records_after st.StartRecord (names ++ 10 �
 feed-header more = line-reads _ header more (feed-line (names ++ 10 ∷ more) nine (codes "word") (codes "word") more (nine-begin (10 ∷ more)) (plain-writes (codes "word") refl) (refl, refl))
 
 return-header : (more : List ℕ) → records_after st.StartRecord (names ++ 13 ∷ 10 ∷ more) ≡ header ∷ records_after st.StartRecord more
-return-header more = line-reads _ header more (return-line (names ++ 13 ∷ 10 ∷ more) nine (codes "word") (codes "word") more (nine-begin (13 ∷ 10 ∷ more)) (plain-writes (codes "word") refl) (refl, refl))
+return-header more = line-reads _ header more (return-line (names ++ 13 ∷ 10 ∷ more) nine (codes "word") (codes "word") more (nine-begin (13 ∷ 10 ∷ more))
+    (plain-writes (codes "word") refl) (refl, refl))
 
 feed-quoted : (more : List ℕ) → records_after st.StartRecord (quoted_names ++ 10 ∷ more) ≡ header ∷ records_after st.StartRecord more
 feed-quoted more = line-reads _ header more (feed-line _ nine (codes "\"word\"") (codes "word") more (quoted-begin (10 ∷ more)) (quoted-writes (codes "word") refl) (refl, refl))

@@ -1,5 +1,6 @@
 -- A packet file that comes in parts: one step of its reader.
-use Rattle.std.proofs.Common.{◌≡◌, ◌∙◌, refl, sym, ap, subst, ℕ, zero, suc, ◌+◌, ◌-◌, ◌<◌, ◌≤◌, cond, true, List, [], ◌∷◌, ◌++◌, length, take, drop, Result, Ok, Err, arith, append_assoc, length-append}
+use Rattle.std.proofs.Common.{◌≡◌, ◌∙◌, refl, sym, ap, subst, ℕ, zero, suc, ◌+◌, ◌-◌, ◌<◌, ◌≤◌, cond, true, List, [], ◌∷◌, ◌++◌, length, take, drop, Result}
+use Rattle.std.proofs.Common.{Ok, Err, arith, append_assoc, length-append}
 use Rattle.std.specs.Prelude.{OnOk}
 use Rattle.std.specs.Result.{is_ok}
 use Rattle.std.proofs.lemmas.List.{append-nil, drop-append-le, drop-drop, drop-set, take-append-drop}
@@ -67,7 +68,8 @@ cut-line start items front rest le is = cut start items (front ++ 10 ∷ []) res
 line-more : (left front rest more : List ℕ) → left ≡ front ++ 10 ∷ rest → left ++ more ≡ front ++ 10 ∷ (rest ++ more)
 line-more left front rest more stands = ap (λ (t : List ℕ). t ++ more) stands ∙ append_assoc front (10 ∷ rest) more
 
-header_passed : (left rest text : List ℕ) (rows : List Row) → BeginsFirst left header rest → HasRead (record { number = 0; text = left }) text rows → HasRead (record { number = 1; text = rest }) text rows
+header_passed : (left rest text : List ℕ) (rows : List Row) → BeginsFirst left header rest → HasRead (record { number = 0; text = left }) text rows
+    → HasRead (record { number = 1; text = rest }) text rows
 unfolding rows_left rows_below
 header_passed left rest text rows begins has = record {
   goes_on = λ more.
@@ -135,7 +137,8 @@ finished number left old read view is text rows has =
     let had : HasRead (record { number = number; text = left }) text rows = subst (λ (u : Unread). HasRead u text rows) (sym view) has in
     ap rows_of (sym (append-nil text)) ∙ had.goes_on [] ∙ ap (λ (t : List ℕ). with_front rows (rows_left number t)) (append-nil left) ∙ ap (with_front rows) is
 
-pub finished_fault : (number : ℕ) (left : List ℕ) (old : Unread) (read : Result (List Row) ReplayFault) (fault : ReplayFault) → record { number = number; text = left } ≡ old → rows_left number left ≡ read
+pub finished_fault : (number : ℕ) (left : List ℕ) (old : Unread) (read : Result (List Row) ReplayFault) (fault : ReplayFault)
+    → record { number = number; text = left } ≡ old → rows_left number left ≡ read
     → IsFaultOf read fault → (text : List ℕ) → (rows : List Row) → HasRead old text rows → IsFaultOf (rows_of text) fault
 finished_fault number left old read fault view is own text rows has =
     carried read (rows_of text) fault (λ f e. finished number left old read view is text rows has ∙ ap (with_front rows) e) own

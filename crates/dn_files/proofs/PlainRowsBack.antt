@@ -141,8 +141,19 @@ module _ (moment kind number src dst proto sport dport len word : List ℕ) wher
         → row_until text ≡ Some (record { moment = m; target = target; packet = record { tuple = tuple; len = l; word = w } }, rest)
     unfolding row_until
     row_line m l w target tuple is at named is_len is_word =
-        let plain : AllPlain (kind ∷ number ∷ src ∷ dst ∷ proto ∷ sport ∷ dport ∷ len ∷ word ∷ []) =
-        (at.1.0, (at.1.1.0, (named.1.0, (named.1.1.0, (named.1.1.1.0, (named.1.1.1.1.0, (named.1.1.1.1.1.0, (number_plain 1 65535 len l is_len, (number_plain 0 4294967295 word w is_word, tt))))))))) in
+        let plain : AllPlain (kind ∷ number ∷ src ∷ dst ∷ proto ∷ sport ∷ dport ∷ len ∷ word ∷ []) = (
+          at.1.0,
+          (
+            at.1.1.0,
+            (
+              named.1.0,
+              (
+                named.1.1.0,
+                (named.1.1.1.0, (named.1.1.1.1.0, (named.1.1.1.1.1.0, (number_plain 1 65535 len l is_len, (number_plain 0 4294967295 word w is_word, tt))))),
+              ),
+            ),
+          ),
+        ) in
         let behind : List ℕ = src ++ 44 ∷ (dst ++ 44 ∷ (proto ++ 44 ∷ (sport ++ 44 ∷ (dport ++ 44 ∷ (len ++ 44 ∷ (word ++ tail)))))) in
         rw (
           stands (number_plain 0 (2 ^ 62) moment m is) plain,

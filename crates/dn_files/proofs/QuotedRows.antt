@@ -15,7 +15,8 @@ use Rattle.dn_text.proofs.UntilParts.{address_parts, bound, is_address_byte, num
 use Rattle.dn_records.proofs.LineEnds.{BeginsFields, Opens, Writes, field-begins, quoted-writes}
 use Rattle.dn_files.specs.LineEnd.{behind_end, behind_word, number_at_end}
 use Rattle.dn_files.specs.PlainRow.{row_until}
-use Rattle.dn_files.specs.QuotedRow.{address_field, behind_name, last_field, number_field, pipe_fields, quoted_address, quoted_at_end, quoted_number, quoted_row_until, queue_fields, row_at_front, target_fields, tuple_fields}
+use Rattle.dn_files.specs.QuotedRow.{address_field, behind_name, last_field, number_field, pipe_fields, quoted_address, quoted_at_end, quoted_number}
+use Rattle.dn_files.specs.QuotedRow.{quoted_row_until, queue_fields, row_at_front, target_fields, tuple_fields}
 use Rattle.dn_files.specs.declared.row.Row.{Row}
 use Rattle.dn_files.proofs.LastNumbers.{end_stands, word_stands}
 use Rattle.dn_files.proofs.PlainFields.{BeginsAddress, BeginsNumber, BeginsTarget, BeginsTuple, EndsIn, EndsNumber, IsPlain}
@@ -40,7 +41,8 @@ number-in-quotes least greatest text inner n behind rest first is comma =
     let parts = number_parts 34 least greatest inner n behind is in
     record {
       field = digits inner;
-      fields = field-begins text (in_quotes (digits inner)) (digits inner) rest (quotes-stand text inner (digits inner) behind first parts.0 ∙ ap (λ (t : List ℕ). in_quotes (digits inner) ++ t) comma) (digits-quoted inner);
+      fields = field-begins text (in_quotes (digits inner)) (digits inner) rest
+          (quotes-stand text inner (digits inner) behind first parts.0 ∙ ap (λ (t : List ℕ). in_quotes (digits inner) ++ t) comma) (digits-quoted inner);
       opens = subst Opens (sym first) (refl, refl);
       says = parts.1;
     }

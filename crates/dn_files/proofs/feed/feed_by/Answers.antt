@@ -30,5 +30,6 @@ returns-in-Err-clause-err g c = λ known first.
     let part = take c.in-Some.count c.read.new.buf in
     let bytes = g.I.Inlet.remaining c.args.inlet.now in
     refused_behind (g.F.Feed.source_of known) (g.F.Feed.reading known) bytes (g.I.Inlet.remaining c.read.new.self) (g.I.Inlet.has_failed c.read.new.self) text part c.in-Err.fault
-    (c.in-Some.ensures.failed ∙ rw c.loop-count.invariant.sound refl) (Consumes-trans bytes (g.I.Inlet.remaining c.loop-count.inlet) (g.I.Inlet.remaining c.read.new.self) text part taken c.in-Some.ensures.bytes.1)
+    (c.in-Some.ensures.failed ∙ rw c.loop-count.invariant.sound refl)
+    (Consumes-trans bytes (g.I.Inlet.remaining c.loop-count.inlet) (g.I.Inlet.remaining c.read.new.self) text part taken c.in-Some.ensures.bytes.1)
     (λ more. c.in-Err.ensures.err known text more (come known first))

@@ -11,7 +11,8 @@ pub loop-row-preserved : goal.loop-row-preserved
 loop-row-preserved c =
     let good : is_ok c.push.result ≡ true = c.if-is_err.ensures.negation in
     let takes = rw c.in-Ok-Some.field-0-is at c.in-Ok-Some.ensures.ok in
-    rw (rw good at c.push.ensures.items) (next c.args.first c.loop-row.rows.items c.loop-row.reader c.next_row.new.reader c.in-Ok-Some.row (rows_from c.args.first c.args.reader.now) takes c.loop-row.invariant)
+    rw (rw good at c.push.ensures.items) (next c.args.first c.loop-row.rows.items c.loop-row.reader c.next_row.new.reader c.in-Ok-Some.row
+    (rows_from c.args.first c.args.reader.now) takes c.loop-row.invariant)
 
 pub loop-row-smaller : goal.loop-row-smaller
 loop-row-smaller c =

@@ -12,4 +12,5 @@ returns-in_default c =
 
 pub returns-then-is_mark : goal.returns-then-is_mark
 returns-then-is_mark c =
-    mark_met c.loop-missing.left.now c.loop-missing.missing (has_commas c.args.count c.args.text.now) c.in-len1-up.len_at_least c.if-missing-eq0.false (sym c.is_mark.ensures ∙ c.if-is_mark.true) c.loop-missing.invariant
+    mark_met c.loop-missing.left.now c.loop-missing.missing (has_commas c.args.count c.args.text.now) c.in-len1-up.len_at_least c.if-missing-eq0.false
+    (sym c.is_mark.ensures ∙ c.if-is_mark.true) c.loop-missing.invariant

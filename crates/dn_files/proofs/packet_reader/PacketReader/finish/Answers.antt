@@ -35,4 +35,5 @@ returns-clause-err c =
     let some : 0 < inside.number = omega arith in
     let is = behind_line inside.number inside.start inside.text.items written some (c.self.invariant.behind some) c.self.invariant.within c.put_line_feed.ensures in
     IfErr-weaker c.rows_from_text.result _ _ (λ fault own. finished_fault inside.number (drop inside.start inside.text.items) c.args.self.now
-    (rows_from inside.number (records_of (drop (inside.start - 1) written))) fault c.self.view_is is (rw (c.deref-2.ensures.value, take_rest written (inside.start - 1)) at own)) c.rows_from_text.ensures.err
+    (rows_from inside.number (records_of (drop (inside.start - 1) written))) fault c.self.view_is is
+    (rw (c.deref-2.ensures.value, take_rest written (inside.start - 1)) at own)) c.rows_from_text.ensures.err
