@@ -39,7 +39,8 @@ module _ (rule : Rule) (history : List Entry) (e : Entry) where
     stands = λ _. subst (λ (cs : List Call). StandsAfter rule shaper cs) (sym (calls_of-more history e)) stands;
   }
 
-  pub differing : (shaper : State) → IsLawful rule history → e.reply ≢ reply rule (calls_of history) e.call → HasAudited rule (record { shaper = shaper; verdict = Differs (length history) }) (history ++ e ∷ [])
+  pub differing : (shaper : State) → IsLawful rule history → e.reply ≢ reply rule (calls_of history) e.call
+      → HasAudited rule (record { shaper = shaper; verdict = Differs (length history) }) (history ++ e ∷ [])
   differing shaper lawful other = record { found = (e, up-to lawful, rw (take-append_seam history (e ∷ [])) other); stands = λ bad. cc bad }
 
   pub wants : IsLawful rule history → CanNeedMemory (counted (calls_of history)) e.call → CanWantMemory rule (history ++ e ∷ [])

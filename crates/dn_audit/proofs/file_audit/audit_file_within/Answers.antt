@@ -15,7 +15,8 @@ returns-clause-err g c =
     let known = g.I.Inlet.remaining c.args.history.now in
     let (text, is, within, found) = c.in-Ok.ensures.ok in
     let line = told c.args.limit known text _ _ _ c.as_bytes.result.now is within found c.in-Ok-verdict_line.ensures c.as_bytes.ensures.value in
-    untold c.args.limit known (g.O.Outlet.contents c.args.out.now) (g.O.Outlet.contents c.write_text.new.out) (g.I.Inlet.has_failed c.audit_input.new.history) (g.O.Outlet.has_failed c.write_text.new.out)
+    untold c.args.limit known (g.O.Outlet.contents c.args.out.now) (g.O.Outlet.contents c.write_text.new.out) (g.I.Inlet.has_failed c.audit_input.new.history)
+    (g.O.Outlet.has_failed c.write_text.new.out)
     _ c.as_bytes.result.now c.in-Err-write_text.fault c.in-Ok.ensures.sound line c.in-Err-write_text.ensures.err
 
 -- The file isn't read.
@@ -25,4 +26,5 @@ returns-in-Err-clause-faults g c =
 
 pub returns-clause-faults : goal.returns-clause-faults
 returns-clause-faults g c =
-    of_writing c.as_bytes.result.now (g.O.Outlet.contents c.args.out.now) (g.O.Outlet.contents c.write_text.new.out) (g.O.Outlet.has_failed c.write_text.new.out) c.in-Err-write_text.fault c.in-Err-write_text.ensures.err
+    of_writing c.as_bytes.result.now (g.O.Outlet.contents c.args.out.now) (g.O.Outlet.contents c.write_text.new.out)
+    (g.O.Outlet.has_failed c.write_text.new.out) c.in-Err-write_text.fault c.in-Err-write_text.ensures.err
