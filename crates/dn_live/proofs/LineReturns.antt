@@ -1,5 +1,6 @@
 -- A line that ends in a carriage return is read as without it, where no other byte of it means more than itself to CSV.
-use Rattle.std.proofs.Common.{◌≡◌, ◌≢◌, ◌∙◌, refl, ap, ℕ, zero, suc, ◌+◌, ◌<◌, ◌≤◌, ◌==◌, Bool, true, false, inl, inr, List, [], ◌∷◌, ◌++◌, Option, Some, None, length, get_or, arith, add-one, append_assoc}
+use Rattle.std.proofs.Common.{◌≡◌, ◌≢◌, ◌∙◌, refl, ap, ℕ, zero, suc, ◌+◌, ◌<◌, ◌≤◌, ◌==◌, Bool, true, false, inl, inr, List, [], ◌∷◌, ◌++◌, Option, Some, None}
+use Rattle.std.proofs.Common.{length, get_or, arith, add-one, append_assoc}
 use Rattle.std.specs.Prelude.{◌||◌, not, IfOk, Result, Ok, Err}
 use Rattle.std.specs.List.{list_any, onto_first, slice_split}
 use Rattle.std.specs.Option.{is_some}

@@ -1,5 +1,6 @@
 -- Lines taken off known bytes, step by step.
-use Rattle.std.proofs.Common.{◌≡◌, ◌∙◌, sym, ap, ℕ, ◌<◌, ◌≤◌, ◌+◌, suc, Bool, true, false, List, [], ◌∷◌, ◌++◌, Option, Some, None, length, take, drop, get_or, append_assoc, append-nil, take-append-drop, drop-cons, drop-drop, length-take, take_all, min, arith}
+use Rattle.std.proofs.Common.{◌≡◌, ◌∙◌, sym, ap, ℕ, ◌<◌, ◌≤◌, ◌+◌, suc, Bool, true, false, List, [], ◌∷◌, ◌++◌, Option, Some, None, length, take, drop, get_or}
+use Rattle.std.proofs.Common.{append_assoc, append-nil, take-append-drop, drop-cons, drop-drop, length-take, take_all, min, arith}
 use Rattle.std.proofs.lemmas.Bool.Decides.{nat_tests}
 use Rattle.std.specs.List.{position_or_len}
 use Rattle.std.specs.Io.KnownBytes.{Consumes, Keeps, prepend_known}
@@ -33,7 +34,8 @@ pub found : (bytes : List ℕ) (start n : ℕ) (xs view : List ℕ) → drop sta
     → view ≡ take n xs ++ 10 ∷ drop (start + (n + 1)) bytes
 found bytes start n xs view v x e lt =
     let at : xs ≡ drop start bytes = x ∙ sym v in
-    let dropped : drop (suc n) xs ≡ drop (start + (n + 1)) bytes = ap (drop (suc n)) at ∙ drop-drop (suc n) start bytes ∙ ap (λ (k : ℕ). drop k bytes) (let q : start + suc n ≡ start + (n + 1) = omega arith in q) in
+    let dropped : drop (suc n) xs ≡ drop (start + (n + 1)) bytes =
+    ap (drop (suc n)) at ∙ drop-drop (suc n) start bytes ∙ ap (λ (k : ℕ). drop k bytes) (let q : start + suc n ≡ start + (n + 1) = omega arith in q) in
     sym x ∙ at-feed xs n e lt ∙ ap (λ (t : List ℕ). take n xs ++ 10 ∷ t) dropped
 
 -- A text without a line feed is taken whole.
@@ -65,5 +67,9 @@ split bytes new piece false h = ([], h.0 ∙ sym (append-nil piece))
 pub too_long : (known mid rest_known : Option (List ℕ)) (line whole bytes new : List ℕ) (found : Bool) → Consumes known mid line → IsOneLine line → Keeps mid (prepend_known bytes rest_known)
     → (piece : List ℕ) × TakesPiece bytes new found piece × (whole ≡ line ++ piece) × IsOneLine piece → line_limit < length whole → IsTooLong known []
 too_long known mid rest_known line whole bytes new found taken one kept (piece, takes, is, piece_one) long =
-    let (rest, bytes_are) = split bytes new piece found takes in
-    (whole, rw is (front-behind known mid line piece taken (kept_front mid rest_known bytes piece rest kept bytes_are)), rw is (All-append (λ b. is_line_feed b ≡ false) line piece one piece_one), long)
+    let (rest, bytes_are) = split bytes new piece found takes in (
+      whole,
+      rw is (front-behind known mid line piece taken (kept_front mid rest_known bytes piece rest kept bytes_are)),
+      rw is (All-append (λ b. is_line_feed b ≡ false) line piece one piece_one),
+      long,
+    )

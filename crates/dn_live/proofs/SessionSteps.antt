@@ -62,7 +62,8 @@ pub calls-more : (lines : List (List ℕ)) (line : List ℕ) → calls_of (line 
 unfolding calls_of
 calls-more lines line = refl
 
-pub taken-more : (lines : List (List ℕ)) (line : List ℕ) (known mid new : Option (List ℕ)) → Consumes known mid (lines_text lines) → Consumes mid new (line ++ 10 ∷ []) → Consumes known new (lines_text (line ∷ lines))
+pub taken-more : (lines : List (List ℕ)) (line : List ℕ) (known mid new : Option (List ℕ)) → Consumes known mid (lines_text lines)
+    → Consumes mid new (line ++ 10 ∷ []) → Consumes known new (lines_text (line ∷ lines))
 unfolding lines_text
 taken-more lines line known mid new p q = Consumes-trans known mid new (lines_text lines) (line ++ 10 ∷ []) p q
 
@@ -112,7 +113,8 @@ head-broken known read_failed old new failed fault r h =
     rw h.0 (refl, r, h.1, ([], [], front-none known, no-lines, part-more old new (begun []) (closing [] []) h.2))
 
 -- What stands after some lines.
-module _ (known : Option (List ℕ)) (read_failed : Bool) (old mid new : Option (List ℕ)) (failed : Bool) (lines : List (List ℕ)) (read : HasFront known (lines_text lines)) (all : All IsLine lines) where
+module _ (known : Option (List ℕ)) (read_failed : Bool) (old mid new : Option (List ℕ)) (failed : Bool) (lines : List (List ℕ))
+    (read : HasFront known (lines_text lines)) (all : All IsLine lines) where
   -- No line was taken.
   pub next-broken : (left : Option (List ℕ)) (fault : ReplayFault) → Consumes known left (lines_text lines) → Appends old new (begun lines) → failed ≡ false → IsNotTaken left read_failed fault
       → IsBrokenOff known read_failed old new failed fault
@@ -149,7 +151,8 @@ pub stands-first : (shaper : State) → StandsAfter Ordered shaper [] → Stands
 unfolding calls_of
 stands-first shaper h = h
 
-pub stands-more : (shaper : State) (lines : List (List ℕ)) (line : List ℕ) → StandsAfter Ordered shaper (calls_after (calls_of lines) (asked line)) → StandsAfter Ordered shaper (calls_of (line ∷ lines))
+pub stands-more : (shaper : State) (lines : List (List ℕ)) (line : List ℕ) → StandsAfter Ordered shaper (calls_after (calls_of lines) (asked line))
+    → StandsAfter Ordered shaper (calls_of (line ∷ lines))
 unfolding calls_of
 stands-more shaper lines line h = h
 
@@ -177,7 +180,10 @@ unfolding bad_lines
 bad-more lines line bad made e f = omega (arith, e, f)
 
 -- What stands after some lines, where a further one or the tail was taken.
-module _ (known mid new old wrote : Option (List ℕ)) (lines : List (List ℕ)) (line slice : List ℕ) (found : Bool) (so_far : Served) (number : ℕ) (taken : Consumes known mid (lines_text lines)) (all : All IsLine lines) (app : Appends old wrote (begun lines)) (count : so_far.calls ≡ length (calls_of lines)) (bads : so_far.bad ≡ bad_lines lines) (at : number ≡ length lines + 1) (takes : TakesLine mid new found line) (one : IsLine line) (same : slice ≡ line) where
+module _ (known mid new old wrote : Option (List ℕ)) (lines : List (List ℕ)) (line slice : List ℕ) (found : Bool)
+    (so_far : Served) (number : ℕ) (taken : Consumes known mid (lines_text lines)) (all : All IsLine lines) (app : Appends old wrote (begun lines))
+    (count : so_far.calls ≡ length (calls_of lines)) (bads : so_far.bad ≡ bad_lines lines) (at : number ≡ length lines + 1)
+    (takes : TakesLine mid new found line) (one : IsLine line) (same : slice ≡ line) where
   closing-is : text_of (tail_answer number slice ++ end_record so_far.calls ∷ []) ≡ closing lines line
   closing-is = rw (same, count, at) refl
 
@@ -188,7 +194,8 @@ module _ (known mid new old wrote : Option (List ℕ)) (lines : List (List ℕ))
   served-is = rw (same, count, bads) refl
 
   pub served-typed : (now : Option (List ℕ)) (told : Served) → AreTyped lines → length lines < 2 ^ 64 → found ≡ false
-      → (told ≡ record { calls = so_far.calls; bad = so_far.bad + bad_tail slice }) × Appends wrote now (text_of (tail_answer number slice ++ end_record so_far.calls ∷ [])) → IsServedTyped known old now told
+      → (told ≡ record { calls = so_far.calls; bad = so_far.bad + bad_tail slice })
+      × Appends wrote now (text_of (tail_answer number slice ++ end_record so_far.calls ∷ [])) → IsServedTyped known old now told
   served-typed now told typed few f w =
       let took = rw f at takes in (
         lines,
@@ -221,7 +228,8 @@ module _ (known mid new old wrote : Option (List ℕ)) (lines : List (List ℕ))
 
   pub line-more : (now : Option (List ℕ)) (shaper : State) (made next : Served) → found ≡ true → (made.calls ≡ count_of (asked slice)) × (made.bad ≡ bad_of (asked slice))
       → next ≡ record { calls = so_far.calls + made.calls; bad = so_far.bad + made.bad }
-      → StandsAfter Ordered shaper (calls_after (calls_of lines) (asked slice)) × Appends wrote now (text_of (answer number (calls_of lines) (asked slice))) × IsTyped (calls_of lines) (asked slice) → AreTyped lines
+      → StandsAfter Ordered shaper (calls_after (calls_of lines) (asked slice)) × Appends wrote now (text_of (answer number (calls_of lines) (asked slice)))
+      × IsTyped (calls_of lines) (asked slice) → AreTyped lines
       → (more : List (List ℕ)) × Consumes known new (lines_text more) × All IsLine more × Appends old now (begun more) × StandsAfter Ordered shaper (calls_of more)
       × (next.calls ≡ length (calls_of more)) × (next.bad ≡ bad_lines more) × (number + 1 ≡ length more + 1) × AreTyped more
   line-more now shaper made next f m is h typed = (

@@ -195,9 +195,11 @@ session-plain : (lines : List (List ℕ)) (tail : List ℕ) → history_header �
 session-plain lines tail =
     let count = length (calls_of lines) in
     let last = tail_answer (length lines + 1) tail ++ end_record count ∷ [] in
-    let last_is : without_remarks last ≡ end_record (length (entries_of lines)) ∷ [] = tail-plain (length lines + 1) tail (end_record count ∷ []) ∙ end-plain count ∙ ap (λ (n : ℕ). end_record n ∷ []) (sym (history lines).2) in
+    let last_is : without_remarks last ≡ end_record (length (entries_of lines)) ∷ [] =
+    tail-plain (length lines + 1) tail (end_record count ∷ []) ∙ end-plain count ∙ ap (λ (n : ℕ). end_record n ∷ []) (sym (history lines).2) in
     ap (λ (rs : List Fields). history_header ∷ rs)
-    (plain-append (answers lines) last ∙ ap (λ (rs : List Fields). rs ++ without_remarks last) (answers-plain lines) ∙ ap (λ (rs : List Fields). flat_map entry_records (entries_of lines) ++ rs) last_is)
+    (plain-append (answers lines) last ∙ ap (λ (rs : List Fields). rs ++ without_remarks last) (answers-plain lines)
+    ∙ ap (λ (rs : List Fields). flat_map entry_records (entries_of lines) ++ rs) last_is)
 
 -- The numbers of the entries are in their ranges.
 calls-few : (lines : List (List ℕ)) → length (calls_of lines) ≤ length lines

@@ -9,4 +9,5 @@ returns-in_default c = λ yes. empty-read c.args.line.now (fields_of c.clear.new
 pub returns : goal.returns
 returns c =
     let feed = no-feed c.args.line.now c.memchr.result c.memchr.ensures (sym c.is_some.ensures ∙ c.if-is_some.false) in
-    bare-read c.args.line.now c.read_plain_line.result (fields_of c.read_plain_line.new.fields) c.in-len1-up.len_at_least c.if-first.false feed c.read_plain_line.ensures.plain c.read_plain_line.ensures.fields
+    bare-read c.args.line.now c.read_plain_line.result (fields_of c.read_plain_line.new.fields) c.in-len1-up.len_at_least c.if-first.false feed
+    c.read_plain_line.ensures.plain c.read_plain_line.ensures.fields

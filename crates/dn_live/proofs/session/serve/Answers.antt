@@ -6,7 +6,8 @@ use Rattle.dn_live.specs.LinesTaken.{IsLine}
 use Rattle.dn_live.specs.Session.{calls_of, lines_text}
 use Rattle.dn_live.specs.declared.served.Served.{Served}
 use Rattle.dn_live.proofs.LineSteps.{front}
-use Rattle.dn_live.proofs.SessionSteps.{bad-first, count-first, head-broken, line-more, next-broken, one-at-most, one-bad-at-most, served-typed, stands-first, taken-none, typed-first, unanswered, unended}
+use Rattle.dn_live.proofs.SessionSteps.{bad-first, count-first, head-broken, line-more, next-broken, one-at-most, one-bad-at-most, served-typed, stands-first}
+use Rattle.dn_live.proofs.SessionSteps.{taken-none, typed-first, unanswered, unended}
 use Rattle.dn_live.proofs.session.serve.Goals as goal
 
 pub returns-in-Err-clause-err : goal.returns-in-Err-clause-err
@@ -24,10 +25,23 @@ loop-number-init g c = record {
 pub loop-number-preserved : goal.loop-number-preserved
 loop-number-preserved g c =
     let (lines, taken, all, app, stands, count, bads, number, typed) = c.loop-number.invariant.answered in record {
-      answered = line-more _ _ _ _ _ lines _ _ _ c.loop-number.so_far c.loop-number.number taken all app count bads number c.in-Ok-true.ensures.ok c.in-Ok-true.ensures.one c.as_slice-in-loop-number.ensures.value
+      answered = line-more _ _ _ _ _ lines _ _ _ c.loop-number.so_far c.loop-number.number taken all app count bads number c.in-Ok-true.ensures.ok
+          c.in-Ok-true.ensures.one c.as_slice-in-loop-number.ensures.value
           _ _ c.in-Ok-serve_line.made _ c.in-Ok-true.field-0-test c.in-Ok-serve_line.ensures.count c.with-so_far.ensures (c.in-Ok-serve_line.ensures.ok (calls_of lines) stands) typed;
-      few = omega (arith, c.loop-number.invariant.few, ap (λ (s : Served). s.calls) c.with-so_far.ensures, c.in-Ok-serve_line.ensures.count.0, one-at-most (asked c.as_slice-in-loop-number.result.now));
-      few_bad = omega (arith, c.loop-number.invariant.few_bad, ap (λ (s : Served). s.bad) c.with-so_far.ensures, c.in-Ok-serve_line.ensures.count.1, one-bad-at-most (asked c.as_slice-in-loop-number.result.now));
+      few = omega (
+        arith,
+        c.loop-number.invariant.few,
+        ap (λ (s : Served). s.calls) c.with-so_far.ensures,
+        c.in-Ok-serve_line.ensures.count.0,
+        one-at-most (asked c.as_slice-in-loop-number.result.now),
+      );
+      few_bad = omega (
+        arith,
+        c.loop-number.invariant.few_bad,
+        ap (λ (s : Served). s.bad) c.with-so_far.ensures,
+        c.in-Ok-serve_line.ensures.count.1,
+        one-bad-at-most (asked c.as_slice-in-loop-number.result.now),
+      );
       input = c.in-Ok-true.ensures.sound;
       out = c.in-Ok-serve_line.ensures.sound;
     }
@@ -37,14 +51,16 @@ pub returns-in-Ok-false-clause-ok : goal.returns-in-Ok-false-clause-ok
 returns-in-Ok-false-clause-ok g c =
     let (lines, taken, all, app, stands, count, bads, number, typed) = c.loop-number.invariant.answered in
     IfOk-weaker c.close.result _ _
-    (λ told w. served-typed _ _ _ _ _ lines _ _ _ c.loop-number.so_far c.loop-number.number taken all app count bads number c.in-Ok-false.ensures.ok c.in-Ok-false.ensures.one c.as_slice.ensures.value _ told typed (omega (arith, number)) c.in-Ok-false.field-0-test w)
+    (λ told w. served-typed _ _ _ _ _ lines _ _ _ c.loop-number.so_far c.loop-number.number taken all app count bads number c.in-Ok-false.ensures.ok
+    c.in-Ok-false.ensures.one c.as_slice.ensures.value _ told typed (omega (arith, number)) c.in-Ok-false.field-0-test w)
     c.close.ensures.ok
 
 pub returns-in-Ok-false-clause-err : goal.returns-in-Ok-false-clause-err
 returns-in-Ok-false-clause-err g c =
     let (lines, taken, all, app, stands, count, bads, number, typed) = c.loop-number.invariant.answered in
     IfErr-weaker c.close.result _ _
-    (λ fault h. unended _ _ _ _ _ lines _ _ _ c.loop-number.so_far c.loop-number.number taken all app count bads number c.in-Ok-false.ensures.ok c.in-Ok-false.ensures.one c.as_slice.ensures.value _ _ _ fault c.in-Ok-false.field-0-test c.in-Ok-false.ensures.sound h)
+    (λ fault h. unended _ _ _ _ _ lines _ _ _ c.loop-number.so_far c.loop-number.number taken all app count bads number c.in-Ok-false.ensures.ok
+    c.in-Ok-false.ensures.one c.as_slice.ensures.value _ _ _ fault c.in-Ok-false.field-0-test c.in-Ok-false.ensures.sound h)
     c.close.ensures.err
 
 -- No line was taken.
@@ -57,7 +73,8 @@ returns-in-Err-next-clause-err g c =
 pub returns-in-Err-serve_line-clause-err : goal.returns-in-Err-serve_line-clause-err
 returns-in-Err-serve_line-clause-err g c =
     let (lines, taken, all, app, stands, count, bads, number, typed) = c.loop-number.invariant.answered in
-    unanswered _ _ _ _ _ lines _ _ _ c.loop-number.so_far c.loop-number.number taken all app count bads number c.in-Ok-true.ensures.ok c.in-Ok-true.ensures.one c.as_slice-in-loop-number.ensures.value _ _ _ c.in-Err-serve_line.fault
+    unanswered _ _ _ _ _ lines _ _ _ c.loop-number.so_far c.loop-number.number taken all app count bads number c.in-Ok-true.ensures.ok c.in-Ok-true.ensures.one
+    c.as_slice-in-loop-number.ensures.value _ _ _ c.in-Err-serve_line.fault
     c.in-Ok-true.field-0-test c.in-Ok-true.ensures.sound (c.in-Err-serve_line.ensures.err (calls_of lines) stands)
 
 -- There were too many lines.
