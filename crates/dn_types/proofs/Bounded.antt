@@ -16,7 +16,7 @@ use Rattle.dn_types.specs.Flows.{Treatment, treatment, key_of, keys, flow_number
 use Rattle.dn_types.specs.Links.{free}
 use Rattle.dn_types.specs.SharedLinks.{waiting, next_packet, opening}
 use Rattle.dn_types.specs.Starts.{bandwidth_of, start_at, next_start, first_start, settle, waiting_all, settled}
-use Rattle.dn_types.specs.Trace.{Link, pipe_of, Accepted, Start, Event, opened, arrived, started, lost, refused, discarded, collected, is_of, backlog, links}
+use Rattle.dn_types.specs.Trace.{Link, pipe_of, Accepted, Start, Event, opened, arrived, started, discarded, is_of, backlog, links}
 use Rattle.dn_types.specs.declared.call.Call.{Call}
 use Rattle.dn_types.specs.declared.call.Call.TheVariants.{Configure, Submit, Advance, Collect, Show}
 use Rattle.dn_types.specs.declared.command.Command.{Command}
@@ -74,13 +74,10 @@ module _ (link : Link) (flow : ℕ) where
 
   pub backlog-short : (trace : List Event) → IsBounded trace → All IsShort (backlog link flow trace)
   backlog-short [] h = short-none
-  backlog-short (opened l ∷ trace) h = backlog-short trace h
   backlog-short (arrived p ∷ trace) h = short-push p (backlog link flow trace) (is_of link flow p) h.0 (backlog-short trace h.2)
   backlog-short (started s ∷ trace) h = short-drop (backlog link flow trace) (is_of link flow s.packet) (backlog-short trace h.3)
-  backlog-short (lost l f ∷ trace) h = backlog-short trace h
-  backlog-short (refused l f ∷ trace) h = backlog-short trace h
   backlog-short (discarded f ∷ trace) h = short-clear (backlog link flow trace) (nat_eq f flow) (backlog-short trace h)
-  backlog-short (collected at ∷ trace) h = backlog-short trace h
+  backlog-short (_ ∷ trace) h = backlog-short trace h
 
   -- A packet that joins another queue adds nothing to this one.
   bytes-push : (p : Accepted) (trace : List Event) (b : Bool) → is_of link flow p ≡ b → bytes p.link p.stamped.flow trace + p.stamped.len ≤ 655350000
@@ -104,13 +101,10 @@ module _ (link : Link) (flow : ℕ) where
   -- No queue holds more bytes.
   pub bytes-bounded : (trace : List Event) → IsBounded trace → bytes link flow trace ≤ 655350000
   bytes-bounded [] h = omega arith
-  bytes-bounded (opened l ∷ trace) h = bytes-bounded trace h
   bytes-bounded (arrived p ∷ trace) h = bytes-push p trace (is_of link flow p) refl h.1 (bytes-bounded trace h.2)
   bytes-bounded (started s ∷ trace) h = bytes-drop (backlog link flow trace) (is_of link flow s.packet) (bytes-bounded trace h.3)
-  bytes-bounded (lost l f ∷ trace) h = bytes-bounded trace h
-  bytes-bounded (refused l f ∷ trace) h = bytes-bounded trace h
   bytes-bounded (discarded f ∷ trace) h = bytes-clear (backlog link flow trace) (nat_eq f flow) (bytes-bounded trace h)
-  bytes-bounded (collected at ∷ trace) h = bytes-bounded trace h
+  bytes-bounded (_ ∷ trace) h = bytes-bounded trace h
 
 -- A queue that isn't full has room for one packet more.
 room : (limit : Limit) (q : List Accepted) (len : ℕ) → IsLimitInRange limit → All IsShort q → is_full limit (map len_of q) ≡ false → len ≤ 65535 → sum_by len_of q + len ≤ 655350000

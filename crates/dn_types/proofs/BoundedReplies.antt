@@ -13,7 +13,7 @@ use Rattle.dn_types.specs.Flows.{keys}
 use Rattle.dn_types.specs.Links.{arrival_time, due_by, last_due}
 use Rattle.dn_types.specs.Replies.{statuses_from, status_of, reply_to_verdict, counted_reply, reply}
 use Rattle.dn_types.specs.Starts.{settled}
-use Rattle.dn_types.specs.Trace.{Link, link_eq, Start, Event, opened, arrived, started, lost, refused, discarded, collected, backlog}
+use Rattle.dn_types.specs.Trace.{Link, link_eq, Start, Event, arrived, started, collected, backlog}
 use Rattle.dn_types.specs.declared.call.Call.{Call}
 use Rattle.dn_types.specs.declared.call.Call.TheVariants.{Configure, Submit, Advance, Collect, Show}
 use Rattle.dn_types.specs.declared.command.Command.{Command}
@@ -61,17 +61,13 @@ module _ (rule : Rule) where
 
   last-bounded : (link : Link) (trace : List Event) → IsBounded trace → last_due rule link trace ≤ latest
   last-bounded link [] h = omega arith
-  last-bounded link (opened l ∷ trace) h = last-bounded link trace h
   last-bounded link (arrived p ∷ trace) h = last-bounded link trace h.2
   last-bounded link (started s ∷ trace) h = by (link_eq s.packet.link link) (last-bounded link trace h.3)
     where
       by : (b : Bool) → last_due rule link trace ≤ latest → cond b (due_by rule (arrival_time s) (last_due rule link trace)) (last_due rule link trace) ≤ latest
       by true rest = due-bounded rule (arrival_time s) (last_due rule link trace) (arrives s trace h) rest
       by false rest = rest
-  last-bounded link (lost l f ∷ trace) h = last-bounded link trace h
-  last-bounded link (refused l f ∷ trace) h = last-bounded link trace h
-  last-bounded link (discarded f ∷ trace) h = last-bounded link trace h
-  last-bounded link (collected at ∷ trace) h = last-bounded link trace h
+  last-bounded link (_ ∷ trace) h = last-bounded link trace h
 
   -- ---- Deliveries
 
@@ -82,14 +78,11 @@ module _ (rule : Rule) where
 
   undelivered-bounded : (trace : List Event) → IsBounded trace → All IsInTime (undelivered rule trace)
   undelivered-bounded [] h = All-nil IsInTime
-  undelivered-bounded (opened l ∷ trace) h = undelivered-bounded trace h
   undelivered-bounded (arrived p ∷ trace) h = undelivered-bounded trace h.2
   undelivered-bounded (started s ∷ trace) h = in_order-all IsInTime (delivery_of rule s (last_due rule s.packet.link trace)) (undelivered rule trace)
       (delivery-bounded s trace h) (undelivered-bounded trace h.3)
-  undelivered-bounded (lost l f ∷ trace) h = undelivered-bounded trace h
-  undelivered-bounded (refused l f ∷ trace) h = undelivered-bounded trace h
-  undelivered-bounded (discarded f ∷ trace) h = undelivered-bounded trace h
   undelivered-bounded (collected at ∷ trace) h = All-filter (λ d. nat_lt at d.due) IsInTime (undelivered rule trace) (undelivered-bounded trace h)
+  undelivered-bounded (_ ∷ trace) h = undelivered-bounded trace h
 
 -- ---- Replies to commands
 

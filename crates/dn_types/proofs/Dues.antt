@@ -11,7 +11,7 @@ use Rattle.dn_types.specs.Deliveries.{delivery_of, given, undelivered}
 use Rattle.dn_types.specs.Given.{given_count}
 use Rattle.dn_types.specs.Links.{arrival_time, due_by, last_due}
 use Rattle.dn_types.specs.Starts.{settled}
-use Rattle.dn_types.specs.Trace.{Link, link_eq, Start, Event, opened, arrived, started, lost, refused, discarded, collected}
+use Rattle.dn_types.specs.Trace.{Link, link_eq, Start, Event, started, collected}
 use Rattle.dn_types.specs.declared.call.Call.{Call}
 use Rattle.dn_types.specs.declared.call.Call.TheVariants.{Collect}
 use Rattle.dn_types.specs.declared.rule.Rule.{Rule}
@@ -46,12 +46,7 @@ one-more link (started s) trace = by (link_eq s.packet.link link)
     by : (b : Bool) → last_due Ordered link trace ≤ cond b (max (last_due Ordered link trace) (arrival_time s)) (last_due Ordered link trace)
     by true = omega arith
     by false = omega arith
-one-more link (opened l) trace = omega arith
-one-more link (arrived p) trace = omega arith
-one-more link (lost l f) trace = omega arith
-one-more link (refused l f) trace = omega arith
-one-more link (discarded f) trace = omega arith
-one-more link (collected at) trace = omega arith
+one-more link _ trace = omega arith
 
 pub due-is-last : (rule : Rule) (s : Start) (trace : List Event) → (delivery_of rule s (last_due rule s.packet.link trace)).due ≡ last_due rule s.packet.link (started s ∷ trace)
 due-is-last rule s trace = sym (ap (λ b. cond b (due_by rule (arrival_time s) (last_due rule s.packet.link trace)) (last_due rule s.packet.link trace)) (link_eq-refl s.packet.link))

@@ -3,7 +3,7 @@ use Rattle.std.proofs.Common.{◌≡◌, ◌∙◌, ◌≤◌, ℕ, Bool, true, 
 use Rattle.std.specs.Prelude.{Some, nat_eq, slice_get, ⊤}
 use Rattle.dn_types.specs.Given.{accepted_since, started_since}
 use Rattle.dn_types.specs.Links.{free}
-use Rattle.dn_types.specs.Trace.{Link, Accepted, Event, opened, arrived, started, lost, refused, discarded, collected, Start, is_of, backlog, accepted_count}
+use Rattle.dn_types.specs.Trace.{Link, Accepted, Event, arrived, started, discarded, Start, is_of, backlog, accepted_count}
 use Rattle.dn_types.proofs.Settled.{and-left, link_eq-true}
 use Rattle.std.proofs.lemmas.Bool.{eqb-true}
 use Rattle.dn_types.proofs.Settling.{and-right}
@@ -51,10 +51,7 @@ module _ (link : Link) (flow : ℕ) where
 
   pub in-order-proper : (trace : List Event) → IsProper trace → accepted_since link flow trace ≡ started_since link flow trace ++ backlog link flow trace
   in-order-proper [] h = refl
-  in-order-proper (opened l ∷ trace) h = in-order-proper trace h
   in-order-proper (arrived p ∷ trace) h = arrive-more (is_of link flow p) p _ _ _ (in-order-proper trace h.1)
   in-order-proper (started s ∷ trace) h = start-more (is_of link flow s.packet) s.packet _ _ _ (own-first s trace h.0) (in-order-proper trace h.2)
-  in-order-proper (lost l f ∷ trace) h = in-order-proper trace h
-  in-order-proper (refused l f ∷ trace) h = in-order-proper trace h
   in-order-proper (discarded f ∷ trace) h = clear-more (nat_eq f flow) _ _ _ (in-order-proper trace h)
-  in-order-proper (collected at ∷ trace) h = in-order-proper trace h
+  in-order-proper (_ ∷ trace) h = in-order-proper trace h

@@ -6,7 +6,7 @@ use Rattle.std.proofs.lemmas.Bool.{eqb-true, eq-eqb}
 use Rattle.dn_types.specs.Configuration.{Settings, settings, target_eq, subject, is_queue_of, has_queues, queue_numbers, command_reply, setting_after}
 use Rattle.dn_types.specs.Flows.{Treatment, treatment}
 use Rattle.dn_types.specs.declared.call.Call.{Call}
-use Rattle.dn_types.specs.declared.call.Call.TheVariants.{Configure, Submit, Advance, Collect, Show}
+use Rattle.dn_types.specs.declared.call.Call.TheVariants.{Configure}
 use Rattle.dn_types.specs.declared.command.Command.{Command}
 use Rattle.dn_types.specs.declared.command.Command.TheVariants.{Pipe, Queue, DeletePipe, DeleteQueue}
 use Rattle.dn_types.specs.declared.reply.Reply.TheVariants.{Configured, Deleted, NoSuchPipe, PipeHasQueues, NoSuchQueue}
@@ -59,10 +59,7 @@ settings-kept (Configure command ∷ calls) target = by (target_eq (subject comm
     by true e h all = subst (λ (t : Target). IsKept t (setting_after (command_reply (settings calls) (queue_numbers calls) command) command
         (settings calls t))) (target_eq-true (subject command) target e) (kept-after (settings calls) (queue_numbers calls) command (all (subject command)))
     by false e h all = h
-settings-kept (Submit target' packet moment ∷ calls) target = settings-kept calls target
-settings-kept (Advance moment ∷ calls) target = settings-kept calls target
-settings-kept (Collect moment ∷ calls) target = settings-kept calls target
-settings-kept (Show ∷ calls) target = settings-kept calls target
+settings-kept (_ ∷ calls) target = settings-kept calls target
 
 -- ---- A configured queue names a configured pipe
 
@@ -152,10 +149,7 @@ settings-whole (Configure (Queue number pipe weight limit loss buckets mask) ∷
     whole-after (settings calls) (queue_numbers calls) (Queue number pipe weight limit loss buckets mask) (settings-whole calls)
 settings-whole (Configure (DeletePipe number) ∷ calls) = whole-after (settings calls) (queue_numbers calls) (DeletePipe number) (settings-whole calls)
 settings-whole (Configure (DeleteQueue number) ∷ calls) = whole-after (settings calls) (queue_numbers calls) (DeleteQueue number) (settings-whole calls)
-settings-whole (Submit target packet moment ∷ calls) = settings-whole calls
-settings-whole (Advance moment ∷ calls) = settings-whole calls
-settings-whole (Collect moment ∷ calls) = settings-whole calls
-settings-whole (Show ∷ calls) = settings-whole calls
+settings-whole (_ ∷ calls) = settings-whole calls
 
 -- A treatment's pipe is configured.
 pub pipe-there : (calls : List Call) (target : Target) (how : Treatment) → treatment (settings calls target) ≡ Some how → is_some (settings calls (ToPipe how.pipe)) ≡ true
@@ -171,9 +165,5 @@ pipe-there calls target how e = by target (settings calls target) refl (settings
         ∙ ap (λ (o : Option Command). is_some o) is
     by (ToQueue n) (Some (Queue number pipe weight limit loss buckets mask)) is kept e =
         (settings-whole calls).carried n how.pipe (ap (is_queue_of how.pipe) is ∙ eq-eqb pipe how.pipe (ap (pipe-or 0) e))
-    by (ToPipe n) (Some (Queue number pipe weight limit loss buckets mask)) is kept e = absurd kept
-    by (ToPipe n) (Some (DeletePipe number)) is kept e = absurd kept
-    by (ToPipe n) (Some (DeleteQueue number)) is kept e = absurd kept
-    by (ToQueue n) (Some (Pipe number bw delay limit loss buckets mask)) is kept e = absurd kept
-    by (ToQueue n) (Some (DeletePipe number)) is kept e = absurd kept
-    by (ToQueue n) (Some (DeleteQueue number)) is kept e = absurd kept
+    by (ToPipe n) (Some _) is kept e = absurd kept
+    by (ToQueue n) (Some _) is kept e = absurd kept

@@ -9,7 +9,7 @@ use Rattle.std.specs.Ordering.{is_lt, nat_cmp, ordering_then, MatchOrdering}
 use Rattle.std.proofs.lemmas.List.Elements.{All-filter, All-cons, All-nil}
 use Rattle.dn_types.specs.Deliveries.{is_given_before, in_order, delivery_of, undelivered, given, AreInOrder}
 use Rattle.dn_types.specs.Links.{last_due}
-use Rattle.dn_types.specs.Trace.{Event, opened, arrived, started, lost, refused, discarded, collected}
+use Rattle.dn_types.specs.Trace.{Event, started, collected}
 use Rattle.dn_types.specs.declared.delivery.Delivery.{Delivery}
 use Rattle.dn_types.specs.declared.rule.Rule.{Rule}
 use Rattle.dn_types.proofs.BoundedReplies.{in_order-all}
@@ -64,13 +64,9 @@ fewer-in-order test (d ∷ ds) h = by (test d) (fewer-in-order test ds h.1)
 
 in-turn : (rule : Rule) (trace : List Event) → AreInOrder (undelivered rule trace)
 in-turn rule [] = tt
-in-turn rule (opened l ∷ trace) = in-turn rule trace
-in-turn rule (arrived p ∷ trace) = in-turn rule trace
 in-turn rule (started s ∷ trace) = put-in-order (delivery_of rule s (last_due rule s.packet.link trace)) (undelivered rule trace) (in-turn rule trace)
-in-turn rule (lost l f ∷ trace) = in-turn rule trace
-in-turn rule (refused l f ∷ trace) = in-turn rule trace
-in-turn rule (discarded f ∷ trace) = in-turn rule trace
 in-turn rule (collected at ∷ trace) = fewer-in-order (λ d. nat_lt at d.due) (undelivered rule trace) (in-turn rule trace)
+in-turn rule (_ ∷ trace) = in-turn rule trace
 
 pub gives-in-order : (rule : Rule) (at : ℕ) (trace : List Event) → AreInOrder (given rule at trace)
 gives-in-order rule at trace = fewer-in-order (λ d. nat_le d.due at) (undelivered rule trace) (in-turn rule trace)

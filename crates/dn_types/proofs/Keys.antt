@@ -7,7 +7,7 @@ use Rattle.std.proofs.lemmas.Option.{slice_get_within}
 use Rattle.dn_types.specs.Configuration.{settings, target_eq}
 use Rattle.dn_types.specs.Flows.{Treatment, treatment, tuple_eq, mask_eq, key_eq, key_of, with_key, keys_with, keys}
 use Rattle.dn_types.specs.declared.call.Call.{Call}
-use Rattle.dn_types.specs.declared.call.Call.TheVariants.{Configure, Submit, Advance, Collect, Show}
+use Rattle.dn_types.specs.declared.call.Call.TheVariants.{Submit}
 use Rattle.dn_types.specs.declared.five_tuple.FiveTuple.{FiveTuple}
 use Rattle.dn_types.specs.declared.flow_key.FlowKey.{FlowKey}
 use Rattle.dn_types.specs.declared.mask.Mask.{Mask}
@@ -110,10 +110,7 @@ keys-apart (Submit target packet moment ∷ calls) = by (treatment (settings cal
     by : (o : Option Treatment) → AreApart (keys calls) → AreApart (keys_with target packet.tuple o (keys calls))
     by None h = h
     by (Some how) h = apart-with (key_of target packet.tuple how) (keys calls) h
-keys-apart (Configure command ∷ calls) = keys-apart calls
-keys-apart (Advance moment ∷ calls) = keys-apart calls
-keys-apart (Collect moment ∷ calls) = keys-apart calls
-keys-apart (Show ∷ calls) = keys-apart calls
+keys-apart (_ ∷ calls) = keys-apart calls
 
 among : (key : FlowKey) (known : List FlowKey) (i : ℕ) → slice_get known i ≡ Some key → list_any (key_eq key) known ≡ true
 among key [] i e = let none = slice_get_within [] i key e in absurd (omega arith)
@@ -155,7 +152,4 @@ keys-stay calls (Submit target packet moment) flow key e = by (treatment (settin
     by : (o : Option Treatment) → slice_get (keys_with target packet.tuple o (keys calls)) flow ≡ Some key
     by None = e
     by (Some how) = with (key_of target packet.tuple how) (list_any (key_eq (key_of target packet.tuple how)) (keys calls))
-keys-stay calls (Configure command) flow key e = e
-keys-stay calls (Advance moment) flow key e = e
-keys-stay calls (Collect moment) flow key e = e
-keys-stay calls Show flow key e = e
+keys-stay calls _ flow key e = e

@@ -184,9 +184,7 @@ is_pipe_delete _ n = false
 
 reached-by : (command : Command) (key : FlowKey) → is_pipe_delete command key.pipe ≡ true → reaches command key ≡ true
 reached-by (DeletePipe number) key e = e
-reached-by (Pipe number bw delay limit loss buckets mask) key e = absurd cc
-reached-by (Queue number pipe weight limit loss buckets mask) key e = absurd cc
-reached-by (DeleteQueue number) key e = absurd cc
+reached-by _ key e = absurd cc
 
 module _ (calls : List Call) where
   abbrev set : Settings

@@ -11,7 +11,7 @@ use Rattle.dn_types.specs.Drops.{is_lost, is_full}
 use Rattle.dn_types.specs.Links.{free}
 use Rattle.dn_types.specs.SharedLinks.{waiting, opening}
 use Rattle.dn_types.specs.Starts.{next_start, settled, waiting_all, start_at}
-use Rattle.dn_types.specs.Trace.{Start, lost, refused, collected, Link, own, shared, Accepted, Event, opened, arrived, started, discarded, is_of, backlog, links, accepted_count}
+use Rattle.dn_types.specs.Trace.{Start, Link, own, shared, Accepted, Event, opened, arrived, started, discarded, is_of, backlog, links, accepted_count}
 use Rattle.dn_types.specs.declared.call.Call.{Call}
 use Rattle.dn_types.specs.declared.call.Call.TheVariants.{Configure, Submit, Advance, Collect, Show}
 use Rattle.dn_types.specs.declared.packet.Packet.{Packet}
@@ -135,13 +135,9 @@ starts-in-order calls link flow = in-order-proper link flow (trace_of calls) (tr
 
 pub suffix-proper : (later earlier : List Event) → IsProper (later ++ earlier) → IsProper earlier
 suffix-proper [] earlier h = h
-suffix-proper (opened l ∷ later) earlier h = suffix-proper later earlier h
 suffix-proper (arrived p ∷ later) earlier h = suffix-proper later earlier h.1
 suffix-proper (started s ∷ later) earlier h = suffix-proper later earlier h.2
-suffix-proper (lost l f ∷ later) earlier h = suffix-proper later earlier h
-suffix-proper (refused l f ∷ later) earlier h = suffix-proper later earlier h
-suffix-proper (discarded f ∷ later) earlier h = suffix-proper later earlier h
-suffix-proper (collected at ∷ later) earlier h = suffix-proper later earlier h
+suffix-proper (_ ∷ later) earlier h = suffix-proper later earlier h
 
 pub sends-one-at-a-time : (calls : List Call) (later earlier : List Event) (s : Start) → trace_of calls ≡ later ++ started s ∷ earlier → free s.packet.link earlier ≤ s.moment
 sends-one-at-a-time calls later earlier s e = (suffix-proper later (started s ∷ earlier) (subst IsProper e (trace-proper calls))).1

@@ -86,9 +86,7 @@ treatment-in-range (Some (DeleteQueue number)) h = tt
 pub delay-in-range : (o : Option Command) → IsSettingInRange o → delay_of o ≤ 3600000000000
 delay-in-range None h = omega arith
 delay-in-range (Some (Pipe number bw delay limit loss buckets mask)) h = let most = h.0 in omega arith
-delay-in-range (Some (Queue number pipe weight limit loss buckets mask)) h = omega arith
-delay-in-range (Some (DeletePipe number)) h = omega arith
-delay-in-range (Some (DeleteQueue number)) h = omega arith
+delay-in-range (Some _) h = omega arith
 
 pub transmission-in-range : (bandwidth len : ℕ) → len ≤ 65535 → transmission_time bandwidth len ≤ 524280000000000
 transmission-in-range zero len h = omega arith

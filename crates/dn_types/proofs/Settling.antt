@@ -9,7 +9,7 @@ use Rattle.dn_types.specs.Configuration.{Settings}
 use Rattle.dn_types.specs.Links.{free}
 use Rattle.dn_types.specs.SharedLinks.{waiting, next_packet, virtual_time, link_heads}
 use Rattle.dn_types.specs.Starts.{next_start, start_at}
-use Rattle.dn_types.specs.Trace.{Link, own, shared, link_eq, Accepted, Event, opened, arrived, started, lost, refused, discarded, collected, Start, is_of, backlog, flow_bound}
+use Rattle.dn_types.specs.Trace.{Link, own, shared, link_eq, Accepted, Event, arrived, started, discarded, Start, is_of, backlog, flow_bound}
 use Rattle.dn_types.specs.Wf2q.{Stamped, total, pick}
 
 -- ---- What a backlog holds
@@ -36,13 +36,10 @@ module _ (link : Link) (flow : ℕ) where
   -- Each packet in a backlog is of the backlog's link and flow.
   pub backlog-own : (trace : List Event) → All IsOwn (backlog link flow trace)
   backlog-own [] = own-none
-  backlog-own (opened l ∷ trace) = backlog-own trace
   backlog-own (arrived p ∷ trace) = own-push p (backlog link flow trace) (is_of link flow p) refl (backlog-own trace)
   backlog-own (started s ∷ trace) = own-drop (backlog link flow trace) (is_of link flow s.packet) (backlog-own trace)
-  backlog-own (lost l f ∷ trace) = backlog-own trace
-  backlog-own (refused l f ∷ trace) = backlog-own trace
   backlog-own (discarded f ∷ trace) = own-clear (backlog link flow trace) (nat_eq f flow) (backlog-own trace)
-  backlog-own (collected at ∷ trace) = backlog-own trace
+  backlog-own (_ ∷ trace) = backlog-own trace
 
   pub first-own : (p : Accepted) (q : List Accepted) → slice_get q 0 ≡ Some p → All IsOwn q → is_of link flow p ≡ true
   first-own p [] e h = absurd cc
@@ -62,13 +59,10 @@ module _ (link : Link) (flow : ℕ) where
 
   pub backlog-above : (trace : List Event) → flow_bound trace ≤ flow → backlog link flow trace ≡ []
   backlog-above [] h = refl
-  backlog-above (opened l ∷ trace) h = backlog-above trace h
   backlog-above (arrived p ∷ trace) h = ap (λ b. cond b (backlog link flow trace ++ p ∷ []) (backlog link flow trace)) (is_of-above p (omega arith)) ∙ backlog-above trace (omega arith)
   backlog-above (started s ∷ trace) h = let e = backlog-above trace h in cond-same (is_of link flow s.packet) _ _ (ap (drop 1) e) e
-  backlog-above (lost l f ∷ trace) h = backlog-above trace h
-  backlog-above (refused l f ∷ trace) h = backlog-above trace h
   backlog-above (discarded f ∷ trace) h = cond-same (nat_eq f flow) _ _ refl (backlog-above trace h)
-  backlog-above (collected at ∷ trace) h = backlog-above trace h
+  backlog-above (_ ∷ trace) h = backlog-above trace h
 
 -- ---- One start takes one packet
 
