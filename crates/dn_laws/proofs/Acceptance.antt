@@ -11,9 +11,9 @@ use Rattle.dn_types.specs.Replies.{reply, counted_reply, reply_to_verdict}
 use Rattle.dn_laws.specs.Told.{is_queued, IsCarriedBy}
 use Rattle.dn_types.specs.Trace.{Link, own, shared, Accepted, Event, opened, arrived, started, lost, refused, discarded, collected, backlog, is_arrival, accepted_count}
 use Rattle.dn_types.specs.declared.call.Call.{Call}
-use Rattle.dn_types.specs.declared.call.Call.TheVariants.{Configure, Submit, Advance, Collect, Show}
+use Rattle.dn_types.specs.declared.call.Call.TheVariants.{Submit, Advance}
 use Rattle.dn_types.specs.declared.command.Command.{Command}
-use Rattle.dn_types.specs.declared.command.Command.TheVariants.{Pipe, Queue, DeletePipe, DeleteQueue}
+use Rattle.dn_types.specs.declared.command.Command.TheVariants.{Pipe, Queue}
 use Rattle.dn_types.specs.declared.flow_key.FlowKey.{FlowKey}
 use Rattle.dn_types.specs.declared.packet.Packet.{Packet}
 use Rattle.dn_types.specs.declared.reply.Reply.{Reply}
@@ -127,12 +127,8 @@ carried-by (ToQueue n) (Queue number pipe weight limit loss buckets mask) kept h
     pipe-or : ℕ → Option Treatment → ℕ
     pipe-or d None = d
     pipe-or d (Some h) = h.pipe
-carried-by (ToPipe n) (Queue number pipe weight limit loss buckets mask) kept how e flow = absurd kept
-carried-by (ToPipe n) (DeletePipe number) kept how e flow = absurd kept
-carried-by (ToPipe n) (DeleteQueue number) kept how e flow = absurd kept
-carried-by (ToQueue n) (Pipe number bw delay limit loss buckets mask) kept how e flow = absurd kept
-carried-by (ToQueue n) (DeletePipe number) kept how e flow = absurd kept
-carried-by (ToQueue n) (DeleteQueue number) kept how e flow = absurd kept
+carried-by (ToPipe n) _ kept how e flow = absurd kept
+carried-by (ToQueue n) _ kept how e flow = absurd kept
 
 -- Each arrival is of a packet that was told to be queued.
 pub arrivals-are-told : (rule : Rule) (calls : List Call) (c : Call) (later between : List Event) (p : Accepted) → length calls < call_limit →
@@ -141,10 +137,6 @@ arrivals-are-told rule calls c later between p few e =
     by c (adds-among (Comes calls c) (trace_of calls) (trace_of (c ∷ calls)) later between (arrived p) (call-comes calls c) e)
   where
     by : (c : Call) → Arrives calls c p (between ++ trace_of calls) → IsAccepted rule calls c p
-    by (Configure command) h = absurd h
-    by (Advance moment) h = absurd h
-    by (Collect moment) h = absurd h
-    by Show h = absurd h
     by (Submit target packet moment) h = accepted (settings calls target) refl (settings-kept calls target)
       where
         as' : IsTakenAs calls target packet moment p
@@ -163,6 +155,7 @@ arrivals-are-told rule calls c later between p few e =
           in_force = set;
           carried = subst (λ (l : Link). IsCarriedBy command p.stamped.flow l) (sym as'.link) (carried-by target command kept as'.how (ap treatment (sym set) ∙ as'.by) p.stamped.flow);
         }
+    by _ h = absurd h
 
 -- ---- And each packet that is told to be queued arrives
 

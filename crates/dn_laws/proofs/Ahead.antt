@@ -55,12 +55,9 @@ module _ (p : Accepted) (before : List Event) where
           let more = count-later g (arrived p ∷ before) in
           let one = count-event is_arrival (arrived p) before in
           absurd (omega (arith, same, here, there, more, one))
-  one-of-number link flow (opened l ∷ g) h = one-of-number link flow g h
   one-of-number link flow (started s ∷ g) h = drop-it (is_of link flow s.packet) (backlog link flow (g ++ (arrived p ∷ before))) (one-of-number link flow g h.2)
-  one-of-number link flow (lost l f ∷ g) h = one-of-number link flow g h
-  one-of-number link flow (refused l f ∷ g) h = one-of-number link flow g h
   one-of-number link flow (discarded f ∷ g) h = clear-it (nat_eq f flow) (backlog link flow (g ++ (arrived p ∷ before))) (one-of-number link flow g h)
-  one-of-number link flow (collected m ∷ g) h = one-of-number link flow g h
+  one-of-number link flow (_ ∷ g) h = one-of-number link flow g h
 
 -- ---- While it waits
 

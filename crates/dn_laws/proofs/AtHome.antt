@@ -12,7 +12,7 @@ use Rattle.dn_laws.specs.ReplyLaws.{IsStateOf}
 use Rattle.dn_laws.specs.Told.{is_arrival_of}
 use Rattle.dn_types.specs.Trace.{Link, link_eq, Accepted, Start, Event, opened, arrived, started, lost, refused, discarded, collected, is_of, backlog, is_start_of, discarded_count}
 use Rattle.dn_types.specs.declared.call.Call.{Call}
-use Rattle.dn_types.specs.declared.call.Call.TheVariants.{Configure, Submit, Advance, Collect, Show}
+use Rattle.dn_types.specs.declared.call.Call.TheVariants.{Submit, Show}
 use Rattle.dn_types.specs.declared.flow_key.FlowKey.{FlowKey}
 use Rattle.dn_types.specs.declared.flow_status.FlowStatus.{FlowStatus}
 use Rattle.dn_types.specs.declared.reply.Reply.TheVariants.{Status}
@@ -47,18 +47,9 @@ homes-stay : (calls : List Call) (c : Call) (t : List Event) → HaveHomes (keys
 homes-stay calls c [] h = tt
 homes-stay calls c (arrived p ∷ t) h =
     (record { key = h.0.key; at = keys-stay calls c p.stamped.flow h.0.key h.0.at; is = h.0.is }, homes-stay calls c t h.1)
-homes-stay calls c (opened l ∷ t) h = homes-stay calls c t h
-homes-stay calls c (started s ∷ t) h = homes-stay calls c t h
-homes-stay calls c (lost l f ∷ t) h = homes-stay calls c t h
-homes-stay calls c (refused l f ∷ t) h = homes-stay calls c t h
-homes-stay calls c (discarded f ∷ t) h = homes-stay calls c t h
-homes-stay calls c (collected m ∷ t) h = homes-stay calls c t h
+homes-stay calls c (_ ∷ t) h = homes-stay calls c t h
 
 arrival-home : (calls : List Call) (c : Call) (p : Accepted) (now : List Event) → Arrives calls c p now → IsHomeOf (keys (c ∷ calls)) p.link p.stamped.flow
-arrival-home calls (Configure command) p now h = absurd h
-arrival-home calls (Advance moment) p now h = absurd h
-arrival-home calls (Collect moment) p now h = absurd h
-arrival-home calls Show p now h = absurd h
 arrival-home calls (Submit target packet moment) p now h =
     let as' : IsTakenAs calls target packet moment p = taken-as calls target packet moment p now h in
     let key = key_of target packet.tuple as'.how in
@@ -69,17 +60,13 @@ arrival-home calls (Submit target packet moment) p now h =
           ∙ stands-get (keys_with target packet.tuple (Some as'.how) (keys calls)) (flow_number (keys calls) key) key (known-flow key (keys calls));
       is = as'.link;
     }
+arrival-home calls _ p now h = absurd h
 
 homes-added : (calls : List Call) (c : Call) (f : List Event) → AllEvents (Comes calls c) (trace_of calls) f → HaveHomes (keys (c ∷ calls)) (trace_of calls) →
     HaveHomes (keys (c ∷ calls)) (f ++ trace_of calls)
 homes-added calls c [] h old = old
 homes-added calls c (arrived p ∷ f) h old = (arrival-home calls c p (f ++ trace_of calls) h.0, homes-added calls c f h.1 old)
-homes-added calls c (opened l ∷ f) h old = homes-added calls c f h.1 old
-homes-added calls c (started s ∷ f) h old = homes-added calls c f h.1 old
-homes-added calls c (lost l n ∷ f) h old = homes-added calls c f h.1 old
-homes-added calls c (refused l n ∷ f) h old = homes-added calls c f h.1 old
-homes-added calls c (discarded n ∷ f) h old = homes-added calls c f h.1 old
-homes-added calls c (collected m ∷ f) h old = homes-added calls c f h.1 old
+homes-added calls c (_ ∷ f) h old = homes-added calls c f h.1 old
 
 pub have-homes : (calls : List Call) → HaveHomes (keys calls) (trace_of calls)
 have-homes [] = tt
@@ -90,7 +77,6 @@ have-homes (c ∷ calls) =
 -- What waits is at home.
 pub waits-home : (known : List FlowKey) (t : List Event) → HaveHomes known t → (link : Link) (flow : ℕ) → 0 < length (backlog link flow t) → IsHomeOf known link flow
 waits-home known [] h link flow some = absurd (omega (arith, some))
-waits-home known (opened l ∷ t) h link flow some = waits-home known t h link flow some
 waits-home known (arrived p ∷ t) h link flow some = by (is_of link flow p) refl some (λ more. waits-home known t h.1 link flow more)
   where
     by : (b : Bool) → is_of link flow p ≡ b → 0 < length (cond b (backlog link flow t ++ p ∷ []) (backlog link flow t))
@@ -101,14 +87,12 @@ waits-home known (arrived p ∷ t) h link flow some = by (is_of link flow p) ref
         let f = eqb-true p.stamped.flow flow (and-right (link_eq p.link link) (nat_eq p.stamped.flow flow) e) in
         subst (λ (g : ℕ). IsHomeOf known link g) f (subst (λ (m : Link). IsHomeOf known m p.stamped.flow) l h.0)
 waits-home known (started s ∷ t) h link flow some = waits-home known t h link flow (fewer-started (is_of link flow s.packet) (backlog link flow t) some)
-waits-home known (lost l f ∷ t) h link flow some = waits-home known t h link flow some
-waits-home known (refused l f ∷ t) h link flow some = waits-home known t h link flow some
 waits-home known (discarded f ∷ t) h link flow some = waits-home known t h link flow (cleared (nat_eq f flow) (backlog link flow t) some)
   where
     cleared : (b : Bool) (q : List Accepted) → 0 < length (cond b [] q) → 0 < length q
     cleared true q some = absurd (omega (arith, some))
     cleared false q some = some
-waits-home known (collected m ∷ t) h link flow some = waits-home known t h link flow some
+waits-home known (_ ∷ t) h link flow some = waits-home known t h link flow some
 
 first-some : (p : Accepted) (q : List Accepted) → slice_get q 0 ≡ Some p → 0 < length q
 first-some p [] e = absurd cc

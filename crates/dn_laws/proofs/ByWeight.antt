@@ -6,7 +6,7 @@ use Rattle.std.proofs.Math.Nat.{mul-le-mul_right, lt-div-mul-add, div-mul-le_sel
 use Rattle.dn_laws.specs.ByteShares.{IsWeighted, bytes_sent, packets_sent}
 use Rattle.dn_types.specs.Calls.{trace_of}
 use Rattle.dn_laws.specs.FairShare.{WaitsThroughout, EachThatWaits, CostsAtMost, share}
-use Rattle.dn_types.specs.Trace.{shared, Accepted, Start, Event, opened, arrived, started, lost, refused, discarded, collected, is_of, backlog}
+use Rattle.dn_types.specs.Trace.{shared, Accepted, Start, Event, arrived, started, is_of, backlog}
 use Rattle.dn_types.specs.declared.call.Call.{Call}
 use Rattle.dn_laws.proofs.Fair.{start-first, shares-fairly}
 use Rattle.dn_laws.proofs.Steady.{IsSteady, Arrive, all-waiting, waits-after, steady, suffix-steady}
@@ -38,25 +38,15 @@ module _ (pipe flow weight longest : ℕ) (some : 0 < weight) where
 
   arrive-tagged : (t : List Event) → IsSteady t → Arrive (shared pipe) flow IsTagged t
   arrive-tagged [] h = tt
-  arrive-tagged (opened l ∷ t) h = arrive-tagged t h.1
   arrive-tagged (arrived p ∷ t) h = (λ e. h.0.2, arrive-tagged t h.1)
-  arrive-tagged (started s ∷ t) h = arrive-tagged t h.1
-  arrive-tagged (lost l g ∷ t) h = arrive-tagged t h.1
-  arrive-tagged (refused l g ∷ t) h = arrive-tagged t h.1
-  arrive-tagged (discarded g ∷ t) h = arrive-tagged t h.1
-  arrive-tagged (collected at ∷ t) h = arrive-tagged t h.1
+  arrive-tagged (_ ∷ t) h = arrive-tagged t h.1
 
   -- Each packet that waits in the stretch is tagged by the weight.
   tagged-by : (stretch earlier : List Event) → IsSteady (stretch ++ earlier) → EachThatWaits (IsWeighted weight longest) (shared pipe) flow stretch earlier →
       EachThatWaits IsOfWeight (shared pipe) flow stretch earlier
   tagged-by [] earlier h w = let tags = all-waiting (shared pipe) flow IsTagged earlier (arrive-tagged earlier h) in λ k d lt. (tags k d lt, w k d lt)
   tagged-by (arrived p ∷ stretch) earlier h w = (λ e. (h.0.2, w.0 e), tagged-by stretch earlier h.1 w.1)
-  tagged-by (opened l ∷ stretch) earlier h w = tagged-by stretch earlier h.1 w
-  tagged-by (started s ∷ stretch) earlier h w = tagged-by stretch earlier h.1 w
-  tagged-by (lost l g ∷ stretch) earlier h w = tagged-by stretch earlier h.1 w
-  tagged-by (refused l g ∷ stretch) earlier h w = tagged-by stretch earlier h.1 w
-  tagged-by (discarded g ∷ stretch) earlier h w = tagged-by stretch earlier h.1 w
-  tagged-by (collected at ∷ stretch) earlier h w = tagged-by stretch earlier h.1 w
+  tagged-by (_ ∷ stretch) earlier h w = tagged-by stretch earlier h.1 w
 
   first-of : (q : List Accepted) (p : Accepted) → slice_get q 0 ≡ Some p → All IsOfWeight q → IsOfWeight p
   first-of [] p e all = absurd cc
@@ -92,12 +82,8 @@ module _ (pipe flow weight longest : ℕ) (some : 0 < weight) where
           (bytes_sent (shared pipe) flow stretch) (packets_sent (shared pipe) flow stretch)
           (subst (λ (k : ℕ). (k * weight ≤ s.packet.stamped.len * 65536) × (s.packet.stamped.len * 65536 ≤ (k + 1) * weight)) (sym cost) r) rest
       by false is rest = let lower = rest.0 in let upper = rest.1 in (omega (arith, lower), omega (arith, upper))
-  in-bytes (opened l ∷ stretch) earlier h w = in-bytes stretch earlier h.1 w
   in-bytes (arrived p ∷ stretch) earlier h w = in-bytes stretch earlier h.1 w.1
-  in-bytes (lost l g ∷ stretch) earlier h w = in-bytes stretch earlier h.1 w
-  in-bytes (refused l g ∷ stretch) earlier h w = in-bytes stretch earlier h.1 w
-  in-bytes (discarded g ∷ stretch) earlier h w = in-bytes stretch earlier h.1 w
-  in-bytes (collected at ∷ stretch) earlier h w = in-bytes stretch earlier h.1 w
+  in-bytes (_ ∷ stretch) earlier h w = in-bytes stretch earlier h.1 w
 
   -- No packet costs more than the longest.
   cost-at-most : (p : Accepted) → IsOfWeight p → CostsAtMost (longest * 65536 / weight) p
@@ -115,12 +101,7 @@ module _ (pipe flow weight longest : ℕ) (some : 0 < weight) where
       EachThatWaits (CostsAtMost (longest * 65536 / weight)) (shared pipe) flow stretch earlier
   at-most-longest [] earlier w = λ k d lt. cost-at-most (get_or (backlog (shared pipe) flow earlier) k d) (w k d lt)
   at-most-longest (arrived p ∷ stretch) earlier w = (λ e. cost-at-most p (w.0 e), at-most-longest stretch earlier w.1)
-  at-most-longest (opened l ∷ stretch) earlier w = at-most-longest stretch earlier w
-  at-most-longest (started s ∷ stretch) earlier w = at-most-longest stretch earlier w
-  at-most-longest (lost l g ∷ stretch) earlier w = at-most-longest stretch earlier w
-  at-most-longest (refused l g ∷ stretch) earlier w = at-most-longest stretch earlier w
-  at-most-longest (discarded g ∷ stretch) earlier w = at-most-longest stretch earlier w
-  at-most-longest (collected at ∷ stretch) earlier w = at-most-longest stretch earlier w
+  at-most-longest (_ ∷ stretch) earlier w = at-most-longest stretch earlier w
 
 -- The costs of two flows, and their bytes.
 by-weights : (so si mo mi bo bi count wo wi lo li : ℕ) → so ≤ si + mo + mo + mi → bo * 65536 ≤ (so + count) * wo → si * wi ≤ bi * 65536 → mo * wo ≤ lo * 65536 → mi * wi ≤ li * 65536 →

@@ -177,7 +177,4 @@ discards-are-deletes rule calls c later between flow few e =
   where
     by : (c : Call) → Empties calls c flow → IsDelete rule calls c flow
     by (Configure command) h = (not-exhausted rule calls (Configure command) few ∙ h.0, h.1)
-    by (Submit target packet moment) h = absurd h
-    by (Advance moment) h = absurd h
-    by (Collect moment) h = absurd h
-    by Show h = absurd h
+    by _ h = absurd h

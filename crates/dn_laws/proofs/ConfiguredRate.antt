@@ -9,7 +9,7 @@ use Rattle.dn_laws.specs.Explained.{sent, IsAtBandwidth}
 use Rattle.dn_types.specs.Links.{transmission_time}
 use Rattle.dn_laws.specs.RateLaws.{StaysInForce}
 use Rattle.dn_types.specs.Starts.{bandwidth_of}
-use Rattle.dn_types.specs.Trace.{Link, link_eq, pipe_of, Start, Event, opened, arrived, started, lost, refused, discarded, collected}
+use Rattle.dn_types.specs.Trace.{Link, link_eq, pipe_of, Start, Event, started}
 use Rattle.dn_types.specs.declared.call.Call.{Call}
 use Rattle.dn_types.specs.declared.command.Command.{Command}
 use Rattle.dn_types.specs.declared.command.Command.TheVariants.{Pipe}
@@ -25,33 +25,18 @@ use Rattle.dn_types.proofs.Settled.{link_eq-true}
 module _ (bw : ℕ) (link : Link) where
   pub both-at : (f g : List Event) → IsAtBandwidth bw link f → IsAtBandwidth bw link g → IsAtBandwidth bw link (f ++ g)
   both-at [] g h k = k
-  both-at (opened l ∷ f) g h k = both-at f g h k
-  both-at (arrived p ∷ f) g h k = both-at f g h k
   both-at (started s ∷ f) g h k = (h.0, both-at f g h.1 k)
-  both-at (lost l n ∷ f) g h k = both-at f g h k
-  both-at (refused l n ∷ f) g h k = both-at f g h k
-  both-at (discarded n ∷ f) g h k = both-at f g h k
-  both-at (collected m ∷ f) g h k = both-at f g h k
+  both-at (_ ∷ f) g h k = both-at f g h k
 
   pub front-at : (f g : List Event) → IsAtBandwidth bw link (f ++ g) → IsAtBandwidth bw link f
   front-at [] g h = tt
-  front-at (opened l ∷ f) g h = front-at f g h
-  front-at (arrived p ∷ f) g h = front-at f g h
   front-at (started s ∷ f) g h = (h.0, front-at f g h.1)
-  front-at (lost l n ∷ f) g h = front-at f g h
-  front-at (refused l n ∷ f) g h = front-at f g h
-  front-at (discarded n ∷ f) g h = front-at f g h
-  front-at (collected m ∷ f) g h = front-at f g h
+  front-at (_ ∷ f) g h = front-at f g h
 
   pub back-at : (f g : List Event) → IsAtBandwidth bw link (f ++ g) → IsAtBandwidth bw link g
   back-at [] g h = h
-  back-at (opened l ∷ f) g h = back-at f g h
-  back-at (arrived p ∷ f) g h = back-at f g h
   back-at (started s ∷ f) g h = back-at f g h.1
-  back-at (lost l n ∷ f) g h = back-at f g h
-  back-at (refused l n ∷ f) g h = back-at f g h
-  back-at (discarded n ∷ f) g h = back-at f g h
-  back-at (collected m ∷ f) g h = back-at f g h
+  back-at (_ ∷ f) g h = back-at f g h
 
 -- ---- What calls add while a command stays in force
 
@@ -69,12 +54,7 @@ module _ (number bw delay : ℕ) (limit : Limit) (loss : ℕ) (buckets : Option 
   pub call-at : (calls : List Call) (c : Call) (f : List Event) → settings calls (ToPipe number) ≡ Some command → AllEvents (IsCaused calls c) (trace_of calls) f → IsAtBandwidth bw link f
   call-at calls c [] in_force h = tt
   call-at calls c (started s ∷ f) in_force h = (λ same. start-at (settings calls) (effective_moment (c ∷ calls)) (trace_of calls) s f in_force h.0 same, call-at calls c f in_force h.1)
-  call-at calls c (opened l ∷ f) in_force h = call-at calls c f in_force h.1
-  call-at calls c (arrived p ∷ f) in_force h = call-at calls c f in_force h.1
-  call-at calls c (lost l n ∷ f) in_force h = call-at calls c f in_force h.1
-  call-at calls c (refused l n ∷ f) in_force h = call-at calls c f in_force h.1
-  call-at calls c (discarded n ∷ f) in_force h = call-at calls c f in_force h.1
-  call-at calls c (collected m ∷ f) in_force h = call-at calls c f in_force h.1
+  call-at calls c (_ ∷ f) in_force h = call-at calls c f in_force h.1
 
   pub now : (after calls : List Call) → StaysInForce (ToPipe number) command after calls → settings (after ++ calls) (ToPipe number) ≡ Some command
   now [] calls h = h

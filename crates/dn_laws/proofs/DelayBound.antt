@@ -14,10 +14,10 @@ use Rattle.dn_types.specs.Links.{free, last_due, due_by, arrival_time, transmiss
 use Rattle.dn_laws.specs.RateLaws.{StaysInForce}
 use Rattle.dn_types.specs.Replies.{reply}
 use Rattle.dn_types.specs.Starts.{bandwidth_of, delay_of}
-use Rattle.dn_types.specs.Trace.{Link, own, shared, link_eq, pipe_of, Accepted, Start, Event, opened, arrived, started, lost, refused, discarded, collected, is_of, backlog}
+use Rattle.dn_types.specs.Trace.{Link, own, shared, link_eq, pipe_of, Accepted, Start, Event, arrived, started, discarded, is_of, backlog}
 use Rattle.dn_laws.specs.WaitLaws.{ahead, free_from, IsAtMost, SlotsBoundTheDelay, KbytesBoundTheDelay}
 use Rattle.dn_types.specs.declared.call.Call.{Call}
-use Rattle.dn_types.specs.declared.call.Call.TheVariants.{Configure, Submit, Advance, Collect, Show}
+use Rattle.dn_types.specs.declared.call.Call.TheVariants.{Submit, Advance, Collect}
 use Rattle.dn_types.specs.declared.command.Command.{Command}
 use Rattle.dn_types.specs.declared.command.Command.TheVariants.{Pipe}
 use Rattle.dn_types.specs.declared.delivery.Delivery.{Delivery}
@@ -58,10 +58,6 @@ module _ (pipe most : ℕ) where
   AreShort (_ ∷ trace) = AreShort trace
 
   short-arrival : (calls : List Call) (c : Call) (p : Accepted) (f : List Event) → IsTaken calls c p f → IsAtMost pipe most c → (flow : ℕ) → p.link ≡ own pipe flow → p.stamped.len ≤ most
-  short-arrival calls (Configure command) p f h one flow on = absurd h
-  short-arrival calls (Advance moment) p f h one flow on = absurd h
-  short-arrival calls (Collect moment) p f h one flow on = absurd h
-  short-arrival calls Show p f h one flow on = absurd h
   short-arrival calls (Submit (ToPipe number) packet moment) p f h one flow on =
       let len = ap (λ (x : Accepted). x.stamped.len) h.2 in
       let carrier : h.0.pipe ≡ pipe = sym (ap (λ (x : Accepted). pipe_of x.link) h.2) ∙ ap pipe_of on in
@@ -69,16 +65,12 @@ module _ (pipe most : ℕ) where
       omega (arith, len, short)
   short-arrival calls (Submit (ToQueue number) packet moment) p f h one flow on =
       let no : shared h.0.pipe ≡ own pipe flow = sym (ap (λ (x : Accepted). x.link) h.2) ∙ on in absurd cc
+  short-arrival calls _ p f h one flow on = absurd h
 
   short-added : (calls : List Call) (c : Call) (f : List Event) → AllEvents (IsCaused calls c) (trace_of calls) f → IsAtMost pipe most c → AreShort (trace_of calls) → AreShort (f ++ trace_of calls)
   short-added calls c [] all one old = old
   short-added calls c (arrived p ∷ f) all one old = (short-arrival calls c p f all.0 one, short-added calls c f all.1 one old)
-  short-added calls c (opened l ∷ f) all one old = short-added calls c f all.1 one old
-  short-added calls c (started s ∷ f) all one old = short-added calls c f all.1 one old
-  short-added calls c (lost l n ∷ f) all one old = short-added calls c f all.1 one old
-  short-added calls c (refused l n ∷ f) all one old = short-added calls c f all.1 one old
-  short-added calls c (discarded n ∷ f) all one old = short-added calls c f all.1 one old
-  short-added calls c (collected m ∷ f) all one old = short-added calls c f all.1 one old
+  short-added calls c (_ ∷ f) all one old = short-added calls c f all.1 one old
 
   trace-short : (calls : List Call) → All (IsAtMost pipe most) calls → AreShort (trace_of calls)
   trace-short [] h = tt
@@ -106,12 +98,9 @@ module _ (pipe most : ℕ) where
     queue-short [] h = All-nil IsShort
     queue-short (arrived p ∷ t) h = push-short (is_of (own pipe flow) flow p) (backlog (own pipe flow) flow t) p
         (λ mine. h.0 flow (link_eq-true p.link (own pipe flow) (and-left (link_eq p.link (own pipe flow)) (nat_eq p.stamped.flow flow) mine))) (queue-short t h.1)
-    queue-short (opened l ∷ t) h = queue-short t h
     queue-short (started s ∷ t) h = drop-short (is_of (own pipe flow) flow s.packet) (backlog (own pipe flow) flow t) (queue-short t h)
-    queue-short (lost l n ∷ t) h = queue-short t h
-    queue-short (refused l n ∷ t) h = queue-short t h
     queue-short (discarded n ∷ t) h = clear-short (nat_eq n flow) (backlog (own pipe flow) flow t) (queue-short t h)
-    queue-short (collected m ∷ t) h = queue-short t h
+    queue-short (_ ∷ t) h = queue-short t h
 
     start-short : (s : Start) (t : List Event) → IsProper (started s ∷ t) → IsPrompt (started s ∷ t) → AreShort t → link_eq s.packet.link (own pipe flow) ≡ true → s.packet.stamped.len ≤ most
     start-short s t proper prompt short e =
@@ -132,29 +121,18 @@ module _ (pipe bw delay flow by_then : ℕ) where
 
   both-by : (f g : List Event) → AreBy f → AreBy g → AreBy (f ++ g)
   both-by [] g h k = k
-  both-by (opened l ∷ f) g h k = both-by f g h k
-  both-by (arrived p ∷ f) g h k = both-by f g h k
   both-by (started s ∷ f) g h k = (h.0, both-by f g h.1 k)
-  both-by (lost l n ∷ f) g h k = both-by f g h k
-  both-by (refused l n ∷ f) g h k = both-by f g h k
-  both-by (discarded n ∷ f) g h k = both-by f g h k
-  both-by (collected m ∷ f) g h k = both-by f g h k
+  both-by (_ ∷ f) g h k = both-by f g h k
 
   back-by : (f g : List Event) → AreBy (f ++ g) → AreBy g
   back-by [] g h = h
-  back-by (opened l ∷ f) g h = back-by f g h
-  back-by (arrived p ∷ f) g h = back-by f g h
   back-by (started s ∷ f) g h = back-by f g h.1
-  back-by (lost l n ∷ f) g h = back-by f g h
-  back-by (refused l n ∷ f) g h = back-by f g h
-  back-by (discarded n ∷ f) g h = back-by f g h
-  back-by (collected m ∷ f) g h = back-by f g h
+  back-by (_ ∷ f) g h = back-by f g h
 
   -- The link is free one transmission after the moment, and its last due moment is that and the delay, if they weren't later.
   frees : (most : ℕ) (g old : List Event) → AreBy g → IsProper (g ++ old) → IsPrompt (g ++ old) → AreShort pipe most (g ++ old) →
       free (own pipe flow) (g ++ old) ≤ max (free (own pipe flow) old) (by_then + transmission_time bw most)
   frees most [] old h proper prompt short = omega arith
-  frees most (opened l ∷ g) old h proper prompt short = frees most g old h proper prompt short
   frees most (arrived p ∷ g) old h proper prompt short = frees most g old h proper.1 prompt short.1
   frees most (started s ∷ g) old h proper prompt short = by (link_eq s.packet.link (own pipe flow)) refl (frees most g old h.1 proper.2 prompt.2 short)
     where
@@ -167,10 +145,7 @@ module _ (pipe bw delay flow by_then : ℕ) where
           let longer = longer-takes-longer bw s.packet.stamped.len most (start-short pipe most flow s (g ++ old) proper prompt short e) in
           omega (arith, time, soon, longer)
       by false e rest = rest
-  frees most (lost l n ∷ g) old h proper prompt short = frees most g old h proper prompt short
-  frees most (refused l n ∷ g) old h proper prompt short = frees most g old h proper prompt short
-  frees most (discarded n ∷ g) old h proper prompt short = frees most g old h proper prompt short
-  frees most (collected m ∷ g) old h proper prompt short = frees most g old h proper prompt short
+  frees most (_ ∷ g) old h proper prompt short = frees most g old h proper prompt short
 
   due-after : (rule : Rule) (s : Start) (last limit freed : ℕ) → s.delay ≡ delay * 1000000 → last ≤ max limit (freed + delay * 1000000) → freed ≤ s.moment →
       due_by rule (arrival_time s) last ≤ max limit (s.moment + s.transmission + delay * 1000000)
@@ -180,7 +155,6 @@ module _ (pipe bw delay flow by_then : ℕ) where
   dues : (rule : Rule) (g old : List Event) → AreBy g → IsProper (g ++ old) →
       last_due rule (own pipe flow) (g ++ old) ≤ max (last_due rule (own pipe flow) old) (free (own pipe flow) (g ++ old) + delay * 1000000)
   dues rule [] old h proper = omega arith
-  dues rule (opened l ∷ g) old h proper = dues rule g old h proper
   dues rule (arrived p ∷ g) old h proper = dues rule g old h proper.1
   dues rule (started s ∷ g) old h proper = by (link_eq s.packet.link (own pipe flow)) refl (dues rule g old h.1 proper.2)
     where
@@ -194,10 +168,7 @@ module _ (pipe bw delay flow by_then : ℕ) where
           let bound = due-after rule s (last_due rule (own pipe flow) (g ++ old)) (last_due rule (own pipe flow) old) (free (own pipe flow) (g ++ old)) (h.0 e).1 rest (omega (arith, there, soon)) in
           bound
       by false e rest = rest
-  dues rule (lost l n ∷ g) old h proper = dues rule g old h proper
-  dues rule (refused l n ∷ g) old h proper = dues rule g old h proper
-  dues rule (discarded n ∷ g) old h proper = dues rule g old h proper
-  dues rule (collected m ∷ g) old h proper = dues rule g old h proper
+  dues rule (_ ∷ g) old h proper = dues rule g old h proper
 
 -- A link is free by its last due moment.
 free-by-due : (rule : Rule) (link : Link) (t : List Event) → free link t ≤ last_due rule link t
@@ -209,12 +180,7 @@ free-by-due rule link (started s ∷ t) = by (link_eq s.packet.link link) rule (
     by true Free rest = omega arith
     by true Ordered rest = omega arith
     by false r rest = rest
-free-by-due rule link (opened l ∷ t) = free-by-due rule link t
-free-by-due rule link (arrived p ∷ t) = free-by-due rule link t
-free-by-due rule link (lost l n ∷ t) = free-by-due rule link t
-free-by-due rule link (refused l n ∷ t) = free-by-due rule link t
-free-by-due rule link (discarded n ∷ t) = free-by-due rule link t
-free-by-due rule link (collected m ∷ t) = free-by-due rule link t
+free-by-due rule link (_ ∷ t) = free-by-due rule link t
 
 module _ (pipe bw delay : ℕ) (limit : Limit) (loss : ℕ) (buckets : Option ℕ) (mask : Mask) (flow by_then : ℕ) where
   call-by : (calls : List Call) (c : Call) (f : List Event) → settings calls (ToPipe pipe) ≡ Some (Pipe pipe bw delay limit loss buckets mask) → effective_moment (c ∷ calls) ≤ by_then →
@@ -231,12 +197,7 @@ module _ (pipe bw delay : ℕ) (limit : Limit) (loss : ℕ) (buckets : Option �
             ap (λ (x : Start). x.delay) h.0.configured ∙ ap {B = ℕ} (λ (o : Option Command). delay_of o) set,
             omega (arith, by, soon),
           )
-  call-by calls c (opened l ∷ f) in_force soon h = call-by calls c f in_force soon h.1
-  call-by calls c (arrived p ∷ f) in_force soon h = call-by calls c f in_force soon h.1
-  call-by calls c (lost l n ∷ f) in_force soon h = call-by calls c f in_force soon h.1
-  call-by calls c (refused l n ∷ f) in_force soon h = call-by calls c f in_force soon h.1
-  call-by calls c (discarded n ∷ f) in_force soon h = call-by calls c f in_force soon h.1
-  call-by calls c (collected m ∷ f) in_force soon h = call-by calls c f in_force soon h.1
+  call-by calls c (_ ∷ f) in_force soon h = call-by calls c f in_force soon h.1
 
   calls-by : (after calls : List Call) → StaysInForce (ToPipe pipe) (Pipe pipe bw delay limit loss buckets mask) after calls → effective_moment (after ++ calls) ≤ by_then →
       (g : List Event) × (trace_of (after ++ calls) ≡ g ++ trace_of calls) × AreBy pipe bw delay flow by_then g

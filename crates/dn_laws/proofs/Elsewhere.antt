@@ -122,10 +122,7 @@ module _ (rule : Rule) (link : Link) where
   setting-stays : (calls : List Call) (c : Call) → IsElsewhere (pipe_of link) calls c → settings (c ∷ calls) (ToPipe (pipe_of link)) ≡ settings calls (ToPipe (pipe_of link))
   setting-stays calls (Configure command) h =
       ap (λ b. cond b (setting_after (reply_to_command calls command) command (settings calls (ToPipe (pipe_of link)))) (settings calls (ToPipe (pipe_of link)))) (subject-elsewhere calls command h)
-  setting-stays calls (Submit target packet moment) h = refl
-  setting-stays calls (Advance moment) h = refl
-  setting-stays calls (Collect moment) h = refl
-  setting-stays calls Show h = refl
+  setting-stays calls _ h = refl
 
   -- What a list of calls leaves, and one settling up to its clock.
   abbrev Follows : List Call → List Call → Type 0

@@ -7,7 +7,7 @@ use Rattle.std.proofs.lemmas.List.Elements.{All-map}
 use Rattle.dn_types.specs.Calls.{trace_of}
 use Rattle.dn_laws.specs.FairShare.{WaitsThroughout, EachThatWaits, CostsAtMost, share}
 use Rattle.dn_types.specs.SharedLinks.{next_packet, virtual_time, link_heads, last_finish_tag}
-use Rattle.dn_types.specs.Trace.{Link, shared, link_eq, Accepted, Start, Event, opened, arrived, started, lost, refused, discarded, collected, is_of, backlog, flow_bound}
+use Rattle.dn_types.specs.Trace.{Link, shared, link_eq, Accepted, Start, Event, arrived, started, discarded, is_of, backlog, flow_bound}
 use Rattle.dn_types.specs.Wf2q.{Stamped, heads, pick}
 use Rattle.dn_types.specs.declared.call.Call.{Call}
 use Rattle.dn_laws.proofs.EachHead.{at-head, all-heads}
@@ -98,7 +98,6 @@ module _ (pipe : ℕ) where
 
     moves : (e : Event) (t : List Event) (p r : Accepted) → IsSteady (e ∷ t) → slice_get (backlog link flow t) 0 ≡ Some p → slice_get (backlog link flow (e ∷ t)) 0 ≡ Some r →
         r.stamped.start_tag ≡ p.stamped.start_tag + got e
-    moves (opened l) t p r h e f = let same = ap (λ (a : Accepted). a.stamped.start_tag) (same-first (backlog link flow t) p r e f) in omega arith
     moves (arrived a) t p r h e f = let same = ap (λ (x : Accepted). x.stamped.start_tag) (pushed (is_of link flow a) (backlog link flow t) a p r e f) in omega arith
     moves (started s) t p r h e f = by (is_of link flow s.packet) refl f
       where
@@ -116,23 +115,16 @@ module _ (pipe : ℕ) where
             put-first [] a e all = absurd cc
             put-first (x ∷ q) a e all = let same : x ≡ a = cc in subst IsPut' same (all 0 x (omega arith))
         by false is f = let same = ap (λ (x : Accepted). x.stamped.start_tag) (same-first (backlog link flow t) p r e f) in omega arith
-    moves (lost l g) t p r h e f = let same = ap (λ (a : Accepted). a.stamped.start_tag) (same-first (backlog link flow t) p r e f) in omega arith
-    moves (refused l g) t p r h e f = let same = ap (λ (a : Accepted). a.stamped.start_tag) (same-first (backlog link flow t) p r e f) in omega arith
     moves (discarded g) t p r h e f = by (nat_eq g flow) f
       where
         by : (b : Bool) → slice_get (cond b [] (backlog link flow t)) 0 ≡ Some r → r.stamped.start_tag ≡ p.stamped.start_tag + 0
         by true f = absurd cc
         by false f = let same = ap (λ (a : Accepted). a.stamped.start_tag) (same-first (backlog link flow t) p r e f) in omega arith
-    moves (collected at) t p r h e f = let same = ap (λ (a : Accepted). a.stamped.start_tag) (same-first (backlog link flow t) p r e f) in omega arith
+    moves _ t p r h e f = let same = ap (λ (a : Accepted). a.stamped.start_tag) (same-first (backlog link flow t) p r e f) in omega arith
 
     share-cons : (e : Event) (stretch : List Event) → share link flow (e ∷ stretch) ≡ got e + share link flow stretch
-    share-cons (opened l) stretch = omega arith
-    share-cons (arrived a) stretch = omega arith
     share-cons (started s) stretch = refl
-    share-cons (lost l g) stretch = omega arith
-    share-cons (refused l g) stretch = omega arith
-    share-cons (discarded g) stretch = omega arith
-    share-cons (collected at) stretch = omega arith
+    share-cons _ stretch = omega arith
 
     -- Over a stretch a flow's head moves on by what the flow got.
     progress : (stretch earlier : List Event) (p r : Accepted) → IsSteady (stretch ++ earlier) → WaitsThroughout link flow stretch earlier →
@@ -166,7 +158,6 @@ module _ (pipe : ℕ) where
     -- The finish tag of a flow's head never falls.
     rises : (e : Event) (t : List Event) (p r : Accepted) → IsSteady (e ∷ t) → slice_get (backlog link flow t) 0 ≡ Some p → slice_get (backlog link flow (e ∷ t)) 0 ≡ Some r →
         p.stamped.finish_tag ≤ r.stamped.finish_tag
-    rises (opened l) t p r h e f = let same = ap (λ (a : Accepted). a.stamped.finish_tag) (same-first (backlog link flow t) p r e f) in omega arith
     rises (arrived a) t p r h e f = let same = ap (λ (x : Accepted). x.stamped.finish_tag) (pushed (is_of link flow a) (backlog link flow t) a p r e f) in omega arith
     rises (started s) t p r h e f = by (is_of link flow s.packet) refl f (put-of (started s ∷ t) r h f)
       where
@@ -179,14 +170,12 @@ module _ (pipe : ℕ) where
             let tag = ap (λ (x : Accepted). x.stamped.finish_tag) same in
             omega arith
         by false is f put = let same = ap (λ (x : Accepted). x.stamped.finish_tag) (same-first (backlog link flow t) p r e f) in omega arith
-    rises (lost l g) t p r h e f = let same = ap (λ (a : Accepted). a.stamped.finish_tag) (same-first (backlog link flow t) p r e f) in omega arith
-    rises (refused l g) t p r h e f = let same = ap (λ (a : Accepted). a.stamped.finish_tag) (same-first (backlog link flow t) p r e f) in omega arith
     rises (discarded g) t p r h e f = by (nat_eq g flow) f
       where
         by : (b : Bool) → slice_get (cond b [] (backlog link flow t)) 0 ≡ Some r → p.stamped.finish_tag ≤ r.stamped.finish_tag
         by true f = absurd cc
         by false f = let same = ap (λ (a : Accepted). a.stamped.finish_tag) (same-first (backlog link flow t) p r e f) in omega arith
-    rises (collected at) t p r h e f = let same = ap (λ (a : Accepted). a.stamped.finish_tag) (same-first (backlog link flow t) p r e f) in omega arith
+    rises _ t p r h e f = let same = ap (λ (a : Accepted). a.stamped.finish_tag) (same-first (backlog link flow t) p r e f) in omega arith
 
   -- ---- Two flows
 
@@ -206,12 +195,7 @@ module _ (pipe : ℕ) where
             let fair = fair-start t s.packet one y' h.1 mine.0 ey' in
             let cost = cheap-of other most t s.packet cheap mine.1 in
             inr (omega arith)
-    passes (opened l) t x' y' x y h cheap ex' ey' ex ey = inl refl
-    passes (arrived a) t x' y' x y h cheap ex' ey' ex ey = inl refl
-    passes (lost l g) t x' y' x y h cheap ex' ey' ex ey = inl refl
-    passes (refused l g) t x' y' x y h cheap ex' ey' ex ey = inl refl
-    passes (discarded g) t x' y' x y h cheap ex' ey' ex ey = inl refl
-    passes (collected at) t x' y' x y h cheap ex' ey' ex ey = inl refl
+    passes _ t x' y' x y h cheap ex' ey' ex ey = inl refl
 
     close : (stretch earlier : List Event) (x y : Accepted) → IsSteady (stretch ++ earlier) → EachThatWaits (CostsAtMost most) link other stretch earlier → WaitsThroughout link one stretch earlier →
         WaitsThroughout link other stretch earlier → slice_get (backlog link other (stretch ++ earlier)) 0 ≡ Some x → slice_get (backlog link one (stretch ++ earlier)) 0 ≡ Some y

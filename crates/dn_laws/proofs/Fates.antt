@@ -7,7 +7,7 @@ use Rattle.std.proofs.lemmas.List.Sums.{sum_by-cons}
 use Rattle.dn_types.specs.Calls.{trace_of}
 use Rattle.dn_types.specs.Replies.{reply}
 use Rattle.dn_laws.specs.ReplyLaws.{Waits, WasDiscarded, HasStarted}
-use Rattle.dn_types.specs.Trace.{Accepted, Event, opened, arrived, started, lost, refused, discarded, collected, is_of, backlog}
+use Rattle.dn_types.specs.Trace.{Accepted, Event, arrived, started, discarded, is_of, backlog}
 use Rattle.dn_types.specs.declared.call.Call.{Call}
 use Rattle.dn_types.specs.declared.call.Call.TheVariants.{Submit}
 use Rattle.dn_types.specs.declared.packet.Packet.{Packet}
@@ -62,7 +62,6 @@ module _ (number : ℕ) where
         (λ begun. inr (e ∷ begun.0, begun.1, (begun.2.0, ap (λ (r : List Event). e ∷ r) begun.2.1, begun.2.2, begun.2.3))) ended)) fate
 
     step : (e : Event) (t : List Event) → IsProper (e ∷ t) → Waits number flow t → Fate (e ∷ t)
-    step (opened l) t proper w = inl (w.0, w.1)
     step (arrived q) t proper w = let more = pushed (is_of w.0 flow q) (backlog w.0 flow t) q in let some = w.1 in inl (w.0, omega (arith, more, some))
     step (started s) t proper w = by (is_of w.0 flow s.packet) refl (nat_eq s.packet.packet number) refl
       where
@@ -76,8 +75,6 @@ module _ (number : ℕ) where
             let same = ap (λ b. count_by (λ (x : Accepted). nat_eq x.packet number) (cond b (drop 1 (backlog w.0 flow t)) (backlog w.0 flow t))) e in
             let some = w.1 in
             inl (w.0, omega (arith, same, some))
-    step (lost l f) t proper w = inl (w.0, w.1)
-    step (refused l f) t proper w = inl (w.0, w.1)
     step (discarded f) t proper w = by (nat_eq f flow) refl
       where
         by : (b : Bool) → nat_eq f flow ≡ b → Fate (discarded f ∷ t)
@@ -86,20 +83,16 @@ module _ (number : ℕ) where
             let same = ap (λ b. count_by (λ (x : Accepted). nat_eq x.packet number) (cond b [] (backlog w.0 flow t))) e in
             let some = w.1 in
             inl (w.0, omega (arith, same, some))
-    step (collected m) t proper w = inl (w.0, w.1)
+    step _ t proper w = inl (w.0, w.1)
 
     pub fates : (f t : List Event) → IsProper (f ++ t) → Waits number flow t → Fate (f ++ t)
     fates [] t proper w = inl w
     fates (e ∷ f) t proper w = later e (f ++ t) (step e (f ++ t) proper) (fates f t (tail e (f ++ t) proper) w)
       where
         tail : (e : Event) (t : List Event) → IsProper (e ∷ t) → IsProper t
-        tail (opened l) t h = h
         tail (arrived p) t h = h.1
         tail (started s) t h = h.2
-        tail (lost l n) t h = h
-        tail (refused l n) t h = h
-        tail (discarded n) t h = h
-        tail (collected m) t h = h
+        tail _ t h = h
 
 -- At its arrival a packet waits.
 arrives-waiting : (p : Accepted) (t : List Event) → Waits p.packet p.stamped.flow (arrived p ∷ t)

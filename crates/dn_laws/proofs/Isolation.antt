@@ -15,7 +15,7 @@ use Rattle.dn_types.specs.SharedLinks.{waiting, opening, virtual_time}
 use Rattle.dn_types.specs.Starts.{settled, start_at}
 use Rattle.dn_types.specs.Trace.{Link, link_eq, pipe_of, Accepted, Event, opened, arrived, started, discarded, backlog}
 use Rattle.dn_types.specs.declared.call.Call.{Call}
-use Rattle.dn_types.specs.declared.call.Call.TheVariants.{Configure, Submit, Advance, Collect, Show}
+use Rattle.dn_types.specs.declared.call.Call.TheVariants.{Configure, Submit, Advance}
 use Rattle.dn_types.specs.declared.command.Command.{Command}
 use Rattle.dn_types.specs.declared.command.Command.TheVariants.{Pipe, Queue, DeletePipe, DeleteQueue}
 use Rattle.dn_types.specs.declared.flow_key.FlowKey.{FlowKey}
@@ -93,10 +93,7 @@ false-if false h = refl
 
 pub only-commands-count : (calls : List Call) (c : Call) (target : Target) → ((command : Command) → c ≢ Configure command) → settings (c ∷ calls) target ≡ settings calls target
 only-commands-count calls (Configure command) target other = absurd (other command refl)
-only-commands-count calls (Submit to packet moment) target other = refl
-only-commands-count calls (Advance moment) target other = refl
-only-commands-count calls (Collect moment) target other = refl
-only-commands-count calls Show target other = refl
+only-commands-count calls _ target other = refl
 
 pub queue-delete-spares : (calls : List Call) (number : ℕ) (link : Link) (before behind : List FlowKey) (key : FlowKey) → keys calls ≡ before ++ key ∷ behind →
     key.target ≢ ToQueue number → backlog link (length before) (trace_of (Configure (DeleteQueue number) ∷ calls)) ≡ backlog link (length before) (trace_of calls)

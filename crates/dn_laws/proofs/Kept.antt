@@ -6,7 +6,7 @@ use Rattle.dn_laws.specs.Explained.{IsDueBy}
 use Rattle.dn_laws.specs.KeptLaws.{IsNoStart, IsNoOpening}
 use Rattle.dn_types.specs.Links.{free, last_due, arrival_time, due_by}
 use Rattle.dn_types.specs.SharedLinks.{virtual_time, link_heads}
-use Rattle.dn_types.specs.Trace.{Link, link_eq, Start, Event, opened, arrived, started, lost, refused, discarded, collected}
+use Rattle.dn_types.specs.Trace.{Link, link_eq, Start, Event, opened, started}
 use Rattle.dn_types.specs.Wf2q.{grown}
 use Rattle.dn_types.specs.declared.rule.Rule.{Rule}
 use Rattle.dn_types.specs.declared.rule.Rule.TheVariants.{Free, Ordered}
@@ -23,12 +23,7 @@ module _ (rule : Rule) (link : Link) where
     where
       one : (e : Event) → IsNoStart link e → free link (e ∷ later ++ earlier) ≡ free link (later ++ earlier)
       one (started s) h = ap {B = ℕ} (λ b. cond b (s.moment + s.transmission) (free link (later ++ earlier))) (other s h)
-      one (opened l) h = refl
-      one (arrived p) h = refl
-      one (lost l f) h = refl
-      one (refused l f) h = refl
-      one (discarded f) h = refl
-      one (collected m) h = refl
+      one _ h = refl
 
   due-kept : (later earlier : List Event) → All (IsNoStart link) later → last_due rule link (later ++ earlier) ≡ last_due rule link earlier
   due-kept [] earlier h = refl
@@ -36,12 +31,7 @@ module _ (rule : Rule) (link : Link) where
     where
       one : (e : Event) → IsNoStart link e → last_due rule link (e ∷ later ++ earlier) ≡ last_due rule link (later ++ earlier)
       one (started s) h = ap {B = ℕ} (λ b. cond b (due_by rule (arrival_time s) (last_due rule link (later ++ earlier))) (last_due rule link (later ++ earlier))) (other s h)
-      one (opened l) h = refl
-      one (arrived p) h = refl
-      one (lost l f) h = refl
-      one (refused l f) h = refl
-      one (discarded f) h = refl
-      one (collected m) h = refl
+      one _ h = refl
 
   virtual-kept : (later earlier : List Event) → All (IsNoStart link) later → All (IsNoOpening link) later → virtual_time link (later ++ earlier) ≡ virtual_time link earlier
   virtual-kept [] earlier h k = refl
@@ -53,11 +43,7 @@ module _ (rule : Rule) (link : Link) where
       one (started s) h k = ap {B = ℕ} (λ b. cond b (grown (virtual_time link (later ++ earlier)) (link_heads link (later ++ earlier)) s.packet.stamped.len)
           (virtual_time link (later ++ earlier))) (other s h)
       one (opened l) h k = ap {B = ℕ} (λ b. cond b 0 (virtual_time link (later ++ earlier))) (false-if (link_eq l link) (λ same. k (link_eq-true l link same)))
-      one (arrived p) h k = refl
-      one (lost l f) h k = refl
-      one (refused l f) h k = refl
-      one (discarded f) h k = refl
-      one (collected m) h k = refl
+      one _ h k = refl
 
   none-after : (later : List Event) → later ++ [] ≡ later
   none-after [] = refl

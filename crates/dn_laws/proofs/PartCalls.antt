@@ -18,7 +18,7 @@ use Rattle.dn_types.specs.Wf2q.{scaled, start_tag_on_arrival}
 use Rattle.dn_types.specs.declared.call.Call.{Call}
 use Rattle.dn_types.specs.declared.call.Call.TheVariants.{Configure, Submit, Advance, Collect, Show}
 use Rattle.dn_types.specs.declared.command.Command.{Command}
-use Rattle.dn_types.specs.declared.command.Command.TheVariants.{Pipe, Queue, DeletePipe, DeleteQueue}
+use Rattle.dn_types.specs.declared.command.Command.TheVariants.{Queue}
 use Rattle.dn_types.specs.declared.flow_key.FlowKey.{FlowKey}
 use Rattle.dn_types.specs.declared.packet.Packet.{Packet}
 use Rattle.dn_types.specs.declared.reply.Reply.{Reply}
@@ -45,15 +45,10 @@ module _ (chosen : Choice) where
 
   pub queues-on : (calls : List Call) → queue_numbers (calls_on chosen calls) ≡ queue_numbers calls
   queues-on [] = refl
-  queues-on (Configure (Pipe number bw delay limit loss buckets mask) ∷ calls) = queues-on calls
   queues-on (Configure (Queue number carrier weight limit loss buckets mask) ∷ calls) = ap (λ (qs : List ℕ). number ∷ qs) (queues-on calls)
-  queues-on (Configure (DeletePipe number) ∷ calls) = queues-on calls
-  queues-on (Configure (DeleteQueue number) ∷ calls) = queues-on calls
   queues-on (Submit target packet moment ∷ calls) =
       queues-submit target packet moment (is_carried chosen target packet.tuple (treatment (settings calls target))) (calls_on chosen calls) ∙ queues-on calls
-  queues-on (Advance moment ∷ calls) = queues-on calls
-  queues-on (Collect moment ∷ calls) = queues-on calls
-  queues-on (Show ∷ calls) = queues-on calls
+  queues-on (_ ∷ calls) = queues-on calls
 
   settings-submit : (target : Target) (packet : Packet) (moment : ℕ) (b : Bool) (cs : List Call) → settings (cond b (Submit target packet moment) (Advance moment) ∷ cs) ≡ settings cs
   settings-submit target packet moment true cs = λ i t. settings cs t
@@ -67,9 +62,7 @@ module _ (chosen : Choice) where
       λ i t. cond (target_eq (subject command) t) (setting_after (command_reply (s i) (q i) command) command (s i t)) (s i t)
   settings-on (Submit target packet moment ∷ calls) = settings-submit target packet moment
       (is_carried chosen target packet.tuple (treatment (settings calls target))) (calls_on chosen calls) ∙ settings-on calls ∙ (λ i t. settings calls t)
-  settings-on (Advance moment ∷ calls) = (λ i t. settings (calls_on chosen calls) t) ∙ settings-on calls ∙ (λ i t. settings calls t)
-  settings-on (Collect moment ∷ calls) = (λ i t. settings (calls_on chosen calls) t) ∙ settings-on calls ∙ (λ i t. settings calls t)
-  settings-on (Show ∷ calls) = (λ i t. settings (calls_on chosen calls) t) ∙ settings-on calls ∙ (λ i t. settings calls t)
+  settings-on (_ ∷ calls) = (λ i t. settings (calls_on chosen calls) t) ∙ settings-on calls ∙ (λ i t. settings calls t)
 
   moment-submit : (target : Target) (packet : Packet) (moment : ℕ) (b : Bool) (cs : List Call)
       → effective_moment (cond b (Submit target packet moment) (Advance moment) ∷ cs) ≡ max (effective_moment cs) moment
@@ -149,10 +142,7 @@ module _ (chosen : Choice) where
       keys-submit target packet moment (treatment (settings calls target))
       (calls_on chosen calls) (keys calls) (ap (λ (s : Settings). treatment (s target)) (settings-on calls)) (keys-on calls)
       (is_carried chosen target packet.tuple (treatment (settings calls target))) refl
-  keys-on (Configure command ∷ calls) = keys-on calls
-  keys-on (Advance moment ∷ calls) = keys-on calls
-  keys-on (Collect moment ∷ calls) = keys-on calls
-  keys-on (Show ∷ calls) = keys-on calls
+  keys-on (_ ∷ calls) = keys-on calls
 
   -- ---- Places of keys
 
@@ -232,13 +222,8 @@ module _ (chosen : Choice) where
 
     taken-suffix : (taken : ℕ → Bool) (later t : List Event) → AreTaken taken (later ++ t) → AreTaken taken t
     taken-suffix taken [] t h = h
-    taken-suffix taken (opened l ∷ later) t h = taken-suffix taken later t h
     taken-suffix taken (arrived q ∷ later) t h = taken-suffix taken later t h.1
-    taken-suffix taken (started s ∷ later) t h = taken-suffix taken later t h
-    taken-suffix taken (lost l f ∷ later) t h = taken-suffix taken later t h
-    taken-suffix taken (refused l f ∷ later) t h = taken-suffix taken later t h
-    taken-suffix taken (discarded f ∷ later) t h = taken-suffix taken later t h
-    taken-suffix taken (collected m ∷ later) t h = taken-suffix taken later t h
+    taken-suffix taken (_ ∷ later) t h = taken-suffix taken later t h
 
     pub taken-before : (taken : ℕ → Bool) (calls : List Call) (c : Call) → AreTaken taken (trace_of (c ∷ calls)) → AreTaken taken (trace_of calls)
     taken-before taken calls c h = let adds = events-stay calls c in taken-suffix taken adds.0 (trace_of calls) (subst (AreTaken taken) adds.1 h)
@@ -289,7 +274,6 @@ module _ (chosen : Choice) where
 
     pub all-taken : (t : List Event) → IsProper t → AreTaken (is_packet_on chosen mine t) t
     all-taken [] h = tt
-    all-taken (opened l ∷ t) h = all-taken t h
     all-taken (arrived q ∷ t) h = (here, taken-same (is_packet_on chosen mine t) (is_packet_on chosen mine (arrived q ∷ t)) t h.1 before (all-taken t h.1))
       where
         or-none : (b : Bool) → (b || false) ≡ b
@@ -310,10 +294,7 @@ module _ (chosen : Choice) where
             let apart : nat_eq q.packet n ≡ false = grind (arith, nat_tests) in
             sym (ap (λ b. b && is_link_on chosen mine q.link || is_packet_on chosen mine t n) apart)
     all-taken (started s ∷ t) h = all-taken t h.2
-    all-taken (lost l f ∷ t) h = all-taken t h
-    all-taken (refused l f ∷ t) h = all-taken t h
-    all-taken (discarded f ∷ t) h = all-taken t h
-    all-taken (collected m ∷ t) h = all-taken t h
+    all-taken (_ ∷ t) h = all-taken t h
 
   -- ---- What calls make happen
 

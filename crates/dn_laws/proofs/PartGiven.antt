@@ -75,13 +75,9 @@ sorted-filter test (d ∷ ds) h = by (test d) (sorted-filter test ds h.1)
 
 undelivered-sorted : (rule : Rule) (t : List Event) → AreSorted (undelivered rule t)
 undelivered-sorted rule [] = tt
-undelivered-sorted rule (opened l ∷ t) = undelivered-sorted rule t
-undelivered-sorted rule (arrived p ∷ t) = undelivered-sorted rule t
 undelivered-sorted rule (started s ∷ t) = sorted-with (delivery_of rule s (last_due rule s.packet.link t)) (undelivered rule t) (undelivered-sorted rule t)
-undelivered-sorted rule (lost l f ∷ t) = undelivered-sorted rule t
-undelivered-sorted rule (refused l f ∷ t) = undelivered-sorted rule t
-undelivered-sorted rule (discarded f ∷ t) = undelivered-sorted rule t
 undelivered-sorted rule (collected at ∷ t) = sorted-filter (λ d. nat_lt at d.due) (undelivered rule t) (undelivered-sorted rule t)
+undelivered-sorted rule (_ ∷ t) = undelivered-sorted rule t
 
 -- ---- Some of the deliveries
 
@@ -208,13 +204,10 @@ module _ (chosen : Choice) (mine taken : ℕ → Bool) where
 
   backlog-numbered : (l : Link) (f : ℕ) (t : List Event) → AreTaken chosen mine taken t → All IsNumbered (backlog l f t)
   backlog-numbered l f [] h = All-nil IsNumbered
-  backlog-numbered l f (opened k ∷ t) h = backlog-numbered l f t h
   backlog-numbered l f (arrived q ∷ t) h = push-numbered (is_of l f q) (backlog l f t) q h.0 (backlog-numbered l f t h.1)
   backlog-numbered l f (started s ∷ t) h = drop-numbered (is_of l f s.packet) (backlog l f t) (backlog-numbered l f t h)
-  backlog-numbered l f (lost k g ∷ t) h = backlog-numbered l f t h
-  backlog-numbered l f (refused k g ∷ t) h = backlog-numbered l f t h
   backlog-numbered l f (discarded g ∷ t) h = clear-numbered (nat_eq g f) (backlog l f t) (backlog-numbered l f t h)
-  backlog-numbered l f (collected at ∷ t) h = backlog-numbered l f t h
+  backlog-numbered l f (_ ∷ t) h = backlog-numbered l f t h
 
   first-numbered : (p : Accepted) (ps : List Accepted) → slice_get ps 0 ≡ Some p → All IsNumbered ps → IsNumbered p
   first-numbered p [] e all = absurd cc

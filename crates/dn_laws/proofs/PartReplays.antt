@@ -81,10 +81,7 @@ module _ (rule : Rule) (chosen : Choice) where
   own-commands : (calls : List Call) → AreCommands calls → own calls ≡ less calls
   own-commands [] h = refl
   own-commands (Configure command ∷ calls) h = ap (λ (cs : List Call). Configure command ∷ cs) (own-commands calls h)
-  own-commands (Submit target packet moment ∷ calls) h = absurd h
-  own-commands (Advance moment ∷ calls) h = absurd h
-  own-commands (Collect moment ∷ calls) h = absurd h
-  own-commands (Show ∷ calls) h = absurd h
+  own-commands (_ ∷ calls) h = absurd h
 
   all-told : (calls : List Call) → AreCommands calls → length calls ≤ call_limit → replies rule (less calls) ≡ filter is_told (replies rule (less calls))
   all-told [] h few = refl
@@ -93,10 +90,7 @@ module _ (rule : Rule) (chosen : Choice) where
       let one = counts rule (less calls) (Configure command) (let n = length-on chosen calls in omega (arith, n, few)) in
       let told = ap is_told one ∙ told-command (settings (less calls)) (queue_numbers (less calls)) command in
       ap (λ (rs : List Reply). reply rule (less calls) (Configure command) ∷ rs) rest ∙ sym (keep rule (reply rule (less calls) (Configure command)) (replies rule (less calls)) told)
-  all-told (Submit target packet moment ∷ calls) h few = absurd h
-  all-told (Advance moment ∷ calls) h few = absurd h
-  all-told (Collect moment ∷ calls) h few = absurd h
-  all-told (Show ∷ calls) h few = absurd h
+  all-told (_ ∷ calls) h few = absurd h
 
   -- ---- How two lists stand to each other
 
@@ -192,9 +186,7 @@ module _ (rule : Rule) (chosen : Choice) where
           (cond b (Submit target packet moment) (Advance moment) ∷ less calls) (max (effective_moment calls) moment)
       by true rest = submit-behind (own calls) (less calls) (effective_moment calls) target packet moment rest below
       by false rest = advance-behind (own calls) (less calls) (effective_moment calls) moment rest below
-  packets-behind (Advance moment ∷ calls) h few = absurd h
-  packets-behind (Collect moment ∷ calls) h few = absurd h
-  packets-behind (Show ∷ calls) h few = absurd h
+  packets-behind (_ ∷ calls) h few = absurd h
 
   collect-told : (mine whole : List Call) (clock moment : ℕ) → IsBehind mine whole clock → length whole < call_limit →
       replies rule (Collect (max clock moment) ∷ mine) ≡ filter is_told (replies rule (Collect moment ∷ whole))

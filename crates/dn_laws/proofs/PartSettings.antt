@@ -148,10 +148,7 @@ no-trace (Configure command ∷ calls) h =
     none : (r : Reply) → after_command r command [] [] ≡ []
     none Deleted = refl
     none _ = refl
-no-trace (Submit target packet moment ∷ calls) h = absurd h
-no-trace (Advance moment ∷ calls) h = absurd h
-no-trace (Collect moment ∷ calls) h = absurd h
-no-trace (Show ∷ calls) h = absurd h
+no-trace (_ ∷ calls) h = absurd h
 
 -- ---- Packets
 
@@ -254,9 +251,7 @@ module _ (rule : Rule) (pipe : ℕ) where
     λ on. after-links (reply_to_command calls command) command (keys calls) (trace_of calls) on,
   )
   untimed Show calls h = (refl, refl, omega arith, λ on. on)
-  untimed (Submit target packet moment) calls h = absurd h
-  untimed (Advance moment) calls h = absurd h
-  untimed (Collect moment) calls h = absurd h
+  untimed _ calls h = absurd h
 
   untimed-same : (c d : Call) (mine theirs : List Call) → IsUntimed c → IsUntimed d → emptied mine c ≡ emptied theirs d
       → settings (c ∷ mine) (ToPipe pipe) ≡ settings (d ∷ theirs) (ToPipe pipe) → AreSame mine theirs →
@@ -285,10 +280,7 @@ module _ (rule : Rule) (pipe : ℕ) where
   matched-same (Show ∷ mine) (d ∷ theirs) h = untimed-same Show d mine theirs tt h.0 h.1 h.2 (matched-same mine theirs h.3)
   matched-same [] (d ∷ theirs) h = absurd h
   matched-same (Submit target packet moment ∷ mine) [] h = absurd h
-  matched-same (Advance moment ∷ mine) [] h = absurd h
-  matched-same (Collect moment ∷ mine) [] h = absurd h
-  matched-same (Configure command ∷ mine) [] h = absurd h
-  matched-same (Show ∷ mine) [] h = absurd h
+  matched-same (_ ∷ mine) [] h = absurd h
 
 pub commands-act-by-force : (pipe : ℕ) (calls others : List Call) → AreMatched pipe (calls_on (of_pipe pipe) calls) (calls_on (of_pipe pipe) others)
     → part_of (of_pipe pipe) calls ≡ part_of (of_pipe pipe) others
@@ -323,9 +315,7 @@ module _ (rule : Rule) (pipe : ℕ) (commands others : List Call) (commands_are 
   forces old [] h = refl
   forces old (Submit target packet moment ∷ packets) h = (λ i t. settings (packets ++ old) t) ∙ forces old packets h.2
   forces old (Collect moment ∷ packets) h = (λ i t. settings (packets ++ old) t) ∙ forces old packets h
-  forces old (Configure command ∷ packets) h = absurd h
-  forces old (Advance moment ∷ packets) h = absurd h
-  forces old (Show ∷ packets) h = absurd h
+  forces old (_ ∷ packets) h = absurd h
 
   answered : (mine theirs : List Call) (c : Call) → length mine < call_limit → length theirs < call_limit
       → counted_reply rule mine c ≡ counted_reply rule theirs c → reply rule mine c ≡ reply rule theirs c
@@ -349,9 +339,7 @@ module _ (rule : Rule) (pipe : ℕ) (commands others : List Call) (commands_are 
       let told = answered (packets ++ commands) (packets ++ others) (Collect moment) (omega (arith, few)) (omega (arith, less)) one.1 in
       let older = rest.1 in
       (one.0, (λ i. told i ∷ older i))
-  all-same (Configure command ∷ packets) h few less = absurd h
-  all-same (Advance moment ∷ packets) h few less = absurd h
-  all-same (Show ∷ packets) h few less = absurd h
+  all-same (_ ∷ packets) h few less = absurd h
 
 pub parts-rest-on-their-pipe : (rule : Rule) (pipe : ℕ) (commands others packets : List Call) → AreCommands commands → AreCommands others →
     settings commands (ToPipe pipe) ≡ settings others (ToPipe pipe) → AreAlike pipe (settings commands) (settings others) packets →

@@ -38,13 +38,11 @@ module _ (chosen : Choice) (mine taken : ℕ → Bool) where
   -- The flows that pass the test are those on the pipe's links.
   abbrev pub AreFit : List Event → Type 0
   AreFit [] = ⊤
-  AreFit (opened l ∷ t) = AreFit t
   AreFit (arrived q ∷ t) = IsFit q.link q.stamped.flow × AreFit t
   AreFit (started s ∷ t) = IsFit s.packet.link s.packet.stamped.flow × AreFit t
   AreFit (lost l f ∷ t) = IsFit l f × AreFit t
   AreFit (refused l f ∷ t) = IsFit l f × AreFit t
-  AreFit (discarded f ∷ t) = AreFit t
-  AreFit (collected at ∷ t) = AreFit t
+  AreFit (_ ∷ t) = AreFit t
 
   abbrev pub link' : Link → Link
   link' l = link_by (place mine) l

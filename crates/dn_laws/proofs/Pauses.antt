@@ -18,7 +18,7 @@ use Rattle.dn_types.specs.Starts.{start_at}
 use Rattle.dn_types.specs.Trace.{Link, link_eq, Accepted, Start, Event, opened, arrived, started, lost, refused, discarded, collected, is_of, backlog, is_arrival, accepted_count}
 use Rattle.dn_laws.specs.WaitLaws.{starting, sending, LinksMakeNoPause}
 use Rattle.dn_types.specs.declared.call.Call.{Call}
-use Rattle.dn_types.specs.declared.call.Call.TheVariants.{Configure, Submit, Advance, Collect, Show}
+use Rattle.dn_types.specs.declared.call.Call.TheVariants.{Submit, Advance}
 use Rattle.dn_types.specs.declared.packet.Packet.{Packet}
 use Rattle.dn_types.specs.declared.reply.Reply.TheVariants.{Queued, Lost, Full, NoTarget, Exhausted}
 use Rattle.dn_types.specs.declared.rule.Rule.{Rule}
@@ -51,10 +51,6 @@ IsUnpaused (_ ∷ trace) = IsUnpaused trace
 -- A link that is free at the moment of a packet had none that waited.
 none-waited : (calls : List Call) (c : Call) (p : Accepted) (older : List Event) → IsTaken calls c p older → free p.link (older ++ trace_of calls) ≤ effective_moment (c ∷ calls) →
     (flow : ℕ) → backlog p.link flow (older ++ trace_of calls) ≡ []
-none-waited calls (Configure command) p older h soon flow = absurd h
-none-waited calls (Advance moment) p older h soon flow = absurd h
-none-waited calls (Collect moment) p older h soon flow = absurd h
-none-waited calls Show p older h soon flow = absurd h
 none-waited calls (Submit target packet moment) p older h soon flow = empty (backlog p.link flow (older ++ trace_of calls)) refl
   where
     empty : (q : List Accepted) → backlog p.link flow (older ++ trace_of calls) ≡ q → backlog p.link flow (older ++ trace_of calls) ≡ []
@@ -73,6 +69,7 @@ none-waited calls (Submit target packet moment) p older h soon flow = empty (bac
         let long : 0 < length (backlog p.link flow (trace_of (Advance moment ∷ calls))) = let n = ap (λ (xs : List Accepted). length xs) (sym same_queue ∙ sym parts_queue ∙ e) in omega (arith, n) in
         let busy = busy-link (Advance moment ∷ calls) p.link flow long in
         absurd (omega (arith, busy, parts_free, same_free, soon))
+none-waited calls _ p older h soon flow = absurd h
 
 unpaused-added : (calls : List Call) (c : Call) (f : List Event) → AllEvents (IsCaused calls c) (trace_of calls) f → IsProper (f ++ trace_of calls) → IsUnpaused (trace_of calls) →
     IsUnpaused (f ++ trace_of calls)
@@ -92,11 +89,7 @@ unpaused-added calls c (started s ∷ f) all proper old = (
         let there = ap (λ (t : List Event). free s.packet.link t) parts in
         (older ++ trace_of calls, parts, none-waited calls c s.packet older all'.0 (omega (arith, at, there, soon)))
 unpaused-added calls c (arrived p ∷ f) all proper old = unpaused-added calls c f all.1 proper.1 old
-unpaused-added calls c (opened l ∷ f) all proper old = unpaused-added calls c f all.1 proper old
-unpaused-added calls c (lost l n ∷ f) all proper old = unpaused-added calls c f all.1 proper old
-unpaused-added calls c (refused l n ∷ f) all proper old = unpaused-added calls c f all.1 proper old
-unpaused-added calls c (discarded n ∷ f) all proper old = unpaused-added calls c f all.1 proper old
-unpaused-added calls c (collected m ∷ f) all proper old = unpaused-added calls c f all.1 proper old
+unpaused-added calls c (_ ∷ f) all proper old = unpaused-added calls c f all.1 proper old
 
 trace-unpaused : (calls : List Call) → IsUnpaused (trace_of calls)
 trace-unpaused [] = tt
@@ -106,13 +99,8 @@ trace-unpaused (c ∷ calls) =
 
 suffix-unpaused : (later earlier : List Event) → IsUnpaused (later ++ earlier) → IsUnpaused earlier
 suffix-unpaused [] earlier h = h
-suffix-unpaused (opened l ∷ later) earlier h = suffix-unpaused later earlier h
-suffix-unpaused (arrived p ∷ later) earlier h = suffix-unpaused later earlier h
 suffix-unpaused (started s ∷ later) earlier h = suffix-unpaused later earlier h.1
-suffix-unpaused (lost l f ∷ later) earlier h = suffix-unpaused later earlier h
-suffix-unpaused (refused l f ∷ later) earlier h = suffix-unpaused later earlier h
-suffix-unpaused (discarded f ∷ later) earlier h = suffix-unpaused later earlier h
-suffix-unpaused (collected at ∷ later) earlier h = suffix-unpaused later earlier h
+suffix-unpaused (_ ∷ later) earlier h = suffix-unpaused later earlier h
 
 -- ---- While a packet waits
 

@@ -6,7 +6,7 @@ use Rattle.dn_laws.specs.Explained.{sent}
 use Rattle.dn_types.specs.Flows.{keys}
 use Rattle.dn_laws.specs.PacketLaws.{is_of_queues, sent_by_queues}
 use Rattle.dn_laws.specs.RateLaws.{StaysInForce}
-use Rattle.dn_types.specs.Trace.{Link, shared, link_eq, pipe_of, Start, Event, opened, arrived, started, lost, refused, discarded, collected}
+use Rattle.dn_types.specs.Trace.{Link, shared, link_eq, pipe_of, Start, Event, arrived, started}
 use Rattle.dn_types.specs.declared.call.Call.{Call}
 use Rattle.dn_types.specs.declared.command.Command.TheVariants.{Pipe}
 use Rattle.dn_types.specs.declared.flow_key.FlowKey.{FlowKey}
@@ -23,12 +23,7 @@ use Rattle.dn_types.proofs.Settled.{link_eq-true}
 suffix-homes : (known : List FlowKey) (later earlier : List Event) → HaveHomes known (later ++ earlier) → HaveHomes known earlier
 suffix-homes known [] earlier h = h
 suffix-homes known (arrived p ∷ later) earlier h = suffix-homes known later earlier h.1
-suffix-homes known (opened l ∷ later) earlier h = suffix-homes known later earlier h
-suffix-homes known (started s ∷ later) earlier h = suffix-homes known later earlier h
-suffix-homes known (lost l f ∷ later) earlier h = suffix-homes known later earlier h
-suffix-homes known (refused l f ∷ later) earlier h = suffix-homes known later earlier h
-suffix-homes known (discarded f ∷ later) earlier h = suffix-homes known later earlier h
-suffix-homes known (collected m ∷ later) earlier h = suffix-homes known later earlier h
+suffix-homes known (_ ∷ later) earlier h = suffix-homes known later earlier h
 
 module _ (number : ℕ) (known : List FlowKey) where
   -- A packet is on the pipe's shared link where its flow is of a queue on the pipe.
@@ -48,11 +43,7 @@ module _ (number : ℕ) (known : List FlowKey) where
       ap {B = ℕ} (λ b. cond b s.packet.stamped.len 0) same in
       omega (arith, more, one)
   same-sent (arrived p ∷ f) rest proper h = same-sent f rest proper.1 h.1
-  same-sent (opened l ∷ f) rest proper h = same-sent f rest proper h
-  same-sent (lost l n ∷ f) rest proper h = same-sent f rest proper h
-  same-sent (refused l n ∷ f) rest proper h = same-sent f rest proper h
-  same-sent (discarded n ∷ f) rest proper h = same-sent f rest proper h
-  same-sent (collected m ∷ f) rest proper h = same-sent f rest proper h
+  same-sent (_ ∷ f) rest proper h = same-sent f rest proper h
 
 assoc : (xs ys zs : List Event) → (xs ++ ys) ++ zs ≡ xs ++ (ys ++ zs)
 assoc [] ys zs = refl

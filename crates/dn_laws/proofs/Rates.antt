@@ -5,7 +5,7 @@ use Rattle.std.proofs.Math.Nat.{add-mul, mul-le-mul_right}
 use Rattle.dn_types.specs.Calls.{trace_of}
 use Rattle.dn_laws.specs.Explained.{sent, IsAtBandwidth}
 use Rattle.dn_types.specs.Links.{free, transmission_time}
-use Rattle.dn_types.specs.Trace.{Link, link_eq, Start, Event, opened, arrived, started, lost, refused, discarded, collected}
+use Rattle.dn_types.specs.Trace.{Link, link_eq, Start, Event, arrived, started}
 use Rattle.dn_types.specs.declared.call.Call.{Call}
 use Rattle.dn_types.proofs.Fifo.{IsProper}
 use Rattle.dn_types.proofs.Ordered.{trace-proper, suffix-proper}
@@ -15,7 +15,6 @@ use Rattle.dn_types.proofs.TransmissionTime.{transmission-is-least}
 -- A link is free later and later.
 pub free-later : (link : Link) (stretch earlier : List Event) → IsProper (stretch ++ earlier) → free link earlier ≤ free link (stretch ++ earlier)
 free-later link [] earlier h = omega arith
-free-later link (opened l ∷ stretch) earlier h = free-later link stretch earlier h
 free-later link (arrived p ∷ stretch) earlier h = free-later link stretch earlier h.1
 free-later link (started s ∷ stretch) earlier h = by (link_eq s.packet.link link) refl (free-later link stretch earlier h.2)
   where
@@ -23,10 +22,7 @@ free-later link (started s ∷ stretch) earlier h = by (link_eq s.packet.link li
         free link earlier ≤ cond b (s.moment + s.transmission) (free link (stretch ++ earlier))
     by true e rest = let same = ap (λ (l : Link). free l (stretch ++ earlier)) (link_eq-true s.packet.link link e) in let soon = h.1 in omega arith
     by false e rest = rest
-free-later link (lost l f ∷ stretch) earlier h = free-later link stretch earlier h
-free-later link (refused l f ∷ stretch) earlier h = free-later link stretch earlier h
-free-later link (discarded f ∷ stretch) earlier h = free-later link stretch earlier h
-free-later link (collected at ∷ stretch) earlier h = free-later link stretch earlier h
+free-later link (_ ∷ stretch) earlier h = free-later link stretch earlier h
 
 free-after : (r : Start) (earlier : List Event) → free r.packet.link (started r ∷ earlier) ≡ r.moment + r.transmission
 free-after r earlier = ap {B = ℕ} (λ b. cond b (r.moment + r.transmission) (free r.packet.link earlier)) (link_eq-refl r.packet.link)
@@ -63,7 +59,6 @@ module _ (bw : ℕ) (some : 0 < bw) (r : Start) (earlier : List Event) where
       let product : free r.packet.link (started r ∷ earlier) * bw ≡ (r.moment + r.transmission) * bw = ap {B = ℕ} (λ t. t * bw) (free-after r earlier) in
       let sum = add-mul r.moment r.transmission bw in
       omega arith
-  by-free (opened l ∷ between) h at = by-free between h at
   by-free (arrived p ∷ between) h at = by-free between h.1 at
   by-free (started s ∷ between) h at = by (link_eq s.packet.link r.packet.link) refl (by-free between h.2 at.1)
     where
@@ -79,10 +74,7 @@ module _ (bw : ℕ) (some : 0 < bw) (r : Start) (earlier : List Event) where
           let sum = add-mul s.moment s.transmission bw in
           omega arith
       by false e rest = omega (arith, rest)
-  by-free (lost l f ∷ between) h at = by-free between h at
-  by-free (refused l f ∷ between) h at = by-free between h at
-  by-free (discarded f ∷ between) h at = by-free between h at
-  by-free (collected m ∷ between) h at = by-free between h at
+  by-free (_ ∷ between) h at = by-free between h at
 
 pub keeps-the-rate : (calls : List Call) (later between earlier : List Event) (s r : Start) (bw : ℕ) → trace_of calls ≡ later ++ started s ∷ between ++ started r ∷ earlier →
     s.packet.link ≡ r.packet.link → 0 < bw → IsAtBandwidth bw r.packet.link (between ++ started r ∷ []) →

@@ -84,13 +84,10 @@ module _ (link : Link) (flow : ℕ) where
   )
     where
       still : (e : Event) (trace : List Event) → IsElsewhere link flow e → backlog link flow (e ∷ trace) ≡ backlog link flow trace
-      still (opened l) trace h = refl
       still (arrived p) trace h = ap (λ b. cond b (backlog link flow trace ++ p ∷ []) (backlog link flow trace)) h
       still (started s) trace h = ap (λ b. cond b (drop 1 (backlog link flow trace)) (backlog link flow trace)) h
-      still (lost l f) trace h = refl
-      still (refused l f) trace h = refl
       still (discarded f) trace h = ap (λ b. cond b [] (backlog link flow trace)) (other-flow f flow h)
-      still (collected m) trace h = refl
+      still _ trace h = refl
 
   arrives : GoesBy link flow (λ ps p. ps ++ p ∷ []) (λ ps p. ps) (accepted_since link flow)
   arrives = (
@@ -102,13 +99,9 @@ module _ (link : Link) (flow : ℕ) where
   )
     where
       still : (e : Event) (trace : List Event) → IsElsewhere link flow e → accepted_since link flow (e ∷ trace) ≡ accepted_since link flow trace
-      still (opened l) trace h = refl
       still (arrived p) trace h = ap (λ b. cond b (accepted_since link flow trace ++ p ∷ []) (accepted_since link flow trace)) h
-      still (started s) trace h = refl
-      still (lost l f) trace h = refl
-      still (refused l f) trace h = refl
       still (discarded f) trace h = ap (λ b. cond b [] (accepted_since link flow trace)) (other-flow f flow h)
-      still (collected m) trace h = refl
+      still _ trace h = refl
 
   starts : GoesBy link flow (λ ps p. ps) (λ ps p. ps ++ p ∷ []) (started_since link flow)
   starts = (
@@ -120,13 +113,9 @@ module _ (link : Link) (flow : ℕ) where
   )
     where
       still : (e : Event) (trace : List Event) → IsElsewhere link flow e → started_since link flow (e ∷ trace) ≡ started_since link flow trace
-      still (opened l) trace h = refl
-      still (arrived p) trace h = refl
       still (started s) trace h = ap (λ b. cond b (started_since link flow trace ++ s.packet ∷ []) (started_since link flow trace)) h
-      still (lost l f) trace h = refl
-      still (refused l f) trace h = refl
       still (discarded f) trace h = ap (λ b. cond b [] (started_since link flow trace)) (other-flow f flow h)
-      still (collected m) trace h = refl
+      still _ trace h = refl
 
 pub queues-are-read : QueuesAreRead
 queues-are-read link flow = (waits link flow, arrives link flow, starts link flow)

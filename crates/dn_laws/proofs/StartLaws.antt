@@ -12,7 +12,7 @@ use Rattle.dn_types.specs.Trace.{Link, shared, Start, Event, arrived, started, p
 use Rattle.dn_types.specs.Wf2q.{pick}
 use Rattle.dn_types.specs.declared.call.Call.{Call}
 use Rattle.dn_types.specs.declared.command.Command.{Command}
-use Rattle.dn_types.specs.declared.command.Command.TheVariants.{Pipe, Queue, DeletePipe, DeleteQueue}
+use Rattle.dn_types.specs.declared.command.Command.TheVariants.{Pipe}
 use Rattle.dn_types.specs.declared.target.Target.TheVariants.{Pipe as ToPipe}
 use Rattle.dn_types.proofs.InForce.{IsKept, IsOfTarget, settings-kept}
 use Rattle.dn_laws.proofs.Begun.{IsBegun, IsCaused, call-causes, adds-among}
@@ -44,9 +44,7 @@ module _ (calls : List Call) (c : Call) (later between : List Event) (s : Start)
 
   by-command : (command : Command) → settings calls (ToPipe (pipe_of s.packet.link)) ≡ Some command → IsPipe command → IsStartBy command s
   by-command (Pipe number bw delay limit loss buckets mask) set is = with-setting (Some (Pipe number bw delay limit loss buckets mask)) begun.configured set
-  by-command (Queue number pipe weight limit loss buckets mask) set is = absurd is
-  by-command (DeletePipe number) set is = absurd is
-  by-command (DeleteQueue number) set is = absurd is
+  by-command _ set is = absurd is
 
 pub starts-as-configured : (calls : List Call) (c : Call) (later between : List Event) (s : Start) → trace_of (c ∷ calls) ≡ later ++ started s ∷ between ++ trace_of calls →
     (command : Command) × (settings calls (ToPipe (pipe_of s.packet.link)) ≡ Some command) × IsStartBy command s
@@ -55,9 +53,7 @@ starts-as-configured calls c later between s e =
   where
     is-pipe : (n : ℕ) (command : Command) → IsOfTarget (ToPipe n) command → IsPipe command
     is-pipe n (Pipe number bw delay limit loss buckets mask) h = tt
-    is-pipe n (Queue number pipe weight limit loss buckets mask) h = absurd h
-    is-pipe n (DeletePipe number) h = absurd h
-    is-pipe n (DeleteQueue number) h = absurd h
+    is-pipe n _ h = absurd h
 
     by : (o : Option Command) → settings calls (ToPipe (pipe_of s.packet.link)) ≡ o → is_some (settings calls (ToPipe (pipe_of s.packet.link))) ≡ true →
         IsKept (ToPipe (pipe_of s.packet.link)) (settings calls (ToPipe (pipe_of s.packet.link))) → (command : Command) × (settings calls (ToPipe (pipe_of s.packet.link)) ≡ Some command)

@@ -10,9 +10,9 @@ use Rattle.dn_types.specs.Calls.{trace_of, link_of}
 use Rattle.dn_laws.specs.FairShare.{EachThatWaits}
 use Rattle.dn_types.specs.Flows.{Treatment, keys, key_of, flow_number}
 use Rattle.dn_types.specs.SharedLinks.{waiting, next_packet, last_finish_tag}
-use Rattle.dn_types.specs.Trace.{Link, link_eq, Accepted, Event, opened, arrived, started, lost, refused, discarded, collected, is_of, backlog, flow_bound}
+use Rattle.dn_types.specs.Trace.{Link, link_eq, Accepted, Event, opened, arrived, started, discarded, is_of, backlog, flow_bound}
 use Rattle.dn_types.specs.declared.call.Call.{Call}
-use Rattle.dn_types.specs.declared.call.Call.TheVariants.{Configure, Submit, Advance, Collect, Show}
+use Rattle.dn_types.specs.declared.call.Call.TheVariants.{Submit}
 use Rattle.dn_laws.proofs.Begun.{IsCaused, IsTaken, AllEvents, call-causes}
 use Rattle.dn_types.proofs.Proper.{total-at}
 use Rattle.dn_types.proofs.Settled.{and-left, link_eq-true}
@@ -36,19 +36,13 @@ sound-taken calls (Submit target packet moment) p f h =
     let flow = flow_number (keys calls) (key_of target packet.tuple how) in
     let t = tagged (link_of target flow how.pipe) packet flow how (f ++ trace_of calls) in
     subst (λ (x : Accepted). IsSound (arrived x) (f ++ trace_of calls)) (sym h.2) (t.behind, (let cost = t.cost in omega arith), t.cost)
-sound-taken calls (Configure command) p f h = absurd h
-sound-taken calls (Advance moment) p f h = absurd h
-sound-taken calls (Collect moment) p f h = absurd h
-sound-taken calls Show p f h = absurd h
+sound-taken calls _ p f h = absurd h
 
 sound-of : (calls : List Call) (c : Call) (e : Event) (f : List Event) → IsCaused calls c e f → IsSound e (f ++ trace_of calls)
 sound-of calls c (opened l) f h = h
 sound-of calls c (arrived p) f h = sound-taken calls c p f h
 sound-of calls c (started s) f h = h.picked
-sound-of calls c (lost l g) f h = tt
-sound-of calls c (refused l g) f h = tt
-sound-of calls c (discarded g) f h = tt
-sound-of calls c (collected at) f h = tt
+sound-of calls c _ f h = tt
 
 steady-more : (calls : List Call) (c : Call) (f : List Event) → AllEvents (IsCaused calls c) (trace_of calls) f → IsSteady (trace_of calls) → IsSteady (f ++ trace_of calls)
 steady-more calls c [] all h = h
@@ -106,14 +100,12 @@ module _ (link : Link) (flow : ℕ) where
       by : (b : Bool) → IsChain (backlog link flow t) (last_finish_tag link flow t) → IsChain (cond b (drop 1 (backlog link flow t)) (backlog link flow t)) (last_finish_tag link flow t)
       by true rest = chain-drop (backlog link flow t) (last_finish_tag link flow t) rest
       by false rest = rest
-  chain (lost l g ∷ t) h = chain t h.1
-  chain (refused l g ∷ t) h = chain t h.1
   chain (discarded g ∷ t) h = by (nat_eq g flow) (chain t h.1)
     where
       by : (b : Bool) → IsChain (backlog link flow t) (last_finish_tag link flow t) → IsChain (cond b [] (backlog link flow t)) (cond b 0 (last_finish_tag link flow t))
       by true rest = tt
       by false rest = rest
-  chain (collected at ∷ t) h = chain t h.1
+  chain (_ ∷ t) h = chain t h.1
 
   -- What holds of each arrival of the flow holds of each packet that waits.
   module _ (Q : Accepted → Type 0) where
@@ -139,26 +131,18 @@ module _ (link : Link) (flow : ℕ) where
 
     pub all-waiting : (t : List Event) → Arrive t → All Q (backlog link flow t)
     all-waiting [] h = none
-    all-waiting (opened l ∷ t) h = all-waiting t h
     all-waiting (arrived p ∷ t) h = push p (backlog link flow t) (is_of link flow p) h.0 (all-waiting t h.1)
     all-waiting (started s ∷ t) h = less (backlog link flow t) (is_of link flow s.packet) (all-waiting t h)
-    all-waiting (lost l g ∷ t) h = all-waiting t h
-    all-waiting (refused l g ∷ t) h = all-waiting t h
     all-waiting (discarded g ∷ t) h = clear (backlog link flow t) (nat_eq g flow) (all-waiting t h)
-    all-waiting (collected at ∷ t) h = all-waiting t h
+    all-waiting (_ ∷ t) h = all-waiting t h
 
   abbrev pub IsPut : Accepted → Type 0
   IsPut p = p.stamped.start_tag ≤ p.stamped.finish_tag
 
   puts : (t : List Event) → IsSteady t → Arrive IsPut t
   puts [] h = tt
-  puts (opened l ∷ t) h = puts t h.1
   puts (arrived p ∷ t) h = (λ e. h.0.1, puts t h.1)
-  puts (started s ∷ t) h = puts t h.1
-  puts (lost l g ∷ t) h = puts t h.1
-  puts (refused l g ∷ t) h = puts t h.1
-  puts (discarded g ∷ t) h = puts t h.1
-  puts (collected at ∷ t) h = puts t h.1
+  puts (_ ∷ t) h = puts t h.1
 
   -- Of each packet that waits the start tag is at most the finish tag.
   pub all-put : (t : List Event) → IsSteady t → All IsPut (backlog link flow t)
@@ -168,29 +152,16 @@ module _ (link : Link) (flow : ℕ) where
   module _ (Q : Accepted → Type 0) where
     pub waits-before : (stretch earlier : List Event) → EachThatWaits Q link flow stretch earlier → All Q (backlog link flow earlier)
     waits-before [] earlier h = h
-    waits-before (opened l ∷ stretch) earlier h = waits-before stretch earlier h
     waits-before (arrived p ∷ stretch) earlier h = waits-before stretch earlier h.1
-    waits-before (started s ∷ stretch) earlier h = waits-before stretch earlier h
-    waits-before (lost l g ∷ stretch) earlier h = waits-before stretch earlier h
-    waits-before (refused l g ∷ stretch) earlier h = waits-before stretch earlier h
-    waits-before (discarded g ∷ stretch) earlier h = waits-before stretch earlier h
-    waits-before (collected at ∷ stretch) earlier h = waits-before stretch earlier h
+    waits-before (_ ∷ stretch) earlier h = waits-before stretch earlier h
 
     pub waits-after : (stretch earlier : List Event) → EachThatWaits Q link flow stretch earlier → All Q (backlog link flow (stretch ++ earlier))
     waits-after [] earlier h = h
-    waits-after (opened l ∷ stretch) earlier h = waits-after stretch earlier h
     waits-after (arrived p ∷ stretch) earlier h = push Q p (backlog link flow (stretch ++ earlier)) (is_of link flow p) h.0 (waits-after stretch earlier h.1)
     waits-after (started s ∷ stretch) earlier h = less Q (backlog link flow (stretch ++ earlier)) (is_of link flow s.packet) (waits-after stretch earlier h)
-    waits-after (lost l g ∷ stretch) earlier h = waits-after stretch earlier h
-    waits-after (refused l g ∷ stretch) earlier h = waits-after stretch earlier h
     waits-after (discarded g ∷ stretch) earlier h = clear Q (backlog link flow (stretch ++ earlier)) (nat_eq g flow) (waits-after stretch earlier h)
-    waits-after (collected at ∷ stretch) earlier h = waits-after stretch earlier h
+    waits-after (_ ∷ stretch) earlier h = waits-after stretch earlier h
 
     pub waits-sooner : (e : Event) (stretch earlier : List Event) → EachThatWaits Q link flow (e ∷ stretch) earlier → EachThatWaits Q link flow stretch earlier
-    waits-sooner (opened l) stretch earlier h = h
     waits-sooner (arrived p) stretch earlier h = h.1
-    waits-sooner (started s) stretch earlier h = h
-    waits-sooner (lost l g) stretch earlier h = h
-    waits-sooner (refused l g) stretch earlier h = h
-    waits-sooner (discarded g) stretch earlier h = h
-    waits-sooner (collected at) stretch earlier h = h
+    waits-sooner _ stretch earlier h = h

@@ -10,7 +10,7 @@ use Rattle.dn_types.specs.Clock.{effective_moment}
 use Rattle.dn_types.specs.Links.{free}
 use Rattle.dn_laws.specs.KeptLaws.{IsApart}
 use Rattle.dn_types.specs.SharedLinks.{waiting, last_finish_tag}
-use Rattle.dn_types.specs.Trace.{Link, link_eq, Accepted, Event, opened, arrived, started, lost, refused, discarded, collected, is_of, backlog, flow_bound}
+use Rattle.dn_types.specs.Trace.{Link, link_eq, Accepted, Event, opened, arrived, discarded, is_of, backlog, flow_bound}
 use Rattle.dn_types.specs.Wf2q.{total}
 use Rattle.dn_types.specs.declared.call.Call.{Call}
 use Rattle.dn_laws.proofs.Begun.{adds-among}
@@ -29,10 +29,7 @@ module _ (link : Link) (flow : ℕ) where
       (false-if (is_of link flow p) (λ mine. h (link_eq-true p.link link (and-left (link_eq p.link link) (nat_eq p.stamped.flow flow) mine))
       (eqb-true p.stamped.flow flow (and-right (link_eq p.link link) (nat_eq p.stamped.flow flow) mine))))
   left (discarded f) t h = ap {B = ℕ} (λ b. cond b 0 (last_finish_tag link flow t)) (false-if (nat_eq f flow) (λ same. h (eqb-true f flow same)))
-  left (started s) t h = refl
-  left (lost l f) t h = refl
-  left (refused l f) t h = refl
-  left (collected m) t h = refl
+  left _ t h = refl
 
   all-left : (later t : List Event) → All (IsApart link flow) later → last_finish_tag link flow (later ++ t) ≡ last_finish_tag link flow t
   all-left [] t h = refl

@@ -56,9 +56,7 @@ counted-answered rule calls (Submit target packet moment) e =
     let at = max (effective_moment calls) moment in
     let before = settled (settings calls) at (trace_of calls) in
     verdict-answered at (verdict calls target packet before) before e
-counted-answered rule calls (Advance moment) e = absurd cc
-counted-answered rule calls (Collect moment) e = absurd cc
-counted-answered rule calls Show e = absurd cc
+counted-answered rule calls _ e = absurd cc
 
 pub limit-is-counted : (rule : Rule) (calls : List Call) (c : Call) →
     (length calls < 2 ^ 62 → reply rule calls c ≢ Exhausted) × (2 ^ 62 ≤ length calls → reply rule calls c ≡ Exhausted)
@@ -126,17 +124,13 @@ there (Some command) h = refl
 
 of-queue : (n : ℕ) (o : Option Command) → is_queue_of n o ≡ true → IsQueueOf n o
 of-queue n None h = absurd cc
-of-queue n (Some (Pipe number bw delay limit loss buckets mask)) h = absurd cc
 of-queue n (Some (Queue number pipe weight limit loss buckets mask)) h = eqb-true pipe n h
-of-queue n (Some (DeletePipe number)) h = absurd cc
-of-queue n (Some (DeleteQueue number)) h = absurd cc
+of-queue n (Some _) h = absurd cc
 
 queue-of : (n : ℕ) (o : Option Command) → IsQueueOf n o → is_queue_of n o ≡ true
 queue-of n None h = absurd h
-queue-of n (Some (Pipe number bw delay limit loss buckets mask)) h = absurd h
 queue-of n (Some (Queue number pipe weight limit loss buckets mask)) h = eq-eqb pipe n h
-queue-of n (Some (DeletePipe number)) h = absurd h
-queue-of n (Some (DeleteQueue number)) h = absurd h
+queue-of n (Some _) h = absurd h
 
 some-queue : (set : Settings) (queues : List ℕ) (n : ℕ) → has_queues set queues n ≡ true → HasQueue set n
 some-queue set [] n h = absurd cc

@@ -20,7 +20,7 @@ use Rattle.dn_types.specs.declared.command.Command.{Command}
 use Rattle.dn_types.specs.declared.command.Command.TheVariants.{Pipe, Queue, DeletePipe, DeleteQueue}
 use Rattle.dn_types.specs.declared.packet.Packet.{Packet}
 use Rattle.dn_types.specs.declared.reply.Reply.{Reply}
-use Rattle.dn_types.specs.declared.reply.Reply.TheVariants.{Queued, Lost, Full, NoTarget, Advanced, Delivered, Status, Exhausted, Configured, NoSuchPipe, Deleted, PipeHasQueues, NoSuchQueue}
+use Rattle.dn_types.specs.declared.reply.Reply.TheVariants.{Queued, Lost, Full, NoTarget, Exhausted, Configured, NoSuchPipe, Deleted, PipeHasQueues, NoSuchQueue}
 use Rattle.dn_types.specs.declared.rule.Rule.{Rule}
 use Rattle.dn_types.specs.declared.target.Target.{Target}
 use Rattle.dn_types.specs.declared.target.Target.TheVariants.{Pipe as ToPipe, Queue as ToQueue}
@@ -135,61 +135,25 @@ quiet-queued : (r : Reply) → IsQuiet r → is_queued r ≡ false
 quiet-queued (Queued at f number) h = absurd h
 quiet-queued (Lost at f) h = absurd h
 quiet-queued (Full at f) h = absurd h
-quiet-queued (NoTarget at) h = refl
-quiet-queued (Advanced at) h = refl
-quiet-queued (Delivered at list) h = refl
-quiet-queued (Status list) h = refl
-quiet-queued Exhausted h = refl
-quiet-queued Configured h = refl
-quiet-queued NoSuchPipe h = refl
-quiet-queued Deleted h = refl
-quiet-queued PipeHasQueues h = refl
-quiet-queued NoSuchQueue h = refl
+quiet-queued _ h = refl
 
 quiet-queued-of : (flow : ℕ) (r : Reply) → IsQuiet r → is_queued_of flow r ≡ false
 quiet-queued-of flow (Queued at f number) h = absurd h
 quiet-queued-of flow (Lost at f) h = absurd h
 quiet-queued-of flow (Full at f) h = absurd h
-quiet-queued-of flow (NoTarget at) h = refl
-quiet-queued-of flow (Advanced at) h = refl
-quiet-queued-of flow (Delivered at list) h = refl
-quiet-queued-of flow (Status list) h = refl
-quiet-queued-of flow Exhausted h = refl
-quiet-queued-of flow Configured h = refl
-quiet-queued-of flow NoSuchPipe h = refl
-quiet-queued-of flow Deleted h = refl
-quiet-queued-of flow PipeHasQueues h = refl
-quiet-queued-of flow NoSuchQueue h = refl
+quiet-queued-of flow _ h = refl
 
 quiet-lost : (flow : ℕ) (r : Reply) → IsQuiet r → is_lost_of flow r ≡ false
 quiet-lost flow (Queued at f number) h = absurd h
 quiet-lost flow (Lost at f) h = absurd h
 quiet-lost flow (Full at f) h = absurd h
-quiet-lost flow (NoTarget at) h = refl
-quiet-lost flow (Advanced at) h = refl
-quiet-lost flow (Delivered at list) h = refl
-quiet-lost flow (Status list) h = refl
-quiet-lost flow Exhausted h = refl
-quiet-lost flow Configured h = refl
-quiet-lost flow NoSuchPipe h = refl
-quiet-lost flow Deleted h = refl
-quiet-lost flow PipeHasQueues h = refl
-quiet-lost flow NoSuchQueue h = refl
+quiet-lost flow _ h = refl
 
 quiet-full : (flow : ℕ) (r : Reply) → IsQuiet r → is_full_of flow r ≡ false
 quiet-full flow (Queued at f number) h = absurd h
 quiet-full flow (Lost at f) h = absurd h
 quiet-full flow (Full at f) h = absurd h
-quiet-full flow (NoTarget at) h = refl
-quiet-full flow (Advanced at) h = refl
-quiet-full flow (Delivered at list) h = refl
-quiet-full flow (Status list) h = refl
-quiet-full flow Exhausted h = refl
-quiet-full flow Configured h = refl
-quiet-full flow NoSuchPipe h = refl
-quiet-full flow Deleted h = refl
-quiet-full flow PipeHasQueues h = refl
-quiet-full flow NoSuchQueue h = refl
+quiet-full flow _ h = refl
 
 pub arrival-told : (rule : Rule) (calls : List Call) (c : Call) → accepted_count (trace_of (c ∷ calls)) ≡ accepted_count (trace_of calls) + cond (is_queued (counted_reply rule calls c)) 1 0
 arrival-told = call-told is_arrival (λ l. refl) (λ s. refl) (λ f. refl) (λ at. refl) is_queued quiet-queued (λ at f link. refl) (λ at f link. refl) (λ at number a. refl)

@@ -14,7 +14,7 @@ use Rattle.dn_types.specs.Links.{last_due}
 use Rattle.dn_types.specs.Replies.{reply, counted_reply, reply_to_verdict, replies}
 use Rattle.dn_types.specs.Starts.{settled}
 use Rattle.dn_laws.specs.Told.{times_in, times_told}
-use Rattle.dn_types.specs.Trace.{Start, Event, opened, arrived, started, lost, refused, discarded, collected}
+use Rattle.dn_types.specs.Trace.{Start, Event, started, collected}
 use Rattle.dn_types.specs.declared.call.Call.{Call}
 use Rattle.dn_types.specs.declared.call.Call.TheVariants.{Configure, Submit, Advance, Collect, Show}
 use Rattle.dn_types.specs.declared.command.Command.{Command}
@@ -78,13 +78,8 @@ module _ (rule : Rule) (number : ℕ) where
   given-still : (calls : List Call) (c : Call) → ((at : ℕ) → Gathers c at → ⊥) → (f : List Event) → AllEvents (Comes calls c) (trace_of calls) f →
       given_count rule number (f ++ trace_of calls) ≡ given_count rule number (trace_of calls)
   given-still calls c no_collect [] h = refl
-  given-still calls c no_collect (opened l ∷ f) h = given-still calls c no_collect f h.1
-  given-still calls c no_collect (arrived p ∷ f) h = given-still calls c no_collect f h.1
-  given-still calls c no_collect (started s ∷ f) h = given-still calls c no_collect f h.1
-  given-still calls c no_collect (lost l n ∷ f) h = given-still calls c no_collect f h.1
-  given-still calls c no_collect (refused l n ∷ f) h = given-still calls c no_collect f h.1
-  given-still calls c no_collect (discarded n ∷ f) h = given-still calls c no_collect f h.1
   given-still calls c no_collect (collected at ∷ f) h = absurd (no_collect at h.0)
+  given-still calls c no_collect (_ ∷ f) h = given-still calls c no_collect f h.1
 
   given-none : (calls : List Call) (c : Call) → ((at : ℕ) → Gathers c at → ⊥) → given_count rule number (trace_of (c ∷ calls)) ≡ given_count rule number (trace_of calls)
   given-none calls c no_collect = let h = call-comes calls c in ap (given_count rule number) h.1 ∙ given-still calls c no_collect h.0 h.2

@@ -13,12 +13,12 @@ use Rattle.dn_types.specs.Links.{free, transmission_time}
 use Rattle.dn_laws.specs.RateLaws.{StaysInForce}
 use Rattle.dn_types.specs.Replies.{reply}
 use Rattle.dn_types.specs.SharedLinks.{waiting, opening}
-use Rattle.dn_types.specs.Trace.{Link, own, link_eq, pipe_of, Accepted, Start, Event, opened, arrived, started, lost, refused, discarded, collected, backlog, accepted_count}
+use Rattle.dn_types.specs.Trace.{Link, own, link_eq, pipe_of, Accepted, Start, Event, opened, arrived, started, backlog, accepted_count}
 use Rattle.dn_laws.specs.WaitLaws.{starting, sending, WaitsForThoseAhead, WaitIsKnown}
 use Rattle.dn_types.specs.declared.call.Call.{Call}
 use Rattle.dn_types.specs.declared.call.Call.TheVariants.{Submit, Advance}
 use Rattle.dn_types.specs.declared.command.Command.{Command}
-use Rattle.dn_types.specs.declared.command.Command.TheVariants.{Pipe, Queue, DeletePipe, DeleteQueue}
+use Rattle.dn_types.specs.declared.command.Command.TheVariants.{Pipe}
 use Rattle.dn_types.specs.declared.flow_key.FlowKey.{FlowKey}
 use Rattle.dn_types.specs.declared.limit.Limit.{Limit}
 use Rattle.dn_types.specs.declared.mask.Mask.{Mask}
@@ -55,11 +55,7 @@ prompt-added calls c known (started s ∷ f) all proper homes old = (
   prompt-added calls c known f all.1 proper.2 homes old,
 )
 prompt-added calls c known (arrived p ∷ f) all proper homes old = prompt-added calls c known f all.1 proper.1 homes.1 old
-prompt-added calls c known (opened l ∷ f) all proper homes old = prompt-added calls c known f all.1 proper homes old
-prompt-added calls c known (lost l n ∷ f) all proper homes old = prompt-added calls c known f all.1 proper homes old
-prompt-added calls c known (refused l n ∷ f) all proper homes old = prompt-added calls c known f all.1 proper homes old
-prompt-added calls c known (discarded n ∷ f) all proper homes old = prompt-added calls c known f all.1 proper homes old
-prompt-added calls c known (collected m ∷ f) all proper homes old = prompt-added calls c known f all.1 proper homes old
+prompt-added calls c known (_ ∷ f) all proper homes old = prompt-added calls c known f all.1 proper homes old
 
 pub trace-prompt : (calls : List Call) → IsPrompt (trace_of calls)
 trace-prompt [] = tt
@@ -71,13 +67,8 @@ trace-prompt (c ∷ calls) =
 
 pub suffix-prompt : (later earlier : List Event) → IsPrompt (later ++ earlier) → IsPrompt earlier
 suffix-prompt [] earlier h = h
-suffix-prompt (opened l ∷ later) earlier h = suffix-prompt later earlier h
-suffix-prompt (arrived p ∷ later) earlier h = suffix-prompt later earlier h
 suffix-prompt (started s ∷ later) earlier h = suffix-prompt later earlier h.2
-suffix-prompt (lost l f ∷ later) earlier h = suffix-prompt later earlier h
-suffix-prompt (refused l f ∷ later) earlier h = suffix-prompt later earlier h
-suffix-prompt (discarded f ∷ later) earlier h = suffix-prompt later earlier h
-suffix-prompt (collected at ∷ later) earlier h = suffix-prompt later earlier h
+suffix-prompt (_ ∷ later) earlier h = suffix-prompt later earlier h
 
 -- ---- What stands at the acceptance
 
@@ -108,9 +99,7 @@ own-pipe calls pipe how e = by (settings calls (ToPipe pipe)) (settings-kept cal
     by : (o : Option Command) → IsKept (ToPipe pipe) o → treatment o ≡ Some how → how.pipe ≡ pipe
     by None kept e = absurd cc
     by (Some (Pipe number bw delay limit loss buckets mask)) kept e = sym (ap (pipe-or 0) e) ∙ kept
-    by (Some (Queue number on weight limit loss buckets mask)) kept e = absurd kept
-    by (Some (DeletePipe number)) kept e = absurd kept
-    by (Some (DeleteQueue number)) kept e = absurd kept
+    by (Some _) kept e = absurd kept
 
 pub opening-of : (b : Bool) (link : Link) (trace : List Event) → (o : List Event) × (cond b (opened link ∷ trace) trace ≡ o ++ trace) × ((l : Link) → starting l o ≡ [])
     × ((l : Link) → sending l o ≡ 0)
@@ -186,8 +175,6 @@ module _ (link : Link) where
   -- Where nothing starts nothing is sent.
   none-sent : (g : List Event) → starting link g ≡ [] → sending link g ≡ 0
   none-sent [] e = refl
-  none-sent (opened l ∷ g) e = none-sent g e
-  none-sent (arrived p ∷ g) e = none-sent g e
   none-sent (started s ∷ g) e = by (link_eq s.packet.link link) e (none-sent g)
     where
       some : (xs : List Accepted) → xs ++ s.packet ∷ [] ≡ [] → ⊥
@@ -197,29 +184,19 @@ module _ (link : Link) where
       by : (b : Bool) → cond b (starting link g ++ s.packet ∷ []) (starting link g) ≡ [] → (starting link g ≡ [] → sending link g ≡ 0) → cond b s.transmission 0 + sending link g ≡ 0
       by true e rest = absurd (some (starting link g) e)
       by false e rest = let is = rest e in omega arith
-  none-sent (lost l f ∷ g) e = none-sent g e
-  none-sent (refused l f ∷ g) e = none-sent g e
-  none-sent (discarded f ∷ g) e = none-sent g e
-  none-sent (collected m ∷ g) e = none-sent g e
+  none-sent (_ ∷ g) e = none-sent g e
 
   -- Nothing is sent in the stretch before.
   pub none-before : (g old : List Event) → starting link old ≡ [] → sending link old ≡ 0 → (starting link (g ++ old) ≡ starting link g) × (sending link (g ++ old) ≡ sending link g)
   none-before [] old e f = (e, f)
-  none-before (opened l ∷ g) old e f = none-before g old e f
-  none-before (arrived p ∷ g) old e f = none-before g old e f
   none-before (started s ∷ g) old e f =
       let rest = none-before g old e f in
       (ap (λ (qs : List Accepted). cond (link_eq s.packet.link link) (qs ++ s.packet ∷ []) qs) rest.0, ap {B = ℕ} (λ t. cond (link_eq s.packet.link link) s.transmission 0 + t) rest.1)
-  none-before (lost l n ∷ g) old e f = none-before g old e f
-  none-before (refused l n ∷ g) old e f = none-before g old e f
-  none-before (discarded n ∷ g) old e f = none-before g old e f
-  none-before (collected m ∷ g) old e f = none-before g old e f
+  none-before (_ ∷ g) old e f = none-before g old e f
 
   -- At a bandwidth it is the transmission times of the packets.
   by-lengths : (bw : ℕ) (g : List Event) → IsAtBandwidth bw link g → sending link g ≡ sum_by (λ q. transmission_time bw q.stamped.len) (starting link g)
   by-lengths bw [] at = refl
-  by-lengths bw (opened l ∷ g) at = by-lengths bw g at
-  by-lengths bw (arrived p ∷ g) at = by-lengths bw g at
   by-lengths bw (started s ∷ g) at = by (link_eq s.packet.link link) at.0 (by-lengths bw g at.1)
     where
       by : (b : Bool) → (b ≡ true → s.transmission ≡ transmission_time bw s.packet.stamped.len) → sending link g ≡ sum_by (λ q. transmission_time bw q.stamped.len) (starting link g) →
@@ -229,10 +206,7 @@ module _ (link : Link) where
           let more = sum_by_push (λ (q : Accepted). transmission_time bw q.stamped.len) (starting link g) s.packet in
           omega (arith, own, more, rest)
       by false is rest = omega (arith, rest)
-  by-lengths bw (lost l f ∷ g) at = by-lengths bw g at
-  by-lengths bw (refused l f ∷ g) at = by-lengths bw g at
-  by-lengths bw (discarded f ∷ g) at = by-lengths bw g at
-  by-lengths bw (collected m ∷ g) at = by-lengths bw g at
+  by-lengths bw (_ ∷ g) at = by-lengths bw g at
 
 -- ---- The laws
 
