@@ -2,8 +2,9 @@
 use Rattle.std.proofs.Common.{◌≡◌, ◌∙◌, ◌<◌, ◌≢◌, ◌⊎◌, ⊎_elim, inl, inr, ℕ, ◌+◌, Bool, true, false, cond, ◌&&◌, List, [], ◌∷◌, ◌++◌, refl, ap, sym, subst, drop, arith}
 use Rattle.std.specs.Prelude.{Some, nat_eq, slice_get, ⊤}
 use Rattle.std.specs.List.{All}
-use Rattle.std.proofs.lemmas.Bool.{eq-eqb}
+use Rattle.std.proofs.lemmas.Bool.{eq-eqb, and_from}
 use Rattle.std.proofs.lemmas.List.Elements.{All-nil, All-push, All-drop, All-head, All-tail}
+use Rattle.std.proofs.lemmas.List.{append_assoc}
 use Rattle.dn_types.specs.Links.{free}
 use Rattle.dn_types.specs.Trace.{Link, own, link_eq, Accepted, Start, Event, opened, arrived, started, lost, refused, discarded, collected, is_of, backlog, is_arrival, accepted_count}
 use Rattle.dn_laws.specs.WaitLaws.{starting, sending}
@@ -12,7 +13,7 @@ use Rattle.dn_types.proofs.Giving.{count-event}
 use Rattle.dn_types.proofs.Ordered.{IsHome, suffix-proper}
 use Rattle.dn_types.proofs.PacketCounts.{waiting-below}
 use Rattle.dn_types.proofs.Bounded.{first-all}
-use Rattle.dn_types.proofs.Settled.{both, link_eq-true, link_eq-refl}
+use Rattle.dn_types.proofs.Settled.{link_eq-true, link_eq-refl}
 use Rattle.dn_laws.proofs.Timely.{count-later}
 
 -- Each start is when its link is free, or of the packet that has just arrived, and on a link of its flow.
@@ -60,10 +61,6 @@ module _ (p : Accepted) (before : List Event) where
   one-of-number link flow (_ ∷ g) h = one-of-number link flow g h
 
 -- ---- While it waits
-
-append-assoc : (xs ys zs : List Accepted) → (xs ++ ys) ++ zs ≡ xs ++ (ys ++ zs)
-append-assoc [] ys zs = refl
-append-assoc (x ∷ xs) ys zs = ap (λ (r : List Accepted). x ∷ r) (append-assoc xs ys zs)
 
 middle : (P : Accepted → Type 0) (xs : List Accepted) (q : Accepted) (rest : List Accepted) → All P (xs ++ q ∷ rest) → P q
 middle P [] q rest h = All-head P q rest h
@@ -119,7 +116,7 @@ module _ (pipe flow : ℕ) (p : Accepted) (before : List Event) (on : p.link ≡
         behind = w.behind ++ q ∷ [];
         stands = ap (λ b. cond b (backlog (own pipe flow) flow (g ++ (arrived p ∷ before)) ++ q ∷ []) (backlog (own pipe flow) flow (g ++ (arrived p ∷ before)))) e
             ∙ ap (λ (qs : List Accepted). qs ++ q ∷ []) w.stands
-            ∙ append-assoc w.rest (p ∷ w.behind) (q ∷ []);
+            ∙ append_assoc w.rest (p ∷ w.behind) (q ∷ []);
         sent = w.sent;
         busy = w.busy;
         others = All-push IsOther w.behind q w.others other;
@@ -179,7 +176,7 @@ module _ (pipe flow : ℕ) (p : Accepted) (before : List Event) (on : p.link ≡
           home = sym (subst (λ (l : Link). IsHome l s.packet.stamped.flow) same prompt.1)
 
           mine : is_of (own pipe flow) flow s.packet ≡ true
-          mine = both (link_eq s.packet.link (own pipe flow)) (nat_eq s.packet.stamped.flow flow) e (eq-eqb s.packet.stamped.flow flow home)
+          mine = and_from (link_eq s.packet.link (own pipe flow)) (nat_eq s.packet.stamped.flow flow) e (eq-eqb s.packet.stamped.flow flow home)
 
           first : slice_get (backlog (own pipe flow) flow (g ++ (arrived p ∷ before))) 0 ≡ Some s.packet
           first = own-first (own pipe flow) flow s (g ++ (arrived p ∷ before)) h.0 mine
@@ -194,7 +191,7 @@ module _ (pipe flow : ℕ) (p : Accepted) (before : List Event) (on : p.link ≡
             rest = rest;
             behind = behind;
             stands = drops ∙ ap (λ (qs : List Accepted). drop 1 qs) stands;
-            sent = sent ∙ ap (λ (x : Accepted). starting (own pipe flow) g ++ x ∷ rest) it ∙ sym (append-assoc (starting (own pipe flow) g) (s.packet ∷ []) rest)
+            sent = sent ∙ ap (λ (x : Accepted). starting (own pipe flow) g ++ x ∷ rest) it ∙ sym (append_assoc (starting (own pipe flow) g) (s.packet ∷ []) rest)
                 ∙ ap (λ b. cond b (starting (own pipe flow) g ++ s.packet ∷ []) (starting (own pipe flow) g) ++ rest) (sym e);
             busy =
                 let is = w.busy in
@@ -240,7 +237,7 @@ module _ (pipe flow : ℕ) (p : Accepted) (before : List Event) (on : p.link ≡
   }
     where
       here : is_of (own pipe flow) flow p ≡ true
-      here = both (link_eq p.link (own pipe flow)) (nat_eq p.stamped.flow flow) (ap (λ (l : Link). link_eq l (own pipe flow)) on ∙ link_eq-refl (own pipe flow)) (eq-eqb p.stamped.flow flow of)
+      here = and_from (link_eq p.link (own pipe flow)) (nat_eq p.stamped.flow flow) (ap (λ (l : Link). link_eq l (own pipe flow)) on ∙ link_eq-refl (own pipe flow)) (eq-eqb p.stamped.flow flow of)
   stands (arrived q ∷ g) h prompt = arrive q g h (stands g h.1 prompt)
   stands (started s ∷ g) h prompt = start s g h prompt (stands g h.2 prompt.2)
   stands (discarded f ∷ g) h prompt = discard f g (stands g h prompt)
@@ -265,7 +262,7 @@ module _ (pipe flow : ℕ) (p : Accepted) (before : List Event) (on : p.link ≡
       first = own-first (own pipe flow) flow s (g ++ (arrived p ∷ before)) h.0 mine
         where
           mine : is_of (own pipe flow) flow s.packet ≡ true
-          mine = both (link_eq s.packet.link (own pipe flow)) (nat_eq s.packet.stamped.flow flow)
+          mine = and_from (link_eq s.packet.link (own pipe flow)) (nat_eq s.packet.stamped.flow flow)
               (ap (λ (x : Accepted). link_eq x.link (own pipe flow)) it ∙ ap (λ (l : Link). link_eq l (own pipe flow)) on ∙ link_eq-refl (own pipe flow))
               (eq-eqb s.packet.stamped.flow flow (ap (λ (x : Accepted). x.stamped.flow) it ∙ of))
 

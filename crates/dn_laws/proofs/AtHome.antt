@@ -2,7 +2,7 @@
 use Rattle.std.proofs.Common.{◌≡◌, ◌∙◌, ◌≤◌, ◌<◌, ℕ, zero, suc, ◌+◌, Bool, true, false, cond, ◌&&◌, List, [], ◌∷◌, ◌++◌, map, refl, ap, sym, subst, length, drop, arith}
 use Rattle.std.specs.Prelude.{Option, Some, nat_eq, slice_get, ⊤}
 use Rattle.std.specs.List.{count_by}
-use Rattle.std.proofs.lemmas.Bool.{eqb-true}
+use Rattle.std.proofs.lemmas.Bool.{eqb-true, and_from, and_right}
 use Rattle.std.proofs.lemmas.List.{length-append, length-map}
 use Rattle.dn_types.specs.Calls.{link_of, trace_of}
 use Rattle.dn_types.specs.Clock.{call_limit}
@@ -27,7 +27,7 @@ use Rattle.dn_types.proofs.Keys.{keys-stay}
 use Rattle.dn_types.proofs.Known.{known-flow, fewer-started}
 use Rattle.dn_laws.proofs.Masks.{stands-get}
 use Rattle.dn_types.proofs.Ordered.{trace-proper}
-use Rattle.dn_types.proofs.Settled.{and-left, both, link_eq-true, link_eq-refl}
+use Rattle.dn_types.proofs.Settled.{and-left, link_eq-true, link_eq-refl}
 use Rattle.dn_types.proofs.Settling.{and-right}
 use Rattle.dn_laws.proofs.ToldCounts.{queued-of-count, lost-of-count, full-of-count}
 
@@ -118,13 +118,10 @@ module _ (known : List FlowKey) (flow : ℕ) (key : FlowKey) (at : slice_get kno
   of-home : (p : Accepted) → IsHomeOf known p.link p.stamped.flow → is_of (link_of key.target flow key.pipe) flow p ≡ nat_eq p.stamped.flow flow
   of-home p h = by (nat_eq p.stamped.flow flow) refl
     where
-      no : (b : Bool) → (b && false) ≡ false
-      no true = refl
-      no false = refl
-
       by : (b : Bool) → nat_eq p.stamped.flow flow ≡ b → is_of (link_of key.target flow key.pipe) flow p ≡ b
-      by false e = ap (λ b. link_eq p.link home && b) e ∙ no (link_eq p.link home)
-      by true e = both (link_eq p.link home) (nat_eq p.stamped.flow flow) (ap (λ (l : Link). link_eq l home) (home-is p.link p.stamped.flow (eqb-true p.stamped.flow flow e) h) ∙ link_eq-refl home) e
+      by false e = ap (λ b. link_eq p.link home && b) e ∙ and_right (link_eq p.link home) false refl
+      by true e = and_from (link_eq p.link home) (nat_eq p.stamped.flow flow)
+          (ap (λ (l : Link). link_eq l home) (home-is p.link p.stamped.flow (eqb-true p.stamped.flow flow e) h) ∙ link_eq-refl home) e
 
   push-length : (b : Bool) (q : List Accepted) (p : Accepted) → length (cond b (q ++ p ∷ []) q) ≡ length q + cond b 1 0
   push-length true q p = length-append q (p ∷ [])

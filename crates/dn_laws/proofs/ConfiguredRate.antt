@@ -1,7 +1,7 @@
 -- A link keeps the configured rate while the command stays in force.
 use Rattle.std.proofs.Common.{◌≡◌, ◌∙◌, ◌≤◌, ◌<◌, ℕ, ◌+◌, ◌*◌, true, List, [], ◌∷◌, ◌++◌, refl, ap, sym, subst}
 use Rattle.std.specs.Prelude.{◌^◌, Option, Some}
-use Rattle.std.proofs.lemmas.List.{append_cancel_right}
+use Rattle.std.proofs.lemmas.List.{append_cancel_right, append_assoc}
 use Rattle.dn_types.specs.Calls.{trace_of}
 use Rattle.dn_types.specs.Clock.{effective_moment}
 use Rattle.dn_types.specs.Configuration.{Settings, settings}
@@ -70,13 +70,9 @@ module _ (number bw delay : ℕ) (limit : Limit) (loss : ℕ) (buckets : Option 
       let new = call-causes (after ++ calls) c in (
         new.0 ++ rest.0,
         new.1 ∙ ap (λ (t : List Event). new.0 ++ t) rest.1
-            ∙ assoc new.0 rest.0 (trace_of calls),
+            ∙ sym (append_assoc new.0 rest.0 (trace_of calls)),
         both-at bw link new.0 rest.0 (call-at (after ++ calls) c new.0 (now after calls h.1) new.2) rest.2,
       )
-    where
-      assoc : (xs ys zs : List Event) → xs ++ (ys ++ zs) ≡ (xs ++ ys) ++ zs
-      assoc [] ys zs = refl
-      assoc (x ∷ xs) ys zs = ap (λ (r : List Event). x ∷ r) (assoc xs ys zs)
 
 pub keeps-the-configured-rate : (after calls : List Call) (number bw delay : ℕ) (limit : Limit) (loss : ℕ) (buckets : Option ℕ) (mask : Mask) (later between earlier : List Event) (s r : Start) →
     StaysInForce (ToPipe number) (Pipe number bw delay limit loss buckets mask) after calls → 0 < bw →

@@ -2,8 +2,8 @@
 use Rattle.std.proofs.Common.{◌≡◌, ◌∙◌, ◌≤◌, ◌<◌, ℕ, zero, suc, ◌+◌, ◌*◌, max, Bool, true, false, cond, List, [], ◌∷◌, ◌++◌, refl, ap, sym, subst, length, drop, arith, add-mul, suc-mul}
 use Rattle.std.specs.Prelude.{◌^◌, ◌-◌, Option, Some, nat_eq, get_or, ⊤}
 use Rattle.std.specs.List.{All}
-use Rattle.std.proofs.lemmas.Bool.{eq-eqb}
-use Rattle.std.proofs.lemmas.List.{append_cancel_right}
+use Rattle.std.proofs.lemmas.Bool.{eq-eqb, and_from}
+use Rattle.std.proofs.lemmas.List.{append_cancel_right, append_assoc}
 use Rattle.std.proofs.lemmas.List.Elements.{All-nil, All-push, All-drop, All-head, All-tail, All-cons}
 use Rattle.dn_types.specs.Deliveries.{AreInOrder}
 use Rattle.dn_types.specs.Calls.{trace_of}
@@ -37,16 +37,12 @@ use Rattle.dn_laws.proofs.ConfiguredRate.{now}
 use Rattle.dn_types.proofs.Fifo.{IsProper, own-first}
 use Rattle.dn_types.proofs.Ordered.{IsHome, trace-proper, suffix-proper}
 use Rattle.dn_laws.proofs.Rates.{shape}
-use Rattle.dn_types.proofs.Settled.{and-left, both, link_eq-true, link_eq-refl}
+use Rattle.dn_types.proofs.Settled.{and-left, link_eq-true, link_eq-refl}
 use Rattle.dn_laws.proofs.Timely.{queued, clock-later}
 use Rattle.dn_laws.proofs.ToldCounts.{told-few}
 use Rattle.dn_laws.proofs.ToldDeliveries.{collects-are-told}
 use Rattle.dn_laws.proofs.WaitBounds.{longer-takes-longer, time_ahead, slots-ahead, kbytes-ahead}
 use Rattle.dn_laws.proofs.Waits.{IsJoined, joined, IsAwaited, awaited, own-pipe, trace-prompt, wait-is-known}
-
-assoc : (xs ys zs : List Event) → (xs ++ ys) ++ zs ≡ xs ++ (ys ++ zs)
-assoc [] ys zs = refl
-assoc (x ∷ xs) ys zs = ap (λ (r : List Event). x ∷ r) (assoc xs ys zs)
 
 -- ---- Lengths
 
@@ -106,7 +102,7 @@ module _ (pipe most : ℕ) where
     start-short s t proper prompt short e =
         let same = link_eq-true s.packet.link (own pipe flow) e in
         let home : s.packet.stamped.flow ≡ flow = sym (subst (λ (l : Link). IsHome l s.packet.stamped.flow) same prompt.1) in
-        let mine = both (link_eq s.packet.link (own pipe flow)) (nat_eq s.packet.stamped.flow flow) e (eq-eqb s.packet.stamped.flow flow home) in
+        let mine = and_from (link_eq s.packet.link (own pipe flow)) (nat_eq s.packet.stamped.flow flow) e (eq-eqb s.packet.stamped.flow flow home) in
         first-all IsShort s.packet (backlog (own pipe flow) flow t) (own-first (own pipe flow) flow s t proper.0 mine) (queue-short t short)
 
 -- ---- Starts by the command
@@ -206,7 +202,7 @@ module _ (pipe bw delay : ℕ) (limit : Limit) (loss : ℕ) (buckets : Option �
       let rest = calls-by after calls h.1 (omega (arith, soon)) in
       let new = call-causes (after ++ calls) c in (
         new.0 ++ rest.0,
-        new.1 ∙ ap (λ (t : List Event). new.0 ++ t) rest.1 ∙ sym (assoc new.0 rest.0 (trace_of calls)),
+        new.1 ∙ ap (λ (t : List Event). new.0 ++ t) rest.1 ∙ sym (append_assoc new.0 rest.0 (trace_of calls)),
         both-by pipe bw delay flow by_then new.0 rest.0 (call-by (after ++ calls) c new.0 (now pipe bw delay limit loss buckets mask (own pipe flow) refl after calls h.1) soon new.2) rest.2,
       )
 
@@ -285,14 +281,14 @@ module _ (rule : Rule) (after since older : List Call) (pipe bw delay : ℕ) (li
     earlier-is : earlier ≡ (w.stretch ++ (arrived j.p ∷ (j.between ++ new.0))) ++ trace_of older
     earlier-is =
         w.parts ∙ ap (λ (t : List Event). w.stretch ++ (arrived j.p ∷ (j.between ++ t))) new.1
-        ∙ ap (λ (t : List Event). w.stretch ++ (arrived j.p ∷ t)) (sym (assoc j.between new.0 (trace_of older)))
+        ∙ ap (λ (t : List Event). w.stretch ++ (arrived j.p ∷ t)) (sym (append_assoc j.between new.0 (trace_of older)))
         ∙ sym (shape w.stretch (j.between ++ new.0) (arrived j.p) (trace_of older))
 
     added-by : IsBy (started s ∷ (w.stretch ++ (arrived j.p ∷ (j.between ++ new.0))))
     added-by =
         let parts : trace_of (after ++ Submit (ToPipe pipe) packet moment ∷ (since ++ older)) ≡ (newest.0 ++ (newer.0 ++ new.0)) ++ trace_of older =
-        newest.1 ∙ ap (λ (t : List Event). newest.0 ++ t) (newer.1 ∙ ap (λ (t : List Event). newer.0 ++ t) new.1 ∙ sym (assoc newer.0 new.0 (trace_of older)))
-        ∙ sym (assoc newest.0 (newer.0 ++ new.0) (trace_of older)) in
+        newest.1 ∙ ap (λ (t : List Event). newest.0 ++ t) (newer.1 ∙ ap (λ (t : List Event). newer.0 ++ t) new.1 ∙ sym (append_assoc newer.0 new.0 (trace_of older)))
+        ∙ sym (append_assoc newest.0 (newer.0 ++ new.0) (trace_of older)) in
         let shown : (newest.0 ++ (newer.0 ++ new.0)) ++ trace_of older ≡ (later ++ (started s ∷ (w.stretch ++ (arrived j.p ∷ (j.between ++ new.0))))) ++ trace_of older =
         sym parts ∙ e ∙ ap (λ (t : List Event). later ++ started s ∷ t) earlier-is ∙ sym (shape later (w.stretch ++ (arrived j.p ∷ (j.between ++ new.0))) (started s) (trace_of older)) in
         let cut = append_cancel_right (newest.0 ++ (newer.0 ++ new.0)) (later ++ (started s ∷ (w.stretch ++ (arrived j.p ∷ (j.between ++ new.0))))) (trace_of older) shown in

@@ -3,6 +3,7 @@ use Rattle.std.proofs.Common.{◌≡◌, ◌∙◌, ◌≤◌, ◌<◌, ⊎_elim
 use Rattle.std.specs.Prelude.{Option, Some, None, nat_le, nat_eq, slice_get, option_map}
 use Rattle.std.proofs.lemmas.Bool.{eqb-true}
 use Rattle.std.proofs.lemmas.Bool.Decides.{nat_tests, leb_tells}
+use Rattle.std.proofs.lemmas.Option.{slice_get_within}
 use Rattle.dn_types.specs.Calls.{verdict_by, after_verdict, reaches, after_command, trace_of}
 use Rattle.dn_types.specs.Clock.{effective_moment}
 use Rattle.dn_types.specs.Configuration.{settings, subject, target_eq, setting_after, reply_to_command}
@@ -32,10 +33,6 @@ use Rattle.dn_types.proofs.Settling.{next_packet-first}
 use Rattle.dn_laws.proofs.TagsElsewhere.{tags-elsewhere}
 use Rattle.dn_laws.proofs.Timely.{clock-later}
 
-some-first : (q : List Accepted) (p : Accepted) → slice_get q 0 ≡ Some p → 0 < length q
-some-first [] p h = absurd cc
-some-first (x ∷ q) p h = omega arith
-
 module _ (rule : Rule) (link : Link) where
   -- By the clock none starts any more.
   quiet : (calls : List Call) → next_start (settings calls) (effective_moment calls) link (trace_of calls) ≡ None
@@ -47,7 +44,7 @@ module _ (rule : Rule) (link : Link) where
       by true is None next = refl
       by true is (Some p) next =
           let first = next_packet-first link (trace_of calls) p next in
-          let busy = busy-link calls link first.0 (some-first (backlog link first.0 (trace_of calls)) p first.1) in
+          let busy = busy-link calls link first.0 (slice_get_within (backlog link first.0 (trace_of calls)) 0 p first.1) in
           let soon : free link (trace_of calls) ≤ effective_moment calls = grind (arith, nat_tests) in
           absurd (omega (arith, busy, soon))
 

@@ -4,6 +4,7 @@ use Rattle.std.specs.Prelude.{Some, nat_eq, slice_get}
 use Rattle.std.specs.List.{count_by}
 use Rattle.std.proofs.lemmas.Bool.{eqb-true, eq-eqb}
 use Rattle.std.proofs.lemmas.List.Sums.{sum_by-cons}
+use Rattle.std.proofs.lemmas.List.{append_assoc}
 use Rattle.dn_types.specs.Calls.{trace_of}
 use Rattle.dn_types.specs.Replies.{reply}
 use Rattle.dn_laws.specs.ReplyLaws.{Waits, WasDiscarded, HasStarted}
@@ -107,11 +108,7 @@ all-stay [] calls = ([], refl)
 all-stay (c ∷ after) calls =
     let rest = all-stay after calls in
     let one = events-stay (after ++ calls) c in
-    (one.0 ++ rest.0, one.1 ∙ ap (λ (t : List Event). one.0 ++ t) rest.1 ∙ assoc one.0 rest.0 (trace_of calls))
-  where
-    assoc : (xs ys zs : List Event) → xs ++ (ys ++ zs) ≡ (xs ++ ys) ++ zs
-    assoc [] ys zs = refl
-    assoc (x ∷ xs) ys zs = ap (λ (r : List Event). x ∷ r) (assoc xs ys zs)
+    (one.0 ++ rest.0, one.1 ∙ ap (λ (t : List Event). one.0 ++ t) rest.1 ∙ sym (append_assoc one.0 rest.0 (trace_of calls)))
 
 abbrev HasFate : List Event → ℕ → ℕ → Type 0
 HasFate trace number flow = Waits number flow trace ⊎ (WasDiscarded number flow trace ⊎ HasStarted number flow trace)
@@ -125,12 +122,8 @@ stay-from after calls p newer older here =
     more : (added : List Event) × (trace_of (after ++ calls) ≡ added ++ trace_of calls)
     more = all-stay after calls
 
-    assoc : (xs ys zs : List Event) → xs ++ (ys ++ zs) ≡ (xs ++ ys) ++ zs
-    assoc [] ys zs = refl
-    assoc (x ∷ xs) ys zs = ap (λ (r : List Event). x ∷ r) (assoc xs ys zs)
-
     parts : trace_of (after ++ calls) ≡ ((all-stay after calls).0 ++ newer) ++ (arrived p ∷ older)
-    parts = more.1 ∙ ap (λ (t : List Event). more.0 ++ t) here ∙ assoc more.0 newer (arrived p ∷ older)
+    parts = more.1 ∙ ap (λ (t : List Event). more.0 ++ t) here ∙ sym (append_assoc more.0 newer (arrived p ∷ older))
 
 pub queued-packets-stay : (rule : Rule) (after calls : List Call) (target : Target) (packet : Packet) (moment at flow number : ℕ) →
     reply rule calls (Submit target packet moment) ≡ Queued at flow number →
@@ -138,10 +131,6 @@ pub queued-packets-stay : (rule : Rule) (after calls : List Call) (target : Targ
     Waits number flow trace ⊎ (WasDiscarded number flow trace ⊎ HasStarted number flow trace)
 queued-packets-stay rule after calls target packet moment at flow number e =
     let here = queued-packets-arrive rule calls target packet moment at flow number e in
-    let fate = stay-from after (Submit target packet moment ∷ calls) here.2.0 here.0 (here.1 ++ trace_of calls) (here.2.1 ∙ assoc here.0 (arrived here.2.0 ∷ here.1) (trace_of calls)) in
+    let fate = stay-from after (Submit target packet moment ∷ calls) here.2.0 here.0 (here.1 ++ trace_of calls) (here.2.1 ∙ append_assoc here.0 (arrived here.2.0 ∷ here.1) (trace_of calls)) in
     let trace = trace_of (after ++ Submit target packet moment ∷ calls) in
     subst (λ (f : ℕ). HasFate trace number f) here.2.3 (subst (λ (n : ℕ). HasFate trace n here.2.0.stamped.flow) here.2.2 fate)
-  where
-    assoc : (xs ys zs : List Event) → (xs ++ ys) ++ zs ≡ xs ++ (ys ++ zs)
-    assoc [] ys zs = refl
-    assoc (x ∷ xs) ys zs = ap (λ (r : List Event). x ∷ r) (assoc xs ys zs)

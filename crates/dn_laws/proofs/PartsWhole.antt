@@ -1,8 +1,9 @@
 -- What is given is of a known flow, so that it is in the part of one pipe.
-use Rattle.std.proofs.Common.{◌≡◌, ◌∙◌, ◌<◌, ℕ, zero, suc, max, Bool, true, false, cond, ◌&&◌, List, [], ◌∷◌, map, refl, ap, sym, subst, length, arith}
+use Rattle.std.proofs.Common.{◌≡◌, ◌∙◌, ◌<◌, ℕ, zero, suc, max, Bool, true, false, cond, ◌&&◌, List, [], ◌∷◌, map, refl, ap, sym, subst}
 use Rattle.std.specs.Prelude.{Option, Some, None, nat_eq, nat_le, nat_lt, slice_get, ⊤}
 use Rattle.std.specs.List.{All}
 use Rattle.std.proofs.lemmas.List.Elements.{All-filter, All-nil}
+use Rattle.std.proofs.lemmas.Option.{slice_get_within}
 use Rattle.dn_types.specs.Calls.{link_of, Verdict, no_target, loses, refuses, takes, verdict_by, accept, join, after_verdict, trace_of}
 use Rattle.dn_types.specs.Clock.{effective_moment}
 use Rattle.dn_types.specs.Configuration.{Settings, settings}
@@ -30,10 +31,6 @@ use Rattle.dn_laws.proofs.PartCalls.{stands-there}
 use Rattle.dn_types.proofs.Settled.{first_start-of}
 use Rattle.dn_types.proofs.Settling.{next_packet-first, next_start-packet, flow-start}
 
-some-first : (q : List Accepted) (p : Accepted) → slice_get q 0 ≡ Some p → 0 < length q
-some-first [] p h = absurd cc
-some-first (x ∷ q) p h = omega arith
-
 module _ (rule : Rule) where
   abbrev HasKey : List FlowKey → Delivery → Type 0
   HasKey known d = (key : FlowKey) × (slice_get known d.flow ≡ Some key)
@@ -46,7 +43,7 @@ module _ (rule : Rule) where
   start-keyed set known in_force at t s h e =
       let l = first_start-of in_force at (links t) t s e in
       let first = next_packet-first l.0 t s.packet (next_start-packet in_force at l.0 t s l.1) in
-      let k = h l.0 first.0 (some-first (backlog l.0 first.0 t) s.packet first.1) in
+      let k = h l.0 first.0 (slice_get_within (backlog l.0 first.0 t) 0 s.packet first.1) in
       (k.key, ap (slice_get known) (flow-start l.0 first.0 s t first.1) ∙ stands-there (of_pipe 0) known first.0 k.key k.at)
 
   settle-keyed : (set in_force : Settings) (known : List FlowKey) (most at : ℕ) (t : List Event) → AreKnown set known t → HaveKeys known t → HaveKeys known (settle most in_force at t)

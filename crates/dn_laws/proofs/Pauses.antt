@@ -4,7 +4,7 @@ use Rattle.std.specs.Prelude.{Some, nat_eq, nat_le, slice_get, ◌&&◌, ⊤}
 use Rattle.std.specs.List.{All}
 use Rattle.std.proofs.lemmas.Bool.Decides.{nat_tests}
 use Rattle.std.proofs.lemmas.Bool.{eq-eqb}
-use Rattle.std.proofs.lemmas.List.{append_cancel_right, length-append}
+use Rattle.std.proofs.lemmas.List.{append_cancel_right, length-append, append_assoc}
 use Rattle.std.proofs.lemmas.List.Elements.{All-nil, All-push, All-drop}
 use Rattle.dn_types.specs.Calls.{link_of, Verdict, no_target, loses, refuses, takes, verdict, accept, join, after_verdict, trace_of}
 use Rattle.dn_types.specs.Clock.{effective_moment}
@@ -104,10 +104,6 @@ suffix-unpaused (_ ∷ later) earlier h = suffix-unpaused later earlier h
 
 -- ---- While a packet waits
 
-append-assoc : (xs ys zs : List Accepted) → (xs ++ ys) ++ zs ≡ xs ++ (ys ++ zs)
-append-assoc [] ys zs = refl
-append-assoc (x ∷ xs) ys zs = ap (λ (r : List Accepted). x ∷ r) (append-assoc xs ys zs)
-
 module _ (p : Accepted) (before : List Event) where
   abbrev queue : List Event → List Accepted
   queue g = backlog p.link p.stamped.flow (g ++ (arrived p ∷ before))
@@ -155,7 +151,7 @@ module _ (p : Accepted) (before : List Event) where
       more true e w = record {
         rest = w.rest;
         behind = w.behind ++ q ∷ [];
-        stands = ap (λ b. cond b (queue g ++ q ∷ []) (queue g)) e ∙ ap (λ (qs : List Accepted). qs ++ q ∷ []) w.stands ∙ append-assoc w.rest (p ∷ w.behind) (q ∷ []);
+        stands = ap (λ b. cond b (queue g ++ q ∷ []) (queue g)) e ∙ ap (λ (qs : List Accepted). qs ++ q ∷ []) w.stands ∙ append_assoc w.rest (p ∷ w.behind) (q ∷ []);
         busy = w.busy;
         others = All-push IsOther w.behind q w.others other;
       }
@@ -323,10 +319,6 @@ told-so rule calls target packet moment at flow number e =
 
 -- ---- The law
 
-assoc : (xs ys zs : List Event) → (xs ++ ys) ++ zs ≡ xs ++ (ys ++ zs)
-assoc [] ys zs = refl
-assoc (x ∷ xs) ys zs = ap (λ (r : List Event). x ∷ r) (assoc xs ys zs)
-
 -- How often a packet starts in a trace in which it starts.
 one-start : (number : ℕ) (s : Start) (later earlier : List Event) → s.packet.packet ≡ number → start_count number earlier + 1 ≤ start_count number (later ++ started s ∷ earlier)
 one-start number s [] earlier same =
@@ -384,7 +376,7 @@ module _ (rule : Rule) (after calls : List Call) (target : Target) (packet : Pac
   by-join true is joins =
       let s0 = start_at (settings calls) j.p.link j.p (effective_moment (Advance moment ∷ calls)) in
       let parts : trace_of (after ++ Submit target packet moment ∷ calls) ≡ (added.0 ++ started s0 ∷ []) ++ (arrived j.p ∷ (j.opening ++ trace_of (Advance moment ∷ calls))) =
-      added.1 ∙ ap (λ (t : List Event). added.0 ++ t) joins ∙ sym (assoc added.0 (started s0 ∷ []) (arrived j.p ∷ (j.opening ++ trace_of (Advance moment ∷ calls)))) in
+      added.1 ∙ ap (λ (t : List Event). added.0 ++ t) joins ∙ sym (append_assoc added.0 (started s0 ∷ []) (arrived j.p ∷ (j.opening ++ trace_of (Advance moment ∷ calls)))) in
       let found = behind-arrival j.p (j.opening ++ trace_of (Advance moment ∷ calls)) (added.0 ++ started s0 ∷ []) later (between ++ trace_of (Advance moment ∷ calls)) s
       (subst IsProper parts (trace-proper (after ++ Submit target packet moment ∷ calls))) (sym parts ∙ e) (same ∙ sym j.number_is) in
       by-stretch (added.0 ++ started s0 ∷ []) found.0 parts found.2 (alone found.0 found.1 refl)

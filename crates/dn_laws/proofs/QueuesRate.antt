@@ -1,6 +1,7 @@
 -- All queues of a pipe together keep its rate, since they are on one link.
 use Rattle.std.proofs.Common.{◌≡◌, ◌∙◌, ◌≤◌, ◌<◌, ℕ, ◌+◌, ◌*◌, Bool, true, false, cond, List, [], ◌∷◌, ◌++◌, refl, ap, sym, subst, arith}
 use Rattle.std.specs.Prelude.{◌^◌, Option, nat_eq, slice_get}
+use Rattle.std.proofs.lemmas.List.{append_assoc}
 use Rattle.dn_types.specs.Calls.{link_of, trace_of}
 use Rattle.dn_laws.specs.Explained.{sent}
 use Rattle.dn_types.specs.Flows.{keys}
@@ -45,10 +46,6 @@ module _ (number : ℕ) (known : List FlowKey) where
   same-sent (arrived p ∷ f) rest proper h = same-sent f rest proper.1 h.1
   same-sent (_ ∷ f) rest proper h = same-sent f rest proper h
 
-assoc : (xs ys zs : List Event) → (xs ++ ys) ++ zs ≡ xs ++ (ys ++ zs)
-assoc [] ys zs = refl
-assoc (x ∷ xs) ys zs = ap (λ (r : List Event). x ∷ r) (assoc xs ys zs)
-
 pub queues-share-the-rate : (after calls : List Call) (number bw delay : ℕ) (limit : Limit) (loss : ℕ) (buckets : Option ℕ) (mask : Mask) (later between earlier : List Event) (s r : Start) →
     StaysInForce (ToPipe number) (Pipe number bw delay limit loss buckets mask) after calls → 0 < bw →
     trace_of (after ++ calls) ≡ (later ++ (started s ∷ (between ++ (started r ∷ earlier)))) ++ trace_of calls →
@@ -69,8 +66,8 @@ queues-share-the-rate after calls number bw delay limit loss buckets mask later 
     stretch = between ++ started r ∷ []
 
     parts : trace_of (after ++ calls) ≡ later ++ (started s ∷ ((between ++ started r ∷ []) ++ (earlier ++ trace_of calls)))
-    parts = e ∙ assoc later (started s ∷ (between ++ (started r ∷ earlier))) (trace_of calls)
-        ∙ ap (λ (t : List Event). later ++ (started s ∷ t)) (assoc between (started r ∷ earlier) (trace_of calls) ∙ sym (assoc between (started r ∷ []) (earlier ++ trace_of calls)))
+    parts = e ∙ append_assoc later (started s ∷ (between ++ (started r ∷ earlier))) (trace_of calls)
+        ∙ ap (λ (t : List Event). later ++ (started s ∷ t)) (append_assoc between (started r ∷ earlier) (trace_of calls) ∙ sym (append_assoc between (started r ∷ []) (earlier ++ trace_of calls)))
 
     proper : IsProper (started s ∷ ((between ++ started r ∷ []) ++ (earlier ++ trace_of calls)))
     proper = suffix-proper later (started s ∷ (stretch ++ rest)) (subst IsProper parts (trace-proper (after ++ calls)))
@@ -82,7 +79,7 @@ queues-share-the-rate after calls number bw delay limit loss buckets mask later 
     on_s = link_eq-true s.packet.link (shared number) (on-shared number known s.packet.link s.packet.stamped.flow (start-home known s (stretch ++ rest) proper homes) ∙ of_s)
 
     shape : (between ++ started r ∷ []) ++ (earlier ++ trace_of calls) ≡ between ++ (started r ∷ (earlier ++ trace_of calls))
-    shape = assoc between (started r ∷ []) (earlier ++ trace_of calls)
+    shape = append_assoc between (started r ∷ []) (earlier ++ trace_of calls)
 
     on_r : r.packet.link ≡ shared number
     on_r = link_eq-true r.packet.link (shared number)

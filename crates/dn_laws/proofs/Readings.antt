@@ -3,7 +3,7 @@ use Rattle.std.proofs.Common.{◌≡◌, ◌∙◌, ◌≤◌, ◌<◌, ℕ, ◌
 use Rattle.std.specs.Prelude.{Option, Some, None, nat_eq, nat_le, ◌≢◌}
 use Rattle.std.specs.List.{count_by}
 use Rattle.std.specs.Option.{option_map}
-use Rattle.std.proofs.lemmas.Bool.{eqb-true, eq-eqb}
+use Rattle.std.proofs.lemmas.Bool.{eqb-true, eq-eqb, and_from}
 use Rattle.std.proofs.lemmas.Bool.Decides.{nat_tests}
 use Rattle.dn_types.specs.Calls.{trace_of, after_command}
 use Rattle.dn_types.specs.Clock.{call_limit}
@@ -25,7 +25,7 @@ use Rattle.dn_types.specs.declared.mask.Mask.{Mask}
 use Rattle.dn_types.specs.declared.reply.Reply.{Reply}
 use Rattle.dn_types.specs.declared.rule.Rule.{Rule}
 use Rattle.dn_types.proofs.Giving.{count-event, count-delivery}
-use Rattle.dn_types.proofs.Settled.{and-left, both, link_eq-true, link_eq-refl}
+use Rattle.dn_types.proofs.Settled.{and-left, link_eq-true, link_eq-refl}
 use Rattle.dn_types.proofs.Settling.{and-right}
 use Rattle.dn_laws.specs.FlowLaws.{IsMaskedBy}
 use Rattle.dn_laws.specs.ReadingLaws.{MomentsAreNamed, SubjectsAreNamed, CommandsAreAnswered, TargetsAreTreated, LinksAreToldApart, IsElsewhere, GoesBy}
@@ -57,7 +57,7 @@ links-are-told-apart link = (
   λ other. (link_eq-true link other, λ same. subst (λ (l : Link). link_eq link l ≡ true) same (link_eq-refl link)),
   λ flow p. (
     λ e. (link_eq-true p.link link (and-left (link_eq p.link link) (nat_eq p.stamped.flow flow) e), eqb-true p.stamped.flow flow (and-right (link_eq p.link link) (nat_eq p.stamped.flow flow) e)),
-    λ on of. both (link_eq p.link link) (nat_eq p.stamped.flow flow) (subst (λ (l : Link). link_eq p.link l ≡ true) on (link_eq-refl p.link)) (eq-eqb p.stamped.flow flow of),
+    λ on of. and_from (link_eq p.link link) (nat_eq p.stamped.flow flow) (subst (λ (l : Link). link_eq p.link l ≡ true) on (link_eq-refl p.link)) (eq-eqb p.stamped.flow flow of),
   ),
 )
 

@@ -1,8 +1,7 @@
 -- A busy period begins with tags of 0, a delete forgets its flows' tags, and a packet that is dropped changes nothing.
 use Rattle.std.proofs.Common.{◌≡◌, ◌∙◌, ◌≤◌, ℕ, zero, suc, max, Bool, true, false, cond, List, [], ◌∷◌, ◌++◌, refl, ap, length, arith}
 use Rattle.std.specs.Prelude.{nat_le, nat_eq}
-use Rattle.std.proofs.lemmas.Bool.{eq-eqb}
-use Rattle.std.proofs.lemmas.Bool.Decides.{nat_tests}
+use Rattle.std.proofs.lemmas.Bool.{eq-eqb, le-leb, and_from}
 use Rattle.dn_types.specs.Calls.{link_of, Verdict, no_target, loses, refuses, takes, accept, after_verdict, verdict, trace_of}
 use Rattle.dn_types.specs.Clock.{call_limit, effective_moment}
 use Rattle.dn_types.specs.Configuration.{Settings, settings, target_eq, reply_to_command}
@@ -29,7 +28,7 @@ use Rattle.dn_types.proofs.Conserving.{busy-link}
 use Rattle.dn_laws.proofs.Isolation.{after-deleted, none-left}
 use Rattle.dn_types.proofs.Keys.{target_eq-refl}
 use Rattle.dn_types.proofs.Known.{reached-cleared}
-use Rattle.dn_types.proofs.Settled.{link_eq-refl, both}
+use Rattle.dn_types.proofs.Settled.{link_eq-refl}
 
 -- ---- A link that is free
 
@@ -51,12 +50,9 @@ opened-tag : (link : Link) (packet : Packet) (flow : ℕ) (how : Treatment) (at 
     (accept link packet flow how (opening link at before)).stamped.start_tag ≡ 0
 opened-tag link packet flow how at before none soon =
     ap (λ (b : Bool). (accept link packet flow how (cond b (opened link ∷ before) before)).stamped.start_tag)
-    (both (nat_eq (waiting link before) 0) (nat_le (free link before) at) (eq-eqb (waiting link before) 0 none) (reached (free link before) at soon))
+    (and_from (nat_eq (waiting link before) 0) (nat_le (free link before) at) (eq-eqb (waiting link before) 0 none) (le-leb (free link before) at soon))
     ∙ zero-tag (nat_eq (length (backlog link flow (opened link ∷ before))) 0) (last_finish_tag link flow (opened link ∷ before)) (virtual_time link (opened link ∷ before))
     (ap {B = ℕ} (λ b. cond b 0 (last_finish_tag link flow before)) (link_eq-refl link)) (ap {B = ℕ} (λ b. cond b 0 (virtual_time link before)) (link_eq-refl link))
-  where
-    reached : (a b : ℕ) → a ≤ b → nat_le a b ≡ true
-    reached a b h = grind (arith, nat_tests)
 
 pub tags-begin-afresh : (calls : List Call) (target : Target) (packet : Packet) (moment : ℕ) (later between : List Event) (p : Accepted) →
     trace_of (Submit target packet moment ∷ calls) ≡ later ++ arrived p ∷ between ++ trace_of calls →

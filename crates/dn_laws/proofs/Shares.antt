@@ -5,7 +5,7 @@ use Rattle.std.specs.List.{All, filter}
 use Rattle.std.proofs.Math.Nat.{add-mul, lt-div-mul-add, div-mul-le_self}
 use Rattle.std.proofs.lemmas.List.Sums.{sum-map, sum_by-cons}
 use Rattle.std.proofs.lemmas.Bool.Decides.{nat_tests, leb_tells}
-use Rattle.std.proofs.lemmas.Bool.{leb-true}
+use Rattle.std.proofs.lemmas.Bool.{leb-true, le-leb}
 use Rattle.dn_types.specs.Calls.{trace_of, accept, link_of}
 use Rattle.dn_types.specs.Configuration.{settings}
 use Rattle.dn_laws.specs.Explained.{IsTagged}
@@ -51,9 +51,6 @@ pick-is-fair v hs h e proper = λ k d lt. one (get_or hs k d) (proper k d lt) (p
 no-later : (f g m n : ℕ) → (nat_lt f g || nat_eq f g && nat_lt m n) ≡ false → g ≡ f → n ≤ m
 no-later f g m n h e = grind (arith, nat_tests)
 
-reached : (a b : ℕ) → a ≤ b → nat_le a b ≡ true
-reached a b h = grind (arith, nat_tests)
-
 pub pick-is-least : (v : ℕ) (hs : List Stamped) (h : Stamped) → pick v hs ≡ Some h → All (λ x. x.start_tag ≤ raised v hs → (h.finish_tag ≤ x.finish_tag)
     × (h.finish_tag ≡ x.finish_tag → h.flow ≤ x.flow)) hs
 pick-is-least v hs h e = λ k d lt. one (get_or hs k d) (pick-least v hs h e k d lt)
@@ -61,7 +58,7 @@ pick-is-least v hs h e = λ k d lt. one (get_or hs k d) (pick-least v hs h e k d
     one : (x : Stamped) → (nat_le x.start_tag (raised v hs) ≡ true → goes_before x h ≡ false) → x.start_tag ≤ raised v hs → (h.finish_tag ≤ x.finish_tag)
         × (h.finish_tag ≡ x.finish_tag → h.flow ≤ x.flow)
     one x least soon =
-        let not_first = least (reached x.start_tag (raised v hs) soon) in
+        let not_first = least (le-leb x.start_tag (raised v hs) soon) in
         (not-before x.finish_tag h.finish_tag x.flow h.flow not_first, λ tie. no-later x.finish_tag h.finish_tag x.flow h.flow not_first tie)
 
 -- ---- Virtual time

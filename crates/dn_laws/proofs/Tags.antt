@@ -2,7 +2,7 @@
 use Rattle.std.proofs.Common.{◌≡◌, ◌∙◌, ◌≤◌, ◌<◌, ⊎_elim, ℕ, zero, suc, true, cond, List, [], ◌∷◌, ◌++◌, refl, ap, length, arith}
 use Rattle.std.specs.Prelude.{nat_eq}
 use Rattle.std.specs.List.{All}
-use Rattle.std.proofs.lemmas.Bool.{eqb-true, eq-eqb}
+use Rattle.std.proofs.lemmas.Bool.{eqb-true, eq-eqb, and_from}
 use Rattle.std.proofs.lemmas.Bool.Decides.{leb_tells}
 use Rattle.std.proofs.lemmas.List.Elements.{All-head, All-tail}
 use Rattle.dn_types.specs.Calls.{trace_of}
@@ -16,7 +16,7 @@ use Rattle.dn_types.specs.declared.call.Call.{Call}
 use Rattle.dn_laws.proofs.Begun.{adds-among}
 use Rattle.dn_laws.proofs.Comes.{Comes, call-comes}
 use Rattle.dn_laws.proofs.Isolation.{false-if, none-left}
-use Rattle.dn_types.proofs.Settled.{and-left, both, link_eq-true, link_eq-refl}
+use Rattle.dn_types.proofs.Settled.{and-left, link_eq-true, link_eq-refl}
 use Rattle.dn_types.proofs.Settling.{and-right, backlog-above}
 
 -- ---- Tags
@@ -52,7 +52,7 @@ tags-are-kept link flow later earlier h = (
 )
   where
     mine : (p : Accepted) → p.link ≡ link → p.stamped.flow ≡ flow → is_of link flow p ≡ true
-    mine p on of = both (link_eq p.link link) (nat_eq p.stamped.flow flow) (ap (λ (l : Link). link_eq l link) on ∙ link_eq-refl link) (eq-eqb p.stamped.flow flow of)
+    mine p on of = and_from (link_eq p.link link) (nat_eq p.stamped.flow flow) (ap (λ (l : Link). link_eq l link) on ∙ link_eq-refl link) (eq-eqb p.stamped.flow flow of)
 
 -- ---- Busy periods
 

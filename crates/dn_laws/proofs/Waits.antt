@@ -2,7 +2,7 @@
 use Rattle.std.proofs.Common.{◌≡◌, ◌∙◌, ◌<◌, ⊎_elim, inl, inr, ℕ, ◌+◌, max, Bool, true, false, cond, List, [], ◌∷◌, ◌++◌, refl, ap, sym, subst, length, arith}
 use Rattle.std.specs.Prelude.{Option, Some, None, nat_eq, nat_le, ◌&&◌}
 use Rattle.std.specs.List.{sum_by}
-use Rattle.std.proofs.lemmas.List.{append_cancel_right}
+use Rattle.std.proofs.lemmas.List.{append_cancel_right, append_assoc}
 use Rattle.std.proofs.lemmas.List.Sums.{sum-map, sum_by_push}
 use Rattle.dn_types.specs.Calls.{trace_of, link_of}
 use Rattle.dn_types.specs.Clock.{effective_moment}
@@ -148,10 +148,6 @@ joined rule calls pipe packet moment at flow number told = record {
 
 -- ---- Where it starts
 
-assoc : (xs ys zs : List Event) → (xs ++ ys) ++ zs ≡ xs ++ (ys ++ zs)
-assoc [] ys zs = refl
-assoc (x ∷ xs) ys zs = ap (λ (r : List Event). x ∷ r) (assoc xs ys zs)
-
 pub behind-arrival : (p : Accepted) (before newer later earlier : List Event) (s : Start) → IsProper (newer ++ (arrived p ∷ before)) → newer ++ (arrived p ∷ before) ≡ later ++ started s ∷ earlier →
     s.packet.packet ≡ p.packet → (g : List Event) × (newer ≡ later ++ started s ∷ g) × (earlier ≡ g ++ (arrived p ∷ before))
 behind-arrival p before newer later earlier s proper e same =
@@ -165,7 +161,7 @@ behind-arrival p before newer later earlier s proper e same =
         let here = suffix-proper newer (arrived p ∷ before) proper in
         let low = started-below s rest earlier (subst IsProper tail here.1) in
         let more = count-later (rest ++ started s ∷ []) earlier in
-        let all = ap (λ (t : List Event). accepted_count t) (tail ∙ sym (assoc rest (started s ∷ []) earlier)) in
+        let all = ap (λ (t : List Event). accepted_count t) (tail ∙ sym (append_assoc rest (started s ∷ []) earlier)) in
         let number = here.0 in
         omega (arith, low, more, all, number, same)
 
@@ -230,7 +226,7 @@ module _ (rule : Rule) (after calls : List Call) (pipe : ℕ) (packet : Packet) 
   added = all-stay after (Submit (ToPipe pipe) packet moment ∷ calls)
 
   whole : trace_of (after ++ Submit (ToPipe pipe) packet moment ∷ calls) ≡ (added.0 ++ j.newer) ++ (arrived j.p ∷ (j.between ++ trace_of calls))
-  whole = added.1 ∙ ap (λ (t : List Event). added.0 ++ t) j.parts ∙ sym (assoc added.0 j.newer (arrived j.p ∷ (j.between ++ trace_of calls)))
+  whole = added.1 ∙ ap (λ (t : List Event). added.0 ++ t) j.parts ∙ sym (append_assoc added.0 j.newer (arrived j.p ∷ (j.between ++ trace_of calls)))
 
   found : (g : List Event) × (added.0 ++ j.newer ≡ later ++ started s ∷ g) × (earlier ≡ g ++ (arrived j.p ∷ (j.between ++ trace_of calls)))
   found = behind-arrival j.p (j.between ++ trace_of calls) (added.0 ++ j.newer) later earlier s (subst IsProper whole (trace-proper (after ++ Submit (ToPipe pipe) packet moment ∷ calls)))
@@ -298,7 +294,7 @@ module _ (pipe bw delay : ℕ) (limit : Limit) (loss : ℕ) (buckets : Option �
   since-at after calls c in_force stays =
       let first = before-at calls c in_force in
       let rest = calls-at pipe bw delay limit loss buckets mask link of_pipe after (c ∷ calls) stays in
-      (rest.0 ++ first.0, rest.1 ∙ ap (λ (t : List Event). rest.0 ++ t) first.1 ∙ sym (assoc rest.0 first.0 (trace_of calls)), both-at bw link rest.0 first.0 rest.2 first.2)
+      (rest.0 ++ first.0, rest.1 ∙ ap (λ (t : List Event). rest.0 ++ t) first.1 ∙ sym (append_assoc rest.0 first.0 (trace_of calls)), both-at bw link rest.0 first.0 rest.2 first.2)
 
 pub at-first : (target : Target) (command : Command) (after calls : List Call) (packet : Packet) (moment : ℕ) (to : Target) → StaysInForce target command after (Submit to packet moment ∷ calls) →
     settings calls target ≡ Some command

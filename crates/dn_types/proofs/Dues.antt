@@ -2,8 +2,8 @@
 use Rattle.std.proofs.Common.{◌≡◌, ◌≤◌, ◌<◌, ℕ, max, Bool, true, false, cond, List, [], ◌∷◌, ◌++◌, ap, sym, arith, get_or}
 use Rattle.std.specs.Prelude.{nat_le, nat_lt}
 use Rattle.std.specs.List.{All}
-use Rattle.std.proofs.lemmas.Bool.Decides.{nat_tests}
 use Rattle.std.proofs.lemmas.List.Elements.{filter_passes}
+use Rattle.std.proofs.lemmas.Bool.{leb-true, ltb-true}
 use Rattle.dn_types.specs.Calls.{trace_of}
 use Rattle.dn_types.specs.Clock.{effective_moment}
 use Rattle.dn_types.specs.Configuration.{settings}
@@ -23,20 +23,14 @@ use Rattle.dn_types.proofs.Once.{starts-once}
 pub gives-once : (rule : Rule) (number : ℕ) (calls : List Call) → given_count rule number (trace_of calls) ≤ 1
 gives-once rule number calls = let all = gives-started rule number (trace_of calls) in let once = starts-once number calls in omega arith
 
-by-moment : (a b : ℕ) → nat_le a b ≡ true → a ≤ b
-by-moment a b h = grind (arith, nat_tests)
-
-by-later : (a b : ℕ) → nat_lt a b ≡ true → a < b
-by-later a b h = grind (arith, nat_tests)
-
 pub gives-what-is-due : (rule : Rule) (at : ℕ) (trace : List Event) → All (λ d. d.due ≤ at) (given rule at trace)
-gives-what-is-due rule at trace = λ k d h. by-moment (get_or (given rule at trace) k d).due at (filter_passes (λ d. nat_le d.due at) (undelivered rule trace) k d h)
+gives-what-is-due rule at trace = λ k d h. leb-true (get_or (given rule at trace) k d).due at (filter_passes (λ d. nat_le d.due at) (undelivered rule trace) k d h)
 
 pub leaves-what-is-not-due : (rule : Rule) (moment : ℕ) (calls : List Call) → All (λ d. effective_moment (Collect moment ∷ calls) < d.due) (undelivered rule (trace_of (Collect moment ∷ calls)))
 leaves-what-is-not-due rule moment calls =
     let at = effective_moment (Collect moment ∷ calls) in
     let before = settled (settings calls) at (trace_of calls) in
-    λ k d h. by-later at (get_or (undelivered rule (collected at ∷ before)) k d).due (filter_passes (λ d. nat_lt at d.due) (undelivered rule before) k d h)
+    λ k d h. ltb-true at (get_or (undelivered rule (collected at ∷ before)) k d).due (filter_passes (λ d. nat_lt at d.due) (undelivered rule before) k d h)
 
 -- ---- The due moments of a link
 

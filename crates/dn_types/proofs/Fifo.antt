@@ -6,6 +6,7 @@ use Rattle.dn_types.specs.Links.{free}
 use Rattle.dn_types.specs.Trace.{Link, Accepted, Event, arrived, started, discarded, Start, is_of, backlog, accepted_count}
 use Rattle.dn_types.proofs.Settled.{and-left, link_eq-true}
 use Rattle.std.proofs.lemmas.Bool.{eqb-true}
+use Rattle.std.proofs.lemmas.List.{append_assoc}
 use Rattle.dn_types.proofs.Settling.{and-right}
 
 -- Each accepted packet has the count of those before it as its number, and each start is of the first packet of its
@@ -20,21 +21,17 @@ pub append-none : (xs : List Accepted) → xs ++ [] ≡ xs
 append-none [] = refl
 append-none (x ∷ xs) = ap (λ (r : List Accepted). x ∷ r) (append-none xs)
 
-append-assoc : (xs ys zs : List Accepted) → (xs ++ ys) ++ zs ≡ xs ++ (ys ++ zs)
-append-assoc [] ys zs = refl
-append-assoc (x ∷ xs) ys zs = ap (λ (r : List Accepted). x ∷ r) (append-assoc xs ys zs)
-
 first-rest : (p : Accepted) (q : List Accepted) → slice_get q 0 ≡ Some p → p ∷ drop 1 q ≡ q
 first-rest p [] e = absurd cc
 first-rest p (r ∷ q) e = let same : r ≡ p = cc in ap (λ (x : Accepted). x ∷ q) (sym same)
 
 module _ (link : Link) (flow : ℕ) where
   arrive-more : (b : Bool) (p : Accepted) (acc ss q : List Accepted) → acc ≡ ss ++ q → cond b (acc ++ p ∷ []) acc ≡ ss ++ cond b (q ++ p ∷ []) q
-  arrive-more true p acc ss q e = ap (λ (xs : List Accepted). xs ++ p ∷ []) e ∙ append-assoc ss q (p ∷ [])
+  arrive-more true p acc ss q e = ap (λ (xs : List Accepted). xs ++ p ∷ []) e ∙ append_assoc ss q (p ∷ [])
   arrive-more false p acc ss q e = e
 
   start-more : (b : Bool) (p : Accepted) (acc ss q : List Accepted) → (b ≡ true → slice_get q 0 ≡ Some p) → acc ≡ ss ++ q → acc ≡ cond b (ss ++ p ∷ []) ss ++ cond b (drop 1 q) q
-  start-more true p acc ss q first e = e ∙ ap (λ (xs : List Accepted). ss ++ xs) (sym (first-rest p q (first refl))) ∙ sym (append-assoc ss (p ∷ []) (drop 1 q))
+  start-more true p acc ss q first e = e ∙ ap (λ (xs : List Accepted). ss ++ xs) (sym (first-rest p q (first refl))) ∙ sym (append_assoc ss (p ∷ []) (drop 1 q))
   start-more false p acc ss q first e = e
 
   clear-more : (b : Bool) (acc ss q : List Accepted) → acc ≡ ss ++ q → cond b [] acc ≡ cond b [] ss ++ cond b [] q

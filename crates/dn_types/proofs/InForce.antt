@@ -2,7 +2,7 @@
 use Rattle.std.proofs.Common.{◌≡◌, ◌∙◌, ℕ, Bool, true, false, cond, ◌||◌, List, [], ◌∷◌, refl, ap, sym, subst}
 use Rattle.std.specs.Prelude.{Option, Some, None, nat_eq, is_some, ⊤}
 use Rattle.std.specs.List.{list_any}
-use Rattle.std.proofs.lemmas.Bool.{eqb-true, eq-eqb}
+use Rattle.std.proofs.lemmas.Bool.{eqb-true, eq-eqb, or_right}
 use Rattle.dn_types.specs.Configuration.{Settings, settings, target_eq, subject, is_queue_of, has_queues, queue_numbers, command_reply, setting_after}
 use Rattle.dn_types.specs.Flows.{Treatment, treatment}
 use Rattle.dn_types.specs.declared.call.Call.{Call}
@@ -81,10 +81,6 @@ any-of test q (x ∷ queues) is there = by (nat_eq q x) refl (test x) refl there
     by true e false f there rest = let t : true ≡ false = sym is ∙ ap test (eqb-true q x e) ∙ f in absurd cc
     by false e false f there rest = rest there
 
-or-more : (a b : Bool) → b ≡ true → (a || b) ≡ true
-or-more true b e = refl
-or-more false b e = e
-
 whole-after : (set : Settings) (queues : List ℕ) (command : Command) → IsWhole set queues →
     IsWhole (after set queues command) (elim command as (λ _. List ℕ) [
       | Pipe number bw delay limit loss buckets mask ↦ queues
@@ -106,7 +102,7 @@ whole-after set queues (Queue number pipe weight limit loss buckets mask) h = re
         is_queue_of n (cond b (setting_after (cond c Configured NoSuchPipe) (Queue number pipe weight limit loss buckets mask) (set (ToQueue q))) (set (ToQueue q))) ≡ true →
         (nat_eq q number || list_any (λ x. nat_eq q x) queues) ≡ true
     in-list q n true e c is = ap (λ b. b || list_any (λ x. nat_eq q x) queues) (eq-eqb q number (sym (eqb-true number q e)))
-    in-list q n false e c is = or-more (nat_eq q number) (list_any (λ x. nat_eq q x) queues) (h.listed q n is)
+    in-list q n false e c is = or_right (nat_eq q number) (list_any (λ x. nat_eq q x) queues) (h.listed q n is)
 
     there : (q n : ℕ) (b c : Bool) → is_some (set (ToPipe pipe)) ≡ c →
         is_queue_of n (cond b (setting_after (cond c Configured NoSuchPipe) (Queue number pipe weight limit loss buckets mask) (set (ToQueue q))) (set (ToQueue q))) ≡ true →

@@ -2,7 +2,7 @@
 use Rattle.std.proofs.Common.{◌≡◌, ◌∙◌, ⊎_elim, ℕ, zero, suc, Bool, true, false, cond, ◌&&◌, ◌||◌, List, [], ◌∷◌, ◌++◌, refl, ap, sym, arith}
 use Rattle.std.specs.Prelude.{Option, Some, None, nat_eq, slice_get, ⊤}
 use Rattle.std.specs.List.{list_any}
-use Rattle.std.proofs.lemmas.Bool.{eqb-true, eq-eqb}
+use Rattle.std.proofs.lemmas.Bool.{eqb-true, eq-eqb, and_from}
 use Rattle.std.proofs.lemmas.Option.{slice_get_within}
 use Rattle.dn_types.specs.Configuration.{settings, target_eq}
 use Rattle.dn_types.specs.Flows.{Treatment, treatment, tuple_eq, mask_eq, key_eq, key_of, with_key, keys_with, keys}
@@ -14,7 +14,7 @@ use Rattle.dn_types.specs.declared.mask.Mask.{Mask}
 use Rattle.dn_types.specs.declared.target.Target.{Target}
 use Rattle.dn_types.specs.declared.target.Target.TheVariants.{Pipe as ToPipe, Queue as ToQueue}
 use Rattle.dn_types.proofs.InForce.{target_eq-true}
-use Rattle.dn_types.proofs.Settled.{and-left, both, true_or_false}
+use Rattle.dn_types.proofs.Settled.{and-left, true_or_false}
 use Rattle.dn_types.proofs.Settling.{and-right}
 
 -- ---- Equal keys
@@ -61,11 +61,11 @@ target_eq-refl (ToPipe n) = same n
 target_eq-refl (ToQueue n) = same n
 
 five : (a b c d e : ℕ) → (nat_eq a a && nat_eq b b && nat_eq c c && nat_eq d d && nat_eq e e) ≡ true
-five a b c d e = both _ _ (both _ _ (both _ _ (both _ _ (same a) (same b)) (same c)) (same d)) (same e)
+five a b c d e = and_from _ _ (and_from _ _ (and_from _ _ (and_from _ _ (same a) (same b)) (same c)) (same d)) (same e)
 
 key_eq-refl : (k : FlowKey) → key_eq k k ≡ true
 key_eq-refl k =
-    both _ _ (both _ _ (both _ _ (target_eq-refl k.target) (same k.pipe)) (five k.mask.src k.mask.dst k.mask.proto k.mask.sport k.mask.dport))
+    and_from _ _ (and_from _ _ (and_from _ _ (target_eq-refl k.target) (same k.pipe)) (five k.mask.src k.mask.dst k.mask.proto k.mask.sport k.mask.dport))
     (five k.tuple.src k.tuple.dst k.tuple.proto k.tuple.sport k.tuple.dport)
 
 -- ---- Each key stands once

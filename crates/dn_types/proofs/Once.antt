@@ -2,7 +2,7 @@
 use Rattle.std.proofs.Common.{◌≡◌, ◌∙◌, ◌≤◌, ℕ, ◌+◌, Bool, true, false, cond, ◌&&◌, List, [], ◌∷◌, ◌++◌, refl, ap, sym, drop, arith}
 use Rattle.std.specs.Prelude.{Some, nat_eq, nat_lt, slice_get}
 use Rattle.std.specs.List.{count_by}
-use Rattle.std.proofs.lemmas.Bool.{eqb-true, eq-eqb}
+use Rattle.std.proofs.lemmas.Bool.{eqb-true, eq-eqb, and_from}
 use Rattle.std.proofs.lemmas.Bool.Decides.{nat_tests}
 use Rattle.std.proofs.lemmas.List.Sums.{sum_by-cons, sum_by-append}
 use Rattle.dn_types.specs.Calls.{trace_of}
@@ -20,11 +20,7 @@ same-place : (l m : Link) (f g : ℕ) (p : Accepted) → is_of l f p ≡ true �
 same-place l m f g p e h =
     let links : l ≡ m = sym (link_eq-true p.link l (and-left _ (nat_eq p.stamped.flow f) e)) ∙ link_eq-true p.link m (and-left _ (nat_eq p.stamped.flow g) h) in
     let flows : f ≡ g = sym (eqb-true p.stamped.flow f (and-right _ (nat_eq p.stamped.flow f) e)) ∙ eqb-true p.stamped.flow g (and-right _ (nat_eq p.stamped.flow g) h) in
-    both (link_eq l m) (nat_eq f g) (ap (link_eq l) (sym links) ∙ link_eq-refl l) (eq-eqb f g flows)
-  where
-    both : (a b : Bool) → a ≡ true → b ≡ true → (a && b) ≡ true
-    both true b e f = f
-    both false b e f = absurd cc
+    and_from (link_eq l m) (nat_eq f g) (ap (link_eq l) (sym links) ∙ link_eq-refl l) (eq-eqb f g flows)
 
 module _ (n : ℕ) where
   abbrev is_number : Accepted → Bool

@@ -2,6 +2,7 @@
 use Rattle.std.proofs.Common.{subst, map, ◌≡◌, ◌∙◌, ◌≤◌, ℕ, ◌+◌, max, Bool, true, false, cond, ◌&&◌, List, [], ◌∷◌, ◌++◌, refl, ap, sym, arith}
 use Rattle.std.specs.Prelude.{Option, Some, None, nat_le, nat_eq, slice_get, ⊤}
 use Rattle.std.proofs.lemmas.Bool.Decides.{nat_tests}
+use Rattle.std.proofs.lemmas.Bool.{and_from}
 use Rattle.dn_types.specs.Calls.{verdict_by, link_of, Verdict, no_target, loses, refuses, takes, accept, join, after_verdict, verdict, reaches, discard_reached, after_command, trace_of}
 use Rattle.dn_types.specs.Clock.{effective_moment}
 use Rattle.dn_types.specs.Configuration.{Settings, settings, reply_to_command}
@@ -61,14 +62,10 @@ pub one-first : (link : Link) (flow : ℕ) (p : Accepted) (b : Bool) (q : List A
 one-first link flow p b q e f = (λ i. slice_get (cond (e i) (f i ++ p ∷ []) (f i)) 0)
 
 pub of-own : (p : Accepted) → is_of p.link p.stamped.flow p ≡ true
-of-own p = both _ _ (link_eq-refl p.link) same
+of-own p = and_from _ _ (link_eq-refl p.link) same
   where
     same : nat_eq p.stamped.flow p.stamped.flow ≡ true
     same = grind (arith, nat_tests)
-
-    both : (a b : Bool) → a ≡ true → b ≡ true → (a && b) ≡ true
-    both true b e f = f
-    both false b e f = absurd cc
 
 join-proper : (set : Settings) (at : ℕ) (p : Accepted) (trace : List Event) → p.packet ≡ accepted_count trace
     → IsProper trace → (free p.link trace ≤ at → backlog p.link p.stamped.flow trace ≡ []) → IsProper (join set at p trace)

@@ -2,7 +2,7 @@
 use Rattle.std.proofs.Common.{◌≡◌, ◌∙◌, ◌≤◌, ◌<◌, ◌⊎◌, ℕ, zero, suc, ◌+◌, Bool, true, false, cond, ◌&&◌, ◌||◌, List, [], ◌∷◌, ◌++◌, refl, ap, sym, length, drop, arith, ⊎_elim, inl, inr}
 use Rattle.std.specs.Prelude.{Option, Some, None, nat_lt, nat_eq, slice_get}
 use Rattle.std.specs.List.{list_any}
-use Rattle.std.proofs.lemmas.Bool.{eqb-true, eq-eqb}
+use Rattle.std.proofs.lemmas.Bool.{eqb-true, eq-eqb, and_from, or_parts}
 use Rattle.std.proofs.lemmas.List.Folds.{list_any-append}
 use Rattle.dn_types.specs.Configuration.{Settings}
 use Rattle.dn_types.specs.Links.{last_due, due_by, arrival_time, free}
@@ -24,12 +24,8 @@ link_eq-true (shared a) (shared b) e = ap shared (eqb-true a b e)
 link_eq-true (own a f) (shared b) e = absurd cc
 link_eq-true (shared a) (own b g) e = absurd cc
 
-pub both : (a b : Bool) → a ≡ true → b ≡ true → (a && b) ≡ true
-both true b e f = f
-both false b e f = absurd cc
-
 pub link_eq-refl : (x : Link) → link_eq x x ≡ true
-link_eq-refl (own a f) = both (nat_eq a a) (nat_eq f f) (eq-eqb a a refl) (eq-eqb f f refl)
+link_eq-refl (own a f) = and_from (nat_eq a a) (nat_eq f f) (eq-eqb a a refl) (eq-eqb f f refl)
 link_eq-refl (shared a) = eq-eqb a a refl
 
 pub true_or_false : (b : Bool) → (b ≡ true) ⊎ (b ≡ false)
@@ -63,13 +59,9 @@ next_start-link settings at link trace s e =
 unknown-before : (link other : Link) (known : List Link) → list_any (link_eq link) (with_link other known) ≡ false → list_any (link_eq link) known ≡ false
 unknown-before link other known = by_test (list_any (link_eq other) known)
   where
-    or-left : (a b : Bool) → (a || b) ≡ false → a ≡ false
-    or-left false b h = refl
-    or-left true b h = absurd cc
-
     by_test : (b : Bool) → list_any (link_eq link) (cond b known (known ++ other ∷ [])) ≡ false → list_any (link_eq link) known ≡ false
     by_test true e = e
-    by_test false e = or-left (list_any (link_eq link) known) (list_any (link_eq link) (other ∷ [])) (sym (list_any-append (link_eq link) known (other ∷ [])) ∙ e)
+    by_test false e = (or_parts (list_any (link_eq link) known) (list_any (link_eq link) (other ∷ [])) (sym (list_any-append (link_eq link) known (other ∷ [])) ∙ e)).0
 
 -- A link of which no packet was seen has empty queues.
 pub backlog-unknown : (link : Link) (flow : ℕ) (trace : List Event) → list_any (link_eq link) (links trace) ≡ false → backlog link flow trace ≡ []
@@ -83,14 +75,6 @@ backlog-unknown link flow (arrived p ∷ trace) e = by_test (list_any (link_eq p
     not_here : link_eq p.link link ≡ false → backlog link flow trace ≡ [] → cond (is_of link flow p) (backlog link flow trace ++ p ∷ []) (backlog link flow trace) ≡ []
     not_here other none = ap (λ b. cond (b && nat_eq p.stamped.flow flow) (backlog link flow trace ++ p ∷ []) (backlog link flow trace)) other ∙ none
 
-    or-left : (a b : Bool) → (a || b) ≡ false → a ≡ false
-    or-left false b h = refl
-    or-left true b h = absurd cc
-
-    or-right : (a b : Bool) → (a || b) ≡ false → b ≡ false
-    or-right false b h = h
-    or-right true b h = absurd cc
-
     by_test : (b : Bool) → list_any (link_eq p.link) (links trace) ≡ b → list_any (link_eq link) (cond b (links trace) (links trace ++ p.link ∷ [])) ≡ false
         → (list_any (link_eq link) (links trace) ≡ false → backlog link flow trace ≡ [])
         → cond (is_of link flow p) (backlog link flow trace ++ p ∷ []) (backlog link flow trace) ≡ []
@@ -99,10 +83,10 @@ backlog-unknown link flow (arrived p ∷ trace) e = by_test (list_any (link_eq p
         (link_eq-true p.link link same)) ∙ is in let t : true ≡ false = sym there ∙ absent in cc)) (rest absent)
     by_test false is absent rest =
         let split = sym (list_any-append (link_eq link) (links trace) (p.link ∷ [])) ∙ absent in
-        let not_last = or-left (link_eq link p.link) false (or-right (list_any (link_eq link) (links trace)) (list_any (link_eq link) (p.link ∷ [])) split) in
+        let not_last = (or_parts (link_eq link p.link) false (or_parts (list_any (link_eq link) (links trace)) (list_any (link_eq link) (p.link ∷ [])) split).1).0 in
         not_here
         (apart (λ same. let here : link_eq link p.link ≡ true = ap (link_eq link) (link_eq-true p.link link same) ∙ link_eq-refl link in let t : true ≡ false = sym here ∙ not_last in cc))
-        (rest (or-left (list_any (link_eq link) (links trace)) (list_any (link_eq link) (p.link ∷ [])) split))
+        (rest (or_parts (list_any (link_eq link) (links trace)) (list_any (link_eq link) (p.link ∷ [])) split).0)
 backlog-unknown link flow (started s ∷ trace) e = none (is_of link flow s.packet) (backlog link flow trace) (backlog-unknown link flow trace e)
   where
     none : (b : Bool) (q : List Accepted) → q ≡ [] → cond b (drop 1 q) q ≡ []

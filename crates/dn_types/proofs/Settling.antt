@@ -3,7 +3,7 @@ use Rattle.std.proofs.Common.{◌≡◌, ◌∙◌, ◌≤◌, ◌<◌, ◌≢�
 use Rattle.std.specs.Prelude.{Option, Some, None, nat_le, nat_eq, slice_get, option_and_then, option_map}
 use Rattle.std.specs.List.{All}
 use Rattle.std.proofs.lemmas.List.Elements.{All-push, All-drop}
-use Rattle.std.proofs.lemmas.Bool.{eqb-true}
+use Rattle.std.proofs.lemmas.Bool.{eqb-true, and_right}
 use Rattle.std.proofs.lemmas.Bool.Decides.{eqb_tells, leb_tells}
 use Rattle.dn_types.specs.Configuration.{Settings}
 use Rattle.dn_types.specs.Links.{free}
@@ -47,11 +47,7 @@ module _ (link : Link) (flow : ℕ) where
 
   -- No packet has a flow number from the bound on.
   is_of-above : (p : Accepted) → p.stamped.flow < flow → is_of link flow p ≡ false
-  is_of-above p h = ⊎_elim (λ same. absurd (omega (arith, same.1))) (λ other. ap (λ b. link_eq p.link link && b) other.0 ∙ and_false (link_eq p.link link)) (eqb_tells p.stamped.flow flow)
-    where
-      and_false : (b : Bool) → (b && false) ≡ false
-      and_false true = refl
-      and_false false = refl
+  is_of-above p h = ⊎_elim (λ same. absurd (omega (arith, same.1))) (λ other. ap (λ b. link_eq p.link link && b) other.0 ∙ and_right (link_eq p.link link) false refl) (eqb_tells p.stamped.flow flow)
 
   cond-same : (b : Bool) (xs ys : List Accepted) → xs ≡ [] → ys ≡ [] → cond b xs ys ≡ []
   cond-same true xs ys e f = e
