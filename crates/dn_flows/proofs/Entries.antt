@@ -3,6 +3,7 @@ use Rattle.std.proofs.Common.{◌≡◌, ◌≢◌, ◌∙◌, ◌⊎◌, ◌||�
 use Rattle.std.specs.Prelude.{Some, None, nat_eq, slice_get}
 use Rattle.std.specs.List.{list_any}
 use Rattle.std.proofs.lemmas.Bool.{cases_eq, eqb-true}
+use Rattle.std.proofs.lemmas.Option.{same_Some}
 use Rattle.dn_types.specs.Configuration.{target_eq}
 use Rattle.dn_types.specs.Flows.{key_eq}
 use Rattle.dn_types.specs.declared.flow_key.FlowKey.{FlowKey}
@@ -39,14 +40,12 @@ module _ (keys : List FlowKey) (queues queues' : List FlowQueue) (m m' : Members
     listed = λ g q there. still-listed g q there (cases_eq g flow);
   }
 
-one-some : {X : Type 0} (x y : X) → Some x ≡ Some y → x ≡ y
-one-some x y e = cc
-
 -- One queue changes, and is listed as it was.
 pub listed-set : (keys : List FlowKey) (queues : List FlowQueue) (m : Members) (flow : ℕ) (q q' : FlowQueue) → AreListed keys queues m → slice_get queues flow ≡ Some q
     → q'.on_pipe ≡ q.on_pipe → q'.of_queue ≡ q.of_queue → IsListed q' → AreListed keys (set queues flow q') m
 listed-set keys queues m flow q q' a there pipe queue is =
-    listed-but keys queues (set queues flow q') m m flow a (λ target g ne h. h) (λ g ne. get-set-other queues flow g q' ne) (λ x at. here x (one-some q' x (sym (get-set queues flow q q' there) ∙ at)))
+    listed-but keys queues (set queues flow q') m m flow a (λ target g ne h. h) (λ g ne. get-set-other queues flow g q' ne)
+    (λ x at. here x (same_Some q' x (sym (get-set queues flow q q' there) ∙ at)))
   where
     flag : (target : Target) → is_listed target q' ≡ is_listed target q
     flag (ToPipe p) = pipe
@@ -173,12 +172,12 @@ module _ (keys : List FlowKey) (queues : List FlowQueue) (m m' : Members) (flow 
   joins : IsListed q' → ((target : Target) → is_at target key ≡ true → is_listed target q' ≡ true → IsMember target flow m') → AreListed keys (set queues flow q') m'
   joins is member =
       listed-but keys queues (set queues flow q') m m' flow a (λ target g ne h. keeps target g h) (λ g ne. get-set-other queues flow g q' ne)
-      (λ x at. here x (one-some q' x (sym (get-set queues flow q q' there) ∙ at)))
+      (λ x at. here x (same_Some q' x (sym (get-set queues flow q q' there) ∙ at)))
     where
       here : (x : FlowQueue) → q' ≡ x → IsListed x × ((target : Target) (k : FlowKey) → slice_get keys flow ≡ Some k → is_at target k ≡ true → is_listed target x ≡ true → IsMember target flow m')
       here x same = (
         subst IsListed same is,
-        λ target k at-k at listed. let key_is : key ≡ k = one-some key k (sym its ∙ at-k) in member target (ap (is_at target) key_is ∙ at) (ap (is_listed target) same ∙ listed),
+        λ target k at-k at listed. let key_is : key ≡ k = same_Some key k (sym its ∙ at-k) in member target (ap (is_at target) key_is ∙ at) (ap (is_listed target) same ∙ listed),
       )
 
   -- Nothing is put into a list for it.

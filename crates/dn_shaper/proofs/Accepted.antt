@@ -1,7 +1,7 @@
 -- A packet was accepted: all parts agree, and the heap and the counts follow.
 use Rattle.std.proofs.Common.{◌≡◌, ◌∙◌, ◌≤◌, ◌<◌, ◌^◌, ℕ, suc, ◌+◌, Bool, true, false, cond, ◌&&◌, List, [], ◌∷◌, set, refl, ap, sym, subst, length, arith, IsPermutation}
 use Rattle.std.specs.Prelude.{Option, Some, None, nat_eq, nat_le, slice_get}
-use Rattle.std.proofs.lemmas.Bool.{eqb-true}
+use Rattle.std.proofs.lemmas.Bool.{eqb-true, and_parts}
 use Rattle.std.proofs.lemmas.Bool.Decides.{nat_tests}
 use Rattle.std.proofs.lemmas.List.Sorted.{length_permutation}
 use Rattle.dn_heap.specs.Heap.{Heap}
@@ -32,14 +32,10 @@ use Rattle.dn_shaper.proofs.Accepting.{within-more, holds_pushed, backlogged-one
 use Rattle.dn_shaper.proofs.HomeRead.{in-table}
 use Rattle.dn_shaper.proofs.Settles.{pipe-carried}
 
-left : (x y : Bool) → (x && y) ≡ true → (x ≡ true) × (y ≡ true)
-left true y e = (refl, e)
-left false y e = absurd cc
-
 -- No packet waits for an idle link, and it is free.
 pub idle-is : (at : ℕ) (v : LinkView) → is_idle at v ≡ true → (v.waits ≡ 0) × (v.value.free ≤ at)
 idle-is at v is =
-    let e = left (nat_eq v.waits 0) (nat_le v.value.free at) is in
+    let e = and_parts (nat_eq v.waits 0) (nat_le v.value.free at) is in
     (eqb-true v.waits 0 e.0, low v.value.free e.1)
   where
     low : (m : ℕ) → nat_le m at ≡ true → m ≤ at

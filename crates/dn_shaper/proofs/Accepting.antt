@@ -2,7 +2,7 @@
 use Rattle.std.proofs.Common.{◌≡◌, ◌∙◌, ◌≤◌, ◌<◌, ◌⊎◌, ◌^◌, ℕ, zero, suc, ◌+◌, Bool, true, false, cond, List, [], ◌∷◌, set, get_or, refl, ap, sym, subst}
 use Rattle.std.proofs.Common.{length, arith, inl, inr, IsPermutation, slice_index_or, get_or-set_same, get_or-set_other}
 use Rattle.std.specs.Prelude.{Option, Some, None, is_some, nat_lt, slice_get}
-use Rattle.std.proofs.lemmas.Bool.{cases_eq}
+use Rattle.std.proofs.lemmas.Bool.{cases_eq, lt-ltb, le-ltb}
 use Rattle.std.proofs.lemmas.Bool.Decides.{nat_tests}
 use Rattle.std.proofs.lemmas.List.Elements.{All-cons}
 use Rattle.std.proofs.lemmas.List.Sorted.{All-permutation}
@@ -89,12 +89,6 @@ next-listed [] i o e = absurd cc
 next-listed (x ∷ d) zero o e = let same : x ≡ o = cc in same
 next-listed (x ∷ d) (suc i) o e = next-listed d i o e
 
-sure : (n : ℕ) → 0 < n → nat_lt 0 n ≡ true
-sure n h = grind (arith, nat_tests)
-
-never : (n : ℕ) → n ≤ 0 → nat_lt 0 n ≡ false
-never n h = grind (arith, nat_tests)
-
 -- Whether packets wait, by the count of them.
 pub none-waits : (n : ℕ) (b : Bool) → b ≡ nat_lt 0 n → b ≡ false → n ≡ 0
 none-waits n b is e = grind (arith, nat_tests)
@@ -103,10 +97,10 @@ pub some-waits : (n : ℕ) (b : Bool) → b ≡ nat_lt 0 n → b ≡ true → 0 
 some-waits n b is e = grind (arith, nat_tests)
 
 pub next-some : (v : LinkView) → 0 < v.waits → next_start_of v ≡ Some v.value.free
-next-some v some = ap {B = Option ℕ} (λ b. cond b (Some v.value.free) None) (sure v.waits some)
+next-some v some = ap {B = Option ℕ} (λ b. cond b (Some v.value.free) None) (lt-ltb 0 v.waits some)
 
 pub next-none : (v : LinkView) → v.waits ≤ 0 → next_start_of v ≡ None
-next-none v none = ap {B = Option ℕ} (λ b. cond b (Some v.value.free) None) (never v.waits none)
+next-none v none = ap {B = Option ℕ} (λ b. cond b (Some v.value.free) None) (le-ltb 0 v.waits none)
 
 -- ---- What accepting needs
 

@@ -1,7 +1,7 @@
 -- All parts agree with the arrival of a packet at its flow's queue.
-use Rattle.std.proofs.Common.{◌≡◌, ◌∙◌, ◌<◌, ◌⊎◌, ℕ, ◌+◌, Bool, true, false, cond, ◌&&◌, ◌||◌, List, [], ◌∷◌, ◌++◌, map, set, refl, ap, sym, subst, length, arith, inl, inr}
+use Rattle.std.proofs.Common.{◌≡◌, ◌∙◌, ◌<◌, ◌⊎◌, ℕ, ◌+◌, true, false, cond, ◌&&◌, ◌||◌, List, [], ◌∷◌, ◌++◌, map, set, refl, ap, sym, subst, length, arith, inl, inr}
 use Rattle.std.specs.Prelude.{Some, nat_eq, slice_get}
-use Rattle.std.proofs.lemmas.Bool.{cases_eq}
+use Rattle.std.proofs.lemmas.Bool.{cases_eq, and_from}
 use Rattle.dn_types.specs.Wf2q.{Stamped}
 use Rattle.dn_types.specs.Trace.{Link, shared, link_eq, Accepted, Event, arrived, is_of, backlog, links, with_link, is_start_of, is_loss_of, is_refusal_of, is_arrival}
 use Rattle.dn_types.specs.Links.{free, last_due}
@@ -37,12 +37,8 @@ module _ (rule : Rule) (accepted : ℕ) (keys : List FlowKey) (homes : List Home
       (slot : ℕ) × (slice_get v.slots slot ≡ Some flow) × (slot < length v.schedule.flows) ×
       (v'.schedule.flows ≡ set v.schedule.flows slot (joined_by (slot_at v.schedule.flows slot) (slotted slot p.stamped))) ×
       (v'.schedule.virtual_time ≡ v.schedule.virtual_time)) where
-    both : (x y : Bool) → x ≡ true → y ≡ true → (x && y) ≡ true
-    both true y e f = f
-    both false y e f = absurd cc
-
     is_here : is_of v.link flow p ≡ true
-    is_here = (λ i. link_eq (on i) v.link && nat_eq (flow_is i) flow) ∙ both (link_eq v.link v.link) (nat_eq flow flow) (link_eq-refl v.link) (eq-yes flow flow refl)
+    is_here = (λ i. link_eq (on i) v.link && nat_eq (flow_is i) flow) ∙ and_from (link_eq v.link v.link) (nat_eq flow flow) (link_eq-refl v.link) (eq-yes flow flow refl)
 
     not_flow : (l : Link) (g : ℕ) → (flow ≡ g → ⊥) → is_of l g p ≡ false
     not_flow l g ne = and-no (link_eq p.link l) (nat_eq p.stamped.flow g) (ap (λ x. nat_eq x g) flow_is ∙ eq-no flow g ne)

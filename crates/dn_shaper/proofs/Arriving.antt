@@ -1,7 +1,7 @@
 -- All parts agree with a packet that is accepted.
 use Rattle.std.proofs.Common.{◌≡◌, ◌∙◌, ◌≤◌, ◌<◌, ◌⊎◌, ℕ, zero, suc, ◌+◌, Bool, true, false, cond, ◌&&◌, List, [], ◌∷◌, ◌++◌, map, set, refl, ap, sym, subst, length, arith, ⊎_elim, inl, inr}
 use Rattle.std.specs.Prelude.{Some, None, nat_eq, nat_le, slice_get, option_map}
-use Rattle.std.proofs.lemmas.Bool.{cases_eq, cases_lt}
+use Rattle.std.proofs.lemmas.Bool.{cases_eq, cases_lt, and_parts, and_right}
 use Rattle.dn_types.specs.Calls.{accept}
 use Rattle.dn_types.specs.Configuration.{Settings}
 use Rattle.dn_types.specs.Flows.{Treatment}
@@ -31,6 +31,7 @@ use Rattle.dn_flows.proofs.Places.{eq-yes, get-set, get-set-other, map-set, map-
 use Rattle.dn_types.proofs.Settling.{next_packet-first}
 use Rattle.dn_shaper.proofs.Waiting.{empty-all}
 use Rattle.std.proofs.lemmas.Bool.{eqb-true}
+use Rattle.std.proofs.lemmas.List.{set_past}
 use Rattle.dn_shaper.specs.Refinement.Views.{waits_in_all}
 
 pub set-set : {X : Type 0} (xs : List X) (k : ℕ) (x y : X) → set (set xs k x) k y ≡ set xs k y
@@ -42,11 +43,6 @@ pub set-self : {X : Type 0} (xs : List X) (k : ℕ) (x : X) → slice_get xs k �
 set-self [] k x e = absurd cc
 set-self (z ∷ xs) zero x e = let same : z ≡ x = cc in λ i. sym same i ∷ xs
 set-self (z ∷ xs) (suc k) x e = λ i. z ∷ set-self xs k x e i
-
-set-beyond : {X : Type 0} (xs : List X) (k : ℕ) (x : X) → length xs ≤ k → set xs k x ≡ xs
-set-beyond [] k x le = refl
-set-beyond (z ∷ xs) zero x le = absurd (omega arith)
-set-beyond (z ∷ xs) (suc k) x le = λ i. z ∷ set-beyond xs k x (omega arith) i
 
 length-mapped : (slot : ℕ) (ps : List Accepted) → length (map (slotted slot) (stamped_of ps)) ≡ length ps
 length-mapped slot [] = refl
@@ -170,7 +166,7 @@ module _ (settings : Settings) (at : ℕ) (h : Home) (flow len weight : ℕ) (id
             (λ ge. absurd
             (let same = ap (λ (fs : List Flow). waiting_in fs)
             (r.flows
-            ∙ set-beyond (begun_flows idle s.view.schedule) h.slot
+            ∙ set_past (begun_flows idle s.view.schedule) h.slot
             (joined_by (slot_at (begun_flows idle s.view.schedule) h.slot) (stamped h.slot (slot_at (begun_flows idle s.view.schedule) h.slot) (begun_time idle s.view.schedule) len weight)) ge) in
             let one = r.one_more in omega arith))
             (cases_lt h.slot (length (begun_flows idle s.view.schedule)))
@@ -212,16 +208,9 @@ module _ (settings : Settings) (at : ℕ) (h : Home) (flow len weight : ℕ) (id
     pub next-alone : idle ≡ true → (p : Accepted) → next_packet l (arrived the_packet ∷ before) ≡ Some p → p ≡ the_packet
     next-alone yes' p next =
         let first = next_packet-first l (arrived the_packet ∷ before) p next in
-        let z : waiting l before ≡ 0 = waiting-then ∙ zero_if (waiting l trace) (left (nat_eq (waiting l trace) 0) (nat_le (free l trace) at) (sym opens_there ∙ yes')) in
+        let z : waiting l before ≡ 0 = waiting-then ∙ eqb-true (waiting l trace) 0 (and_parts (nat_eq (waiting l trace) 0) (nat_le (free l trace) at) (sym opens_there ∙ yes')).0 in
         only (is_of l first.0 the_packet) (backlog l first.0 before) (empty-all l before z first.0) first.1
       where
-        left : (x y : Bool) → (x && y) ≡ true → x ≡ true
-        left true y e = refl
-        left false y e = absurd cc
-
-        zero_if : (n : ℕ) → nat_eq n 0 ≡ true → n ≡ 0
-        zero_if n e = eqb-true n 0 e
-
         only : (b : Bool) (q : List Accepted) → q ≡ [] → slice_get (cond b (q ++ the_packet ∷ []) q) 0 ≡ Some p → p ≡ the_packet
         only true [] e f = let same : the_packet ≡ p = cc in sym same
         only false [] e f = absurd cc
@@ -250,11 +239,7 @@ module _ (settings : Settings) (at : ℕ) (h : Home) (flow len weight : ℕ) (id
       by : (0 < s.view.waits) ⊎ (s.view.waits ≤ 0) → nat_le (free l trace) at ≡ idle
       by (inl some) =
           let f = not-free some none in
-          f ∙ sym (opens_there ∙ ap (λ t. nat_eq (waiting l trace) 0 && t) f ∙ and_false (nat_eq (waiting l trace) 0))
-        where
-          and_false : (x : Bool) → (x && false) ≡ false
-          and_false true = refl
-          and_false false = refl
+          f ∙ sym (opens_there ∙ ap (λ t. nat_eq (waiting l trace) 0 && t) f ∙ and_right (nat_eq (waiting l trace) 0) false refl)
       by (inr zero_waits) =
           let z : nat_eq s.view.waits 0 ≡ true = eq-yes s.view.waits 0 (omega arith) in
           let e = (a.views_are h.place s.view s.there).free_is in

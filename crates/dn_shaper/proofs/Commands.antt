@@ -2,7 +2,7 @@
 use Rattle.std.proofs.Common.{◌≡◌, ◌∙◌, ◌||◌, ℕ, Bool, true, false, cond, List, [], ◌∷◌, refl, ap, sym, ⊎_elim, true≢false}
 use Rattle.std.specs.Prelude.{Option, Some, None, is_some, nat_eq}
 use Rattle.std.specs.List.{list_any}
-use Rattle.std.proofs.lemmas.Bool.{cases_eq}
+use Rattle.std.proofs.lemmas.Bool.{eqb-true, or_right}
 use Rattle.dn_types.specs.Configuration.{is_queue_of, settings, command_reply, queue_numbers, setting_after}
 use Rattle.dn_types.specs.declared.call.Call.{Call}
 use Rattle.dn_types.specs.declared.call.Call.TheVariants.{Configure, Submit, Advance, Collect, Show}
@@ -12,14 +12,7 @@ use Rattle.dn_types.specs.declared.reply.Reply.TheVariants.{Deleted, NoSuchQueue
 use Rattle.dn_types.specs.declared.target.Target.TheVariants.{Queue as ToQueue}
 use Rattle.dn_types.proofs.Settled.{true_or_false}
 use Rattle.dn_shaper.specs.Refinement.Configuring.{Lists}
-use Rattle.dn_flows.proofs.Places.{eq-no, eq-yes}
-
-pub same-number : (a b : ℕ) → nat_eq a b ≡ true → a ≡ b
-same-number a b e = ⊎_elim (λ s. s) (λ ne. let n = eq-no a b ne in absurd cc) (cases_eq a b)
-
-or-right : (a b : Bool) → b ≡ true → (a || b) ≡ true
-or-right true b e = refl
-or-right false b e = e
+use Rattle.dn_flows.proofs.Places.{eq-yes}
 
 pub is-some : (pipe : ℕ) (o : Option Command) → is_queue_of pipe o ≡ true → is_some o ≡ true
 is-some pipe None e = absurd (true≢false (sym e))
@@ -34,8 +27,8 @@ pub listed-passes : (test : ℕ → Bool) (q : ℕ) (qs : List ℕ) → list_any
 listed-passes test q [] e t = absurd (true≢false (sym e))
 listed-passes test q (x ∷ xs) e t =
     ⊎_elim
-    (λ yes'. ap (λ b. b || list_any test xs) (ap test (sym (same-number q x yes')) ∙ t))
-    (λ no'. or-right (test x) (list_any test xs) (listed-passes test q xs (ap (λ b. b || list_any (nat_eq q) xs) (sym no') ∙ e) t))
+    (λ yes'. ap (λ b. b || list_any test xs) (ap test (sym (eqb-true q x yes')) ∙ t))
+    (λ no'. or_right (test x) (list_any test xs) (listed-passes test q xs (ap (λ b. b || list_any (nat_eq q) xs) (sym no') ∙ e) t))
     (true_or_false (nat_eq q x))
 
 pub passing : (test : ℕ → Bool) (qs : List ℕ) → list_any test qs ≡ true → (q : ℕ) × (test q ≡ true)
@@ -55,8 +48,8 @@ numbers-listed (Configure (Pipe number bw delay limit loss buckets mask) ∷ cal
 numbers-listed (Configure (Queue number pipe weight limit loss buckets mask) ∷ calls) q e =
     let command = Queue number pipe weight limit loss buckets mask in
     ⊎_elim
-    (λ yes'. ap (λ b. b || list_any (nat_eq q) (queue_numbers calls)) (eq-yes q number (sym (same-number number q yes'))))
-    (λ no'. or-right (nat_eq q number) (list_any (nat_eq q) (queue_numbers calls))
+    (λ yes'. ap (λ b. b || list_any (nat_eq q) (queue_numbers calls)) (eq-yes q number (sym (eqb-true number q yes'))))
+    (λ no'. or_right (nat_eq q number) (list_any (nat_eq q) (queue_numbers calls))
     (numbers-listed calls q
     (ap (λ b. is_some (cond b (setting_after (command_reply (settings calls) (queue_numbers calls) command) command (settings calls (ToQueue q))) (settings calls (ToQueue q)))) (sym no') ∙ e)))
     (true_or_false (nat_eq number q))

@@ -1,8 +1,7 @@
 -- Calls count up to the limit, and those beyond it change nothing.
-use Rattle.std.proofs.Common.{◌≡◌, ◌∙◌, ◌<◌, ◌≤◌, ◌⊎◌, ◌^◌, ◌-◌, ℕ, suc, true, false, cond, List, ◌∷◌, drop, length, refl, ap, sym, subst, inl, inr, arith}
-use Rattle.std.specs.Prelude.{nat_le, Result, Ok, Err, IfOk, OnErr, IsOk}
-use Rattle.std.proofs.lemmas.Bool.{cases_lt}
-use Rattle.std.proofs.lemmas.Bool.Decides.{nat_tests}
+use Rattle.std.proofs.Common.{◌≡◌, ◌∙◌, ◌<◌, ◌≤◌, ◌⊎◌, ◌^◌, ◌-◌, suc, cond, List, ◌∷◌, drop, length, refl, ap, sym, subst, inl, inr, arith}
+use Rattle.std.specs.Prelude.{Result, Ok, Err, IfOk, OnErr, IsOk}
+use Rattle.std.proofs.lemmas.Bool.{cases_lt, lt-leb, le-leb}
 use Rattle.std.proofs.lemmas.List.{length-drop}
 use Rattle.dn_types.specs.Clock.{counted}
 use Rattle.dn_types.specs.Replies.{counted_reply, reply}
@@ -22,12 +21,6 @@ all-count calls le = let none : length calls - 2 ^ 62 ≡ 0 = omega arith in ap 
 no-more : (call : Call) (calls : List Call) → 2 ^ 62 ≤ length calls → counted (call ∷ calls) ≡ counted calls
 no-more call calls le = let one : length (call ∷ calls) - 2 ^ 62 ≡ suc (length calls - 2 ^ 62) = omega arith in ap (λ n. drop n (call ∷ calls)) one
 
-below : (m n : ℕ) → n < m → nat_le m n ≡ false
-below m n lt = grind (arith, nat_tests)
-
-reached : (m n : ℕ) → m ≤ n → nat_le m n ≡ true
-reached m n le = grind (arith, nat_tests)
-
 -- What a call that counts is answered, and what one beyond the limit is.
 pub counts : (rule : Rule) (calls : List Call) (call : Call) →
     ((length calls < 2 ^ 62) × (counted calls ≡ calls) × (reply rule calls call ≡ counted_reply rule calls call)) ⊎ ((2 ^ 62 ≤ length calls) × (reply rule calls call ≡ Exhausted))
@@ -35,8 +28,8 @@ counts rule calls call = by (cases_lt (length calls) (2 ^ 62))
   where
     by : (length calls < 2 ^ 62) ⊎ (2 ^ 62 ≤ length calls) →
         ((length calls < 2 ^ 62) × (counted calls ≡ calls) × (reply rule calls call ≡ counted_reply rule calls call)) ⊎ ((2 ^ 62 ≤ length calls) × (reply rule calls call ≡ Exhausted))
-    by (inl few) = inl (few, all-count calls (omega arith), ap (λ b. cond b Exhausted (counted_reply rule calls call)) (below (2 ^ 62) (length calls) few))
-    by (inr many) = inr (many, ap (λ b. cond b Exhausted (counted_reply rule calls call)) (reached (2 ^ 62) (length calls) many))
+    by (inl few) = inl (few, all-count calls (omega arith), ap (λ b. cond b Exhausted (counted_reply rule calls call)) (lt-leb (2 ^ 62) (length calls) few))
+    by (inr many) = inr (many, ap (λ b. cond b Exhausted (counted_reply rule calls call)) (le-leb (2 ^ 62) (length calls) many))
 
 -- The call is answered and the shaper stands after one call more.
 abbrev pub Answers : Call → State → State → Reply → Type 0
@@ -48,7 +41,7 @@ exhausted call s t is full rule calls stands =
     let c = stands.calls_are in
     let l = length-drop (length calls - 2 ^ 62) calls in
     let many : 2 ^ 62 ≤ length calls = omega arith in
-    (sym (ap (λ b. cond b Exhausted (counted_reply rule calls call)) (reached (2 ^ 62) (length calls) many)), subst (λ (cs : List Call). StandsAt rule t cs) (sym (no-more call calls many)) stands)
+    (sym (ap (λ b. cond b Exhausted (counted_reply rule calls call)) (le-leb (2 ^ 62) (length calls) many)), subst (λ (cs : List Call). StandsAt rule t cs) (sym (no-more call calls many)) stands)
 
 pub answers : (call named : Call) (old s new : State) (r : Reply) → named ≡ call → old ≡ s → (old.calls ≡ 2 ^ 62 → ⊥) → Does call old new r → Answers named s new r
 answers call named old s new r same is room does = subst (λ (x : Call × State). Answers x.0 x.1 new r) (λ i. (sym same i, is i)) one

@@ -2,6 +2,7 @@
 use Rattle.std.proofs.Common.{◌≡◌, ◌∙◌, ◌⊎◌, ℕ, zero, suc, Bool, true, false, cond, ◌||◌, List, [], ◌∷◌, ◌++◌, refl, ap, sym, length, ⊎_elim, inl, inr}
 use Rattle.std.specs.Prelude.{Some, slice_get}
 use Rattle.std.specs.List.{list_any}
+use Rattle.std.proofs.lemmas.Bool.{or_parts}
 use Rattle.dn_types.specs.Trace.{Link, link_eq, Event, opened, arrived, started, lost, refused, discarded, collected, links, with_link}
 use Rattle.dn_shaper.specs.Refinement.Agreement.{AreDistinct}
 use Rattle.dn_types.proofs.Settled.{link_eq-true, link_eq-refl, true_or_false}
@@ -14,16 +15,8 @@ in_append (x ∷ ls) m (suc i) l e = ⊎_elim (λ h. inl h) (λ h. inr (ap suc h
 
 not_in : (ls : List Link) (m : Link) (i : ℕ) (l : Link) → list_any (link_eq m) ls ≡ false → slice_get ls i ≡ Some l → link_eq m l ≡ false
 not_in [] m i l none e = absurd cc
-not_in (x ∷ ls) m zero l none e = let same : x ≡ l = cc in ap (link_eq m) (sym same) ∙ or-left (link_eq m x) (list_any (link_eq m) ls) none
-  where
-    or-left : (a b : Bool) → (a || b) ≡ false → a ≡ false
-    or-left false b h = refl
-    or-left true b h = absurd cc
-not_in (x ∷ ls) m (suc i) l none e = not_in ls m i l (or-right (link_eq m x) (list_any (link_eq m) ls) none) e
-  where
-    or-right : (a b : Bool) → (a || b) ≡ false → b ≡ false
-    or-right false b h = h
-    or-right true b h = absurd cc
+not_in (x ∷ ls) m zero l none e = let same : x ≡ l = cc in ap (link_eq m) (sym same) ∙ (or_parts (link_eq m x) (list_any (link_eq m) ls) none).0
+not_in (x ∷ ls) m (suc i) l none e = not_in ls m i l (or_parts (link_eq m x) (list_any (link_eq m) ls) none).1 e
 
 other-way : (l m : Link) → link_eq m l ≡ false → link_eq l m ≡ false
 other-way l m e = ⊎_elim

@@ -1,7 +1,7 @@
 -- The least key of the heap is the first start of all links.
 use Rattle.std.proofs.Common.{◌≡◌, ◌∙◌, ◌≤◌, ◌<◌, ℕ, zero, suc, Bool, true, false, cond, List, [], ◌∷◌, ◌++◌, map, refl, ap, sym, arith, inl, inr, slice_index_or, All, IsPermutation}
 use Rattle.std.specs.Prelude.{Option, Some, None, option_map, slice_get, nat_le, nat_lt}
-use Rattle.std.proofs.lemmas.Bool.{cases_order}
+use Rattle.std.proofs.lemmas.Bool.{cases_order, le-ltb, lt-ltb}
 use Rattle.std.proofs.lemmas.Bool.Decides.{nat_tests}
 use Rattle.dn_heap.specs.Heap.{IsLeast}
 use Rattle.dn_types.specs.Configuration.{Settings}
@@ -63,16 +63,10 @@ first-at settings at trace (l ∷ ls) zero link s there is least = by_rest (firs
     by_rest (Some t) e =
         let f = first-of settings at trace ls t e in
         let no_later = (least (suc f.0) f.1 t f.2 f.3).0 in
-        ap (λ (o : Option Start). sooner o (Some t)) here ∙ ap (λ b. Some (cond b t s)) (lt-leb' t.moment s.moment no_later)
-      where
-        lt-leb' : (a b : ℕ) → b ≤ a → nat_lt a b ≡ false
-        lt-leb' a b h = grind (arith, nat_tests)
+        ap (λ (o : Option Start). sooner o (Some t)) here ∙ ap (λ b. Some (cond b t s)) (le-ltb t.moment s.moment no_later)
 first-at settings at trace (l ∷ ls) (suc place) link s there is least = by_next (next_start settings at l trace) refl
     (first-at settings at trace ls place link s there is (λ j other t h n. let r = least (suc j) other t h n in let tie = r.1 in (r.0, λ e. let le = tie e in omega arith)))
   where
-    sure : (a b : ℕ) → a < b → nat_lt a b ≡ true
-    sure a b h = grind (arith, nat_tests)
-
     by_next : (o : Option Start) → next_start settings at l trace ≡ o → first_start settings at ls trace ≡ Some s → sooner o (first_start settings at ls trace) ≡ Some s
     by_next None e rest = rest
     by_next (Some t) e rest =
@@ -83,7 +77,7 @@ first-at settings at trace (l ∷ ls) (suc place) link s there is least = by_nex
           | inl same ↦ absurd (let le = tie (sym same) in omega arith)
           | inr o ↦ elim o [ inl lt ↦ lt | inr gt ↦ absurd (omega arith) ]
         ] in
-        ap (sooner (Some t)) rest ∙ ap (λ b. Some (cond b s t)) (sure s.moment t.moment strict)
+        ap (sooner (Some t)) rest ∙ ap (λ b. Some (cond b s t)) (lt-ltb s.moment t.moment strict)
 
 -- ---- Links and next starts
 

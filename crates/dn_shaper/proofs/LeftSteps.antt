@@ -1,8 +1,7 @@
 -- The heap of links after each step, with the keys that emptied links left there.
 use Rattle.std.proofs.Common.{◌≡◌, ◌∙◌, ℕ, ◌+◌, ◌^◌, ◌<◌, ◌≤◌, max, Bool, true, false, nat_eq, List, [], ◌∷◌, set, length, filter, Contains, IsPermutation, refl, sym, ap, subst, arith, inl, inr}
 use Rattle.std.specs.Prelude.{Option, Some, None, Result, Ok, Err, IfSome, OnOk, OnErr, is_some}
-use Rattle.std.proofs.lemmas.Bool.{cases_Bool}
-use Rattle.std.proofs.lemmas.Bool.Decides.{nat_tests}
+use Rattle.std.proofs.lemmas.Bool.{cases_Bool, eqb-true}
 use Rattle.std.proofs.lemmas.List.{length-set}
 use Rattle.std.proofs.lemmas.List.Sorted.{Contains-permutation, IsPermutation-refl, IsPermutation-sym, IsPermutation-trans, length_permutation, sum_by-IsPermutation}
 use Rattle.dn_heap.specs.Heap.{Heap, IsLeast}
@@ -183,10 +182,7 @@ popped-held heap heap' key perm = Contains-permutation (key ∷ heap'.keys) heap
 -- ---- No link left a key
 
 none-there : (E : List (Option ℕ)) (b : Bool) → b ≡ nat_eq (backlogged E) 0 → b ≡ true → (place : ℕ) → next_at E place ≡ None
-none-there E b is t = let zero : backlogged E ≡ 0 = zero-is (backlogged E) (sym is ∙ t) in none-at E zero
-  where
-    zero-is : (n : ℕ) → nat_eq n 0 ≡ true → n ≡ 0
-    zero-is n e = grind (arith, nat_tests)
+none-there E b is t = let zero : backlogged E ≡ 0 = eqb-true (backlogged E) 0 (sym is ∙ t) in none-at E zero
 
 pub first-of-empty : (heap : Heap NextStart) (E : List (Option ℕ)) (b : Bool) → b ≡ nat_eq (backlogged E) 0 → b ≡ true → IsFirstCounting heap.keys E
 first-of-empty heap E b is t = cleared-first E (none-there E b is t) heap.keys

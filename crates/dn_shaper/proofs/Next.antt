@@ -1,7 +1,7 @@
 -- Where packets wait for a link, one of them is the next, and its flow is the one that the parts take.
 use Rattle.std.proofs.Common.{◌≡◌, ◌∙◌, ◌≤◌, ◌<◌, ◌⊎◌, ℕ, zero, suc, true, false, cond, List, [], ◌∷◌, map, refl, ap, sym, length, arith, ⊎_elim, inl, inr}
-use Rattle.std.specs.Prelude.{Option, Some, None, is_some, nat_lt, slice_get, option_map, option_and_then}
-use Rattle.std.proofs.lemmas.Bool.{cases_lt, cases_eq}
+use Rattle.std.specs.Prelude.{Option, Some, None, is_some, slice_get, option_map, option_and_then}
+use Rattle.std.proofs.lemmas.Bool.{cases_lt, cases_eq, lt-ltb, le-ltb}
 use Rattle.dn_types.specs.Wf2q.{Stamped, total, heads, pick}
 use Rattle.dn_types.specs.Trace.{Link, own, shared, link_eq, Accepted, Event, backlog, flow_bound}
 use Rattle.dn_types.specs.SharedLinks.{next_packet, virtual_time, link_heads}
@@ -24,7 +24,6 @@ use Rattle.dn_flows.proofs.Places.{get-map}
 use Rattle.dn_types.proofs.Settled.{link_eq-true, link_eq-refl, true_or_false}
 use Rattle.dn_types.proofs.Settling.{backlog-above, next_packet-first, waiting-start}
 use Rattle.dn_types.specs.Links.{free}
-use Rattle.std.proofs.lemmas.Bool.Decides.{nat_tests}
 
 -- The flow that a link takes next.
 abbrev pub Takes : ℕ → LinkView → Link → Type 0
@@ -211,18 +210,12 @@ module _ (rule : Rule) (accepted : ℕ) (keys : List FlowKey) (homes : List Home
     nexts_is : next_start_of v ≡ moment_of_next trace v.link
     nexts_is = by (cases_lt 0 v.waits)
       where
-        sure : (n : ℕ) → 0 < n → nat_lt 0 n ≡ true
-        sure n h = grind (arith, nat_tests)
-
-        never : (n : ℕ) → n ≤ 0 → nat_lt 0 n ≡ false
-        never n h = grind (arith, nat_tests)
-
         by : (0 < v.waits) ⊎ (v.waits ≤ 0) → next_start_of v ≡ moment_of_next trace v.link
         by (inl some) =
             let p = next_exists some in
-            ap {B = Option ℕ} (λ b. cond b (Some v.value.free) None) (sure v.waits some) ∙ ap (λ m. Some m) (a.views_are k v there).free_is
+            ap {B = Option ℕ} (λ b. cond b (Some v.value.free) None) (lt-ltb 0 v.waits some) ∙ ap (λ m. Some m) (a.views_are k v there).free_is
             ∙ sym (ap (option_map (λ (p : Accepted). free v.link trace)) p.1)
-        by (inr none) = ap {B = Option ℕ} (λ b. cond b (Some v.value.free) None) (never v.waits none) ∙ sym (ap (option_map (λ (p : Accepted). free v.link trace)) (none_waits none))
+        by (inr none) = ap {B = Option ℕ} (λ b. cond b (Some v.value.free) None) (le-ltb 0 v.waits none) ∙ sym (ap (option_map (λ (p : Accepted). free v.link trace)) (none_waits none))
 
     -- And the flow's queue in the table has it there too.
     pub front : (flow : ℕ) (p : Accepted) → slice_get (backlog v.link flow trace) 0 ≡ Some p →

@@ -2,7 +2,7 @@
 use Rattle.std.proofs.Common.{◌≡◌, ◌∙◌, ◌≤◌, ◌<◌, ◌-◌, ◌⊎◌, ℕ, zero, suc, ◌+◌, Bool, true, false, not, cond, ◌||◌, List, [], ◌∷◌, ◌++◌, refl, ap, sym, subst, length, take, arith, ⊎_elim, inl, inr}
 use Rattle.std.specs.Prelude.{Option, Some, Result, Ok, Err, OnErr, is_err, slice_get}
 use Rattle.std.specs.List.{list_any, position_or_len}
-use Rattle.std.proofs.lemmas.Bool.{cases_lt}
+use Rattle.std.proofs.lemmas.Bool.{cases_lt, or_right}
 use Rattle.std.proofs.lemmas.List.{get_or-take, get_or_past, length-take-le}
 use Rattle.std.proofs.Math.Seq.{take-append_seam}
 use Rattle.dn_heap.specs.Heap.{Heap}
@@ -33,17 +33,13 @@ use Rattle.dn_types.proofs.Settled.{link_eq-refl}
 
 -- ---- The flow's link is seen
 
-or-yes : (a b : Bool) → b ≡ true → (a || b) ≡ true
-or-yes true b e = refl
-or-yes false b e = e
-
 named : (views : List LinkView) (k : ℕ) (v : LinkView) (link : Link) → slice_get views k ≡ Some v → v.link ≡ link → list_any (link_eq link) (link_names views) ≡ true
 named [] k v link e is = absurd cc
 named (w ∷ views) zero v link e is =
     let same : w ≡ v = cc in
     ap (λ (l : Link). link_eq link l || list_any (link_eq link) (link_names views)) (ap (λ (x : LinkView). x.link) same ∙ is)
     ∙ ap (λ b. b || list_any (link_eq link) (link_names views)) (link_eq-refl link)
-named (w ∷ views) (suc k) v link e is = or-yes (link_eq link w.link) (list_any (link_eq link) (link_names views)) (named views k v link e is)
+named (w ∷ views) (suc k) v link e is = or_right (link_eq link w.link) (list_any (link_eq link) (link_names views)) (named views k v link e is)
 
 pub seen-made : (p : Parts) (trace : List Event) (flow : ℕ) → AgreesWith p [] trace → flow < length p.flows.keys → IsMade flow p trace
 seen-made p trace flow a lt =

@@ -2,6 +2,7 @@
 use Rattle.std.proofs.Common.{◌≡◌, ◌∙◌, ◌≤◌, ◌^◌, ℕ, suc, ◌+◌, max, not, ◌||◌, Bool, true, false, cond, List, [], ◌∷◌, ◌++◌, refl, ap, sym, subst, arith, ⊎_elim, true≢false}
 use Rattle.std.specs.Prelude.{◌&&◌, Option, None, Some, nat_eq, slice_get}
 use Rattle.std.specs.List.{list_any}
+use Rattle.std.proofs.lemmas.Bool.{eqb-true}
 use Rattle.dn_heap.specs.Heap.{Heap}
 use Rattle.dn_types.specs.Calls.{link_of, verdict_by, after_verdict, trace_of}
 use Rattle.dn_types.specs.Clock.{effective_moment}
@@ -33,7 +34,6 @@ use Rattle.dn_shaper.specs.Refinement.Starting.{Within}
 use Rattle.dn_shaper.specs.Refinement.Submitting.{Answers, verdict_on}
 use Rattle.dn_shaper.specs.Refinement.Views.{views_of, home, home_by}
 use Rattle.dn_shaper.proofs.Accepting.{within-more}
-use Rattle.dn_shaper.proofs.Commands.{same-number}
 use Rattle.dn_shaper.proofs.Reserved.{reserves-agree}
 
 -- ---- The link of the packet's flow
@@ -49,7 +49,7 @@ same-home key k e flow =
     let rest = target_eq key.target k.target && nat_eq key.pipe k.pipe in
     let both = and-left rest (mask_eq key.mask k.mask) (and-left (rest && mask_eq key.mask k.mask) (tuple_eq key.tuple k.tuple) e) in
     sym (same-link key.target k.target flow (and-left (target_eq key.target k.target) (nat_eq key.pipe k.pipe) both) key.pipe
-    ∙ ap (link_of k.target flow) (same-number key.pipe k.pipe (and-right (target_eq key.target k.target) (nat_eq key.pipe k.pipe) both)))
+    ∙ ap (link_of k.target flow) (eqb-true key.pipe k.pipe (and-right (target_eq key.target k.target) (nat_eq key.pipe k.pipe) both)))
 
 -- The flow with the key's number has a key of the same link.
 record IsNumbered (key : FlowKey) (known : List FlowKey) : Type 0 where

@@ -1,11 +1,10 @@
 -- One step of the settling loop: the popped link's next packet is the first start of all links.
-use Rattle.std.proofs.Common.{◌≡◌, ◌∙◌, ◌≤◌, ◌<◌, ◌⊎◌, ◌^◌, ℕ, zero, suc, ◌+◌, Bool, true, false, cond, ◌||◌, List, [], ◌∷◌, ◌++◌, map, set, get_or, refl, ap}
+use Rattle.std.proofs.Common.{◌≡◌, ◌∙◌, ◌≤◌, ◌<◌, ◌⊎◌, ◌^◌, ℕ, zero, suc, ◌+◌, false, cond, ◌||◌, List, [], ◌∷◌, ◌++◌, map, set, get_or, refl, ap}
 use Rattle.std.proofs.Common.{sym, subst, length, arith, inl, inr, All, IsPermutation}
-use Rattle.std.specs.Prelude.{Contains, Option, Some, None, IfSome, nat_lt, slice_get, option_map}
+use Rattle.std.specs.Prelude.{Contains, Option, Some, None, IfSome, slice_get, option_map}
 use Rattle.std.specs.List.{list_any}
 use Rattle.std.specs.Ordering.{is_lt}
-use Rattle.std.proofs.lemmas.Bool.{le-leb, cases_lt}
-use Rattle.std.proofs.lemmas.Bool.Decides.{nat_tests}
+use Rattle.std.proofs.lemmas.Bool.{le-leb, cases_lt, or_from, lt-ltb, le-ltb}
 use Rattle.std.proofs.lemmas.List.Elements.{All-contains}
 use Rattle.std.proofs.lemmas.List.Sorted.{length_permutation}
 use Rattle.dn_heap.specs.Heap.{Heap, IsLeast}
@@ -43,15 +42,9 @@ next-view : (views : List LinkView) (i m : ℕ) → next_at (next_starts views) 
 next-view [] i m e = absurd cc
 next-view (v ∷ views) zero m e = by (cases_lt 0 v.waits) e
   where
-    never : (n : ℕ) → n ≤ 0 → nat_lt 0 n ≡ false
-    never n h = grind (arith, nat_tests)
-
-    sure : (n : ℕ) → 0 < n → nat_lt 0 n ≡ true
-    sure n h = grind (arith, nat_tests)
-
     by : (0 < v.waits) ⊎ (v.waits ≤ 0) → next_start_of v ≡ Some m → (w : LinkView) × (slice_get (v ∷ views) 0 ≡ Some w) × (0 < w.waits) × (w.value.free ≡ m)
-    by (inl some) h = let is = sym (ap {B = Option ℕ} (λ b. cond b (Some v.value.free) None) (sure v.waits some)) ∙ h in (v, refl, some, cc)
-    by (inr none) h = let is = sym (ap {B = Option ℕ} (λ b. cond b (Some v.value.free) None) (never v.waits none)) ∙ h in absurd cc
+    by (inl some) h = let is = sym (ap {B = Option ℕ} (λ b. cond b (Some v.value.free) None) (lt-ltb 0 v.waits some)) ∙ h in (v, refl, some, cc)
+    by (inr none) h = let is = sym (ap {B = Option ℕ} (λ b. cond b (Some v.value.free) None) (le-ltb 0 v.waits none)) ∙ h in absurd cc
 next-view (v ∷ views) (suc i) m e = next-view views i m e
 
 pub can-start : {p : Parts} {heap : Heap NextStart} → AreInStep p heap → {k : NextStart} {rest : List NextStart} → IsPermutation heap.keys (k ∷ rest) → CanStart p k.place k.moment
@@ -94,11 +87,7 @@ module _ {place moment bandwidth delay : ℕ} {old new : Parts} (s : StartsAt pl
 
 none-any : (l : Link) (ls : List Link) → ((j : ℕ) (m : Link) → slice_get ls j ≡ Some m → link_eq l m ≡ false) → list_any (link_eq l) ls ≡ false
 none-any l [] h = refl
-none-any l (m ∷ ls) h = both (link_eq l m) (list_any (link_eq l) ls) (h 0 m refl) (none-any l ls (λ j n e. h (suc j) n e))
-  where
-    both : (a b : Bool) → a ≡ false → b ≡ false → (a || b) ≡ false
-    both false b e f = f
-    both true b e f = absurd cc
+none-any l (m ∷ ls) h = or_from (link_eq l m) (list_any (link_eq l) ls) (h 0 m refl) (none-any l ls (λ j n e. h (suc j) n e))
 
 append-left : (ls more : List Link) (j : ℕ) (m : Link) → slice_get ls j ≡ Some m → (slice_get (ls ++ more) j ≡ Some m) × (j < length ls)
 append-left [] more j m e = absurd cc
@@ -204,11 +193,8 @@ module _ {settings : Settings} {old : Parts} {heap : Heap NextStart} (kept : Are
         omega arith;
   }
     where
-      sure : (n : ℕ) → 0 < n → nat_lt 0 n ≡ true
-      sure n h = grind (arith, nat_tests)
-
       next_some : next_start_of s.view' ≡ Some s.view'.value.free
-      next_some = ap {B = Option ℕ} (λ b. cond b (Some s.view'.value.free) None) (sure s.view'.waits some)
+      next_some = ap {B = Option ℕ} (λ b. cond b (Some s.view'.value.free) None) (lt-ltb 0 s.view'.waits some)
 
   pub kept-none : s.view'.waits ≤ 0 → (heap' : Heap NextStart) → heap'.keys ≡ rest → heap'.room ≡ heap.room + 1 → AreInStep new heap'
   kept-none none heap' keys room = record {
@@ -231,11 +217,8 @@ module _ {settings : Settings} {old : Parts} {heap : Heap NextStart} (kept : Are
         omega arith;
   }
     where
-      never : (n : ℕ) → n ≤ 0 → nat_lt 0 n ≡ false
-      never n h = grind (arith, nat_tests)
-
       next_none : next_start_of s.view' ≡ None
-      next_none = ap {B = Option ℕ} (λ b. cond b (Some s.view'.value.free) None) (never s.view'.waits none)
+      next_none = ap {B = Option ℕ} (λ b. cond b (Some s.view'.value.free) None) (le-ltb 0 s.view'.waits none)
 
   pub only-starts : (heap' : Heap NextStart) → heap'.moves + new.waiting ≤ heap.moves + old.waiting → length heap'.keys + heap'.room ≡ length heap.keys + heap.room → OnlyStarts old heap new heap'
   only-starts heap' moves places = record {

@@ -4,8 +4,7 @@ use Rattle.std.proofs.Common.{◌≡◌, ◌∙◌, ◌≤◌, ◌<◌, ℕ, zer
 use Rattle.std.specs.Prelude.{Option, Some, None, nat_lt, nat_eq, slice_get, option_map}
 use Rattle.std.specs.List.{filter}
 use Rattle.std.proofs.lemmas.List.{take-map, map-append}
-use Rattle.std.proofs.lemmas.Bool.{cases_lt, cases_eq}
-use Rattle.std.proofs.lemmas.Bool.Decides.{nat_tests}
+use Rattle.std.proofs.lemmas.Bool.{cases_lt, cases_eq, lt-ltb, le-ltb}
 use Rattle.dn_types.specs.Wf2q.{Stamped, heads, least_start_tag, raised, goes_before, earlier, first_to_go, is_eligible, pick, weight_sum, grown, scaled}
 use Rattle.dn_shaper.specs.Refinement.Slots.{Ascends, top}
 
@@ -70,17 +69,11 @@ module _ (to : ℕ → ℕ) (rises : (a b : ℕ) → a < b → to a < to b) wher
   lt-moved : (a b : ℕ) → nat_lt (to a) (to b) ≡ nat_lt a b
   lt-moved a b = ⊎_elim below not_below (cases_lt a b)
     where
-      sure : (m n : ℕ) → m < n → nat_lt m n ≡ true
-      sure m n h = grind (arith, nat_tests)
-
-      never : (m n : ℕ) → n ≤ m → nat_lt m n ≡ false
-      never m n h = grind (arith, nat_tests)
-
       below : a < b → nat_lt (to a) (to b) ≡ nat_lt a b
-      below lt = sure (to a) (to b) (rises a b lt) ∙ sym (sure a b lt)
+      below lt = lt-ltb (to a) (to b) (rises a b lt) ∙ sym (lt-ltb a b lt)
 
       not_below : b ≤ a → nat_lt (to a) (to b) ≡ nat_lt a b
-      not_below le = never (to a) (to b) (⊎_elim (λ same. let e = ap to same in omega arith) (λ other. let r = rises b a (omega arith) in omega arith) (cases_eq a b)) ∙ sym (never a b le)
+      not_below le = le-ltb (to a) (to b) (⊎_elim (λ same. let e = ap to same in omega arith) (λ other. let r = rises b a (omega arith) in omega arith) (cases_eq a b)) ∙ sym (le-ltb a b le)
 
   before-moved : (a b : Stamped) → goes_before (moved a) (moved b) ≡ goes_before a b
   before-moved a b = ap (λ t. nat_lt a.finish_tag b.finish_tag || nat_eq a.finish_tag b.finish_tag && t) (lt-moved a.flow b.flow)

@@ -2,7 +2,7 @@
 use Rattle.std.proofs.Common.{◌≡◌, ◌∙◌, ◌<◌, ◌⊎◌, ℕ, zero, suc, ◌+◌, Bool, true, false, cond, ◌&&◌, List, [], ◌∷◌, map, set, refl, ap, sym, subst, length, drop, arith, ⊎_elim, inl, inr}
 use Rattle.std.specs.Prelude.{Some, None, nat_eq, slice_get}
 use Rattle.std.specs.List.{list_any}
-use Rattle.std.proofs.lemmas.Bool.{cases_eq}
+use Rattle.std.proofs.lemmas.Bool.{cases_eq, and_parts}
 use Rattle.std.proofs.lemmas.List.{drop-map}
 use Rattle.dn_types.specs.Wf2q.{Stamped, total, grown}
 use Rattle.dn_types.specs.Trace.{Link, shared, link_eq, Accepted, Event, started, Start, is_of, backlog, flow_bound, links, is_start_of, is_loss_of, is_refusal_of, is_arrival}
@@ -55,11 +55,7 @@ module _ (rule : Rule) (accepted : ℕ) (keys : List FlowKey) (homes : List Home
   is_here = is_of-start v.link flow s trace first
 
   on_link : s.packet.link ≡ v.link
-  on_link = link_eq-true s.packet.link v.link (left (link_eq s.packet.link v.link) (nat_eq s.packet.stamped.flow flow) is_here)
-    where
-      left : (x y : Bool) → (x && y) ≡ true → x ≡ true
-      left true y e = refl
-      left false y e = absurd cc
+  on_link = link_eq-true s.packet.link v.link (and_parts (link_eq s.packet.link v.link) (nat_eq s.packet.stamped.flow flow) is_here).0
 
   same_test : (g : ℕ) → is_of (home keys g) g s.packet ≡ nat_eq flow g
   same_test g = by (cases_eq flow g)

@@ -2,21 +2,14 @@
 use Rattle.std.proofs.Common.{◌≡◌, ◌∙◌, Bool, true, false, cond, ◌||◌, List, [], ◌∷◌, ◌++◌, refl, ap, sym, ⊎_elim}
 use Rattle.std.specs.List.{list_any}
 use Rattle.std.proofs.lemmas.List.Folds.{list_any-append}
+use Rattle.std.proofs.lemmas.Bool.{or_parts}
 use Rattle.dn_types.specs.Trace.{Link, link_eq, with_link}
 use Rattle.dn_types.proofs.Settled.{link_eq-true, link_eq-refl, true_or_false}
-
--- What is not among the links after one more, is not among them before, and is another.
-or-left : (a b : Bool) → (a || b) ≡ false → a ≡ false
-or-left false b h = refl
-or-left true b h = absurd cc
-
-or-right : (a b : Bool) → (a || b) ≡ false → b ≡ false
-or-right false b h = h
-or-right true b h = absurd cc
 
 pub not_eq : (l m : Link) → (l ≡ m → ⊥) → link_eq l m ≡ false
 not_eq l m h = ⊎_elim (λ same. absurd (h (link_eq-true l m same))) (λ other. other) (true_or_false (link_eq l m))
 
+-- What is not among the links after one more, is not among them before, and is another.
 pub not_with : (link l : Link) (ls : List Link) → list_any (link_eq link) (with_link l ls) ≡ false → (list_any (link_eq link) ls ≡ false) × (link_eq l link ≡ false)
 not_with link l ls e = by_test (list_any (link_eq l) ls) refl e
   where
@@ -28,7 +21,7 @@ not_with link l ls e = by_test (list_any (link_eq l) ls) refl e
     )
     by_test false is absent =
         let split = sym (list_any-append (link_eq link) ls (l ∷ [])) ∙ absent in
-        let not_last = or-left (link_eq link l) false (or-right (list_any (link_eq link) ls) (list_any (link_eq link) (l ∷ [])) split) in (
-          or-left (list_any (link_eq link) ls) (list_any (link_eq link) (l ∷ [])) split,
+        let not_last = (or_parts (link_eq link l) false (or_parts (list_any (link_eq link) ls) (list_any (link_eq link) (l ∷ [])) split).1).0 in (
+          (or_parts (list_any (link_eq link) ls) (list_any (link_eq link) (l ∷ [])) split).0,
           not_eq l link (λ same. let here : link_eq link l ≡ true = ap (link_eq link) same ∙ link_eq-refl link in let t : true ≡ false = sym here ∙ not_last in cc),
         )

@@ -1,7 +1,7 @@
 -- How many packets wait for a link after one arrived, or after a flow's packets were discarded.
-use Rattle.std.proofs.Common.{◌≡◌, ◌∙◌, ◌≤◌, ◌<◌, ◌⊎◌, ℕ, zero, suc, ◌+◌, ◌-◌, max, Bool, true, false, cond, ◌&&◌, List, [], ◌∷◌, ◌++◌, refl, ap, sym, length, arith, ⊎_elim, inl, inr}
+use Rattle.std.proofs.Common.{◌≡◌, ◌∙◌, ◌≤◌, ◌<◌, ◌⊎◌, ℕ, zero, suc, ◌+◌, ◌-◌, max, true, false, cond, ◌&&◌, List, [], ◌∷◌, ◌++◌, refl, ap, sym, length, arith, ⊎_elim, inl, inr}
 use Rattle.std.specs.Prelude.{nat_eq}
-use Rattle.std.proofs.lemmas.Bool.{cases_eq, cases_lt}
+use Rattle.std.proofs.lemmas.Bool.{cases_eq, cases_lt, and_from}
 use Rattle.dn_types.specs.Wf2q.{total}
 use Rattle.dn_types.specs.Trace.{Link, link_eq, Accepted, Event, arrived, discarded, is_of, backlog, flow_bound}
 use Rattle.dn_types.specs.SharedLinks.{waiting}
@@ -73,7 +73,7 @@ module _ (link : Link) (p : Accepted) (trace : List Event) where
   pub waiting-arrived : p.link ≡ link → waiting link (arrived p ∷ trace) ≡ waiting link trace + 1
   waiting-arrived on =
       let here : is_of link p.stamped.flow p ≡ true = (λ i. link_eq (on i) link && nat_eq p.stamped.flow p.stamped.flow)
-      ∙ both (link_eq link link) (nat_eq p.stamped.flow p.stamped.flow) (link_eq-refl link) (eq-yes p.stamped.flow p.stamped.flow refl) in
+      ∙ and_from (link_eq link link) (nat_eq p.stamped.flow p.stamped.flow) (link_eq-refl link) (eq-yes p.stamped.flow p.stamped.flow refl) in
       let one = total-one (max (flow_bound trace) (p.stamped.flow + 1)) p.stamped.flow (λ g. backlog link g trace) (λ g. backlog link g (arrived p ∷ trace))
       (omega arith)
       (λ g ne. ap {B = ℕ} (λ b. length (cond b (backlog link g trace ++ p ∷ []) (backlog link g trace)))
@@ -82,10 +82,6 @@ module _ (link : Link) (p : Accepted) (trace : List Event) where
       let l = length-push (backlog link p.stamped.flow trace) p in
       let w = wide in
       omega arith
-    where
-      both : (a b : Bool) → a ≡ true → b ≡ true → (a && b) ≡ true
-      both true b e f = f
-      both false b e f = absurd cc
 
   pub waiting-other : link_eq p.link link ≡ false → waiting link (arrived p ∷ trace) ≡ waiting link trace
   waiting-other apart =
