@@ -1,6 +1,6 @@
 -- One read of a record, by the records that are left.
 use Rattle.std.proofs.Common.{◌≡◌, ◌∙◌, ℕ, ◌+◌, ◌<◌, Bool, true, false, not, List, [], ◌∷◌, length, refl, sym, arith, Option, Some, None, IsSome, inl, add-one, Bor}
-use Rattle.std.proofs.lemmas.Bool.{false≢true}
+use Rattle.std.proofs.lemmas.Bool.{false≢true, not-false}
 use Rattle.csv.specs.Machine.{Read, ends_at_end, next_record}
 use Rattle.csv.specs.Reading.{NextIs, ReadRecord, ReadsNext, default_config, is_flexible, pending_of, reader_state, records_from, records_next, took_first}
 use Rattle.csv.specs.declared.parser.State.{State}
@@ -38,10 +38,6 @@ some_of : (o : Option (List ℕ)) → IsSome o → (y : List ℕ) × (o ≡ Some
 some_of None e = cc e
 some_of (Some y) e = (y, refl)
 
-more : (found : Bool) → not found ≡ false → found ≡ true
-more true e = refl
-more false e = cc e
-
 -- a read of a reader that stands between two records
 pub reads : (a b : Reader (Bor (List ℕ))) (found : Bool) (f : List (List ℕ)) → IsReading a → took_first b ≡ true → is_flexible b ≡ is_flexible a
     → ReadRecord (λ s. Some s.now) a b found f
@@ -57,8 +53,8 @@ reads a b found f reading first flexible r =
         plain = r.3 ∙ reading.plain;
         flexible = flexible ∙ reading.flexible;
         ready = inl first;
-        between = (goes_on (more found going)).0;
-        known = rw r.1 ((goes_on (more found going)).1);
+        between = (goes_on (not-false found going)).0;
+        known = rw r.1 ((goes_on (not-false found going)).1);
       },
     )
 
