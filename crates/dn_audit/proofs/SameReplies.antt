@@ -4,6 +4,7 @@ use Rattle.std.specs.Prelude.{nat_eq}
 use Rattle.std.specs.Cmp.Lexicographic.{pointwise}
 use Rattle.std.proofs.lemmas.Bool.Decides.{nat_tests}
 use Rattle.std.specs.Cmp.{first_so, second_so}
+use Rattle.std.proofs.lemmas.Bool.{eqb-true, not-false}
 use Rattle.dn_types.specs.declared.delivery.Delivery.{Delivery}
 use Rattle.dn_types.specs.declared.five_tuple.FiveTuple.{FiveTuple}
 use Rattle.dn_types.specs.declared.flow_key.FlowKey.{FlowKey}
@@ -21,9 +22,6 @@ use Rattle.dn_types.specs.contracts.mask.MaskPartialEq.TheImpl as mask
 use Rattle.dn_types.specs.contracts.reply.ReplyPartialEq.TheImpl as reply
 use Rattle.dn_types.specs.contracts.reply.ReplyEq.TheImpl.Laws.{laws-law}
 use Rattle.dn_types.specs.contracts.target.TargetPartialEq.TheImpl as target
-
-number : (m n : ℕ) → nat_eq m n ≡ true → m ≡ n
-number m n e = grind (arith, nat_tests)
 
 same-delivery : (a b : Delivery) → delivery.eq-value.it a b ≡ true → a ≡ b
 same-delivery a b e =
@@ -52,8 +50,8 @@ same-tuple a b e =
     λ i. record { src = src i; dst = dst i; proto = proto i; sport = sport i; dport = dport i }
 
 same-target : (a b : Target) → target.eq-value.it a b ≡ true → a ≡ b
-same-target (Pipe m) (Pipe n) e = ap Pipe (number m n e)
-same-target (Queue m) (Queue n) e = ap Queue (number m n e)
+same-target (Pipe m) (Pipe n) e = ap Pipe (eqb-true m n e)
+same-target (Queue m) (Queue n) e = ap Queue (eqb-true m n e)
 same-target a b e = absurd (true≢false (sym e))
 
 all-four : (s t u v : Bool) → (s && (t && (u && v))) ≡ true → (s ≡ true) × (t ≡ true) × (u ≡ true) × (v ≡ true)
@@ -64,7 +62,7 @@ same-key : (a b : FlowKey) → key.eq-value.it a b ≡ true → a ≡ b
 same-key a b e =
     let parts = all-four (target.eq-value.it a.target b.target) (nat_eq a.pipe b.pipe) (mask.eq-value.it a.mask b.mask) (tuple.eq-value.it a.tuple b.tuple) e in
     let target = same-target a.target b.target parts.0 in
-    let pipe = number a.pipe b.pipe parts.1 in
+    let pipe = eqb-true a.pipe b.pipe parts.1 in
     let mask = same-mask a.mask b.mask parts.2 in
     let tuple = same-tuple a.tuple b.tuple parts.3 in
     λ i. record { target = target i; pipe = pipe i; mask = mask i; tuple = tuple i }
@@ -87,7 +85,7 @@ same-status a b e =
     let flows = nat_eq a.flow b.flow in
     let keys = key.eq-value.it a.key b.key in
     let behind = second_so flows (keys && same-counts a b) e in
-    status-of a b (number a.flow b.flow (first_so flows (keys && same-counts a b) e)) (same-key a.key b.key (first_so keys (same-counts a b) behind)) (second_so keys (same-counts a b) behind)
+    status-of a b (eqb-true a.flow b.flow (first_so flows (keys && same-counts a b) e)) (same-key a.key b.key (first_so keys (same-counts a b) behind)) (second_so keys (same-counts a b) behind)
 
 same-list : {X : Type 0} (eq : X → X → Bool) → ((x y : X) → eq x y ≡ true → x ≡ y) → (xs ys : List X) → pointwise eq xs ys ≡ true → xs ≡ ys
 same-list eq same [] [] e = refl
@@ -108,21 +106,17 @@ same Deleted Deleted e = refl
 same PipeHasQueues PipeHasQueues e = refl
 same NoSuchQueue NoSuchQueue e = refl
 same (Queued at flow packet) (Queued at' flow' packet') e = three at flow packet at' flow' packet' e
-same (Lost at flow) (Lost at' flow') e = λ i. Lost (number at at' (first_so _ _ e) i) (number flow flow' (second_so _ _ e) i)
-same (Full at flow) (Full at' flow') e = λ i. Full (number at at' (first_so _ _ e) i) (number flow flow' (second_so _ _ e) i)
-same (NoTarget at) (NoTarget at') e = ap NoTarget (number at at' e)
-same (Advanced at) (Advanced at') e = ap Advanced (number at at' e)
-same (Delivered at list) (Delivered at' list') e = λ i. Delivered (number at at' (first_so _ _ e) i) (same-list delivery.eq-value.it same-delivery list list' (second_so _ _ e) i)
+same (Lost at flow) (Lost at' flow') e = λ i. Lost (eqb-true at at' (first_so _ _ e) i) (eqb-true flow flow' (second_so _ _ e) i)
+same (Full at flow) (Full at' flow') e = λ i. Full (eqb-true at at' (first_so _ _ e) i) (eqb-true flow flow' (second_so _ _ e) i)
+same (NoTarget at) (NoTarget at') e = ap NoTarget (eqb-true at at' e)
+same (Advanced at) (Advanced at') e = ap Advanced (eqb-true at at' e)
+same (Delivered at list) (Delivered at' list') e = λ i. Delivered (eqb-true at at' (first_so _ _ e) i) (same-list delivery.eq-value.it same-delivery list list' (second_so _ _ e) i)
 same (Status list) (Status list') e = ap Status (same-list status.eq-value.it same-status list list' e)
 same Exhausted Exhausted e = refl
 same r s e = absurd (true≢false (sym e))
 
 -- What `!=` tells of two replies.
 module _ (r s : Reply) (differ : Bool) (is : differ ≡ not (reply.eq-value.it r s)) where
-  not-false : (b : Bool) → not b ≡ false → b ≡ true
-  not-false true e = refl
-  not-false false e = sym e
-
   pub same-reply : differ ≡ false → r ≡ s
   same-reply e = same r s (not-false (reply.eq-value.it r s) (sym is ∙ e))
 
