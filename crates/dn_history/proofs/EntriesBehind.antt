@@ -55,7 +55,8 @@ past_reads more number (fields ∷ records) = by_test (is_remark fields) (past_r
     by_test true h = h
     by_test false h = record { same = refl }
 
-ahead_reads : (more : List Fields) (remarks : Bool) (number : ℕ) (records : List Fields) → Reads more (first_record number (ahead remarks records)) (first_record number (ahead remarks (records ++ more)))
+ahead_reads : (more : List Fields) (remarks : Bool) (number : ℕ) (records : List Fields)
+    → Reads more (first_record number (ahead remarks records)) (first_record number (ahead remarks (records ++ more)))
 ahead_reads more true number records = past_reads more number records
 ahead_reads more false number records = first_reads more number records
 

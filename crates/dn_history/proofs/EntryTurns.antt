@@ -95,7 +95,8 @@ entry_leaves version count rest = bound (length rest.records) (length rest.recor
     chosen (length rest.records) _ _ _ (end_leaves count rest.number first.0 (length rest.records) first.1 fewer) (entry_by_leaves version rest.number first.0 (length rest.records) first.1 fewer))
 
 -- The entries don't depend on the count of turns, where that is above the count of records.
-pub same_entries : (k m : ℕ) (version : HistoryVersion) (count : ℕ) (rest : Rest) → length rest.records < k → length rest.records < m → entries_from k version count rest ≡ entries_from m version count rest
+pub same_entries : (k m : ℕ) (version : HistoryVersion) (count : ℕ) (rest : Rest) → length rest.records < k → length rest.records < m
+    → entries_from k version count rest ≡ entries_from m version count rest
 unfolding entries_from
 same_entries zero m version count rest lk lm = absurd (omega (arith, lk))
 same_entries (suc k) zero version count rest lk lm = absurd (omega (arith, lm))
@@ -108,7 +109,8 @@ same_entries (suc k) (suc m) version count rest lk lm =
     next same (Some entry) new fewer = ap (before (Some entry)) (same new fewer)
 
     read : ((new : Rest) → length new.records < length rest.records → entries_from k version (count + 1) new ≡ entries_from m version (count + 1) new)
-        → (r : Read (Option Entry)) → Leaves (length rest.records) r → (r >>= λ first. before first.0 (entries_from k version (count + 1) first.1)) ≡ (r >>= λ first. before first.0 (entries_from m version (count + 1) first.1))
+        → (r : Read (Option Entry)) → Leaves (length rest.records) r → (r >>= λ first. before first.0 (entries_from k version (count + 1) first.1))
+        ≡ (r >>= λ first. before first.0 (entries_from m version (count + 1) first.1))
     read same (Ok first) fewer = next same first.0 first.1 fewer.fits
     read same (Err fault) fewer = refl
 
@@ -123,7 +125,8 @@ entries_step version count old new entry is fewer = go (length old.records + 1) 
     go (suc turns) few = rw is (ap (before entry) (same_entries turns (length new.records + 1) version (count + 1) new (omega (arith, few, fewer)) (omega arith)))
 
 -- The fault of the next entry is that of all that are left.
-pub entries_fault : (version : HistoryVersion) (count : ℕ) (old : Rest) (fault : ReplayFault) → IsFaultOf (entry_from version count old) fault → IsFaultOf (entries_from (length old.records + 1) version count old) fault
+pub entries_fault : (version : HistoryVersion) (count : ℕ) (old : Rest) (fault : ReplayFault) → IsFaultOf (entry_from version count old) fault
+    → IsFaultOf (entries_from (length old.records + 1) version count old) fault
 unfolding entries_from
 entries_fault version count old fault is = go (length old.records + 1) (omega arith)
   where

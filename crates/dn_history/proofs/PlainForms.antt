@@ -68,7 +68,8 @@ ends : (text last rest : List ℕ) (least greatest n : ℕ) (fields : Fields) �
     → BeginsLine text (fields ++ digits last ∷ []) rest
 ends text last rest least greatest n fields begins is opens = line-begins text last fields (digits last) (digits last) rest begins (end_parts least greatest last n rest is).0 (digits-write last) opens
 
-pub submit_begins : (text t1 t2 t3 t4 t5 t6 t7 rest : List ℕ) (caller len word_is moment : ℕ) (target : Target) (tuple : FiveTuple) → text ≡ codes "c," ++ t1 → number_until 44 0 15 t1 ≡ Some (caller, t2)
+pub submit_begins : (text t1 t2 t3 t4 t5 t6 t7 rest : List ℕ) (caller len word_is moment : ℕ) (target : Target) (tuple : FiveTuple) → text ≡ codes "c," ++ t1
+    → number_until 44 0 15 t1 ≡ Some (caller, t2)
     → t2 ≡ codes "submit," ++ t3 → BeginsTarget t3 target t4 → BeginsTuple t4 tuple t5 → number_until 44 1 65535 t5 ≡ Some (len, t6) → number_until 44 0 4294967295 t6 ≡ Some (word_is, t7)
     → number_at_end 0 (2 ^ 62) t7 ≡ Some (moment, rest) → BeginsCall text caller (Submit target (record { tuple = tuple; len = len; word = word_is }) moment) rest
 unfolding call_of plain_call submit_of packet_at field_at

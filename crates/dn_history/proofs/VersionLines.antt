@@ -56,7 +56,8 @@ version-first text version rest begins =
     first-read (version_words version) (version_record version) (unmarked version) (feed-version version) (return-version version) text rest begins.stands
 
 -- Where a text begins with none of the four, it begins with no line that tells a version.
-pub none-begins : (text : List ℕ) → None ≡ behind_first (version_words Third) text → None ≡ behind_first (version_words Second) text → None ≡ behind_first (version_words First) text → None ≡ behind_first (version_words Live) text
+pub none-begins : (text : List ℕ) → None ≡ behind_first (version_words Third) text → None ≡ behind_first (version_words Second) text
+    → None ≡ behind_first (version_words First) text → None ≡ behind_first (version_words Live) text
     → BeginsNoHistory text
 none-begins text third second first live version rest begins = differs (none version ∙ begins.stands)
   where

@@ -15,4 +15,5 @@ returns c =
     (strip_prefix_is Decides-eqb c.args.text.now (codes "c,") (Some c.in_ok-text.text) c.in_ok-text.ensures.cases) (sym c.in_ok-caller.ensures.value)
     (strip_prefix_is Decides-eqb c.in_ok-caller.text.now (codes "submit,") (Some c.in_ok-text-2.text) c.in_ok-text-2.ensures.cases)
     (target_read c.in_ok-text-2.text.now c.in-Some.text.now c.in-Some.target (sym c.in-Some.ensures))
-    (tuple_read c.in-Some.text.now c.in-Some-tuple_at_front.text.now c.in-Some-tuple_at_front.tuple (sym c.in-Some-tuple_at_front.ensures)) (sym c.in_ok-len.ensures.value) (sym c.in_ok-word.ensures.value) (sym c.in_ok-moment.ensures.value))
+    (tuple_read c.in-Some.text.now c.in-Some-tuple_at_front.text.now c.in-Some-tuple_at_front.tuple (sym c.in-Some-tuple_at_front.ensures))
+    (sym c.in_ok-len.ensures.value) (sym c.in_ok-word.ensures.value) (sym c.in_ok-moment.ensures.value))

@@ -9,18 +9,22 @@ go_on-requires c = behind-line c.in_ok-text.text.now (codes "r" ∷ c.in-Some.en
 
 pub overflow_add-self : goal.overflow_add-self
 overflow_add-self c =
-    let count = one-counted c.self.inside.records c.go_on.new.self c.in_ok-text.text.now c.in-Some.rest.now (codes "r") c.in-Some.ensures.others c.in_ok-text.ensures c.in-Some.ensures.line c.go_on.ensures in
+    let count = one-counted c.self.inside.records c.go_on.new.self c.in_ok-text.text.now c.in-Some.rest.now
+    (codes "r") c.in-Some.ensures.others c.in_ok-text.ensures c.in-Some.ensures.line c.go_on.ensures in
     omega (arith, count, c.self.invariant)
 
 pub invariant_of-self : goal.invariant_of-self
 invariant_of-self c =
-    let count = one-counted c.self.inside.records c.go_on.new.self c.in_ok-text.text.now c.in-Some.rest.now (codes "r") c.in-Some.ensures.others c.in_ok-text.ensures c.in-Some.ensures.line c.go_on.ensures in
+    let count = one-counted c.self.inside.records c.go_on.new.self c.in_ok-text.text.now c.in-Some.rest.now
+    (codes "r") c.in-Some.ensures.others c.in_ok-text.ensures c.in-Some.ensures.line c.go_on.ensures in
     omega (arith, count, c.self.invariant)
 
 pub returns-clause-reply : goal.returns-clause-reply
 returns-clause-reply c =
-    rw (← c.self.view_is) (λ version. reply-taken c.self.inside.records c.go_on.new.self c.in_ok-text.text.now c.in-Some.rest.now c.in-Some.reply c.in_ok-text.ensures c.in-Some.ensures c.go_on.ensures c.self.inside.number version)
+    rw (← c.self.view_is) (λ version. reply-taken c.self.inside.records c.go_on.new.self c.in_ok-text.text.now c.in-Some.rest.now c.in-Some.reply
+    c.in_ok-text.ensures c.in-Some.ensures c.go_on.ensures c.self.inside.number version)
 
 pub returns-clause-fewer : goal.returns-clause-fewer
 returns-clause-fewer c =
-    rw (← c.self.view_is) (one-fewer c.self.inside.records c.go_on.new.self c.in_ok-text.text.now c.in-Some.rest.now (codes "r") c.in-Some.ensures.others c.in_ok-text.ensures c.in-Some.ensures.line c.go_on.ensures)
+    rw (← c.self.view_is) (one-fewer c.self.inside.records c.go_on.new.self c.in_ok-text.text.now c.in-Some.rest.now
+    (codes "r") c.in-Some.ensures.others c.in_ok-text.ensures c.in-Some.ensures.line c.go_on.ensures)
