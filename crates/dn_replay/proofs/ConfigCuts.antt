@@ -1,5 +1,6 @@
 -- Where a joined input is cut, by the line that its last line feed ends, or by its end.
-use Rattle.std.proofs.Common.{◌≡◌, ◌∙◌, ℕ, ◌+◌, ◌<◌, ◌==◌, length, take, drop, get_or, add-one, drop-cons, take-append-drop, true, false, List, [], ◌∷◌, ◌++◌, refl, sym, ap, inl, inr, append_assoc, append-nil}
+use Rattle.std.proofs.Common.{◌≡◌, ◌∙◌, ℕ, ◌+◌, ◌<◌, ◌==◌, length, take, drop, get_or, add-one, drop-cons, take-append-drop, true, false, List, [], ◌∷◌, ◌++◌}
+use Rattle.std.proofs.Common.{refl, sym, ap, inl, inr, append_assoc, append-nil}
 use Rattle.std.specs.Prelude.{is_some, bytes_eq, codes}
 use Rattle.std.proofs.lemmas.Bool.{cases_Bool}
 use Rattle.std.proofs.lemmas.List.{take_more}

@@ -70,11 +70,14 @@ configured-le calls number (line ∷ lines) after e = said (command_at number li
     Rest : Type 0
     Rest = (next : List Call) → configured_from next (number + 1) lines ≡ Ok after → length after ≤ length next + length lines
 
-    made : (command : Command) (why : Option ReplayFault) → Rest → (unless why (Configure command ∷ calls) >>= λ next. configured_from next (number + 1) lines) ≡ Ok after → length after ≤ length calls + suc (length lines)
+    made : (command : Command) (why : Option ReplayFault) → Rest → (unless why (Configure command ∷ calls) >>= λ next. configured_from next (number + 1) lines)
+        ≡ Ok after → length after ≤ length calls + suc (length lines)
     made command None rest e = let le = rest (Configure command ∷ calls) e in omega (arith, le)
     made command (Some fault) rest e = absurd cc
 
-    said : (o : Result (Option Command) ReplayFault) → Rest → (o >>= λ command. applied number calls command >>= λ next. configured_from next (number + 1) lines) ≡ Ok after → length after ≤ length calls + suc (length lines)
+    said : (o : Result (Option Command) ReplayFault)
+        → Rest → (o >>= λ command. applied number calls command >>= λ next. configured_from next (number + 1) lines) ≡ Ok after
+        → length after ≤ length calls + suc (length lines)
     said (Err fault) rest e = absurd cc
     said (Ok None) rest e = let le = rest calls e in omega (arith, le)
     said (Ok (Some command)) rest e = made command (refusal number (reply Ordered calls (Configure command))) rest e
@@ -90,7 +93,8 @@ kept-lines (line ∷ next ∷ more) = let rest = kept-lines (next ∷ more) in o
 
 lines-le : (text : List ℕ) → length (lines_of text) ≤ length text + 1
 unfolding lines_of
-lines-le text = let kept = kept-lines (slice_split is_line_feed text) in let parts = length-slice_split is_line_feed text in let feeds = count_by-le-length is_line_feed text in omega (arith, kept, parts, feeds)
+lines-le text = let kept = kept-lines (slice_split is_line_feed text) in let parts = length-slice_split is_line_feed text in
+    let feeds = count_by-le-length is_line_feed text in omega (arith, kept, parts, feeds)
 
 configured_by-le : (text : List ℕ) (calls : List Call) → configured_by text ≡ Ok calls → length calls ≤ length text + 1
 configured_by-le text calls e = let le = configured-le [] 1 (lines_of text) calls e in let lines = lines-le text in omega (arith, le, lines)
@@ -115,7 +119,8 @@ config-le text calls e = by (within_limit config_limit Config text) refl e
         let le = configured_by-le read calls e in
         omega (arith, le, same, short.1)
 
-few-after : (calls : List Call) (n : ℕ) (o : Result (List Row) ReplayFault) → length calls ≤ n → n ≤ 2 ^ 41 → ((rows : List Row) → o ≡ Ok rows → length rows ≤ 2 ^ 41) → AreFew (o >>= λ rows. Ok (replayed calls rows))
+few-after : (calls : List Call) (n : ℕ) (o : Result (List Row) ReplayFault) → length calls ≤ n → n ≤ 2 ^ 41
+    → ((rows : List Row) → o ≡ Ok rows → length rows ≤ 2 ^ 41) → AreFew (o >>= λ rows. Ok (replayed calls rows))
 few-after calls n (Err fault) le small h = tt
 few-after calls n (Ok rows) le small h = let size = submitted-size calls rows in let few = h rows refl in omega (arith, size, few, le, small)
 
@@ -146,7 +151,8 @@ parts-le start (c ∷ rest) = by (start && is_some (after_mark (c ∷ rest))) (p
     by true le = let behind = mark-le (c ∷ rest) in omega (arith, behind)
     by false le = omega (arith, le)
 
-few-parts : (o : Result (List Call) ReplayFault) (packets : List ℕ) → ((calls : List Call) → o ≡ Ok calls → length calls ≤ 2 ^ 41) → length packets < 2 ^ 41 → AreFew (o >>= λ calls. calls_with calls packets)
+few-parts : (o : Result (List Call) ReplayFault) (packets : List ℕ) → ((calls : List Call) → o ≡ Ok calls → length calls ≤ 2 ^ 41) → length packets < 2 ^ 41
+    → AreFew (o >>= λ calls. calls_with calls packets)
 few-parts (Err fault) packets h short = tt
 few-parts (Ok calls) packets h short = few-after calls (2 ^ 41) (rows_of packets) (h calls refl) (omega arith) (λ rows is. let few = rows_of-le packets rows is in omega (arith, few, short))
 
@@ -154,7 +160,8 @@ few-parts (Ok calls) packets h short = few-after calls (2 ^ 41) (rows_of packets
 few-of-joined : (text : List ℕ) → length text ≤ 2 ^ 40 → AreFew (calls_of_parts (joined_parts text))
 few-of-joined text short =
     let parts = parts-le true text in
-    few-parts (configured_by (joined_parts text).0) (joined_parts text).1 (λ calls is. let le = configured_by-le (joined_parts text).0 calls is in omega (arith, le, parts, short)) (omega (arith, parts, short))
+    few-parts (configured_by (joined_parts text).0) (joined_parts text).1
+    (λ calls is. let le = configured_by-le (joined_parts text).0 calls is in omega (arith, le, parts, short)) (omega (arith, parts, short))
 
 -- So what is asked for is few calls, or a fault.
 pub few-asked : (limit : ℕ) (config : Option (List ℕ)) (text : List ℕ) → IsLimit limit → length text ≤ limit → AreFew (calls_asked limit config text)

@@ -197,7 +197,8 @@ below row packet p given (f ∷ fates) lt = by (is_accepted f) (λ (q : ℕ) (fu
         let other : nat_eq p packet ≡ false = grind (arith, nat_tests) in
         in-parts row packet p given f (fate_lines (row + 1) packet given fates) ∙ rw (other-number row packet p given f other) (rest packet lt)
 
-past : (row packet place p : ℕ) (given : List Delivery) (fates : List Fate) → packet + length (accepted_places place fates) ≤ p → at packet_of p (filter is_out (fate_lines row packet given fates)) ≡ []
+past : (row packet place p : ℕ) (given : List Delivery) (fates : List Fate) → packet + length (accepted_places place fates) ≤ p
+    → at packet_of p (filter is_out (fate_lines row packet given fates)) ≡ []
 unfolding fate_lines accepted_places
 past row packet place p given [] le = refl
 past row packet place p given (f ∷ fates) le = by (is_accepted f) refl le (λ (q : ℕ) (further : q + length (accepted_places (place + 1) fates) ≤ p). past (row + 1) q (place + 1) p given fates further)

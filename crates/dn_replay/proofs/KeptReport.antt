@@ -38,11 +38,13 @@ nothing-given n given none = rw none (record { numbers = All-nil (λ d. d.packet
 
 -- What a Collect after the calls gives: packets that the calls accepted, each once, in order.
 module _ (calls : List Call) (moment : ℕ) where
-  pub counted-given : (n : ℕ) → accepted_count (trace_of calls) ≡ n → AreGiven n (given_at Ordered (max (effective_moment calls) moment) (settled (settings calls) (max (effective_moment calls) moment) (trace_of calls)))
+  pub counted-given : (n : ℕ) → accepted_count (trace_of calls) ≡ n
+      → AreGiven n (given_at Ordered (max (effective_moment calls) moment) (settled (settings calls) (max (effective_moment calls) moment) (trace_of calls)))
   counted-given n count =
       let at = max (effective_moment calls) moment in
       let trace = settled (settings calls) (max (effective_moment calls) moment) (trace_of calls) in
-      let few : accepted_count (settled (settings calls) (max (effective_moment calls) moment) (trace_of calls)) ≤ n = (let same = settled-accepts (settings calls) (max (effective_moment calls) moment) (trace_of calls) in omega (arith, same, count)) in
+      let few : accepted_count (settled (settings calls) (max (effective_moment calls) moment) (trace_of calls)) ≤ n =
+      (let same = settled-accepts (settings calls) (max (effective_moment calls) moment) (trace_of calls) in omega (arith, same, count)) in
       record {
         numbers = All-filter (λ d. nat_le d.due at) (λ d. d.packet < n) (undelivered Ordered trace) (undelivered-below n Ordered trace (trace-proper (Collect moment ∷ calls)) few);
         once = λ packet. (let all = gives-once Ordered packet (Collect moment ∷ calls) in omega (arith, all));

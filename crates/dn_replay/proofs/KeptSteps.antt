@@ -144,7 +144,8 @@ pub kept-configured : (kept : Kept) (calls : List Call) (command : Command) → 
 unfolding history_of
 kept-configured kept calls command h = record {
   lines = λ given. lines-push 1 given [] (history_of calls) (entry_after calls (Configure command)) ∙ append-nil _ ∙ h.lines given;
-  submits = count-push (λ e. is_submit e.call && nat_eq e.caller 0) (history_of calls) (entry_after calls (Configure command)) ∙ (let same : submits_by 0 (history_of calls) + 0 ≡ submits_by 0 (history_of calls) = omega arith in same) ∙ h.submits;
+  submits = count-push (λ e. is_submit e.call && nat_eq e.caller 0) (history_of calls) (entry_after calls (Configure command))
+      ∙ (let same : submits_by 0 (history_of calls) + 0 ≡ submits_by 0 (history_of calls) = omega arith in same) ∙ h.submits;
   places = h.places;
   numbers = λ few. configured-accepts calls command ∙ h.numbers (omega arith);
   undelivered = deliveries-append (history_of calls) (entry_after calls (Configure command)) ∙ rw (h.undelivered, configure-delivers-none calls command) refl;
@@ -169,14 +170,17 @@ kept-submitted kept now calls target packet moment h fates_are accepted_are =
     let e = entry_after calls (Submit target packet moment) in
     let fate = fate_of (reply Ordered calls (Submit target packet moment)) in
     let number : (at flow number : ℕ) → reply Ordered calls (Submit target packet moment) ≡ Queued at flow number → number ≡ 0 + length (accepted_places 0 kept.fates.items) =
-    λ at flow number is. (let n = number-is calls target packet moment at flow number is in let same = h.numbers (omega (arith, n.0)) in let places = ap (length {A = ℕ}) h.places in let own = n.1 in omega (arith, own, same, places)) in
+    λ at flow number is. (let n = number-is calls target packet moment at flow number is in let same = h.numbers (omega (arith, n.0)) in
+    let places = ap (length {A = ℕ}) h.places in let own = n.1 in omega (arith, own, same, places)) in
     let row_is : 0 + submits_by 0 (history_of calls) * 1 + 1 ≡ 1 + length kept.fates.items = omega (arith, h.submits) in
     record {
       lines = λ given. lines-push 1 given [] (history_of calls) e
-          ∙ rw (row_is, h.lines given, line-by-fate (1 + length kept.fates.items) (0 + length (accepted_places 0 kept.fates.items)) given r number, fates_are) (sym (fates-push 1 0 0 given kept.fates.items fate));
+          ∙ rw (row_is, h.lines given, line-by-fate (1 + length kept.fates.items) (0 + length (accepted_places 0 kept.fates.items)) given r number, fates_are)
+          (sym (fates-push 1 0 0 given kept.fates.items fate));
       submits = count-push (λ e. is_submit e.call && nat_eq e.caller 0) (history_of calls) e ∙ rw (fates_are, h.submits) (sym (length_push kept.fates.items fate));
       places = places-more kept.fates.items kept.accepted.items now.accepted.items fate h.places accepted_are ∙ ap (accepted_places 0) (sym fates_are);
-      numbers = λ few. submitted-accepts calls target packet moment (omega arith) ∙ rw (accepted_are, h.numbers (omega arith)) (counted (is_accepted fate) kept.accepted.items (length kept.fates.items));
+      numbers = λ few. submitted-accepts calls target packet moment (omega arith)
+          ∙ rw (accepted_are, h.numbers (omega arith)) (counted (is_accepted fate) kept.accepted.items (length kept.fates.items));
       undelivered = deliveries-append (history_of calls) e ∙ rw (h.undelivered, submit-delivers-none calls target packet moment) refl;
       rows = λ test. list_any-append (is_row test) (history_of calls) (e ∷ []) ∙ rw (h.rows test, fates_are) (sym (list_any-append test kept.fates.items (fate ∷ [])));
     }

@@ -8,7 +8,8 @@ use Rattle.dn_replay.specs.Report.{line_fields, report_header}
 use Rattle.dn_replay.specs.declared.report.line.ReportLine.TheVariants.{Out, Held, Lost, Full, NoTarget}
 
 -- A number, and what stands behind it.
-number-then : (n : ℕ) (fields : Fields) (rest : List ℕ) → n < 2 ^ 128 → fields_text default_writer fields ++ 10 ∷ [] ≡ rest → fields_text default_writer (decimal n ∷ fields) ++ 10 ∷ [] ≡ 44 ∷ (decimal n ++ rest)
+number-then : (n : ℕ) (fields : Fields) (rest : List ℕ) → n < 2 ^ 128 → fields_text default_writer fields ++ 10 ∷ [] ≡ rest
+    → fields_text default_writer (decimal n ∷ fields) ++ 10 ∷ [] ≡ 44 ∷ (decimal n ++ rest)
 unfolding fields_text
 number-then n fields rest small e =
     ap (λ (t : List ℕ). 44 ∷ ((t ++ fields_text default_writer fields) ++ 10 ∷ [])) (decimal_is_plain n small)

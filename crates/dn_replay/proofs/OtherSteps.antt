@@ -27,7 +27,8 @@ no-text : text_of [] ≡ []
 unfolding text_of
 no-text = refl
 
-held-text : (row at flow packet : ℕ) (o : Option Delivery) → is_some o ≡ false → text_of (map line_fields (filter is_other (queued_line row at flow packet o ∷ []))) ≡ line_of (line_fields (line.Held row flow packet at))
+held-text : (row at flow packet : ℕ) (o : Option Delivery) → is_some o ≡ false
+    → text_of (map line_fields (filter is_other (queued_line row at flow packet o ∷ []))) ≡ line_of (line_fields (line.Held row flow packet at))
 held-text row at flow packet None e = one-line (line_fields (line.Held row flow packet at))
 held-text row at flow packet (Some d) e = absurd cc
 

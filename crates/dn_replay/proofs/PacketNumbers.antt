@@ -82,7 +82,9 @@ submitted-accepts calls target packet moment few =
     let at = max (effective_moment calls) moment in
     let before = settled (settings calls) at (trace_of calls) in
     let more = verdict-accepts (settings calls) at packet (verdict calls target packet before) before in
-    rw (counts calls (Submit target packet moment) few) (more ∙ ap (λ (n : ℕ). n + cond (is_accepted (fate_of (reply_to_verdict at (verdict calls target packet before) before))) 1 0) (settled-accepts (settings calls) at (trace_of calls)))
+    rw (counts calls (Submit target packet moment) few)
+    (more ∙ ap (λ (n : ℕ). n + cond (is_accepted (fate_of (reply_to_verdict at (verdict calls target packet before) before))) 1 0)
+    (settled-accepts (settings calls) at (trace_of calls)))
 
 numbered : (at : ℕ) (v : Verdict) (trace : List Event) (at' flow number : ℕ) → reply_to_verdict at v trace ≡ Queued at' flow number → number ≡ accepted_count trace
 numbered at (takes l f how) trace at' flow number e = cc

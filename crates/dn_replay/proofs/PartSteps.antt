@@ -16,7 +16,11 @@ begun start = record { front = []; written = Appends-nil start; whole = refl }
 -- The buffer was written, and is empty.
 pub part-written : (start mid now : Option (List ℕ)) (buffer left text : List ℕ) → IsUnderWay start mid buffer text → Appends mid now buffer → left ≡ [] → IsUnderWay start now left text
 part-written start mid now buffer left text h more none =
-    record { front = h.front ++ buffer; written = Appends-trans start mid now h.front buffer h.written more; whole = h.whole ∙ sym (ap (λ (l : List ℕ). (h.front ++ buffer) ++ l) none ∙ append-nil (h.front ++ buffer)) }
+    record {
+      front = h.front ++ buffer;
+      written = Appends-trans start mid now h.front buffer h.written more;
+      whole = h.whole ∙ sym (ap (λ (l : List ℕ). (h.front ++ buffer) ++ l) none ∙ append-nil (h.front ++ buffer));
+    }
 
 take-past : (xs ys : List ℕ) (k : ℕ) → take (length xs + k) (xs ++ ys) ≡ xs ++ take k ys
 take-past [] ys k = let same : 0 + k ≡ k = omega arith in rw same refl
@@ -86,6 +90,7 @@ module _ {D X : Type 0} (line : D → X) (fields : X → Fields) where
       ∙ ap (λ (xs : List X). before ++ text_of (map fields xs)) (sym (ap (map line) (sym (take-append-drop i ds)) ∙ map-append line (take i ds) (drop i ds))))
 
 -- The header, the lines of the deliveries and the others are the text of all.
-pub whole-text : {X : Type 0} (fields : X → Fields) (header : Fields) (outs others : List X) → (line_of header ++ text_of (map fields outs)) ++ text_of (map fields others) ≡ text_of (header ∷ map fields (outs ++ others))
+pub whole-text : {X : Type 0} (fields : X → Fields) (header : Fields) (outs others : List X)
+    → (line_of header ++ text_of (map fields outs)) ++ text_of (map fields others) ≡ text_of (header ∷ map fields (outs ++ others))
 unfolding text_of
 whole-text fields header outs others = lines-append fields (line_of header) outs others

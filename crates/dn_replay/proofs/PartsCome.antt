@@ -25,7 +25,8 @@ joined_begins input records limit small unbegun is = record {
   taken = rw (← is) (from_start input unbegun);
 }
 
-pub behind_begins : (input : TheInput) (records : Bool) (limit : ℕ) (config : List ℕ) (calls : List Call) → IsLimit limit → config_calls config ≡ Ok calls → HasTaken records input (calls_with calls) []
+pub behind_begins : (input : TheInput) (records : Bool) (limit : ℕ) (config : List ℕ) (calls : List Call) → IsLimit limit → config_calls config ≡ Ok calls
+    → HasTaken records input (calls_with calls) []
     → HasCome records (record { input = input; records = records; source = Packets; limit = limit; length = 0 }) (Some config) []
 behind_begins input records limit config calls small accepted taken = record {
   records_is = refl;
@@ -39,7 +40,8 @@ behind_begins input records limit config calls small accepted taken = record {
 }
 
 -- A part was refused memory, so that the whole is.
-pub spoiled : (old : Coming) (input : TheInput) → input.stage ≡ Refused OutOfMemory → CanGoOn old → CanGoOn (record { input = input; records = old.records; source = old.source; limit = old.limit; length = old.length })
+pub spoiled : (old : Coming) (input : TheInput) → input.stage ≡ Refused OutOfMemory → CanGoOn old
+    → CanGoOn (record { input = input; records = old.records; source = old.source; limit = old.limit; length = old.length })
 spoiled old input is (records, config, text, come) = (
   records,
   config,

@@ -103,7 +103,8 @@ module _ (calls : List Call) where
           test : (b : Bool) → nat_le (free link t) at ≡ b → (o : Option Accepted) → cond b (option_map (λ p. start_at set link p (free link t)) o) None ≡ Some s → s.moment ≤ at
           test false is o e = absurd cc
           test true is None e = absurd cc
-          test true is (Some p) e = let same : start_at set link p (free link t) ≡ s = cc in let moment = ap (λ (x : Start). x.moment) same in let early : free link t ≤ at = grind (arith, nat_tests) in omega (arith, early, moment)
+          test true is (Some p) e = let same : start_at set link p (free link t) ≡ s = cc in let moment = ap (λ (x : Start). x.moment) same in
+              let early : free link t ≤ at = grind (arith, nat_tests) in omega (arith, early, moment)
 
       by : (o : Option Start) → first_start (settings calls) (effective_moment calls) (links (trace_of calls)) (trace_of calls) ≡ o → o ≡ None
       by None e = refl
@@ -118,7 +119,8 @@ module _ (calls : List Call) where
     where
       by : (most : ℕ) → settle most (settings calls) (effective_moment calls) (trace_of calls) ≡ trace_of calls
       by zero = refl
-      by (suc most) = ap (λ (o : Option Start). elim o as (λ _. List Event) [ None ↦ trace_of calls | Some s ↦ settle most (settings calls) (effective_moment calls) (started s ∷ trace_of calls) ]) none-starts
+      by (suc most) = ap (λ (o : Option Start). elim o as (λ _. List Event)
+          [ None ↦ trace_of calls | Some s ↦ settle most (settings calls) (effective_moment calls) (started s ∷ trace_of calls) ]) none-starts
 
   the-clock : max (effective_moment calls) 0 ≡ effective_moment calls
   the-clock = omega arith
@@ -162,7 +164,8 @@ passed-none calls = record { alike = refl; past = All-nil (IsPast (effective_mom
 
 module _ (made calls : List Call) (given : List Delivery) (h : HasPassed made calls given) where
   -- What is settled is alike.
-  settled-alike : (at : ℕ) → settle_in Ordered (settings made) at (with_given given (traffic Ordered (trace_of made))) ≡ with_given given (settle_in Ordered (settings made) at (traffic Ordered (trace_of made)))
+  settled-alike : (at : ℕ) → settle_in Ordered (settings made) at (with_given given (traffic Ordered (trace_of made)))
+      ≡ with_given given (settle_in Ordered (settings made) at (traffic Ordered (trace_of made)))
   settled-alike at = settled-behind (effective_moment made) (accepted_count (trace_of made)) given h.past (settings made) at (trace_of made) (busy made)
 
   module _ (target : Target) (packet : Packet) (moment : ℕ) where
@@ -182,9 +185,11 @@ module _ (made calls : List Call) (given : List Delivery) (h : HasPassed made ca
     how = treatment (settings made target)
 
     traffic-alike : after_verdict_in Ordered (settings made) (max (effective_moment made) moment) packet
-        (verdict_in (keys made) target packet (treatment (settings made target)) (settle_in Ordered (settings made) (max (effective_moment made) moment) (with_given given (traffic Ordered (trace_of made)))))
+        (verdict_in (keys made) target packet (treatment (settings made target))
+        (settle_in Ordered (settings made) (max (effective_moment made) moment) (with_given given (traffic Ordered (trace_of made)))))
         (settle_in Ordered (settings made) (max (effective_moment made) moment) (with_given given (traffic Ordered (trace_of made))))
-        ≡ with_given given (after_verdict_in Ordered (settings made) (max (effective_moment made) moment) packet (verdict_in (keys made) target packet (treatment (settings made target)) before) before)
+        ≡ with_given given (after_verdict_in Ordered (settings made) (max (effective_moment made) moment) packet
+        (verdict_in (keys made) target packet (treatment (settings made target)) before) before)
     traffic-alike =
         ap (λ (x : Traffic). after_verdict_in Ordered (settings made) clock packet (verdict_in (keys made) target packet how x) x) (settled-alike clock)
         ∙ ap (λ (v : Verdict). after_verdict_in Ordered (settings made) clock packet v (with_given given before))

@@ -35,5 +35,6 @@ returns-in-Err-clause-err g c = λ records config first.
     let failed = g.I.Inlet.has_failed c.feed_steps.new.inlet in
     let failures = TextFailed (source_of config) failed in
     unreplayed failures (IsAskedBehind c.args.replay.limit config known) (g.O.Outlet.contents c.args.out.now) (g.O.Outlet.has_failed c.args.out.now) c.in-Err.fault c.requires.out
-    (unread_input failures (IsAskedBehind c.args.replay.limit config known) (source_of config) (calls_asked c.args.replay.limit config) known failed c.in-Err.fault (λ f r. r) (λ sound. sound) (λ bad. (refl, bad))
+    (unread_input failures (IsAskedBehind c.args.replay.limit config known) (source_of config)
+    (calls_asked c.args.replay.limit config) known failed c.in-Err.fault (λ f r. r) (λ sound. sound) (λ bad. (refl, bad))
     (c.in-Err.ensures.err (record { records = records; config = config; limit = c.args.replay.limit }) (first, refl)))

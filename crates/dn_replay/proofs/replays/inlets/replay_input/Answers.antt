@@ -8,7 +8,8 @@ use Rattle.dn_replay.proofs.replays.inlets.replay_input.Goals as goal
 
 pub returns-clause-ok : goal.returns-clause-ok
 returns-clause-ok g c =
-    IfOk-weaker c.answer.result _ _ (λ both told. answered_through (λ asked. calls_asked packet_limit None told.0 ≡ asked) (AsksFor (g.I.Inlet.remaining c.args.input.now)) (g.O.Outlet.contents c.args.out.now) (g.O.Outlet.contents c.answer.new.out)
+    IfOk-weaker c.answer.result _ _ (λ both told. answered_through (λ asked. calls_asked packet_limit None told.0 ≡ asked)
+    (AsksFor (g.I.Inlet.remaining c.args.input.now)) (g.O.Outlet.contents c.args.out.now) (g.O.Outlet.contents c.answer.new.out)
     (λ asked e. (told.0, told.1, e)) c.args.records both.0.items both.1.untargeted (rw c.joined-replay.ensures.limit at (told.2 c.args.records None c.joined-replay.ensures.come))) c.answer.ensures.ok
 
 pub returns-clause-err : goal.returns-clause-err

@@ -31,7 +31,8 @@ returns-in_err-replay-clause-err g c =
     let p = err_from_is_err_and c.from_residual-in_err-replay.result c.from_residual-in_err-replay.ensures.1 in
     rw (p.1, p.2) (unreplayed failures (AskForWithin c.args.limit config packets) (g.O.Outlet.contents c.args.out.now) (g.O.Outlet.has_failed c.args.out.now) _ c.requires.out
     (unread_input failures (AskForWithin c.args.limit config packets) Config config_calls config failed _ (λ f r. config_fault c.args.limit config packets f r)
-    (λ sound. (sound, c.requires.packets)) (λ bad. (bad, c.requires.packets)) (refused_for Config config_calls config failed c.as_slice.result.now c.in_ok-text.ensures.sound is _ c.in_err-replay.ensures.err)))
+    (λ sound. (sound, c.requires.packets)) (λ bad. (bad, c.requires.packets))
+    (refused_for Config config_calls config failed c.as_slice.result.now c.in_ok-text.ensures.sound is _ c.in_err-replay.ensures.err)))
 
 pub returns-clause-ok : goal.returns-clause-ok
 returns-clause-ok g c =
@@ -39,8 +40,10 @@ returns-clause-ok g c =
     let packets = g.P.Inlet.remaining c.args.packets.now in
     let text = c.as_slice.result.now in
     let is = rw (← c.as_slice.ensures.value) at c.in_ok-text.ensures.text in
-    IfOk-weaker c.answer.result _ _ (λ both told. answered_through (λ asked. calls_asked c.args.limit (Some text) told.0 ≡ asked) (AskForWithin c.args.limit config packets) (g.O.Outlet.contents c.args.out.now) (g.O.Outlet.contents c.answer.new.out)
-    (λ asked e. asked_by_both c.args.limit config packets text told.0 is told.1 asked e) c.args.records both.0.items both.1.untargeted (rw c.in_ok-replay.ensures.limit at (told.2 c.args.records (Some text) c.in_ok-replay.ensures.ok))) c.answer.ensures.ok
+    IfOk-weaker c.answer.result _ _ (λ both told. answered_through (λ asked. calls_asked c.args.limit (Some text) told.0 ≡ asked)
+    (AskForWithin c.args.limit config packets) (g.O.Outlet.contents c.args.out.now) (g.O.Outlet.contents c.answer.new.out)
+    (λ asked e. asked_by_both c.args.limit config packets text told.0 is told.1 asked e) c.args.records both.0.items both.1.untargeted
+    (rw c.in_ok-replay.ensures.limit at (told.2 c.args.records (Some text) c.in_ok-replay.ensures.ok))) c.answer.ensures.ok
 
 pub returns-clause-err : goal.returns-clause-err
 returns-clause-err g c =
@@ -50,7 +53,9 @@ returns-clause-err g c =
     let is = rw (← c.as_slice.ensures.value) at c.in_ok-text.ensures.text in
     let config_failed = g.C.Inlet.has_failed c.read_input.new.reader in
     let failed = g.P.Inlet.has_failed c.answer.new.inlet in
-    IfErr-weaker c.answer.result _ _ (λ fault untold. unanswered_through (IsAskedBehind c.args.limit (Some text) packets) (AskForWithin c.args.limit config packets) (g.O.Outlet.contents c.args.out.now) (g.O.Outlet.contents c.answer.new.out)
+    IfErr-weaker c.answer.result _ _ (λ fault untold. unanswered_through (IsAskedBehind c.args.limit (Some text) packets)
+    (AskForWithin c.args.limit config packets) (g.O.Outlet.contents c.args.out.now) (g.O.Outlet.contents c.answer.new.out)
     (λ asked told. asked_by_both c.args.limit config packets text told.0 is told.1 asked told.2) (TextFailed Packets failed) (EitherFailed config config_failed failed)
-    (either_failed config config_failed failed c.in_ok-text.ensures.sound (c.in_ok-replay.ensures.accepted.0, (text, is, c.in_ok-replay.ensures.accepted.1))) (g.O.Outlet.has_failed c.answer.new.out) fault
+    (either_failed config config_failed failed c.in_ok-text.ensures.sound (c.in_ok-replay.ensures.accepted.0, (text, is, c.in_ok-replay.ensures.accepted.1)))
+    (g.O.Outlet.has_failed c.answer.new.out) fault
     (rw c.in_ok-replay.ensures.limit at (untold c.args.records (Some text) c.in_ok-replay.ensures.ok))) c.answer.ensures.err

@@ -16,7 +16,8 @@ add_delivery-requires g c =
     record {
       room = omega (arith, c.loop-delivery.invariant.room, c.loop-delivery.invariant.short);
       known = rw c.as_slice.ensures.value number;
-      placed = rw (c.as_slice.ensures.value, c.as_slice-in-loop-delivery.ensures.value) (known-place c.args.kept.now.accepted.items c.args.kept.now.fates.items d.packet c.requires.known.places number);
+      placed = rw (c.as_slice.ensures.value, c.as_slice-in-loop-delivery.ensures.value)
+          (known-place c.args.kept.now.accepted.items c.args.kept.now.fates.items d.packet c.requires.known.places number);
     }
 
 pub loop-delivery-init : goal.loop-delivery-init
@@ -35,7 +36,8 @@ loop-delivery-preserved g c = record {
       let i = c.loop-delivery.delivery-index in
       let d = get_or c.args.given.now c.loop-delivery.delivery-index (record { due = 0; packet = 0; flow = 0; start = 0 }) in
       let items = rw (c.as_slice.ensures.value, c.as_slice-in-loop-delivery.ensures.value) at c.add_delivery.ensures.items in
-      let added = line-added start (g.O.Outlet.contents c.loop-delivery.out) c.loop-delivery.text.items c.add_delivery.new.text.items (before ++ text_of (map line_fields (map line (take i given)))) (line_of (line_fields (line d)))
+      let added = line-added start (g.O.Outlet.contents c.loop-delivery.out) c.loop-delivery.text.items c.add_delivery.new.text.items
+      (before ++ text_of (map line_fields (map line (take i given)))) (line_of (line_fields (line d)))
       items (c.loop-delivery.invariant.under_way start before h) in
       let more = outs-more line line_fields before given i (record { due = 0; packet = 0; flow = 0; start = 0 }) c.loop-delivery-test.true in
       c.in_ok-write_full_part.ensures.ok start (before ++ text_of (map line_fields (map line (take (i + 1) given))))
@@ -49,7 +51,8 @@ pub returns-clause-ok : goal.returns-clause-ok
 returns-clause-ok g c = λ start before h.
     let line = delivery_line c.args.kept.now.accepted.items c.args.kept.now.fates.items in
     let all = ap (λ (ds : List Delivery). before ++ text_of (map line_fields (map line ds))) (take_all c.loop-delivery.delivery-index c.args.given.now c.loop-delivery-test.false) in
-    same-text start (g.O.Outlet.contents c.loop-delivery.out) c.loop-delivery.text.items _ (before ++ text_of (map line_fields (map line c.args.given.now))) all (c.loop-delivery.invariant.under_way start before h)
+    same-text start (g.O.Outlet.contents c.loop-delivery.out) c.loop-delivery.text.items _
+    (before ++ text_of (map line_fields (map line c.args.given.now))) all (c.loop-delivery.invariant.under_way start before h)
 
 pub returns-in_err-write_full_part-clause-part : goal.returns-in_err-write_full_part-clause-part
 returns-in_err-write_full_part-clause-part g c = on_err c.from_residual.result (λ start before rest h.
@@ -58,7 +61,8 @@ returns-in_err-write_full_part-clause-part g c = on_err c.from_residual.result (
     let i = c.loop-delivery.delivery-index in
     let d = get_or c.args.given.now c.loop-delivery.delivery-index (record { due = 0; packet = 0; flow = 0; start = 0 }) in
     let items = rw (c.as_slice.ensures.value, c.as_slice-in-loop-delivery.ensures.value) at c.add_delivery.ensures.items in
-    let added = line-added start (g.O.Outlet.contents c.loop-delivery.out) c.loop-delivery.text.items c.add_delivery.new.text.items (before ++ text_of (map line_fields (map line (take i given)))) (line_of (line_fields (line d)))
+    let added = line-added start (g.O.Outlet.contents c.loop-delivery.out) c.loop-delivery.text.items c.add_delivery.new.text.items
+    (before ++ text_of (map line_fields (map line (take i given)))) (line_of (line_fields (line d)))
     items (c.loop-delivery.invariant.under_way start before h) in
     let more = outs-more line line_fields before given i (record { due = 0; packet = 0; flow = 0; start = 0 }) c.loop-delivery-test.true in
     let failed = c.in_err-write_full_part.ensures.part start (before ++ text_of (map line_fields (map line (take (i + 1) given)))) (text_of (map line_fields (map line (drop (i + 1) given))) ++ rest)

@@ -10,7 +10,8 @@ loop-delivery-init c =
 
 pub loop-delivery-preserved : goal.loop-delivery-preserved
 loop-delivery-preserved c =
-    mark-more c.loop-delivery.marks.items c.mark.new.marks.items (length c.args.kept.now.accepted.items) c.loop-delivery.delivery-index c.args.given.now _ c.loop-delivery-test.true c.loop-delivery.invariant c.mark.ensures.len c.mark.ensures.marked
+    mark-more c.loop-delivery.marks.items c.mark.new.marks.items (length c.args.kept.now.accepted.items) c.loop-delivery.delivery-index c.args.given.now _
+    c.loop-delivery-test.true c.loop-delivery.invariant c.mark.ensures.len c.mark.ensures.marked
 
 pub returns : goal.returns
 returns c = rw (take_all c.loop-delivery.delivery-index c.args.given.now c.loop-delivery-test.false) at c.loop-delivery.invariant

@@ -42,7 +42,8 @@ returns-clause-ok g c =
 
 pub returns-in_err-write_outs-clause-part : goal.returns-in_err-write_outs-clause-part
 returns-in_err-write_outs-clause-part g c = on_err c.from_residual.result
-    (same-part (g.O.Outlet.contents c.args.out.now) (g.O.Outlet.contents c.write_outs.new.out) ((line_of report_header ++ outs c.args.kept.now c.args.given.now) ++ others c.args.kept.now c.args.given.now) _
+    (same-part (g.O.Outlet.contents c.args.out.now) (g.O.Outlet.contents c.write_outs.new.out)
+    ((line_of report_header ++ outs c.args.kept.now c.args.given.now) ++ others c.args.kept.now c.args.given.now) _
     (whole c.args.kept.now c.args.given.now)
     (c.in_err-write_outs.ensures.part (g.O.Outlet.contents c.args.out.now) (line_of report_header) (others c.args.kept.now c.args.given.now)
     (header (g.O.Outlet.contents c.args.out.now) c.begin.new.text.items c.begin.ensures.items)))

@@ -18,7 +18,8 @@ add_other-requires g c =
 pub next_number-packet-requires : goal.next_number-packet-requires
 next_number-packet-requires g c = λ accepted.
     let lt = rw c.deref-fate-items.ensures.value at c.loop-place-test.true in
-    number-below (length c.args.marks.now) c.loop-place.place c.loop-place.packet c.args.kept.now.fates.items (Accepted 0 0) lt c.loop-place.invariant.numbered (rw c.deref-fate-items.ensures.value at accepted)
+    number-below (length c.args.marks.now) c.loop-place.place c.loop-place.packet c.args.kept.now.fates.items (Accepted 0 0) lt c.loop-place.invariant.numbered
+    (rw c.deref-fate-items.ensures.value at accepted)
 
 pub loop-place-init : goal.loop-place-init
 loop-place-init g c = record {

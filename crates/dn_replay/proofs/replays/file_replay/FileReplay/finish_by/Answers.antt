@@ -16,11 +16,13 @@ returns-in-Ok-clause-ok g c = λ records config text has.
     let old = g.O.Outlet.contents c.args.out.now in
     let new = g.O.Outlet.contents c.report-answer.new.out in
     let entries = c.report-answer.new.self.pass.run.history.items in
-    let told = answered_through (λ r. come.asked text ≡ r) (λ r. calls_asked c.args.self.limit config text ≡ r) old new (λ r e. within ∙ (asked_within _ config come.asked text come.asks come.short ∙ e)) records entries c.in-Ok.outcome.untargeted
+    let told = answered_through (λ r. come.asked text ≡ r) (λ r. calls_asked c.args.self.limit config text ≡ r) old new
+    (λ r e. within ∙ (asked_within _ config come.asked text come.asks come.short ∙ e)) records entries c.in-Ok.outcome.untargeted
     (c.in-Ok.ensures.ok records come.asked text come.taken (few-taken records _ config text come)) in
     elim c.if-records.branch [
       | then-records w ↦ rw (w.history-is, w.take_history-history.ensures) told
-      | else-records w ↦ answered_without records (λ r. calls_asked c.args.self.limit config text ≡ r) entries c.if-records.history.items c.in-Ok.outcome.untargeted old new (sym come.records_is ∙ w.if-records.false) told
+      | else-records w ↦ answered_without records (λ r. calls_asked c.args.self.limit config text ≡ r) entries c.if-records.history.items
+          c.in-Ok.outcome.untargeted old new (sym come.records_is ∙ w.if-records.false) told
     ]
 
 pub returns-in-Err-clause-err : goal.returns-in-Err-clause-err

@@ -4,7 +4,11 @@ use Rattle.dn_replay.proofs.replays.file_replay.FileReplay.read.Goals as goal
 
 pub returns-clause-ok : goal.returns-clause-ok
 returns-clause-ok g c = on_ok_weaker c.feed_all.result
-    (λ came. let (text, is, come) = came in (text, is, λ records config first. (come (record { records = records; config = config; limit = c.args.self.now.limit }) (first, refl)).0)) c.feed_all.ensures.ok
+    (λ came. let (text, is, come) = came in (
+      text,
+      is,
+      λ records config first. (come (record { records = records; config = config; limit = c.args.self.now.limit }) (first, refl)).0,
+    )) c.feed_all.ensures.ok
 
 pub returns-clause-err : goal.returns-clause-err
 returns-clause-err g c = IfErr-weaker c.feed_all.result _ _

@@ -25,4 +25,5 @@ returns g c =
     let size : length c.loop-rest.rest.now ≡ 0 = grind (arith, common_steps, c.is_empty.ensures, c.loop-rest-test.false) in
     let none = nil_from_length c.loop-rest.rest.now size in
     let all : c.args.chunk.now ≡ front = cut ∙ (ap (λ (bytes : List ℕ). front ++ bytes) none ∙ append-nil front) in
-    on_ok_weaker c.submit_ready.result (λ submitted records calls text fed. rw all (submitted records calls (text ++ front) (rw c.as_slice.ensures.value (so_far records calls text fed)))) c.submit_ready.ensures
+    on_ok_weaker c.submit_ready.result (λ submitted records calls text fed. rw all
+    (submitted records calls (text ++ front) (rw c.as_slice.ensures.value (so_far records calls text fed)))) c.submit_ready.ensures
