@@ -5,7 +5,7 @@ use Rattle.std.specs.Option.{option_or, is_some}
 use Rattle.std.specs.Prelude.{nat_lt}
 use Rattle.std.proofs.lemmas.List.{length-replicate, get_or-replicate}
 use Rattle.std.proofs.Math.ListN.{get_or-eq_default}
-use Rattle.std.proofs.lemmas.Bool.{cases_Bool}
+use Rattle.std.proofs.lemmas.Bool.{cases_Bool, eqb-true}
 use Rattle.std.proofs.lemmas.Bool.Decides.{nat_tests}
 use Rattle.std.proofs.lemmas.List.{append-nil, get_or-set_same, get_or-set_other, take_more}
 use Rattle.std.proofs.lemmas.List.Folds.{find-append}
@@ -20,9 +20,6 @@ or-none (Some d) = refl
 or-assoc : (a b c : Option Delivery) → option_or (option_or a b) c ≡ option_or a (option_or b c)
 or-assoc None b c = refl
 or-assoc (Some d) b c = refl
-
-same : (a b : ℕ) → nat_eq a b ≡ true → a ≡ b
-same a b e = grind (arith, nat_tests)
 
 differ : (a b : ℕ) → nat_eq a b ≡ false → b ≢ a
 differ a b e = grind (arith, nat_tests)
@@ -42,7 +39,7 @@ some-or (Some d) x e = refl
 pub present : (table : List (Option Delivery)) (d : Delivery) (packet : ℕ) → is_some (get_or table d.packet None) ≡ true
     → get_or table packet None ≡ option_or (get_or table packet None) (delivery_of_packet packet (d ∷ []))
 present table d packet there = elim (cases_Bool (nat_eq d.packet packet)) [
-  | inl is ↦ some-or (get_or table packet None) _ (ap (λ (n : ℕ). is_some (get_or table n None)) (sym (same d.packet packet is)) ∙ there)
+  | inl is ↦ some-or (get_or table packet None) _ (ap (λ (n : ℕ). is_some (get_or table n None)) (sym (eqb-true d.packet packet is)) ∙ there)
   | inr other ↦ rw other (sym (or-none (get_or table packet None)))
 ]
 
@@ -55,7 +52,7 @@ pub noted : (table : List (Option Delivery)) (d : Delivery) (packet : ℕ) → d
     → get_or (set table d.packet (Some d)) packet None ≡ option_or (get_or table packet None) (delivery_of_packet packet (d ∷ []))
 noted table d packet below absent = elim (cases_Bool (nat_eq d.packet packet)) [
   | inl is ↦
-      let e = same d.packet packet is in
+      let e = eqb-true d.packet packet is in
       let gone : get_or table packet None ≡ None = ap (λ (n : ℕ). get_or table n None) (sym e) ∙ none-of _ absent in
       let here : get_or (set table d.packet (Some d)) packet None ≡ Some d = ap (λ (n : ℕ). get_or (set table d.packet (Some d)) n None) (sym e) ∙ get_or-set_same table d.packet (Some d) None below in
       rw (is, gone) here

@@ -2,7 +2,7 @@
 use Rattle.std.proofs.Common.{◌≡◌, ◌≢◌, ◌∙◌, sym, ap, refl, ℕ, suc, ◌+◌, ◌<◌, ◌≤◌, nat_eq, arith, take, drop}
 use Rattle.std.proofs.Common.{length, get_or, Option, List, [], ◌∷◌, ◌++◌, Bool, true, false, inl, inr, append_assoc, add-one, drop-cons}
 use Rattle.std.specs.Prelude.{◌&&◌, option_to_list, filter, map}
-use Rattle.std.proofs.lemmas.Bool.{cases_Bool}
+use Rattle.std.proofs.lemmas.Bool.{cases_Bool, eqb-true}
 use Rattle.std.proofs.lemmas.Bool.Decides.{nat_tests}
 use Rattle.std.proofs.lemmas.List.{append-nil, take_more, drop_all, map-append, get_or-set_same, get_or-set_other}
 use Rattle.std.proofs.lemmas.List.Elements.{filter-append}
@@ -14,9 +14,6 @@ use Rattle.dn_replay.specs.Report.{entry_line, sorted_by, is_other, is_out, is_s
 use Rattle.dn_replay.specs.Tables.{counts_after}
 use Rattle.dn_replay.specs.declared.report.line.ReportLine.{ReportLine}
 use Rattle.dn_records.proofs.TextSteps.{text-append}
-
-same : (a b : ℕ) → nat_eq a b ≡ true → a ≡ b
-same a b e = grind (arith, nat_tests)
 
 differ : (a b : ℕ) → nat_eq a b ≡ false → b ≢ a
 differ a b e = grind (arith, nat_tests)
@@ -32,7 +29,7 @@ counts-step entries i e counts lt is caller counted k below =
         | inl own ↦
             let this : p e ≡ true = rw (submit, own) refl in
             let more = count_by_more_yes p entries i e lt (ap p (sym is) ∙ this) in
-            let eq = same e.caller k own in
+            let eq = eqb-true e.caller k own in
             rw (submit, eq) (get_or-set_same counts k (get_or counts k 0 + 1) 0 below ∙ ap (λ (m : ℕ). m + 1) (counted k below) ∙ sym more)
         | inr other ↦
             let this : p e ≡ false = rw (submit, other) refl in

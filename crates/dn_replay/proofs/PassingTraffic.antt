@@ -7,6 +7,7 @@ use Rattle.std.specs.Ordering.{is_lt, nat_cmp, ordering_then, MatchOrdering}
 use Rattle.std.specs.declared.cmp.Ordering.{Ordering}
 use Rattle.std.specs.declared.cmp.Ordering.TheVariants.{Less, Equal, Greater}
 use Rattle.std.proofs.lemmas.List.Elements.{All-head, All-tail}
+use Rattle.std.proofs.lemmas.Option.{slice_get_within}
 use Rattle.dn_types.specs.Calls.{Verdict, no_target, takes}
 use Rattle.dn_types.specs.Configuration.{Settings}
 use Rattle.dn_types.specs.Deliveries.{delivery_of, in_order, is_given_before}
@@ -57,14 +58,10 @@ module _ (clock : ℕ) where
   abbrev pub IsBusy : List Event → Type 0
   IsBusy t = (link : Link) (flow : ℕ) → 0 < length (backlog link flow t) → clock < free link t
 
-  some-first : (q : List Accepted) (p : Accepted) → slice_get q 0 ≡ Some p → 0 < length q
-  some-first [] p h = absurd cc
-  some-first (x ∷ q) p h = omega arith
-
   pub next-later : (set : Settings) (at : ℕ) (link : Link) (t : List Event) (s : Start) → IsBusy t → next_start set at link t ≡ Some s → clock < s.moment
   next-later set at link t s busy e =
       let first = next_packet-first link t s.packet (next_start-packet set at link t s e) in
-      let late = busy link first.0 (some-first (backlog link first.0 t) s.packet first.1) in
+      let late = busy link first.0 (slice_get_within (backlog link first.0 t) 0 s.packet first.1) in
       let moment = by_test (nat_le (free link t) at) (next_packet link t) e in
       omega (arith, late, moment)
     where
