@@ -1,5 +1,6 @@
 -- Each turn of the loop over packets tells the fate of one packet more.
-use Rattle.std.proofs.Common.{◌≡◌, ◌≢◌, ◌∙◌, ◌<◌, ◌+◌, ⊎_elim, ℕ, Bool, cond, nat_le, refl, true, false, true≢false, List, [], ◌∷◌, ◌++◌, get_or, map, reverse, take, drop, set, length, ap, sym, subst, arith}
+use Rattle.std.proofs.Common.{◌≡◌, ◌≢◌, ◌∙◌, ◌<◌, ◌+◌, ⊎_elim, ℕ, Bool, cond, nat_le, refl, true, false, true≢false, List, [], ◌∷◌, ◌++◌, get_or, map, reverse}
+use Rattle.std.proofs.Common.{take, drop, set, length, ap, sym, subst, arith}
 use Rattle.std.proofs.lemmas.Bool.{cases_eq}
 use Rattle.std.proofs.lemmas.Bool.Decides.{nat_tests}
 use Rattle.std.proofs.lemmas.List.{reverse-append, take_more, map-append, get_or_default, get_or-set_same, get_or-set_other, get_or-drop, drop-drop, drop-set-lt}

@@ -44,7 +44,8 @@ module _ (R Z : RattleType) (L : Laws Z) (g : Ghosts Z.Denot) where
 
   module _ {M : Type 1} {𝓤 : Ura M} {𝓛 : Logic 𝓤} {K : Type 0} {Γ : List (Item 𝓤)} {G : Goal 𝓤 𝓛.H} where
     pub opened : K → (b : Row.Denot) (vs : List Val)
-        → ((block offset : ℕ) (h : Val) → Good (layout Z) h → vs ≡ two (vptr block offset) h ∷ [] → Seq K 𝓛 (‵ (box_owns (g.dealloc_token b.alloc) R (block_ptr block offset) b.held) ∷ ‵ (Z.own_val b.alloc (h ∷ [])) ∷ Γ) G)
+        → ((block offset : ℕ) (h : Val) → Good (layout Z) h → vs ≡ two (vptr block offset) h ∷ []
+        → Seq K 𝓛 (‵ (box_owns (g.dealloc_token b.alloc) R (block_ptr block offset) b.held) ∷ ‵ (Z.own_val b.alloc (h ∷ [])) ∷ Γ) G)
         → Seq K 𝓛 (‵ (Row.own_val b vs) ∷ Γ) G
     opened t b vs rest =
         -- [the fields; what a box owns]

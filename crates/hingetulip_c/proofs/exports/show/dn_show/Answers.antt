@@ -8,7 +8,9 @@ use Rattle.hingetulip_c.proofs.exports.show.dn_show.Goals as goal
 
 pub returns-in-Ok-clause-list : goal.returns-in-Ok-clause-list
 returns-in-Ok-clause-list c is rule calls stands =
-    listed flows_of rule calls Show Show c.args.handle.now.held c.room_for_flows.new.self.held c.apply.new.self.held c.in-Ok.reply c.in-Some.room (length c.args.list.now) c.put_flows.new.list c.in-Some.ensures.same refl c.in-Ok.ensures.ok (c.in-Some.ensures.fits rule calls stands) c.if-list-room.false c.put_flows.ensures.list stands
+    listed flows_of rule calls Show Show c.args.handle.now.held c.room_for_flows.new.self.held c.apply.new.self.held c.in-Ok.reply c.in-Some.room
+    (length c.args.list.now) c.put_flows.new.list c.in-Some.ensures.same refl c.in-Ok.ensures.ok
+    (c.in-Some.ensures.fits rule calls stands) c.if-list-room.false c.put_flows.ensures.list stands
 
 pub returns-in-Ok-clause-leaves : goal.returns-in-Ok-clause-leaves
 returns-in-Ok-clause-leaves c =

@@ -72,7 +72,8 @@ whole_spec 𝓤 𝓛 𝓜 𝓡 wired X A LX LA g d dx dd allocator glue glued =
     sets ! (of_opd ! (get_in ! (fld ! refl (stop !)) (sub ! 1 refl (whole !)))) refl good $
     first ! $ blocks ! $ sets ! (of_opd ! (get ! refl)) refl good $
     calls_at_last ! (framed 𝓤 𝓛.H 𝓜 𝓣) Made known y (and_then ! (get ! refl) (and_then ! (get ! refl) (no_more !))) (λ u.
-    use1 𝓛 (later (some (λ (r : B.Denot). (alive ⊛ ‵ (B.own_val r (u ∷ []))) ⊛ some (λ (ls : Lasts After κs y.0.3). ‵ (lasts After κs y.0.3 ls) ⊛ (raw (fact 𝓤 (r.value ≡ b.held)) ⊛ raw (fact 𝓤 (r.alloc ≡ a))))))) (id⊢ 𝓤 (Made.post y u)) $
+    use1 𝓛 (later (some (λ (r : B.Denot). (alive ⊛ ‵ (B.own_val r (u ∷ []))) ⊛ some (λ (ls : Lasts After κs y.0.3). ‵ (lasts After κs y.0.3 ls) ⊛
+    (raw (fact 𝓤 (r.value ≡ b.held)) ⊛ raw (fact 𝓤 (r.alloc ≡ a))))))) (id⊢ 𝓤 (Made.post y u)) $
     await ! tt $ pick ! (λ r. split ! $ move ! (1 ∷ []) $ pick ! (λ _. split3 ! $ drop ! $ heard ! (r.value ≡ b.held) (λ same. drop ! $
     -- [the tokens with the box]
     split ! $ move ! (1 ∷ []) $ box_out E ! r (u ∷ []) (λ block' offset' h' at us_are good'. box_in E ! r block' offset' r.value at refl $
