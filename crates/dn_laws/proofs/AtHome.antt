@@ -3,7 +3,7 @@ use Rattle.std.proofs.Common.{◌≡◌, ◌∙◌, ◌≤◌, ◌<◌, ℕ, zer
 use Rattle.std.specs.Prelude.{Option, Some, nat_eq, slice_get, ⊤}
 use Rattle.std.specs.List.{count_by}
 use Rattle.std.proofs.lemmas.Bool.{eqb-true, and_from, and_right}
-use Rattle.std.proofs.lemmas.List.{length-append, length-map}
+use Rattle.std.proofs.lemmas.List.{length-map}
 use Rattle.dn_types.specs.Calls.{link_of, trace_of}
 use Rattle.dn_types.specs.Clock.{call_limit}
 use Rattle.dn_types.specs.Flows.{Treatment, keys, keys_with, key_of, flow_number}
@@ -30,6 +30,7 @@ use Rattle.dn_types.proofs.Ordered.{trace-proper}
 use Rattle.dn_types.proofs.Settled.{and-left, link_eq-true, link_eq-refl}
 use Rattle.dn_types.proofs.Settling.{and-right}
 use Rattle.dn_laws.proofs.ToldCounts.{queued-of-count, lost-of-count, full-of-count}
+use Rattle.dn_types.proofs.StepFacts.{clear-some, push-length, clear-length}
 
 -- ---- Homes
 
@@ -87,11 +88,7 @@ waits-home known (arrived p ∷ t) h link flow some = by (is_of link flow p) ref
         let f = eqb-true p.stamped.flow flow (and-right (link_eq p.link link) (nat_eq p.stamped.flow flow) e) in
         subst (λ (g : ℕ). IsHomeOf known link g) f (subst (λ (m : Link). IsHomeOf known m p.stamped.flow) l h.0)
 waits-home known (started s ∷ t) h link flow some = waits-home known t h link flow (fewer-started (is_of link flow s.packet) (backlog link flow t) some)
-waits-home known (discarded f ∷ t) h link flow some = waits-home known t h link flow (cleared (nat_eq f flow) (backlog link flow t) some)
-  where
-    cleared : (b : Bool) (q : List Accepted) → 0 < length (cond b [] q) → 0 < length q
-    cleared true q some = absurd (omega (arith, some))
-    cleared false q some = some
+waits-home known (discarded f ∷ t) h link flow some = waits-home known t h link flow (clear-some (nat_eq f flow) (backlog link flow t) some)
 waits-home known (_ ∷ t) h link flow some = waits-home known t h link flow some
 
 first-some : (p : Accepted) (q : List Accepted) → slice_get q 0 ≡ Some p → 0 < length q
@@ -123,18 +120,10 @@ module _ (known : List FlowKey) (flow : ℕ) (key : FlowKey) (at : slice_get kno
       by true e = and_from (link_eq p.link home) (nat_eq p.stamped.flow flow)
           (ap (λ (l : Link). link_eq l home) (home-is p.link p.stamped.flow (eqb-true p.stamped.flow flow e) h) ∙ link_eq-refl home) e
 
-  push-length : (b : Bool) (q : List Accepted) (p : Accepted) → length (cond b (q ++ p ∷ []) q) ≡ length q + cond b 1 0
-  push-length true q p = length-append q (p ∷ [])
-  push-length false q p = omega arith
-
   drop-length : (b : Bool) (q : List Accepted) → (b ≡ true → 0 < length q) → length (cond b (drop 1 q) q) + cond b 1 0 ≡ length q
   drop-length true [] h = let some = h refl in absurd (omega (arith, some))
   drop-length true (p ∷ q) h = omega arith
   drop-length false q h = omega arith
-
-  clear-length : (b : Bool) (q : List Accepted) → length (cond b [] q) + cond b (length q) 0 ≡ length q
-  clear-length true q = omega arith
-  clear-length false q = omega arith
 
   abbrev pub AddUp : List Event → Type 0
   AddUp t = count_by (is_arrival_of flow) t ≡ count_by (is_start_of flow) t + length (backlog (link_of key.target flow key.pipe) flow t) + discarded_count (link_of key.target flow key.pipe) flow t

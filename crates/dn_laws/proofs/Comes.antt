@@ -29,6 +29,7 @@ use Rattle.dn_laws.proofs.DropLaws.{not-exhausted}
 use Rattle.dn_types.proofs.InForce.{target_eq-true}
 use Rattle.dn_types.proofs.Settled.{and-left}
 use Rattle.dn_types.proofs.Settling.{and-right}
+use Rattle.dn_types.proofs.StepFacts.{opened-count}
 
 -- A packet that is taken arrives as it is accepted, when nothing but the beginning of a busy period has come since.
 abbrev pub IsTakenBy : Verdict → Packet → Accepted → List Event → List Event → Type 0
@@ -129,10 +130,6 @@ module _ (calls : List Call) (target : Target) (packet : Packet) (moment : ℕ) 
     where
       by-test : (a b c : ℕ) → b ≡ c → nat_le a b ≡ true → a ≤ c
       by-test a b c same h = grind (arith, nat_tests)
-
-  opened-count : (b : Bool) (link : Link) (t : List Event) → accepted_count (cond b (opened link ∷ t) t) ≡ accepted_count t
-  opened-count true link t = refl
-  opened-count false link t = refl
 
   comes-verdict : (set : Settings) (at : ℕ) → at ≡ effective_moment (Submit target packet moment ∷ calls) → (v : Verdict)
       → verdict calls target packet (trace_of (Advance moment ∷ calls)) ≡ v → AddsTo (trace_of (Advance moment ∷ calls)) →

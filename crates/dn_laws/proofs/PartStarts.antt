@@ -18,16 +18,7 @@ use Rattle.dn_laws.proofs.Parts.{skip, IsFit, AreFit, link', stamped', accepted'
 use Rattle.dn_laws.proofs.Places.{place-less}
 use Rattle.dn_types.proofs.Settled.{link_eq-true, next_start-link, settle-ends, first_start-of}
 use Rattle.dn_types.proofs.Settling.{next_packet-first, next_start-packet}
-
-sooner-left : (o p : Option Start) → sooner o p ≡ None → o ≡ None
-sooner-left None p e = refl
-sooner-left (Some s) None e = absurd cc
-sooner-left (Some s) (Some t) e = absurd cc
-
-sooner-right : (o p : Option Start) → sooner o p ≡ None → p ≡ None
-sooner-right None p e = e
-sooner-right (Some s) None e = refl
-sooner-right (Some s) (Some t) e = absurd cc
+use Rattle.dn_types.proofs.StepFacts.{sooner-left, sooner-right}
 
 pub sooner-one : (o p : Option Start) (z : Start) → sooner o p ≡ Some z → (o ≡ Some z) ⊎ (p ≡ Some z)
 sooner-one None p z e = inr e

@@ -18,6 +18,7 @@ use Rattle.dn_laws.proofs.OneLink.{heads-above}
 use Rattle.dn_laws.proofs.Places.{place-more, place-mono, place-eq}
 use Rattle.dn_types.proofs.Settled.{and-left, link_eq-true}
 use Rattle.dn_types.proofs.Settling.{and-right, backlog-above, backlog-own}
+use Rattle.dn_types.proofs.StepFacts.{clear-none}
 
 -- An event that a reading doesn't count changes nothing, whether it is there or not.
 pub skip : {X : Type 0} (read : List Event → X) (b : Bool) (e : Event) (u : List Event) → read (e ∷ u) ≡ read u → read (cond b (e ∷ u) u) ≡ read u
@@ -179,10 +180,6 @@ module _ (chosen : Choice) (mine taken : ℕ → Bool) where
           let flow = eqb-true q.stamped.flow f (and-right (link_eq q.link l) (nat_eq q.stamped.flow f) same) in
           let t : false ≡ true = sym hf ∙ ap mine (sym flow) ∙ h ∙ ap (is_link_on chosen mine) link ∙ on in cc)
 
-      cleared : (b : Bool) (ps : List Accepted) → ps ≡ [] → cond b [] ps ≡ []
-      cleared true ps e = refl
-      cleared false ps e = e
-
       pub no-flow : (t : List Event) → AreFit t → backlog l f t ≡ []
       no-flow [] h = refl
       no-flow (opened k ∷ t) h = no-flow t h
@@ -190,7 +187,7 @@ module _ (chosen : Choice) (mine taken : ℕ → Bool) where
       no-flow (started s ∷ t) h = ap (λ b. cond b (drop 1 (backlog l f t)) (backlog l f t)) (other-of s.packet h.0) ∙ no-flow t h.1
       no-flow (lost k g ∷ t) h = no-flow t h.1
       no-flow (refused k g ∷ t) h = no-flow t h.1
-      no-flow (discarded g ∷ t) h = cleared (nat_eq g f) (backlog l f t) (no-flow t h)
+      no-flow (discarded g ∷ t) h = clear-none (nat_eq g f) (backlog l f t) (no-flow t h)
       no-flow (collected at ∷ t) h = no-flow t h
 
     module _ (t : List Event) (h : AreFit t) where

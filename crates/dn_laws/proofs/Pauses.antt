@@ -39,6 +39,7 @@ use Rattle.dn_types.proofs.Settled.{link_eq-true}
 use Rattle.dn_laws.proofs.Timely.{split, queued, count-later}
 use Rattle.dn_laws.proofs.ToldCounts.{told-few}
 use Rattle.dn_laws.proofs.Waits.{behind-arrival, none-before, opening-of}
+use Rattle.dn_types.proofs.StepFacts.{opened-count}
 
 -- Each start is when its link is free, or of the packet that has just arrived where none waited.
 abbrev pub IsUnpaused : List Event → Type 0
@@ -312,10 +313,6 @@ told-so rule calls target packet moment at flow number e =
           joins = ap (λ (v : Verdict). after_verdict (settings calls) (effective_moment (Advance moment ∷ calls)) packet v adv) is
               ∙ ap (λ (t : List Event). join (settings calls) (effective_moment (Advance moment ∷ calls)) (accept link packet f how t) t) o.1;
         }
-      where
-        opened-count : (b : Bool) (link : Link) (t : List Event) → accepted_count (cond b (opened link ∷ t) t) ≡ accepted_count t
-        opened-count true link t = let one = count-event is_arrival (opened link) t in omega (arith, one)
-        opened-count false link t = refl
 
 -- ---- The law
 

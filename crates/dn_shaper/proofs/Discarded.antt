@@ -1,5 +1,5 @@
 -- All parts agree with the discarding of a flow's packets.
-use Rattle.std.proofs.Common.{◌≡◌, ◌∙◌, ◌<◌, ◌⊎◌, ℕ, zero, suc, ◌+◌, Bool, true, false, cond, List, [], ◌∷◌, map, set, refl, ap, sym, subst, length, arith, inl, inr}
+use Rattle.std.proofs.Common.{◌≡◌, ◌∙◌, ◌<◌, ◌⊎◌, ℕ, zero, suc, ◌+◌, true, false, cond, List, [], ◌∷◌, map, set, refl, ap, sym, subst, length, arith, inl, inr}
 use Rattle.std.specs.Prelude.{Some, nat_eq, slice_get}
 use Rattle.std.proofs.lemmas.Bool.{cases_eq}
 use Rattle.dn_types.specs.Trace.{Link, shared, link_eq, Accepted, Event, discarded, backlog, is_start_of, is_loss_of, is_refusal_of, is_arrival, discarded_count}
@@ -22,10 +22,7 @@ use Rattle.dn_shaper.specs.Refinement.Slots.{Ascends, top}
 use Rattle.dn_shaper.proofs.Homes.{home-after, slots-apart, slots_home-after}
 use Rattle.dn_shaper.proofs.Next.{distinct_views}
 use Rattle.dn_shaper.proofs.Waiting.{waiting-discarded}
-
-cond-none : (b : Bool) (q : List Accepted) → q ≡ [] → cond b [] q ≡ []
-cond-none true q e = refl
-cond-none false q e = e
+use Rattle.dn_types.proofs.StepFacts.{clear-none}
 
 pub length-waiting : (ps : List Accepted) → length (map as_queued ps) ≡ length ps
 length-waiting [] = refl
@@ -196,7 +193,7 @@ module _ (rule : Rule) (accepted : ℕ) (keys : List FlowKey) (homes : List Home
       untouched = λ l e. let u = a.untouched l e in record { free_is = u.free_is; last_due_is = u.last_due_is; virtual_time_is = u.virtual_time_is };
       flows_are = flow_after;
       as_many = length-set flows flow (emptied (flow_at flows flow)) ∙ a.as_many;
-      elsewhere = λ g l e. cond-none (nat_eq flow g) (backlog l g trace) (a.elsewhere g l e);
+      elsewhere = λ g l e. clear-none (nat_eq flow g) (backlog l g trace) (a.elsewhere g l e);
       bound = a.bound;
       homes_are = λ g lt. let h = a.homes_are g lt in (h.0, h.1, home-after keys views k v there v' same_link same_slots g h.0 h.2);
       as_many_homes = a.as_many_homes;

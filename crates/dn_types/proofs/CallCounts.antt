@@ -18,6 +18,7 @@ use Rattle.dn_types.specs.declared.packet.Packet.{Packet}
 use Rattle.dn_types.specs.declared.reply.Reply.{Reply}
 use Rattle.dn_types.specs.declared.reply.Reply.TheVariants.{Deleted}
 use Rattle.dn_types.proofs.Giving.{count-event}
+use Rattle.dn_types.proofs.StepFacts.{at-most-one}
 
 -- Events that the test counts: none of those of which a call can make several.
 module _ (p : Event → Bool) (no_opening : (l : Link) → p (opened l) ≡ false) (no_start : (s : Start) → p (started s) ≡ false)
@@ -26,11 +27,7 @@ module _ (p : Event → Bool) (no_opening : (l : Link) → p (opened l) ≡ fals
   count-none e trace h = let same = count-event p e trace in let none : cond {A = ℕ} (p e) 1 0 ≡ 0 = ap {B = ℕ} (λ b. cond b 1 0) h in omega (arith, same, none)
 
   count-one : (e : Event) (trace : List Event) → count_by p (e ∷ trace) ≤ count_by p trace + 1
-  count-one e trace = let same = count-event p e trace in let most = at_most (p e) in omega (arith, same, most)
-    where
-      at_most : (b : Bool) → cond {A = ℕ} b 1 0 ≤ 1
-      at_most true = omega arith
-      at_most false = omega arith
+  count-one e trace = let same = count-event p e trace in let most = at-most-one (p e) in omega (arith, same, most)
 
   settle-count : (most : ℕ) (set : Settings) (at : ℕ) (trace : List Event) → count_by p (settle most set at trace) ≡ count_by p trace
   settle-count zero set at trace = refl

@@ -21,6 +21,7 @@ use Rattle.dn_types.specs.declared.target.Target.{Target}
 use Rattle.dn_types.proofs.Known.{all-known}
 use Rattle.dn_types.proofs.Ordered.{IsHome, link_of-home, empty-home}
 use Rattle.dn_types.proofs.Settled.{settled-ends, and-left, link_eq-true}
+use Rattle.dn_types.proofs.StepFacts.{clear-some}
 
 abbrev Busy : ℕ → List Event → Type 0
 Busy at trace = (link : Link) (flow : ℕ) → IsHome link flow → 0 < length (backlog link flow trace) → at < free link trace
@@ -80,12 +81,8 @@ busy-discard : (at : ℕ) (command : Command) (flow : ℕ) (known : List FlowKey
 busy-discard at command flow [] trace h = h
 busy-discard at command flow (key ∷ known) trace h = busy-discard at command (flow + 1) known (cond (reaches command key) (discarded flow ∷ trace) trace) (one (reaches command key))
   where
-    cleared : (b : Bool) (q : List Accepted) → 0 < length (cond b [] q) → 0 < length q
-    cleared true q some = absurd (omega arith)
-    cleared false q some = some
-
     one : (b : Bool) → Busy at (cond b (discarded flow ∷ trace) trace)
-    one true = λ link g home some. h link g home (cleared (nat_eq flow g) (backlog link g trace) some)
+    one true = λ link g home some. h link g home (clear-some (nat_eq flow g) (backlog link g trace) some)
     one false = h
 
 busy-until : (at to : ℕ) (trace : List Event) → at ≡ to → Busy at trace → Busy to trace

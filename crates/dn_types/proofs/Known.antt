@@ -27,6 +27,7 @@ use Rattle.dn_types.proofs.Settled.{and-left, link_eq-true}
 use Rattle.dn_types.proofs.Settling.{and-right}
 use Rattle.dn_types.proofs.InForce.{pipe-there}
 use Rattle.dn_types.proofs.Keys.{key_eq-true}
+use Rattle.dn_types.proofs.StepFacts.{clear-some}
 
 -- The key stands in the list at the flow's number.
 pub record StandsAt (known : List FlowKey) (flow : ℕ) (key : FlowKey) : Type 0 where
@@ -164,12 +165,8 @@ fewer-discarded link flow command from [] trace some = some
 fewer-discarded link flow command from (key ∷ known) trace some =
     one (reaches command key) (fewer-discarded link flow command (from + 1) known (cond (reaches command key) (discarded from ∷ trace) trace) some)
   where
-    cleared : (b : Bool) (q : List Accepted) → 0 < length (cond b [] q) → 0 < length q
-    cleared true q some = absurd (omega arith)
-    cleared false q some = some
-
     one : (b : Bool) → 0 < length (backlog link flow (cond b (discarded from ∷ trace) trace)) → 0 < length (backlog link flow trace)
-    one true some = cleared (nat_eq from flow) (backlog link flow trace) some
+    one true some = clear-some (nat_eq from flow) (backlog link flow trace) some
     one false some = some
 
 -- ---- Calls

@@ -28,4 +28,5 @@ pub mod Settling
 mod ShortListsFlows
 mod ShortListsWf2q
 pub mod Step
+pub mod StepFacts
 pub mod TransmissionTime

@@ -3,7 +3,6 @@ use Rattle.std.proofs.Common.{◌≡◌, ◌≤◌, ◌<◌, ℕ, zero, suc, ◌
 use Rattle.std.specs.Prelude.{nat_eq, nat_lt}
 use Rattle.std.specs.List.{All, count_by}
 use Rattle.std.proofs.lemmas.Bool.Decides.{nat_tests}
-use Rattle.std.proofs.lemmas.List.{length-append}
 use Rattle.std.proofs.lemmas.List.Elements.{All-nil, All-push, All-drop, All-filter}
 use Rattle.dn_types.specs.Deliveries.{delivery_of, undelivered}
 use Rattle.dn_types.specs.Given.{start_count, is_start_with}
@@ -15,6 +14,7 @@ use Rattle.dn_types.proofs.Bounded.{first-all}
 use Rattle.dn_types.proofs.BoundedReplies.{in_order-all}
 use Rattle.dn_types.proofs.Fifo.{IsProper}
 use Rattle.dn_types.proofs.Giving.{count-event}
+use Rattle.dn_types.proofs.StepFacts.{push-length, clear-length, drop-length, at-most-one}
 
 -- ---- What waits and what a delete took
 
@@ -23,19 +23,6 @@ module _ (link : Link) (flow : ℕ) where
   abbrev pub joins : Event → Bool
   joins (arrived p) = is_of link flow p
   joins _ = false
-
-  push-length : (b : Bool) (q : List Accepted) (p : Accepted) → length (cond b (q ++ p ∷ []) q) ≡ length q + cond b 1 0
-  push-length true q p = length-append q (p ∷ [])
-  push-length false q p = omega arith
-
-  drop-length : (b : Bool) (q : List Accepted) → length (cond b (drop 1 q) q) ≤ length q
-  drop-length true [] = omega arith
-  drop-length true (p ∷ q) = omega arith
-  drop-length false q = omega arith
-
-  clear-length : (b : Bool) (q : List Accepted) → length (cond b [] q) + cond b (length q) 0 ≡ length q
-  clear-length true q = omega arith
-  clear-length false q = omega arith
 
   pub queue-count : (trace : List Event) → length (backlog link flow trace) + discarded_count link flow trace ≤ count_by joins trace
   queue-count [] = omega arith
@@ -175,12 +162,8 @@ module _ (n : ℕ) where
       let rest = starts-below flow trace h.2 (same-count (started s) trace refl few) in
       let one = count-event (is_start_of flow) (started s) trace in
       let more = sum-more (λ k. start_count k trace) (λ k. start_count k (started s ∷ trace)) n s.packet.packet (start-below s trace h few) (λ k. count-event (is_start_with k) (started s) trace) in
-      let most = at_most (is_start_of flow (started s)) in
+      let most = at-most-one (is_start_of flow (started s)) in
       omega (arith, rest, one, more, most)
-    where
-      at_most : (b : Bool) → cond {A = ℕ} b 1 0 ≤ 1
-      at_most true = omega arith
-      at_most false = omega arith
   starts-below flow (lost l f ∷ trace) h few = starts-quiet flow (lost l f) trace refl (λ k. refl) (starts-below flow trace h (same-count (lost l f) trace refl few))
   starts-below flow (refused l f ∷ trace) h few = starts-quiet flow (refused l f) trace refl (λ k. refl) (starts-below flow trace h (same-count (refused l f) trace refl few))
   starts-below flow (discarded f ∷ trace) h few = starts-quiet flow (discarded f) trace refl (λ k. refl) (starts-below flow trace h (same-count (discarded f) trace refl few))

@@ -1,5 +1,5 @@
 -- After a settling no start is due on any link.
-use Rattle.std.proofs.Common.{◌≡◌, ◌∙◌, ◌≤◌, ◌<◌, ◌⊎◌, ℕ, zero, suc, ◌+◌, Bool, true, false, cond, ◌&&◌, ◌||◌, List, [], ◌∷◌, ◌++◌, refl, ap, sym, length, drop, arith, ⊎_elim, inl, inr}
+use Rattle.std.proofs.Common.{◌≡◌, ◌∙◌, ◌≤◌, ◌<◌, ◌⊎◌, ℕ, zero, suc, ◌+◌, Bool, true, false, cond, ◌&&◌, ◌||◌, List, [], ◌∷◌, ◌++◌, refl, ap, sym, drop, arith, ⊎_elim, inl, inr}
 use Rattle.std.specs.Prelude.{Option, Some, None, nat_lt, nat_eq, slice_get}
 use Rattle.std.specs.List.{list_any}
 use Rattle.std.proofs.lemmas.Bool.{eqb-true, eq-eqb, and_from, or_parts}
@@ -12,6 +12,7 @@ use Rattle.dn_types.specs.Trace.{Link, own, shared, link_eq, Accepted, Event, op
 use Rattle.dn_types.specs.Wf2q.{total, grown}
 use Rattle.dn_types.specs.declared.rule.Rule.{Rule}
 use Rattle.dn_types.proofs.Settling.{backlog-own, first-own, and-right, next_packet-first, next_start-packet, waiting-next}
+use Rattle.dn_types.proofs.StepFacts.{drop-length, clear-none, sooner-left, sooner-right}
 
 pub and-left : (a b : Bool) → (a && b) ≡ true → a ≡ true
 and-left true b e = refl
@@ -94,11 +95,7 @@ backlog-unknown link flow (started s ∷ trace) e = none (is_of link flow s.pack
     none false q e = e
 backlog-unknown link flow (lost l f ∷ trace) e = backlog-unknown link flow trace (unknown-before link l (links trace) e)
 backlog-unknown link flow (refused l f ∷ trace) e = backlog-unknown link flow trace (unknown-before link l (links trace) e)
-backlog-unknown link flow (discarded f ∷ trace) e = none (nat_eq f flow) (backlog link flow trace) (backlog-unknown link flow trace e)
-  where
-    none : (b : Bool) (q : List Accepted) → q ≡ [] → cond b [] q ≡ []
-    none true q e = refl
-    none false q e = e
+backlog-unknown link flow (discarded f ∷ trace) e = clear-none (nat_eq f flow) (backlog link flow trace) (backlog-unknown link flow trace e)
 backlog-unknown link flow (collected at ∷ trace) e = backlog-unknown link flow trace e
 
 pub none-unknown : (settings : Settings) (at : ℕ) (link : Link) (trace : List Event) → list_any (link_eq link) (links trace) ≡ false → next_start settings at link trace ≡ None
@@ -118,16 +115,6 @@ pub none-first : (settings : Settings) (at : ℕ) (link : Link) (ls : List Link)
 none-first settings at link [] trace there e = absurd cc
 none-first settings at link (l ∷ ls) trace there e = ⊎_elim here (later (λ in_rest rest. none-first settings at link ls trace in_rest rest)) (true_or_false (link_eq link l))
   where
-    sooner-left : (o p : Option Start) → sooner o p ≡ None → o ≡ None
-    sooner-left None p e = refl
-    sooner-left (Some s) None e = absurd cc
-    sooner-left (Some s) (Some t) e = absurd cc
-
-    sooner-right : (o p : Option Start) → sooner o p ≡ None → p ≡ None
-    sooner-right None p e = e
-    sooner-right (Some s) None e = refl
-    sooner-right (Some s) (Some t) e = absurd cc
-
     here : link_eq link l ≡ true → next_start settings at link trace ≡ None
     here same = ap (λ (m : Link). next_start settings at m trace) (link_eq-true link l same) ∙ sooner-left (next_start settings at l trace) (first_start settings at ls trace) e
 
@@ -159,14 +146,9 @@ first_start-of settings at (l ∷ ls) trace s e = by_next (next_start settings a
 
 -- ---- A start takes one packet from those that wait on all links
 
-length-cond : (b : Bool) (q : List Accepted) → length (cond b (drop 1 q) q) ≤ length q
-length-cond true [] = omega arith
-length-cond true (p ∷ q) = omega arith
-length-cond false q = omega arith
-
 total-start : (link : Link) (s : Start) (trace : List Event) (n : ℕ) → total n (λ f. backlog link f (started s ∷ trace)) ≤ total n (λ f. backlog link f trace)
 total-start link s trace zero = omega arith
-total-start link s trace (suc n) = let rest = total-start link s trace n in let here = length-cond (is_of link n s.packet) (backlog link n trace) in omega arith
+total-start link s trace (suc n) = let rest = total-start link s trace n in let here = drop-length (is_of link n s.packet) (backlog link n trace) in omega arith
 
 waiting-no_more : (link : Link) (s : Start) (trace : List Event) → waiting link (started s ∷ trace) ≤ waiting link trace
 waiting-no_more link s trace = total-start link s trace (flow_bound trace)
