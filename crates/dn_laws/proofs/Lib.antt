@@ -26,6 +26,7 @@ pub mod Least
 pub mod Masks
 pub mod Obeyed
 pub mod OneLink
+pub mod OnPipes
 pub mod PartCalls
 pub mod PartGiven
 pub mod PartReplays

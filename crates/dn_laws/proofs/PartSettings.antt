@@ -1,21 +1,17 @@
 -- A pipe's part of a replay rests on what is in force for the pipe and for the packets' targets.
-use Rattle.std.proofs.Common.{◌≡◌, ◌∙◌, ◌≤◌, ◌<◌, ℕ, zero, suc, ◌+◌, max, Bool, true, false, cond, ◌&&◌, List, [], ◌∷◌, ◌++◌, map, refl, ap, sym, subst, length, take, arith}
-use Rattle.std.specs.Prelude.{Option, Some, None, nat_eq, nat_le, option_map, ⊤}
-use Rattle.std.specs.List.{list_any}
-use Rattle.dn_types.specs.Calls.{link_of, Verdict, no_target, loses, refuses, takes, verdict_by, accept, join, after_verdict, reaches, discard_reached, after_command, trace_of}
+use Rattle.std.proofs.Common.{◌≡◌, ◌∙◌, ◌≤◌, ◌<◌, ℕ, ◌+◌, max, Bool, true, false, cond, List, [], ◌∷◌, ◌++◌, refl, ap, sym, subst, length, take, arith}
+use Rattle.std.specs.Prelude.{Some}
+use Rattle.dn_types.specs.Calls.{verdict_by, after_verdict, reaches, discard_reached, after_command, trace_of}
 use Rattle.dn_types.specs.Clock.{effective_moment, call_limit}
 use Rattle.dn_types.specs.Configuration.{Settings, settings, reply_to_command}
 use Rattle.dn_types.specs.Deliveries.{given}
-use Rattle.dn_types.specs.Drops.{is_lost, is_full}
-use Rattle.dn_types.specs.Flows.{Treatment, treatment, key_of, keys, keys_with, flow_number}
-use Rattle.dn_types.specs.Links.{free, transmission_time}
+use Rattle.dn_types.specs.Flows.{Treatment, treatment, keys, keys_with}
 use Rattle.dn_laws.specs.PartLaws.{AreAlike, emptied, IsUntimed, AreMatched}
 use Rattle.dn_laws.specs.Parts.{of_pipe, calls_on, part_of}
 use Rattle.dn_laws.specs.Replays.{AreCommands}
 use Rattle.dn_types.specs.Replies.{reply_to_verdict, counted_reply, reply, replies}
-use Rattle.dn_types.specs.SharedLinks.{waiting, opening, next_packet}
-use Rattle.dn_types.specs.Starts.{bandwidth_of, delay_of, start_at, sooner, first_start, settle, settled, waiting_all}
-use Rattle.dn_types.specs.Trace.{Link, pipe_of, link_eq, Accepted, Start, Event, opened, arrived, started, discarded, collected, backlog, with_link, links}
+use Rattle.dn_types.specs.Starts.{settled}
+use Rattle.dn_types.specs.Trace.{Event, discarded, collected, links}
 use Rattle.dn_types.specs.declared.call.Call.{Call}
 use Rattle.dn_types.specs.declared.call.Call.TheVariants.{Configure, Submit, Advance, Collect, Show}
 use Rattle.dn_types.specs.declared.flow_key.FlowKey.{FlowKey}
@@ -27,111 +23,16 @@ use Rattle.dn_types.specs.declared.rule.Rule.{Rule}
 use Rattle.dn_types.specs.declared.rule.Rule.TheVariants.{Ordered}
 use Rattle.dn_types.specs.declared.target.Target.{Target}
 use Rattle.dn_types.specs.declared.target.Target.TheVariants.{Pipe as ToPipe}
-use Rattle.dn_types.proofs.Known.{pipe_of-link}
+use Rattle.dn_laws.proofs.OnPipes.{AreOn, settled-on, verdict-on, after-on, after-links, settled-same, after-same}
 use Rattle.dn_laws.proofs.PartCalls.{other-links-change-nothing}
 use Rattle.dn_laws.proofs.PartReplays.{counts}
 
-module _ (pipe : ℕ) where
-  -- All links are the pipe's.
-  abbrev AreOn : List Link → Type 0
-  AreOn [] = ⊤
-  AreOn (l ∷ ls) = (pipe_of l ≡ pipe) × AreOn ls
+-- The pipe is the one.
+abbrev Is : ℕ → ℕ → Type 0
+Is pipe number = number ≡ pipe
 
-  push-on : (k : Link) (ls : List Link) → pipe_of k ≡ pipe → AreOn ls → AreOn (ls ++ k ∷ [])
-  push-on k [] e h = (e, tt)
-  push-on k (l ∷ ls) e h = (h.0, push-on k ls e h.1)
-
-  with-on : (k : Link) (ls : List Link) → pipe_of k ≡ pipe → AreOn ls → AreOn (with_link k ls)
-  with-on k ls e h = by (list_any (link_eq k) ls)
-    where
-      by : (b : Bool) → AreOn (cond b ls (ls ++ k ∷ []))
-      by true = h
-      by false = push-on k ls e h
-
-  settle-on : (set : Settings) (most at : ℕ) (t : List Event) → AreOn (links t) → AreOn (links (settle most set at t))
-  settle-on set zero at t h = h
-  settle-on set (suc most) at t h = step (first_start set at (links t) t) (λ x. settle-on set most at (started x ∷ t) h)
-    where
-      step : (o : Option Start) → ((x : Start) → AreOn (links (settle most set at (started x ∷ t))))
-          → AreOn (links (elim o as (λ _. List Event) [ None ↦ t | Some s ↦ settle most set at (started s ∷ t) ]))
-      step None rest = h
-      step (Some s) rest = rest s
-
-  module _ (set other : Settings) (same : set (ToPipe pipe) ≡ other (ToPipe pipe)) where
-    pipe-same : (l : Link) → pipe_of l ≡ pipe → set (ToPipe (pipe_of l)) ≡ other (ToPipe (pipe_of l))
-    pipe-same l e = ap (λ n. set (ToPipe n)) e ∙ same ∙ sym (ap (λ n. other (ToPipe n)) e)
-
-    start-same : (l : Link) (p : Accepted) (m : ℕ) → pipe_of l ≡ pipe → start_at set l p m ≡ start_at other l p m
-    start-same l p m e = let s = pipe-same l e in λ i. record { packet = p; moment = m; transmission = transmission_time (bandwidth_of (s i)) p.stamped.len; delay = delay_of (s i) }
-
-    first-same : (at : ℕ) (ls : List Link) (t : List Event) → AreOn ls → first_start set at ls t ≡ first_start other at ls t
-    first-same at [] t h = refl
-    first-same at (l ∷ ls) t h = let rest = first-same at ls t h.1 in
-        λ i. sooner (cond (nat_le (free l t) at) (option_map (λ (p : Accepted). start-same l p (free l t) h.0 i) (next_packet l t)) None) (rest i)
-
-    settle-same : (most at : ℕ) (t : List Event) → AreOn (links t) → settle most set at t ≡ settle most other at t
-    settle-same zero at t h = refl
-    settle-same (suc most) at t h =
-        step (first_start set at (links t) t) (λ x. settle-same most at (started x ∷ t) h)
-        ∙ ap (λ (o : Option Start). elim o as (λ _. List Event) [ None ↦ t | Some s ↦ settle most other at (started s ∷ t) ]) (first-same at (links t) t h)
-      where
-        step : (o : Option Start) → ((x : Start) → settle most set at (started x ∷ t) ≡ settle most other at (started x ∷ t)) →
-            elim o as (λ _. List Event) [ None ↦ t | Some s ↦ settle most set at (started s ∷ t) ] ≡ elim o as (λ _. List Event) [ None ↦ t | Some s ↦ settle most other at (started s ∷ t) ]
-        step None rest = refl
-        step (Some s) rest = rest s
-
-    settled-same : (at : ℕ) (t : List Event) → AreOn (links t) → settled set at t ≡ settled other at t
-    settled-same at t h = settle-same (waiting_all (links t) t) at t h
-
-    -- ---- A packet
-
-    abbrev IsOn : Verdict → Type 0
-    IsOn no_target = ⊤
-    IsOn (loses l f) = pipe_of l ≡ pipe
-    IsOn (refuses l f) = pipe_of l ≡ pipe
-    IsOn (takes l f how) = pipe_of l ≡ pipe
-
-    verdict-on : (known : List FlowKey) (target : Target) (packet : Packet) (o : Option Treatment) (t : List Event)
-        → ((how : Treatment) → o ≡ Some how → how.pipe ≡ pipe) → IsOn (verdict_by known target packet o t)
-    verdict-on known target packet None t h = tt
-    verdict-on known target packet (Some how) t h =
-        let flow = flow_number known (key_of target packet.tuple how) in
-        let link = link_of target flow how.pipe in
-        by link flow (pipe_of-link target flow how.pipe ∙ h how refl) (is_lost how.loss packet.word) (is_full how.limit (map (λ p. p.stamped.len) (backlog link flow t)))
-      where
-        by : (l : Link) (f : ℕ) → pipe_of l ≡ pipe → (b c : Bool) → IsOn (cond b (loses l f) (cond c (refuses l f) (takes l f how)))
-        by l f e true c = e
-        by l f e false true = e
-        by l f e false false = e
-
-    after-same : (at : ℕ) (packet : Packet) (v : Verdict) (t : List Event) → IsOn v → after_verdict set at packet v t ≡ after_verdict other at packet v t
-    after-same at packet no_target t h = refl
-    after-same at packet (loses l f) t h = refl
-    after-same at packet (refuses l f) t h = refl
-    after-same at packet (takes l f how) t h =
-        let before = opening l at t in
-        let p = accept l packet f how before in
-        let s = start-same l p at h in
-        λ i. cond (nat_le (free l (opening l at t)) at) (started (s i) ∷ arrived (accept l packet f how (opening l at t)) ∷ opening l at t)
-        (arrived (accept l packet f how (opening l at t)) ∷ opening l at t)
-
-    opened-on : (b : Bool) (l : Link) (t : List Event) → AreOn (links t) → AreOn (links (cond b (opened l ∷ t) t))
-    opened-on true l t h = h
-    opened-on false l t h = h
-
-    join-on : (at : ℕ) (p : Accepted) (t : List Event) → pipe_of p.link ≡ pipe → AreOn (links t) → AreOn (links (join set at p t))
-    join-on at p t e h = by (nat_le (free p.link t) at)
-      where
-        by : (b : Bool) → AreOn (links (cond b (started (start_at set p.link p at) ∷ arrived p ∷ t) (arrived p ∷ t)))
-        by true = with-on p.link (links t) e h
-        by false = with-on p.link (links t) e h
-
-    after-on : (at : ℕ) (packet : Packet) (v : Verdict) (t : List Event) → IsOn v → AreOn (links t) → AreOn (links (after_verdict set at packet v t))
-    after-on at packet no_target t e h = h
-    after-on at packet (loses l f) t e h = with-on l (links t) e h
-    after-on at packet (refuses l f) t e h = with-on l (links t) e h
-    after-on at packet (takes l f how) t e h =
-        join-on at (accept l packet f how (opening l at t)) (opening l at t) e (opened-on (nat_eq (waiting l t) 0 && nat_le (free l t) at) l t h)
+its : (pipe : ℕ) (set other : Settings) → set (ToPipe pipe) ≡ other (ToPipe pipe) → (number : ℕ) → Is pipe number → set (ToPipe number) ≡ other (ToPipe number)
+its pipe set other same number e = ap (λ n. set (ToPipe n)) e ∙ same ∙ sym (ap (λ n. other (ToPipe n)) e)
 
 -- ---- Commands alone
 
@@ -158,17 +59,18 @@ module _ (rule : Rule) (pipe : ℕ) where
     pub keys_are : keys mine ≡ keys theirs
     pub clock_is : effective_moment mine ≡ effective_moment theirs
     pub trace_is : trace_of mine ≡ trace_of theirs
-    pub links_are : AreOn pipe (links (trace_of mine))
+    pub links_are : AreOn (Is pipe) (links (trace_of mine))
 
   settled-alike : (mine theirs : List Call) (moment : ℕ) → AreSame mine theirs →
       settled (settings mine) (max (effective_moment mine) moment) (trace_of mine) ≡ settled (settings theirs) (max (effective_moment theirs) moment) (trace_of theirs)
   settled-alike mine theirs moment h =
       let c = h.clock_is in
       let t = h.trace_is in
-      settled-same pipe (settings mine) (settings theirs) h.pipe_is (max (effective_moment mine) moment) (trace_of mine) h.links_are ∙ (λ i. settled (settings theirs) (max (c i) moment) (t i))
+      settled-same (Is pipe) (settings mine) (settings theirs) (its pipe (settings mine) (settings theirs) h.pipe_is) (max (effective_moment mine) moment) (trace_of mine) h.links_are
+      ∙ (λ i. settled (settings theirs) (max (c i) moment) (t i))
 
-  settled-links : (mine theirs : List Call) (moment : ℕ) → AreSame mine theirs → AreOn pipe (links (settled (settings mine) (max (effective_moment mine) moment) (trace_of mine)))
-  settled-links mine theirs moment h = settle-on pipe (settings mine) (waiting_all (links (trace_of mine)) (trace_of mine)) (max (effective_moment mine) moment) (trace_of mine) h.links_are
+  settled-links : (mine theirs : List Call) (moment : ℕ) → AreSame mine theirs → AreOn (Is pipe) (links (settled (settings mine) (max (effective_moment mine) moment) (trace_of mine)))
+  settled-links mine theirs moment h = settled-on (Is pipe) (settings mine) (max (effective_moment mine) moment) (trace_of mine) h.links_are
 
   submit-same : (mine theirs : List Call) (target : Target) (packet : Packet) (moment : ℕ) → AreSame mine theirs → settings mine target ≡ settings theirs target →
       ((how : Treatment) → treatment (settings mine target) ≡ Some how → how.pipe ≡ pipe) →
@@ -181,14 +83,14 @@ module _ (rule : Rule) (pipe : ℕ) where
       let before = settled (settings mine) at (trace_of mine) in
       let u = settled-alike mine theirs moment h in
       let v = verdict_by (keys mine) target packet (treatment (settings mine target)) before in
-      let good = verdict-on pipe (settings mine) (settings theirs) h.pipe_is (keys mine) target packet (treatment (settings mine target)) before on in (
+      let good = verdict-on (Is pipe) (keys mine) target packet (treatment (settings mine target)) before on in (
         record {
           pipe_is = h.pipe_is;
           keys_are = (λ i. keys_with target packet.tuple (treatment (to i)) (ks i));
           clock_is = (λ i. max (c i) moment);
-          trace_is = after-same pipe (settings mine) (settings theirs) h.pipe_is at packet v before good
+          trace_is = after-same (Is pipe) (settings mine) (settings theirs) (its pipe (settings mine) (settings theirs) h.pipe_is) at packet v before good
               ∙ (λ i. after_verdict (settings theirs) (max (c i) moment) packet (verdict_by (ks i) target packet (treatment (to i)) (u i)) (u i));
-          links_are = after-on pipe (settings mine) (settings theirs) h.pipe_is at packet v before good (settled-links mine theirs moment h);
+          links_are = after-on (Is pipe) (settings mine) at packet v before good (settled-links mine theirs moment h);
         },
         (λ i. reply_to_verdict (max (c i) moment) (verdict_by (ks i) target packet (treatment (to i)) (u i)) (u i)),
       )
@@ -228,27 +130,15 @@ module _ (rule : Rule) (pipe : ℕ) where
   after-append Deleted command known t = discard-append command 0 known [] t
   after-append _ command known t = refl
 
-  discard-links : (command : Command) (from : ℕ) (known : List FlowKey) (t : List Event) → AreOn pipe (links t) → AreOn pipe (links (discard_reached command from known t))
-  discard-links command from [] t h = h
-  discard-links command from (key ∷ known) t h = discard-links command (from + 1) known (cond (reaches command key) (discarded from ∷ t) t) (by (reaches command key))
-    where
-      by : (b : Bool) → AreOn pipe (links (cond b (discarded from ∷ t) t))
-      by true = h
-      by false = h
-
-  after-links : (r : Reply) (command : Command) (known : List FlowKey) (t : List Event) → AreOn pipe (links t) → AreOn pipe (links (after_command r command known t))
-  after-links Deleted command known t h = discard-links command 0 known t h
-  after-links _ command known t h = h
-
   -- What a command or a Show leaves.
   untimed : (c : Call) (calls : List Call) → IsUntimed c
       → (trace_of (c ∷ calls) ≡ emptied calls c ++ trace_of calls) × (keys (c ∷ calls) ≡ keys calls) × (effective_moment (c ∷ calls) ≡ effective_moment calls)
-      × (AreOn pipe (links (trace_of calls)) → AreOn pipe (links (trace_of (c ∷ calls))))
+      × (AreOn (Is pipe) (links (trace_of calls)) → AreOn (Is pipe) (links (trace_of (c ∷ calls))))
   untimed (Configure command) calls h = (
     after-append (reply_to_command calls command) command (keys calls) (trace_of calls),
     refl,
     omega arith,
-    λ on. after-links (reply_to_command calls command) command (keys calls) (trace_of calls) on,
+    λ on. after-links (Is pipe) (reply_to_command calls command) command (keys calls) (trace_of calls) on,
   )
   untimed Show calls h = (refl, refl, omega arith, λ on. on)
   untimed _ calls h = absurd h
@@ -307,7 +197,7 @@ module _ (rule : Rule) (pipe : ℕ) (commands others : List Call) (commands_are 
         keys_are = a.1 ∙ sym b.1;
         clock_is = a.2 ∙ sym b.2;
         trace_is = a.0 ∙ sym b.0;
-        links_are = subst (λ (t : List Event). AreOn pipe (links t)) (sym a.0) tt;
+        links_are = subst (λ (t : List Event). AreOn (Is pipe) (links t)) (sym a.0) tt;
       }
 
   -- Packets leave in force what the commands did.
