@@ -24,8 +24,8 @@ import tempfile
 
 TOP = os.path.dirname(os.path.dirname(os.path.dirname(os.path.abspath(__file__))))
 SET_ASIDE = ['Cases', 'ExamplesDeletes', 'ExamplesLinks', 'ExamplesWf2q', 'ShortListsFlows', 'ShortListsWf2q',
-             'Witnesses', 'FairWitness', 'LawWitnesses', 'DeleteWitnesses', 'PartWitnesses',
-             'ReadingWitnesses', 'ReplyWitnesses', 'WaitWitnesses']
+             'Witnesses', 'FairWitness', 'LawWitnesses', 'DeleteWitnesses', 'DividedWitnesses',
+             'PartWitnesses', 'ReadingWitnesses', 'ReplyWitnesses', 'WaitWitnesses']
 
 # Texts of the rows in which what a command is told isn't what is done, and of those in which the clock goes otherwise.
 SETTING_AFTER = "-- What is in force for a command's subject once"

@@ -35,7 +35,7 @@ use Rattle.dn_laws.proofs.Timely.{clock-later}
 
 module _ (rule : Rule) (link : Link) where
   -- By the clock none starts any more.
-  quiet : (calls : List Call) → next_start (settings calls) (effective_moment calls) link (trace_of calls) ≡ None
+  pub quiet : (calls : List Call) → next_start (settings calls) (effective_moment calls) link (trace_of calls) ≡ None
   quiet calls = by (nat_le (free link (trace_of calls)) (effective_moment calls)) refl (next_packet link (trace_of calls)) refl
     where
       by : (b : Bool) → nat_le (free link (trace_of calls)) (effective_moment calls) ≡ b → (o : Option Accepted) → next_packet link (trace_of calls) ≡ o →

@@ -1,6 +1,7 @@
 pub mod Acceptance
 pub mod Advances
 pub mod Ahead
+pub mod AloneReplies
 pub mod AtHome
 pub mod Begun
 pub mod BoundedCounts
@@ -11,6 +12,8 @@ pub mod DelayBound
 pub mod Delays
 mod DeleteWitnesses
 pub mod Delivered
+pub mod Divided
+mod DividedWitnesses
 pub mod DropLaws
 pub mod EachHead
 pub mod Elsewhere
@@ -32,6 +35,7 @@ pub mod PartGiven
 pub mod PartReplays
 pub mod PartReplies
 pub mod Parts
+pub mod PartsAlone
 pub mod PartSettings
 pub mod PartStarts
 pub mod PartsWhole

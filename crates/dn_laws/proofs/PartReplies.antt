@@ -216,11 +216,11 @@ module _ (chosen : Choice) (mine taken : ℕ → Bool) where
       by false = refl
 
   -- A packet with a target is answered with its flow.
-  abbrev HasTarget : Verdict → Type 0
+  abbrev pub HasTarget : Verdict → Type 0
   HasTarget no_target = ⊥
   HasTarget _ = ⊤
 
-  has-target : (known : List FlowKey) (target : Target) (packet : Packet) (o : Option Treatment) (t : List Event)
+  pub has-target : (known : List FlowKey) (target : Target) (packet : Packet) (o : Option Treatment) (t : List Event)
       → is_carried chosen target packet.tuple o ≡ true → HasTarget (verdict_by known target packet o t)
   has-target known target packet None t e = absurd cc
   has-target known target packet (Some how) t e =
@@ -281,7 +281,7 @@ module _ (chosen : Choice) (mine taken : ℕ → Bool) where
         ap {A = ℕ} (λ n. Advanced (max n moment)) (moment-on chosen calls)
         ∙ told-off at v before (verdict-fit chosen mine taken (keys calls) target packet o before flow) (verdict-at chosen mine taken (keys calls) target packet o before false flow off)
 
-    counted-reply : (c : Call) → IsKeyed chosen mine (keys (c ∷ calls)) → counted_reply rule (calls_on chosen calls) (call_on chosen calls c) ≡ reply-part-of (counted_reply rule calls c)
+    pub counted-reply : (c : Call) → IsKeyed chosen mine (keys (c ∷ calls)) → counted_reply rule (calls_on chosen calls) (call_on chosen calls c) ≡ reply-part-of (counted_reply rule calls c)
     counted-reply (Configure command) k =
         let s = settings-on chosen calls in
         let q = queues-on chosen calls in

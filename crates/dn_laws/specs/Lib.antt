@@ -1,5 +1,6 @@
 pub mod ByteShares
 pub mod ConfiguredLaws
+pub mod Divided
 pub mod Explained
 pub mod FairShare
 pub mod FlowLaws

@@ -1,5 +1,6 @@
 -- Each law is a lemma over the definitions.
 use Rattle.dn_laws.proofs.Advances.{advances-are-no-more}
+use Rattle.dn_laws.proofs.AloneReplies.{parts-are-alone}
 use Rattle.dn_laws.proofs.PartCalls.{other-links-change-nothing}
 use Rattle.dn_laws.proofs.PartReplays.{agreeing-calls-agree, replays-fall-apart}
 use Rattle.dn_laws.proofs.PartReplies.{other-links-change-no-reply}
@@ -30,3 +31,6 @@ returns-clause-settings c = parts-rest-on-their-pipe
 
 pub returns-clause-force : goal.returns-clause-force
 returns-clause-force c = commands-act-by-force
+
+pub returns-clause-alone : goal.returns-clause-alone
+returns-clause-alone c = parts-are-alone
