@@ -2,6 +2,8 @@
 use Rattle.std.specs.Prelude.{◌≡◌, ◌≤◌, ℕ, Bool, true, false, cond, List, [], ◌∷◌, map, nat_eq, nat_le, length}
 use Rattle.dn_types.specs.Clock.{call_limit}
 use Rattle.dn_laws.specs.Divided.{links_of, own_of, AreDivided, own_reply_on}
+use Rattle.dn_laws.specs.Parts.{part_of}
+use Rattle.dn_types.specs.Calls.{trace_of}
 use Rattle.dn_types.specs.Replies.{replies}
 use Rattle.dn_types.specs.declared.call.Call.{Call}
 use Rattle.dn_types.specs.declared.call.Call.TheVariants.{Configure, Advance, Collect, Show}
@@ -12,6 +14,7 @@ use Rattle.dn_types.specs.declared.rule.Rule.TheVariants.{Ordered}
 use Rattle.dn_types.specs.declared.target.Target.{Target}
 use Rattle.dn_types.specs.declared.target.Target.TheVariants.{Pipe as ToPipe, Queue as ToQueue}
 use Rattle.dn_laws.proofs.AloneReplies.{parts-are-alone}
+use Rattle.dn_laws.proofs.PartsAlone.{parts-happen-alone}
 use Rattle.dn_types.proofs.ExampleWords.{tuple, no_mask, delivery, key, status, pipe, queue, to_pipe, to_queue}
 use Rattle.std.proofs.Common.{refl, arith}
 use Rattle.std.proofs.lemmas.Bool.Decides.{nat_tests}
@@ -69,6 +72,13 @@ the_same = parts-are-alone Ordered in_the_first of_the_first divided are_divided
   where
     few : length divided ≤ call_limit
     few = at-most _ _ refl
+
+-- What happens in the part: two arrivals, a third, three starts and a Collect, after the beginning of a busy period.
+happens : trace_of (Advance 100000000 ∷ own_of of_the_first divided) ≡ part_of (links_of in_the_first) divided
+happens = parts-happen-alone in_the_first of_the_first divided are_divided
+
+eight_events : length (part_of (links_of in_the_first) divided) ≡ 8
+eight_events = refl
 
 -- ---- Out of order: the clock was moved by another part, beyond the moment at which the part's command would be alone
 

@@ -1,4 +1,4 @@
--- A part's own calls alone get the part of their replies.
+-- With the calls of other parts left out, the part of all happens: the own calls lag by no more than the clock.
 use Rattle.std.proofs.Common.{◌≡◌, ◌∙◌, ◌≤◌, ℕ, zero, suc, max, Bool, true, false, cond, List, [], ◌∷◌, refl, ap, sym, subst, length, arith}
 use Rattle.std.specs.Prelude.{Option, Some, None}
 use Rattle.dn_types.specs.Calls.{verdict_by, after_verdict, after_command, trace_of}
@@ -7,7 +7,7 @@ use Rattle.dn_types.specs.Configuration.{Settings, settings, subject, target_eq,
 use Rattle.dn_types.specs.Deliveries.{given}
 use Rattle.dn_laws.specs.Divided.{links_of, own_of, IsOfOnePart, AreDivided}
 use Rattle.dn_types.specs.Flows.{Treatment, treatment, keys, keys_with}
-use Rattle.dn_laws.specs.Parts.{calls_on, is_carried}
+use Rattle.dn_laws.specs.Parts.{calls_on, is_carried, part_of}
 use Rattle.dn_types.specs.Replies.{reply_to_verdict, counted_reply, statuses_from}
 use Rattle.dn_types.specs.Starts.{first_start, settle, settled, waiting_all}
 use Rattle.dn_types.specs.Trace.{Start, Event, started, collected, links}
@@ -25,7 +25,7 @@ use Rattle.dn_laws.proofs.Advances.{settled-again}
 use Rattle.dn_laws.proofs.Divided.{IsWithin, AreMine, queues-of, within, carried-on, carried-elsewhere, none-uncarried, keys-mine, after-elsewhere, setting-elsewhere, command-same}
 use Rattle.dn_laws.proofs.Elsewhere.{quiet}
 use Rattle.dn_laws.proofs.OnPipes.{AreOn, settled-on, verdict-on, after-on, after-links, settled-same, after-same}
-use Rattle.dn_laws.proofs.PartCalls.{settings-on, keys-on, moment-on}
+use Rattle.dn_laws.proofs.PartCalls.{settings-on, keys-on, moment-on, other-links-change-nothing}
 use Rattle.dn_types.proofs.Settled.{first_start-of}
 
 -- By the clock nothing is left to settle.
@@ -360,3 +360,16 @@ module _ (mine : Target → Bool) where
         by : (b : Bool) → IsBehind (alone-of calls) (less calls) → IsBehind (cond b (Show ∷ alone-of calls) (alone-of calls)) (Show ∷ less calls)
         by true h = own-show (alone-of calls) (less calls) h (less-on calls)
         by false h = other-show (alone-of calls) (less calls) h (less-on calls)
+
+pub parts-happen-alone : (mine : Target → Bool) (is_own : ℕ → Bool) (calls : List Call) → AreDivided mine is_own calls →
+    trace_of (Advance (effective_moment calls) ∷ own_of is_own calls) ≡ part_of (links_of mine) calls
+parts-happen-alone mine is_own calls d =
+    let h = behind mine is_own calls d in
+    let lags = h.lags in
+    let e = moment-on (links_of mine) calls in
+    let alone = own_of is_own calls in
+    let whole = less mine calls in
+    let at = effective_moment whole in
+    let clock : max (effective_moment alone) (effective_moment calls) ≡ at = omega (arith, lags, e) in
+    ap (λ m. settled (settings alone) m (trace_of alone)) clock ∙ h.settles at (omega arith) ∙ same-settled mine alone whole h (less-on mine calls) at ∙ still whole
+    ∙ other-links-change-nothing (links_of mine) calls

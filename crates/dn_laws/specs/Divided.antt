@@ -2,13 +2,13 @@
 use Rattle.std.specs.Prelude.{ℕ, ◌≡◌, ◌≤◌, ⊤, Bool, true, cond, List, [], ◌∷◌, length, map}
 use Rattle.dn_types.specs.Clock.{call_limit, effective_moment}
 use Rattle.dn_types.specs.Configuration.{subject}
-use Rattle.dn_laws.specs.Parts.{Choice, is_flow_on, is_packet_on}
+use Rattle.dn_laws.specs.Parts.{Choice, is_flow_on, is_packet_on, part_of}
 use Rattle.dn_types.specs.Calls.{trace_of}
 use Rattle.dn_types.specs.Flows.{keys}
 use Rattle.dn_types.specs.Replies.{replies}
 use Rattle.dn_laws.specs.ReplyParts.{reply_by}
 use Rattle.dn_types.specs.declared.call.Call.{Call}
-use Rattle.dn_types.specs.declared.call.Call.TheVariants.{Configure, Submit, Collect}
+use Rattle.dn_types.specs.declared.call.Call.TheVariants.{Configure, Submit, Advance, Collect}
 use Rattle.dn_types.specs.declared.command.Command.{Command}
 use Rattle.dn_types.specs.declared.command.Command.TheVariants.{Queue}
 use Rattle.dn_types.specs.declared.reply.Reply.{Reply}
@@ -56,7 +56,12 @@ own_reply_on chosen calls r =
     let is_flow = is_flow_on chosen (keys calls) in
     own_reply_by is_flow (is_packet_on chosen is_flow (trace_of calls)) r
 
--- With the calls of other parts left out, a part's own calls get the part of their replies.
+-- With the calls of other parts left out and the clock moved to the clock of all, what happens is the part of what happens in all.
+abbrev pub PartsHappenAlone : Type 0
+PartsHappenAlone = (mine : Target → Bool) (is_own : ℕ → Bool) (calls : List Call) → AreDivided mine is_own calls →
+    trace_of (Advance (effective_moment calls) ∷ own_of is_own calls) ≡ part_of (links_of mine) calls
+
+-- And the part's own calls get the part of their replies.
 abbrev pub PartsAreAlone : Type 0
 PartsAreAlone = (rule : Rule) (mine : Target → Bool) (is_own : ℕ → Bool) (calls : List Call) → AreDivided mine is_own calls → length calls ≤ call_limit →
     replies rule (own_of is_own calls) ≡ map (own_reply_on (links_of mine) calls) (own_of is_own (replies rule calls))

@@ -9,7 +9,7 @@ ghost use Rattle.dn_laws.specs.ConfiguredLaws.{DropsAreExplained, IsNeverIdle, K
 ghost use Rattle.dn_laws.specs.ConfiguredLaws.{NoneUnconfigured, OnlyCommandsCount};
 ghost use Rattle.dn_laws.specs.ConfiguredLaws.{QueuesHavePipes, StartsApart, StartsAsConfigured};
 ghost use Rattle.dn_laws.specs.ConfiguredLaws.{StartsAtOnce, StartsTheNext};
-ghost use Rattle.dn_laws.specs.Divided.{PartsAreAlone};
+ghost use Rattle.dn_laws.specs.Divided.{PartsAreAlone, PartsHappenAlone};
 ghost use Rattle.dn_laws.specs.FairShare.{SharesFairly};
 ghost use Rattle.dn_laws.specs.FlowLaws.{FlowsAreByMask, FlowsHaveTheirKeys, FlowsStay};
 ghost use Rattle.dn_laws.specs.KeptLaws.{BusyPeriodsBegin, ClockSparesTags, LinksAreKept};
@@ -238,9 +238,8 @@ pub fn laws_of_isolation()
 /// With their packets taken away, each packet is queued, lost or refused as before and starts and is due at the same
 /// moments. So a replay can be cut by links: each part gets its part of the replies. A pipe's part rests on what is in
 /// force for the pipe and for its packets' targets alone.
-///
-/// If parts have pipes and queues of their own, a part's calls alone get the part of their replies. Each is made before the
-/// clock passes its effective moment, and a Collect is of all parts.
+/// If parts have pipes and queues of their own, a part's calls alone make the part of all happen and get the part of their
+/// replies. Each is made before the clock passes its effective moment, and a Collect is of all parts.
 pub fn laws_of_parts()
     ensures trace { OtherLinksChangeNothing }
     ensures replies { OtherLinksChangeNoReply }
@@ -250,6 +249,7 @@ pub fn laws_of_parts()
     ensures whole { PartsAreWhole }
     ensures settings { PartsRestOnTheirPipe }
     ensures force { CommandsActByForce }
+    ensures happens { PartsHappenAlone }
     ensures alone { PartsAreAlone }
 {}
 

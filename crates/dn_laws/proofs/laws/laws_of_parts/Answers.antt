@@ -4,6 +4,7 @@ use Rattle.dn_laws.proofs.AloneReplies.{parts-are-alone}
 use Rattle.dn_laws.proofs.PartCalls.{other-links-change-nothing}
 use Rattle.dn_laws.proofs.PartReplays.{agreeing-calls-agree, replays-fall-apart}
 use Rattle.dn_laws.proofs.PartReplies.{other-links-change-no-reply}
+use Rattle.dn_laws.proofs.PartsAlone.{parts-happen-alone}
 use Rattle.dn_laws.proofs.PartSettings.{commands-act-by-force, parts-rest-on-their-pipe}
 use Rattle.dn_laws.proofs.PartsWhole.{parts-are-whole}
 use Rattle.dn_laws.proofs.laws.laws_of_parts.Goals as goal
@@ -31,6 +32,9 @@ returns-clause-settings c = parts-rest-on-their-pipe
 
 pub returns-clause-force : goal.returns-clause-force
 returns-clause-force c = commands-act-by-force
+
+pub returns-clause-happens : goal.returns-clause-happens
+returns-clause-happens c = parts-happen-alone
 
 pub returns-clause-alone : goal.returns-clause-alone
 returns-clause-alone c = parts-are-alone
