@@ -72,3 +72,25 @@ queued_line at flow packet a f p = stands (codes "r") (codes "queued") _ refl (r
 pub delivery_line : (d : Delivery) → IsDelivery d
     → codes "d" ++ 44 ∷ (decimal d.packet ++ 44 ∷ (decimal d.flow ++ 44 ∷ (decimal d.start ++ 44 ∷ (decimal d.due ++ 10 ∷ [])))) ≡ line_of (delivery_record d)
 delivery_line d r = stands (codes "d") (decimal d.packet) _ refl (number d.packet r.packet, (number d.flow r.flow, (number d.start r.start, (number d.due r.due, tt))))
+
+-- The line of a call that has a moment alone.
+pub moment_line : (caller : ℕ) (name : List ℕ) (moment : ℕ) → IsLong caller → IsPlain name → IsLong moment
+    → codes "c" ++ 44 ∷ (decimal caller ++ 44 ∷ (name ++ 44 ∷ (decimal moment ++ 10 ∷ []))) ≡ line_of (codes "c" ∷ decimal caller ∷ name ∷ decimal moment ∷ [])
+moment_line caller name moment c plain m = stands (codes "c") (decimal caller) _ refl (number caller c, (plain, (number moment m, tt)))
+
+-- The line of a Show.
+pub show_line : (caller : ℕ) → IsLong caller
+    → codes "c" ++ 44 ∷ (decimal caller ++ (codes ",show" ++ 10 ∷ [])) ≡ line_of (codes "c" ∷ decimal caller ∷ codes "show" ∷ [])
+show_line caller c = stands (codes "c") (decimal caller) _ refl (number caller c, (refl, tt))
+
+-- The line of a reply that is a name alone, and of one that has one or two numbers.
+pub name_line : (name : List ℕ) → IsPlain name → codes "r," ++ (name ++ 10 ∷ []) ≡ line_of (codes "r" ∷ name ∷ [])
+name_line name plain = stands (codes "r") name _ refl (plain, tt)
+
+pub one_line : (name : List ℕ) (value : ℕ) → IsPlain name → IsLong value
+    → codes "r," ++ (name ++ 44 ∷ (decimal value ++ 10 ∷ [])) ≡ line_of (codes "r" ∷ name ∷ decimal value ∷ [])
+one_line name value plain v = stands (codes "r") name _ refl (plain, (number value v, tt))
+
+pub two_line : (name : List ℕ) (first second : ℕ) → IsPlain name → IsLong first → IsLong second
+    → codes "r," ++ (name ++ 44 ∷ (decimal first ++ 44 ∷ (decimal second ++ 10 ∷ []))) ≡ line_of (codes "r" ∷ name ∷ decimal first ∷ decimal second ∷ [])
+two_line name first second plain f s = stands (codes "r") name _ refl (plain, (number first f, (number second s, tt)))

@@ -1,4 +1,5 @@
 ghost use Rattle.std.specs.Prelude.{◌≡◌, ◌≤◌, ◌+◌, [], ◌∷◌, ◌++◌, codes, decimal, length, OnOk};
+ghost use Rattle.csv.specs.Writing.{default_writer, field_text};
 ghost use Rattle.dn_types.specs.declared.call.Call.TheVariants.{Configure, Submit};
 ghost use Rattle.dn_records.specs.Records.{line_of};
 ghost use Rattle.dn_history.specs.EntryRecords.{call_record, target_name, target_number};
@@ -77,15 +78,18 @@ fn write_moment(
     name: &str,
     moment: Moment,
 ) -> Result<(), AllocError>
+    requires short { length name.now ≤ 64 }
+    requires plain { field_text default_writer name.now ≡ name.now }
     ensures { OnOk result (writer.new.text
         ≡ writer.old.text ++ line_of (codes "c" ∷ decimal caller ∷ name.now ∷ decimal moment ∷ [])) }
 {
-    writer.write(&[
-        Field::Text("c"),
-        number(caller as u64),
-        Field::Text(name),
-        number(moment.get()),
-    ])
+    let mut line = Line::new();
+    line.put_number(moment.get());
+    line.put_bytes(name.as_bytes());
+    line.put_bytes(b",");
+    line.put_number(caller as u64);
+    line.put_bytes(b"c");
+    writer.write_line(&line)
 }
 
 /// Adds the record of a Show.
@@ -93,7 +97,11 @@ fn write_show(writer: &mut RecordWriter, caller: usize) -> Result<(), AllocError
     ensures { OnOk result (writer.new.text
         ≡ writer.old.text ++ line_of (codes "c" ∷ decimal caller ∷ codes "show" ∷ [])) }
 {
-    writer.write(&[Field::Text("c"), number(caller as u64), Field::Text("show")])
+    let mut line = Line::new();
+    line.put_bytes(b",show");
+    line.put_number(caller as u64);
+    line.put_bytes(b"c");
+    writer.write_line(&line)
 }
 
 /// Adds the record of a call.

@@ -1,24 +1,35 @@
-ghost use Rattle.std.specs.Prelude.{◌≡◌, [], ◌∷◌, ◌++◌, codes, decimal, OnOk};
+ghost use Rattle.std.specs.Prelude.{◌≡◌, ◌≤◌, [], ◌∷◌, ◌++◌, codes, decimal, length, OnOk};
+ghost use Rattle.csv.specs.Writing.{default_writer, field_text};
 ghost use Rattle.dn_records.specs.Records.{line_of};
 ghost use Rattle.dn_history.specs.EntryRecords.{reply_record};
 
-use dn_files::number;
-use dn_records::{Field, Line, RecordWriter};
+use dn_records::{Line, RecordWriter};
 use dn_types::Reply;
 use std::alloc::AllocError;
 
 /// Adds the record of a reply that is a name alone.
 fn write_name(writer: &mut RecordWriter, name: &str) -> Result<(), AllocError>
+    requires short { length name.now ≤ 64 }
+    requires plain { field_text default_writer name.now ≡ name.now }
     ensures { OnOk result (writer.new.text ≡ writer.old.text ++ line_of (codes "r" ∷ name.now ∷ [])) }
 {
-    writer.write(&[Field::Text("r"), Field::Text(name)])
+    let mut line = Line::new();
+    line.put_bytes(name.as_bytes());
+    line.put_bytes(b"r,");
+    writer.write_line(&line)
 }
 
 /// Adds the record of a reply that has one number.
 fn write_one(writer: &mut RecordWriter, name: &str, value: u64) -> Result<(), AllocError>
+    requires short { length name.now ≤ 64 }
+    requires plain { field_text default_writer name.now ≡ name.now }
     ensures { OnOk result (writer.new.text ≡ writer.old.text ++ line_of (codes "r" ∷ name.now ∷ decimal value ∷ [])) }
 {
-    writer.write(&[Field::Text("r"), Field::Text(name), number(value)])
+    let mut line = Line::new();
+    line.put_number(value);
+    line.put_bytes(name.as_bytes());
+    line.put_bytes(b"r,");
+    writer.write_line(&line)
 }
 
 /// Adds the record of a reply that has two numbers.
@@ -28,15 +39,17 @@ fn write_two(
     first: u64,
     second: u64,
 ) -> Result<(), AllocError>
+    requires short { length name.now ≤ 64 }
+    requires plain { field_text default_writer name.now ≡ name.now }
     ensures { OnOk result (writer.new.text
         ≡ writer.old.text ++ line_of (codes "r" ∷ name.now ∷ decimal first ∷ decimal second ∷ [])) }
 {
-    writer.write(&[
-        Field::Text("r"),
-        Field::Text(name),
-        number(first),
-        number(second),
-    ])
+    let mut line = Line::new();
+    line.put_number(second);
+    line.put_number(first);
+    line.put_bytes(name.as_bytes());
+    line.put_bytes(b"r,");
+    writer.write_line(&line)
 }
 
 /// Adds the record of an accepted packet.
