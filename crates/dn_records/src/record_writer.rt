@@ -76,6 +76,13 @@ impl RecordWriter {
         self.text.extend_from_slice(line.as_bytes())
     }
 
+    /// How many bytes the text has.
+    pub fn text_len(&self) -> usize
+        ensures { result ≡ length self.now.text }
+    {
+        self.text.len()
+    }
+
     /// The text of all records.
     pub fn into_text(self) -> Vec<u8>
         ensures text { result.items ≡ self.text }
