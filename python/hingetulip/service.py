@@ -25,7 +25,9 @@ BUSY, NO_ENTRY = 15, 18
 FUNCTIONS = ("dn_service_open", "dn_service_open_with_key", "dn_service_close", "dn_caller_close", "dn_caller_configure", "dn_caller_submit",
              "dn_caller_advance", "dn_caller_collect", "dn_caller_deliveries", "dn_caller_show", "dn_caller_flows", "dn_caller_wake",
              "dn_service_take", "dn_service_text")
-FIRST_ROOM, MOST_CALLERS = 4096, 15
+# A library of before 1.3 lacks it. Entries are then written one by one.
+LATER_FUNCTIONS = ("dn_service_texts",)
+FIRST_ROOM, MOST_CALLERS = 16384, 15
 
 # How often a call is tried before a thread sleeps between two tries, and for how many seconds it then sleeps.
 TRIES_AT_ONCE, REST = 4, 20e-6
@@ -39,7 +41,18 @@ def loaded() -> CDLL:
             getattr(library, name).restype = c_uint32
     except AttributeError as fault:
         raise HingetulipError(f"{LIBRARY} is of an older version, which has no service: {fault}") from None
+    for name in LATER_FUNCTIONS:
+        if hasattr(library, name):
+            getattr(library, name).restype = c_uint32
     return library
+
+
+def texts_of(library: CDLL) -> Callable[..., int]:
+    """The call that writes waiting entries: as many as have room, or one."""
+    if not hasattr(library, "dn_service_texts"):
+        return library.dn_service_text
+    count = c_uint64()
+    return lambda *arguments: library.dn_service_texts(*arguments, byref(count))
 
 
 def answered(call: Callable[..., int], *arguments: Any) -> int:
@@ -191,7 +204,7 @@ class Service:
         self._calls, self._turn, self._taken = loaded(), Turn(), 0
         self._file: Optional[HistoryFile] = None
         self._handle, self._handles = Handle(), (Handle * callers)()
-        self._text = (c_char * FIRST_ROOM)()
+        self._text, self._texts = (c_char * FIRST_ROOM)(), texts_of(self._calls)
         high, low = SECRET.unpack(urandom(SECRET.size))
         succeed(self._calls.dn_service_open_with_key(byref(self._handle), self._handles, c_size_t(len(self._handles)), c_uint64(high), c_uint64(low)))
         seeds = Random(seed)
@@ -266,7 +279,7 @@ class Service:
         """Writes the entries that were taken and not written, as after a write that failed."""
         size = c_uint64()
         while True:
-            status = self._calls.dn_service_text(byref(self._handle), byref(self._text), c_size_t(len(self._text)), byref(size))
+            status = self._texts(byref(self._handle), byref(self._text), c_size_t(len(self._text)), byref(size))
             if status == NO_ENTRY:
                 return
             if status == ROOM:

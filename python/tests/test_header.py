@@ -19,7 +19,7 @@ RUST, RUST_SERVICE, RUST_ERRORS = (
 LEFT_OUT = {"dn_open", "dn_submit_text", "dn_advance_text", "dn_collect_text"}
 DECLARED = (
     (RUST, HEADER, "dn_status", LEFT_OUT),
-    (RUST_SERVICE, SERVICE_HEADER, "dn_service_status", {"dn_service_open"}),
+    (RUST_SERVICE, SERVICE_HEADER, "dn_service_status", {"dn_service_open", "dn_service_text"}),
 )
 WIDTHS = {"uint64_t": 8, "uint32_t": 4, "uint16_t": 2, "uint8_t": 1, "void *": 8, "bool": 1}
 KINDS = {"u64": "uint64_t", "u32": "uint32_t", "u16": "uint16_t", "u8": "uint8_t", "usize": "size_t", "c_void": "void",

@@ -189,6 +189,17 @@ class OneCaller(unittest.TestCase):
             self.service.close()
             self.assertEqual(45, path.read_text().count("\nd,"))
 
+    def test_many_entries_at_once_and_one_by_one(self) -> None:
+        for texts in (self.service._texts, self.service._calls.dn_service_text):
+            with TemporaryDirectory() as folder, service.Service(1) as many:
+                path, many._texts = Path(folder) / "history", texts
+                many.history(path)
+                for moment in range(2000):
+                    many.callers[0].advance(moment)
+                many.close()
+                entries = "".join(f"c,0,advance,{moment}\nr,advanced,{moment}\n" for moment in range(2000))
+                self.assertEqual(f"dummynet-history,3\n{entries}end,2000\n", path.read_text())
+
 
 class AsOneShaper(unittest.TestCase):
     def test_two_callers_by_turns(self) -> None:
@@ -234,7 +245,7 @@ class Waiting(unittest.TestCase):
 class Header(unittest.TestCase):
     def test_functions_and_statuses(self) -> None:
         text = HEADER.read_text()
-        self.assertEqual(sorted(re.findall(r"^uint32_t (\w+)\(", text, re.M)), sorted(service.FUNCTIONS))
+        self.assertEqual(sorted(re.findall(r"^uint32_t (\w+)\(", text, re.M)), sorted(service.FUNCTIONS + service.LATER_FUNCTIONS))
         statuses = dict(re.findall(r"(DN_\w+) = (\d+)", text))
         self.assertEqual({
                              "DN_BUSY": str(service.BUSY), "DN_BAD_COUNT": "16", "DN_UNWRITTEN": "17",

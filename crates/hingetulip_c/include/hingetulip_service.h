@@ -88,6 +88,11 @@ uint32_t dn_service_take(struct dn_service *service, uint64_t *start, uint64_t *
    and the entry waits no more. DN_ROOM: the entry has *length bytes, and still waits. DN_NO_ENTRY: none waits. */
 uint32_t dn_service_text(struct dn_service *service, uint8_t *text, size_t room, uint64_t *length);
 
+/* Writes the first entries that wait in the same way, as many as have room. DN_OK: they are *count entries of *length bytes in all, and
+   wait no more. The next entry has no room, or none is left. DN_ROOM: the first entry has *length bytes, and all still wait.
+   DN_NO_ENTRY: none waits. */
+uint32_t dn_service_texts(struct dn_service *service, uint8_t *text, size_t room, uint64_t *length, uint64_t *count);
+
 /* Passes the time between two tries of a call, of which *tries is 0 at first. After the first four it spins, twice as long each time, and
    after the fifth it sleeps for 20 us and begins anew. A lock that is tried without a pause changes hands slowly. */
 static inline void dn_service_patience(unsigned *tries)

@@ -3,6 +3,7 @@ pub mod CallerHandles
 pub mod Handles
 pub mod Listing
 pub mod Many
+pub mod ManyTexts
 pub mod RawBoxes
 pub mod Rooms
 pub mod ServiceHandles

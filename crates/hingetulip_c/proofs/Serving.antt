@@ -7,7 +7,7 @@ use Rattle.dn_service.specs.Callers.{ServiceView, CallerView, having_lost, havin
 use Rattle.dn_service.specs.Lasting.{LastingView, Takes}
 use Rattle.dn_service.proofs.Handing.{one_more_caller}
 use Rattle.hingetulip_c.specs.Clients.{IsAnswered, IsOther, AnsweredBy, RefusedBy, IsBusyWith, Woke, WokeBy}
-use Rattle.hingetulip_c.specs.Services.{all_held, held_new, waiting, IsServiceBusyWith, NotTaken, Opened, Taken, Written, Wrote}
+use Rattle.hingetulip_c.specs.Services.{all_held, held_new, waiting, IsServiceBusyWith, NotTaken, Opened, Taken, Written, WrittenMany, Wrote, WroteMany}
 use Rattle.hingetulip_c.specs.declared.caller_handle.CallerHandle.{CallerHandle}
 use Rattle.hingetulip_c.specs.declared.client.Client.{Client}
 use Rattle.hingetulip_c.specs.declared.ledger.Ledger.{Ledger}
@@ -47,6 +47,11 @@ woke_by moment b a xs ys e f is =
 pub wrote : (text : List ℕ) (b a : Ledger) (xs ys : List Ledger) → xs ≡ b ∷ [] → ys ≡ a ∷ [] → Written text b a → Wrote text xs ys
 wrote text b a xs ys e f is =
     subst (λ (l : List Ledger). Wrote text l ys) (sym e) (subst (λ (l : List Ledger). Wrote text (b ∷ []) l) (sym f) is)
+
+pub wrote_many : (n room : ℕ) (text : List ℕ) (b a : Ledger) (xs ys : List Ledger) → xs ≡ b ∷ [] → ys ≡ a ∷ [] → WrittenMany n room text b a
+    → WroteMany n room text xs ys
+wrote_many n room text b a xs ys e f is =
+    subst (λ (l : List Ledger). WroteMany n room text l ys) (sym e) (subst (λ (l : List Ledger). WroteMany n room text (b ∷ []) l) (sym f) is)
 
 pub taken_out : (start : ℕ) (b a : Ledger) (xs ys : List Ledger) → xs ≡ b ∷ [] → ys ≡ a ∷ []
     → (waiting b ≡ []) × Takes b.taker.lasting b.taker.caller start (waiting a) a.taker.lasting a.taker.caller × (a.taker.caller.lost ≡ b.taker.caller.lost)

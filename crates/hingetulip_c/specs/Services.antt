@@ -1,9 +1,9 @@
 -- A service that C holds: its callers, and the entries that it took out, which wait to be written.
-use Rattle.std.specs.Prelude.{◌≡◌, ◌≢◌, ℕ, ◌+◌, ◌<◌, List, [], ◌∷◌, drop, length, map}
+use Rattle.std.specs.Prelude.{◌≡◌, ◌≢◌, ℕ, ◌+◌, ◌<◌, ◌≤◌, ◌⊎◌, List, [], ◌∷◌, drop, take, length, map}
 use Rattle.dn_types.specs.declared.entry.Entry.{Entry}
 use Rattle.dn_types.specs.declared.reply.Reply.TheVariants.{Exhausted}
 use Rattle.dn_records.specs.Records.{text_of}
-use Rattle.dn_history.specs.HistoryText.{entry_records}
+use Rattle.dn_history.specs.HistoryText.{entry_records, part_text}
 use Rattle.dn_service.specs.Callers.{CallerView, having_lost, new_caller, new_callers}
 use Rattle.dn_service.specs.Lasting.{Takes}
 use Rattle.hingetulip_c.specs.declared.caller_handle.CallerHandle.{CallerHandle}
@@ -70,6 +70,20 @@ pub record Written (text : List ℕ) (b a : Ledger) : Type 0 where
 abbrev pub Wrote : List ℕ → List Ledger → List Ledger → Type 0
 Wrote text (b ∷ []) (a ∷ []) = Written text b a
 Wrote text _ _ = ⊥
+
+-- This is the text of the first n entries that waited, with a room of so many bytes, and the others wait. The next one has no room.
+pub record WrittenMany (n room : ℕ) (text : List ℕ) (b a : Ledger) : Type 0 where
+  pub some : 0 < n
+  pub count : n ≤ length (waiting b)
+  pub text_is : text ≡ part_text (take n (waiting b))
+  pub others : waiting a ≡ drop n (waiting b)
+  pub most : (waiting a ≡ []) ⊎ (room < length text + length (next_text (waiting a)))
+  pub taker : a.taker ≡ b.taker
+
+-- The same of a handle that is open before and after.
+abbrev pub WroteMany : ℕ → ℕ → List ℕ → List Ledger → List Ledger → Type 0
+WroteMany n room text (b ∷ []) (a ∷ []) = WrittenMany n room text b a
+WroteMany n room text _ _ = ⊥
 
 -- How many bytes the first entry that waits has as text.
 abbrev pub next_length : List Ledger → ℕ

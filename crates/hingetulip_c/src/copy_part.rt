@@ -7,7 +7,7 @@ use dn_types::Reply;
 
 /// The items from a place on.
 #[tactic(auto, using(crate::proofs::Serving::rest_of))]
-fn rest_from<T>(given: &[T], from: usize) -> &[T]
+pub(crate) fn rest_from<T>(given: &[T], from: usize) -> &[T]
     ensures { result.now ≡ drop from given.now }
 {
     &given[from.min(given.len())..]
@@ -15,7 +15,7 @@ fn rest_from<T>(given: &[T], from: usize) -> &[T]
 
 /// The first items, at most so many.
 #[tactic(auto, using(crate::proofs::Serving::front_of))]
-fn first_of<T>(given: &[T], most: usize) -> &[T]
+pub(crate) fn first_of<T>(given: &[T], most: usize) -> &[T]
     ensures { result.now ≡ take most given.now }
 {
     &given[..most.min(given.len())]

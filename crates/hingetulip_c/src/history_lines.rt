@@ -1,8 +1,9 @@
 //! The text of an entry, as lines of a history file.
 
-ghost use Rattle.std.specs.Prelude.{◌≡◌, ◌≢◌, ◌≤◌, ◌<◌, ◌⊎◌, drop, length, take, IfOk};
-ghost use Rattle.dn_history.specs.HistoryText.{entry_records};
+ghost use Rattle.std.specs.Prelude.{◌≡◌, ◌≢◌, ◌≤◌, ◌<◌, ◌+◌, ◌⊎◌, [], drop, length, take, IfOk};
+ghost use Rattle.dn_history.specs.HistoryText.{entry_records, part_text};
 ghost use Rattle.dn_records.specs.Records.{text_of};
+ghost use Rattle.hingetulip_c.specs.Services.{next_text};
 
 use crate::status::{MEMORY, OK, ROOM};
 use dn_history::write_entry;
@@ -17,6 +18,45 @@ pub(crate) fn entry_text(alloc: Global, entry: &Entry) -> Result<Vec<u8>, AllocE
     let mut writer = RecordWriter::new(alloc);
     write_entry(alloc, &mut writer, entry)?;
     Ok(writer.into_text())
+}
+
+/// The texts of entries, one after the other.
+#[derive(Drop)]
+pub(crate) struct Texts {
+    /// Those of the entries that fit, and then that of the next one, if there is one.
+    pub(crate) text: Vec<u8>,
+    /// How many entries fit.
+    pub(crate) count: usize,
+    /// How many bytes these have.
+    pub(crate) size: usize,
+}
+
+/// The texts of the first entries, as many as fit into so many bytes.
+pub(crate) fn texts_within(
+    alloc: Global,
+    entries: &[Entry],
+    room: usize,
+) -> Result<Texts, AllocError>
+    ensures count { IfOk result (λ made. made.count ≤ length entries.now) }
+    ensures fits { IfOk result (λ made. made.size ≤ room) }
+    ensures text { IfOk result (λ made. take made.size made.text.items ≡ part_text (take made.count entries.now)) }
+    ensures within { IfOk result (λ made. made.size ≤ length made.text.items) }
+    ensures most { IfOk result (λ made. (drop made.count entries.now ≡ []) ⊎ ((room < length made.text.items)
+        × (length made.text.items ≡ made.size + length (next_text (drop made.count entries.now))))) }
+{
+    let mut writer = RecordWriter::new(alloc);
+    let mut size = 0;
+    for count in 0..entries.len() {
+        write_entry(alloc, &mut writer, &entries[count])?;
+        if room < writer.text_len() {
+            let text = writer.into_text();
+            return Ok(Texts { text, count, size });
+        }
+        size = writer.text_len();
+    }
+    let text = writer.into_text();
+    let count = entries.len();
+    Ok(Texts { text, count, size })
 }
 
 /// Puts the line into the first bytes of the text.

@@ -1,12 +1,13 @@
-ghost use Rattle.std.specs.Prelude.{◌≡◌, ◌≢◌, ◌⊎◌, ◌<◌, ◌+◌, [], ◌∷◌, drop, take, length, vec_len, IfOk, IfErr, OnOk, OnErr};
+ghost use Rattle.std.specs.Prelude.{◌≡◌, ◌≢◌, ◌⊎◌, ◌<◌, ◌≤◌, ◌+◌, [], ◌∷◌, drop, take, length, vec_len, IfOk, IfErr, OnOk, OnErr};
 ghost use Rattle.std.specs.Option.{MatchOption};
 ghost use Rattle.dn_history.specs.HistoryText.{entry_records};
 ghost use Rattle.dn_records.specs.Records.{text_of};
 ghost use Rattle.dn_service.specs.Lasting.{Takes};
 ghost use Rattle.dn_types.specs.declared.entry.Entry.{Entry as EntryValue};
-ghost use Rattle.hingetulip_c.specs.Services.{next_text, service_losing, waiting, NotTaken, Written};
+ghost use Rattle.hingetulip_c.specs.Services.{next_text, service_losing, waiting, NotTaken, Written, WrittenMany};
 
-use crate::history_lines::{entry_text, put_line};
+use crate::copy_part::{first_of, rest_from};
+use crate::history_lines::{entry_text, put_line, texts_within};
 use crate::status::{BUSY, MEMORY, NO_ENTRY, OK, ROOM, UNWRITTEN};
 use dn_service::{Segment, Taker};
 use dn_types::Entry;
@@ -106,5 +107,41 @@ impl Ledger {
                 OK
             }
         }
+    }
+
+    /// Writes the first entries that were not written, as many as have room.
+    pub(crate) fn write_many(
+        &mut self,
+        alloc: Global,
+        text: &mut [u8],
+        size: &mut u64,
+        count: &mut u64,
+    ) -> u32
+        ensures statuses { (result ≡ 0) ⊎ (result ≡ 6) ⊎ (result ≡ 7) ⊎ (result ≡ 18) }
+        ensures ok { result ≡ 0 → WrittenMany count.new (length text.old) (take size.new text.new) self.old self.new }
+        ensures within { result ≡ 0 → size.new ≤ length text.new }
+        ensures others { result ≡ 0 → drop size.new text.new ≡ drop size.new text.old }
+        ensures refused { result ≢ 0 → (self.new ≡ self.old) × (text.new ≡ text.old) × (count.new ≡ count.old) }
+        ensures room { result ≡ 7 → (length text.old < size.new) × (size.new ≡ length (next_text (waiting self.old))) }
+        ensures size { result ≢ 0 → result ≢ 7 → size.new ≡ size.old }
+        ensures none { result ≡ 18 → waiting self.old ≡ [] }
+        ensures memory { result ≡ 6 → length (waiting self.old) ≢ 0 }
+    {
+        let waiting = rest_from(self.entries.as_slice(), self.written);
+        if waiting.is_empty() {
+            return NO_ENTRY;
+        }
+        let Ok(made) = texts_within(alloc, waiting, text.len()) else {
+            return MEMORY;
+        };
+        if made.count == 0 {
+            *size = made.text.len() as u64;
+            return ROOM;
+        }
+        put_line(first_of(made.text.as_slice(), made.size), text);
+        *size = made.size as u64;
+        *count = made.count as u64;
+        self.written += made.count;
+        OK
     }
 }

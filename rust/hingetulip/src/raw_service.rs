@@ -30,7 +30,7 @@ extern "C" {
     pub fn dn_caller_flows(caller: *mut Caller, from: usize, list: *mut Flow, room: usize, count: *mut u64) -> u32;
     pub fn dn_caller_wake(caller: *mut Caller, moment: *mut u64, holder: *mut u64) -> u32;
     pub fn dn_service_take(service: *mut Service, start: *mut u64, count: *mut u64, holder: *mut u64) -> u32;
-    pub fn dn_service_text(service: *mut Service, text: *mut u8, room: usize, length: *mut u64) -> u32;
+    pub fn dn_service_texts(service: *mut Service, text: *mut u8, room: usize, length: *mut u64, count: *mut u64) -> u32;
 }
 
 #[cfg(test)]

@@ -100,12 +100,12 @@ impl Service {
         Ok((start, count))
     }
 
-    /// The text of the first call that waits to be written, which then waits no more.
+    /// The texts of calls that wait to be written, in order and as many as have room, which then wait no more.
     pub(crate) fn text(&mut self) -> Result<Option<&[u8]>> {
-        let mut length = 0;
+        let (mut length, mut count) = (0, 0);
         loop {
             // SAFETY: the handle is open, and the text has as many bytes as it is said to have.
-            let status = unsafe { raw::dn_service_text(&mut *self.handle, self.room.as_mut_ptr(), self.room.len(), &mut length) };
+            let status = unsafe { raw::dn_service_texts(&mut *self.handle, self.room.as_mut_ptr(), self.room.len(), &mut length, &mut count) };
             match status {
                 raw::NO_ENTRY => return Ok(None),
                 crate::raw::ROOM => self.room.resize(length as usize, 0),

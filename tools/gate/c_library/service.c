@@ -134,21 +134,24 @@ static void *make(void *given) {
     return NULL;
 }
 
-/* Writes the entries that wait. The first room is too short for each. */
+/* Writes the entries that wait, by both calls in turn. The first room is too short for each. */
 static uint64_t write_waiting(struct dn_service *service, FILE *history, struct work *work) {
-    uint64_t wrote = 0, length = 0;
+    uint64_t wrote = 0, length = 0, turns = 0, some;
     size_t room = 1;
     uint8_t *text = malloc(room);
-    for (uint32_t status; text && (status = dn_service_text(service, text, room, &length)) != DN_NO_ENTRY;) {
+    while (text) {
+        some = 1;
+        uint32_t status = turns++ & 1 ? dn_service_texts(service, text, room, &length, &some) : dn_service_text(service, text, room, &length);
+        if (status == DN_NO_ENTRY) break;
         if (status == DN_ROOM) {
             want(work, "the length of an entry", length > room);
             free(text);
             text = malloc(room = length);
             continue;
         }
-        want(work, "the status of a text", status == DN_OK && length <= room && fwrite(text, 1, length, history) == length);
+        want(work, "the status of a text", status == DN_OK && some > 0 && length <= room && fwrite(text, 1, length, history) == length);
         if (work->fault) break;
-        wrote++;
+        wrote += some;
     }
     free(text);
     return wrote;

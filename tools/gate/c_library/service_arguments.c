@@ -68,6 +68,7 @@ static void every_call_of_closed_handles(void) {
     HOLDS(dn_caller_wake(&caller, &number, &holder) == DN_CLOSED);
     HOLDS(dn_service_take(&service, &number, &other, &holder) == DN_CLOSED);
     HOLDS(dn_service_text(&service, text, sizeof text, &number) == DN_CLOSED);
+    HOLDS(dn_service_texts(&service, text, sizeof text, &number, &other) == DN_CLOSED);
     HOLDS(untouched() && service.at == NULL && !service.open && caller.at == NULL && !caller.open);
 }
 
@@ -187,6 +188,34 @@ static void entries(void) {
     HOLDS(dn_service_close(&service) == DN_OK && dn_caller_close(&callers[1]) == DN_OK);
 }
 
+/* Three entries of 27, 32 and 22 bytes, as many at once as have room. */
+static void many_entries(void) {
+    static const char first[] = "c,0,advance,7\nr,advanced,7\n", second[] = "c,0,collect,9\nr,delivered,9,0\n", third[] = "c,0,show\nr,status,0\n";
+    static const char front[] = "c,0,advance,7\nr,advanced,7\nc,0,collect,9\nr,delivered,9,0\n";
+    struct dn_service service = {0};
+    struct dn_caller caller = {0};
+    HOLDS(dn_service_open(&service, &caller, 1) == DN_OK);
+    fill();
+    HOLDS(dn_service_texts(&service, text, sizeof text, &number, &other) == DN_NO_ENTRY && untouched());
+    HOLDS(dn_caller_advance(&caller, 7, &number, &holder) == DN_OK && dn_caller_collect(&caller, 9, &number, &holder) == DN_OK);
+    HOLDS(dn_caller_show(&caller, &number, &holder) == DN_OK && dn_service_take(&service, &number, &other, &holder) == DN_OK && other == 3);
+    fill();
+    HOLDS(dn_service_texts(&service, text, 0, &number, &other) == DN_ROOM && number == sizeof first - 1);
+    HOLDS(dn_service_texts(&service, text, sizeof first - 2, &number, &other) == DN_ROOM && number == sizeof first - 1);
+    HOLDS(other == 77 && are_77(text, sizeof text));
+    HOLDS(dn_service_texts(&service, text, sizeof front + sizeof third - 3, &number, &other) == DN_OK && number == sizeof front - 1 && other == 2);
+    HOLDS(memcmp(text, front, sizeof front - 1) == 0 && are_77(text + sizeof front - 1, sizeof text - sizeof front + 1));
+    HOLDS(dn_service_take(&service, &number, &other, &holder) == DN_UNWRITTEN);
+    HOLDS(dn_service_texts(&service, text, sizeof third - 1, &number, &other) == DN_OK && number == sizeof third - 1 && other == 1);
+    HOLDS(memcmp(text, third, sizeof third - 1) == 0 && memcmp(text + sizeof third - 1, front + sizeof third - 1, sizeof front - sizeof third) == 0);
+    HOLDS(dn_service_texts(&service, text, sizeof text, &number, &other) == DN_NO_ENTRY && other == 1 && holder == 77);
+    HOLDS(dn_caller_advance(&caller, 9, &number, &holder) == DN_OK && dn_caller_collect(&caller, 9, &number, &holder) == DN_OK);
+    HOLDS(dn_service_take(&service, &number, &other, &holder) == DN_OK && number == 3 && other == 2);
+    HOLDS(dn_service_text(&service, text, sizeof text, &number) == DN_OK && dn_service_texts(&service, text, sizeof text, &number, &other) == DN_OK);
+    HOLDS(number == sizeof second - 1 && other == 1 && memcmp(text, second, sizeof second - 1) == 0);
+    HOLDS(dn_service_close(&service) == DN_OK && dn_caller_close(&caller) == DN_OK);
+}
+
 int main(void) {
     struct dn_service service = {0};
     struct dn_caller callers[2] = {{0}};
@@ -199,6 +228,7 @@ int main(void) {
     flows_and_wakes(&callers[0], &callers[1]);
     HOLDS(dn_service_close(&service) == DN_OK && dn_caller_close(&callers[0]) == DN_OK && dn_caller_close(&callers[1]) == DN_OK);
     entries();
+    many_entries();
     printf("%d of %d hold\n", tried - failed, tried);
     return failed != 0;
 }

@@ -34,14 +34,17 @@ static const char *const LINES[] = {"pipe 1 config bw 8Mbit/s delay 2 queue 20",
 
 static void write_history(struct dn_service *service) {
     static uint8_t text[1 << 16];
-    uint64_t start = 0, count = 0, length = 0, holder = 0;
+    uint64_t start = 0, count = 0, length = 0, holder = 0, some;
     ASKED(dn_service_take(service, &start, &count, &holder));
     mix(&start, sizeof start);
-    for (; count > 0; count--) {
-        ASKED(dn_service_text(service, text, sizeof text, &length));
+    for (; count > 0; count -= some) {
+        some = 1;
+        if (count & 1) ASKED(dn_service_text(service, text, sizeof text, &length));
+        else ASKED(dn_service_texts(service, text, 1000, &length, &some));
         mix(text, length);
     }
     ASKED(dn_service_text(service, text, sizeof text, &length));
+    ASKED(dn_service_texts(service, text, sizeof text, &length, &some));
 }
 
 static void calls(struct dn_service *service, struct dn_caller *callers) {

@@ -5,3 +5,4 @@ mod hand_out;
 mod open;
 mod take;
 mod text;
+mod texts;

@@ -1,0 +1,11 @@
+-- The texts of the entries so far fit.
+use Rattle.std.proofs.Common.{◌≡◌, ◌≤◌, length, take}
+use Rattle.dn_history.specs.HistoryText.{part_text}
+use Rattle.hingetulip_c.proofs.history_lines.texts_within.Given as goal
+
+abbrev pub invariant-loop-count : goal.invariant-loop-count
+invariant-loop-count l = record {
+  so_far : l.writer.text ≡ part_text (take l.count l.entries);
+  size : l.size ≡ length l.writer.text;
+  fits : l.size ≤ l.room;
+}

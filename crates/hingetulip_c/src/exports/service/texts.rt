@@ -1,0 +1,33 @@
+ghost use Rattle.std.specs.Prelude.{◌≡◌, ◌≢◌, ◌⊎◌, ◌<◌, ◌≤◌, [], drop, length, take};
+ghost use Rattle.hingetulip_c.specs.Services.{WroteMany, count_waiting, next_length};
+
+use crate::service_handle::ServiceHandle;
+use crate::status::CLOSED;
+use std::alloc::Global;
+
+/// Writes the first entries that wait, as many as have room, as lines of a history file.
+#[tactic(auto, using(crate::proofs::Serving::wrote_many))]
+#[unsafe(no_mangle)]
+pub extern "C" fn dn_service_texts(
+    alloc: Global,
+    service: &mut ServiceHandle,
+    text: &mut [u8],
+    size: &mut u64,
+    count: &mut u64,
+) -> u32
+    ensures wrote { result ≡ 0 → WroteMany count.new (length text.old) (take size.new text.new) service.old.held service.new.held }
+    ensures within { result ≡ 0 → size.new ≤ length text.new }
+    ensures others { result ≡ 0 → drop size.new text.new ≡ drop size.new text.old }
+    ensures refused { result ≢ 0 → (service.new.held ≡ service.old.held) × (text.new ≡ text.old) × (count.new ≡ count.old) }
+    ensures why { result ≢ 0 → ((result ≡ 5) × (service.old.held ≡ [])) ⊎ ((result ≡ 6) × (service.old.held ≢ []))
+        ⊎ ((result ≡ 7) × (size.new ≡ next_length service.old.held) × (length text.old < size.new)) ⊎ ((result ≡ 18) × (service.old.held ≢ []) × (count_waiting service.old.held ≡ 0)) }
+    ensures memory { result ≡ 6 → count_waiting service.old.held ≢ 0 }
+    ensures size { result ≢ 0 → result ≢ 7 → size.new ≡ size.old }
+{
+    let Some(mut ledger) = service.take(alloc) else {
+        return CLOSED;
+    };
+    let status = ledger.write_many(alloc, text, size, count);
+    let _none = service.put(alloc, ledger);
+    status
+}
