@@ -44,8 +44,8 @@ class Handle(Structure):
 
 FUNCTIONS = ("dn_version", "dn_open", "dn_open_with_key", "dn_close", "dn_configure", "dn_submit", "dn_submit_many", "dn_advance",
              "dn_collect", "dn_show", "dn_wake")
-# A library of before 1.2 lacks these. It serves those who don't call them.
-LATER_FUNCTIONS = ("dn_reserve", "dn_submit_text", "dn_advance_text", "dn_collect_text")
+# A library of before 1.2 lacks these, and one of before 1.3 the last. It serves those who don't call them.
+LATER_FUNCTIONS = ("dn_reserve", "dn_submit_text", "dn_advance_text", "dn_collect_text", "dn_configure_text")
 
 
 def failure(status: int) -> HingetulipError:

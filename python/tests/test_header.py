@@ -16,7 +16,7 @@ HEADER, SERVICE_HEADER = ((INCLUDE / f"{name}.h").read_text() for name in ("hing
 RUST, RUST_SERVICE, RUST_ERRORS = (
     (TOP / "rust" / "hingetulip" / "src" / f"{name}.rs").read_text() for name in ("raw", "raw_service", "error")
 )
-LEFT_OUT = {"dn_open", "dn_submit_text", "dn_advance_text", "dn_collect_text"}
+LEFT_OUT = {"dn_open", "dn_configure_text", "dn_submit_text", "dn_advance_text", "dn_collect_text"}
 DECLARED = (
     (RUST, HEADER, "dn_status", LEFT_OUT),
     (RUST_SERVICE, SERVICE_HEADER, "dn_service_status", {"dn_service_open", "dn_service_text"}),

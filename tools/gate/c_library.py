@@ -136,6 +136,7 @@ def main(seed: str, count: str) -> int:
                 said = done.stdout.decode(errors="replace")
                 tally.note(f"scenario {number}, {way}", "" if done.returncode == 0 else f"status {done.returncode}\n{said}")
         ends_well(tally, "arguments", [program(place, "arguments")])
+        ends_well(tally, "texts of lines", [program(place, "line_texts")])
         wrapped = "-Wl,--wrap=rattle_alloc,--wrap=rattle_realloc"
         for name in ("growths", "reserved"):
             ends_well(tally, name, [program(place, name, TOOLS / "gate" / "refused_growths.c", wrapped)])

@@ -22,7 +22,7 @@ from tally import Tally
 
 EXAMPLES = TOOLS.parent / "examples"
 CALLS = 150
-KINDS = ("submit", "advance", "collect")
+KINDS = ("configure", "submit", "advance", "collect")
 
 
 def session(dummynet: str, rng: Random, number: int) -> bytes:

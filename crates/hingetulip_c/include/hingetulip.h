@@ -59,7 +59,7 @@ enum dn_status {
     DN_BAD_RESERVED = 14,   /* a field `reserved` that isn't 0 */
     DN_NEW_FLOW = 19,       /* the packet's flow is new, so that no room was made for it; 15 to 18 are hingetulip_service.h's */
     DN_BAD_CALLER = 20,     /* the number of a history's caller isn't in 0 to 15 */
-    DN_BAD_OUTCOME = 21     /* no enum dn_outcome */
+    DN_BAD_OUTCOME = 21     /* no enum dn_outcome, or no status by which dn_configure answers a command */
 };
 
 /* How the due moments of the packets on one link follow one another. */
@@ -205,9 +205,15 @@ uint32_t dn_show(struct dn_handle *handle, struct dn_flow *list, size_t room, ui
    comes, or DN_NEVER. Each dn_collect before it gives nothing. It changes nothing, and counts as no call. */
 uint32_t dn_wake(struct dn_handle *handle, uint64_t *moment);
 
-/* The next three write a call and its answer as lines of a history file, which `dummynet audit` checks. They use no handle. DN_OK: the
+/* The next four write a call and its answer as lines of a history file, which `dummynet audit` checks. They use no handle. DN_OK: the
    first *length bytes of `text`, which has `room` bytes, are these lines, and the others are as they were. DN_ROOM: the lines have
    *length bytes, which is more than `room`. DN_MEMORY: nothing is written. A history has callers 0 to 15, and a handle's is 0. */
+
+/* A dn_configure of the line, `size` bytes, that was answered by `status`: DN_OK, DN_EXHAUSTED or one of its three refusals, else
+   DN_BAD_OUTCOME. The line is written in its canonical form. One without words is no call: *length is 0. DN_LINE is as of
+   dn_configure, and alone writes *fault. */
+uint32_t dn_configure_text(uint64_t caller, const uint8_t *line, size_t size, uint32_t status, struct dn_fault *fault, uint8_t *text,
+                           size_t room, uint64_t *length);
 
 /* A dn_submit of the packet that was answered by the fate. `packet` of a fate is read under DN_QUEUED alone, and `flow` isn't read under
    DN_NO_TARGET. */

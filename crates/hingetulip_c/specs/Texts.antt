@@ -2,10 +2,13 @@
 use Rattle.std.specs.Prelude.{◌≡◌, ℕ, ◌≤◌, ◌<◌, ◌⊎◌, List, Bool, cond, nat_eq, not}
 use Rattle.std.specs.List.{list_any}
 use Rattle.dn_types.specs.declared.call.Call.{Call}
+use Rattle.dn_types.specs.declared.command.Command.{Command}
+use Rattle.dn_types.specs.declared.command.Command.TheVariants.{Pipe, Queue, DeletePipe, DeleteQueue}
 use Rattle.dn_types.specs.declared.delivery.Delivery.{Delivery}
 use Rattle.dn_types.specs.declared.entry.Entry.{Entry}
 use Rattle.dn_types.specs.declared.reply.Reply.{Reply}
 use Rattle.dn_types.specs.declared.reply.Reply.TheVariants.{Queued, Lost, Full, NoTarget}
+use Rattle.dn_types.specs.declared.reply.Reply.TheVariants.{Configured, Deleted, NoSuchPipe, PipeHasQueues, NoSuchQueue, Exhausted}
 use Rattle.dn_records.specs.Records.{text_of}
 use Rattle.dn_history.specs.HistoryText.{entry_records}
 use Rattle.hingetulip_c.specs.Submits.{Faulty}
@@ -45,3 +48,15 @@ delivery_of d = record { due = d.due; packet = d.packet; flow = d.flow; start = 
 -- The field `reserved` of a delivery isn't 0.
 abbrev pub has_reserved : List CDelivery → Bool
 has_reserved list = list_any (λ d. not (nat_eq d.reserved 0)) list
+
+-- The reply to a command that was obeyed.
+abbrev pub obeyed : Command → Reply
+obeyed (Pipe number bw delay limit loss buckets mask) = Configured
+obeyed (Queue number pipe weight limit loss buckets mask) = Configured
+obeyed (DeletePipe number) = Deleted
+obeyed (DeleteQueue number) = Deleted
+
+-- The reply to a command that a status tells.
+abbrev pub told_of : Command → ℕ → Reply
+told_of command status = cond (nat_eq status 0) (obeyed command)
+    (cond (nat_eq status 1) Exhausted (cond (nat_eq status 2) NoSuchPipe (cond (nat_eq status 3) PipeHasQueues NoSuchQueue)))

@@ -16,7 +16,7 @@ use std::alloc::{AllocError, Global};
 const MOST_CALLERS: u64 = 16;
 
 /// The caller of this number, or None if no history has one.
-fn caller_of(number: u64) -> Option<usize>
+pub(crate) fn caller_of(number: u64) -> Option<usize>
     ensures some { IfSome result (λ caller. (caller ≡ number) × (number ≤ 15)) }
     ensures none { IfNone result (15 < number) }
 {

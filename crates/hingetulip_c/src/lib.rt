@@ -3,6 +3,7 @@
 
 mod caller_handle;
 mod client;
+mod command_lines;
 mod convert;
 mod copy;
 mod copy_part;

@@ -28,10 +28,14 @@ static const char *const LINES[] = {"pipe 1 config bw 8Mbit/s delay 2 queue 20",
                                     "queue 1 config pipe 2 weight 3 mask dst-port 3", "queue 2 config pipe 2 weight 1",
                                     "pipe 3 config plr 0.2 mask src-ip 0xff"};
 
-/* The text of a packet, and of a collect. */
+/* The text of a line, of a packet and of a collect. */
 static void write_texts(const struct dn_packet *packet, const struct dn_fate *fate, const struct dn_delivery *list, uint64_t count) {
     static uint8_t text[1 << 16];
     uint64_t length = 0;
+    const uint8_t *line = (const uint8_t *)LINES[packet->number];
+    struct dn_fault fault;
+    ASKED(dn_configure_text(3, line, strlen(LINES[packet->number]), DN_OK, &fault, text, sizeof text, &length));
+    mix(text, length);
     ASKED(dn_submit_text(3, packet, fate, text, sizeof text, &length));
     mix(text, length);
     ASKED(dn_advance_text(3, packet->moment, packet->moment, text, sizeof text, &length));

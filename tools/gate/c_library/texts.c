@@ -2,9 +2,10 @@
 
        ./texts < HISTORY > AGAIN
 
-   A submit, an advance and a collect are made on a handle, and written with the answers by dn_submit_text, dn_advance_text
-   and dn_collect_text. A configuration line is obeyed. It is copied as it is, and so are all other lines. So both files are
-   equal. Each text is asked for with too little room first, and then with just enough on the heap. */
+   A configure, a submit, an advance and a collect are made on a handle, and written with the answers by dn_configure_text,
+   dn_submit_text, dn_advance_text and dn_collect_text. The line of a configure is spelled otherwise before that. All other
+   lines are copied as they are. So both files are equal. Each text is asked for with too little room first, and then with
+   just enough on the heap. */
 #include "hingetulip.h"
 #include <stdio.h>
 #include <stdlib.h>
@@ -13,7 +14,10 @@
 enum { LONGEST_LINE = 1 << 16, MOST_FIELDS = 13, MOST_PACKETS = 1 << 16 };
 
 struct made {
-    enum { SUBMIT, ADVANCE, COLLECT } kind;
+    enum { CONFIGURE, SUBMIT, ADVANCE, COLLECT } kind;
+    const uint8_t *line;
+    size_t size;
+    uint32_t status;
     uint64_t caller, moment, at, count;
     struct dn_packet packet;
     struct dn_fate fate;
@@ -31,7 +35,9 @@ static void wanted(const char *what, bool so) {
 }
 
 static uint32_t text_of(const struct made *made, uint8_t *text, size_t room, uint64_t *length) {
+    struct dn_fault fault;
     switch (made->kind) {
+    case CONFIGURE: return dn_configure_text(made->caller, made->line, made->size, made->status, &fault, text, room, length);
     case SUBMIT: return dn_submit_text(made->caller, &made->packet, &made->fate, text, room, length);
     case ADVANCE: return dn_advance_text(made->caller, made->moment, made->at, text, room, length);
     default: return dn_collect_text(made->caller, made->moment, made->at, made->list, made->count, text, room, length);
@@ -100,9 +106,25 @@ static int split(char *text, char **field) {
     return count;
 }
 
-static void obey(const char *line) {
+/* The line with other bytes between its words, and with a note that is no part of the command. */
+static size_t respelled(const char *line, char *other) {
+    strcpy(other, "\tipfw");
+    for (size_t at = strlen(other); *line; at += strlen(other + at)) {
+        size_t word = strcspn(line, " ");
+        sprintf(other + at, "\r \t%.*s", (int)word, line);
+        line += word + (line[word] == ' ');
+    }
+    return strlen(strcat(other, " # \"a\", b"));
+}
+
+/* Obeys a line, and writes it. */
+static void obey(char **field) {
+    static char other[4 * LONGEST_LINE];
     struct dn_fault fault;
-    wanted("a line", dn_configure(&handle, (const uint8_t *)line, strlen(line), &fault) <= DN_NO_SUCH_QUEUE);
+    struct made made = {.kind = CONFIGURE, .caller = number(field[1]), .line = (const uint8_t *)other, .size = respelled(field[3], other)};
+    made.status = dn_configure(&handle, made.line, made.size, &fault);
+    wanted("a line", made.status <= DN_NO_SUCH_QUEUE);
+    write_text(&made);
 }
 
 /* Whether a line is written by the library, as those behind it. */
@@ -112,9 +134,9 @@ static bool is_made(char *text) {
     strcpy(fields, text);
     fields[strcspn(fields, "\n")] = 0;
     int count = split(fields, field);
-    if (count == 4 && strcmp(field[2], "configure") == 0) obey(field[3]);
+    if (count == 4 && strcmp(field[2], "configure") == 0) obey(field);
     else if (count >= 4) make(field, count);
-    return count >= 4 && strcmp(field[2], "configure") != 0;
+    return count >= 4;
 }
 
 int main(void) {

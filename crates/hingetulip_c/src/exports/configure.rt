@@ -10,33 +10,14 @@ ghost use Rattle.hingetulip_c.specs.Faults.{fault_of, no_text};
 ghost use Rattle.hingetulip_c.specs.Handles.{HeldAfter, StillHeld, CanLackMemory};
 ghost use Rattle.hingetulip_c.specs.Statuses.{taken, configure_status};
 
+use crate::command_lines::fault_of;
 use crate::handle::Handle;
 use crate::records::CFault;
 use crate::status::{LINE, OK};
 use crate::written::command_status;
-use dn_config::{LineFault, parse_line};
+use dn_config::parse_line;
 use dn_types::Call;
 use std::alloc::Global;
-
-/// The fault, with the numbers of the header.
-pub(crate) fn fault_of(found: &LineFault) -> CFault
-    ensures { result ≡ fault_of found.now }
-{
-    let kind = match found {
-        LineFault::UnknownWord(_) => 1,
-        LineFault::MissingValue(_) => 2,
-        LineFault::BadNumber(_) => 3,
-        LineFault::OutOfRange(_) => 4,
-        LineFault::LeftOut(_) => 5,
-        LineFault::NeedsPipe(_) => 6,
-        LineFault::OutOfMemory => 7,
-    };
-    CFault {
-        word: found.position().unwrap_or(0) as u64,
-        kind,
-        reserved: 0,
-    }
-}
 
 /// Obeys a line of a configuration.
 #[unsafe(no_mangle)]

@@ -2,4 +2,5 @@
 
 mod advance;
 mod collect;
+mod configure;
 mod submit;

@@ -8,10 +8,9 @@ ghost use Rattle.hingetulip_c.specs.Faults.{fault_of, no_text};
 ghost use Rattle.hingetulip_c.specs.Statuses.{taken, configure_status};
 
 use crate::caller_handle::CallerHandle;
-use crate::exports::configure::fault_of;
+use crate::command_lines::command_of;
 use crate::records::CFault;
-use crate::status::{CLOSED, LINE, OK};
-use dn_config::parse_line;
+use crate::status::{CLOSED, OK};
 use dn_types::{Call, Command};
 use std::alloc::Global;
 
@@ -53,20 +52,9 @@ pub extern "C" fn dn_caller_configure(
     ensures answered { taken result ≡ true → (command : CommandValue) → answer line.now ≡ Ok (Some command) → AnsweredBy (Configure command) caller.old.held caller.new.held }
     ensures status { taken result ≡ true → (command : CommandValue) → answer line.now ≡ Ok (Some command) → result ≡ configure_status (last_reply caller.new.held) }
 {
-    let Ok(text) = std::str::from_utf8(line) else {
-        *fault = CFault {
-            word: 0,
-            kind: 0,
-            reserved: 0,
-        };
-        return LINE;
-    };
-    match parse_line(text) {
+    match command_of(line, fault) {
+        Err(bad) => bad,
         Ok(None) => OK,
         Ok(Some(command)) => obey(alloc, caller, command, holder),
-        Err(found) => {
-            *fault = fault_of(&found);
-            LINE
-        }
     }
 }
