@@ -2,17 +2,19 @@
 
 from __future__ import annotations
 
-from ctypes import byref, c_char, c_size_t, c_uint64
+from ctypes import byref, c_char, c_size_t, c_uint32, c_uint64
 from pathlib import Path
 from typing import Any, BinaryIO, Callable, Optional, Union
 
 from hingetulip.batches import Deliveries, Fates, Packets
 from hingetulip.errors import HingetulipError, RefusedError
-from hingetulip.library import CALLS, LIBRARY, ROOM, failure
+from hingetulip.layout import FAULT
+from hingetulip.library import CALLS, FAILURES, LIBRARY, ROOM, failure
 from hingetulip.records import Delivery, Fate
-from hingetulip.shaper import Shaper, Turn
+from hingetulip.shaper import Line, Shaper, Turn, encoded
 
 CALLER = c_uint64(0)
+ANSWERED = {0, *(status for status, (kind, _) in FAILURES.items() if kind is RefusedError)}  # which a command was
 ONE_BY_ONE = "a recorded shaper takes packets one by one"
 
 
@@ -47,11 +49,12 @@ class RecordedShaper(Shaper):
     """
 
     def __init__(self, path: Union[str, Path], *, seed: Optional[int] = None) -> None:
-        if not hasattr(CALLS, "dn_submit_text"):
-            raise HingetulipError(f"the library {LIBRARY} is of before 1.2 and writes no entries")
+        if not hasattr(CALLS, "dn_configure_text"):
+            raise HingetulipError(f"the library {LIBRARY} is of before 1.3 and doesn't write all entries")
         super().__init__(seed=seed)
         self.path, self.entries = Path(path), 0
         self._noting, self._text = Turn(), EntryText()
+        self._fault = byref((c_char * FAULT.size)())  # of a line that was refused before it is written
         # The arguments of short texts are made once, as those of calls.
         self._short, room = self._text.room
         self._submit_text = CALLER, *self._submitted[1:], *room
@@ -59,8 +62,9 @@ class RecordedShaper(Shaper):
         self.file: Optional[BinaryIO] = open(path, "wb")
         self.file.write(b"dummynet-history,3\n")
 
-    def _note(self, text: Union[bytes, memoryview]) -> None:
-        if self.file is not None:
+    def _note(self, text: memoryview) -> None:
+        """Notes an entry, if there is one: a line without words is no call."""
+        if self.file is not None and text:
             self.entries += 1
             self.file.write(text)
 
@@ -70,20 +74,14 @@ class RecordedShaper(Shaper):
             raise failure(status)
         self._note(self._short[:self._text.length.value])
 
-    def _note_line(self, text: str, reply: str) -> None:
-        self._note(f"c,0,configure,{text}\nr,{reply}\n".encode())
-
-    def configure(self, line: Union[str, bytes]) -> None:
-        # A carriage return separates words of a line, and would end a record.
-        text = " ".join((line if isinstance(line, str) else bytes(line).decode(errors="replace")).partition("#")[0].split())
+    def configure(self, line: Line) -> None:
+        text = encoded(line)
         with self._noting:
-            try:
-                super().configure(line)
-            except RefusedError as refused:
-                self._note_line(text, str(refused).replace(" ", "-"))
-                raise
-            if text:
-                self._note_line(text, "deleted" if "delete" in text.split() else "configured")
+            status = self._obeyed(text)
+            if status in ANSWERED:
+                asked = text, c_size_t(len(text)), c_uint32(status), self._fault
+                self._note(self._text.written(CALLS.dn_configure_text, *asked))
+            self._succeed(status)
 
     def submit(self, moment: int, length: int, *, pipe: Optional[int] = None, queue: Optional[int] = None, src: int = 0, dst: int = 0,
                proto: int = 0, sport: int = 0, dport: int = 0, word: Optional[int] = None) -> Fate:

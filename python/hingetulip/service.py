@@ -19,7 +19,7 @@ from hingetulip.history_file import HistoryFile
 from hingetulip.layout import DELIVERY, FATE, FAULT, FLOW, PACKET, Layout
 from hingetulip.library import FAULT_KINDS, LIBRARY, LINE, NEVER, ROOM, Handle, failure
 from hingetulip.records import Delivery, Fate, FlowStatus
-from hingetulip.shaper import NEITHER_OR_BOTH, NOTHING, SECRET, pack_moment, read_flow, unpackable
+from hingetulip.shaper import NEITHER_OR_BOTH, NOTHING, SECRET, encoded, pack_moment, read_flow, unpackable
 
 BUSY, NO_ENTRY = 15, 18
 FUNCTIONS = ("dn_service_open", "dn_service_open_with_key", "dn_service_close", "dn_caller_close", "dn_caller_configure", "dn_caller_submit",
@@ -116,7 +116,7 @@ class Caller:
 
     def configure(self, line: Union[str, bytes, bytearray, memoryview]) -> None:
         """Obeys one line of a configuration, as Shaper.configure does, with the same exceptions."""
-        text = bytes(line) if isinstance(line, (bytes, bytearray, memoryview)) else line.encode("utf-8", "surrogatepass")
+        text = encoded(line)
         fault = (c_char * FAULT.size)()
         with self._turn:
             status = answered(self._calls.dn_caller_configure, self._self, text, c_size_t(len(text)), byref(fault), self._holder)

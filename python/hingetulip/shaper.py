@@ -23,6 +23,11 @@ NOTHING = memoryview(b"")
 pack_packet, unpack_fate, iterate_deliveries = PACKET.record.pack_into, FATE.record.unpack, DELIVERY.record.iter_unpack
 pack_moment = Struct("=Q").pack_into
 SECRET = Struct("=QQ")
+Line = Union[str, bytes, bytearray, memoryview]
+
+
+def encoded(line: Line) -> bytes:
+    return bytes(line) if isinstance(line, (bytes, bytearray, memoryview)) else line.encode("utf-8", "surrogatepass")
 
 
 def unpackable(**fields: Any) -> Exception:
@@ -137,19 +142,22 @@ class Shaper:
     def __repr__(self) -> str:
         return f"<hingetulip.Shaper, {'closed' if self.closed else 'open'}>"
 
-    def configure(self, line: Union[str, bytes, bytearray, memoryview]) -> None:
+    def configure(self, line: Line) -> None:
         """Obeys one line of a configuration, as `pipe 1 config bw 8Mbit/s delay 20ms`. A line without words changes nothing.
 
         LineError: the line is no command. RefusedError: there is no such pipe or queue, or a pipe that it deletes has queues.
         """
-        text = bytes(line) if isinstance(line, (bytes, bytearray, memoryview)) else line.encode("utf-8", "surrogatepass")
+        self._succeed(self._obeyed(encoded(line)))
+
+    def _obeyed(self, line: bytes) -> int:
+        """The status of a line that is a command or has no words."""
         fault = (c_char * FAULT.size)()
         with self._turn:
-            status = CALLS.dn_configure(self._self, text, c_size_t(len(text)), byref(fault))
+            status: int = CALLS.dn_configure(self._self, line, c_size_t(len(line)), byref(fault))
         if status == LINE:
             word, kind = FAULT.record.unpack(fault)
             raise LineError(FAULT_KINDS[kind], word)
-        self._succeed(status)
+        return status
 
     def submit(self, moment: int, length: int, *, pipe: Optional[int] = None, queue: Optional[int] = None, src: int = 0, dst: int = 0,
                proto: int = 0, sport: int = 0, dport: int = 0, word: Optional[int] = None) -> Fate:

@@ -5,6 +5,7 @@ from __future__ import annotations
 import subprocess
 import tempfile
 import unittest
+from contextlib import nullcontext
 from pathlib import Path
 
 from hingetulip import LineError, Outcome, RefusedError
@@ -98,6 +99,26 @@ class Recorded(unittest.TestCase):
                         call(given)
             done = subprocess.run([PROGRAM, "audit", history], capture_output=True, text=True)
         self.assertEqual(done.stdout, "lawful 12\n")
+
+    def test_lines_are_written_in_their_canonical_form(self) -> None:
+        lines = {
+            "pipe 1 config bw\r8Mbit/s": "pipe 1 config bw 8000000bit/s",
+            "\tipfw pipe 2\rdelete # \"a\", b\r": "pipe delete 2",
+            b"queue\t1 config weight 3 \r\r pipe 1 weight 1": "queue 1 config pipe 1",
+            "queue 1 config pipe 9": "queue 1 config pipe 9",
+            "queue delete 7": "queue delete 7", "pipe 1 delete": "pipe delete 1", "queue 1 delete": "queue delete 1"
+        }
+        replies = ("configured", "no-such-pipe", "configured", "no-such-pipe", "no-such-queue", "pipe-has-queues", "deleted")
+        with tempfile.TemporaryDirectory() as folder:
+            history = Path(folder) / "h"
+            with RecordedShaper(history) as shaper:
+                for line, reply in zip(lines, replies):
+                    with nullcontext() if reply in ("configured", "deleted") else self.assertRaises(RefusedError):
+                        shaper.configure(line)
+            done = subprocess.run([PROGRAM, "audit", history], capture_output=True, text=True)
+            text = history.read_bytes().decode()
+        wanted = "".join(f"c,0,configure,{line}\nr,{reply}\n" for line, reply in zip(lines.values(), replies))
+        self.assertEqual((done.stdout, text), ("lawful 7\n", f"dummynet-history,3\n{wanted}end,7\n"))
 
     def test_its_texts_are_the_programs(self) -> None:
         with tempfile.TemporaryDirectory() as folder:
