@@ -270,7 +270,10 @@ lets-go target keys queues queues' m m' flow a keeps others go idle = listed-but
 -- ---- The queues that are let go keep their packets
 
 pub keep-none : (queues : List FlowQueue) → KeepQueues queues queues
-keep-none queues = record { each = λ flow q e. (q, e, record { front = refl; back = refl; len = refl; bytes = refl; active = refl; started = refl }); many = refl }
+keep-none queues = record {
+  each = λ flow q e. (q, e, record { front = refl; back = refl; len = refl; bytes = refl; active = refl; started = refl; reserved = λ on. refl });
+  many = refl;
+}
 
 pub keep-more : (old mid new : List FlowQueue) → KeepQueues old mid → KeepQueues mid new → KeepQueues old new
 keep-more old mid new a b = record {
@@ -286,24 +289,25 @@ keep-more old mid new a b = record {
           bytes = y.2.bytes ∙ x.2.bytes;
           active = y.2.active ∙ x.2.active;
           started = y.2.started ∙ x.2.started;
+          reserved = λ on. y.2.reserved (x.2.active ∙ on) ∙ x.2.reserved on;
         },
       );
   many = b.many ∙ a.many;
 }
 
-without-keeps : (target : Target) (q : FlowQueue) → KeepsQueue q (without_list target q)
-without-keeps (ToPipe p) q = record { front = refl; back = refl; len = refl; bytes = refl; active = refl; started = refl }
-without-keeps (ToQueue n) q = record { front = refl; back = refl; len = refl; bytes = refl; active = refl; started = refl }
+without-keeps : (target : Target) (q : FlowQueue) → q.active ≡ false → KeepsQueue q (without_list target q)
+without-keeps (ToPipe p) q e = record { front = refl; back = refl; len = refl; bytes = refl; active = refl; started = refl; reserved = λ on. absurd cc }
+without-keeps (ToQueue n) q e = record { front = refl; back = refl; len = refl; bytes = refl; active = refl; started = refl; reserved = λ on. absurd cc }
 
 pub keep-let : (target : Target) (flow : ℕ) (old new : List FlowQueue) → LetsGo target flow old new → KeepQueues old new
 keep-let target flow old new go = record { each = λ g q' e. by g q' e (cases_eq g flow); many = go.many }
   where
     same : (q : FlowQueue) → KeepsQueue q q
-    same q = record { front = refl; back = refl; len = refl; bytes = refl; active = refl; started = refl }
+    same q = record { front = refl; back = refl; len = refl; bytes = refl; active = refl; started = refl; reserved = λ on. refl }
 
     kept : (q q' : FlowQueue) → ((q.active ≡ true) × (q' ≡ q)) ⊎ ((q.active ≡ false) × (q' ≡ without_list target q)) → KeepsQueue q q'
     kept q q' (inl e) = subst (KeepsQueue q) (sym e.1) (same q)
-    kept q q' (inr e) = subst (KeepsQueue q) (sym e.1) (without-keeps target q)
+    kept q q' (inr e) = subst (KeepsQueue q) (sym e.1) (without-keeps target q e.0)
 
     by : (g : ℕ) (q' : FlowQueue) → slice_get new g ≡ Some q' → (g ≡ flow) ⊎ (g ≡ flow → ⊥) → (q : FlowQueue) × (slice_get old g ≡ Some q) × KeepsQueue q q'
     by g q' e (inl is) = let h = go.here q' (ap (slice_get new) (sym is) ∙ e) in (h.0, ap (slice_get old) is ∙ h.1, kept h.0 q' h.2)

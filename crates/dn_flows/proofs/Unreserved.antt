@@ -21,13 +21,13 @@ still-stored store old new k are = record {
 }
 
 same-state : (s : FlowState) → OnlyUnreserves s s
-same-state s = record { backlog = refl; active = refl; lost = refl; full = refl; started = refl; discarded = refl }
+same-state s = record { backlog = refl; active = refl; lost = refl; full = refl; started = refl; discarded = refl; reserved = λ on. refl }
 
 state-kept : (store : Packets) (q q' : FlowQueue) → KeepsQueue q q' → OnlyUnreserves (state_of store q) (state_of store q')
-state-kept store q q' k = record { backlog = λ i. waiting_from store (k.front i) (k.len i); active = k.active; lost = refl; full = refl; started = k.started; discarded = refl }
+state-kept store q q' k = record { backlog = λ i. waiting_from store (k.front i) (k.len i); active = k.active; lost = refl; full = refl; started = k.started; discarded = refl; reserved = k.reserved }
 
 with-counts : (u : Unsent) (s t : FlowState) → OnlyUnreserves s t → OnlyUnreserves (with_unsent u s) (with_unsent u t)
-with-counts u s t o = record { backlog = o.backlog; active = o.active; lost = refl; full = refl; started = o.started; discarded = refl }
+with-counts u s t o = record { backlog = o.backlog; active = o.active; lost = refl; full = refl; started = o.started; discarded = refl; reserved = o.reserved }
 
 first-kept : (q q' : FlowQueue) (old new : List FlowQueue) → KeepQueues (q ∷ old) (q' ∷ new) → KeepsQueue q q'
 first-kept q q' old new k =

@@ -68,6 +68,7 @@ pub record KeepsQueue (q q' : FlowQueue) : Type 0 where
   pub bytes : q'.bytes ≡ q.bytes
   pub active : q'.active ≡ q.active
   pub started : q'.started ≡ q.started
+  pub reserved : q.active ≡ true → q'.reserved ≡ q.reserved
 
 pub record KeepQueues (old new : List FlowQueue) : Type 0 where
   pub each : (flow : ℕ) (q' : FlowQueue) → slice_get new flow ≡ Some q' → (q : FlowQueue) × (slice_get old flow ≡ Some q) × KeepsQueue q q'

@@ -103,7 +103,7 @@ abbrev pub is_at : Target → FlowKey → Bool
 is_at (ToPipe pipe) key = is_on pipe key
 is_at (ToQueue queue) key = is_of queue key
 
--- The flow is the same but for the place that may have been reserved.
+-- The flow is the same, except that it may have lost a reserved place if it isn't active.
 pub record OnlyUnreserves (old new : FlowState) : Type 0 where
   pub backlog : new.backlog ≡ old.backlog
   pub active : new.active ≡ old.active
@@ -111,3 +111,4 @@ pub record OnlyUnreserves (old new : FlowState) : Type 0 where
   pub full : new.full ≡ old.full
   pub started : new.started ≡ old.started
   pub discarded : new.discarded ≡ old.discarded
+  pub reserved : old.active ≡ true → new.reserved ≡ old.reserved
