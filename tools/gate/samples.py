@@ -1,4 +1,5 @@
-"""The samples of the READMEs: each is code of a test or of the program, which rt has proved and run.
+"""The samples of the READMEs, each of which is code of a test or of the program that rt has proved and run, and the counts of definitions
+that docs/TRUST.md and README.md have.
 
     python3 tools/gate/samples.py
 
@@ -10,6 +11,7 @@ regard to comments and spaces, and may have `use` lines before it: of names that
 from __future__ import annotations
 
 import re
+import subprocess
 import sys
 from pathlib import Path
 from typing import NamedTuple
@@ -55,8 +57,22 @@ def in_sources() -> dict[tuple[str, int], Code]:
     return found
 
 
+def counted(tally: Tally) -> None:
+    """The lines to believe, as tools/laws/lines_to_believe.py counts them."""
+    script = [sys.executable, TOP / "tools" / "laws" / "lines_to_believe.py", TOP]
+    rows = subprocess.run(script, capture_output=True, text=True, check=True).stdout.splitlines()
+    page = (TOP / "docs" / "TRUST.md").read_text().partition("| Promise |")[2].partition("\n\n")[0]
+    for row in page.splitlines()[2:]:
+        tally.note(f"docs/TRUST.md: {row.split('|')[1].strip()}", "" if row in rows else "isn't what lines_to_believe.py counts")
+    lines, emulation, service = [cell.strip() for cell in rows[2].split("|")][3:6]
+    told = f"believe {lines} lines of definitions: {emulation} of the emulation"
+    readme = " ".join((TOP / "README.md").read_text().split())
+    tally.note("README.md", "" if told in readme and f"and {service} of the service" in readme else f"isn't {told} and {service} of the service")
+
+
 def main() -> int:
     tally = Tally()
+    counted(tally)
     sources = in_sources()
     for crate in sorted(path.parent.name for path in TOP.glob("crates/*/README.md")):
         samples = SAMPLE.findall((TOP / "crates" / crate / "README.md").read_text())
