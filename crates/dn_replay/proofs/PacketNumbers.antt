@@ -10,7 +10,7 @@ use Rattle.dn_types.specs.Links.{free}
 use Rattle.dn_types.specs.Replies.{counted_reply, reply, reply_to_verdict}
 use Rattle.dn_types.specs.SharedLinks.{waiting, opening}
 use Rattle.dn_types.specs.Starts.{start_at, settled}
-use Rattle.dn_types.specs.Trace.{Link, Accepted, Event, opened, arrived, started, lost, refused, discarded, accepted_count, is_arrival}
+use Rattle.dn_types.specs.Trace.{Accepted, Event, arrived, started, lost, refused, discarded, accepted_count, is_arrival}
 use Rattle.dn_types.specs.declared.call.Call.{Call}
 use Rattle.dn_types.specs.declared.call.Call.TheVariants.{Configure, Submit}
 use Rattle.dn_types.specs.declared.command.Command.{Command}
@@ -22,6 +22,7 @@ use Rattle.dn_types.specs.declared.rule.Rule.TheVariants.{Ordered}
 use Rattle.dn_types.specs.declared.target.Target.{Target}
 use Rattle.dn_types.proofs.CallCounts.{settled-count}
 use Rattle.dn_types.proofs.Giving.{count-event}
+use Rattle.dn_types.proofs.StepFacts.{opened-count}
 use Rattle.dn_replay.specs.Kept.{fate_of, is_accepted}
 
 -- An event that is no arrival.
@@ -40,10 +41,6 @@ joined set at q trace = by (nat_le (free q.link trace) at)
     by : (b : Bool) → accepted_count (cond b (started (start_at set q.link q at) ∷ arrived q ∷ trace) (arrived q ∷ trace)) ≡ accepted_count trace + 1
     by true = other-event (started (start_at set q.link q at)) (arrived q ∷ trace) refl ∙ one-arrival q trace
     by false = one-arrival q trace
-
-opened-accepts : (b : Bool) (link : Link) (trace : List Event) → accepted_count (cond b (opened link ∷ trace) trace) ≡ accepted_count trace
-opened-accepts true link trace = other-event (opened link) trace refl
-opened-accepts false link trace = refl
 
 discards : (command : Command) (flow : ℕ) (known : List FlowKey) (trace : List Event) → accepted_count (discard_reached command flow known trace) ≡ accepted_count trace
 discards command flow [] trace = refl
@@ -69,7 +66,7 @@ verdict-accepts set at packet (loses link flow) trace = let same = other-event (
 verdict-accepts set at packet (refuses link flow) trace = let same = other-event (refused link flow) trace refl in omega (arith, same)
 verdict-accepts set at packet (takes link flow how) trace =
     let before = opening link at trace in
-    let same = opened-accepts (nat_eq (waiting link trace) 0 && nat_le (free link trace) at) link trace in
+    let same = opened-count (nat_eq (waiting link trace) 0 && nat_le (free link trace) at) link trace in
     let one = joined set at (accept link packet flow how before) before in
     omega (arith, same, one)
 

@@ -1,6 +1,6 @@
 -- What starts while packets are still to be given that were due by an earlier clock: they stay first.
 use Rattle.std.proofs.Common.{◌≡◌, ◌∙◌, sym, ap, refl, ℕ, zero, suc, ◌+◌, ◌<◌, ◌≤◌, ◌⊎◌, inl, inr, arith, length, drop, get_or, List, [], ◌∷◌, ◌++◌, Bool, true, false, cond, ◌&&◌}
-use Rattle.std.specs.Prelude.{nat_le, nat_eq, slice_get, option_map, Option, Some, None}
+use Rattle.std.specs.Prelude.{nat_le, nat_eq, option_map, Option, Some, None}
 use Rattle.std.specs.List.{All}
 use Rattle.std.specs.Cmp.{ranks}
 use Rattle.std.specs.Ordering.{is_lt, nat_cmp, ordering_then, MatchOrdering}
