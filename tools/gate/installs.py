@@ -294,8 +294,18 @@ def as_packages(tally: Tally, copy: Path, place: Path) -> None:
     if shutil.which("lintian") is None:
         print("lintian: skipped, since it isn't on the path")
         return
+    symbols(tally, copy, place)
     told = run("lintian", "--allow-root", *sorted((place / "debs").glob("*.deb"))).stdout
     tally.equal("errors of lintian", [], re.findall(r"^E: .*", told, re.M))
+
+
+def symbols(tally: Tally, copy: Path, place: Path) -> None:
+    """The library's package names each symbol with the version that the library gives it."""
+    done(tally, "dpkg-deb -e", "dpkg-deb", "-e", place / "debs" / f"libhingetulip1_{VERSION}-1_amd64.deb", place / "control")
+    told = (place / "control" / "symbols").read_text().splitlines()[1:]
+    names = run("nm", "-D", "--defined-only", "--with-symbol-versions", copy / "release" / "libhingetulip.so.1").stdout
+    wanted = [f" {name}@{version} {version.rpartition('_')[2]}" for name, version in re.findall(r" T (dn_\w+)@@(\S+)", names)]
+    tally.equal("symbols of the library's package", sorted(wanted), told)
 
 
 def of_the_kernel(tally: Tally, copy: Path, debs: Path, kernel: Path) -> None:

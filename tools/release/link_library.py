@@ -1,16 +1,18 @@
 """Makes the C library of the archive that rt has built of crates/hingetulip_c: libhingetulip.a and libhingetulip.so.1.
 
     python3 tools/release/link_library.py ARCHIVE FOLDER
+    python3 tools/release/link_library.py --symbols < NAMES
 
 The toolchain's small C file between its allocator and malloc goes into both, so that a program needs nothing beside them. The
 shared one gives out the names of the headers alone. Each has the version that it came with: a program that needs a later one than the
-library has is refused when it starts.
+library has is refused when it starts. With --symbols it prints the names with their versions, in the form of Debian's deb-symbols(5).
 """
 
 from __future__ import annotations
 
 import subprocess
 import sys
+from fnmatch import fnmatch
 from pathlib import Path
 from tempfile import TemporaryDirectory
 
@@ -22,6 +24,16 @@ VERSIONS = {
     "HINGETULIP_1.2": ("dn_reserve", "dn_submit_text", "dn_advance_text", "dn_collect_text"),
     "HINGETULIP_1.3": ("dn_configure_text", "dn_service_texts"),
 }
+
+
+def version_of(name: str) -> str:
+    """The version of a name. As for the linker, the name itself comes before a pattern that it fits."""
+    named = [version for version, names in VERSIONS.items() if name in names]
+    return next(iter([*named, *(version for version, names in VERSIONS.items() if any(fnmatch(name, it) for it in names))]))
+
+
+def symbols(names: list[str]) -> str:
+    return "".join(f" {name}@{version_of(name)} {version_of(name).rpartition('_')[2]}\n" for name in names)
 
 
 def kit_archive() -> Path:
@@ -61,4 +73,7 @@ def link(archive: Path, folder: Path) -> None:
 
 
 if __name__ == "__main__":
-    link(Path(sys.argv[1]).resolve(), Path(sys.argv[2]).resolve())
+    if sys.argv[1:] == ["--symbols"]:
+        print(symbols(sys.stdin.read().split()), end="")
+    else:
+        link(Path(sys.argv[1]).resolve(), Path(sys.argv[2]).resolve())
