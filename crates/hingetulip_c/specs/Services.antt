@@ -71,7 +71,7 @@ abbrev pub Wrote : List ℕ → List Ledger → List Ledger → Type 0
 Wrote text (b ∷ []) (a ∷ []) = Written text b a
 Wrote text _ _ = ⊥
 
--- This is the text of the first n entries that waited, with a room of so many bytes, and the others wait. The next one has no room.
+-- This is the text of the first n entries that waited. The others wait, and the next one, if there is one, has no room.
 pub record WrittenMany (n room : ℕ) (text : List ℕ) (b a : Ledger) : Type 0 where
   pub some : 0 < n
   pub count : n ≤ length (waiting b)
