@@ -1,4 +1,5 @@
 pub mod FirstLine
+pub mod LastFeed
 pub mod LineEnds
 pub mod Lines
 pub mod NextRecord

@@ -1,3 +1,5 @@
+ghost use Rattle.std.specs.Prelude.{◌≡◌, ◌==◌, ◌∷◌, ◌++◌, ℕ, List, false};
+ghost use Rattle.std.specs.List.{list_any};
 ghost use Rattle.dn_records.specs.WholeRecords.{BeginsRecords};
 
 use memchr::{memchr, memrchr};
@@ -6,7 +8,9 @@ use memchr::{memchr, memrchr};
 ///
 /// Else that is the text.
 pub fn behind_records(text: &[u8]) -> &[u8]
-    ensures { BeginsRecords text.now result.now }
+    ensures begins { BeginsRecords text.now result.now }
+    ensures last { (front rest : List ℕ) → text.now ≡ front ++ 10 ∷ rest → list_any (λ b. b == 10) rest ≡ false
+        → list_any (λ b. b == 34) front ≡ false → result.now ≡ rest }
 {
     let Some(last) = memrchr(b'\n', text) else {
         return text;

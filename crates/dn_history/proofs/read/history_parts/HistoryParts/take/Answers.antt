@@ -8,8 +8,8 @@ returns-clause-ok c = λ text entries read.
     let here = rw (← c.self.view_is) at read in
     let inside = c.self.inside in
     let batch = c.in_ok-entries.field-0 in
-    let begins = rw (c.deref.ensures.value, take_rest inside.text.items 1) at c.behind_records.ensures in
-    let whole = only-whole batch.left.now c.behind_records-2.result.now c.behind_records-2.ensures (sym c.is_empty.ensures ∙ c.if-not-is_empty.false) in
+    let begins = rw (c.deref.ensures.value, take_rest inside.text.items 1) at c.behind_records.ensures.begins in
+    let whole = only-whole batch.left.now c.behind_records-2.result.now c.behind_records-2.ensures.begins (sym c.is_empty.ensures ∙ c.if-not-is_empty.false) in
     let len : c.len.result ≡ length inside.text.items = omega (arith, c.len.ensures, inside.text.ok) in
     let back : take (length c.deref-3.result.now - (c.len.result - length c.behind_records.result.now)) (drop (c.len.result - length c.behind_records.result.now) c.deref-3.result.now)
     ≡ drop (length inside.text.items - length c.behind_records.result.now) inside.text.items =
