@@ -32,6 +32,7 @@ FAILURES: dict[int, tuple[type[HingetulipError], str]] = {
     16: (RangeError, "the number of callers isn't in 1 to 15"),
     20: (RangeError, "the number of a history's caller isn't in 0 to 15"),
     21: (RangeError, "an outcome that is none"),
+    22: (RangeError, "a row of a packet file that is none"),
 }
 FAULT_KINDS = ("not UTF-8", "unknown word", "missing value", "bad number", "out of range", "left out", "needs a pipe")
 
@@ -44,8 +45,8 @@ class Handle(Structure):
 
 FUNCTIONS = ("dn_version", "dn_open", "dn_open_with_key", "dn_close", "dn_configure", "dn_submit", "dn_submit_many", "dn_advance",
              "dn_collect", "dn_show", "dn_wake")
-# A library of before 1.2 lacks these, and one of before 1.3 the last. It serves those who don't call them.
-LATER_FUNCTIONS = ("dn_reserve", "dn_submit_text", "dn_advance_text", "dn_collect_text", "dn_configure_text")
+# A library of before 1.2 lacks these, and one of before 1.3 the last two. It serves those who don't call them.
+LATER_FUNCTIONS = ("dn_reserve", "dn_submit_text", "dn_advance_text", "dn_collect_text", "dn_configure_text", "dn_read_packets")
 
 
 def failure(status: int) -> HingetulipError:

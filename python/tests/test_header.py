@@ -16,7 +16,7 @@ HEADER, SERVICE_HEADER = ((INCLUDE / f"{name}.h").read_text() for name in ("hing
 RUST, RUST_SERVICE, RUST_ERRORS = (
     (TOP / "rust" / "hingetulip" / "src" / f"{name}.rs").read_text() for name in ("raw", "raw_service", "error")
 )
-LEFT_OUT = {"dn_open", "dn_configure_text", "dn_submit_text", "dn_advance_text", "dn_collect_text"}
+LEFT_OUT = {"dn_open", "dn_configure_text", "dn_submit_text", "dn_advance_text", "dn_collect_text", "dn_read_packets"}
 DECLARED = (
     (RUST, HEADER, "dn_status", LEFT_OUT),
     (RUST_SERVICE, SERVICE_HEADER, "dn_service_status", {"dn_service_open", "dn_service_text"}),
@@ -29,7 +29,7 @@ EXCEPTIONS = {
     "DN_PIPE_HAS_QUEUES": errors.RefusedError, "DN_NO_SUCH_QUEUE": errors.RefusedError, "DN_CLOSED": errors.ClosedError,
     "DN_MEMORY": errors.OutOfMemoryError, "DN_BAD_MOMENT": errors.RangeError, "DN_BAD_RULE": errors.RangeError,
     "DN_BAD_KIND": errors.RangeError, "DN_BAD_NUMBER": errors.RangeError, "DN_BAD_LENGTH": errors.RangeError,
-    "DN_BAD_CALLER": errors.RangeError, "DN_BAD_OUTCOME": errors.RangeError
+    "DN_BAD_CALLER": errors.RangeError, "DN_BAD_OUTCOME": errors.RangeError, "DN_BAD_ROW": errors.RangeError
 }
 FAULTS = {
     "DN_NOT_UTF8": "not UTF-8", "DN_UNKNOWN_WORD": "unknown word", "DN_MISSING_VALUE": "missing value",

@@ -101,6 +101,7 @@ def parts(cases: str, seed: int, program: str) -> list[Part]:
         Part("the C library", [python, "tools/gate/c_library.py", str(seed), str(SCENARIOS_IN_C)], "gcc"),
         Part("the service from C", [python, "tools/gate/c_service.py", *words, str(SERVICES_IN_C)], "gcc", True),
         Part("texts of entries from C", [python, "tools/gate/c_texts.py", *words, str(TEXTS_IN_C)], "gcc"),
+        Part("rows of packet files from C", [python, "tools/gate/c_rows.py"], "gcc"),
         Part("the C library and Python from a prefix", [python, "tools/gate/embedding.py"], "cc"),
         Part("the program without memory", [python, "tools/gate/memory.py", program], "cc", True),
         Part("chosen keys", [python, "tools/gate/hostile.py", program], "valgrind", True),

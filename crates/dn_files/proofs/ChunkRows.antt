@@ -1,12 +1,12 @@
 -- Chunks of a packet file: one row more.
-use Rattle.std.proofs.Common.{◌≡◌, ◌∙◌, refl, sym, ap, subst, ℕ, ◌+◌, ◌<◌, List, [], ◌∷◌, ◌++◌, length, arith, append_assoc, length-append, Result, Ok, Err, Some, true}
+use Rattle.std.proofs.Common.{◌≡◌, ◌∙◌, refl, sym, ap, subst, ℕ, ◌+◌, ◌<◌, List, [], ◌∷◌, ◌++◌, drop, length, arith, append_assoc, length-append, Result, Ok, Err, Some, true}
 use Rattle.std.proofs.lemmas.List.{append-nil}
 use Rattle.csv.specs.Records.{field_at}
 use Rattle.csv.specs.Reading.{records_from}
 use Rattle.csv.specs.Machine.{next_record}
 use Rattle.csv.specs.declared.parser.State.TheVariants as st
 use Rattle.dn_records.specs.Reading.{records_after}
-use Rattle.dn_files.specs.InChunks.{HasRows}
+use Rattle.dn_files.specs.InChunks.{BeginsWith, HasRows}
 use Rattle.dn_files.specs.PacketFile.{is_header, rows_below, rows_from, rows_of}
 use Rattle.dn_files.specs.PacketParts.{HasRead, header, rows_left, with_front}
 use Rattle.dn_files.specs.QuotedRow.{header_until}
@@ -97,3 +97,27 @@ passed_over number count left old text chunk rows new view behind has begins cou
     let counts : HasRead (record { number = number + count; text = [] }) (text ++ chunk) (rows ++ new) =
     subst (λ (n : ℕ). HasRead (record { number = number + n; text = [] }) (text ++ chunk) (rows ++ new)) counted here in
     subst (λ (t : List ℕ). HasRead (record { number = number + count; text = t }) (text ++ chunk) (rows ++ new)) (sym empty) counts
+
+-- The rows of a text, and those behind the rows that it begins with.
+pub left_behind : (text : List ℕ) (used : ℕ) (rows : List Row) → BeginsWith text used rows → with_front rows (rows_left (1 + length rows) (drop used text)) ≡ rows_left 1 text
+left_behind text used rows begins =
+    let some : 0 < 1 + length rows = omega arith in let one : 0 < 1 = omega arith in
+    ap (λ (t : List ℕ). with_front rows (rows_left (1 + length rows) t)) (sym (append-nil (drop used text)))
+    ∙ (ap (with_front rows) (later (1 + length rows) (drop used text ++ []) some)
+    ∙ (begins.first 1 [] ∙ (sym (later 1 (text ++ []) one) ∙ ap (rows_left 1) (append-nil text))))
+
+-- The same of a text that has no more than its rows.
+nothing_left : (text : List ℕ) → drop (length text) text ≡ []
+nothing_left [] = refl
+nothing_left (byte ∷ rest) = nothing_left rest
+
+none_left : (number : ℕ) → rows_from number (records_after st.StartRecord []) ≡ Ok []
+unfolding rows_from records_from next_record
+none_left number = refl
+
+pub left_whole : (text : List ℕ) (rows : List Row) → rows_left 1 text ≡ Ok rows → with_front rows (rows_left (1 + length rows) (drop (length text) text)) ≡ rows_left 1 text
+left_whole text rows read =
+    let some : 0 < 1 + length rows = omega arith in
+    ap (λ (t : List ℕ). with_front rows (rows_left (1 + length rows) t)) (nothing_left text)
+    ∙ (ap (with_front rows) (later (1 + length rows) [] some ∙ none_left (1 + length rows))
+    ∙ (ap (λ (rs : List Row). Ok rs) (append-nil rows) ∙ sym read))

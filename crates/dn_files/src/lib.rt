@@ -18,6 +18,7 @@ mod quoted_row;
 mod replay_fault;
 mod row;
 mod row_fields;
+mod row_parts;
 mod source;
 mod wide_row;
 
@@ -34,4 +35,5 @@ pub use packets::{PACKET_LIMIT, read_packets, rows_of_text};
 pub use plain_row::{target_at_front, tuple_at_front};
 pub use replay_fault::ReplayFault;
 pub use row::Row;
+pub use row_parts::{FrontRows, rows_at_front, rows_below_header};
 pub use source::Source;

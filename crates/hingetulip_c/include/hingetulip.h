@@ -59,7 +59,8 @@ enum dn_status {
     DN_BAD_RESERVED = 14,   /* a field `reserved` that isn't 0 */
     DN_NEW_FLOW = 19,       /* the packet's flow is new, so that no room was made for it; 15 to 18 are hingetulip_service.h's */
     DN_BAD_CALLER = 20,     /* the number of a history's caller isn't in 0 to 15 */
-    DN_BAD_OUTCOME = 21     /* no enum dn_outcome, or no status by which dn_configure answers a command */
+    DN_BAD_OUTCOME = 21,    /* no enum dn_outcome, or no status by which dn_configure answers a command */
+    DN_BAD_ROW = 22         /* a row of a packet file is none: *row and *field say where */
 };
 
 /* How the due moments of the packets on one link follow one another. */
@@ -227,6 +228,14 @@ uint32_t dn_advance_text(uint64_t caller, uint64_t moment, uint64_t at, uint8_t 
    tells. */
 uint32_t dn_collect_text(uint64_t caller, uint64_t moment, uint64_t at, const struct dn_delivery *list, size_t count, uint8_t *text,
                          size_t room, uint64_t *length);
+
+/* Reads packets off the text of a packet file behind its header: `length` bytes, which are whole lines or go on to the file's end. DN_OK:
+   the first *count places of `packets`, which has `room` places, are the rows of the first *used bytes, and the others are as they were.
+   The rest of the text is read by a further call. It uses no handle. DN_ROOM: the rows are written in a form that is read only
+   whole, and there are *count. DN_BAD_ROW: *row is the first bad row of the text, from 1, and *field its first bad field, 0 if it hasn't
+   ten; no packet is written. */
+uint32_t dn_read_packets(const uint8_t *text, size_t length, struct dn_packet *packets, size_t room, uint64_t *count, uint64_t *used,
+                         uint64_t *row, uint64_t *field);
 
 #ifdef __cplusplus
 }

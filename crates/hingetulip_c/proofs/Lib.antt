@@ -4,6 +4,7 @@ pub mod Handles
 pub mod Listing
 pub mod Many
 pub mod ManyTexts
+pub mod PacketRows
 pub mod RawBoxes
 pub mod Rooms
 pub mod ServiceHandles

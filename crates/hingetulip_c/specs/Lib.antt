@@ -4,6 +4,7 @@ pub mod Handles
 pub mod Lists
 pub mod Many
 pub mod Room
+pub mod Rows
 pub mod Services
 pub mod Statuses
 pub mod Submits

@@ -5,6 +5,7 @@ mod caller;
 mod collect;
 mod configure;
 mod lifetime;
+mod read_packets;
 mod reserve;
 mod service;
 mod show;

@@ -14,6 +14,7 @@ mod history_lines;
 mod ledger;
 mod raw_box;
 mod records;
+mod rows;
 mod service_handle;
 mod status;
 mod written;

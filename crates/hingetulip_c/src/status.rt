@@ -43,3 +43,5 @@ pub(crate) const NEW_FLOW: u32 = 19;
 pub(crate) const BAD_CALLER: u32 = 20;
 
 pub(crate) const BAD_OUTCOME: u32 = 21;
+
+pub(crate) const BAD_ROW: u32 = 22;

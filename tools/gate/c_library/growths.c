@@ -44,6 +44,19 @@ static void write_texts(const struct dn_packet *packet, const struct dn_fate *fa
     mix(text, length);
 }
 
+/* Rows of a packet file, the second text of which csv's reader reads. */
+static void read_rows(void) {
+    static const char *const TEXTS[] = {"5,pipe,1,1.2.3.4,5.6.7.8,17,3,4,1000,9\n6,queue,2,1.2.3.4,5.6.7.8,17,3,4,1000,9\n",
+                                        "5,pipe,1,1.2.3.4,5.6.7.8,17,3,4,1000,9\r6,queue,2,1.2.3.4,5.6.7.8,17,3,4,1000,9\r"};
+    for (int i = 0; i < 2; i++) {
+        struct dn_packet packets[2] = {{0}};
+        uint64_t told[4] = {0};
+        ASKED(dn_read_packets((const uint8_t *)TEXTS[i], strlen(TEXTS[i]), packets, 2, told, told + 1, told + 2, told + 3));
+        mix(packets, sizeof packets);
+        mix(told, sizeof told);
+    }
+}
+
 static void packets_arrive(struct dn_handle *handle) {
     static struct dn_delivery list[512];
     static struct dn_flow flows[512];
@@ -65,6 +78,7 @@ static void packets_arrive(struct dn_handle *handle) {
             ASKED(dn_collect(handle, moment, list, 512, &count));
             mix(list, count * sizeof *list);
             write_texts(&packet, &fate, list, count);
+            if (i % 30 == 0) read_rows();
         }
         if (i % 50 == 0) {
             ASKED(dn_show(handle, flows, 512, &count));
