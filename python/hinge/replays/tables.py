@@ -13,8 +13,6 @@ from hinge.replays.columns import Bad, Column, Fields
 
 csv.field_size_limit(sys.maxsize)  # a field may be as long as its file
 
-csv.field_size_limit(sys.maxsize)  # a field may be as long as its file
-
 BYTE_ORDER_MARK = b"\xef\xbb\xbf"
 COMMA, LINE_FEED = 44, 10
 
