@@ -80,11 +80,12 @@ def reset_flows(kind: str) -> Cost:
     return cost
 
 
-def digits(field: str) -> Cost:
-    """A replay of a row that is a run of digits from a field on, and is refused."""
+def digits(field: str, threads: int = 1) -> Cost:
+    """A replay of a row that is a run of digits from a field on, and is refused. A long file would be read by several threads."""
     def cost(program: str, count: int, folder: str) -> int:
         subprocess.run([sys.executable, HOSTILE / "digits.py", str(KIB * count), folder, field], check=True)
-        return counted([program, "replay", f"{folder}/digits.config", f"{folder}/digits.packets"], "/dev/null", 4)
+        words = ["replay", f"{folder}/digits.config", f"{folder}/digits.packets", "--threads", str(threads)]
+        return counted([program, *words], "/dev/null", 4)
     return cost
 
 
@@ -122,6 +123,7 @@ CASES: dict[str, Cost] = {
     "deletes of a queue with a new flow": reset_flows("queue"), "deletes of a queue with a new mask": reset_flows("masks"),
     "deletes of a pipe with a new flow": reset_flows("pipe"), "deletes of a flow that has sent all": reset_flows("sent"),
     "KiB of digits as a moment": digits("moment"), "KiB of digits as an address": digits("address"),
+    "KiB of digits, by four threads,": digits("moment", 4),
     "rows that end in CR LF": rows("returns"), "rows behind a byte order mark": rows("mark"),
     "rows behind one in quotes": rows("quoted-first"), "rows in quotes": rows("quoted"),
     "entries that end in CR LF": entries(b"\r\n"), "live lines that end in CR LF": lines(b"\r\n"),
