@@ -152,7 +152,8 @@ static bool read_jitter(const char *rest) {
     int way, first, count;
     uint64_t seed;
     const char *text = read_way(rest, &way);
-    if (!text || sscanf(text, "%d %d %" SCNu64, &first, &count, &seed) != 3 || first < 1 || count < 1 || first + count > MOST_PIPE + 1) return false;
+    if (!text || sscanf(text, "%d %d %" SCNu64, &first, &count, &seed) != 3) return false;
+    if (first < 1 || first > MOST_PIPE || count < 1 || count > MOST_PIPE + 1 - first) return false;
     set_jitter(way, first, count, seed);
     return true;
 }

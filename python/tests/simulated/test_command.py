@@ -5,6 +5,7 @@ from __future__ import annotations
 import os
 import signal
 import subprocess
+import tempfile
 import time
 
 from hinge.simulated.interrupts import children
@@ -28,9 +29,9 @@ GOES_ON = "echo begun; while :; do sleep 1; done"
 PIPE, NONE = subprocess.PIPE, subprocess.DEVNULL
 
 
-def left() -> "set[str]":
+def left(temporary: str) -> "set[str]":
     """The folders of machines that are there."""
-    return {name for place in ("/dev/shm", "/tmp") for name in os.listdir(place) if name.startswith("hinge-")}
+    return {name for place in ("/dev/shm", temporary) for name in os.listdir(place) if name.startswith("hinge-")}
 
 
 class OfStreams(Simulated):
@@ -127,10 +128,10 @@ class OfSurroundings(Simulated):
 
 
 class OfEnds(Simulated):
-    def begun(self) -> "subprocess.Popen[str]":
-        """A run that goes on, and has said so."""
-        words = [*SIMULATED, "--", "sh", "-c", GOES_ON]
-        process = subprocess.Popen(words, cwd=self.folder, stdin=NONE, stdout=PIPE, stderr=NONE, text=True)
+    def begun(self, **more: str) -> "subprocess.Popen[str]":
+        """A run that goes on, and has said so, with these variables more."""
+        words, env = [*SIMULATED, "--", "sh", "-c", GOES_ON], {**os.environ, **more}
+        process = subprocess.Popen(words, cwd=self.folder, env=env, stdin=NONE, stdout=PIPE, stderr=NONE, text=True)
         assert process.stdout
         self.assertEqual(process.stdout.readline(), "begun\n")
         return process
@@ -142,14 +143,16 @@ class OfEnds(Simulated):
         return [f"/proc/{number}" for number in found]
 
     def test_signals_end_it_at_once_with_nothing_left(self) -> None:
-        before = left()
-        for number in (signal.SIGINT, signal.SIGTERM, signal.SIGHUP):
-            with self.begun() as process:
-                below = self.below(process)
-                process.send_signal(number)
-                self.assertEqual(process.wait(), 128 + number)
-            self.assertEqual([path for path in below if os.path.exists(path)], [])
-        self.assertEqual(left() - before, set())
+        # A folder of its own for what is temporary, since other tests run at the same time.
+        with tempfile.TemporaryDirectory() as temporary:
+            before = left(temporary)
+            for number in (signal.SIGINT, signal.SIGTERM, signal.SIGHUP):
+                with self.begun(TMPDIR=temporary) as process:
+                    below = self.below(process)
+                    process.send_signal(number)
+                    self.assertEqual(process.wait(), 128 + number)
+                self.assertEqual([path for path in below if os.path.exists(path)], [])
+            self.assertEqual(left(temporary) - before, set())
 
     def test_a_launcher_that_is_killed_takes_its_machine_along(self) -> None:
         with self.begun() as process:
