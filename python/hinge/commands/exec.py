@@ -6,6 +6,7 @@ import argparse
 import os
 import signal
 import sys
+import time
 from typing import NoReturn
 
 from hinge.command import NAME, say
@@ -32,6 +33,7 @@ examples:
   hinge exec net.socket n2
 """
 SHELL = "sh"
+MOMENT = 1  # s
 
 
 def command_line() -> argparse.Namespace:
@@ -48,6 +50,16 @@ def command_line() -> argparse.Namespace:
         del asked.command[0]
     asked.command = asked.command or [os.environ.get("SHELL", SHELL)]
     return asked
+
+
+def ends(socket: str) -> bool:
+    """Whether a run has ended, or ends within a moment: its commands are killed before it stops to answer."""
+    until = time.monotonic() + MOMENT
+    while is_answered(socket):
+        if time.monotonic() > until:
+            return False
+        time.sleep(0.01)
+    return True
 
 
 def main() -> NoReturn:
@@ -68,6 +80,6 @@ def main() -> NoReturn:
     if status == SIGNALLED + signal.SIGKILL:
         os.fchdir(before)
         os.chroot(".")
-        if not is_answered(socket):
+        if ends(socket):
             say("the run has ended, and the command with it")
     sys.exit(status)
