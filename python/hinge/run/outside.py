@@ -35,7 +35,7 @@ FIRST, SECOND = side("10.9.0"), side("10.10.0")
 GATEWAY = FIRST.gateway
 OWN6, GATEWAY6 = "fd00::100", "fd00::2"  # and this network of IPv6 always
 INTERFACE = "outside"
-PATIENCE = 5  # s
+PATIENCE = 20  # s
 
 
 def side_beside(network: str) -> Side:
