@@ -51,29 +51,43 @@ static void note_line(const char *line, int kind, int number, bool deletes) {
     lines[at] = (struct held_line){kind, number, text};
 }
 
-/* Obeys a line, and returns NULL or what is wrong with it. */
-static const char *configure(struct dn_handle *handle, const char *line) {
+/* What is wrong with a line by the library's answer, or NULL. */
+static const char *wrong_by(uint32_t status, const struct dn_fault *fault) {
     static const char *const faults[] = {"not UTF-8", "unknown word", "missing value", "bad number", "out of range", "left out", "needs a pipe"};
     static const char *const refusals[] = {"exhausted", "no-such-pipe", "pipe-has-queues", "no-such-queue"};
     static char text[60];
-    struct dn_fault fault;
-    uint32_t status = dn_configure(handle, (const uint8_t *)line, strlen(line), &fault);
     if (status == DN_OK) return NULL;
     if (status == DN_LINE) {
-        snprintf(text, sizeof text, "word %" PRIu64 ": %s", fault.word, faults[fault.kind]);
+        snprintf(text, sizeof text, "word %" PRIu64 ": %s", fault->word, faults[fault->kind]);
         return text;
     }
     if (status > DN_NO_SUCH_QUEUE) fail("the links", "out of memory");
     return refusals[status - DN_EXHAUSTED];
 }
 
-const char *wrong_with(const char *line) { return configure(&trial, line); }
+static uint32_t configure(struct dn_handle *handle, const char *line, struct dn_fault *fault) {
+    return dn_configure(handle, (const uint8_t *)line, strlen(line), fault);
+}
+
+const char *wrong_with(const char *line) {
+    struct dn_fault fault;
+    uint32_t status = configure(&trial, line, &fault);
+    return wrong_by(status, &fault);
+}
+
+/* The links get a line, which is kept unless it is none; NULL, or what is wrong with it. */
+static const char *configured(const char *line) {
+    struct dn_fault fault;
+    uint32_t status = configure(&links, line, &fault);
+    const char *wrong = wrong_by(status, &fault);
+    if (status != DN_LINE) keep_configure(line, status);
+    return wrong;
+}
 
 const char *obey(const char *line) {
-    const char *wrong = configure(&links, line);
+    const char *wrong = configured(line);
     int kind, number;
     bool deletes = target_of(line, &kind, &number);
-    keep_configure(line, wrong ? wrong : deletes ? "deleted" : "configured");
     if (!wrong) note_line(line, kind, number, deletes);
     return wrong;
 }
@@ -133,8 +147,5 @@ void begin_next_part(void) {
     open_new(&links);
     for (int kind = DN_PIPE; kind <= DN_QUEUE; kind++) /* a queue needs its pipe */
         for (size_t i = 0; i < line_count; i++)
-            if (lines[i].kind == kind && lines[i].text) {
-                const char *wrong = configure(&links, lines[i].text);
-                keep_configure(lines[i].text, wrong ? wrong : "configured");
-            }
+            if (lines[i].kind == kind && lines[i].text) configured(lines[i].text);
 }

@@ -27,6 +27,11 @@ static const char *name;
 static uint64_t longest, entries, submits, bytes; /* the last three of the present part */
 static bool failed; /* an earlier part couldn't be written */
 
+/* The lines of an entry, as the library writes them. */
+static uint8_t *lines;
+static size_t room = 256;
+static uint64_t length;
+
 /* Copies a pipe into a file until the pipe ends: the whole life of the writing process. */
 _Noreturn static void write_file(int from, int to, const char *path) {
     static char text[BUFFER];
@@ -59,6 +64,7 @@ static void begin(const char *path) {
 
 void open_transcript(const char *path, uint64_t most) {
     name = strdup(path), longest = most;
+    lines = grown(NULL, room);
     begin(path);
 }
 
@@ -107,41 +113,44 @@ static void put_address(uint32_t address) {
     for (int byte = 3; byte >= 0; byte--) put_number(byte == 3 ? ',' : '.', address >> 8 * byte & 255);
 }
 
+/* Whether the library has written lines by this status. If they need more room, there is as much for another try. */
+static bool are_written(uint32_t status) {
+    if (status == DN_OK) return true;
+    if (status != DN_ROOM) fail("the transcript", "out of memory");
+    lines = grown(lines, room = length + length / 2);
+    return false;
+}
+
+/* Puts an entry, unless it has no lines: a line without words is no call. */
+static void put_entry(void) {
+    entries += length > 0, bytes += length;
+    fwrite_unlocked(lines, 1, length, file);
+}
+
 void keep_submit(const struct dn_packet *packet, const struct dn_fate *fate) {
-    static const char *const outcomes[] = {"\nr,queued", "\nr,lost", "\nr,full", "\nr,no-target"};
     if (!file) return;
-    entries++, submits++;
-    put(packet->kind == DN_PIPE ? "c,0,submit,pipe" : "c,0,submit,queue");
-    put_number(',', packet->number), put_address(packet->src), put_address(packet->dst), put_number(',', packet->proto);
-    put_number(',', packet->sport), put_number(',', packet->dport), put_number(',', packet->length);
-    put_number(',', packet->word), put_number(',', packet->moment);
-    put(outcomes[fate->outcome]);
-    put_number(',', fate->at);
-    if (fate->outcome != DN_NO_TARGET) put_number(',', fate->flow);
-    if (fate->outcome == DN_QUEUED) put_number(',', fate->packet);
-    put("\n");
+    while (!are_written(dn_submit_text(0, packet, fate, lines, room, &length)));
+    put_entry();
+    submits++;
 }
 
 void keep_collect(uint64_t moment, const struct dn_delivery *list, uint64_t count) {
     if (!file) return;
-    entries++;
-    put("c,0,collect"), put_number(',', moment), put("\nr,delivered"), put_number(',', moment), put_number(',', count), put("\n");
-    for (uint64_t i = 0; i < count; i++) {
-        put("d"), put_number(',', list[i].packet), put_number(',', list[i].flow), put_number(',', list[i].start);
-        put_number(',', list[i].due), put("\n");
-    }
+    while (!are_written(dn_collect_text(0, moment, moment, list, count, lines, room, &length)));
+    put_entry();
 }
 
 void keep_advance(uint64_t moment, uint64_t at) {
     if (!file) return;
-    entries++;
-    put("c,0,advance"), put_number(',', moment), put("\nr,advanced"), put_number(',', at), put("\n");
+    while (!are_written(dn_advance_text(0, moment, at, lines, room, &length)));
+    put_entry();
 }
 
-void keep_configure(const char *line, const char *reply) {
+void keep_configure(const char *line, uint32_t status) {
+    struct dn_fault none; /* the line was answered, so it has no fault */
     if (!file) return;
-    entries++;
-    put("c,0,configure,"), put(line), put("\nr,"), put(reply), put("\n");
+    while (!are_written(dn_configure_text(0, (const uint8_t *)line, strlen(line), status, &none, lines, room, &length)));
+    put_entry();
 }
 
 void remark(const char *words) {

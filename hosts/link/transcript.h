@@ -23,7 +23,7 @@ bool close_transcript(void);
 void keep_submit(const struct dn_packet *packet, const struct dn_fate *fate);
 void keep_collect(uint64_t moment, const struct dn_delivery *list, uint64_t count);
 void keep_advance(uint64_t moment, uint64_t at);
-void keep_configure(const char *line, const char *reply);
+void keep_configure(const char *line, uint32_t status); /* of the library's dn_configure, but not DN_LINE */
 
 /* A remark of any words. */
 void remark(const char *words);

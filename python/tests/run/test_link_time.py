@@ -92,7 +92,7 @@ class OfTime(unittest.TestCase):
         until(lambda: link.page.read()["parts"] == 2)
         link.end()
         last = open(f"{link.transcript}.1").read()
-        self.assertEqual(found("c,0,configure,(.*)", last), ["pipe 1 config delay 5", "pipe 2 config", "queue 1 config pipe 1 weight 1"])
+        self.assertEqual(found("c,0,configure,(.*)", last), ["pipe 1 config delay 5", "pipe 2 config", "queue 1 config pipe 1"])
         audited_as_lawful(self, link.transcript)
 
     def test_an_outage_where_a_thousand_flows_wait(self) -> None:
