@@ -66,8 +66,8 @@ class Histories(unittest.TestCase):
         self.assertEqual(
             [
                 ("c,0,configure,queue 9 config pipe 999", "r,no-such-pipe"),
-                ("c,0,configure,pipe 7 delete", "r,no-such-pipe"),
-                ("c,0,configure,pipe 2 config delay 5ms", "r,configured"), ("c,0,configure,pipe delete 2", "r,deleted")
+                ("c,0,configure,pipe delete 7", "r,no-such-pipe"),
+                ("c,0,configure,pipe 2 config delay 5", "r,configured"), ("c,0,configure,pipe delete 2", "r,deleted")
             ],
             [pair for pair in zip(lines, lines[1:]) if pair[0].startswith("c,0,configure")][2:],
         )

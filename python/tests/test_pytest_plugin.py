@@ -76,7 +76,7 @@ class Plugin(Runs):
         done = self.run_pytest("""
             async def test_it(sim_net):
                 await session(sim_net)
-                sim_net._emulator.history.add("c,0,advance,1\\nr,advanced,0\\n")
+                sim_net._emulator.history.add(memoryview(b"c,0,advance,1\\nr,advanced,0\\n"))
             """)
         self.assertEqual(done.counts.get("passed"), 1, done.text)
         self.assertEqual(done.counts.get("error"), 1, done.text)

@@ -4,7 +4,6 @@ from __future__ import annotations
 
 import ipaddress
 import socket
-from functools import lru_cache
 from typing import Any
 
 ANY, ANY_OF_6 = "0.0.0.0", "::"
@@ -59,12 +58,6 @@ def plain(address: Any) -> str:
 def number(address: str) -> int:
     """The number of an address in a history: an IPv4 address, or the last 32 bits of another."""
     return int(ipaddress.ip_address(address)) & LOW
-
-
-@lru_cache(maxsize=4096)
-def dotted(number: int) -> str:
-    """The IPv4 address of a number."""
-    return str(ipaddress.IPv4Address(number))
 
 
 def version_of(family: int) -> int:

@@ -2,21 +2,20 @@
 
 from __future__ import annotations
 
-from ctypes import byref, c_char, c_size_t, c_uint64
+from ctypes import byref, c_char, c_size_t, c_uint32, c_uint64
 from struct import error as StructError
 from typing import TYPE_CHECKING, Optional
 
-from hingetulip.aio.addresses import dotted
 from hingetulip.aio.history import History
-from hingetulip.errors import LineError, RefusedError
-from hingetulip.layout import DELIVERY, FATE, PACKET
+from hingetulip.entry_text import ANSWERED, CALLER
+from hingetulip.errors import LineError
+from hingetulip.layout import DELIVERY, FATE, FAULT, PACKET
 from hingetulip.library import CALLS, ROOM, failure
-from hingetulip.shaper import Shaper, unpackable
+from hingetulip.shaper import Shaper, encoded, unpackable
 
 if TYPE_CHECKING:
     from hingetulip.aio.link import Link
 
-DROPPED = {1: "lost", 2: "full"}  # by the numbers of outcomes
 FEW = 64  # deliveries for which there is room at first
 pack_packet, unpack_fate = PACKET.record.pack_into, FATE.record.unpack
 unpack_delivery, iterate_deliveries = DELIVERY.record.unpack_from, DELIVERY.record.iter_unpack
@@ -26,20 +25,13 @@ submit_packet, collect_packets, next_wake = CALLS.dn_submit, CALLS.dn_collect, C
 class Way:
     """All that packets of one socket to another have in common on a link: the pipe or queue, and their fields."""
 
-    __slots__ = ("link", "before", "is_last", "source", "target", "proto", "sport", "dport", "kind", "number", "record", "_others")
+    __slots__ = ("link", "before", "is_last", "source", "target", "proto", "sport", "dport", "kind", "number", "_others")
 
     def __init__(self, link: Link, before: int, is_last: bool, fields: tuple[int, int, int, int, int], kind: int, number: int) -> None:
         """`before` are the bytes of the headers, and `fields` addresses, protocol and ports as numbers."""
         self.link, self.before, self.is_last, self.kind, self.number = link, before, is_last, kind, number
         self.source, self.target, self.proto, self.sport, self.dport = fields
-        self.record = ""  # what begins the record of a submit, once there is one
         self._others: Optional[dict[tuple[int, int], Way]] = None
-
-    def begin(self) -> str:
-        """What begins the record of each submit."""
-        places = f"{dotted(self.source)},{dotted(self.target)},{self.proto},{self.sport},{self.dport}"
-        self.record = f"c,0,submit,{'queue' if self.kind else 'pipe'},{self.number},{places},"
-        return self.record
 
     def to(self, kind: int, number: int) -> Way:
         """The same to another pipe (0) or queue (1) of the link."""
@@ -59,6 +51,9 @@ class Emulator:
         self.shaper, self.history = shaper, history
         self._packet, self._fate = (c_char * PACKET.size)(), (c_char * FATE.size)()
         self._submitted = shaper._self, byref(self._packet), byref(self._fate)
+        self._fault = byref((c_char * FAULT.size)())  # of a line that was refused before it is written
+        if history is not None:
+            self._submit_text = CALLER, *self._submitted[1:], *history.text.for_short
         self._moment, self._number = c_uint64(), c_uint64()
         self._woken = shaper._self, byref(self._number)
         self._make_room(FEW)
@@ -67,6 +62,8 @@ class Emulator:
         self._deliveries = bytearray(DELIVERY.size * count)
         place = byref((c_char * len(self._deliveries)).from_buffer(self._deliveries))
         self._collected = self.shaper._self, self._moment, place, c_size_t(count), byref(self._number)
+        if self.history is not None:
+            self._collect_text = CALLER, self._moment, self._moment, place, self._number, *self.history.text.for_short
 
     def close(self) -> None:
         """Ends the history, and lets go of the shaper."""
@@ -77,22 +74,19 @@ class Emulator:
     def configure(self, moment: int, line: str) -> None:
         """A configuration line counts from a moment. LineError: it is no command. RefusedError: it names no pipe."""
         if moment:
-            self.shaper.advance(moment)
+            at = c_uint64(self.shaper.advance(moment))
             if self.history is not None:
-                self.history.add(f"c,0,advance,{moment}\nr,advanced,{moment}\n")
+                self.history.add(self.history.text.written(CALLS.dn_advance_text, c_uint64(moment), at))
+        text = encoded(line)
         try:
-            self.shaper.configure(line)
-            self._add_line(line, "deleted" if "delete" in line.split() else "configured")
+            status = self.shaper._obeyed(text)
         except LineError as fault:
             raise LineError(fault.kind, fault.word, line) from None
-        except RefusedError as refused:
-            self._add_line(line, str(refused).replace(" ", "-"))
-            raise
-
-    def _add_line(self, line: str, reply: str) -> None:
-        words = " ".join(line.partition("#")[0].split())
-        if self.history is not None and words:  # a line without words is no call
-            self.history.add(f"c,0,configure,{words}\nr,{reply}\n")
+        if self.history is not None and status in ANSWERED:
+            asked = text, c_size_t(len(text)), c_uint32(status), self._fault
+            self.history.add(self.history.text.written(CALLS.dn_configure_text, *asked))
+        if status:
+            raise failure(status)
 
     def submit(self, way: Way, moment: int, length: int, word: int) -> tuple[int, int]:
         """A packet arrives: its outcome, as a number, and its number. RangeError: a word of a model isn't one."""
@@ -103,14 +97,9 @@ class Emulator:
         status = submit_packet(*self._submitted)
         if status:
             raise failure(status)
-        at, flow, packet, outcome = unpack_fate(self._fate)
         if self.history is not None:
-            begin = way.record or way.begin()
-            if outcome == 0:
-                self.history.add(f"{begin}{length},{word},{moment}\nr,queued,{at},{flow},{packet}\n")
-            else:
-                reply = f"{DROPPED[outcome]},{at},{flow}" if outcome < 3 else f"no-target,{at}"
-                self.history.add(f"{begin}{length},{word},{moment}\nr,{reply}\n")
+            self.history.add(self.history.text.short(CALLS.dn_submit_text(*self._submit_text)))
+        _, _, packet, outcome = unpack_fate(self._fate)
         return outcome, packet
 
     def wake(self) -> int:
@@ -129,16 +118,16 @@ class Emulator:
             status = collect_packets(*self._collected)
         if status:
             raise failure(status)
-        count, history = self._number.value, self.history
-        if history is not None:
-            history.write_many()
+        count = self._number.value
+        if self.history is not None:
+            self.history.write_many()
+            self._add_collect(self.history, count)
         if count == 1:
-            due, packet, flow, start = unpack_delivery(self._deliveries)
-            if history is not None:
-                history.add(f"c,0,collect,{moment}\nr,delivered,{moment},1\nd,{packet},{flow},{start},{due}\n")
-            return [packet]
-        found = list(iterate_deliveries(memoryview(self._deliveries)[:DELIVERY.size * count])) if count else []
-        if history is not None:
-            items = "".join([f"d,{packet},{flow},{start},{due}\n" for due, packet, flow, start in found])
-            history.add(f"c,0,collect,{moment}\nr,delivered,{moment},{count}\n{items}")
-        return [it[1] for it in found]
+            return [unpack_delivery(self._deliveries)[1]]
+        return [it[1] for it in iterate_deliveries(memoryview(self._deliveries)[:DELIVERY.size * count])] if count else []
+
+    def _add_collect(self, history: History, count: int) -> None:
+        if count < 2:
+            history.add(history.text.short(CALLS.dn_collect_text(*self._collect_text)))
+        else:
+            history.add(history.text.written(CALLS.dn_collect_text, *self._collect_text[1:5]))
