@@ -57,7 +57,7 @@ def words_in(definitions: Definitions, key: Key) -> Set[Key]:
 
 def read_laws(top: Path, definitions: Definitions) -> Dict[Clause, Set[str]]:
     """The words of dn_types that each clause of the laws uses."""
-    text = (top / "crates" / "dn_laws" / "src" / "laws.rt").read_text()
+    text = "".join(path.read_text() for path in sorted((top / "crates" / "dn_laws" / "src").glob("*.rt")))
     imports = imports_of(text)
     return {(function, name): {key[2] for key in used_by(definitions, {imports[w] for w in WORD.findall(law) if w in imports})}
             for function, contract in CONTRACT.findall(text) for name, law in CLAUSE.findall(contract)}

@@ -24,7 +24,7 @@ import tempfile
 
 TOP = os.path.dirname(os.path.dirname(os.path.dirname(os.path.abspath(__file__))))
 SET_ASIDE = ['Cases', 'ExamplesDeletes', 'ExamplesLinks', 'ExamplesWf2q', 'ShortListsFlows', 'ShortListsWf2q',
-             'Witnesses', 'FairWitness', 'LawWitnesses', 'DeleteWitnesses', 'DividedWitnesses',
+             'Witnesses', 'FairWitness', 'LawWitnesses', 'DeleteWitnesses', 'DividedWitnesses', 'MergeWitnesses',
              'PartWitnesses', 'ReadingWitnesses', 'ReplyWitnesses', 'WaitWitnesses']
 
 # Texts of the rows in which what a command is told isn't what is done, and of those in which the clock goes otherwise.
@@ -378,7 +378,7 @@ def add_the_laws(crate):
             with open(os.path.join(crate, path), 'a' if name == 'Lib.antt' else 'w') as file:
                 file.write(text)
     with open(os.path.join(crate, 'src', 'lib.rt'), 'a') as file:
-        file.write('pub mod laws;\n')
+        file.write('pub mod laws;\npub mod merging;\n')
 
 
 def set_aside(proofs):

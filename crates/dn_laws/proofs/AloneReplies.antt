@@ -53,7 +53,7 @@ module _ (flows packets : ℕ → Bool) where
       by true = refl
       by false = refl
 
-  verdict-stays : (chosen : Choice) (at : ℕ) (v : Verdict) (t : List Event) → HasTarget chosen flows packets v → reply_by flows packets (reply_to_verdict at v t) ≡ told (reply_to_verdict at v t)
+  pub verdict-stays : (chosen : Choice) (at : ℕ) (v : Verdict) (t : List Event) → HasTarget chosen flows packets v → reply_by flows packets (reply_to_verdict at v t) ≡ told (reply_to_verdict at v t)
   verdict-stays chosen at no_target t h = absurd h
   verdict-stays chosen at (loses l f) t h = refl
   verdict-stays chosen at (refuses l f) t h = refl
@@ -129,7 +129,7 @@ module _ (rule : Rule) (mine : Target → Bool) (is_own : ℕ → Bool) (flows p
         show-told mine (own_of is_own calls) (less mine calls) h (less-on mine calls) rule (clock-late le)
         ∙ counted-reply (links_of mine) flows packets rule calls all Show k
 
-    answered : (c : Call) → AreDivided mine is_own (c ∷ calls) → IsKeyed (links_of mine) flows (keys (c ∷ calls)) → is_own (length calls) ≡ true → Follows c → length calls < call_limit →
+    pub answered : (c : Call) → AreDivided mine is_own (c ∷ calls) → IsKeyed (links_of mine) flows (keys (c ∷ calls)) → is_own (length calls) ≡ true → Follows c → length calls < call_limit →
         reply rule (own_of is_own calls) c ≡ part-of (reply rule calls c)
     answered c more k own le few =
         let h = behind mine is_own calls d in

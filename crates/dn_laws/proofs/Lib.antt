@@ -27,6 +27,13 @@ pub mod Kept
 mod LawWitnesses
 pub mod Least
 pub mod Masks
+pub mod MergedCalls
+pub mod MergedNumbers
+pub mod MergedParts
+pub mod MergedReplays
+pub mod MergedReplies
+pub mod Merges
+mod MergeWitnesses
 pub mod Obeyed
 pub mod OneLink
 pub mod OnPipes

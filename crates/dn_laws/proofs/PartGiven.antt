@@ -133,7 +133,7 @@ module _ (chosen : Choice) (mine taken : ℕ → Bool) where
   is-mine d = mine d.flow
 
   -- A delivery of the pipe has one of its numbers.
-  abbrev IsTaken : Delivery → Type 0
+  abbrev pub IsTaken : Delivery → Type 0
   IsTaken d = mine d.flow ≡ true → taken d.packet ≡ true
 
   abbrev IsOn : Delivery → Type 0
@@ -219,7 +219,7 @@ module _ (chosen : Choice) (mine taken : ℕ → Bool) where
   start-taken s t fit all first e =
       first-numbered s.packet (backlog s.packet.link s.packet.stamped.flow t) first (backlog-numbered s.packet.link s.packet.stamped.flow t all) ∙ sym fit ∙ e
 
-  all-taken : (rule : Rule) (t : List Event) → AreFit chosen mine taken t → IsProper t → AreTaken chosen mine taken t → All IsTaken (undelivered rule t)
+  pub all-taken : (rule : Rule) (t : List Event) → AreFit chosen mine taken t → IsProper t → AreTaken chosen mine taken t → All IsTaken (undelivered rule t)
   all-taken rule [] f h a = All-nil IsTaken
   all-taken rule (opened l ∷ t) f h a = all-taken rule t f h a
   all-taken rule (arrived q ∷ t) f h a = all-taken rule t f.1 h.1 a.1

@@ -95,7 +95,7 @@ module _ (rule : Rule) (chosen : Choice) where
   -- ---- How two lists stand to each other
 
   -- The one with the chosen packets alone lags by no more than the clock.
-  record IsBehind (mine whole : List Call) (clock : ℕ) : Type 0 where
+  pub record IsBehind (mine whole : List Call) (clock : ℕ) : Type 0 where
     pub set_is : settings mine ≡ settings whole
     pub keys_are : keys mine ≡ keys whole
     pub clock_is : effective_moment whole ≡ clock
@@ -121,6 +121,24 @@ module _ (rule : Rule) (chosen : Choice) where
   settings-timed : (cs : List Call) (target : Target) (packet : Packet) (m : ℕ) → settings (Submit target packet m ∷ cs) ≡ settings cs
   settings-timed cs target packet m = λ i t. settings cs t
 
+  -- A packet at the clock after the one list gets the reply that it gets after the other.
+  pub submit-same : (mine whole : List Call) (clock : ℕ) (target : Target) (packet : Packet) (moment : ℕ) → IsBehind mine whole clock → length whole < call_limit →
+      reply rule mine (Submit target packet (max clock moment)) ≡ reply rule whole (Submit target packet moment)
+  submit-same mine whole clock target packet moment h few =
+      let at = max clock moment in
+      let lags = h.no_later in
+      let c = h.clock_is in
+      let n = h.no_more in
+      let one : max (effective_moment mine) at ≡ at = omega (arith, lags) in
+      let two : max (effective_moment whole) moment ≡ at = omega (arith, c) in
+      let b = ap (λ k. settled (settings mine) k (trace_of mine)) one ∙ h.settles at (omega arith) ∙ sym (ap (λ k. settled (settings whole) k (trace_of whole)) two) in
+      let moments = one ∙ sym two in
+      let s = h.set_is in
+      let ks = h.keys_are in
+      let answer : counted_reply rule mine (Submit target packet at) ≡ counted_reply rule whole (Submit target packet moment) =
+      (λ i. reply_to_verdict (moments i) (verdict_by (ks i) target packet (treatment (s i target)) (b i)) (b i)) in
+      counts rule mine (Submit target packet at) (omega (arith, n, few)) ∙ answer ∙ sym (counts rule whole (Submit target packet moment) few)
+
   submit-behind : (mine whole : List Call) (clock : ℕ) (target : Target) (packet : Packet) (moment : ℕ) → IsBehind mine whole clock → length whole < call_limit →
       IsBehind (Submit target packet (max clock moment) ∷ mine) (Submit target packet moment ∷ whole) (max clock moment)
   submit-behind mine whole clock target packet moment h few =
@@ -136,13 +154,10 @@ module _ (rule : Rule) (chosen : Choice) where
       let ks = h.keys_are in
       let same : trace_of (Submit target packet at ∷ mine) ≡ trace_of (Submit target packet moment ∷ whole) =
       (λ i. after_verdict (s i) (moments i) packet (verdict_by (ks i) target packet (treatment (s i target)) (b i)) (b i)) in
-      let answer : counted_reply rule mine (Submit target packet at) ≡ counted_reply rule whole (Submit target packet moment) =
-      (λ i. reply_to_verdict (moments i) (verdict_by (ks i) target packet (treatment (s i target)) (b i)) (b i)) in
-      let left = counts rule mine (Submit target packet at) (omega (arith, n, few)) in
-      let right = counts rule whole (Submit target packet moment) few in
       let before = settled (settings whole) (max (effective_moment whole) moment) (trace_of whole) in
-      let is_one = ap is_told right ∙ told-verdict (max (effective_moment whole) moment) (verdict_by (keys whole) target packet (treatment (settings whole target)) before) before in
-      let both = left ∙ answer ∙ sym right in
+      let is_one = ap is_told (counts rule whole (Submit target packet moment) few)
+      ∙ told-verdict (max (effective_moment whole) moment) (verdict_by (keys whole) target packet (treatment (settings whole target)) before) before in
+      let both = submit-same mine whole clock target packet moment h few in
       let rest = h.told in
       record {
         set_is = (λ i t. s i t);
@@ -171,7 +186,7 @@ module _ (rule : Rule) (chosen : Choice) where
         told = h.told ∙ sym (ap (λ b. cond b (reply rule whole (Advance moment) ∷ filter is_told (replies rule whole)) (filter is_told (replies rule whole))) (ap is_told right));
       }
 
-  packets-behind : (calls : List Call) → ArePackets calls → length calls ≤ call_limit → IsBehind (own calls) (less calls) (effective_moment calls)
+  pub packets-behind : (calls : List Call) → ArePackets calls → length calls ≤ call_limit → IsBehind (own calls) (less calls) (effective_moment calls)
   packets-behind [] h few = behind-same [] [] refl refl
   packets-behind (Configure command ∷ calls) h few = behind-same (Configure command ∷ calls) (own (Configure command ∷ calls))
       (own-commands (Configure command ∷ calls) h) (all-told (Configure command ∷ calls) h few)
@@ -188,9 +203,9 @@ module _ (rule : Rule) (chosen : Choice) where
       by false rest = advance-behind (own calls) (less calls) (effective_moment calls) moment rest below
   packets-behind (_ ∷ calls) h few = absurd h
 
-  collect-told : (mine whole : List Call) (clock moment : ℕ) → IsBehind mine whole clock → length whole < call_limit →
-      replies rule (Collect (max clock moment) ∷ mine) ≡ filter is_told (replies rule (Collect moment ∷ whole))
-  collect-told mine whole clock moment h few =
+  pub collect-same : (mine whole : List Call) (clock moment : ℕ) → IsBehind mine whole clock → length whole < call_limit →
+      reply rule mine (Collect (max clock moment)) ≡ reply rule whole (Collect moment)
+  collect-same mine whole clock moment h few =
       let at = max clock moment in
       let lags = h.no_later in
       let c = h.clock_is in
@@ -200,11 +215,14 @@ module _ (rule : Rule) (chosen : Choice) where
       let b = ap (λ k. settled (settings mine) k (trace_of mine)) one ∙ h.settles at (omega arith) ∙ sym (ap (λ k. settled (settings whole) k (trace_of whole)) two) in
       let moments = one ∙ sym two in
       let answer : counted_reply rule mine (Collect at) ≡ counted_reply rule whole (Collect moment) = (λ i. Delivered (moments i) (given rule (moments i) (b i))) in
-      let left = counts rule mine (Collect at) (omega (arith, n, few)) in
-      let right = counts rule whole (Collect moment) few in
-      let both = left ∙ answer ∙ sym right in
+      counts rule mine (Collect at) (omega (arith, n, few)) ∙ answer ∙ sym (counts rule whole (Collect moment) few)
+
+  collect-told : (mine whole : List Call) (clock moment : ℕ) → IsBehind mine whole clock → length whole < call_limit →
+      replies rule (Collect (max clock moment) ∷ mine) ≡ filter is_told (replies rule (Collect moment ∷ whole))
+  collect-told mine whole clock moment h few =
+      let both = collect-same mine whole clock moment h few in
       let rest = h.told in
-      (λ i. both i ∷ rest i) ∙ sym (keep rule (reply rule whole (Collect moment)) (replies rule whole) (ap is_told right))
+      (λ i. both i ∷ rest i) ∙ sym (keep rule (reply rule whole (Collect moment)) (replies rule whole) (ap is_told (counts rule whole (Collect moment) few)))
 
   replay-told : (calls : List Call) → IsReplay calls → length calls ≤ call_limit → replies rule (own calls) ≡ filter is_told (replies rule (less calls))
   replay-told [] h few = refl

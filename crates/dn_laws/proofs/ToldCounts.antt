@@ -131,7 +131,7 @@ module _ (p : Event → Bool) (no_opening : (l : Link) → p (opened l) ≡ fals
 
 -- ---- What is queued, lost and refused
 
-quiet-queued : (r : Reply) → IsQuiet r → is_queued r ≡ false
+pub quiet-queued : (r : Reply) → IsQuiet r → is_queued r ≡ false
 quiet-queued (Queued at f number) h = absurd h
 quiet-queued (Lost at f) h = absurd h
 quiet-queued (Full at f) h = absurd h
