@@ -8,12 +8,12 @@ use dn_shaper::{HashKey, Shaper};
 use dn_types::Rule;
 use std::alloc::Global;
 
-const VERSION: u32 = 1_003_000;
+const VERSION: u32 = 1_004_000;
 
 /// The version of the library: major * 1,000,000 + minor * 1,000 + patch.
 #[unsafe(no_mangle)]
 pub extern "C" fn dn_version() -> u32
-    ensures { result ≡ 1003000 }
+    ensures { result ≡ 1004000 }
 {
     VERSION
 }
