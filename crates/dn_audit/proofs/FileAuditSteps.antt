@@ -1,10 +1,10 @@
 -- Why a history file isn't audited, step by step.
-use Rattle.std.proofs.Common.{◌≡◌, ◌∙◌, refl, sym, ap, subst, ℕ, Bool, false, length, List, [], ◌∷◌, ◌++◌, ◌+◌, append-nil, append_assoc, length-append, arith, Option, Result, Ok}
+use Rattle.std.proofs.Common.{◌≡◌, ◌∙◌, refl, sym, ap, subst, ℕ, Bool, false, length, List, [], ◌∷◌, ◌++◌, ◌+◌, append-nil, append_assoc, length-append, ◌≤◌, ◌<◌, ◌-◌, arith, Option, Result, Ok}
 use Rattle.std.proofs.KnownBytes.{Keeps-refl}
 use Rattle.dn_types.specs.declared.entry.Entry.{Entry}
 use Rattle.dn_types.specs.declared.rule.Rule.{Rule}
 use Rattle.dn_audit.specs.Audit.{HasAudited}
-use Rattle.dn_audit.specs.FileAudit.{AreAudited, HasVerdict, history_within, IsAuditFault, IsTold, IsUnauditedWithin, verdict_line}
+use Rattle.dn_audit.specs.FileAudit.{AreAudited, HasCome, HasVerdict, history_within, IsAuditFault, IsTold, IsUnauditedWithin, verdict_line}
 use Rattle.dn_history.specs.HistoryFaults.{IsHistoryFault}
 use Rattle.dn_history.specs.EntriesLeft.{EntriesLeft}
 use Rattle.dn_history.specs.HistoryFile.{history_in}
@@ -17,6 +17,7 @@ use Rattle.dn_files.proofs.Inputs.{carried}
 use Rattle.dn_files.specs.declared.replay_fault.ReplayFault.{ReplayFault}
 use Rattle.dn_files.specs.declared.replay_fault.ReplayFault.TheVariants.{BadRecord, OutOfMemory, Read, TooLong, Write}
 use Rattle.dn_files.specs.declared.source.Source.TheVariants.{History, Report}
+use Rattle.dn_audit.specs.declared.file_audit.file_audit.FileAudit.{FileAudit}
 use Rattle.dn_audit.specs.declared.running_audit.RunningAudit.{RunningAudit}
 use Rattle.dn_audit.specs.declared.verdict.Verdict.{Verdict}
 
@@ -79,3 +80,10 @@ of_reading _ h = absurd h
 -- Why the line of a verdict isn't written.
 pub of_writing : (text : List ℕ) (old new : Option (List ℕ)) (failed : Bool) (fault : ReplayFault) → IsUnwritten Report text old new failed fault → IsAuditFault fault
 of_writing text old new failed fault = unwritten-cases IsAuditFault Report text old new failed fault (λ what h. h.0) (λ h. tt)
+
+-- The text with a part more is longer than the limit, or isn't.
+pub overflows : (audit : FileAudit) (part : List ℕ) → audit.limit - audit.length < length part → (text : List ℕ) → HasCome audit text → audit.limit < length (text ++ part)
+overflows audit part more text come = omega (arith, more, come.size, come.short, length-append text part)
+
+pub fits : (audit : FileAudit) (part : List ℕ) → length part ≤ audit.limit - audit.length → (text : List ℕ) → HasCome audit text → length (text ++ part) ≤ audit.limit
+fits audit part less text come = omega (arith, less, come.size, come.short, length-append text part)

@@ -1,5 +1,5 @@
 -- The audit of a history file: the verdict on the history in it by its own rule, and the line that tells the verdict.
-use Rattle.std.specs.Prelude.{◌≡◌, ◌≤◌, ℕ, Bool, false, List, ◌++◌, length, codes, decimal, Option, None, Some, Result, Ok, Box, box_value}
+use Rattle.std.specs.Prelude.{◌≡◌, ◌≤◌, ◌<◌, ℕ, Bool, false, List, ◌++◌, length, codes, decimal, Option, None, Some, Result, Ok, Box, box_value}
 use Rattle.std.specs.declared.alloc.Global.{Global}
 use Rattle.std.specs.Io.KnownBytes.{Appends}
 use Rattle.dn_types.specs.declared.entry.Entry.{Entry}
@@ -12,7 +12,7 @@ use Rattle.dn_history.specs.HistoryRecords.{rule_of}
 use Rattle.dn_files.specs.Reading.{◌>>=◌, IsRefusal, ReadsAs, within_limit}
 use Rattle.dn_files.specs.Writing.{IsUnwritten, NothingWritten}
 use Rattle.dn_files.specs.declared.replay_fault.ReplayFault.{ReplayFault}
-use Rattle.dn_files.specs.declared.replay_fault.ReplayFault.TheVariants.{Write}
+use Rattle.dn_files.specs.declared.replay_fault.ReplayFault.TheVariants.{OutOfMemory, TooLong, Write}
 use Rattle.dn_files.specs.declared.source.Source.TheVariants.{History, Report}
 use Rattle.dn_audit.specs.declared.file_audit.file_audit.FileAudit.{FileAudit}
 use Rattle.dn_audit.specs.declared.file_audit.parts_audit.PartsAudit.{PartsAudit}
@@ -48,6 +48,12 @@ pub record HasCome (audit : FileAudit) (text : List ℕ) : Type 0 where
   pub size : audit.length ≡ length text
   pub short : length text ≤ audit.limit
   pub taken : HasTaken audit text
+
+-- Why a part isn't taken. The text that has come is longer with it than the limit, or else memory was refused.
+abbrev pub IsUnfed : FileAudit → List ℕ → ReplayFault → Type 0
+IsUnfed audit part (TooLong what) = (what ≡ History) × ((text : List ℕ) → HasCome audit text → audit.limit < length (text ++ part))
+IsUnfed audit part OutOfMemory = (text : List ℕ) → HasCome audit text → length (text ++ part) ≤ audit.limit
+IsUnfed audit part _ = ⊥
 
 -- What a history file of at most so many bytes is read as.
 abbrev pub history_within : ℕ → List ℕ → Result (Rule × List Entry) ReplayFault

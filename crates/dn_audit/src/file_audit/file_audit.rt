@@ -4,7 +4,7 @@ ghost use Rattle.dn_types.specs.declared.rule.Rule.{Rule as RuleValue};
 ghost use Rattle.dn_files.specs.Reading.{IsFaultOf, IsRefusal, IsTextOf};
 ghost use Rattle.dn_files.specs.declared.source.Source.TheVariants.{History};
 ghost use Rattle.dn_history.specs.HistoryFile.{history_in};
-ghost use Rattle.dn_audit.specs.FileAudit.{HasCome, HasTaken, HasVerdict, history_within};
+ghost use Rattle.dn_audit.specs.FileAudit.{HasCome, HasTaken, HasVerdict, history_within, IsUnfed};
 
 use crate::file_audit::entries::audit_text;
 use crate::file_audit::parts_audit::PartsAudit;
@@ -89,12 +89,14 @@ impl FileAudit {
     ///
     /// TooLong says that the text has more, and OutOfMemory that a growth was refused. After either the audit is of no more
     /// use.
+    #[tactic(auto, using(crate::proofs::FileAuditSteps::overflows, crate::proofs::FileAuditSteps::fits))]
     pub fn feed(&mut self, part: &[u8]) -> Result<(), ReplayFault>
         ensures ok { OnOk result ((text : List ℕ) → HasCome self.old text → HasCome self.new (text ++ part.now)) }
         ensures limit { self.new.limit ≡ self.old.limit }
         ensures room { OnOk result (length part.now + (self.new.limit - self.new.length) ≤ self.old.limit - self.old.length) }
         ensures err { IfErr result (λ fault. (text more : List ℕ) → HasCome self.old text
             → IsFaultOf (history_within self.old.limit (text ++ (part.now ++ more))) fault) }
+        ensures faults { IfErr result (λ fault. IsUnfed self.old part.now fault) }
     {
         if part.len() > self.limit.saturating_sub(self.length) {
             return Err(ReplayFault::TooLong(Source::History));
