@@ -16,7 +16,7 @@ class HingetulipError(Exception):
 
 
 class ClosedError(HingetulipError, ValueError):
-    """The shaper was closed."""
+    """The shaper was closed, or the audit has ended."""
 
 
 class LineError(HingetulipError, ValueError):
@@ -46,6 +46,18 @@ class RangeError(HingetulipError, ValueError):
     """A number is out of its range."""
 
 
+class HistoryError(HingetulipError, ValueError):
+    """A history has a record that is none, or lacks one, or is longer than the limit of its audit. The audit has ended."""
+
+    def __init__(self, text: str, record: Optional[int] = None) -> None:
+        super().__init__(text if record is None else f"history record {record}: bad")
+        self.record = record
+        """The first bad record, from 1; None if the history is too long."""
+
+    def __reduce__(self) -> tuple[type[HistoryError], tuple[str, Optional[int]]]:
+        return HistoryError, (str(self), self.record)
+
+
 class InUseError(HingetulipError, RuntimeError):
     """Another thread, or the code that a signal interrupted, is in a call of this shaper, or of this caller or service."""
 
@@ -54,7 +66,7 @@ class InUseError(HingetulipError, RuntimeError):
 
 
 class OutOfMemoryError(HingetulipError, MemoryError):
-    """Memory was refused. The same call may be made again."""
+    """Memory was refused. The same call may be made again, except for that of an audit, which has ended."""
 
 
 class ExhaustedError(HingetulipError):

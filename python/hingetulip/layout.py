@@ -31,3 +31,4 @@ DELIVERY = Layout(due="Q", packet="Q", flow="Q", start="Q", reserved="8x")
 FLOW = Layout(flow="Q", queued="Q", bytes="Q", lost="Q", full="Q", started="Q", discarded="Q", src="I", dst="I", sport="H", dport="H",
               number="H", pipe="H", kind="B", proto="B", reserved="6x")
 FAULT = Layout(word="Q", kind="I", reserved="4x")
+VERDICT = Layout(entries="Q", first="Q", finding="I", reserved="4x")

@@ -8,15 +8,16 @@ from pathlib import Path
 from typing import Iterator
 
 from hingetulip.errors import (
-    ClosedError, ExhaustedError, HingetulipError, OutOfMemoryError, RangeError, RefusedError,
+    ClosedError, ExhaustedError, HingetulipError, HistoryError, OutOfMemoryError, RangeError, RefusedError,
 )
 
 NAMES = ("libhingetulip.so.1", "libhingetulip.so")
 MAJOR = 1  # of the library's version; later minor ones only add
 LAST_MOMENT = 2**62
 NEVER = 2**64 - 1
+HISTORY_LIMIT = 268_435_456  # bytes
 
-ROOM, LINE, NEW_FLOW = 7, 8, 19
+ROOM, LINE, NEW_FLOW, BAD_RECORD = 7, 8, 19, 24
 FAILURES: dict[int, tuple[type[HingetulipError], str]] = {
     1: (ExhaustedError, "the shaper answered 2^62 calls before"),
     2: (RefusedError, "no such pipe"),
@@ -33,20 +34,24 @@ FAILURES: dict[int, tuple[type[HingetulipError], str]] = {
     20: (RangeError, "the number of a history's caller isn't in 0 to 15"),
     21: (RangeError, "an outcome that is none"),
     22: (RangeError, "a row of a packet file that is none"),
+    23: (HistoryError, "history too long"),
+    24: (HistoryError, "a record of a history that is none"),
 }
 FAULT_KINDS = ("not UTF-8", "unknown word", "missing value", "bad number", "out of range", "left out", "needs a pipe")
 
 
 class Handle(Structure):
-    """What the library keeps of a shaper. It stays where it is while it is open."""
+    """What the library keeps of a shaper or an audit. It stays where it is while it is open."""
 
     _fields_ = [("at", c_void_p), ("open", c_bool)]
 
 
 FUNCTIONS = ("dn_version", "dn_open", "dn_open_with_key", "dn_close", "dn_configure", "dn_submit", "dn_submit_many", "dn_advance",
              "dn_collect", "dn_show", "dn_wake")
-# A library of before 1.2 lacks these, and one of before 1.3 the last two. It serves those who don't call them.
-LATER_FUNCTIONS = ("dn_reserve", "dn_submit_text", "dn_advance_text", "dn_collect_text", "dn_configure_text", "dn_read_packets")
+# An older library lacks some of these: it has the first four from 1.2 on, the next two from 1.3 on and the others from 1.4 on. It
+# serves those who don't call them.
+LATER_FUNCTIONS = ("dn_reserve", "dn_submit_text", "dn_advance_text", "dn_collect_text", "dn_configure_text", "dn_read_packets",
+                   "dn_audit_open", "dn_audit_open_with_key", "dn_audit_feed", "dn_audit_finish", "dn_audit_close")
 
 
 def failure(status: int) -> HingetulipError:

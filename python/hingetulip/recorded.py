@@ -3,14 +3,16 @@
 from __future__ import annotations
 
 from ctypes import byref, c_char, c_size_t, c_uint32, c_uint64
+from itertools import chain
 from pathlib import Path
 from typing import BinaryIO, Optional, Union
 
+from hingetulip.audits import MOST_BYTES, audit, parts
 from hingetulip.batches import Deliveries, Fates, Packets
 from hingetulip.entry_text import ANSWERED, CALLER, EntryText
 from hingetulip.layout import FAULT
 from hingetulip.library import CALLS
-from hingetulip.records import Delivery, Fate
+from hingetulip.records import Delivery, Fate, Verdict
 from hingetulip.shaper import Line, Shaper, Turn, encoded
 
 ONE_BY_ONE = "a recorded shaper takes packets one by one"
@@ -75,10 +77,27 @@ class RecordedShaper(Shaper):
     def collect_many(self, moment: int) -> Deliveries:
         raise NotImplementedError(ONE_BY_ONE)
 
+    def audit(self) -> Verdict:
+        """The verdict of `dummynet audit` on what was recorded so far, as a history of its own.
+
+        HingetulipError: the library is of before 1.4.
+        """
+        with self._noting:
+            end = b""
+            if self.file is not None:
+                self.file.flush()
+                end = self._end()
+            with open(self.path, "rb") as file:
+                return audit(chain(parts(file), (end,)), MOST_BYTES)
+
+    def _end(self) -> bytes:
+        """The last line of the history."""
+        return b"end,%d\n" % self.entries
+
     def close(self) -> None:
         if getattr(self, "file", None) is not None:
             assert self.file is not None
-            self.file.write(b"end,%d\n" % self.entries)
+            self.file.write(self._end())
             self.file.close()
             self.file = None
         super().close()

@@ -1,4 +1,4 @@
-"""What a Shaper answers. Moments are ns, lengths bytes, and flows and packets are numbered from 0."""
+"""What a Shaper answers and an Audit finds. Moments are ns, lengths bytes, and flows, packets and entries are numbered from 0."""
 
 from __future__ import annotations
 
@@ -74,3 +74,21 @@ class FlowStatus(NamedTuple):
     full: int
     started: int
     discarded: int
+
+
+class Verdict(NamedTuple):
+    """What an audit finds of a history, which has so many `entries`, each a call and its reply.
+
+    `differs` is the first entry whose reply isn't the emulator's after the calls before it, and None if the history is
+    lawful. A verdict is true if it is lawful.
+    """
+
+    entries: int
+    differs: Optional[int]
+
+    @property
+    def lawful(self) -> bool:
+        return self.differs is None
+
+    def __bool__(self) -> bool:
+        return self.lawful

@@ -8,7 +8,7 @@ import unittest
 from pathlib import Path
 
 import hingetulip
-from hingetulip import errors, layout, library
+from hingetulip import audits, errors, layout, library
 
 TOP = Path(__file__).resolve().parents[2]
 INCLUDE = TOP / "crates" / "hingetulip_c" / "include"
@@ -16,7 +16,9 @@ HEADER, SERVICE_HEADER = ((INCLUDE / f"{name}.h").read_text() for name in ("hing
 RUST, RUST_SERVICE, RUST_ERRORS = (
     (TOP / "rust" / "hingetulip" / "src" / f"{name}.rs").read_text() for name in ("raw", "raw_service", "error")
 )
-LEFT_OUT = {"dn_open", "dn_configure_text", "dn_submit_text", "dn_advance_text", "dn_collect_text", "dn_read_packets"}
+LEFT_OUT = {
+    "dn_open", "dn_configure_text", "dn_submit_text", "dn_advance_text", "dn_collect_text", "dn_read_packets", "dn_audit_open"
+}
 DECLARED = (
     (RUST, HEADER, "dn_status", LEFT_OUT),
     (RUST_SERVICE, SERVICE_HEADER, "dn_service_status", {"dn_service_open", "dn_service_text"}),
@@ -29,7 +31,8 @@ EXCEPTIONS = {
     "DN_PIPE_HAS_QUEUES": errors.RefusedError, "DN_NO_SUCH_QUEUE": errors.RefusedError, "DN_CLOSED": errors.ClosedError,
     "DN_MEMORY": errors.OutOfMemoryError, "DN_BAD_MOMENT": errors.RangeError, "DN_BAD_RULE": errors.RangeError,
     "DN_BAD_KIND": errors.RangeError, "DN_BAD_NUMBER": errors.RangeError, "DN_BAD_LENGTH": errors.RangeError,
-    "DN_BAD_CALLER": errors.RangeError, "DN_BAD_OUTCOME": errors.RangeError, "DN_BAD_ROW": errors.RangeError
+    "DN_BAD_CALLER": errors.RangeError, "DN_BAD_OUTCOME": errors.RangeError, "DN_BAD_ROW": errors.RangeError,
+    "DN_TOO_LONG": errors.HistoryError, "DN_BAD_RECORD": errors.HistoryError
 }
 FAULTS = {
     "DN_NOT_UTF8": "not UTF-8", "DN_UNKNOWN_WORD": "unknown word", "DN_MISSING_VALUE": "missing value",
@@ -88,8 +91,8 @@ def rust_fields(name: str, source: str) -> list[tuple[str, str]]:
 class Header(unittest.TestCase):
     def test_structs(self) -> None:
         layouts = {"dn_packet": layout.PACKET, "dn_fate": layout.FATE, "dn_delivery": layout.DELIVERY,
-                   "dn_flow": layout.FLOW, "dn_fault": layout.FAULT}
-        self.assertEqual({*re.findall(r"^struct (\w+) \{", HEADER, re.M)}, {*layouts, "dn_handle"})
+                   "dn_flow": layout.FLOW, "dn_fault": layout.FAULT, "dn_verdict": layout.VERDICT}
+        self.assertEqual({*re.findall(r"^struct (\w+) \{", HEADER, re.M)}, {*layouts, "dn_handle", "dn_audit"})
         for name, of_module in layouts.items():
             begin, found = 0, {}
             for field in of_module.codes:
@@ -100,12 +103,14 @@ class Header(unittest.TestCase):
     def test_handles(self) -> None:
         self.assertEqual(fields("dn_handle"), [("void *", "at"), ("bool", "open")])
         self.assertEqual(library.Handle._fields_, [("at", ctypes.c_void_p), ("open", ctypes.c_bool)])
-        for name in ("dn_service", "dn_caller"):
-            self.assertEqual(fields(name, SERVICE_HEADER), fields("dn_handle"), name)
+        for name in ("dn_audit", "dn_service", "dn_caller"):
+            self.assertEqual(fields(name, HEADER + SERVICE_HEADER), fields("dn_handle"), name)
 
     def test_statuses(self) -> None:
         statuses = numbers("dn_status")
         own = {"DN_OK": 0, "DN_ROOM": library.ROOM, "DN_LINE": library.LINE, "DN_NEW_FLOW": library.NEW_FLOW}
+        told = {"DN_CLOSED": audits.CLOSED, "DN_BAD_RECORD": library.BAD_RECORD}
+        self.assertEqual(told, {name: statuses[name] for name in told})
         self.assertEqual(own, {name: statuses[name] for name in own})
         for name, kind in EXCEPTIONS.items():
             self.assertIs(kind, type(library.failure(statuses[name])), name)
@@ -117,6 +122,8 @@ class Header(unittest.TestCase):
         for kind, enum in ((hingetulip.Outcome, "dn_outcome"), (hingetulip.Rule, "dn_rule")):
             self.assertEqual(numbers(enum), {f"DN_{one.name}": one.value for one in kind})
         self.assertEqual({"DN_PIPE": 0, "DN_QUEUE": 1}, numbers("dn_kind"))
+        self.assertEqual({"DN_LAWFUL": 0, "DN_DIFFERS": 1}, numbers("dn_finding"))
+        self.assertIn(f"#define DN_HISTORY_LIMIT ((size_t){library.HISTORY_LIMIT})\n", HEADER)
         self.assertEqual(
             {name: library.FAULT_KINDS.index(text) for name, text in FAULTS.items()}, numbers("dn_fault_kind")
         )

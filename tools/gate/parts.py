@@ -22,6 +22,7 @@ LIVE_SESSIONS = 200
 SCENARIOS_IN_C = 200
 SERVICES_IN_C = 40
 TEXTS_IN_C = 60
+AUDITS_IN_C = 120
 # The seconds after which a part that hasn't ended is ended and counts as failed: ten times what the longest takes, and
 # for the edits what they take on one processor.
 LONGEST_PART, LONGEST_EDITS = 1800, 7200
@@ -101,6 +102,7 @@ def parts(cases: str, seed: int, program: str) -> list[Part]:
         Part("the C library", [python, "tools/gate/c_library.py", str(seed), str(SCENARIOS_IN_C)], "gcc"),
         Part("the service from C", [python, "tools/gate/c_service.py", *words, str(SERVICES_IN_C)], "gcc", True),
         Part("texts of entries from C", [python, "tools/gate/c_texts.py", *words, str(TEXTS_IN_C)], "gcc"),
+        Part("audits from C", [python, "tools/gate/c_audit.py", *words, str(AUDITS_IN_C)], "gcc"),
         Part("rows of packet files from C", [python, "tools/gate/c_rows.py"], "gcc"),
         Part("the C library and Python from a prefix", [python, "tools/gate/embedding.py"], "cc"),
         Part("the program without memory", [python, "tools/gate/memory.py", program], "cc", True),

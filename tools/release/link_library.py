@@ -23,6 +23,7 @@ VERSIONS = {
     "HINGETULIP_1.1": ("dn_service_*", "dn_caller_*"),
     "HINGETULIP_1.2": ("dn_reserve", "dn_submit_text", "dn_advance_text", "dn_collect_text"),
     "HINGETULIP_1.3": ("dn_configure_text", "dn_read_packets", "dn_service_texts"),
+    "HINGETULIP_1.4": ("dn_audit_*",),
 }
 
 

@@ -11,8 +11,9 @@
  *
  * Each call answers an enum dn_status. Under DN_OK all that the call tells is written; under every other status what the
  * caller handed in is as it was, but for what that status is said to write, and the handle stands as it stood, but for the
- * three refusals of dn_configure, which count as calls and change nothing else. Where two statuses fit, a call answers that of
- * a number, a line or the room for fates before DN_CLOSED. No pointer may be NULL, also that of a list of no items.
+ * three refusals of dn_configure, which count as calls and change nothing else, and for an audit's, which is closed. Where two
+ * statuses fit, a call answers that of a number, a line or the room for fates before DN_CLOSED. No pointer may be NULL, also
+ * that of a list of no items.
  *
  * Later versions change no function, no struct and no number of this one: what they add has a name of its own, or takes the
  * place of a field `reserved`, which is 0 in what the caller hands in, else DN_BAD_RESERVED, and is written as 0.
@@ -41,6 +42,9 @@ extern "C" {
 #define DN_HISTORY_FRONT "dummynet-history,3\n"
 #define DN_HISTORY_END "end,%llu\n"
 
+/* The most bytes of a history file that `dummynet audit` reads unless it is asked to read more. */
+#define DN_HISTORY_LIMIT ((size_t)268435456)
+
 enum dn_status {
     DN_OK = 0,
     DN_EXHAUSTED = 1,       /* the handle answered 2^62 calls before: nothing changes any more */
@@ -48,7 +52,7 @@ enum dn_status {
     DN_PIPE_HAS_QUEUES = 3, /* refused: a configured queue names the pipe that is to be deleted */
     DN_NO_SUCH_QUEUE = 4,   /* refused: there is no such queue to delete */
     DN_CLOSED = 5,          /* the handle is closed */
-    DN_MEMORY = 6,          /* memory was refused; the same call may be made again */
+    DN_MEMORY = 6,          /* memory was refused; the same call may be made again, except dn_audit_feed and dn_audit_finish */
     DN_ROOM = 7,            /* the list is too short: *count is a length that is enough */
     DN_LINE = 8,            /* the line is no command: *fault says what is wrong, and where */
     DN_BAD_MOMENT = 9,      /* a moment above DN_LAST_MOMENT */
@@ -60,7 +64,9 @@ enum dn_status {
     DN_NEW_FLOW = 19,       /* the packet's flow is new, so that no room was made for it; 15 to 18 are hingetulip_service.h's */
     DN_BAD_CALLER = 20,     /* the number of a history's caller isn't in 0 to 15 */
     DN_BAD_OUTCOME = 21,    /* no enum dn_outcome, or no status by which dn_configure answers a command */
-    DN_BAD_ROW = 22         /* a row of a packet file is none: *row and *field say where */
+    DN_BAD_ROW = 22,        /* a row of a packet file is none: *row and *field say where */
+    DN_TOO_LONG = 23,       /* a history file is longer than its limit */
+    DN_BAD_RECORD = 24      /* a record of a history file is none or is missing: *record says which */
 };
 
 /* How the due moments of the packets on one link follow one another. */
@@ -91,7 +97,19 @@ enum dn_fault_kind {
     DN_NEEDS_PIPE = 6     /* the line of a queue, which this word begins, doesn't name its pipe */
 };
 
+/* What an audit finds of a history. */
+enum dn_finding {
+    DN_LAWFUL = 0, /* each reply is the emulator's after the calls before it */
+    DN_DIFFERS = 1 /* an entry has another reply */
+};
+
 struct dn_handle {
+    void *at;
+    bool open;
+};
+
+/* The handle of an audit, by the same rules. */
+struct dn_audit {
     void *at;
     bool open;
 };
@@ -153,6 +171,14 @@ struct dn_flow {
     uint8_t proto;
     uint16_t reserved;
     uint32_t reserved2;
+};
+
+/* What was found of a history. */
+struct dn_verdict {
+    uint64_t entries; /* the entries of the history, each a call and its reply */
+    uint64_t first;   /* the first of them whose reply differs, from 0; 0 under DN_LAWFUL */
+    uint32_t finding; /* an enum dn_finding */
+    uint32_t reserved;
 };
 
 /* The version of the library, as DN_VERSION. */
@@ -236,6 +262,29 @@ uint32_t dn_collect_text(uint64_t caller, uint64_t moment, uint64_t at, const st
    ten; no packet is written. */
 uint32_t dn_read_packets(const uint8_t *text, size_t length, struct dn_packet *packets, size_t room, uint64_t *count, uint64_t *used,
                          uint64_t *row, uint64_t *field);
+
+/* The next five audit a history file, or the transcript of a live session, as `dummynet audit` does: they make its calls again, and compare
+   each reply with the one in the file. Of a file that is written as the library writes it they keep neither text nor entries. No verdict
+   depends on the secret, or on the parts in which the text comes. */
+
+/* Opens an audit of a file of at most `limit` bytes, as DN_HISTORY_LIMIT. What the handle held is let go. DN_MEMORY: the handle is
+   closed. */
+uint32_t dn_audit_open(struct dn_audit *audit, size_t limit);
+
+/* The same with a secret of 128 bits, as for dn_open_with_key, for a history that a stranger wrote. */
+uint32_t dn_audit_open_with_key(struct dn_audit *audit, size_t limit, uint64_t high, uint64_t low);
+
+/* Takes the next `length` bytes of the file, which may be any part of it. Under every status but DN_OK the audit has ended: the handle is
+   closed. DN_TOO_LONG: the bytes so far are more than the limit. */
+uint32_t dn_audit_feed(struct dn_audit *audit, const uint8_t *text, size_t length);
+
+/* The file ends where the bytes that were fed end. DN_OK writes *verdict. DN_BAD_RECORD: *record is the first bad record of the file, from
+   1, or the number that a missing one would have; it comes before any verdict. The audit has ended, whatever the status: the
+   handle is closed. */
+uint32_t dn_audit_finish(struct dn_audit *audit, struct dn_verdict *verdict, uint64_t *record);
+
+/* Closes an audit that isn't finished, and lets go what it held. DN_CLOSED: it was closed. */
+uint32_t dn_audit_close(struct dn_audit *audit);
 
 #ifdef __cplusplus
 }

@@ -1,4 +1,6 @@
 pub mod Answering
+pub mod AuditHandles
+pub mod Audits
 pub mod CallerHandles
 pub mod Handles
 pub mod Listing

@@ -1,3 +1,4 @@
+pub mod Audits
 pub mod Clients
 pub mod Faults
 pub mod Handles

@@ -1,6 +1,7 @@
 //! The calls of the header. Where a call could answer two statuses, it tests its numbers before the handle.
 
 mod advance;
+mod audit;
 mod caller;
 mod collect;
 mod configure;

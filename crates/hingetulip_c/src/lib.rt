@@ -1,6 +1,7 @@
 //! Dummynet for C, as include/hingetulip.h declares it: a handle holds a sequential shaper, and each call answers a status.
 #![tactic(auto)]
 
+mod audit_handle;
 mod caller_handle;
 mod client;
 mod command_lines;

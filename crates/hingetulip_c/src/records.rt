@@ -5,9 +5,11 @@ mod c_fate;
 mod c_fault;
 mod c_flow;
 mod c_packet;
+mod c_verdict;
 
 pub use c_delivery::CDelivery;
 pub use c_fate::CFate;
 pub use c_fault::CFault;
 pub use c_flow::CFlow;
 pub use c_packet::CPacket;
+pub use c_verdict::CVerdict;

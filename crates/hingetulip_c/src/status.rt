@@ -45,3 +45,7 @@ pub(crate) const BAD_CALLER: u32 = 20;
 pub(crate) const BAD_OUTCOME: u32 = 21;
 
 pub(crate) const BAD_ROW: u32 = 22;
+
+pub(crate) const TOO_LONG: u32 = 23;
+
+pub(crate) const BAD_RECORD: u32 = 24;

@@ -21,7 +21,7 @@ pub enum FaultKind {
     NeedsPipe,
 }
 
-/// Why a call wasn't obeyed. It changed nothing.
+/// Why a call wasn't obeyed. It changed nothing, except that an [`Audit`](crate::Audit) has ended.
 #[derive(Debug, Clone, Copy, PartialEq, Eq, Hash)]
 #[non_exhaustive]
 pub enum Error {
@@ -41,7 +41,13 @@ pub enum Error {
     Length,
     /// The number of a service's callers isn't in 1 to [`MOST_CALLERS`](crate::MOST_CALLERS).
     Count,
-    /// Memory was refused; the same call may be made again.
+    /// A history is longer than the limit of its audit.
+    TooLong,
+    /// A record of a history is none or is missing: its number, from 1.
+    Record(u64),
+    /// The audit has ended by an earlier error.
+    Closed,
+    /// Memory was refused; the same call may be made again, except that of an audit.
     Memory,
     /// The shaper has replied to 2^62 calls.
     Exhausted,
@@ -56,11 +62,13 @@ impl Error {
             2 => Self::NoSuchPipe,
             3 => Self::PipeHasQueues,
             4 => Self::NoSuchQueue,
+            5 => Self::Closed,
             6 => Self::Memory,
             9 => Self::Moment,
             12 => Self::Number,
             13 => Self::Length,
             16 => Self::Count,
+            23 => Self::TooLong,
             other => Self::Status(other),
         }
     }
@@ -98,6 +106,9 @@ impl fmt::Display for Error {
             Self::Number => to.write_str("the number of a pipe or queue isn't in 1 to 65535"),
             Self::Length => to.write_str("a length isn't in 1 to 65535 bytes"),
             Self::Count => to.write_str("the number of callers isn't in 1 to 15"),
+            Self::TooLong => to.write_str("history too long"),
+            Self::Record(number) => write!(to, "history record {number}: bad"),
+            Self::Closed => to.write_str("the audit has ended"),
             Self::Memory => to.write_str("out of memory"),
             Self::Exhausted => to.write_str("the shaper answered 2^62 calls before"),
             Self::Status(status) => write!(to, "status {status}"),

@@ -8,6 +8,8 @@ const MOST_WAITING: usize = 1 << 16; // bytes that are written by one call of th
 /// The history of a [`Service`], which is written while its callers call. It ends with [`end`](Self::end): dropped before, it is
 /// one that was cut, which an audit refuses.
 ///
+/// An [`Audit`](crate::Audit) is a writer, which audits the history while it is written.
+///
 /// What a writer refuses, as on a full disk, isn't lost: the next [`take`](Self::take) or [`end`](Self::end) writes it.
 #[derive(Debug)]
 pub struct History<W: Write> {

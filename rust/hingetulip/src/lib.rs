@@ -19,9 +19,10 @@
 //! Moments are whole nanoseconds from 0 to [`LAST_MOMENT`], on a clock of your own. A call at an earlier moment than the last one
 //! counts as one at the last.
 //!
-//! Threads share one link by a [`Service`], and its [`History`] is one that `dummynet audit` reads.
+//! Threads share one link by a [`Service`], and its [`History`] is one that `dummynet audit` reads, and an [`Audit`] too.
 #![deny(missing_docs, unsafe_op_in_unsafe_fn)]
 
+mod audit;
 mod caller;
 mod delivery;
 mod error;
@@ -34,6 +35,7 @@ mod raw_service;
 mod service;
 mod shaper;
 
+pub use audit::{Audit, Verdict, HISTORY_LIMIT};
 pub use caller::Caller;
 pub use delivery::{Deliveries, Delivery};
 pub use error::{Error, FaultKind};

@@ -5,10 +5,17 @@ pub const OK: u32 = 0;
 pub const ROOM: u32 = 7;
 pub const LINE: u32 = 8;
 pub const NEW_FLOW: u32 = 19;
+pub const BAD_RECORD: u32 = 24;
 pub const NEVER: u64 = u64::MAX;
 
 #[repr(C)]
 pub struct Handle {
+    pub at: *mut c_void,
+    pub open: bool,
+}
+
+#[repr(C)]
+pub struct Audit {
     pub at: *mut c_void,
     pub open: bool,
 }
@@ -79,6 +86,15 @@ pub struct Flow {
     pub reserved2: u32,
 }
 
+#[repr(C)]
+#[derive(Clone, Copy, Default)]
+pub struct Verdict {
+    pub entries: u64,
+    pub first: u64,
+    pub finding: u32,
+    pub reserved: u32,
+}
+
 extern "C" {
     pub fn dn_version() -> u32;
     pub fn dn_open_with_key(handle: *mut Handle, rule: u32, high: u64, low: u64) -> u32;
@@ -91,6 +107,10 @@ extern "C" {
     pub fn dn_collect(handle: *mut Handle, moment: u64, list: *mut Delivery, room: usize, count: *mut u64) -> u32;
     pub fn dn_show(handle: *mut Handle, list: *mut Flow, room: usize, count: *mut u64) -> u32;
     pub fn dn_wake(handle: *mut Handle, moment: *mut u64) -> u32;
+    pub fn dn_audit_open_with_key(audit: *mut Audit, limit: usize, high: u64, low: u64) -> u32;
+    pub fn dn_audit_feed(audit: *mut Audit, text: *const u8, length: usize) -> u32;
+    pub fn dn_audit_finish(audit: *mut Audit, verdict: *mut Verdict, record: *mut u64) -> u32;
+    pub fn dn_audit_close(audit: *mut Audit) -> u32;
 }
 
 #[cfg(test)]
@@ -103,5 +123,6 @@ mod tests {
     fn sizes_are_those_of_the_header() {
         let sizes = [size_of::<Handle>(), size_of::<Fault>(), size_of::<Packet>(), size_of::<Fate>(), size_of::<Delivery>(), size_of::<Flow>()];
         assert_eq!(sizes, [16, 16, 32, 32, 40, 80]);
+        assert_eq!([size_of::<Audit>(), size_of::<Verdict>()], [16, 24]);
     }
 }

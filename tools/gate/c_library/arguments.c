@@ -1,4 +1,4 @@
-/* Every refusal of hingetulip.h: its status, and that nothing else changed; two handles side by side; and texts. */
+/* Every refusal of hingetulip.h: its status, and that nothing else changed; two handles side by side; texts; and audits. */
 #include "hingetulip.h"
 #include <stdio.h>
 #include <string.h>
@@ -229,6 +229,33 @@ static void texts_that_are_refused(void) {
     HOLDS(dn_advance_text(0, 7, 7, text, 27, &text_length) == DN_OK && is_text("c,0,advance,7\nr,advanced,7\n"));
 }
 
+static uint32_t fed(struct dn_audit *audit, const char *part) { return dn_audit_feed(audit, (const uint8_t *)part, strlen(part)); }
+
+/* An audit that has ended is closed, whatever ended it. */
+static void audits_that_end(void) {
+    struct dn_audit audit = {0};
+    struct dn_verdict verdict;
+    uint64_t record;
+    memset(&verdict, 77, sizeof verdict);
+    memset(&record, 77, sizeof record);
+    HOLDS(dn_audit_close(&audit) == DN_CLOSED && fed(&audit, "") == DN_CLOSED);
+    HOLDS(dn_audit_finish(&audit, &verdict, &record) == DN_CLOSED && untouched(&record, sizeof record));
+    HOLDS(dn_audit_open(&audit, 5) == DN_OK && fed(&audit, "12345") == DN_OK && fed(&audit, "") == DN_OK && audit.open);
+    HOLDS(fed(&audit, "6") == DN_TOO_LONG && audit.at == NULL && !audit.open && dn_audit_close(&audit) == DN_CLOSED);
+    HOLDS(dn_audit_open(&audit, 0) == DN_OK && fed(&audit, "") == DN_OK);
+    HOLDS(dn_audit_finish(&audit, &verdict, &record) == DN_BAD_RECORD && record == 1 && !audit.open);
+    HOLDS(untouched(&verdict, sizeof verdict));
+    HOLDS(dn_audit_open(&audit, SIZE_MAX) == DN_OK && fed(&audit, "dummynet-hist") == DN_OK);
+    HOLDS(dn_audit_open_with_key(&audit, DN_HISTORY_LIMIT, UINT64_MAX, 7) == DN_OK); /* lets go of what was open */
+    HOLDS(fed(&audit, DN_HISTORY_FRONT "c,0,advance,5\nr,advanced,5\nc,9,advance,4\nr,advanced,4\nend,2\n") == DN_OK);
+    HOLDS(dn_audit_finish(&audit, &verdict, &record) == DN_OK && record == 1 && audit.at == NULL && !audit.open);
+    HOLDS(verdict.entries == 2 && verdict.finding == DN_DIFFERS && verdict.first == 1 && verdict.reserved == 0);
+    HOLDS(dn_audit_open(&audit, DN_HISTORY_LIMIT) == DN_OK && fed(&audit, DN_HISTORY_FRONT "end,0\n") == DN_OK);
+    HOLDS(dn_audit_finish(&audit, &verdict, &record) == DN_OK && record == 1 && verdict.entries == 0);
+    HOLDS(verdict.finding == DN_LAWFUL && verdict.first == 0 && verdict.reserved == 0);
+    HOLDS(dn_audit_open(&audit, 100) == DN_OK && fed(&audit, "x") == DN_OK && dn_audit_close(&audit) == DN_OK && !audit.open);
+}
+
 static void two_handles_side_by_side(void) {
     struct dn_handle slow = {0}, fast = {0};
     struct dn_fault fault;
@@ -265,6 +292,7 @@ int main(void) {
     two_handles_side_by_side();
     texts_of_each_kind();
     texts_that_are_refused();
+    audits_that_end();
     printf("%d of %d hold\n", tried - failed, tried);
     return failed != 0;
 }

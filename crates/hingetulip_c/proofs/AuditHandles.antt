@@ -1,0 +1,65 @@
+-- The machine value of an `AuditHandle`, and its two cases. Assumes `Logic`.
+use Rattle.std.proofs.Common.{◌≡◌, List, [], ◌∷◌, ◌++◌, refl, subst, lit<}
+use mathlib.Core.Bool.{Bool, true, false, ◌&&◌}
+use lib.Dec.{T}
+use seplogic.Ra.Ura.{Ura}
+use mir.Syntax.{ty_ptr}
+use mir.Val.{Val, vbool, vstruct, of_list, has_ty, WT}
+use base.Logic.{never_e}
+use base.Fml.{Fml, ftrue}
+use types.Logic.{Logic}
+use types.Kit.{Item, Goal, Seq, Step, step, ‵, given, ◌$◌, use1, learn, drop, fsplit, fjoin, fpick, fpack, feq_i, feq_l}
+use denote.RattleType.{RattleType, Valss}
+use denote.Builtin.{RawPtr, bool}
+use denote.RawPtr.{Ptr, block_ptr, null_ptr, ptr_val}
+use denote.Steps.{nothing}
+use denote.Struct.Struct.{within}
+use denote.Struct.Owning.{shape}
+use Rattle.std_alloc.specs.Box.Ownership.{box_owns}
+use Rattle.dn_audit.specs.contracts.file_audit.file_audit.FileAudit as file_audit
+use Rattle.hingetulip_c.specs.contracts.audit_handle.AuditHandle as handle
+use Rattle.hingetulip_c.specs.Handles.{freed, owned_by}
+use Rattle.hingetulip_c.proofs.RawBoxes.{two}
+
+abbrev pub Hd : RattleType
+Hd = handle.the_row
+
+abbrev pub R : RattleType
+R = file_audit.the_row
+
+abbrev pub kept : Ptr → Bool → List R.Denot → Fml
+kept p y xs = owned_by (box_owns freed R p) y xs
+
+pub ptr_good : (p : Ptr) → T (has_ty ty_ptr (ptr_val p)) × WT (ptr_val p)
+ptr_good (block_ptr b o) = (tt, tt)
+ptr_good null_ptr = (tt, record { fits = lit< tt })
+
+pub handle_good : (p : Ptr) (y : Bool) → T (has_ty ty_ptr (ptr_val p) && true) × WT (two (ptr_val p) (vbool y))
+handle_good (block_ptr b o) y = (tt, (tt, (tt, tt)))
+handle_good null_ptr y = (tt, (record { fits = lit< tt }, (tt, tt)))
+
+module _ {M : Type 1} {𝓤 : Ura M} {𝓛 : Logic 𝓤} {K : Type 0} {Γ : List (Item 𝓤)} {G : Goal 𝓤 𝓛.H} where
+  pub handle_out : K → (d : Hd.Denot) (vs : List Val)
+      → (vs ≡ two (ptr_val d.at) (vbool d.there) ∷ [] → Seq K 𝓛 (‵ (kept d.at d.there d.held) ∷ Γ) G)
+      → Seq K 𝓛 (‵ (Hd.own_val d vs) ∷ Γ) G
+  handle_out t d vs k =
+      fsplit t $ fpick t (λ vss. fsplit t $ feq_l t (λ ev. fsplit t $ feq_l t (λ ep. fsplit t $ feq_l t (λ eb. drop t $ k
+      (subst (λ (ws : List Val). vs ≡ vstruct (of_list (ptr_val d.at ∷ (ws ++ []))) ∷ []) eb (subst (λ (ps : List Val). vs ≡ vstruct (of_list (ps ++ (vss.1.0 ++ []))) ∷ []) ep ev))))))
+
+  pub handle_in : K → (d : Hd.Denot)
+      → Step K 𝓛 (‵ (Hd.own_val d (two (ptr_val d.at) (vbool d.there) ∷ [])) ∷ Γ) G (‵ (kept d.at d.there d.held) ∷ Γ) G
+  handle_in t d = step (λ s. let v : Val = two (ptr_val d.at) (vbool d.there) in
+      nothing t $ feq_i t (List Val) (vbool d.there ∷ []) (vbool d.there ∷ []) refl $ fjoin t $ feq_i t (List Val) (ptr_val d.at ∷ []) (ptr_val d.at ∷ []) refl $ fjoin t $
+      feq_i t (List Val) (v ∷ []) (v ∷ []) refl $ fjoin t $
+      fpack t (Valss (RawPtr ∷ bool ∷ [])) (within (shape handle.the_type) (d.at, (d.there, tt)) (v ∷ [])) (ptr_val d.at ∷ [], (vbool d.there ∷ [], tt)) $ fjoin t $ s)
+
+  -- closed, or open with one value
+  pub two_cases : K → (p : Ptr) (y : Bool) (xs : List R.Denot)
+      → (y ≡ false → xs ≡ [] → Seq K 𝓛 Γ G)
+      → ((x : R.Denot) → y ≡ true → xs ≡ x ∷ [] → Seq K 𝓛 (‵ (box_owns freed R p x) ∷ Γ) G)
+      → Seq K 𝓛 (‵ (kept p y xs) ∷ Γ) G
+  two_cases t p true (x ∷ []) none one = one x refl refl
+  two_cases t p true [] none one = use1 𝓛 (given ⊥ (‵ ftrue)) (never_e 𝓤 _) $ learn t (λ z. absurd z)
+  two_cases t p true (x ∷ y ∷ xs) none one = use1 𝓛 (given ⊥ (‵ ftrue)) (never_e 𝓤 _) $ learn t (λ z. absurd z)
+  two_cases t p false [] none one = drop t $ none refl refl
+  two_cases t p false (x ∷ xs) none one = use1 𝓛 (given ⊥ (‵ ftrue)) (never_e 𝓤 _) $ learn t (λ z. absurd z)

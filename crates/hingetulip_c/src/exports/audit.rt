@@ -1,0 +1,6 @@
+//! The calls of the header on an audit.
+
+mod close;
+mod feed;
+mod finish;
+mod open;
