@@ -60,6 +60,7 @@ CONTROLS = {
         ("ensures keys {", LEAST % "delivery_cmp")],
     "dn_link/without_the_value_of_a_bandwidth": [("ensures in_range", "ensures value { result ≡ self } ensures in_range")],
     "dn_flows/limit_before_loss": [("&& !self.is_full(&rule.limit)", "&& self.len == self.len")],
+    "dn_flows/an_active_flow_loses_its_place": [("std::mem::replace(&mut self.queues[flow].reserved, false)", "false")],
     "dn_flows/answers_the_flow_before": [("saturating_sub(1)", "saturating_sub(0)")],
     "dn_service/a_packet_recorded_twice": [("pages.history.push_reserved(", "drop(")],
     "dn_service/always_busy": [("number < 16", "number >= 16")],
