@@ -4,12 +4,12 @@ use Rattle.dn_types.specs.Replies.{reply}
 use Rattle.dn_types.specs.declared.call.Call.{Call}
 use Rattle.dn_types.specs.declared.reply.Reply.{Reply}
 use Rattle.dn_types.specs.declared.rule.Rule.{Rule}
-use Rattle.dn_shaper.specs.Shaper.{StandsAfter, items_in}
+use Rattle.dn_shaper.specs.Shaper.{items_in}
 use Rattle.dn_shaper.specs.declared.state.State.{State}
 use Rattle.hingetulip_c.specs.Handles.{HeldAfter, AnswersHeld}
 
 pub answers_held : (s s' : State) (xs ys : List State) (call : Call) (r : Reply) → xs ≡ s ∷ [] → ys ≡ s' ∷ []
-    → ((rule : Rule) (calls : List Call) → StandsAfter rule s calls → (r ≡ reply rule calls call) × StandsAfter rule s' (call ∷ calls)) → AnswersHeld call xs ys r
+    → AnswersHeld call (s ∷ []) (s' ∷ []) r → AnswersHeld call xs ys r
 answers_held s s' xs ys call r e f ok rule calls stands =
     let a = ok rule calls (subst (λ (l : List State). HeldAfter rule l calls) e stands) in (a.0, subst (λ (l : List State). HeldAfter rule l (call ∷ calls)) (sym f) a.1)
 

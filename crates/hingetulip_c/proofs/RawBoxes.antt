@@ -1,18 +1,22 @@
 -- A `RawBox` by value: one machine value of two fields, its pointer and its allocator. Assumes `Logic`.
 --     two         a struct of two fields
+--     ptr_good    a pointer is of its type
+--     handle_good a handle's pointer and flag are of its type
+--     two_cases   a handle is closed, or open with one value
 --     typed       a pointer into a block beside an allocator's value is of the struct's type
 --     opened      what a `RawBox` owns is what a box owns at its pointer, and its allocator
 --     made        and the other way round
-use Rattle.std.proofs.Common.{◌≡◌, ◌∙◌, ℕ, List, [], ◌∷◌, ◌++◌, refl, ap}
-use mathlib.Core.Bool.{◌&&◌, true}
+use Rattle.std.proofs.Common.{◌≡◌, ◌∙◌, ℕ, List, [], ◌∷◌, ◌++◌, refl, ap, lit<}
+use mathlib.Core.Bool.{Bool, ◌&&◌, true, false}
 use lib.Dec.{T}
 use seplogic.Ra.Ura.{Ura}
-use mir.Syntax.{impl, tnil, dnil}
+use mir.Syntax.{impl, tnil, dnil, ty_ptr}
 use mir.Raw.{raw as bare}
-use mir.Val.{Val, vptr, vstruct, vcons, vnil, of_list, has_ty, WT}
-use base.Logic.{never, fst∗}
+use mir.Val.{Val, vbool, vptr, vstruct, vcons, vnil, of_list, has_ty, WT}
+use base.Logic.{never, never_e, fst∗}
+use base.Fml.{ftrue}
 use types.Logic.{Logic, sem}
-use types.Kit.{Item, Goal, Seq, Step, step, ‵, ◌$◌, move, drop, fsplit, fjoin, fpick, fpack, feq_i, feq_l}
+use types.Kit.{Item, Goal, Seq, Step, step, ‵, given, ◌$◌, use1, learn, move, drop, fsplit, fjoin, fpick, fpack, feq_i, feq_l}
 use denote.RattleType.{RattleType, Valss}
 use denote.Builtin.{RawPtr}
 use denote.Memory.{lone}
@@ -27,10 +31,30 @@ use Rattle.std.proofs.alloc.Calls.{Al, handle_tells}
 use Rattle.std.proofs.cell.Inside.{Good}
 use Rattle.std_alloc.specs.Box.Ownership.{box_owns}
 use Rattle.std_alloc.proofs.ResultValues.{and_tt}
+use Rattle.hingetulip_c.specs.Handles.{freed, owned_by}
 use Rattle.hingetulip_c.specs.contracts.raw_box.RawBox as raw_box
 
 abbrev pub two : Val → Val → Val
 two v w = vstruct (vcons v (vcons w vnil))
+
+pub ptr_good : (p : Ptr) → T (has_ty ty_ptr (ptr_val p)) × WT (ptr_val p)
+ptr_good (block_ptr b o) = (tt, tt)
+ptr_good null_ptr = (tt, record { fits = lit< tt })
+
+pub handle_good : (p : Ptr) (y : Bool) → T (has_ty ty_ptr (ptr_val p) && true) × WT (two (ptr_val p) (vbool y))
+handle_good (block_ptr b o) y = (tt, (tt, (tt, tt)))
+handle_good null_ptr y = (tt, (record { fits = lit< tt }, (tt, tt)))
+
+module _ (R : RattleType) {M : Type 1} {𝓤 : Ura M} {𝓛 : Logic 𝓤} {K : Type 0} {Γ : List (Item 𝓤)} {G : Goal 𝓤 𝓛.H} where
+  pub two_cases : K → (p : Ptr) (y : Bool) (xs : List R.Denot)
+      → (y ≡ false → xs ≡ [] → Seq K 𝓛 Γ G)
+      → ((x : R.Denot) → y ≡ true → xs ≡ x ∷ [] → Seq K 𝓛 (‵ (box_owns freed R p x) ∷ Γ) G)
+      → Seq K 𝓛 (‵ (owned_by (box_owns freed R p) y xs) ∷ Γ) G
+  two_cases t p true (x ∷ []) none one = one x refl refl
+  two_cases t p true [] none one = use1 𝓛 (given ⊥ (‵ ftrue)) (never_e 𝓤 _) $ learn t (λ z. absurd z)
+  two_cases t p true (x ∷ y ∷ xs) none one = use1 𝓛 (given ⊥ (‵ ftrue)) (never_e 𝓤 _) $ learn t (λ z. absurd z)
+  two_cases t p false [] none one = drop t $ none refl refl
+  two_cases t p false (x ∷ xs) none one = use1 𝓛 (given ⊥ (‵ ftrue)) (never_e 𝓤 _) $ learn t (λ z. absurd z)
 
 module _ (R Z : RattleType) (L : Laws Z) (g : Ghosts Z.Denot) where
   abbrev pub Row : RattleType

@@ -1,17 +1,14 @@
--- The machine value of a `ServiceHandle`, and its two cases. Assumes `Logic`.
-use Rattle.std.proofs.Common.{◌≡◌, List, [], ◌∷◌, ◌++◌, refl, subst, lit<}
-use mathlib.Core.Bool.{Bool, true, false, ◌&&◌}
-use lib.Dec.{T}
+-- The machine value of a `ServiceHandle`. Assumes `Logic`.
+use Rattle.std.proofs.Common.{◌≡◌, List, [], ◌∷◌, ◌++◌, refl, subst}
+use mathlib.Core.Bool.{Bool}
 use seplogic.Ra.Ura.{Ura}
-use mir.Syntax.{ty_ptr}
-use mir.Val.{Val, vbool, vstruct, of_list, has_ty, WT}
-use base.Logic.{never_e}
-use base.Fml.{Fml, ftrue}
+use mir.Val.{Val, vbool, vstruct, of_list}
+use base.Fml.{Fml}
 use types.Logic.{Logic}
-use types.Kit.{Item, Goal, Seq, Step, step, ‵, given, ◌$◌, use1, learn, drop, fsplit, fjoin, fpick, fpack, feq_i, feq_l}
+use types.Kit.{Item, Goal, Seq, Step, step, ‵, ◌$◌, drop, fsplit, fjoin, fpick, fpack, feq_i, feq_l}
 use denote.RattleType.{RattleType, Valss}
 use denote.Builtin.{RawPtr, bool}
-use denote.RawPtr.{Ptr, block_ptr, null_ptr, ptr_val}
+use denote.RawPtr.{Ptr, ptr_val}
 use denote.Steps.{nothing}
 use denote.Struct.Struct.{within}
 use denote.Struct.Owning.{shape}
@@ -30,14 +27,6 @@ R = ledger.the_row
 abbrev pub kept : Ptr → Bool → List R.Denot → Fml
 kept p y xs = owned_by (box_owns freed R p) y xs
 
-pub ptr_good : (p : Ptr) → T (has_ty ty_ptr (ptr_val p)) × WT (ptr_val p)
-ptr_good (block_ptr b o) = (tt, tt)
-ptr_good null_ptr = (tt, record { fits = lit< tt })
-
-pub handle_good : (p : Ptr) (y : Bool) → T (has_ty ty_ptr (ptr_val p) && true) × WT (two (ptr_val p) (vbool y))
-handle_good (block_ptr b o) y = (tt, (tt, (tt, tt)))
-handle_good null_ptr y = (tt, (record { fits = lit< tt }, (tt, tt)))
-
 module _ {M : Type 1} {𝓤 : Ura M} {𝓛 : Logic 𝓤} {K : Type 0} {Γ : List (Item 𝓤)} {G : Goal 𝓤 𝓛.H} where
   pub handle_out : K → (d : Hd.Denot) (vs : List Val)
       → (vs ≡ two (ptr_val d.at) (vbool d.there) ∷ [] → Seq K 𝓛 (‵ (kept d.at d.there d.held) ∷ Γ) G)
@@ -52,14 +41,3 @@ module _ {M : Type 1} {𝓤 : Ura M} {𝓛 : Logic 𝓤} {K : Type 0} {Γ : List
       nothing t $ feq_i t (List Val) (vbool d.there ∷ []) (vbool d.there ∷ []) refl $ fjoin t $ feq_i t (List Val) (ptr_val d.at ∷ []) (ptr_val d.at ∷ []) refl $ fjoin t $
       feq_i t (List Val) (v ∷ []) (v ∷ []) refl $ fjoin t $
       fpack t (Valss (RawPtr ∷ bool ∷ [])) (within (shape handle.the_type) (d.at, (d.there, tt)) (v ∷ [])) (ptr_val d.at ∷ [], (vbool d.there ∷ [], tt)) $ fjoin t $ s)
-
-  -- closed, or open with one value
-  pub two_cases : K → (p : Ptr) (y : Bool) (xs : List R.Denot)
-      → (y ≡ false → xs ≡ [] → Seq K 𝓛 Γ G)
-      → ((x : R.Denot) → y ≡ true → xs ≡ x ∷ [] → Seq K 𝓛 (‵ (box_owns freed R p x) ∷ Γ) G)
-      → Seq K 𝓛 (‵ (kept p y xs) ∷ Γ) G
-  two_cases t p true (x ∷ []) none one = one x refl refl
-  two_cases t p true [] none one = use1 𝓛 (given ⊥ (‵ ftrue)) (never_e 𝓤 _) $ learn t (λ z. absurd z)
-  two_cases t p true (x ∷ y ∷ xs) none one = use1 𝓛 (given ⊥ (‵ ftrue)) (never_e 𝓤 _) $ learn t (λ z. absurd z)
-  two_cases t p false [] none one = drop t $ none refl refl
-  two_cases t p false (x ∷ xs) none one = use1 𝓛 (given ⊥ (‵ ftrue)) (never_e 𝓤 _) $ learn t (λ z. absurd z)

@@ -1,23 +1,22 @@
 -- What is so of the value that a handle holds is so of the handle, and each turn of the loops over handles does one more.
-use Rattle.std.proofs.Common.{◌≡◌, ◌≢◌, ◌∙◌, ◌<◌, ◌+◌, ℕ, zero, suc, List, [], ◌∷◌, ◌++◌, get_or, map, min, replicate, take, drop, set, length, refl, ap, sym, subst, arith}
+use Rattle.std.proofs.Common.{◌≡◌, ◌∙◌, ◌<◌, ◌+◌, ℕ, zero, suc, List, [], ◌∷◌, ◌++◌, get_or, map, min, replicate, take, drop, set, length, refl, ap, sym, subst, arith}
 use Rattle.std.proofs.lemmas.List.{take_more, take_more_set, take_at, drop_at, length_push, map-append, length-take, take_min, drop_min, take-map, drop-map}
 use Rattle.std.proofs.lemmas.Grind.{replicate_next}
-use Rattle.dn_types.specs.declared.call.Call.{Call}
 use Rattle.dn_service.specs.Callers.{ServiceView, CallerView, having_lost, having_faced, new_caller, new_callers}
-use Rattle.dn_service.specs.Lasting.{LastingView, Takes}
+use Rattle.dn_service.specs.Lasting.{LastingView}
 use Rattle.dn_service.proofs.Handing.{one_more_caller}
-use Rattle.hingetulip_c.specs.Clients.{IsAnswered, IsOther, AnsweredBy, RefusedBy, IsBusyWith, Woke, WokeBy}
-use Rattle.hingetulip_c.specs.Services.{all_held, held_new, waiting, IsServiceBusyWith, NotTaken, Opened, Taken, Written, WrittenMany, Wrote, WroteMany}
+use Rattle.hingetulip_c.specs.Clients.{RefusedBy}
+use Rattle.hingetulip_c.specs.Handles.{Holds, HoldsBoth}
+use Rattle.hingetulip_c.specs.Services.{all_held, held_new, waiting, NotTaken, Opened}
 use Rattle.hingetulip_c.specs.declared.caller_handle.CallerHandle.{CallerHandle}
 use Rattle.hingetulip_c.specs.declared.client.Client.{Client}
 use Rattle.hingetulip_c.specs.declared.ledger.Ledger.{Ledger}
 
-pub answered_by : (call : Call) (b a : Client) (xs ys : List Client) → xs ≡ b ∷ [] → ys ≡ a ∷ [] → IsAnswered call b a → AnsweredBy call xs ys
-answered_by call b a xs ys e f is =
-    subst (λ (l : List Client). AnsweredBy call l ys) (sym e) (subst (λ (l : List Client). AnsweredBy call (b ∷ []) l) (sym f) is)
+pub holds : {A : Type 0} (is : A → Type 0) (x : A) (xs : List A) → xs ≡ x ∷ [] → is x → Holds is xs
+holds {A} is x xs e so = subst (λ (l : List A). Holds is l) (sym e) so
 
-pub busy_with : (holder : ℕ) (b : Client) (xs : List Client) → xs ≡ b ∷ [] → IsOther holder b → IsBusyWith holder xs
-busy_with holder b xs e is = subst (λ (l : List Client). IsBusyWith holder l) (sym e) is
+pub holds_both : {A : Type 0} (is : A → A → Type 0) (b a : A) (xs ys : List A) → xs ≡ b ∷ [] → ys ≡ a ∷ [] → is b a → HoldsBoth is xs ys
+holds_both {A} is b a xs ys e f so = subst (λ (l : List A). HoldsBoth is l ys) (sym e) (subst (λ (l : List A). HoldsBoth is (b ∷ []) l) (sym f) so)
 
 -- The call found caller k in a call.
 pub lost_to : (k : ℕ) (b : Client) (c : CallerView) → c ≡ having_lost k b.caller → RefusedBy 15 k (b ∷ []) (record { caller = c; last = b.last } ∷ [])
@@ -35,34 +34,17 @@ lacked holder b c is = record {
   other = λ at more. absurd (more refl);
 }
 
+-- What is so of both lists of one value is so of both handles.
+of_both : {A : Type 0} (is : List A → List A → Type 0) (b a : A) (xs ys : List A) → xs ≡ b ∷ [] → ys ≡ a ∷ [] → is (b ∷ []) (a ∷ []) → is xs ys
+of_both {A} is b a xs ys e f so = subst (λ (l : List A). is l ys) (sym e) (subst (λ (l : List A). is (b ∷ []) l) (sym f) so)
+
 pub refused_by : (status holder : ℕ) (b a : Client) (xs ys : List Client) → xs ≡ b ∷ [] → ys ≡ a ∷ [] → RefusedBy status holder (b ∷ []) (a ∷ [])
     → RefusedBy status holder xs ys
-refused_by status holder b a xs ys e f is =
-    subst (λ (l : List Client). RefusedBy status holder l ys) (sym e) (subst (λ (l : List Client). RefusedBy status holder (b ∷ []) l) (sym f) is)
-
-pub woke_by : (moment : ℕ) (b a : Client) (xs ys : List Client) → xs ≡ b ∷ [] → ys ≡ a ∷ [] → Woke moment b a → WokeBy moment xs ys
-woke_by moment b a xs ys e f is =
-    subst (λ (l : List Client). WokeBy moment l ys) (sym e) (subst (λ (l : List Client). WokeBy moment (b ∷ []) l) (sym f) is)
-
-pub wrote : (text : List ℕ) (b a : Ledger) (xs ys : List Ledger) → xs ≡ b ∷ [] → ys ≡ a ∷ [] → Written text b a → Wrote text xs ys
-wrote text b a xs ys e f is =
-    subst (λ (l : List Ledger). Wrote text l ys) (sym e) (subst (λ (l : List Ledger). Wrote text (b ∷ []) l) (sym f) is)
-
-pub wrote_many : (n room : ℕ) (text : List ℕ) (b a : Ledger) (xs ys : List Ledger) → xs ≡ b ∷ [] → ys ≡ a ∷ [] → WrittenMany n room text b a
-    → WroteMany n room text xs ys
-wrote_many n room text b a xs ys e f is =
-    subst (λ (l : List Ledger). WroteMany n room text l ys) (sym e) (subst (λ (l : List Ledger). WroteMany n room text (b ∷ []) l) (sym f) is)
-
-pub taken_out : (start : ℕ) (b a : Ledger) (xs ys : List Ledger) → xs ≡ b ∷ [] → ys ≡ a ∷ []
-    → (waiting b ≡ []) × Takes b.taker.lasting b.taker.caller start (waiting a) a.taker.lasting a.taker.caller × (a.taker.caller.lost ≡ b.taker.caller.lost)
-    → Taken start xs ys
-taken_out start b a xs ys e f is =
-    subst (λ (l : List Ledger). Taken start l ys) (sym e) (subst (λ (l : List Ledger). Taken start (b ∷ []) l) (sym f) is)
+refused_by status holder = of_both (RefusedBy status holder)
 
 pub not_taken : (status holder : ℕ) (b a : Ledger) (xs ys : List Ledger) → xs ≡ b ∷ [] → ys ≡ a ∷ [] → NotTaken status holder (b ∷ []) (a ∷ [])
     → NotTaken status holder xs ys
-not_taken status holder b a xs ys e f is =
-    subst (λ (l : List Ledger). NotTaken status holder l ys) (sym e) (subst (λ (l : List Ledger). NotTaken status holder (b ∷ []) l) (sym f) is)
+not_taken status holder = of_both (NotTaken status holder)
 
 -- One handle more holds its caller.
 pub held_more : (handles : List CallerHandle) (callers : List CallerView) (place : ℕ) (h : CallerHandle) (c d : CallerView)
@@ -83,10 +65,6 @@ closed_more handles place h room so_far closed =
     ∙ map-append (λ (x : CallerHandle). x.held) (take place handles) (h ∷ [])
     ∙ (λ i. so_far i ++ closed i ∷ [])
     ∙ sym (replicate_next place [])
-
-pub service_busy_with : (holder : ℕ) (b : Ledger) (xs : List Ledger) → xs ≡ b ∷ [] → holder < b.taker.caller.service.callers → holder ≢ b.taker.caller.number
-    → IsServiceBusyWith holder xs
-service_busy_with holder b xs e below another = subst (λ (l : List Ledger). IsServiceBusyWith holder l) (sym e) (below, another)
 
 callers_many : (service : ServiceView) (k n : ℕ) → length (new_callers service k n) ≡ n
 callers_many service k zero = refl

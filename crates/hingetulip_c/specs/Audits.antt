@@ -1,17 +1,17 @@
 -- An audit that C holds: the part of a history file that has come to it, and the verdict on a whole file in C's words.
-use Rattle.std.specs.Prelude.{◌≡◌, ℕ, List, [], ◌∷◌}
+use Rattle.std.specs.Prelude.{◌≡◌, ℕ, List}
 use Rattle.dn_audit.specs.FileAudit.{HasCome, HasVerdict}
 use Rattle.dn_audit.specs.declared.file_audit.file_audit.FileAudit.{FileAudit}
 use Rattle.dn_audit.specs.declared.verdict.Verdict.{Verdict}
 use Rattle.dn_audit.specs.declared.verdict.Verdict.TheVariants.{Lawful, Differs}
 use Rattle.dn_files.specs.declared.replay_fault.ReplayFault.{ReplayFault}
 use Rattle.dn_files.specs.declared.replay_fault.ReplayFault.TheVariants.{TooLong}
+use Rattle.hingetulip_c.specs.Handles.{Holds}
 use Rattle.hingetulip_c.specs.declared.records.c_verdict.CVerdict.{CVerdict}
 
 -- The handle is open, its audit takes a text of at most so many bytes, and this text has come to it so far.
 abbrev pub HoldsText : ℕ → List FileAudit → List ℕ → Type 0
-HoldsText limit (a ∷ []) text = (a.limit ≡ limit) × HasCome a text
-HoldsText limit _ text = ⊥
+HoldsText limit held text = Holds (λ a. (a.limit ≡ limit) × HasCome a text) held
 
 -- The status of a part that isn't taken: the text is longer with it than the limit, or else memory was refused.
 abbrev pub unfed_status : ReplayFault → ℕ

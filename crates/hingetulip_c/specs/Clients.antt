@@ -1,10 +1,12 @@
 -- A caller that C holds, and what a call by it does.
-use Rattle.std.specs.Prelude.{◌≡◌, ◌≢◌, ◌<◌, ℕ, List, [], ◌∷◌, map, Option, unwrap_or}
+use Rattle.std.specs.Prelude.{◌≡◌, ◌≢◌, ◌<◌, ◌⊎◌, ℕ, List, [], ◌∷◌, map, Option}
 use Rattle.dn_types.specs.declared.call.Call.{Call}
 use Rattle.dn_types.specs.declared.reply.Reply.{Reply}
 use Rattle.dn_types.specs.declared.reply.Reply.TheVariants.{Exhausted}
-use Rattle.dn_service.specs.Callers.{Answered, IsSameCaller, having_lost, having_faced}
+use Rattle.dn_service.specs.Callers.{Answered, CallerView, IsSameCaller, having_lost, having_faced}
 use Rattle.dn_service.specs.Wakes.{Wakes}
+use Rattle.hingetulip_c.specs.Handles.{Holds, HoldsBoth, IsClosed, LacksMemory}
+use Rattle.hingetulip_c.specs.Statuses.{told_moment}
 use Rattle.hingetulip_c.specs.declared.client.Client.{Client}
 
 -- The caller's call was answered, and the reply is the one that is kept now. No call of another was noted.
@@ -14,15 +16,14 @@ pub record IsAnswered (call : Call) (b a : Client) : Type 0 where
   pub lost : a.caller.lost ≡ b.caller.lost
 
 -- This is the number of another caller of the service.
-pub record IsOther (holder : ℕ) (c : Client) : Type 0 where
-  pub below : holder < c.caller.service.callers
-  pub another : holder ≢ c.caller.number
+abbrev pub IsOther : ℕ → CallerView → Type 0
+IsOther holder c = (holder < c.service.callers) × (holder ≢ c.number)
 
--- The caller was told when to ask next, which is 2^64 - 1 for never. The reply that it keeps is the same.
+-- The caller was told when to ask next. The reply that it keeps is the same.
 pub record Woke (moment : ℕ) (b a : Client) : Type 0 where
   pub next : Option ℕ
   pub wakes : Wakes b.caller next a.caller
-  pub moment_is : moment ≡ unwrap_or next 18446744073709551615
+  pub moment_is : moment ≡ told_moment next
   pub same_caller : IsSameCaller b.caller a.caller
   pub lost : a.caller.lost ≡ b.caller.lost
   pub last : a.last ≡ b.last
@@ -42,18 +43,19 @@ pub record RefusedBy (status holder : ℕ) (b a : List Client) : Type 0 where
   pub memory : status ≡ 6 → (faced : ℕ) × (a ≡ map (facing faced) b)
   pub other : status ≢ 15 → status ≢ 6 → a ≡ b
 
--- An answer on a handle, which is open before and after.
+-- The same of handles, which are open.
 abbrev pub AnsweredBy : Call → List Client → List Client → Type 0
-AnsweredBy call (b ∷ []) (a ∷ []) = IsAnswered call b a
-AnsweredBy call _ _ = ⊥
+AnsweredBy call = HoldsBoth (IsAnswered call)
 
 abbrev pub WokeBy : ℕ → List Client → List Client → Type 0
-WokeBy moment (b ∷ []) (a ∷ []) = Woke moment b a
-WokeBy moment _ _ = ⊥
+WokeBy moment = HoldsBoth (Woke moment)
 
 abbrev pub IsBusyWith : ℕ → List Client → Type 0
-IsBusyWith holder (c ∷ []) = IsOther holder c
-IsBusyWith holder _ = ⊥
+IsBusyWith holder = Holds (λ c. IsOther holder c.caller)
+
+-- Why a caller's call isn't answered: its handle is closed (5), memory was refused (6), or another caller is in a call (15).
+abbrev pub UnansweredBy : ℕ → List Client → ℕ → Type 0
+UnansweredBy holder held status = IsClosed held status ⊎ LacksMemory held status ⊎ ((status ≡ 15) × IsBusyWith holder held)
 
 -- The reply that the handle has. A closed handle has one that tells nothing.
 abbrev pub last_reply : List Client → Reply

@@ -1,9 +1,18 @@
--- What is wrong with a line, in C's words.
-use Rattle.std.specs.Prelude.{ℕ, unwrap_or}
+-- A line as the command that it is, and what is wrong with it, in C's words.
+use Rattle.std.specs.Prelude.{◌≡◌, ◌≢◌, ℕ, IsUtf8, List, Ok, Err, Some, unwrap_or}
+use Rattle.dn_config.specs.Line.{answer}
 use Rattle.dn_config.specs.Positions.{position_of}
 use Rattle.dn_config.specs.declared.fault.LineFault.{LineFault}
 use Rattle.dn_config.specs.declared.fault.LineFault.TheVariants.{UnknownWord, MissingValue, BadNumber, OutOfRange, LeftOut, NeedsPipe, OutOfMemory}
+use Rattle.dn_types.specs.declared.command.Command.{Command}
 use Rattle.hingetulip_c.specs.declared.records.c_fault.CFault.{CFault}
+
+-- If the line is a command, this is so of it. If it has a fault, this is so of that.
+abbrev pub IfCommand : List ℕ → (Command → Type 0) → Type 0
+IfCommand line is = (command : Command) → answer line ≡ Ok (Some command) → is command
+
+abbrev pub IfFault : List ℕ → (LineFault → Type 0) → Type 0
+IfFault line is = (found : LineFault) → answer line ≡ Err found → is found
 
 -- The number of a fault's kind in the header.
 abbrev pub kind_of : LineFault → ℕ
@@ -21,3 +30,9 @@ fault_of found = record { word = unwrap_or (position_of found) 0; kind = kind_of
 
 abbrev pub no_text : CFault
 no_text = record { word = 0; kind = 0; reserved = 0 }
+
+-- If the line is no command, the status says so (8), and its first fault is written. No other status writes one.
+pub record TellsFault (line : List ℕ) (status : ℕ) (old new : CFault) : Type 0 where
+  pub garbled : ¬ (IsUtf8 line) → (status ≡ 8) × (new ≡ no_text)
+  pub fault : IsUtf8 line → IfFault line (λ found. (status ≡ 8) × (new ≡ fault_of found))
+  pub no_fault : status ≢ 8 → new ≡ old

@@ -38,7 +38,25 @@ number_of (Queue number) = number
 
 -- The state of a flow as C reads it.
 abbrev pub c_flow : FlowStatus → CFlow
-c_flow f = record { flow = f.flow; queued = f.queued; bytes = f.bytes; lost = f.lost; full = f.full; started = f.started; discarded = f.discarded; src = f.key.tuple.src; dst = f.key.tuple.dst; sport = f.key.tuple.sport; dport = f.key.tuple.dport; number = number_of f.key.target; pipe = f.key.pipe; kind = kind_of f.key.target; proto = f.key.tuple.proto; reserved = 0; reserved2 = 0 }
+c_flow f = record {
+  flow = f.flow;
+  queued = f.queued;
+  bytes = f.bytes;
+  lost = f.lost;
+  full = f.full;
+  started = f.started;
+  discarded = f.discarded;
+  src = f.key.tuple.src;
+  dst = f.key.tuple.dst;
+  sport = f.key.tuple.sport;
+  dport = f.key.tuple.dport;
+  number = number_of f.key.target;
+  pipe = f.key.pipe;
+  kind = kind_of f.key.target;
+  proto = f.key.tuple.proto;
+  reserved = 0;
+  reserved2 = 0;
+}
 
 -- The deliveries of a reply, and the states of flows.
 abbrev pub deliveries_of : Reply → List CDelivery

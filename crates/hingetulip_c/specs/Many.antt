@@ -4,7 +4,9 @@ use Rattle.dn_types.specs.Replies.{reply}
 use Rattle.dn_types.specs.declared.call.Call.{Call}
 use Rattle.dn_types.specs.declared.reply.Reply.{Reply}
 use Rattle.dn_types.specs.declared.rule.Rule.{Rule}
-use Rattle.hingetulip_c.specs.Submits.{submit_of, fate_status, fate_of}
+use Rattle.dn_shaper.specs.declared.state.State.{State}
+use Rattle.hingetulip_c.specs.Handles.{UnansweredAfter}
+use Rattle.hingetulip_c.specs.Submits.{FaultyOr, submit_of, fate_status, fate_of}
 use Rattle.hingetulip_c.specs.declared.records.c_fate.CFate.{CFate}
 use Rattle.hingetulip_c.specs.declared.records.c_packet.CPacket.{CPacket}
 
@@ -20,3 +22,8 @@ reply_at rule calls packets place p = reply rule (sent (take place packets) call
 abbrev pub AreTold : ℕ → Rule → List Call → List CPacket → List CFate → List CFate → Type 0
 AreTold n rule calls packets old new = (place : ℕ) (p : CPacket) (f : CFate) → place < n
     → (fate_status (reply_at rule calls packets place p) ≡ 0) × (get_or new place f ≡ fate_of (get_or old place f) (reply_at rule calls packets place p))
+
+-- Why the packet at a place isn't answered after those before it.
+abbrev pub StopsAt : ℕ → List CPacket → CPacket → List State → ℕ → Type 0
+StopsAt place packets p held status =
+    FaultyOr (get_or packets place p) status (UnansweredAfter (sent (take place packets)) (submit_of (get_or packets place p)) held status)

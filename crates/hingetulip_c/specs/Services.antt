@@ -1,11 +1,13 @@
 -- A service that C holds: its callers, and the entries that it took out, which wait to be written.
-use Rattle.std.specs.Prelude.{◌≡◌, ◌≢◌, ℕ, ◌+◌, ◌<◌, ◌≤◌, ◌⊎◌, List, [], ◌∷◌, drop, take, length, map}
+use Rattle.std.specs.Prelude.{◌≡◌, ◌≢◌, ℕ, ◌+◌, ◌<◌, ◌≤◌, ◌⊎◌, List, [], ◌∷◌, drop, take, length, map, replicate}
 use Rattle.dn_types.specs.declared.entry.Entry.{Entry}
 use Rattle.dn_types.specs.declared.reply.Reply.TheVariants.{Exhausted}
 use Rattle.dn_records.specs.Records.{text_of}
 use Rattle.dn_history.specs.HistoryText.{entry_records, part_text}
 use Rattle.dn_service.specs.Callers.{CallerView, having_lost, new_caller, new_callers}
 use Rattle.dn_service.specs.Lasting.{Takes}
+use Rattle.hingetulip_c.specs.Clients.{IsOther}
+use Rattle.hingetulip_c.specs.Handles.{Holds, HoldsBoth, IsClosed, LacksMemory}
 use Rattle.hingetulip_c.specs.declared.caller_handle.CallerHandle.{CallerHandle}
 use Rattle.hingetulip_c.specs.declared.client.Client.{Client}
 use Rattle.hingetulip_c.specs.declared.ledger.Ledger.{Ledger}
@@ -28,12 +30,23 @@ Opened n (l ∷ []) clients = (l.taker.lasting.service.callers ≡ n + 1) × (l.
     × (l.taker.lasting.taken ≡ []) × (waiting l ≡ []) × (clients ≡ map held_new (new_callers l.taker.lasting.service 0 n))
 Opened n _ clients = ⊥
 
--- The handle is open before and after, no entry waited, and those that now wait were taken out. The first has this place. No call of
--- another was noted.
-abbrev pub Taken : ℕ → List Ledger → List Ledger → Type 0
-Taken start (b ∷ []) (a ∷ []) = (waiting b ≡ []) × Takes b.taker.lasting b.taker.caller start (waiting a) a.taker.lasting a.taker.caller
+-- A service was opened with so many callers (0), memory was refused and all handles are closed (6), or their number isn't in 1 to 15 and
+-- nothing has changed (16).
+pub record OpensService (status : ℕ) (old new : List Ledger) (before after : List CallerHandle) : Type 0 where
+  pub opened : status ≡ 0 → Opened (length before) new (all_held after)
+  pub memory : status ≡ 6 → (new ≡ []) × (all_held after ≡ replicate (length before) [])
+  pub bad_count : status ≡ 16 → ((length before ≡ 0) ⊎ (15 < length before)) × (new ≡ old) × (after ≡ before)
+  pub statuses : (status ≡ 0) ⊎ (status ≡ 6) ⊎ (status ≡ 16)
+  pub known : status ≢ 16 → (0 < length before) × (length before ≤ 15)
+
+-- No entry waited, and those that now wait were taken out. The first has this place. No call of another was noted.
+abbrev pub TakenOut : ℕ → Ledger → Ledger → Type 0
+TakenOut start b a = (waiting b ≡ []) × Takes b.taker.lasting b.taker.caller start (waiting a) a.taker.lasting a.taker.caller
     × (a.taker.caller.lost ≡ b.taker.caller.lost)
-Taken start _ _ = ⊥
+
+-- The same of a handle that is open before and after.
+abbrev pub Taken : ℕ → List Ledger → List Ledger → Type 0
+Taken start = HoldsBoth (TakenOut start)
 
 -- The service after its own caller found caller k in a call.
 abbrev pub service_losing : ℕ → Ledger → Ledger
@@ -51,8 +64,7 @@ count_waiting _ = 0
 
 -- The handle is open, and its service has another caller of this number than the service's own.
 abbrev pub IsServiceBusyWith : ℕ → List Ledger → Type 0
-IsServiceBusyWith holder (l ∷ []) = (holder < l.taker.caller.service.callers) × (holder ≢ l.taker.caller.number)
-IsServiceBusyWith holder _ = ⊥
+IsServiceBusyWith holder = Holds (λ l. IsOther holder l.taker.caller)
 
 -- The text of the first entry that waits.
 abbrev pub next_text : List Entry → List ℕ
@@ -68,8 +80,7 @@ pub record Written (text : List ℕ) (b a : Ledger) : Type 0 where
 
 -- The same of a handle that is open before and after.
 abbrev pub Wrote : List ℕ → List Ledger → List Ledger → Type 0
-Wrote text (b ∷ []) (a ∷ []) = Written text b a
-Wrote text _ _ = ⊥
+Wrote text = HoldsBoth (Written text)
 
 -- This is the text of the first n entries that waited. The others wait, and the next one, if there is one, has no room.
 pub record WrittenMany (n room : ℕ) (text : List ℕ) (b a : Ledger) : Type 0 where
@@ -82,10 +93,15 @@ pub record WrittenMany (n room : ℕ) (text : List ℕ) (b a : Ledger) : Type 0 
 
 -- The same of a handle that is open before and after.
 abbrev pub WroteMany : ℕ → ℕ → List ℕ → List Ledger → List Ledger → Type 0
-WroteMany n room text (b ∷ []) (a ∷ []) = WrittenMany n room text b a
-WroteMany n room text _ _ = ⊥
+WroteMany n room text = HoldsBoth (WrittenMany n room text)
 
 -- How many bytes the first entry that waits has as text.
 abbrev pub next_length : List Ledger → ℕ
 next_length (l ∷ []) = length (next_text (waiting l))
 next_length _ = 0
+
+-- Why no entry was written: the handle is closed (5), memory was refused (6), the first that waits is longer than the room (7), or none
+-- waits (18).
+abbrev pub NotWritten : ℕ → ℕ → List Ledger → ℕ → Type 0
+NotWritten room size held status = IsClosed held status ⊎ LacksMemory held status
+    ⊎ ((status ≡ 7) × (size ≡ next_length held) × (room < size)) ⊎ ((status ≡ 18) × (held ≢ []) × (count_waiting held ≡ 0))

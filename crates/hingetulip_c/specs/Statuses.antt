@@ -1,5 +1,5 @@
 -- What a status says of a call, and which status a reply is.
-use Rattle.std.specs.Prelude.{ℕ, ◌||◌, Bool, nat_eq, nat_le, length}
+use Rattle.std.specs.Prelude.{ℕ, ◌||◌, Bool, Option, nat_eq, nat_le, length, unwrap_or}
 use Rattle.dn_types.specs.declared.reply.Reply.{Reply}
 use Rattle.dn_types.specs.declared.reply.Reply.TheVariants.{Advanced, Configured, NoSuchPipe, Deleted, PipeHasQueues, NoSuchQueue, Delivered, Status}
 
@@ -28,6 +28,10 @@ clock_status _ = 1
 abbrev pub clock_of : ℕ → Reply → ℕ
 clock_of old (Advanced at) = at
 clock_of old _ = old
+
+-- A moment that may never come, as C reads it: 2^64 - 1 for never.
+abbrev pub told_moment : Option ℕ → ℕ
+told_moment moment = unwrap_or moment 18446744073709551615
 
 -- The status that a Collect's reply is, and how many packets it gives.
 abbrev pub collect_status : Reply → ℕ

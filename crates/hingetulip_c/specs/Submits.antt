@@ -10,7 +10,11 @@ use Rattle.hingetulip_c.specs.declared.records.c_packet.CPacket.{CPacket}
 
 -- The call that a packet makes.
 abbrev pub submit_of : CPacket → Call
-submit_of p = Submit (cond (nat_eq p.kind 0) (Pipe p.number) (Queue p.number)) (record { tuple = record { src = p.src; dst = p.dst; proto = p.proto; sport = p.sport; dport = p.dport }; len = p.length; word = p.word }) p.moment
+submit_of p = Submit (cond (nat_eq p.kind 0) (Pipe p.number) (Queue p.number)) (record {
+  tuple = record { src = p.src; dst = p.dst; proto = p.proto; sport = p.sport; dport = p.dport };
+  len = p.length;
+  word = p.word;
+}) p.moment
 
 -- Each number of the packet is in range.
 pub record InRange (p : CPacket) : Type 0 where
@@ -20,9 +24,21 @@ pub record InRange (p : CPacket) : Type 0 where
   pub length : 1 ≤ p.length
   pub reserved : p.reserved ≡ 0
 
--- The status tells of a number that is out of range.
+-- The status tells of a moment that is out of range (9).
+abbrev pub FaultyMoment : ℕ → ℕ → Type 0
+FaultyMoment moment status = (status ≡ 9) × (2 ^ 62 < moment)
+
+-- The status tells of a number of the packet that is out of range.
 abbrev pub Faulty : CPacket → ℕ → Type 0
-Faulty p status = ((status ≡ 9) × (2 ^ 62 < p.moment)) ⊎ ((status ≡ 11) × (1 < p.kind)) ⊎ ((status ≡ 12) × (p.number ≡ 0)) ⊎ ((status ≡ 13) × (p.length ≡ 0)) ⊎ ((status ≡ 14) × (0 < p.reserved))
+Faulty p status = FaultyMoment p.moment status ⊎ ((status ≡ 11) × (1 < p.kind)) ⊎ ((status ≡ 12) × (p.number ≡ 0))
+    ⊎ ((status ≡ 13) × (p.length ≡ 0)) ⊎ ((status ≡ 14) × (0 < p.reserved))
+
+-- The status tells of a number that is out of range, or each is in range and this is so.
+abbrev pub FaultyMomentOr : ℕ → ℕ → Type 0 → Type 0
+FaultyMomentOr moment status is = FaultyMoment moment status ⊎ ((moment ≤ 2 ^ 62) × is)
+
+abbrev pub FaultyOr : CPacket → ℕ → Type 0 → Type 0
+FaultyOr p status is = Faulty p status ⊎ (InRange p × is)
 
 -- The status that a Submit's reply is.
 abbrev pub fate_status : Reply → ℕ

@@ -36,7 +36,7 @@ impl Client {
     fn apply(&mut self, call: &Call, holder: &mut u64) -> Result<(), u32>
         ensures ok { OnOk result (IsAnswered call.now self.old self.new) }
         ensures err { IfErr result (λ status. RefusedBy status holder.new (self.old ∷ []) (self.new ∷ [])) }
-        ensures why { IfErr result (λ status. ((status ≡ 6) × (holder.new ≡ holder.old)) ⊎ ((status ≡ 15) × IsOther holder.new self.old)) }
+        ensures why { IfErr result (λ status. ((status ≡ 6) × (holder.new ≡ holder.old)) ⊎ ((status ≡ 15) × IsOther holder.new self.old.caller)) }
         ensures same_holder { OnOk result (holder.new ≡ holder.old) }
     {
         match self.caller.try_call_quietly(call) {
@@ -55,7 +55,7 @@ impl Client {
     /// Makes a Submit, and writes the fate.
     pub(crate) fn submit(&mut self, call: &Call, fate: &mut CFate, holder: &mut u64) -> u32
         ensures refused { answered result ≡ false → RefusedBy result holder.new (self.old ∷ []) (self.new ∷ []) × (fate.new ≡ fate.old) }
-        ensures why { answered result ≡ false → (result ≡ 6) ⊎ ((result ≡ 15) × IsOther holder.new self.old) }
+        ensures why { answered result ≡ false → (result ≡ 6) ⊎ ((result ≡ 15) × IsOther holder.new self.old.caller) }
         ensures holder { result ≢ 15 → holder.new ≡ holder.old }
         ensures answered { answered result ≡ true → IsAnswered call.now self.old self.new }
         ensures status { answered result ≡ true → result ≡ fate_status self.new.last }
@@ -70,7 +70,7 @@ impl Client {
     /// Makes an Advance, and writes where the clock is.
     pub(crate) fn advance(&mut self, call: &Call, at: &mut u64, holder: &mut u64) -> u32
         ensures refused { answered result ≡ false → RefusedBy result holder.new (self.old ∷ []) (self.new ∷ []) × (at.new ≡ at.old) }
-        ensures why { answered result ≡ false → (result ≡ 6) ⊎ ((result ≡ 15) × IsOther holder.new self.old) }
+        ensures why { answered result ≡ false → (result ≡ 6) ⊎ ((result ≡ 15) × IsOther holder.new self.old.caller) }
         ensures holder { result ≢ 15 → holder.new ≡ holder.old }
         ensures answered { answered result ≡ true → IsAnswered call.now self.old self.new }
         ensures status { answered result ≡ true → result ≡ clock_status self.new.last }
@@ -85,7 +85,7 @@ impl Client {
     /// Makes a Collect or a Show, and writes how many items the list of its reply has. The reply that is kept has them.
     pub(crate) fn list(&mut self, call: &Call, count: &mut u64, holder: &mut u64) -> u32
         ensures refused { answered result ≡ false → RefusedBy result holder.new (self.old ∷ []) (self.new ∷ []) × (count.new ≡ count.old) }
-        ensures why { answered result ≡ false → (result ≡ 6) ⊎ ((result ≡ 15) × IsOther holder.new self.old) }
+        ensures why { answered result ≡ false → (result ≡ 6) ⊎ ((result ≡ 15) × IsOther holder.new self.old.caller) }
         ensures holder { result ≢ 15 → holder.new ≡ holder.old }
         ensures answered { answered result ≡ true → IsAnswered call.now self.old self.new }
         ensures status { answered result ≡ true → result ≡ list_status self.new.last }
@@ -100,7 +100,7 @@ impl Client {
     /// Makes a Configure.
     pub(crate) fn configure(&mut self, call: &Call, holder: &mut u64) -> u32
         ensures refused { taken result ≡ false → RefusedBy result holder.new (self.old ∷ []) (self.new ∷ []) }
-        ensures why { taken result ≡ false → (result ≡ 6) ⊎ ((result ≡ 15) × IsOther holder.new self.old) }
+        ensures why { taken result ≡ false → (result ≡ 6) ⊎ ((result ≡ 15) × IsOther holder.new self.old.caller) }
         ensures holder { result ≢ 15 → holder.new ≡ holder.old }
         ensures answered { taken result ≡ true → IsAnswered call.now self.old self.new }
         ensures status { taken result ≡ true → result ≡ configure_status self.new.last }
@@ -115,7 +115,7 @@ impl Client {
     #[tactic(auto, using(crate::proofs::Serving::lost_to))]
     pub(crate) fn wake(&mut self, moment: &mut u64, holder: &mut u64) -> u32
         ensures woke { result ≡ 0 → Woke moment.new self.old self.new }
-        ensures refused { result ≢ 0 → (result ≡ 15) × IsOther holder.new self.old × RefusedBy result holder.new (self.old ∷ []) (self.new ∷ []) × (moment.new ≡ moment.old) }
+        ensures refused { result ≢ 0 → (result ≡ 15) × IsOther holder.new self.old.caller × RefusedBy result holder.new (self.old ∷ []) (self.new ∷ []) × (moment.new ≡ moment.old) }
         ensures holder { result ≢ 15 → holder.new ≡ holder.old }
     {
         match self.caller.try_wake_quietly() {

@@ -2,11 +2,10 @@
 
 ghost use Rattle.std.specs.Prelude.{◌≡◌, ◌≢◌, ◌≤◌, ◌<◌, ◌⊎◌, IsUtf8, Option, Ok, Err, IfOk, IfErr, IfSome, IfNone};
 ghost use Rattle.dn_config.specs.Line.{answer};
-ghost use Rattle.dn_config.specs.declared.fault.LineFault.{LineFault as FaultValue};
 ghost use Rattle.dn_types.specs.declared.call.Call.TheVariants.{Configure};
 ghost use Rattle.dn_types.specs.declared.command.Command.{Command as CommandValue};
-ghost use Rattle.hingetulip_c.specs.Faults.{fault_of, no_text};
-ghost use Rattle.hingetulip_c.specs.Texts.{entry_by, obeyed, told_of};
+ghost use Rattle.hingetulip_c.specs.Faults.{IfFault, fault_of, no_text};
+ghost use Rattle.hingetulip_c.specs.Texts.{FaultyCaller, entry_by, obeyed, told_of};
 
 use crate::entries::caller_of;
 use crate::records::CFault;
@@ -40,8 +39,7 @@ pub(crate) fn command_of(line: &[u8], fault: &mut CFault) -> Result<Option<Comma
     ensures err { IfErr result (λ status. (status ≡ 8)
         × (IsUtf8 line.now → (found : Option CommandValue) → answer line.now ≢ Ok found)) }
     ensures no_text { ¬ (IsUtf8 line.now) → (result ≡ Err 8) × (fault.new ≡ no_text) }
-    ensures fault { IsUtf8 line.now → (found : FaultValue) → answer line.now ≡ Err found
-        → (result ≡ Err 8) × (fault.new ≡ fault_of found) }
+    ensures fault { IsUtf8 line.now → IfFault line.now (λ found. (result ≡ Err 8) × (fault.new ≡ fault_of found)) }
 {
     let Ok(text) = std::str::from_utf8(line) else {
         *fault = CFault {
@@ -91,7 +89,7 @@ fn told_of(command: &Command, status: u32) -> Option<Reply>
 pub(crate) fn configure_entry(caller: u64, command: Command, status: u32) -> Result<Entry, u32>
     ensures ok { IfOk result (λ entry. (entry ≡ entry_by caller (Configure command) (told_of command status))
         × (caller ≤ 15) × (status ≤ 4)) }
-    ensures err { IfErr result (λ bad. ((bad ≡ 20) × (15 < caller)) ⊎ ((bad ≡ 21) × (4 < status))) }
+    ensures err { IfErr result (λ bad. FaultyCaller caller bad ⊎ ((bad ≡ 21) × (4 < status))) }
 {
     let Some(caller) = caller_of(caller) else {
         return Err(BAD_CALLER);

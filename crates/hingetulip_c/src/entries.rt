@@ -1,10 +1,10 @@
 //! The entries of a history that C's structs make.
 
-ghost use Rattle.std.specs.Prelude.{◌≡◌, ◌≤◌, ◌<◌, ◌⊎◌, ◌^◌, map, false, true, IfOk, IfErr, IfSome, IfNone};
+ghost use Rattle.std.specs.Prelude.{◌≡◌, ◌≤◌, ◌<◌, ◌⊎◌, ◌^◌, map, IfOk, IfErr, IfSome, IfNone};
 ghost use Rattle.dn_types.specs.declared.call.Call.TheVariants.{Advance, Collect};
 ghost use Rattle.dn_types.specs.declared.reply.Reply.TheVariants.{Advanced, Delivered};
-ghost use Rattle.hingetulip_c.specs.Submits.{InRange, submit_of as call_of};
-ghost use Rattle.hingetulip_c.specs.Texts.{delivery_of, entry_by, has_reserved, told_by, FaultyFate, FaultySubmit, IsFate};
+ghost use Rattle.hingetulip_c.specs.Submits.{FaultyMoment, InRange, submit_of as call_of};
+ghost use Rattle.hingetulip_c.specs.Texts.{delivery_of, entry_by, has_reserved, told_by, FaultyCaller, FaultyCollect, FaultyFate, FaultySubmit, IsCollect, IsFate};
 
 use crate::convert::submit_of;
 use crate::records::{CDelivery, CFate, CPacket};
@@ -72,7 +72,7 @@ pub(crate) fn submit_entry(caller: u64, packet: &CPacket, fate: &CFate) -> Resul
 pub(crate) fn advance_entry(caller: u64, moment: u64, at: u64) -> Result<Entry, u32>
     ensures ok { IfOk result (λ entry. (entry ≡ entry_by caller (Advance moment) (Advanced at))
         × (caller ≤ 15) × (moment ≤ 2 ^ 62)) }
-    ensures err { IfErr result (λ status. ((status ≡ 20) × (15 < caller)) ⊎ ((status ≡ 9) × (2 ^ 62 < moment))) }
+    ensures err { IfErr result (λ status. FaultyCaller caller status ⊎ FaultyMoment moment status) }
 {
     let Some(caller) = caller_of(caller) else {
         return Err(BAD_CALLER);
@@ -123,10 +123,9 @@ pub(crate) fn collect_entry(
     list: &[CDelivery],
 ) -> Result<Entry, u32>
     ensures ok { IfOk result (λ entry. (entry ≡ entry_by caller (Collect moment) (Delivered at (map delivery_of list.now)))
-        × (caller ≤ 15) × (moment ≤ 2 ^ 62) × (has_reserved list.now ≡ false)) }
-    ensures err { IfErr result (λ status. ((status ≡ 20) × (15 < caller)) ⊎ ((status ≡ 9) × (2 ^ 62 < moment))
-        ⊎ ((status ≡ 14) × (has_reserved list.now ≡ true))
-        ⊎ ((status ≡ 6) × (has_reserved list.now ≡ false) × (caller ≤ 15) × (moment ≤ 2 ^ 62))) }
+        × IsCollect caller moment list.now) }
+    ensures err { IfErr result (λ status. FaultyCollect caller moment list.now status
+        ⊎ ((status ≡ 6) × IsCollect caller moment list.now)) }
 {
     let Some(caller) = caller_of(caller) else {
         return Err(BAD_CALLER);

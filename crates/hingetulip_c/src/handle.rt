@@ -2,14 +2,11 @@ ghost use Rattle.std.specs.Prelude.{◌≡◌, ◌≢◌, ◌≤◌, ◌<◌, �
 ghost use Rattle.std.specs.Option.{MatchOption};
 ghost use Rattle.std_alloc.specs.Box.Ownership.{box_owns};
 ghost use Rattle.dn_types.specs.Clock.{call_limit};
-ghost use Rattle.dn_types.specs.declared.call.Call.{Call as CallValue};
 ghost use Rattle.dn_types.specs.declared.call.Call.TheVariants.{Advance, Collect, Show, Submit};
-ghost use Rattle.dn_types.specs.declared.rule.Rule.{Rule as RuleValue};
 ghost use Rattle.dn_shaper.specs.Shaper.{items_in};
-ghost use Rattle.dn_types.specs.Replies.{reply};
 ghost use Rattle.dn_shaper.specs.contracts.shaper.Shaper.{the_row};
 ghost use Rattle.dn_shaper.specs.declared.state.State.{State};
-ghost use Rattle.hingetulip_c.specs.Handles.{freed, owned_by, HeldAfter, StillHeld, AnswersHeld, CanLackMemory};
+ghost use Rattle.hingetulip_c.specs.Handles.{freed, owned_by, After, AnswersHeld, IfReply, IsClosed, LacksMemory, StillHeld, Unanswered};
 ghost use Rattle.hingetulip_c.specs.Lists.{held_after, flows_after};
 ghost use Rattle.hingetulip_c.specs.Room.{HoldsRoomFor, IsOfNewFlow, StillRoomy};
 ghost use base.Stored.{coded_list};
@@ -99,7 +96,7 @@ impl Handle {
         ensures ok { IfOk result (λ r. AnswersHeld call.now self.old.held self.new.held r) }
         ensures err { OnErr result (StillHeld self.old.held self.new.held) }
         ensures closed { self.old.held ≡ [] → (result ≡ Err 5) × (self.new.held ≡ []) }
-        ensures why { IfErr result (λ status. ((status ≡ 5) × (self.old.held ≡ [])) ⊎ ((status ≡ 6) × ((rule : RuleValue) (calls : List CallValue) → HeldAfter rule self.old.held calls → CanLackMemory calls call.now))) }
+        ensures why { IfErr result (λ status. Unanswered call.now self.old.held status) }
         ensures stays_open { self.new.held ≡ [] → self.old.held ≡ [] }
         ensures advance { (moment : ℕ) → call.now ≡ Advance moment → IfErr result (λ status. status ≡ 5) }
         ensures succeeds { HoldsRoomFor call.now self.old.held → IsOk result }
@@ -128,9 +125,10 @@ impl Handle {
     ) -> Result<bool, u32>
         ensures room { IfOk result (λ there. there ≡ true → (moment : ℕ) → HoldsRoomFor (Submit target packet.now moment) self.new.held) }
         ensures succeeds { (moment : ℕ) → HoldsRoomFor (Submit target packet.now moment) self.old.held → IsOk result }
-        ensures new_flow { IfOk result (λ there. there ≡ false → (rule : RuleValue) (calls : List CallValue) → HeldAfter rule self.old.held calls → length calls < call_limit → (moment : ℕ) → IsOfNewFlow (Submit target packet.now moment) calls) }
+        ensures new_flow { IfOk result (λ there. there ≡ false → After self.old.held (λ rule calls. length calls < call_limit
+            → (moment : ℕ) → IsOfNewFlow (Submit target packet.now moment) calls)) }
         ensures same { StillHeld self.old.held self.new.held }
-        ensures why { IfErr result (λ status. ((status ≡ 5) × (self.old.held ≡ [])) ⊎ ((status ≡ 6) × (self.old.held ≢ []))) }
+        ensures why { IfErr result (λ status. IsClosed self.old.held status ⊎ LacksMemory self.old.held status) }
         ensures closed { self.old.held ≡ [] → (result ≡ Err 5) × (self.new.held ≡ []) }
         ensures stays_open { self.new.held ≡ [] → self.old.held ≡ [] }
     {
@@ -153,7 +151,7 @@ impl Handle {
         ensures ok { IfOk result (λ r. AnswersHeld (Collect moment) self.old.held self.new.held r) }
         ensures err { OnErr result (StillHeld self.old.held self.new.held) }
         ensures closed { self.old.held ≡ [] → (result ≡ Err 5) × (self.new.held ≡ []) }
-        ensures why { IfErr result (λ status. ((status ≡ 5) × (self.old.held ≡ [])) ⊎ ((status ≡ 6) × ((rule : RuleValue) (calls : List CallValue) → HeldAfter rule self.old.held calls → CanLackMemory calls (Collect moment)))) }
+        ensures why { IfErr result (λ status. Unanswered (Collect moment) self.old.held status) }
         ensures stays_open { self.new.held ≡ [] → self.old.held ≡ [] }
         ensures leaves { StillRoomy self.old.held self.new.held }
     {
@@ -182,8 +180,8 @@ impl Handle {
     /// How many packets the reply to a Collect can have, and None where the handle is closed.
     pub(crate) fn room_for_deliveries(&mut self, alloc: Global) -> Option<usize>
         ensures same { self.new.held ≡ self.old.held }
-        ensures room { IfSome result (λ room. (rule : RuleValue) (calls : List CallValue) → HeldAfter rule self.old.held calls → room ≡ held_after rule calls) }
-        ensures fits { IfSome result (λ room. (rule : RuleValue) (calls : List CallValue) → HeldAfter rule self.old.held calls → (moment : ℕ) → items_in (reply rule calls (Collect moment)) ≤ room) }
+        ensures room { IfSome result (λ room. After self.old.held (λ rule calls. room ≡ held_after rule calls)) }
+        ensures fits { IfSome result (λ room. (moment : ℕ) → IfReply self.old.held (Collect moment) (λ r. items_in r ≤ room)) }
         ensures closed { IfNone result (self.old.held ≡ []) }
         ensures there { IfSome result (λ room. self.old.held ≢ []) }
     {
@@ -196,8 +194,8 @@ impl Handle {
     /// How many flows the reply to a Show can have, and None where the handle is closed.
     pub(crate) fn room_for_flows(&mut self, alloc: Global) -> Option<usize>
         ensures same { self.new.held ≡ self.old.held }
-        ensures room { IfSome result (λ room. (rule : RuleValue) (calls : List CallValue) → HeldAfter rule self.old.held calls → room ≡ flows_after calls) }
-        ensures fits { IfSome result (λ room. (rule : RuleValue) (calls : List CallValue) → HeldAfter rule self.old.held calls → items_in (reply rule calls Show) ≤ room) }
+        ensures room { IfSome result (λ room. After self.old.held (λ rule calls. room ≡ flows_after calls)) }
+        ensures fits { IfSome result (λ room. IfReply self.old.held Show (λ r. items_in r ≤ room)) }
         ensures closed { IfNone result (self.old.held ≡ []) }
         ensures there { IfSome result (λ room. self.old.held ≢ []) }
     {

@@ -4,7 +4,8 @@ ghost use Rattle.dn_history.specs.HistoryText.{entry_records};
 ghost use Rattle.dn_records.specs.Records.{text_of};
 ghost use Rattle.dn_service.specs.Lasting.{Takes};
 ghost use Rattle.dn_types.specs.declared.entry.Entry.{Entry as EntryValue};
-ghost use Rattle.hingetulip_c.specs.Services.{next_text, service_losing, waiting, NotTaken, Written, WrittenMany};
+ghost use Rattle.hingetulip_c.specs.Clients.{IsOther};
+ghost use Rattle.hingetulip_c.specs.Services.{next_text, service_losing, waiting, NotTaken, TakenOut, Written, WrittenMany};
 
 use crate::copy_part::{first_of, rest_from};
 use crate::history_lines::{entry_text, put_line, texts_within};
@@ -32,7 +33,7 @@ impl Ledger {
         ensures written { IfOk result (λ start. self.new.written ≡ 0) }
         ensures lost { OnOk result (self.new.taker.caller.lost ≡ self.old.taker.caller.lost) }
         ensures err { IfErr result (λ k. self.new ≡ service_losing k self.old) }
-        ensures busy { IfErr result (λ k. (k < self.old.taker.caller.service.callers) × (k ≢ self.old.taker.caller.number)) }
+        ensures busy { IfErr result (λ k. IsOther k self.old.taker.caller) }
     {
         match self.taker.try_take_quietly() {
             Ok(Segment { start, entries }) => {
@@ -46,10 +47,10 @@ impl Ledger {
 
     /// Takes out all entries so far if none waits, and writes the place of the first and how many they are.
     pub(crate) fn take_out(&mut self, start: &mut u64, count: &mut u64, holder: &mut u64) -> u32
-        ensures ok { result ≡ 0 → (waiting self.old ≡ []) × Takes self.old.taker.lasting self.old.taker.caller start.new (waiting self.new) self.new.taker.lasting self.new.taker.caller × (self.new.taker.caller.lost ≡ self.old.taker.caller.lost) }
+        ensures ok { result ≡ 0 → TakenOut start.new self.old self.new }
         ensures count { result ≡ 0 → count.new ≡ length (waiting self.new) }
         ensures refused { result ≢ 0 → NotTaken result holder.new (self.old ∷ []) (self.new ∷ []) × (start.new ≡ start.old) × (count.new ≡ count.old) }
-        ensures why { result ≢ 0 → ((result ≡ 17) × (length (waiting self.old) ≢ 0)) ⊎ ((result ≡ 15) × (holder.new < self.old.taker.caller.service.callers) × (holder.new ≢ self.old.taker.caller.number)) }
+        ensures why { result ≢ 0 → ((result ≡ 17) × (length (waiting self.old) ≢ 0)) ⊎ ((result ≡ 15) × IsOther holder.new self.old.taker.caller) }
         ensures holder { result ≢ 15 → holder.new ≡ holder.old }
     {
         if self.written < self.entries.len() {
@@ -71,7 +72,8 @@ impl Ledger {
     /// The text of the first entry that was not written, if there is one.
     fn next_text(&self, alloc: Global) -> Result<Option<Vec<u8>>, AllocError>
         ensures text { IfOk result (λ found. MatchOption found (waiting self.now ≡ [])
-            (λ text. (entry : EntryValue) × (waiting self.now ≡ entry ∷ drop (self.now.written + 1) self.now.entries.items) × (text.items ≡ text_of (entry_records entry)) × (self.now.written < vec_len self.now.entries))) }
+            (λ text. (entry : EntryValue) × (waiting self.now ≡ entry ∷ drop (self.now.written + 1) self.now.entries.items)
+            × (text.items ≡ text_of (entry_records entry)) × (self.now.written < vec_len self.now.entries))) }
         ensures memory { OnErr result (length (waiting self.now) ≢ 0) }
     {
         match self.entries.get(self.written) {

@@ -1,5 +1,5 @@
-ghost use Rattle.std.specs.Prelude.{◌≡◌, ◌<◌, ℕ, true, IfSome, unwrap_or};
-ghost use Rattle.hingetulip_c.specs.Statuses.{answered, taken, configure_status, clock_status, clock_of, list_status, list_count};
+ghost use Rattle.std.specs.Prelude.{◌≡◌, ◌<◌, ℕ, true, IfSome};
+ghost use Rattle.hingetulip_c.specs.Statuses.{answered, taken, configure_status, clock_status, clock_of, list_status, list_count, told_moment};
 ghost use Rattle.hingetulip_c.specs.Submits.{fate_status, fate_of};
 
 use crate::records::CFate;
@@ -72,7 +72,7 @@ pub(crate) fn put_count(reply: &Reply, count: &mut u64) -> u32
 
 /// The moment, and 2^64 - 1 for none.
 pub(crate) fn or_never(first: Option<u64>) -> u64
-    ensures value { result ≡ unwrap_or first 18446744073709551615 }
+    ensures value { result ≡ told_moment first }
     ensures before { (at : ℕ) → at < result → IfSome first (λ moment. at < moment) }
 {
     match first {

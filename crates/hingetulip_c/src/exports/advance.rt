@@ -1,11 +1,9 @@
-ghost use Rattle.std.specs.Prelude.{◌≡◌, ◌^◌, ◌<◌, ◌≤◌, ◌⊎◌, List, [], ◌∷◌, true, false};
-ghost use Rattle.dn_types.specs.Replies.{reply};
-ghost use Rattle.dn_types.specs.declared.call.Call.{Call as CallValue};
+ghost use Rattle.std.specs.Prelude.{◌≡◌, ◌^◌, ◌≤◌, [], true, false};
 ghost use Rattle.dn_types.specs.declared.call.Call.TheVariants.{Advance};
-ghost use Rattle.dn_types.specs.declared.rule.Rule.{Rule as RuleValue};
-ghost use Rattle.hingetulip_c.specs.Handles.{HeldAfter, StillHeld};
+ghost use Rattle.hingetulip_c.specs.Handles.{HeldMore, IfReply, IsClosed, StillHeld};
 ghost use Rattle.hingetulip_c.specs.Room.{StillRoomy};
 ghost use Rattle.hingetulip_c.specs.Statuses.{answered, clock_status, clock_of};
+ghost use Rattle.hingetulip_c.specs.Submits.{FaultyMomentOr};
 
 use crate::handle::Handle;
 use crate::status::BAD_MOMENT;
@@ -20,11 +18,11 @@ pub extern "C" fn dn_advance(alloc: Global, handle: &mut Handle, moment: u64, at
     ensures closed { handle.old.held ≡ [] → (answered result ≡ false) × (handle.new.held ≡ []) }
     ensures refused { answered result ≡ false → StillHeld handle.old.held handle.new.held }
     ensures no_clock { answered result ≡ false → at.new ≡ at.old }
-    ensures why { answered result ≡ false → ((result ≡ 9) × (2 ^ 62 < moment)) ⊎ ((result ≡ 5) × (moment ≤ 2 ^ 62) × (handle.old.held ≡ [])) }
+    ensures why { answered result ≡ false → FaultyMomentOr moment result (IsClosed handle.old.held result) }
     ensures in_range { answered result ≡ true → moment ≤ 2 ^ 62 }
-    ensures status { answered result ≡ true → (rule : RuleValue) (calls : List CallValue) → HeldAfter rule handle.old.held calls → result ≡ clock_status (reply rule calls (Advance moment)) }
-    ensures clock { answered result ≡ true → (rule : RuleValue) (calls : List CallValue) → HeldAfter rule handle.old.held calls → at.new ≡ clock_of at.old (reply rule calls (Advance moment)) }
-    ensures stands { answered result ≡ true → (rule : RuleValue) (calls : List CallValue) → HeldAfter rule handle.old.held calls → HeldAfter rule handle.new.held (Advance moment ∷ calls) }
+    ensures status { answered result ≡ true → IfReply handle.old.held (Advance moment) (λ r. result ≡ clock_status r) }
+    ensures clock { answered result ≡ true → IfReply handle.old.held (Advance moment) (λ r. at.new ≡ clock_of at.old r) }
+    ensures stands { answered result ≡ true → HeldMore (Advance moment) handle.old.held handle.new.held }
     ensures leaves { StillRoomy handle.old.held handle.new.held }
 {
     let Some(moment) = Moment::new(moment) else {

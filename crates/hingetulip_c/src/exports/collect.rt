@@ -1,12 +1,10 @@
-ghost use Rattle.std.specs.Prelude.{◌≡◌, ◌≢◌, ◌^◌, ◌<◌, ◌≤◌, ◌⊎◌, List, [], ◌∷◌, true, false, length, take, drop};
-ghost use Rattle.dn_types.specs.Replies.{reply};
-ghost use Rattle.dn_types.specs.declared.call.Call.{Call as CallValue};
+ghost use Rattle.std.specs.Prelude.{◌≡◌, ◌≢◌, ◌^◌, ◌<◌, ◌≤◌, ◌⊎◌, [], true, false, length, take, drop};
 ghost use Rattle.dn_types.specs.declared.call.Call.TheVariants.{Collect};
-ghost use Rattle.dn_types.specs.declared.rule.Rule.{Rule as RuleValue};
-ghost use Rattle.hingetulip_c.specs.Handles.{HeldAfter, StillHeld, CanLackMemory};
+ghost use Rattle.hingetulip_c.specs.Handles.{After, HeldMore, IfReply, StillHeld, Unanswered};
 ghost use Rattle.hingetulip_c.specs.Lists.{deliveries_of, held_after};
 ghost use Rattle.hingetulip_c.specs.Room.{StillRoomy};
 ghost use Rattle.hingetulip_c.specs.Statuses.{answered, collect_status, collect_count};
+ghost use Rattle.hingetulip_c.specs.Submits.{FaultyMomentOr};
 
 use crate::copy::put_deliveries;
 use crate::handle::Handle;
@@ -29,14 +27,14 @@ pub extern "C" fn dn_collect(
     ensures refused { answered result ≡ false → StillHeld handle.old.held handle.new.held }
     ensures no_list { result ≢ 0 → list.new ≡ list.old }
     ensures no_count { answered result ≡ false → result ≢ 7 → count.new ≡ count.old }
-    ensures why { answered result ≡ false → ((result ≡ 9) × (2 ^ 62 < moment)) ⊎ ((moment ≤ 2 ^ 62) × (((result ≡ 5) × (handle.old.held ≡ [])) ⊎ ((result ≡ 6) × (handle.old.held ≢ []) × ((rule : RuleValue) (calls : List CallValue) → HeldAfter rule handle.old.held calls → CanLackMemory calls (Collect moment))) ⊎ ((result ≡ 7) × (handle.old.held ≢ [])))) }
+    ensures why { answered result ≡ false → FaultyMomentOr moment result (Unanswered (Collect moment) handle.old.held result ⊎ ((result ≡ 7) × (handle.old.held ≢ []))) }
     ensures in_range { answered result ≡ true → moment ≤ 2 ^ 62 }
-    ensures room { result ≡ 7 → (rule : RuleValue) (calls : List CallValue) → HeldAfter rule handle.old.held calls → (count.new ≡ held_after rule calls) × (length list.old < held_after rule calls) }
-    ensures status { answered result ≡ true → (rule : RuleValue) (calls : List CallValue) → HeldAfter rule handle.old.held calls → result ≡ collect_status (reply rule calls (Collect moment)) }
-    ensures count { answered result ≡ true → (rule : RuleValue) (calls : List CallValue) → HeldAfter rule handle.old.held calls → count.new ≡ collect_count count.old (reply rule calls (Collect moment)) }
-    ensures list { answered result ≡ true → (rule : RuleValue) (calls : List CallValue) → HeldAfter rule handle.old.held calls → take (length (deliveries_of (reply rule calls (Collect moment)))) list.new ≡ deliveries_of (reply rule calls (Collect moment)) }
+    ensures room { result ≡ 7 → After handle.old.held (λ rule calls. (count.new ≡ held_after rule calls) × (length list.old < held_after rule calls)) }
+    ensures status { answered result ≡ true → IfReply handle.old.held (Collect moment) (λ r. result ≡ collect_status r) }
+    ensures count { answered result ≡ true → IfReply handle.old.held (Collect moment) (λ r. count.new ≡ collect_count count.old r) }
+    ensures list { answered result ≡ true → IfReply handle.old.held (Collect moment) (λ r. take (length (deliveries_of r)) list.new ≡ deliveries_of r) }
     ensures others { result ≡ 0 → drop count.new list.new ≡ drop count.new list.old }
-    ensures stands { answered result ≡ true → (rule : RuleValue) (calls : List CallValue) → HeldAfter rule handle.old.held calls → HeldAfter rule handle.new.held (Collect moment ∷ calls) }
+    ensures stands { answered result ≡ true → HeldMore (Collect moment) handle.old.held handle.new.held }
     ensures leaves { StillRoomy handle.old.held handle.new.held }
 {
     let Some(moment) = Moment::new(moment) else {

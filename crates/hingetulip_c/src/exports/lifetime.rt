@@ -1,6 +1,5 @@
-ghost use Rattle.std.specs.Prelude.{◌≡◌, ◌≢◌, ◌<◌, ◌≤◌, ◌⊎◌, cond, nat_eq, []};
-ghost use Rattle.dn_types.specs.declared.rule.Rule.TheVariants.{Ordered, Free};
-ghost use Rattle.hingetulip_c.specs.Handles.{HeldAfter};
+ghost use Rattle.std.specs.Prelude.{◌≡◌};
+ghost use Rattle.hingetulip_c.specs.Handles.{IsClosedBy, Opens};
 
 use crate::handle::Handle;
 use crate::status::{BAD_RULE, CLOSED, MEMORY, OK};
@@ -20,11 +19,7 @@ pub extern "C" fn dn_version() -> u32
 
 /// Opens a handle by the key of its flows' hash. What it held is let go.
 fn open(alloc: Global, handle: &mut Handle, rule: u32, key: HashKey) -> u32
-    ensures opened { result ≡ 0 → HeldAfter (cond (nat_eq rule 0) Ordered Free) handle.new.held [] }
-    ensures memory { result ≡ 6 → handle.new.held ≡ [] }
-    ensures bad_rule { result ≡ 10 → (1 < rule) × (handle.new.held ≡ handle.old.held) }
-    ensures statuses { (result ≡ 0) ⊎ (result ≡ 6) ⊎ (result ≡ 10) }
-    ensures known { result ≢ 10 → rule ≤ 1 }
+    ensures { Opens rule result handle.old.held handle.new.held }
 {
     let rule = match rule {
         0 => Rule::Ordered,
@@ -44,11 +39,7 @@ fn open(alloc: Global, handle: &mut Handle, rule: u32, key: HashKey) -> u32
 /// Opens a handle, without a pipe, a queue or a packet. What it held is let go.
 #[unsafe(no_mangle)]
 pub extern "C" fn dn_open(alloc: Global, handle: &mut Handle, rule: u32) -> u32
-    ensures opened { result ≡ 0 → HeldAfter (cond (nat_eq rule 0) Ordered Free) handle.new.held [] }
-    ensures memory { result ≡ 6 → handle.new.held ≡ [] }
-    ensures bad_rule { result ≡ 10 → (1 < rule) × (handle.new.held ≡ handle.old.held) }
-    ensures statuses { (result ≡ 0) ⊎ (result ≡ 6) ⊎ (result ≡ 10) }
-    ensures known { result ≢ 10 → rule ≤ 1 }
+    ensures { Opens rule result handle.old.held handle.new.held }
 {
     open(alloc, handle, rule, HashKey(0))
 }
@@ -64,11 +55,7 @@ pub extern "C" fn dn_open_with_key(
     high: u64,
     low: u64,
 ) -> u32
-    ensures opened { result ≡ 0 → HeldAfter (cond (nat_eq rule 0) Ordered Free) handle.new.held [] }
-    ensures memory { result ≡ 6 → handle.new.held ≡ [] }
-    ensures bad_rule { result ≡ 10 → (1 < rule) × (handle.new.held ≡ handle.old.held) }
-    ensures statuses { (result ≡ 0) ⊎ (result ≡ 6) ⊎ (result ≡ 10) }
-    ensures known { result ≢ 10 → rule ≤ 1 }
+    ensures { Opens rule result handle.old.held handle.new.held }
 {
     let key = HashKey(u128::from(high) << 64 | u128::from(low));
     open(alloc, handle, rule, key)
@@ -77,10 +64,7 @@ pub extern "C" fn dn_open_with_key(
 /// Closes a handle, and lets go what it held.
 #[unsafe(no_mangle)]
 pub extern "C" fn dn_close(alloc: Global, handle: &mut Handle) -> u32
-    ensures closed { handle.new.held ≡ [] }
-    ensures again { result ≡ 5 → handle.old.held ≡ [] }
-    ensures status { handle.old.held ≡ [] → result ≡ 5 }
-    ensures statuses { (result ≡ 0) ⊎ (result ≡ 5) }
+    ensures { IsClosedBy result handle.old.held handle.new.held }
 {
     match handle.take(alloc) {
         Some(_shaper) => OK,

@@ -1,9 +1,6 @@
-ghost use Rattle.std.specs.Prelude.{◌≡◌, ◌≢◌, ◌<◌, ◌⊎◌, List, [], ◌∷◌, true, false, length, take, drop};
-ghost use Rattle.dn_types.specs.Replies.{reply};
-ghost use Rattle.dn_types.specs.declared.call.Call.{Call as CallValue};
+ghost use Rattle.std.specs.Prelude.{◌≡◌, ◌≢◌, ◌<◌, ◌⊎◌, [], true, false, length, take, drop};
 ghost use Rattle.dn_types.specs.declared.call.Call.TheVariants.{Show as ShowCall};
-ghost use Rattle.dn_types.specs.declared.rule.Rule.{Rule as RuleValue};
-ghost use Rattle.hingetulip_c.specs.Handles.{HeldAfter, StillHeld, CanLackMemory};
+ghost use Rattle.hingetulip_c.specs.Handles.{After, HeldMore, IfReply, StillHeld, Unanswered};
 ghost use Rattle.hingetulip_c.specs.Lists.{flows_after, flows_of};
 ghost use Rattle.hingetulip_c.specs.Room.{StillRoomy};
 ghost use Rattle.hingetulip_c.specs.Statuses.{answered, show_status, show_count};
@@ -28,13 +25,13 @@ pub extern "C" fn dn_show(
     ensures refused { answered result ≡ false → StillHeld handle.old.held handle.new.held }
     ensures no_list { result ≢ 0 → list.new ≡ list.old }
     ensures no_count { answered result ≡ false → result ≢ 7 → count.new ≡ count.old }
-    ensures why { answered result ≡ false → ((result ≡ 5) × (handle.old.held ≡ [])) ⊎ ((result ≡ 6) × (handle.old.held ≢ []) × ((rule : RuleValue) (calls : List CallValue) → HeldAfter rule handle.old.held calls → CanLackMemory calls ShowCall)) ⊎ ((result ≡ 7) × (handle.old.held ≢ [])) }
-    ensures room { result ≡ 7 → (rule : RuleValue) (calls : List CallValue) → HeldAfter rule handle.old.held calls → (count.new ≡ flows_after calls) × (length list.old < flows_after calls) }
-    ensures status { answered result ≡ true → (rule : RuleValue) (calls : List CallValue) → HeldAfter rule handle.old.held calls → result ≡ show_status (reply rule calls ShowCall) }
-    ensures count { answered result ≡ true → (rule : RuleValue) (calls : List CallValue) → HeldAfter rule handle.old.held calls → count.new ≡ show_count count.old (reply rule calls ShowCall) }
-    ensures list { answered result ≡ true → (rule : RuleValue) (calls : List CallValue) → HeldAfter rule handle.old.held calls → take (length (flows_of (reply rule calls ShowCall))) list.new ≡ flows_of (reply rule calls ShowCall) }
+    ensures why { answered result ≡ false → Unanswered ShowCall handle.old.held result ⊎ ((result ≡ 7) × (handle.old.held ≢ [])) }
+    ensures room { result ≡ 7 → After handle.old.held (λ rule calls. (count.new ≡ flows_after calls) × (length list.old < flows_after calls)) }
+    ensures status { answered result ≡ true → IfReply handle.old.held ShowCall (λ r. result ≡ show_status r) }
+    ensures count { answered result ≡ true → IfReply handle.old.held ShowCall (λ r. count.new ≡ show_count count.old r) }
+    ensures list { answered result ≡ true → IfReply handle.old.held ShowCall (λ r. take (length (flows_of r)) list.new ≡ flows_of r) }
     ensures others { result ≡ 0 → drop count.new list.new ≡ drop count.new list.old }
-    ensures stands { answered result ≡ true → (rule : RuleValue) (calls : List CallValue) → HeldAfter rule handle.old.held calls → HeldAfter rule handle.new.held (ShowCall ∷ calls) }
+    ensures stands { answered result ≡ true → HeldMore ShowCall handle.old.held handle.new.held }
     ensures leaves { StillRoomy handle.old.held handle.new.held }
 {
     let Some(room) = handle.room_for_flows(alloc) else {

@@ -1,11 +1,8 @@
-ghost use Rattle.std.specs.Prelude.{◌≡◌, ◌≢◌, ◌⊎◌, List, [], ◌∷◌, true, false};
-ghost use Rattle.dn_types.specs.Replies.{reply};
-ghost use Rattle.dn_types.specs.declared.call.Call.{Call as CallValue};
-ghost use Rattle.dn_types.specs.declared.rule.Rule.{Rule as RuleValue};
-ghost use Rattle.hingetulip_c.specs.Handles.{HeldAfter, StillHeld, CanLackMemory};
+ghost use Rattle.std.specs.Prelude.{◌≡◌, ◌≢◌, [], true, false};
+ghost use Rattle.hingetulip_c.specs.Handles.{HeldMore, IfReply, StillHeld, Unanswered};
 ghost use Rattle.hingetulip_c.specs.Room.{HoldsRoomFor};
 ghost use Rattle.hingetulip_c.specs.Statuses.{answered};
-ghost use Rattle.hingetulip_c.specs.Submits.{InRange, Faulty, submit_of as call_of, fate_status, fate_of};
+ghost use Rattle.hingetulip_c.specs.Submits.{InRange, FaultyOr, submit_of as call_of, fate_status, fate_of};
 
 use crate::convert::submit_of;
 use crate::handle::Handle;
@@ -27,11 +24,11 @@ pub extern "C" fn dn_submit(
     ensures stays_open { handle.new.held ≡ [] → handle.old.held ≡ [] }
     ensures refused { answered result ≡ false → StillHeld handle.old.held handle.new.held }
     ensures no_fate { answered result ≡ false → fate.new ≡ fate.old }
-    ensures why { answered result ≡ false → Faulty packet.now result ⊎ (InRange packet.now × (((result ≡ 5) × (handle.old.held ≡ [])) ⊎ ((result ≡ 6) × (handle.old.held ≢ []) × ((rule : RuleValue) (calls : List CallValue) → HeldAfter rule handle.old.held calls → CanLackMemory calls (call_of packet.now))))) }
+    ensures why { answered result ≡ false → FaultyOr packet.now result (Unanswered (call_of packet.now) handle.old.held result) }
     ensures succeeds { HoldsRoomFor (call_of packet.now) handle.old.held → result ≢ 6 }
-    ensures status { answered result ≡ true → (rule : RuleValue) (calls : List CallValue) → HeldAfter rule handle.old.held calls → result ≡ fate_status (reply rule calls (call_of packet.now)) }
-    ensures fate { answered result ≡ true → (rule : RuleValue) (calls : List CallValue) → HeldAfter rule handle.old.held calls → fate.new ≡ fate_of fate.old (reply rule calls (call_of packet.now)) }
-    ensures stands { answered result ≡ true → (rule : RuleValue) (calls : List CallValue) → HeldAfter rule handle.old.held calls → HeldAfter rule handle.new.held (call_of packet.now ∷ calls) }
+    ensures status { answered result ≡ true → IfReply handle.old.held (call_of packet.now) (λ r. result ≡ fate_status r) }
+    ensures fate { answered result ≡ true → IfReply handle.old.held (call_of packet.now) (λ r. fate.new ≡ fate_of fate.old r) }
+    ensures stands { answered result ≡ true → HeldMore (call_of packet.now) handle.old.held handle.new.held }
 {
     match submit_of(packet) {
         Err(status) => status,

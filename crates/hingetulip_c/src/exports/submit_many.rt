@@ -1,10 +1,8 @@
-ghost use Rattle.std.specs.Prelude.{◌≡◌, ◌≢◌, ◌<◌, ◌⊎◌, ◌↔◌, List, [], ◌∷◌, length, get_or, take, drop};
-ghost use Rattle.dn_types.specs.declared.call.Call.{Call as CallValue};
+ghost use Rattle.std.specs.Prelude.{◌≡◌, ◌≢◌, ◌<◌, ◌↔◌, [], drop, get_or, length, take};
 ghost use Rattle.dn_types.specs.declared.reply.Reply.TheVariants.{Exhausted};
-ghost use Rattle.dn_types.specs.declared.rule.Rule.{Rule as RuleValue};
-ghost use Rattle.hingetulip_c.specs.Handles.{HeldAfter, CanLackMemory};
-ghost use Rattle.hingetulip_c.specs.Many.{AreTold, reply_at, sent};
-ghost use Rattle.hingetulip_c.specs.Submits.{Faulty, InRange, submit_of};
+ghost use Rattle.hingetulip_c.specs.Handles.{After, AnswersAfter, HeldAfter};
+ghost use Rattle.hingetulip_c.specs.Many.{AreTold, StopsAt, sent};
+ghost use Rattle.hingetulip_c.specs.Submits.{submit_of};
 ghost use Rattle.hingetulip_c.specs.declared.records.c_packet.CPacket.{CPacket as PacketValue};
 
 use crate::exports::submit::dn_submit;
@@ -28,11 +26,12 @@ pub extern "C" fn dn_submit_many(
     ensures none { result ≡ 7 → done.new ≡ 0 }
     ensures all { result ≡ 0 → done.new ≡ length packets.now }
     ensures stops { result ≢ 0 → result ≢ 7 → done.new < length packets.now }
-    ensures why { result ≢ 0 → result ≢ 1 → result ≢ 7 → (p : PacketValue) → Faulty (get_or packets.now done.new p) result ⊎ (InRange (get_or packets.now done.new p) × (((result ≡ 5) × (handle.old.held ≡ [])) ⊎ ((result ≡ 6) × (handle.old.held ≢ []) × ((rule : RuleValue) (calls : List CallValue) → HeldAfter rule handle.old.held calls → CanLackMemory (sent (take done.new packets.now) calls) (submit_of (get_or packets.now done.new p)))))) }
-    ensures fates { (rule : RuleValue) (calls : List CallValue) → HeldAfter rule handle.old.held calls → AreTold done.new rule calls packets.now fates.old fates.new }
+    ensures why { result ≢ 0 → result ≢ 1 → result ≢ 7 → (p : PacketValue) → StopsAt done.new packets.now p handle.old.held result }
+    ensures fates { After handle.old.held (λ rule calls. AreTold done.new rule calls packets.now fates.old fates.new) }
     ensures others { drop done.new fates.new ≡ drop done.new fates.old }
-    ensures stands { result ≢ 1 → (rule : RuleValue) (calls : List CallValue) → HeldAfter rule handle.old.held calls → HeldAfter rule handle.new.held (sent (take done.new packets.now) calls) }
-    ensures exhausted { result ≡ 1 → (p : PacketValue) (rule : RuleValue) (calls : List CallValue) → HeldAfter rule handle.old.held calls → (reply_at rule calls packets.now done.new p ≡ Exhausted) × HeldAfter rule handle.new.held (submit_of (get_or packets.now done.new p) ∷ sent (take done.new packets.now) calls) }
+    ensures stands { result ≢ 1 → After handle.old.held (λ rule calls. HeldAfter rule handle.new.held (sent (take done.new packets.now) calls)) }
+    ensures exhausted { result ≡ 1 → (p : PacketValue) → AnswersAfter (sent (take done.new packets.now))
+        (submit_of (get_or packets.now done.new p)) handle.old.held handle.new.held Exhausted }
 {
     if fates.len() < packets.len() {
         *done = 0;

@@ -1,7 +1,8 @@
-ghost use Rattle.std.specs.Prelude.{◌≡◌, ◌≢◌, ◌^◌, ◌<◌, ◌≤◌, ◌⊎◌, [], true, false};
+ghost use Rattle.std.specs.Prelude.{◌≡◌, ◌≢◌, ◌^◌, ◌≤◌, true, false};
 ghost use Rattle.dn_types.specs.declared.call.Call.TheVariants.{Advance};
-ghost use Rattle.hingetulip_c.specs.Clients.{AnsweredBy, IsBusyWith, RefusedBy, last_reply};
+ghost use Rattle.hingetulip_c.specs.Clients.{AnsweredBy, RefusedBy, UnansweredBy, last_reply};
 ghost use Rattle.hingetulip_c.specs.Statuses.{answered, clock_status, clock_of};
+ghost use Rattle.hingetulip_c.specs.Submits.{FaultyMomentOr};
 
 use crate::caller_handle::CallerHandle;
 use crate::status::{BAD_MOMENT, CLOSED};
@@ -9,7 +10,7 @@ use dn_types::{Call, Moment};
 use std::alloc::Global;
 
 /// Moves the clock, and writes where it is.
-#[tactic(auto, using(crate::proofs::Serving::answered_by, crate::proofs::Serving::busy_with, crate::proofs::Serving::refused_by))]
+#[tactic(auto, using(crate::proofs::Serving::holds, crate::proofs::Serving::holds_both, crate::proofs::Serving::refused_by))]
 #[unsafe(no_mangle)]
 pub extern "C" fn dn_caller_advance(
     alloc: Global,
@@ -20,8 +21,7 @@ pub extern "C" fn dn_caller_advance(
 ) -> u32
     ensures in_range { answered result ≡ true → moment ≤ 2 ^ 62 }
     ensures refused { answered result ≡ false → RefusedBy result holder.new caller.old.held caller.new.held × (at.new ≡ at.old) }
-    ensures why { answered result ≡ false → ((result ≡ 9) × (2 ^ 62 < moment)) ⊎ ((moment ≤ 2 ^ 62) × (((result ≡ 5) × (caller.old.held ≡ []))
-        ⊎ ((result ≡ 6) × (caller.old.held ≢ [])) ⊎ ((result ≡ 15) × IsBusyWith holder.new caller.old.held))) }
+    ensures why { answered result ≡ false → FaultyMomentOr moment result (UnansweredBy holder.new caller.old.held result) }
     ensures holder { result ≢ 15 → holder.new ≡ holder.old }
     ensures answered { answered result ≡ true → AnsweredBy (Advance moment) caller.old.held caller.new.held }
     ensures status { answered result ≡ true → result ≡ clock_status (last_reply caller.new.held) }

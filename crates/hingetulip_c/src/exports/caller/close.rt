@@ -1,4 +1,4 @@
-ghost use Rattle.std.specs.Prelude.{◌≡◌, ◌⊎◌, []};
+ghost use Rattle.hingetulip_c.specs.Handles.{IsClosedBy};
 
 use crate::caller_handle::CallerHandle;
 use crate::status::{CLOSED, OK};
@@ -7,10 +7,7 @@ use std::alloc::Global;
 /// Closes a caller, and lets go what it held.
 #[unsafe(no_mangle)]
 pub extern "C" fn dn_caller_close(alloc: Global, caller: &mut CallerHandle) -> u32
-    ensures closed { caller.new.held ≡ [] }
-    ensures again { result ≡ 5 → caller.old.held ≡ [] }
-    ensures status { caller.old.held ≡ [] → result ≡ 5 }
-    ensures statuses { (result ≡ 0) ⊎ (result ≡ 5) }
+    ensures { IsClosedBy result caller.old.held caller.new.held }
 {
     match caller.take(alloc) {
         Some(_client) => OK,

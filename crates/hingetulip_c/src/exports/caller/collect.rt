@@ -1,7 +1,8 @@
-ghost use Rattle.std.specs.Prelude.{◌≡◌, ◌≢◌, ◌^◌, ◌<◌, ◌≤◌, ◌⊎◌, [], true, false};
+ghost use Rattle.std.specs.Prelude.{◌≡◌, ◌≢◌, ◌^◌, ◌≤◌, true, false};
 ghost use Rattle.dn_types.specs.declared.call.Call.TheVariants.{Collect};
-ghost use Rattle.hingetulip_c.specs.Clients.{AnsweredBy, IsBusyWith, RefusedBy, last_reply};
+ghost use Rattle.hingetulip_c.specs.Clients.{AnsweredBy, RefusedBy, UnansweredBy, last_reply};
 ghost use Rattle.hingetulip_c.specs.Statuses.{answered, collect_status, collect_count};
+ghost use Rattle.hingetulip_c.specs.Submits.{FaultyMomentOr};
 
 use crate::caller_handle::CallerHandle;
 use crate::exports::caller::listing::call_for_list;
@@ -20,8 +21,7 @@ pub extern "C" fn dn_caller_collect(
 ) -> u32
     ensures in_range { answered result ≡ true → moment ≤ 2 ^ 62 }
     ensures refused { answered result ≡ false → RefusedBy result holder.new caller.old.held caller.new.held × (count.new ≡ count.old) }
-    ensures why { answered result ≡ false → ((result ≡ 9) × (2 ^ 62 < moment)) ⊎ ((moment ≤ 2 ^ 62) × (((result ≡ 5) × (caller.old.held ≡ []))
-        ⊎ ((result ≡ 6) × (caller.old.held ≢ [])) ⊎ ((result ≡ 15) × IsBusyWith holder.new caller.old.held))) }
+    ensures why { answered result ≡ false → FaultyMomentOr moment result (UnansweredBy holder.new caller.old.held result) }
     ensures holder { result ≢ 15 → holder.new ≡ holder.old }
     ensures answered { answered result ≡ true → AnsweredBy (Collect moment) caller.old.held caller.new.held }
     ensures status { answered result ≡ true → result ≡ collect_status (last_reply caller.new.held) }

@@ -1,5 +1,6 @@
-ghost use Rattle.std.specs.Prelude.{◌≡◌, ◌≢◌, ◌⊎◌, [], drop, length, min, take};
+ghost use Rattle.std.specs.Prelude.{◌≡◌, ◌⊎◌, drop, length, min, take};
 ghost use Rattle.hingetulip_c.specs.Clients.{last_reply};
+ghost use Rattle.hingetulip_c.specs.Handles.{IsClosed};
 ghost use Rattle.hingetulip_c.specs.Lists.{deliveries_of};
 
 use crate::caller_handle::CallerHandle;
@@ -18,7 +19,7 @@ pub extern "C" fn dn_caller_deliveries(
     count: &mut u64,
 ) -> u32
     ensures same { caller.new.held ≡ caller.old.held }
-    ensures statuses { (result ≡ 0) ⊎ ((result ≡ 5) × (caller.old.held ≡ []) × (list.new ≡ list.old) × (count.new ≡ count.old)) }
+    ensures statuses { (result ≡ 0) ⊎ (IsClosed caller.old.held result × (list.new ≡ list.old) × (count.new ≡ count.old)) }
     ensures count { result ≡ 0 → count.new ≡ min (length (drop from (deliveries_of (last_reply caller.old.held)))) (length list.old) }
     ensures list { result ≡ 0 → take count.new list.new ≡ take count.new (drop from (deliveries_of (last_reply caller.old.held))) }
     ensures others { result ≡ 0 → drop count.new list.new ≡ drop count.new list.old }

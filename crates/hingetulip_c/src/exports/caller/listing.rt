@@ -1,5 +1,5 @@
-ghost use Rattle.std.specs.Prelude.{◌≡◌, ◌≢◌, ◌⊎◌, [], true, false};
-ghost use Rattle.hingetulip_c.specs.Clients.{AnsweredBy, IsBusyWith, RefusedBy, last_reply};
+ghost use Rattle.std.specs.Prelude.{◌≡◌, ◌≢◌, true, false};
+ghost use Rattle.hingetulip_c.specs.Clients.{AnsweredBy, RefusedBy, UnansweredBy, last_reply};
 ghost use Rattle.hingetulip_c.specs.Statuses.{answered, list_status, list_count};
 
 use crate::caller_handle::CallerHandle;
@@ -8,7 +8,7 @@ use dn_types::Call;
 use std::alloc::Global;
 
 /// Makes a Collect or a Show, and writes how many items the list of its reply has. The caller keeps the reply.
-#[tactic(auto, using(crate::proofs::Serving::answered_by, crate::proofs::Serving::busy_with, crate::proofs::Serving::refused_by))]
+#[tactic(auto, using(crate::proofs::Serving::holds, crate::proofs::Serving::holds_both, crate::proofs::Serving::refused_by))]
 pub(crate) fn call_for_list(
     alloc: Global,
     caller: &mut CallerHandle,
@@ -17,7 +17,7 @@ pub(crate) fn call_for_list(
     holder: &mut u64,
 ) -> u32
     ensures refused { answered result ≡ false → RefusedBy result holder.new caller.old.held caller.new.held × (count.new ≡ count.old) }
-    ensures why { answered result ≡ false → ((result ≡ 5) × (caller.old.held ≡ [])) ⊎ ((result ≡ 6) × (caller.old.held ≢ [])) ⊎ ((result ≡ 15) × IsBusyWith holder.new caller.old.held) }
+    ensures why { answered result ≡ false → UnansweredBy holder.new caller.old.held result }
     ensures holder { result ≢ 15 → holder.new ≡ holder.old }
     ensures answered { answered result ≡ true → AnsweredBy call.now caller.old.held caller.new.held }
     ensures status { answered result ≡ true → result ≡ list_status (last_reply caller.new.held) }

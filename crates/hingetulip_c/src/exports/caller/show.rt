@@ -1,6 +1,6 @@
-ghost use Rattle.std.specs.Prelude.{◌≡◌, ◌≢◌, ◌⊎◌, [], true, false};
+ghost use Rattle.std.specs.Prelude.{◌≡◌, ◌≢◌, true, false};
 ghost use Rattle.dn_types.specs.declared.call.Call.TheVariants.{Show as ShowCall};
-ghost use Rattle.hingetulip_c.specs.Clients.{AnsweredBy, IsBusyWith, RefusedBy, last_reply};
+ghost use Rattle.hingetulip_c.specs.Clients.{AnsweredBy, RefusedBy, UnansweredBy, last_reply};
 ghost use Rattle.hingetulip_c.specs.Statuses.{answered, show_status, show_count};
 
 use crate::caller_handle::CallerHandle;
@@ -17,7 +17,7 @@ pub extern "C" fn dn_caller_show(
     holder: &mut u64,
 ) -> u32
     ensures refused { answered result ≡ false → RefusedBy result holder.new caller.old.held caller.new.held × (count.new ≡ count.old) }
-    ensures why { answered result ≡ false → ((result ≡ 5) × (caller.old.held ≡ [])) ⊎ ((result ≡ 6) × (caller.old.held ≢ [])) ⊎ ((result ≡ 15) × IsBusyWith holder.new caller.old.held) }
+    ensures why { answered result ≡ false → UnansweredBy holder.new caller.old.held result }
     ensures holder { result ≢ 15 → holder.new ≡ holder.old }
     ensures answered { answered result ≡ true → AnsweredBy ShowCall caller.old.held caller.new.held }
     ensures status { answered result ≡ true → result ≡ show_status (last_reply caller.new.held) }

@@ -1,7 +1,7 @@
-ghost use Rattle.std.specs.Prelude.{◌≡◌, ◌≢◌, ◌⊎◌, [], true, false};
-ghost use Rattle.hingetulip_c.specs.Clients.{AnsweredBy, IsBusyWith, RefusedBy, last_reply};
+ghost use Rattle.std.specs.Prelude.{◌≡◌, ◌≢◌, true, false};
+ghost use Rattle.hingetulip_c.specs.Clients.{AnsweredBy, RefusedBy, UnansweredBy, last_reply};
 ghost use Rattle.hingetulip_c.specs.Statuses.{answered};
-ghost use Rattle.hingetulip_c.specs.Submits.{InRange, Faulty, submit_of as call_of, fate_status, fate_of};
+ghost use Rattle.hingetulip_c.specs.Submits.{InRange, FaultyOr, submit_of as call_of, fate_status, fate_of};
 
 use crate::caller_handle::CallerHandle;
 use crate::convert::submit_of;
@@ -10,7 +10,7 @@ use crate::status::CLOSED;
 use std::alloc::Global;
 
 /// A packet arrives.
-#[tactic(auto, using(crate::proofs::Serving::answered_by, crate::proofs::Serving::busy_with, crate::proofs::Serving::refused_by))]
+#[tactic(auto, using(crate::proofs::Serving::holds, crate::proofs::Serving::holds_both, crate::proofs::Serving::refused_by))]
 #[unsafe(no_mangle)]
 pub extern "C" fn dn_caller_submit(
     alloc: Global,
@@ -21,8 +21,7 @@ pub extern "C" fn dn_caller_submit(
 ) -> u32
     ensures in_range { answered result ≡ true → InRange packet.now }
     ensures refused { answered result ≡ false → RefusedBy result holder.new caller.old.held caller.new.held × (fate.new ≡ fate.old) }
-    ensures why { answered result ≡ false → Faulty packet.now result ⊎ (InRange packet.now × (((result ≡ 5) × (caller.old.held ≡ []))
-        ⊎ ((result ≡ 6) × (caller.old.held ≢ [])) ⊎ ((result ≡ 15) × IsBusyWith holder.new caller.old.held))) }
+    ensures why { answered result ≡ false → FaultyOr packet.now result (UnansweredBy holder.new caller.old.held result) }
     ensures holder { result ≢ 15 → holder.new ≡ holder.old }
     ensures answered { answered result ≡ true → AnsweredBy (call_of packet.now) caller.old.held caller.new.held }
     ensures status { answered result ≡ true → result ≡ fate_status (last_reply caller.new.held) }

@@ -1,5 +1,5 @@
-ghost use Rattle.std.specs.Prelude.{◌≡◌, ◌≢◌, ◌<◌, ◌≤◌, ◌⊎◌, [], ◌∷◌, length, replicate, IfOk};
-ghost use Rattle.hingetulip_c.specs.Services.{Opened, all_held};
+ghost use Rattle.std.specs.Prelude.{◌≡◌, ◌≤◌, [], ◌∷◌, length, IfOk};
+ghost use Rattle.hingetulip_c.specs.Services.{Opened, OpensService, all_held};
 
 use crate::caller_handle::CallerHandle;
 use crate::exports::service::hand_out::{close_all, hand_out};
@@ -47,11 +47,7 @@ fn open(
     callers: &mut [CallerHandle],
     key: HashKey,
 ) -> u32
-    ensures opened { result ≡ 0 → Opened (length callers.old) service.new.held (all_held callers.new) }
-    ensures memory { result ≡ 6 → (service.new.held ≡ []) × (all_held callers.new ≡ replicate (length callers.old) []) }
-    ensures bad_count { result ≡ 16 → ((length callers.old ≡ 0) ⊎ (15 < length callers.old)) × (service.new.held ≡ service.old.held) × (callers.new ≡ callers.old) }
-    ensures statuses { (result ≡ 0) ⊎ (result ≡ 6) ⊎ (result ≡ 16) }
-    ensures known { result ≢ 16 → (0 < length callers.old) × (length callers.old ≤ 15) }
+    ensures { OpensService result service.old.held service.new.held callers.old callers.new }
 {
     if callers.is_empty() || callers.len() > MOST_CALLERS {
         return BAD_COUNT;
@@ -76,11 +72,7 @@ pub extern "C" fn dn_service_open(
     service: &mut ServiceHandle,
     callers: &mut [CallerHandle],
 ) -> u32
-    ensures opened { result ≡ 0 → Opened (length callers.old) service.new.held (all_held callers.new) }
-    ensures memory { result ≡ 6 → (service.new.held ≡ []) × (all_held callers.new ≡ replicate (length callers.old) []) }
-    ensures bad_count { result ≡ 16 → ((length callers.old ≡ 0) ⊎ (15 < length callers.old)) × (service.new.held ≡ service.old.held) × (callers.new ≡ callers.old) }
-    ensures statuses { (result ≡ 0) ⊎ (result ≡ 6) ⊎ (result ≡ 16) }
-    ensures known { result ≢ 16 → (0 < length callers.old) × (length callers.old ≤ 15) }
+    ensures { OpensService result service.old.held service.new.held callers.old callers.new }
 {
     open(alloc, service, callers, HashKey(0))
 }
@@ -96,11 +88,7 @@ pub extern "C" fn dn_service_open_with_key(
     high: u64,
     low: u64,
 ) -> u32
-    ensures opened { result ≡ 0 → Opened (length callers.old) service.new.held (all_held callers.new) }
-    ensures memory { result ≡ 6 → (service.new.held ≡ []) × (all_held callers.new ≡ replicate (length callers.old) []) }
-    ensures bad_count { result ≡ 16 → ((length callers.old ≡ 0) ⊎ (15 < length callers.old)) × (service.new.held ≡ service.old.held) × (callers.new ≡ callers.old) }
-    ensures statuses { (result ≡ 0) ⊎ (result ≡ 6) ⊎ (result ≡ 16) }
-    ensures known { result ≢ 16 → (0 < length callers.old) × (length callers.old ≤ 15) }
+    ensures { OpensService result service.old.held service.new.held callers.old callers.new }
 {
     let key = HashKey(u128::from(high) << 64 | u128::from(low));
     open(alloc, service, callers, key)

@@ -1,12 +1,12 @@
-ghost use Rattle.std.specs.Prelude.{◌≡◌, ◌≢◌, ◌⊎◌, ◌<◌, [], drop, length, take};
-ghost use Rattle.hingetulip_c.specs.Services.{Wrote, count_waiting, next_length};
+ghost use Rattle.std.specs.Prelude.{◌≡◌, ◌≢◌, drop, length, take};
+ghost use Rattle.hingetulip_c.specs.Services.{NotWritten, Wrote, count_waiting};
 
 use crate::service_handle::ServiceHandle;
 use crate::status::CLOSED;
 use std::alloc::Global;
 
 /// Writes the first entry that waits, as lines of a history file.
-#[tactic(auto, using(crate::proofs::Serving::wrote))]
+#[tactic(auto, using(crate::proofs::Serving::holds_both))]
 #[unsafe(no_mangle)]
 pub extern "C" fn dn_service_text(
     alloc: Global,
@@ -17,8 +17,7 @@ pub extern "C" fn dn_service_text(
     ensures wrote { result ≡ 0 → Wrote (take size.new text.new) service.old.held service.new.held }
     ensures others { result ≡ 0 → drop size.new text.new ≡ drop size.new text.old }
     ensures refused { result ≢ 0 → (service.new.held ≡ service.old.held) × (text.new ≡ text.old) }
-    ensures why { result ≢ 0 → ((result ≡ 5) × (service.old.held ≡ [])) ⊎ ((result ≡ 6) × (service.old.held ≢ []))
-        ⊎ ((result ≡ 7) × (size.new ≡ next_length service.old.held) × (length text.old < size.new)) ⊎ ((result ≡ 18) × (service.old.held ≢ []) × (count_waiting service.old.held ≡ 0)) }
+    ensures why { result ≢ 0 → NotWritten (length text.old) size.new service.old.held result }
     ensures memory { result ≡ 6 → count_waiting service.old.held ≢ 0 }
     ensures size { result ≢ 0 → result ≢ 7 → size.new ≡ size.old }
 {

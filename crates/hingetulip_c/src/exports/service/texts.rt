@@ -1,12 +1,12 @@
-ghost use Rattle.std.specs.Prelude.{◌≡◌, ◌≢◌, ◌⊎◌, ◌<◌, ◌≤◌, [], drop, length, take};
-ghost use Rattle.hingetulip_c.specs.Services.{WroteMany, count_waiting, next_length};
+ghost use Rattle.std.specs.Prelude.{◌≡◌, ◌≢◌, ◌≤◌, drop, length, take};
+ghost use Rattle.hingetulip_c.specs.Services.{NotWritten, WroteMany, count_waiting};
 
 use crate::service_handle::ServiceHandle;
 use crate::status::CLOSED;
 use std::alloc::Global;
 
 /// Writes the first entries that wait, as many as have room, as lines of a history file.
-#[tactic(auto, using(crate::proofs::Serving::wrote_many))]
+#[tactic(auto, using(crate::proofs::Serving::holds_both))]
 #[unsafe(no_mangle)]
 pub extern "C" fn dn_service_texts(
     alloc: Global,
@@ -19,8 +19,7 @@ pub extern "C" fn dn_service_texts(
     ensures within { result ≡ 0 → size.new ≤ length text.new }
     ensures others { result ≡ 0 → drop size.new text.new ≡ drop size.new text.old }
     ensures refused { result ≢ 0 → (service.new.held ≡ service.old.held) × (text.new ≡ text.old) × (count.new ≡ count.old) }
-    ensures why { result ≢ 0 → ((result ≡ 5) × (service.old.held ≡ [])) ⊎ ((result ≡ 6) × (service.old.held ≢ []))
-        ⊎ ((result ≡ 7) × (size.new ≡ next_length service.old.held) × (length text.old < size.new)) ⊎ ((result ≡ 18) × (service.old.held ≢ []) × (count_waiting service.old.held ≡ 0)) }
+    ensures why { result ≢ 0 → NotWritten (length text.old) size.new service.old.held result }
     ensures memory { result ≡ 6 → count_waiting service.old.held ≢ 0 }
     ensures size { result ≢ 0 → result ≢ 7 → size.new ≡ size.old }
 {

@@ -1,7 +1,8 @@
-ghost use Rattle.std.specs.Prelude.{◌≡◌, ◌≢◌, ◌≤◌, ◌<◌, ◌⊎◌, ◌^◌, drop, length, take};
+ghost use Rattle.std.specs.Prelude.{◌≡◌, ◌≢◌, ◌≤◌, ◌⊎◌, ◌^◌, drop, length, take};
 ghost use Rattle.dn_types.specs.declared.call.Call.TheVariants.{Advance};
 ghost use Rattle.dn_types.specs.declared.reply.Reply.TheVariants.{Advanced};
-ghost use Rattle.hingetulip_c.specs.Texts.{entry_text};
+ghost use Rattle.hingetulip_c.specs.Submits.{FaultyMoment};
+ghost use Rattle.hingetulip_c.specs.Texts.{FaultyCaller, LacksRoom, entry_text};
 
 use crate::entries::advance_entry;
 use crate::history_lines::put_entry;
@@ -25,8 +26,7 @@ pub extern "C" fn dn_advance_text(
         → size.new ≡ length (entry_text caller (Advance moment) (Advanced at)) }
     ensures refused { result ≢ 0 → text.new ≡ text.old }
     ensures no_size { result ≢ 0 → result ≢ 7 → size.new ≡ size.old }
-    ensures why { result ≢ 0 → ((result ≡ 20) × (15 < caller)) ⊎ ((result ≡ 9) × (2 ^ 62 < moment))
-        ⊎ (result ≡ 6) ⊎ ((result ≡ 7) × (length text.old < size.new)) }
+    ensures why { result ≢ 0 → FaultyCaller caller result ⊎ FaultyMoment moment result ⊎ LacksRoom text.old size.new result }
 {
     match advance_entry(caller, moment, at) {
         Ok(entry) => put_entry(alloc, &entry, text, size),

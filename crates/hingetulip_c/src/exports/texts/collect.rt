@@ -1,7 +1,7 @@
-ghost use Rattle.std.specs.Prelude.{◌≡◌, ◌≢◌, ◌≤◌, ◌<◌, ◌⊎◌, ◌^◌, drop, length, map, take, true, false};
+ghost use Rattle.std.specs.Prelude.{◌≡◌, ◌≢◌, ◌⊎◌, drop, length, map, take};
 ghost use Rattle.dn_types.specs.declared.call.Call.TheVariants.{Collect};
 ghost use Rattle.dn_types.specs.declared.reply.Reply.TheVariants.{Delivered};
-ghost use Rattle.hingetulip_c.specs.Texts.{delivery_of, entry_text, has_reserved};
+ghost use Rattle.hingetulip_c.specs.Texts.{FaultyCollect, IsCollect, LacksRoom, delivery_of, entry_text};
 
 use crate::entries::collect_entry;
 use crate::history_lines::put_entry;
@@ -23,14 +23,12 @@ pub extern "C" fn dn_collect_text(
         ≡ entry_text caller (Collect moment) (Delivered at (map delivery_of list.now)) }
     ensures others { result ≡ 0 → drop size.new text.new ≡ drop size.new text.old }
     ensures in_range { (result ≡ 0) ⊎ (result ≡ 6) ⊎ (result ≡ 7)
-        → (caller ≤ 15) × (moment ≤ 2 ^ 62) × (has_reserved list.now ≡ false) }
+        → IsCollect caller moment list.now }
     ensures size { (result ≡ 0) ⊎ (result ≡ 7) → size.new
         ≡ length (entry_text caller (Collect moment) (Delivered at (map delivery_of list.now))) }
     ensures refused { result ≢ 0 → text.new ≡ text.old }
     ensures no_size { result ≢ 0 → result ≢ 7 → size.new ≡ size.old }
-    ensures why { result ≢ 0 → ((result ≡ 20) × (15 < caller)) ⊎ ((result ≡ 9) × (2 ^ 62 < moment))
-        ⊎ ((result ≡ 14) × (has_reserved list.now ≡ true))
-        ⊎ (result ≡ 6) ⊎ ((result ≡ 7) × (length text.old < size.new)) }
+    ensures why { result ≢ 0 → FaultyCollect caller moment list.now result ⊎ LacksRoom text.old size.new result }
 {
     match collect_entry(alloc, caller, moment, at, list) {
         Ok(entry) => put_entry(alloc, &entry, text, size),

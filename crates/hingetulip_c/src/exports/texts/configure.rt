@@ -1,10 +1,8 @@
-ghost use Rattle.std.specs.Prelude.{◌≡◌, ◌≢◌, ◌≤◌, ◌<◌, ◌⊎◌, drop, length, take, IsUtf8, Ok, Err, Some, None};
+ghost use Rattle.std.specs.Prelude.{◌≡◌, ◌≢◌, ◌≤◌, ◌<◌, ◌⊎◌, drop, length, take, IsUtf8, Ok, None};
 ghost use Rattle.dn_config.specs.Line.{answer};
-ghost use Rattle.dn_config.specs.declared.fault.LineFault.{LineFault as FaultValue};
 ghost use Rattle.dn_types.specs.declared.call.Call.TheVariants.{Configure};
-ghost use Rattle.dn_types.specs.declared.command.Command.{Command as CommandValue};
-ghost use Rattle.hingetulip_c.specs.Faults.{fault_of, no_text};
-ghost use Rattle.hingetulip_c.specs.Texts.{entry_text, told_of};
+ghost use Rattle.hingetulip_c.specs.Faults.{IfCommand, TellsFault};
+ghost use Rattle.hingetulip_c.specs.Texts.{FaultyCaller, LacksRoom, entry_text, told_of};
 
 use crate::command_lines::{command_of, configure_entry};
 use crate::history_lines::put_entry;
@@ -23,24 +21,20 @@ pub extern "C" fn dn_configure_text(
     text: &mut [u8],
     size: &mut u64,
 ) -> u32
-    ensures wrote { result ≡ 0 → (command : CommandValue) → answer line.now ≡ Ok (Some command)
-        → take size.new text.new ≡ entry_text caller (Configure command) (told_of command status) }
+    ensures wrote { result ≡ 0 → IfCommand line.now (λ command.
+        take size.new text.new ≡ entry_text caller (Configure command) (told_of command status)) }
     ensures others { result ≡ 0 → drop size.new text.new ≡ drop size.new text.old }
-    ensures in_range { (result ≡ 0) ⊎ (result ≡ 6) ⊎ (result ≡ 7) → (command : CommandValue)
-        → answer line.now ≡ Ok (Some command) → (caller ≤ 15) × (status ≤ 4) }
-    ensures size { (result ≡ 0) ⊎ (result ≡ 7) → (command : CommandValue) → answer line.now ≡ Ok (Some command)
-        → size.new ≡ length (entry_text caller (Configure command) (told_of command status)) }
+    ensures in_range { (result ≡ 0) ⊎ (result ≡ 6) ⊎ (result ≡ 7)
+        → IfCommand line.now (λ command. (caller ≤ 15) × (status ≤ 4)) }
+    ensures size { (result ≡ 0) ⊎ (result ≡ 7) → IfCommand line.now (λ command.
+        size.new ≡ length (entry_text caller (Configure command) (told_of command status))) }
     ensures refused { result ≢ 0 → text.new ≡ text.old }
     ensures no_size { result ≢ 0 → result ≢ 7 → size.new ≡ size.old }
-    ensures no_text { ¬ (IsUtf8 line.now) → (result ≡ 8) × (fault.new ≡ no_text) }
-    ensures fault { IsUtf8 line.now → (found : FaultValue) → answer line.now ≡ Err found
-        → (result ≡ 8) × (fault.new ≡ fault_of found) }
-    ensures no_fault { result ≢ 8 → fault.new ≡ fault.old }
+    ensures fault { TellsFault line.now result fault.old fault.new }
     ensures blank { IsUtf8 line.now → answer line.now ≡ Ok None
         → (result ≡ 0) × (size.new ≡ 0) × (text.new ≡ text.old) }
-    ensures why { IsUtf8 line.now → (command : CommandValue) → answer line.now ≡ Ok (Some command) → result ≢ 0
-        → ((result ≡ 20) × (15 < caller)) ⊎ ((result ≡ 21) × (4 < status))
-        ⊎ (result ≡ 6) ⊎ ((result ≡ 7) × (length text.old < size.new)) }
+    ensures why { IsUtf8 line.now → IfCommand line.now (λ command. result ≢ 0
+        → FaultyCaller caller result ⊎ ((result ≡ 21) × (4 < status)) ⊎ LacksRoom text.old size.new result) }
 {
     match command_of(line, fault) {
         Err(bad) => bad,

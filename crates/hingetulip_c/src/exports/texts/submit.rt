@@ -1,6 +1,6 @@
-ghost use Rattle.std.specs.Prelude.{◌≡◌, ◌≢◌, ◌≤◌, ◌<◌, ◌⊎◌, drop, length, take};
+ghost use Rattle.std.specs.Prelude.{◌≡◌, ◌≢◌, ◌≤◌, ◌⊎◌, drop, length, take};
 ghost use Rattle.hingetulip_c.specs.Submits.{InRange, submit_of};
-ghost use Rattle.hingetulip_c.specs.Texts.{entry_text, told_by, FaultySubmit, IsFate};
+ghost use Rattle.hingetulip_c.specs.Texts.{entry_text, told_by, FaultySubmit, IsFate, LacksRoom};
 
 use crate::entries::submit_entry;
 use crate::history_lines::put_entry;
@@ -26,8 +26,7 @@ pub extern "C" fn dn_submit_text(
         → size.new ≡ length (entry_text caller (submit_of packet.now) (told_by fate.now)) }
     ensures refused { result ≢ 0 → text.new ≡ text.old }
     ensures no_size { result ≢ 0 → result ≢ 7 → size.new ≡ size.old }
-    ensures why { result ≢ 0 → FaultySubmit caller packet.now fate.now result
-        ⊎ (result ≡ 6) ⊎ ((result ≡ 7) × (length text.old < size.new)) }
+    ensures why { result ≢ 0 → FaultySubmit caller packet.now fate.now result ⊎ LacksRoom text.old size.new result }
 {
     match submit_entry(caller, packet, fate) {
         Ok(entry) => put_entry(alloc, &entry, text, size),

@@ -16,8 +16,8 @@ use denote.Steps.{nothing}
 use denote.Triple.Entry.{alive}
 use denote.Triple.Walked.{Stays, walk_of}
 use Rattle.std.proofs.raw_atomic.Walks.{proved_at, leaves}
-use Rattle.hingetulip_c.proofs.RawBoxes.{two}
-use Rattle.hingetulip_c.proofs.AuditHandles.{Hd, handle_in, handle_good}
+use Rattle.hingetulip_c.proofs.RawBoxes.{two, handle_good}
+use Rattle.hingetulip_c.proofs.AuditHandles.{Hd, handle_in}
 use Rattle.hingetulip_c.specs.contracts.audit_handle.AuditHandle.closed.{ended, clauses}
 use Rattle.hingetulip_c.specs.contracts.audit_handle.AuditHandle.closed.Key.{name as #self}
 use Rattle.hingetulip_c.proofs.audit_handle.AuditHandle.closed.Statement.{statement}

@@ -21,8 +21,8 @@ use Rattle.std.specs.contracts.alloc.Global as heap
 use Rattle.std.proofs.alloc.Global.TheLaws as heap_laws
 use Rattle.std.specs.contracts.impls.GlobalAllocator.TheImpl.{ghosts}
 use Rattle.std.proofs.raw_atomic.Walks.{proved_at, leaves}
-use Rattle.hingetulip_c.proofs.RawBoxes.{Row, two, typed, opened}
-use Rattle.hingetulip_c.proofs.AuditHandles.{Hd, R, handle_in, handle_good}
+use Rattle.hingetulip_c.proofs.RawBoxes.{Row, two, handle_good, typed, opened}
+use Rattle.hingetulip_c.proofs.AuditHandles.{Hd, R, handle_in}
 use Rattle.hingetulip_c.specs.contracts.audit_handle.AuditHandle.of.{ended, clauses}
 use Rattle.hingetulip_c.specs.contracts.audit_handle.AuditHandle.of.Key.{name as #self}
 use Rattle.hingetulip_c.proofs.audit_handle.AuditHandle.of.Statement.{statement}

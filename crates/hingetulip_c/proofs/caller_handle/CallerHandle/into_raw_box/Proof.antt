@@ -34,8 +34,8 @@ use Rattle.std_alloc.proofs.ResultValues.{and_tt}
 use Rattle.std_alloc.specs.Box.Ownership.{box_owns}
 use Rattle.hingetulip_c.specs.Handles.{freed}
 use Rattle.std.proofs.raw_atomic.Walks.{proved_at, leaves}
-use Rattle.hingetulip_c.proofs.RawBoxes.{Row, two, allocator, typed, made}
-use Rattle.hingetulip_c.proofs.CallerHandles.{Hd, R, handle_out, handle_good, ptr_good, two_cases}
+use Rattle.hingetulip_c.proofs.RawBoxes.{Row, two, ptr_good, handle_good, two_cases, allocator, typed, made}
+use Rattle.hingetulip_c.proofs.CallerHandles.{Hd, R, handle_out}
 use Rattle.hingetulip_c.specs.contracts.caller_handle.CallerHandle.into_raw_box.{ended, clauses}
 use Rattle.hingetulip_c.specs.contracts.caller_handle.CallerHandle.into_raw_box.Key.{name as #self}
 use Rattle.hingetulip_c.proofs.caller_handle.CallerHandle.into_raw_box.Statement.{statement}
@@ -53,7 +53,7 @@ into_raw_box_spec 𝓤 𝓛 𝓜 𝓡 wired =
     qed 𝓛 ((raw (alive 𝓛 ended.signature κs qs) ⊛ ‵ (owns (types_at ended.signature.params κs) z.0.3 z.0.4)) ∷ raw ((c κs z.0.3).requires z.1) ∷ []) ∵ split ! $ move ! (1 ∷ []) $ fsplit ! $
     handle_out ! d z.0.4.0 (λ ws. move ! (1 ∷ []) $ fsplit ! $ handle_tells (allocator R Z LZ ghosts) ! a z.0.4.1.0 (λ h eh fits. keep ! (2 ∷ 0 ∷ 3 ∷ []) $
     -- [what the handle owns; the allocator; the tokens]
-    two_cases ! d.at d.there d.held
+    two_cases R ! d.at d.there d.held
     (λ is has.
     let w : Val = two (ptr_val d.at) (vbool false) in let v₁ : Val = live 0 vnil in
     let told : z.0.4.0 ++ (z.0.4.1.0 ++ []) ≡ w ∷ h ∷ [] = (λ i. ws i ++ (eh i ++ [])) ∙ ap (λ (y : Bool). two (ptr_val d.at) (vbool y) ∷ h ∷ []) is in

@@ -10,7 +10,7 @@ pub returns-in-Ok-clause-list : goal.returns-in-Ok-clause-list
 returns-in-Ok-clause-list c is rule calls stands =
     let room = c.in-Some-room_for_deliveries in
     listed deliveries_of rule calls (Collect c.args.moment) (Collect c.in-Some.moment) c.args.handle.now.held c.room_for_deliveries.new.self.held c.collect.new.self.held c.in-Ok.reply
-    room.room (length c.args.list.now) c.put_deliveries-status.new.list room.ensures.same (ap Collect c.in-Some.ensures.value) c.in-Ok.ensures.ok (room.ensures.fits rule calls stands c.args.moment)
+    room.room (length c.args.list.now) c.put_deliveries-status.new.list room.ensures.same (ap Collect c.in-Some.ensures.value) c.in-Ok.ensures.ok (room.ensures.fits c.args.moment rule calls stands)
     c.if-list-room.false c.put_deliveries-status.ensures.list stands
 
 pub returns-in-Ok-clause-leaves : goal.returns-in-Ok-clause-leaves

@@ -43,9 +43,11 @@ pub returns-then-status-ne-OK-clause-exhausted : goal.returns-then-status-ne-OK-
 returns-then-status-ne-OK-clause-exhausted c one p rule calls held =
     let inv = c.loop-i.invariant in let packets = c.args.packets.now in let i = c.loop-i.i in let before = sent (take i packets) calls in
     let stood = inv.stands rule calls held in let ok = is_answered_last c.dn_submit-status.result one in
-    subst (λ (q : CPacket). (reply rule before (submit_of q) ≡ Exhausted) × HeldAfter rule c.dn_submit-status.new.handle.held (submit_of q ∷ before))
-    (get_or_default packets i no_packet p c.loop-i-test.true)
-    (untold rule before (get_or packets i no_packet) (sym (c.dn_submit-status.ensures.status ok rule before stood) ∙ one), c.dn_submit-status.ensures.stands ok rule before stood)
+    subst (λ (q : CPacket). (Exhausted ≡ reply rule before (submit_of q)) × HeldAfter rule c.dn_submit-status.new.handle.held (submit_of q ∷ before))
+    (get_or_default packets i no_packet p c.loop-i-test.true) (
+      sym (untold rule before (get_or packets i no_packet) (sym (c.dn_submit-status.ensures.status ok rule before stood) ∙ one)),
+      c.dn_submit-status.ensures.stands ok rule before stood,
+    )
 
 pub loop-i-preserved : goal.loop-i-preserved
 loop-i-preserved c =

@@ -16,8 +16,8 @@ use denote.Steps.{nothing}
 use denote.Triple.Entry.{alive}
 use denote.Triple.Walked.{Stays, walk_of}
 use Rattle.std.proofs.raw_atomic.Walks.{proved_at, leaves}
-use Rattle.hingetulip_c.proofs.RawBoxes.{two}
-use Rattle.hingetulip_c.proofs.Handles.{Hd, handle_in, handle_good}
+use Rattle.hingetulip_c.proofs.RawBoxes.{two, handle_good}
+use Rattle.hingetulip_c.proofs.Handles.{Hd, handle_in}
 use Rattle.hingetulip_c.specs.contracts.handle.Handle.closed.{ended, clauses}
 use Rattle.hingetulip_c.specs.contracts.handle.Handle.closed.Key.{name as #self}
 use Rattle.hingetulip_c.proofs.handle.Handle.closed.Statement.{statement}
