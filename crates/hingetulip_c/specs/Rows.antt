@@ -1,5 +1,5 @@
 -- Rows of a packet file as packets of C.
-use Rattle.std.specs.Prelude.{◌≡◌, ℕ, ◌+◌, List, drop, length, map}
+use Rattle.std.specs.Prelude.{◌≡◌, ℕ, ◌+◌, List, Ok, drop, length, map}
 use Rattle.dn_files.specs.PacketParts.{rows_left, with_front}
 use Rattle.dn_files.specs.declared.row.Row.{Row}
 use Rattle.hingetulip_c.specs.Lists.{kind_of, number_of}
@@ -26,3 +26,9 @@ pub record HasRead (text : List ℕ) (used : ℕ) (packets : List CPacket) : Typ
   pub rows : List Row
   pub packets_are : packets ≡ map c_packet rows
   pub goes_on : with_front rows (rows_left (1 + length rows) (drop used text)) ≡ rows_left 1 text
+
+-- A text has so many rows, and no fault.
+pub record HasCount (text : List ℕ) (count : ℕ) : Type 0 where
+  pub rows : List Row
+  pub rows_are : rows_left 1 text ≡ Ok rows
+  pub count_is : count ≡ length rows

@@ -89,6 +89,7 @@ impl Ledger {
     pub(crate) fn write_next(&mut self, alloc: Global, text: &mut [u8], size: &mut u64) -> u32
         ensures statuses { (result ≡ 0) ⊎ (result ≡ 6) ⊎ (result ≡ 7) ⊎ (result ≡ 18) }
         ensures ok { result ≡ 0 → Written (take size.new text.new) self.old self.new }
+        ensures within { result ≡ 0 → size.new ≤ length text.new }
         ensures others { result ≡ 0 → drop size.new text.new ≡ drop size.new text.old }
         ensures refused { result ≢ 0 → (self.new ≡ self.old) × (text.new ≡ text.old) }
         ensures room { result ≡ 7 → (length text.old < size.new) × (size.new ≡ length (next_text (waiting self.old))) }

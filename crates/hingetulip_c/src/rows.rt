@@ -3,7 +3,7 @@
 ghost use Rattle.std.specs.Prelude.{◌≡◌, ◌≢◌, ◌≤◌, ◌<◌, ◌⊎◌, Err, drop, length, map, take};
 ghost use Rattle.dn_files.specs.PacketParts.{rows_left};
 ghost use Rattle.dn_files.specs.declared.replay_fault.ReplayFault.TheVariants.{BadRow};
-ghost use Rattle.hingetulip_c.specs.Rows.{c_packet, HasRead};
+ghost use Rattle.hingetulip_c.specs.Rows.{c_packet, HasCount, HasRead};
 
 use crate::records::CPacket;
 use crate::status::{BAD_ROW, MEMORY, OK, ROOM};
@@ -46,7 +46,7 @@ pub(crate) fn copy_rows(rows: &[Row], packets: &mut [CPacket])
 }
 
 /// Reads all rows of a text, however they are written, if the list has room for them.
-#[tactic(auto, using(crate::proofs::PacketRows::whole_read))]
+#[tactic(auto, using(crate::proofs::PacketRows::whole_read, crate::proofs::PacketRows::all_counted))]
 pub(crate) fn read_all(
     alloc: Global,
     text: &[u8],
@@ -57,7 +57,9 @@ pub(crate) fn read_all(
     field: &mut u64,
 ) -> u32
     ensures read { result ≡ 0 → (used.new ≡ length text.now) × HasRead text.now used.new (take count.new packets.new) }
+    ensures within { result ≡ 0 → count.new ≤ length packets.new }
     ensures others { result ≡ 0 → drop count.new packets.new ≡ drop count.new packets.old }
+    ensures room { result ≡ 7 → HasCount text.now count.new }
     ensures fault { result ≡ 22 → rows_left 1 text.now ≡ Err (BadRow row.new field.new) }
     ensures refused { result ≢ 0 → (packets.new ≡ packets.old) × (used.new ≡ used.old) }
     ensures no_count { result ≢ 0 → result ≢ 7 → count.new ≡ count.old }

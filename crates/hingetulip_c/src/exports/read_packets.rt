@@ -1,7 +1,7 @@
-ghost use Rattle.std.specs.Prelude.{◌≡◌, ◌≢◌, ◌<◌, ◌⊎◌, [], Err, drop, length, take};
+ghost use Rattle.std.specs.Prelude.{◌≡◌, ◌≢◌, ◌<◌, ◌≤◌, ◌⊎◌, [], Err, drop, length, take};
 ghost use Rattle.dn_files.specs.PacketParts.{rows_left};
 ghost use Rattle.dn_files.specs.declared.replay_fault.ReplayFault.TheVariants.{BadRow};
-ghost use Rattle.hingetulip_c.specs.Rows.{HasRead};
+ghost use Rattle.hingetulip_c.specs.Rows.{HasCount, HasRead};
 
 use crate::records::CPacket;
 use crate::rows::{copy_rows, read_all};
@@ -22,8 +22,10 @@ pub extern "C" fn dn_read_packets(
     field: &mut u64,
 ) -> u32
     ensures read { result ≡ 0 → HasRead text.now used.new (take count.new packets.new) }
+    ensures within { result ≡ 0 → (count.new ≤ length packets.new) × (used.new ≤ length text.now) }
     ensures others { result ≡ 0 → drop count.new packets.new ≡ drop count.new packets.old }
     ensures gets_on { result ≡ 0 → text.now ≢ [] → 0 < used.new }
+    ensures room { result ≡ 7 → HasCount text.now count.new }
     ensures fault { result ≡ 22 → rows_left 1 text.now ≡ Err (BadRow row.new field.new) }
     ensures refused { result ≢ 0 → (packets.new ≡ packets.old) × (used.new ≡ used.old) }
     ensures no_count { result ≢ 0 → result ≢ 7 → count.new ≡ count.old }

@@ -1,4 +1,4 @@
-ghost use Rattle.std.specs.Prelude.{◌≡◌, ◌≢◌, drop, length, take};
+ghost use Rattle.std.specs.Prelude.{◌≡◌, ◌≢◌, ◌≤◌, drop, length, take};
 ghost use Rattle.hingetulip_c.specs.Services.{NotWritten, Wrote, count_waiting};
 
 use crate::service_handle::ServiceHandle;
@@ -15,6 +15,7 @@ pub extern "C" fn dn_service_text(
     size: &mut u64,
 ) -> u32
     ensures wrote { result ≡ 0 → Wrote (take size.new text.new) service.old.held service.new.held }
+    ensures within { result ≡ 0 → size.new ≤ length text.new }
     ensures others { result ≡ 0 → drop size.new text.new ≡ drop size.new text.old }
     ensures refused { result ≢ 0 → (service.new.held ≡ service.old.held) × (text.new ≡ text.old) }
     ensures why { result ≢ 0 → NotWritten (length text.old) size.new service.old.held result }
