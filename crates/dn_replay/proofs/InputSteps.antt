@@ -10,16 +10,14 @@ use Rattle.dn_files.specs.declared.replay_fault.ReplayFault.TheVariants.{Read, W
 use Rattle.dn_files.specs.declared.source.Source.{Source}
 use Rattle.dn_files.specs.declared.source.Source.TheVariants.{Packets}
 use Rattle.dn_files.proofs.Inputs.{carried, short}
-use Rattle.dn_replay.specs.declared.replays.input.Input.{Input as TheInput}
 use Rattle.dn_replay.specs.Configuring.{configured_by}
-use Rattle.dn_replay.specs.OnePass.{calls_with, HasTaken, IsAnswered, IsCutAt, IsUnbegun}
+use Rattle.dn_replay.specs.declared.replays.pass.Pass.{Pass}
+use Rattle.dn_replay.specs.declared.replays.stage.Stage.{Stage}
+use Rattle.dn_replay.specs.declared.replays.stage.Stage.TheVariants as at
+use Rattle.dn_replay.specs.OnePass.{calls_with, HasTaken, IsAnswered, IsCutAt}
 use Rattle.dn_replay.specs.InParts.{calls_asked, source_of}
 use Rattle.dn_replay.specs.Replays.{AskForWithin, calls_of_joined_within, calls_of_parts, calls_within, config_calls, EitherFailed, IsAccepted, IsUnreplayed, TextFailed}
 use Rattle.dn_replay.specs.Runs.{replayed}
-
--- Nothing has come.
-pub from_start : (input : TheInput) → IsUnbegun input → HasTaken input.pass.records input (λ text. calls_of_parts (joined_parts text)) []
-from_start input unbegun = rw unbegun.stage (refl, unbegun.pass, unbegun.config, λ whole. refl)
 
 -- What an input within its limit asks for.
 abbrev pub Asks : ℕ → Option (List ℕ) → (List ℕ → Result (List Call) ReplayFault) → Type 0
@@ -81,12 +79,6 @@ pub at_end : (asked : List ℕ → Result (List Call) ReplayFault) (text packets
     → asked text ≡ calls_with calls packets
 at_end asked text packets calls asks = ap asked (sym (append-nil text)) ∙ asks [] ∙ ap (calls_with calls) (append-nil packets)
 
--- Where no history is kept, what is answered says nothing of one.
-pub answered_without : (records : Bool) (Asked : Result (List Call) ReplayFault → Type 0) (entries others : List Entry) (untargeted : Bool) (old new : Option (List ℕ)) → records ≡ false
-    → IsAnswered records Asked entries untargeted old new → IsAnswered records Asked others untargeted old new
-answered_without true Asked entries others untargeted old new is told = absurd cc
-answered_without false Asked entries others untargeted old new is told = told
-
 -- What became of what is asked for by one became of what is asked for by another.
 module _ (Asked Inputs : Result (List Call) ReplayFault → Type 0) (old new : Option (List ℕ)) (through : (asked : Result (List Call) ReplayFault) → Asked asked → Inputs asked) where
   pub answered_through : (records : Bool) (entries : List Entry) (untargeted : Bool) → IsAnswered records Asked entries untargeted old new → IsAnswered records Inputs entries untargeted old new
@@ -110,3 +102,10 @@ pub either_failed : (config : Option (List ℕ)) (config_failed failed : Bool) �
     → EitherFailed config config_failed failed what
 either_failed config config_failed failed sound accepted None h = (sound, h)
 either_failed config config_failed failed sound accepted (Some what) h = rw h.0 (sound, h.1, accepted)
+
+-- A replay that has taken some text records its calls, or doesn't.
+pub records-taken : (stage : Stage) (records : Bool) (pass : Pass) (asked : List ℕ → Result (List Call) ReplayFault) (text : List ℕ) → HasTaken stage records pass asked text
+    → pass.records ≡ records
+records-taken (at.Config part) records pass asked text taken = taken.0
+records-taken at.Packets records pass asked text taken = taken.2.records_is
+records-taken (at.Refused fault) records pass asked text taken = taken.0

@@ -1,60 +1,99 @@
 -- Which text has come of a replay, step by step.
-use Rattle.std.proofs.Common.{◌≡◌, refl, subst, ℕ, Bool, List, [], Option, Some, None, Ok, arith}
+use Rattle.std.proofs.Common.{◌≡◌, refl, subst, sym, ℕ, ◌+◌, ◌-◌, ◌≤◌, Bool, List, [], ◌++◌, length, length-append, Option, Some, None, Result, Ok, arith}
 use Rattle.dn_types.specs.declared.call.Call.{Call}
 use Rattle.dn_text.specs.Joined.{joined_parts}
+use Rattle.dn_files.specs.declared.replay_fault.ReplayFault.{ReplayFault}
 use Rattle.dn_files.specs.declared.replay_fault.ReplayFault.TheVariants.{OutOfMemory}
 use Rattle.dn_files.specs.declared.source.Source.TheVariants.{Input, Packets}
+use Rattle.dn_replay.specs.Configuring.{configured_by}
 use Rattle.dn_replay.specs.InParts.{CanGoOn, Coming, HasCome, IsLimit}
-use Rattle.dn_replay.specs.OnePass.{AreFew, calls_with, HasTaken, IsUnbegun}
+use Rattle.dn_replay.specs.OnePass.{AreFew, calls_with, HasTaken, IsConfigSoFar, IsFresh}
 use Rattle.dn_replay.specs.Replays.{calls_of_parts, config_calls}
-use Rattle.dn_replay.specs.declared.replays.input.Input.{Input as TheInput}
-use Rattle.dn_replay.specs.declared.replays.input.Stage.TheVariants.{Refused}
+use Rattle.dn_replay.specs.Runs.{HasMade}
+use Rattle.dn_replay.specs.declared.config.config_part.ConfigPart.{ConfigPart}
+use Rattle.dn_replay.specs.declared.config.run.Run.{Run}
+use Rattle.dn_replay.specs.declared.replays.pass.Pass.{Pass}
+use Rattle.dn_replay.specs.declared.replays.stage.Stage.{Stage}
+use Rattle.dn_replay.specs.declared.replays.stage.Stage.TheVariants as at
 use Rattle.dn_replay.proofs.FewCalls.{few-asked}
-use Rattle.dn_replay.proofs.InputSteps.{asked_within, from_start, joined_asks, packets_ask}
+use Rattle.dn_replay.proofs.InputSteps.{asked_within, joined_asks, packets_ask, records-taken}
+use Rattle.dn_replay.proofs.PassSteps.{fed-first}
 
-pub joined_begins : (input : TheInput) (records : Bool) (limit : ℕ) → IsLimit limit → IsUnbegun input → input.pass.records ≡ records
-    → HasCome records (record { input = input; records = records; source = Input; limit = limit; length = 0 }) None []
-joined_begins input records limit small unbegun is = record {
-  records_is = refl;
+pub joined_begins : (records : Bool) (part : ConfigPart) (pass : Pass) (limit : ℕ) → IsLimit limit → pass.records ≡ records → IsConfigSoFar part [] → IsFresh pass
+    → HasCome records (record { stage = at.Config part; pass = pass; source = Input; limit = limit; length = 0 }) None []
+joined_begins records part pass limit small is so_far fresh = record {
+  records_is = is;
   source_is = refl;
   size = refl;
   short = omega arith;
   few = small;
   asked = λ text. calls_of_parts (joined_parts text);
   asks = joined_asks limit;
-  taken = rw (← is) (from_start input unbegun);
+  taken = (is, fresh, so_far, λ whole. refl);
 }
 
-pub behind_begins : (input : TheInput) (records : Bool) (limit : ℕ) (config : List ℕ) (calls : List Call) → IsLimit limit → config_calls config ≡ Ok calls
-    → HasTaken records input (calls_with calls) []
-    → HasCome records (record { input = input; records = records; source = Packets; limit = limit; length = 0 }) (Some config) []
-behind_begins input records limit config calls small accepted taken = record {
-  records_is = refl;
+pub behind_begins : (records : Bool) (pass : Pass) (run : Run) (limit : ℕ) (config : List ℕ) (calls : List Call) → IsLimit limit → pass.records ≡ records → IsFresh pass
+    → configured_by config ≡ Ok calls → config_calls config ≡ Ok calls → HasMade run calls
+    → HasCome records (record { stage = at.Packets; pass = record pass { run = run }; source = Packets; limit = limit; length = 0 }) (Some config) []
+behind_begins records pass run limit config calls small is fresh configured accepted made = record {
+  records_is = is;
   source_is = refl;
   size = refl;
   short = omega arith;
   few = small;
   asked = calls_with calls;
   asks = packets_ask limit config calls accepted;
-  taken = taken;
+  taken = (calls, [], fed-first records pass run config calls is fresh configured made, λ more. refl);
 }
 
--- A part was refused memory, so that the whole is.
-pub spoiled : (old : Coming) (input : TheInput) → input.stage ≡ Refused OutOfMemory → CanGoOn old
-    → CanGoOn (record { input = input; records = old.records; source = old.source; limit = old.limit; length = old.length })
-spoiled old input is (records, config, text, come) = (
+-- A part more was taken.
+pub comes : (records : Bool) (old : Coming) (stage : Stage) (pass : Pass) (config : Option (List ℕ)) (text part : List ℕ) → length part ≤ old.limit - old.length
+    → ((asked : List ℕ → Result (List Call) ReplayFault) → HasTaken old.stage records old.pass asked text → HasTaken stage records pass asked (text ++ part))
+    → HasCome records old config text
+    → HasCome records (record { stage = stage; pass = pass; source = old.source; limit = old.limit; length = old.length + length part }) config (text ++ part)
+comes records old stage pass config text part fits more come =
+    let taken = more come.asked come.taken in
+    let size = come.size in
+    let whole = length-append text part in
+    let short = come.short in
+    record {
+      records_is = records-taken stage records pass come.asked (text ++ part) taken;
+      source_is = come.source_is;
+      size = omega (arith, size, whole);
+      short = omega (arith, size, whole, short, fits);
+      few = come.few;
+      asked = come.asked;
+      asks = come.asks;
+      taken = taken;
+    }
+
+-- So a replay that could go on can go on.
+pub goes_on : (old : Coming) {first : Stage} (stage : Stage) (pass : Pass) (part : List ℕ) → first ≡ old.stage → length part ≤ old.limit - old.length
+    → ((records : Bool) (asked : List ℕ → Result (List Call) ReplayFault) (text : List ℕ) → HasTaken first records old.pass asked text → HasTaken stage records pass asked (text ++ part))
+    → CanGoOn old → CanGoOn (record { stage = stage; pass = pass; source = old.source; limit = old.limit; length = old.length + length part })
+goes_on old stage pass part is fits more (records, config, text, come) = (
   records,
+  config,
+  text ++ part,
+  comes records old stage pass config text part fits (λ asked taken. more records asked text (subst (λ s. HasTaken s records old.pass asked text) (sym is) taken)) come,
+)
+
+-- A part was refused memory, so that the whole is.
+pub spoiled : (old : Coming) (stage : Stage) (pass : Pass) → stage ≡ at.Refused OutOfMemory → CanGoOn old
+    → CanGoOn (record { stage = stage; pass = pass; source = old.source; limit = old.limit; length = old.length })
+spoiled old stage pass is (records, config, text, come) = (
+  pass.records,
   config,
   text,
   record {
-    records_is = come.records_is;
+    records_is = refl;
     source_is = come.source_is;
     size = come.size;
     short = come.short;
     few = come.few;
     asked = come.asked;
     asks = come.asks;
-    taken = rw is (λ more. tt);
+    taken = rw is (refl, λ more. tt);
   },
 )
 

@@ -19,13 +19,15 @@ use Rattle.dn_files.specs.declared.row.Row.{Row}
 use Rattle.dn_files.specs.declared.source.Source.TheVariants.{Report}
 use Rattle.dn_files.proofs.Inputs.{carried}
 use Rattle.dn_replay.specs.Kept.{all_untargeted, CanReport, HasKept}
-use Rattle.dn_replay.specs.OnePass.{AreFew, calls_with, HasAnswered, HasEnded, HasNoted, IsAnswered, NoneFailed}
+use Rattle.dn_replay.specs.Configuring.{configured_by}
+use Rattle.dn_replay.specs.OnePass.{AreFew, calls_with, HasAnswered, HasEnded, HasFed, HasNoted, IsAnswered, IsFresh, NoneFailed}
 use Rattle.dn_replay.specs.Replays.{IsUnreplayed}
 use Rattle.dn_replay.specs.Report.{delivered, report}
 use Rattle.dn_replay.specs.Runs.{entry_after, HasMade, history_of, replayed, submit, submitted}
 use Rattle.dn_replay.specs.declared.config.run.Run.{Run}
 use Rattle.dn_replay.specs.declared.replays.pass.Pass.{Pass}
 use Rattle.dn_replay.specs.declared.report.kept.Kept.{Kept}
+use Rattle.dn_replay.proofs.KeptCalls.{kept-configuration}
 use Rattle.dn_replay.proofs.PassingCalls.{passed-collect, passed-none, passed-submit, same-collect, same-last, same-submit}
 use Rattle.dn_replay.proofs.ReplaySteps.{lawful, unread_text, unreplayed, unreported}
 use Rattle.dn_replay.proofs.Runs.{submitted-append}
@@ -44,7 +46,7 @@ module _ (records : Bool) (run : Run) (kept : Kept) (given : List Delivery) (cal
   last_rows front rows h = subst (λ (all : List Call). HasAnswered records run kept given all) (submitted-both calls front rows) h
 
 -- Before the first row no Collect was made.
-pub answered-first : (records : Bool) (run : Run) (kept : Kept) (given : List Delivery) (calls : List Call) → HasMade run calls → HasKept kept calls → given ≡ []
+answered-first : (records : Bool) (run : Run) (kept : Kept) (given : List Delivery) (calls : List Call) → HasMade run calls → HasKept kept calls → given ≡ []
     → HasAnswered records run kept given (submitted calls [])
 unfolding submitted
 answered-first true run kept given calls made has none = (made, has)
@@ -54,6 +56,16 @@ answered-first false run kept given calls made has none = record {
   few = omega arith;
   passed = λ few. rw none (passed-none calls);
   kept_is = λ few. has;
+}
+
+-- A pass has made the commands of a configuration, and was given no packets.
+pub fed-first : (records : Bool) (pass : Pass) (run : Run) (config : List ℕ) (calls : List Call) → pass.records ≡ records → IsFresh pass → configured_by config ≡ Ok calls → HasMade run calls
+    → HasFed records (record pass { run = run }) calls []
+fed-first records pass run config calls is fresh accepted made = record {
+  records_is = is;
+  rows = [];
+  read = fresh.read;
+  answered = answered-first records run pass.kept pass.given.items calls made (kept-configuration pass.kept config calls accepted fresh.kept) fresh.given;
 }
 
 -- A Submit more, and what is kept of its answer.

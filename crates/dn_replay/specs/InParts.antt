@@ -7,7 +7,8 @@ use Rattle.dn_files.specs.declared.source.Source.{Source}
 use Rattle.dn_files.specs.declared.source.Source.TheVariants.{Input, Packets}
 use Rattle.dn_replay.specs.OnePass.{HasTaken}
 use Rattle.dn_replay.specs.Replays.{calls_of_joined_within, calls_within}
-use Rattle.dn_replay.specs.declared.replays.input.Input.{Input as TheInput}
+use Rattle.dn_replay.specs.declared.replays.pass.Pass.{Pass}
+use Rattle.dn_replay.specs.declared.replays.stage.Stage.{Stage}
 
 -- A limit is so small that all calls of a text within it count.
 abbrev pub IsLimit : ℕ → Type 0
@@ -29,24 +30,25 @@ pub record AskedOf : Type 0 where
   pub config : Option (List ℕ)
   pub limit : ℕ
 
--- What a replay under way has taken, whether it records, the name of its text in a fault, how long that can be, and how long it is so far.
+-- Which part of its text a replay under way reads, what it has made, the name of the text in a fault, how long that can be, and how long
+-- it is so far.
 pub record Coming : Type 0 where
-  pub input : TheInput
-  pub records : Bool
+  pub stage : Stage
+  pub pass : Pass
   pub source : Source
   pub limit : ℕ
   pub length : ℕ
 
 -- This text has come of the packets behind a configuration, or of a joined input, and each call is kept with its reply, or isn't.
 pub record HasCome (records : Bool) (replay : Coming) (config : Option (List ℕ)) (text : List ℕ) : Type 0 where
-  pub records_is : replay.records ≡ records
+  pub records_is : replay.pass.records ≡ records
   pub source_is : replay.source ≡ source_of config
   pub size : replay.length ≡ length text
   pub short : length text ≤ replay.limit
   pub few : IsLimit replay.limit
   pub asked : List ℕ → Result (List Call) ReplayFault
   pub asks : (whole : List ℕ) → calls_asked replay.limit config whole ≡ (within_limit replay.limit (source_of config) whole >>= asked)
-  pub taken : HasTaken records replay.input asked text
+  pub taken : HasTaken replay.stage records replay.pass asked text
 
 -- Some text has come.
 abbrev pub CanGoOn : Coming → Type 0

@@ -24,11 +24,10 @@ use Rattle.dn_replay.specs.Report.{report}
 use Rattle.dn_replay.specs.Runs.{HasMade, history_of, replayed, submitted}
 use Rattle.dn_replay.specs.declared.config.run.Run.{Run}
 use Rattle.dn_replay.specs.declared.config.config_part.ConfigPart.{ConfigPart}
-use Rattle.dn_replay.specs.declared.replays.input.Input.{Input}
 use Rattle.dn_replay.specs.declared.replays.pass.Pass.{Pass}
-use Rattle.dn_replay.specs.declared.replays.input.Stage.{Stage}
+use Rattle.dn_replay.specs.declared.replays.stage.Stage.{Stage}
 use Rattle.dn_replay.specs.declared.report.kept.Kept.{Kept}
-use Rattle.dn_replay.specs.declared.replays.input.Stage.TheVariants.{Config, Packets, Refused}
+use Rattle.dn_replay.specs.declared.replays.stage.Stage.TheVariants.{Config, Packets, Refused}
 
 -- There are calls that are asked for, and the report of their history, which is lawful, was written. It is told whether no row has a target.
 abbrev pub IsReportedFor : (Result (List Call) ReplayFault → Type 0) → Bool → Option (List ℕ) → Option (List ℕ) → Type 0
@@ -125,25 +124,19 @@ pub record IsConfigSoFar (part : ConfigPart) (text : List ℕ) : Type 0 where
 abbrev pub IsCutAt : (List ℕ → Result (List Call) ReplayFault) → List ℕ → List ℕ → List ℕ → Type 0
 IsCutAt asked text config packets = (more : List ℕ) → asked (text ++ more) ≡ calls_of_parts (config, packets ++ more)
 
--- What an input of this text so far asks for, by the stage: a configuration's lines have come; or calls were made, and packets' text has
--- come; or the configuration has this fault, whatever comes.
-abbrev pub HasTakenIn : Stage → Bool → Input → (List ℕ → Result (List Call) ReplayFault) → List ℕ → Type 0
-HasTakenIn Config records input asked text =
-    (input.pass.records ≡ records) × IsFresh input.pass × IsConfigSoFar input.config text × ((whole : List ℕ) → asked whole ≡ calls_of_parts (joined_parts whole))
-HasTakenIn Packets records input asked text =
-    (calls : List Call) × (packets : List ℕ) × HasFed records input.pass calls packets × ((more : List ℕ) → asked (text ++ more) ≡ calls_with calls (packets ++ more))
-HasTakenIn (Refused fault) records input asked text = (more : List ℕ) → IsFaultOf (asked (text ++ more)) fault
+-- This text has come of a replay, whose whole text asks for what `asked` gives, and whose calls are recorded, or aren't. By the stage, a
+-- configuration's lines have come; or its calls were made, and packets' text has come; or it has this fault, whatever comes.
+abbrev pub HasTaken : Stage → Bool → Pass → (List ℕ → Result (List Call) ReplayFault) → List ℕ → Type 0
+HasTaken (Config part) records pass asked text =
+    (pass.records ≡ records) × IsFresh pass × IsConfigSoFar part text × ((whole : List ℕ) → asked whole ≡ calls_of_parts (joined_parts whole))
+HasTaken Packets records pass asked text =
+    (calls : List Call) × (packets : List ℕ) × HasFed records pass calls packets × ((more : List ℕ) → asked (text ++ more) ≡ calls_with calls (packets ++ more))
+HasTaken (Refused fault) records pass asked text = (pass.records ≡ records) × ((more : List ℕ) → IsFaultOf (asked (text ++ more)) fault)
 
--- This text has come of an input, of which the whole text asks for what `asked` gives, and whose calls are recorded, or aren't.
-abbrev pub HasTaken : Bool → Input → (List ℕ → Result (List Call) ReplayFault) → List ℕ → Type 0
-HasTaken records input asked text = HasTakenIn input.stage records input asked text
+-- Some text has come.
+abbrev pub CanTake : Stage → Pass → Type 0
+CanTake stage pass = (records : Bool) × (asked : List ℕ → Result (List Call) ReplayFault) × (text : List ℕ) × HasTaken stage records pass asked text
 
--- This is the whole text of an input, and a pass has made the calls of its configuration and was given its packets.
+-- This is the whole text of a replay, and a pass has made the calls of its configuration and was given its packets.
 abbrev pub HasTakenAll : Bool → Pass → (List ℕ → Result (List Call) ReplayFault) → List ℕ → Type 0
 HasTakenAll records pass asked text = (calls : List Call) × (packets : List ℕ) × HasFed records pass calls packets × (asked text ≡ calls_with calls packets)
-
--- An input of which nothing has come. It is a joined one, if no configuration is given first.
-pub record IsUnbegun (input : Input) : Type 0 where
-  pub pass : IsFresh input.pass
-  pub config : IsConfigSoFar input.config []
-  pub stage : input.stage ≡ Config

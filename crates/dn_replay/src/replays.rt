@@ -4,11 +4,10 @@
 
 mod by_threads;
 mod chunks;
-mod feeding;
 mod file_replay;
 mod inlets;
-mod input;
 mod pass;
+mod stage;
 mod threading;
 mod unkeyed;
 

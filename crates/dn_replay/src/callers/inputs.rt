@@ -6,7 +6,6 @@ ghost use Rattle.dn_files.specs.declared.source.Source.TheVariants.{Config};
 ghost use Rattle.dn_replay.specs.Replays.{AskFor, config_calls, EitherFailed, IsUnread};
 ghost use Rattle.dn_replay.specs.Runs.{HasMade};
 
-use crate::config::apply_lines::configure;
 use crate::config::run::Run;
 use dn_files::{CONFIG_LIMIT, ReplayFault, Row, Source, read_input, read_packets};
 use dn_records::Inlet;
@@ -26,7 +25,7 @@ pub(crate) fn configure_from<I: Inlet>(
         IsRefusal Config config_calls (I.remaining config.old) (I.has_failed config.new) fault) }
 {
     let text = read_input(alloc, config, CONFIG_LIMIT, Source::Config)?;
-    configure(run, text.as_slice())
+    run.configure(text.as_slice())
 }
 
 /// Makes the commands of a configuration by a run before its first call, and reads the rows of a packet file.

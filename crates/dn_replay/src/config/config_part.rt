@@ -51,7 +51,7 @@ impl ConfigPart {
     /// Takes what a part of the input has of the configuration.
     ///
     /// Once the line `--` has ended, the lines are the configuration, and what follows in the part is returned.
-    pub(crate) fn take<'a>(&mut self, part: &'a [u8]) -> Result<Option<&'a [u8]>, AllocError>
+    pub(crate) fn feed<'a>(&mut self, part: &'a [u8]) -> Result<Option<&'a [u8]>, AllocError>
         ensures { IfOk result (λ found. MatchOption found
             ((text : List ℕ) → IsConfigSoFar self.old text → IsConfigSoFar self.new (text ++ part.now))
             (λ rest. (text : List ℕ) → IsConfigSoFar self.old text
@@ -68,7 +68,7 @@ impl ConfigPart {
     /// Takes the end of the input.
     ///
     /// The lines are then the configuration: if the last line is `--`, it is no part of it, and no packets follow.
-    pub(crate) fn end(&mut self) -> Result<(), AllocError>
+    pub(crate) fn finish(&mut self) -> Result<(), AllocError>
         ensures { OnOk result ((text : List ℕ) → IsConfigSoFar self.old text → joined_parts text ≡ (self.new.lines.items, [])) }
     {
         if self.line.as_slice() == b"--".as_slice() {

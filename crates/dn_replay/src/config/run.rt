@@ -4,12 +4,13 @@ ghost use Rattle.dn_types.specs.declared.call.Call.{Call as CallValue};
 ghost use Rattle.dn_types.specs.declared.call.Call.TheVariants.{Configure};
 ghost use Rattle.dn_types.specs.declared.rule.Rule.TheVariants.{Ordered};
 ghost use Rattle.dn_shaper.specs.Shaper.{StandsAfter};
-ghost use Rattle.dn_replay.specs.Configuring.{applied, refusal};
+ghost use Rattle.dn_replay.specs.Configuring.{applied, configured_by, refusal};
 ghost use Rattle.dn_files.specs.Reading.{IsFaultOf};
 ghost use Rattle.dn_replay.specs.Runs.{HasMade, history_of, submit};
 
-use dn_files::{ReplayFault, Row};
+use dn_files::{ReplayFault, Row, command_at};
 use dn_shaper::{HashKey, Shaper};
+use dn_text::Lines;
 use dn_types::{Call, Command, Entry, Reply, Rule};
 use std::alloc::{AllocError, Global};
 use std::mem;
@@ -88,7 +89,7 @@ impl Run {
     }
 
     /// Makes the command of a line, or answers why it is refused.
-    fn configure(&mut self, line: usize, command: Command) -> Result<(), ReplayFault>
+    fn make_command(&mut self, line: usize, command: Command) -> Result<(), ReplayFault>
         ensures ok { OnOk result ((calls : List CallValue) → HasMade self.old calls →
             (applied line calls (Some command) ≡ Ok (Configure command ∷ calls)) × HasMade self.new (Configure command ∷ calls)) }
         ensures err { IfErr result (λ fault. (calls : List CallValue) → HasMade self.old calls →
@@ -109,19 +110,43 @@ impl Run {
     }
 
     /// Makes the command of a line, if it has one.
-    pub(crate) fn apply_line(
-        &mut self,
-        line: usize,
-        command: Option<Command>,
-    ) -> Result<(), ReplayFault>
+    fn apply_line(&mut self, line: usize, command: Option<Command>) -> Result<(), ReplayFault>
         ensures ok { OnOk result ((calls : List CallValue) → HasMade self.old calls →
             (after : List CallValue) × (applied line calls command ≡ Ok after) × HasMade self.new after) }
         ensures err { IfErr result (λ fault. (calls : List CallValue) → HasMade self.old calls →
             IsFaultOf (applied line calls command) fault) }
     {
         match command {
-            Some(command) => self.configure(line, command),
+            Some(command) => self.make_command(line, command),
             None => Ok(()),
+        }
+    }
+
+    /// Makes the commands of a configuration's text before the first call.
+    ///
+    /// Each is made before the next line is read: a refused command is reported before the fault of a later line.
+    /// `read_config` of dn_files has a loop of its own, which reads all lines and asks for none to be accepted.
+    pub(crate) fn configure(&mut self, text: &[u8]) -> Result<(), ReplayFault>
+        requires { HasMade self.old [] }
+        ensures ok { OnOk result ((calls : List CallValue) × (configured_by text.now ≡ Ok calls) × HasMade self.new calls) }
+        ensures err { IfErr result (λ fault. IsFaultOf (configured_by text.now) fault) }
+    {
+        let mut lines = Lines::new(text);
+        loop {
+            let number = lines.number;
+            let Some((line, rest)) = lines.next() else {
+                return Ok(());
+            };
+            // Where a loop of this crate reads, a `match` stands for `?`: the proof names its arms, and here
+            // the check makes no plan for `?`.
+            let command = match command_at(number, line) {
+                Ok(command) => command,
+                Err(fault) => return Err(fault),
+            };
+            match self.apply_line(number, command) {
+                Ok(()) => lines = rest,
+                Err(fault) => return Err(fault),
+            }
         }
     }
 

@@ -5,7 +5,9 @@ ghost use Rattle.dn_replay.specs.InParts.{AskedOf, calls_asked, HasCome, IsLimit
 ghost use Rattle.dn_replay.specs.OnePass.{IsAnswered, NoneFailed};
 ghost use Rattle.dn_replay.specs.Replays.{config_calls, IsUnreplayed};
 
-use crate::replays::input::{Input, Stage};
+use crate::config::config_part::ConfigPart;
+use crate::replays::pass::Pass;
+use crate::replays::stage::Stage;
 use crate::replays::threading::{OneThread, Threading};
 use crate::report::{Outcome, Printing};
 use dn_files::{CONFIG_LIMIT, Feed, PACKET_LIMIT, ReplayFault, Source, feed_all};
@@ -14,6 +16,7 @@ use dn_shaper::HashKey;
 use dn_types::Entry;
 use std::alloc::Global;
 use std::marker::Model;
+use std::mem;
 
 /// A replay by one caller of files that come in parts of any length.
 ///
@@ -22,8 +25,8 @@ use std::marker::Model;
 /// parts.
 #[derive(Drop)]
 pub struct FileReplay {
-    input: Input,
-    records: bool,
+    stage: Stage,
+    pass: Pass,
     source: Source,
     limit: usize,
     length: usize,
@@ -35,9 +38,9 @@ impl Model for FileReplay {
 
     ghost Value = { Coming };
 
-    ghost view = { λ s. record { input = s.input; records = s.records; source = s.source; limit = s.limit; length = s.length } };
+    ghost view = { λ s. record { stage = s.stage; pass = s.pass; source = s.source; limit = s.limit; length = s.length } };
 
-    ghost invariant = { λ s. CanGoOn (record { input = s.input; records = s.records; source = s.source; limit = s.limit; length = s.length }) };
+    ghost invariant = { λ s. CanGoOn (record { stage = s.stage; pass = s.pass; source = s.source; limit = s.limit; length = s.length }) };
 }
 
 impl FileReplay {
@@ -50,8 +53,8 @@ impl FileReplay {
         ensures limit { result.limit ≡ 67108864 }
     {
         FileReplay {
-            input: Input::new(alloc, key, records),
-            records,
+            stage: Stage::Config(ConfigPart::new(alloc)),
+            pass: Pass::new(alloc, key, records),
             source: Source::Input,
             limit: PACKET_LIMIT,
             length: 0,
@@ -94,11 +97,11 @@ impl FileReplay {
         if config.len() > CONFIG_LIMIT {
             return Err(ReplayFault::TooLong(Source::Config));
         }
-        let mut input = Input::new(alloc, key, records);
-        match input.configure(config) {
+        let mut pass = Pass::new(alloc, key, records);
+        match pass.run.configure(config) {
             Ok(()) => Ok(FileReplay {
-                input,
-                records,
+                stage: Stage::Packets,
+                pass,
                 source: Source::Packets,
                 limit,
                 length: 0,
@@ -106,7 +109,7 @@ impl FileReplay {
             }),
             Err(fault) => {
                 // The proof of a drop by a call has one step, where that of a drop at the end has one for each field.
-                drop(input);
+                drop(pass);
                 Err(fault)
             }
         }
@@ -139,10 +142,13 @@ impl FileReplay {
         if part.len() > self.limit - self.length {
             return Err(ReplayFault::TooLong(self.source));
         }
-        let Ok(()) = self.input.take(by, part) else {
-            self.input.stage = Stage::Refused(ReplayFault::OutOfMemory);
+        // If memory is refused, this stage stays.
+        let refused = Stage::Refused(ReplayFault::OutOfMemory);
+        let stage = mem::replace(&mut self.stage, refused);
+        let Ok(next) = stage.feed(&mut self.pass, by, part) else {
             return Err(ReplayFault::OutOfMemory);
         };
+        self.stage = next;
         self.length += part.len();
         Ok(())
     }
@@ -170,7 +176,7 @@ impl FileReplay {
         requires sound { O.has_failed out.old ≡ false }
         ensures ok { IfOk result (λ both. (records : Bool) (config : Option (List ℕ)) (text : List ℕ) → HasCome records self config text
             → IsAnswered records (λ asked. calls_asked self.limit config text ≡ asked) both.0.items both.1.untargeted (O.contents out.old) (O.contents out.new)) }
-        ensures unasked { IfOk result (λ both. self.records ≡ false → both.0.items ≡ []) }
+        ensures unasked { IfOk result (λ both. self.pass.records ≡ false → both.0.items ≡ []) }
         ensures sound { IfOk result (λ _. O.has_failed out.new ≡ false) }
         ensures err { IfErr result (λ fault. (records : Bool) (config : Option (List ℕ)) (text : List ℕ) → HasCome records self config text
             → IsUnreplayed NoneFailed (λ asked. calls_asked self.limit config text ≡ asked) (O.contents out.old) (O.contents out.new) (O.has_failed out.new) fault) }
@@ -187,25 +193,15 @@ impl FileReplay {
         requires sound { O.has_failed out.old ≡ false }
         ensures ok { IfOk result (λ both. (records : Bool) (config : Option (List ℕ)) (text : List ℕ) → HasCome records self config text
             → IsAnswered records (λ asked. calls_asked self.limit config text ≡ asked) both.0.items both.1.untargeted (O.contents out.old) (O.contents out.new)) }
-        ensures unasked { IfOk result (λ both. self.records ≡ false → both.0.items ≡ []) }
+        ensures unasked { IfOk result (λ both. self.pass.records ≡ false → both.0.items ≡ []) }
         ensures sound { IfOk result (λ _. O.has_failed out.new ≡ false) }
         ensures err { IfErr result (λ fault. (records : Bool) (config : Option (List ℕ)) (text : List ℕ) → HasCome records self config text
             → IsUnreplayed NoneFailed (λ asked. calls_asked self.limit config text ≡ asked) (O.contents out.old) (O.contents out.new) (O.has_failed out.new) fault) }
     {
-        let alloc = self.alloc;
-        let records = self.records;
-        let mut input = self.input;
-        let answer = input.report(by, out);
-        let history = if records {
-            input.pass.run.take_history(alloc)
-        } else {
-            Vec::new(alloc)
-        };
-        drop(input);
-        match answer {
-            Ok(outcome) => Ok((history, outcome)),
-            Err(fault) => Err(fault),
-        }
+        let mut pass = self.pass;
+        let answer = self.stage.finish(self.alloc, &mut pass, by, out);
+        drop(pass);
+        answer
     }
 }
 

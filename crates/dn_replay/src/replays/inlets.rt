@@ -6,9 +6,8 @@ ghost use Rattle.dn_replay.specs.InParts.{calls_asked, HasCome, IsAskedBehind, I
 ghost use Rattle.dn_replay.specs.OnePass.{IsAnswered, IsReportedFor};
 ghost use Rattle.dn_replay.specs.Replays.{AskFor, AskForWithin, AsksFor, EitherFailed, InputFailed, IsReplayed, IsUnreplayed, TextFailed};
 
-use crate::replays::feeding::Feeding;
 use crate::replays::file_replay::FileReplay;
-use crate::replays::threading::{OneThread, Threading};
+use crate::replays::threading::{Feeding, OneThread, Threading};
 use crate::report::Outcome;
 use dn_files::{CONFIG_LIMIT, PACKET_LIMIT, ReplayFault, Source, feed_steps, read_input};
 use dn_records::{Inlet, Outlet};

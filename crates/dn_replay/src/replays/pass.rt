@@ -1,4 +1,4 @@
-ghost use Rattle.std.specs.Prelude.{◌≡◌, ◌<◌, ◌^◌, ◌∷◌, ◌++◌, ℕ, Bool, List, length, OnOk, IfOk, IfErr, false};
+ghost use Rattle.std.specs.Prelude.{◌≡◌, ◌<◌, ◌^◌, [], ◌∷◌, ◌++◌, ℕ, Bool, List, length, OnOk, IfOk, IfErr, false, true};
 ghost use Rattle.dn_types.specs.Replies.{reply as reply_to};
 ghost use Rattle.dn_types.specs.declared.call.Call.{Call as CallValue};
 ghost use Rattle.dn_types.specs.declared.call.Call.TheVariants.{Collect as CollectValue};
@@ -16,7 +16,7 @@ use crate::report::{Kept, Outcome, Printing, delivered_by, last_delivered, write
 use dn_files::{PacketReader, ReplayFault, Row};
 use dn_records::Outlet;
 use dn_shaper::{HashKey, Shaper};
-use dn_types::{Call, Delivery, Moment};
+use dn_types::{Call, Delivery, Entry, Moment};
 use std::alloc::{AllocError, Global};
 
 // After so many Submits packets are collected in passing.
@@ -140,7 +140,7 @@ impl Pass {
     }
 
     /// Submits what is left of the packets' text, which has ended, and takes all packets that are due by the last moment.
-    fn finish(&mut self) -> Result<(), ReplayFault>
+    fn submit_rest(&mut self) -> Result<(), ReplayFault>
         ensures ok { OnOk result ((records : Bool) (calls : List CallValue) (text : List ℕ) → HasFed records self.old calls text
             → AreFew (calls_with calls text) → HasEndedWith records self.new calls text) }
         ensures err { IfErr result (λ fault. (records : Bool) (calls : List CallValue) (text : List ℕ) → HasFed records self.old calls text
@@ -173,22 +173,38 @@ impl Pass {
         self.given.as_slice()
     }
 
+    /// The history of all calls, or an empty one if they aren't recorded. It leaves the pass none.
+    fn take_history(&mut self, alloc: Global) -> Vec<Entry>
+        ensures recorded { self.old.records ≡ true → result.items ≡ self.old.run.history.items }
+        ensures unasked { self.old.records ≡ false → result.items ≡ [] }
+    {
+        if self.records {
+            return self.run.take_history(alloc);
+        }
+        Vec::new(alloc)
+    }
+
     /// Takes the end of the packets' text and all packets that are due by the last moment, and writes the report.
-    pub(crate) fn report<P: Printing, O: Outlet>(
+    ///
+    /// The history of all calls is returned, or an empty one if they aren't recorded.
+    pub(crate) fn finish<P: Printing, O: Outlet>(
         &mut self,
         alloc: Global,
         by: &P,
         out: &mut O,
-    ) -> Result<Outcome, ReplayFault>
+    ) -> Result<(Vec<Entry>, Outcome), ReplayFault>
         requires fed { (records : Bool) × (calls : List CallValue) × (text : List ℕ) × HasFed records self.old calls text × AreFew (calls_with calls text) }
         requires sound { O.has_failed out.old ≡ false }
-        ensures ok { IfOk result (λ outcome. (records : Bool) (calls : List CallValue) (text : List ℕ) → HasFed records self.old calls text → AreFew (calls_with calls text)
-            → IsAnswered records (λ asked. calls_with calls text ≡ asked) self.new.run.history.items outcome.untargeted (O.contents out.old) (O.contents out.new)) }
-        ensures sound { OnOk result (O.has_failed out.new ≡ false) }
+        ensures ok { IfOk result (λ both. (records : Bool) (calls : List CallValue) (text : List ℕ) → HasFed records self.old calls text → AreFew (calls_with calls text)
+            → IsAnswered records (λ asked. calls_with calls text ≡ asked) both.0.items both.1.untargeted (O.contents out.old) (O.contents out.new)) }
+        ensures unasked { IfOk result (λ both. self.old.records ≡ false → both.0.items ≡ []) }
+        ensures sound { IfOk result (λ _. O.has_failed out.new ≡ false) }
         ensures err { IfErr result (λ fault. (records : Bool) (calls : List CallValue) (text : List ℕ) → HasFed records self.old calls text → AreFew (calls_with calls text)
             → IsUnreplayed NoneFailed (λ asked. calls_with calls text ≡ asked) (O.contents out.old) (O.contents out.new) (O.has_failed out.new) fault) }
     {
-        self.finish()?;
-        write_kept(alloc, by, &self.kept, self.all_given(), out)
+        self.submit_rest()?;
+        let outcome = write_kept(alloc, by, &self.kept, self.all_given(), out)?;
+        let history = self.take_history(alloc);
+        Ok((history, outcome))
     }
 }

@@ -1,11 +1,36 @@
-use Rattle.std.proofs.Common.{◌∙◌, sym}
-use Rattle.dn_types.specs.declared.rule.Rule.TheVariants.{Ordered}
-use Rattle.dn_replay.proofs.Runs.{accepted}
+use Rattle.std.proofs.Common.{sym, arith}
+use Rattle.dn_text.specs.Lines.{lines_of}
+use Rattle.dn_replay.specs.Configuring.{configured_by}
+use Rattle.dn_replay.proofs.Runs.{bad_line, line-more, no_line, refused}
 use Rattle.dn_replay.proofs.config.run.Run.configure.Goals as goal
 
-pub returns-clause-ok : goal.returns-clause-ok
-returns-clause-ok c = λ calls made.
-    let step = c.in-Ok.ensures.ok Ordered calls made.0 in (
-      accepted c.args.line calls c.args.command c.in-Ok.reply step.0 (sym c.refusal.ensures ∙ c.in-None.is),
-      c.in-Ok-add_entry.ensures calls step.1 made.1 step.0,
-    )
+pub returns-in_default-clause-ok : goal.returns-in_default-clause-ok
+returns-in_default-clause-ok c =
+    let (calls, so_far, made) = c.loop-line.invariant.made in
+    (calls, no_line calls c.loop-line.lines.number _ (configured_by c.args.text.now) c.in_default.ensures so_far, made)
+
+pub returns-in-Err-clause-err : goal.returns-in-Err-clause-err
+returns-in-Err-clause-err c =
+    let (calls, so_far, made) = c.loop-line.invariant.made in
+    bad_line calls c.loop-line.lines.number c.in-Some.line.now (lines_of c.in-Some.rest.rest.now) _ c.in-Err.fault (configured_by c.args.text.now)
+    c.in-Some.ensures.0 (sym c.in-Err.ensures.value) c.in-Err.ensures.err so_far
+
+pub loop-line-preserved : goal.loop-line-preserved
+loop-line-preserved c =
+    let (calls, so_far, made) = c.loop-line.invariant.made in
+    let (after, applied, now) = c.in-Ok-apply_line.ensures.ok calls made in
+    record {
+      made = (
+        after,
+        rw c.in-Some.ensures.1 (line-more calls after c.loop-line.lines.number c.in-Some.line.now (lines_of c.in-Some.rest.rest.now) _ c.in-Ok.command
+            (configured_by c.args.text.now) c.in-Some.ensures.0 (sym c.in-Ok.ensures.value) applied so_far),
+        now,
+      );
+      room = omega (arith, c.loop-line.invariant.room, c.in-Some.ensures.1, c.in-Some.ensures.2);
+    }
+
+pub returns-in-Err-apply_line-clause-err : goal.returns-in-Err-apply_line-clause-err
+returns-in-Err-apply_line-clause-err c =
+    let (calls, so_far, made) = c.loop-line.invariant.made in
+    refused calls c.loop-line.lines.number c.in-Some.line.now (lines_of c.in-Some.rest.rest.now) _ c.in-Ok.command c.in-Err-apply_line.fault (configured_by c.args.text.now)
+    c.in-Some.ensures.0 (sym c.in-Ok.ensures.value) (c.in-Err-apply_line.ensures.err calls made) so_far

@@ -8,14 +8,19 @@ use Rattle.dn_replay.proofs.replays.file_replay.FileReplay.behind_within.Goals a
 
 pub invariant_of-result : goal.invariant_of-result
 invariant_of-result c =
-    let (calls, accepted, taken) = c.in-Ok.ensures.ok in
+    let (calls, configured, made) = c.in-Ok.ensures.ok in
     let fits : length c.args.config.now ≤ config_limit = omega (arith, c.if-config-gt-CONFIG_LIMIT.false) in
-    let is : config_calls c.args.config.now ≡ Ok calls = rw (short Config config_limit c.args.config.now fits) accepted in
-    (c.args.records, Some c.args.config.now, [], behind_begins c.configure.new.self c.args.records c.args.limit c.args.config.now calls c.requires is (rw c.new-input.ensures.records at taken))
+    let is : config_calls c.args.config.now ≡ Ok calls = rw (short Config config_limit c.args.config.now fits) configured in (
+      c.args.records,
+      Some c.args.config.now,
+      [],
+      behind_begins c.args.records c.new-pass.result c.configure.new.self c.args.limit c.args.config.now calls c.requires
+          c.new-pass.ensures.records c.new-pass.ensures.fresh configured is made,
+    )
 
 pub returns-in-Ok-clause-ok : goal.returns-in-Ok-clause-ok
 returns-in-Ok-clause-ok c =
-    let (calls, accepted, taken) = c.in-Ok.ensures.ok in
+    let (calls, configured, made) = c.in-Ok.ensures.ok in
     let fits : length c.args.config.now ≤ config_limit = omega (arith, c.if-config-gt-CONFIG_LIMIT.false) in
-    let is : config_calls c.args.config.now ≡ Ok calls = rw (short Config config_limit c.args.config.now fits) accepted in
-    behind_begins c.configure.new.self c.args.records c.args.limit c.args.config.now calls c.requires is (rw c.new-input.ensures.records at taken)
+    let is : config_calls c.args.config.now ≡ Ok calls = rw (short Config config_limit c.args.config.now fits) configured in
+    behind_begins c.args.records c.new-pass.result c.configure.new.self c.args.limit c.args.config.now calls c.requires c.new-pass.ensures.records c.new-pass.ensures.fresh configured is made

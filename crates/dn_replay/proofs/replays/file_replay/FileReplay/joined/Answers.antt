@@ -4,7 +4,7 @@ use Rattle.dn_replay.proofs.PartsCome.{joined_begins}
 use Rattle.dn_replay.proofs.replays.file_replay.FileReplay.joined.Goals as goal
 
 pub invariant_of-result : goal.invariant_of-result
-invariant_of-result c = (c.args.records, None, [], joined_begins c.new.result c.args.records packet_limit (omega arith) c.new.ensures.unbegun c.new.ensures.records)
+invariant_of-result c = (c.args.records, None, [], joined_begins c.args.records c.new.result c.new-2.result packet_limit (omega arith) c.new-2.ensures.records c.new.ensures c.new-2.ensures.fresh)
 
 pub returns-clause-come : goal.returns-clause-come
-returns-clause-come c = joined_begins c.new.result c.args.records packet_limit (omega arith) c.new.ensures.unbegun c.new.ensures.records
+returns-clause-come c = joined_begins c.args.records c.new.result c.new-2.result packet_limit (omega arith) c.new-2.ensures.records c.new.ensures c.new-2.ensures.fresh

@@ -1,20 +1,45 @@
-use Rattle.std.proofs.Common.{◌++◌}
+use Rattle.std.proofs.Common.{◌∙◌, sym}
 use Rattle.std.proofs.lemmas.Result.{err_from_is_err_and}
+use Rattle.dn_replay.specs.OnePass.{calls_with}
 use Rattle.dn_replay.specs.Runs.{submitted}
-use Rattle.dn_replay.proofs.PassSteps.{few_rows, last_rows, refused_rows}
+use Rattle.dn_replay.proofs.PassSteps.{recorded, refused_text, told, untold}
 use Rattle.dn_replay.proofs.replays.pass.Pass.finish.Goals as goal
 
-pub returns-in_err-rows-clause-err : goal.returns-in_err-rows-clause-err
-returns-in_err-rows-clause-err c =
+pub returns-in_err-submit_rest-clause-err : goal.returns-in_err-submit_rest-clause-err
+returns-in_err-submit_rest-clause-err g c =
     let p = err_from_is_err_and c.from_residual.result c.from_residual.ensures.1 in
-    rw (p.1, p.2) (λ records calls text fed. refused_rows calls text _ (c.in_err-rows.ensures.err text fed.rows fed.read))
+    rw (p.1, p.2) (λ records calls text fed few. refused_text (calls_with calls text) (g.O.Outlet.contents c.args.out.now) (g.O.Outlet.has_failed c.args.out.now) _ c.requires.sound
+    (c.in_err-submit_rest.ensures.err records calls text fed))
+
+pub all_given-requires : goal.all_given-requires
+all_given-requires g c =
+    let (records, calls, text, fed, few) = c.requires.fed in
+    let (rows, is, ended) = c.in_ok-submit_rest.ensures.ok records calls text fed few in
+    (records, submitted calls rows, ended)
+
+pub write_kept-requires : goal.write_kept-requires
+write_kept-requires g c =
+    let (records, calls, text, fed, few) = c.requires.fed in
+    let (rows, is, ended) = c.in_ok-submit_rest.ensures.ok records calls text fed few in
+    record { kept = (submitted calls rows, c.all_given.ensures records (submitted calls rows) ended); sound = c.requires.sound }
+
+pub returns-in_err-outcome-clause-err : goal.returns-in_err-outcome-clause-err
+returns-in_err-outcome-clause-err g c =
+    let p = err_from_is_err_and c.from_residual-in_err-outcome.result c.from_residual-in_err-outcome.ensures.1 in
+    rw (p.1, p.2) (λ records calls text fed few.
+    let (rows, is, ended) = c.in_ok-submit_rest.ensures.ok records calls text fed few in
+    untold calls text rows (g.O.Outlet.contents c.args.out.now) (g.O.Outlet.contents c.write_kept.new.out) (g.O.Outlet.has_failed c.write_kept.new.out) _ is
+    (c.in_err-outcome.ensures.err (submitted calls rows) (c.all_given.ensures records (submitted calls rows) ended)))
 
 pub returns-clause-ok : goal.returns-clause-ok
-returns-clause-ok c = λ records calls text fed few.
-    let rows = fed.rows ++ c.in_ok-rows.rows.items in
-    let is = c.in_ok-rows.ensures.ok text fed.rows fed.read in
-    let submitted_all = rw (fed.records_is, c.as_slice.ensures.value) at c.in-Ok.ensures in
-    let answered = last_rows records c.submit_rows.new.run c.submit_rows.new.kept c.submit_rows.new.given.items calls fed.rows c.in_ok-rows.rows.items
-    (submitted_all (submitted calls fed.rows) fed.answered) in
-    let ended = rw fed.records_is at c.in-Ok-collect_rest.ensures in
-    (rows, is, ended (submitted calls rows) answered (few_rows calls text rows is few))
+returns-clause-ok g c = λ records calls text fed few.
+    let (rows, is, ended) = c.in_ok-submit_rest.ensures.ok records calls text fed few in
+    told records calls text rows c.take_history-history.result.items c.in_ok-outcome.outcome.untargeted (g.O.Outlet.contents c.args.out.now) (g.O.Outlet.contents c.write_kept.new.out) is
+    (λ on. c.take_history-history.ensures.recorded (ended.records_is ∙ on) ∙ recorded records c.submit_rest.new.self (submitted calls rows) ended on)
+    (c.in_ok-outcome.ensures.ok (submitted calls rows) (c.all_given.ensures records (submitted calls rows) ended))
+
+pub returns-clause-unasked : goal.returns-clause-unasked
+returns-clause-unasked g c =
+    let (records, calls, text, fed, few) = c.requires.fed in
+    let (rows, is, ended) = c.in_ok-submit_rest.ensures.ok records calls text fed few in
+    λ off. c.take_history-history.ensures.unasked (ended.records_is ∙ sym fed.records_is ∙ off)

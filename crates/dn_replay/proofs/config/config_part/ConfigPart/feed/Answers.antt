@@ -4,7 +4,7 @@ use Rattle.std.proofs.lemmas.List as L
 use Rattle.dn_text.specs.Joined.{joined_parts}
 use Rattle.dn_replay.specs.OnePass.{IsConfigSoFar}
 use Rattle.dn_replay.proofs.ConfigCuts.{at_byte, byte_more}
-use Rattle.dn_replay.proofs.config.config_part.ConfigPart.take.Goals as goal
+use Rattle.dn_replay.proofs.config.config_part.ConfigPart.feed.Goals as goal
 
 pub returns-then-branch : goal.returns-then-branch
 returns-then-branch c = λ text so_far more.

@@ -1,9 +1,8 @@
 use Rattle.std.proofs.Common.{[]}
 use Rattle.std.proofs.lemmas.Result.{on_ok_weaker}
 use Rattle.dn_replay.proofs.InputSteps.{at_end, end_begun, stays_refused}
-use Rattle.dn_replay.proofs.KeptCalls.{kept-configuration}
-use Rattle.dn_replay.proofs.PassSteps.{answered-first}
-use Rattle.dn_replay.proofs.replays.input.Input.end.Goals as goal
+use Rattle.dn_replay.proofs.PassSteps.{fed-first}
+use Rattle.dn_replay.proofs.replays.stage.Stage.end.Goals as goal
 
 pub returns-in-Ok-clause-ok : goal.returns-in-Ok-clause-ok
 returns-in-Ok-clause-ok c =
@@ -12,14 +11,8 @@ returns-in-Ok-clause-ok c =
     let (calls, accepted, made) = rw c.as_slice.ensures.value at configured in (
       calls,
       [],
-      record {
-        records_is = records_is;
-        rows = [];
-        read = fresh.read;
-        answered = answered-first records c.configure.new.run c.args.self.now.pass.kept c.args.self.now.pass.given.items calls made
-            (kept-configuration c.args.self.now.pass.kept c.end.new.self.lines.items calls accepted fresh.kept) fresh.given;
-      },
-      end_begun asked text c.end.new.self.lines.items calls accepted same (c.in-Ok.ensures text so_far),
+      fed-first records c.args.pass.now c.configure.new.self c.finish.new.self.lines.items calls records_is fresh accepted made,
+      end_begun asked text c.finish.new.self.lines.items calls accepted same (c.in-Ok.ensures text so_far),
     )) c.configure.ensures.ok
 
 pub returns-in-Packets-clause-ok : goal.returns-in-Packets-clause-ok
@@ -28,4 +21,4 @@ returns-in-Packets-clause-ok c = λ records asked text taken.
 
 pub returns-in-Refused-clause-err : goal.returns-in-Refused-clause-err
 returns-in-Refused-clause-err c = λ records asked text taken.
-    let own = rw c.in-Refused.is at taken in stays_refused asked text c.in-Refused.fault own
+    let (records_is, own) = rw c.in-Refused.is at taken in stays_refused asked text c.in-Refused.fault own

@@ -1,0 +1,122 @@
+ghost use Rattle.std.specs.Prelude.{◌≡◌, ◌++◌, ℕ, Bool, List, [], Result, OnOk, IfOk, IfErr, false};
+ghost use Rattle.dn_types.specs.declared.call.Call.{Call as CallValue};
+ghost use Rattle.dn_files.specs.Reading.{IsFaultOf};
+ghost use Rattle.dn_files.specs.declared.replay_fault.ReplayFault.{ReplayFault as FaultValue};
+ghost use Rattle.dn_replay.specs.OnePass.{AreFew, CanTake, HasTaken, HasTakenAll, IsAnswered, IsCutAt, IsFresh, NoneFailed};
+ghost use Rattle.dn_replay.specs.Replays.{IsUnreplayed};
+
+use crate::config::config_part::ConfigPart;
+use crate::replays::pass::Pass;
+use crate::replays::threading::Threading;
+use crate::report::{Outcome, Printing};
+use dn_files::ReplayFault;
+use dn_records::Outlet;
+use dn_types::Entry;
+use std::alloc::{AllocError, Global};
+
+/// Which part of a replay's text is read, and what has come of it beside packets.
+#[derive(Drop)]
+pub(crate) enum Stage {
+    /// The configuration of a joined input.
+    Config(ConfigPart),
+    /// Packets.
+    Packets,
+    /// The text behind a configuration that was refused.
+    ///
+    /// Reading goes on, since a failed read and an input that is too long are reported before the fault.
+    Refused(ReplayFault),
+}
+
+/// Makes the commands of a configuration, which has come whole, and takes the first bytes behind it.
+///
+/// The stage behind it is returned.
+fn begin<T: Threading>(
+    config: &[u8],
+    pass: &mut Pass,
+    by: &T,
+    packets: &[u8],
+) -> Result<Stage, AllocError>
+    requires { IsFresh pass.old }
+    ensures { IfOk result (λ stage. (asked : List ℕ → Result (List CallValue) FaultValue) (text : List ℕ)
+        → IsCutAt asked text config.now packets.now → HasTaken stage pass.old.records pass.new asked text) }
+{
+    match pass.run.configure(config) {
+        Ok(()) => {
+            by.feed(pass, packets)?;
+            Ok(Stage::Packets)
+        }
+        Err(fault) => Ok(Stage::Refused(fault)),
+    }
+}
+
+impl Stage {
+    /// Takes a part of the text, whose rows are read by these threads, and returns the stage behind it.
+    pub(crate) fn feed<T: Threading>(
+        self,
+        pass: &mut Pass,
+        by: &T,
+        part: &[u8],
+    ) -> Result<Stage, AllocError>
+        requires { CanTake self pass.old }
+        ensures { IfOk result (λ stage. (records : Bool) (asked : List ℕ → Result (List CallValue) FaultValue) (text : List ℕ)
+            → HasTaken self records pass.old asked text → HasTaken stage records pass.new asked (text ++ part.now)) }
+    {
+        match self {
+            Stage::Config(mut config) => match config.feed(part)? {
+                Some(packets) => begin(config.lines.as_slice(), pass, by, packets),
+                None => Ok(Stage::Config(config)),
+            },
+            Stage::Packets => {
+                by.feed(pass, part)?;
+                Ok(Stage::Packets)
+            }
+            Stage::Refused(fault) => Ok(Stage::Refused(fault)),
+        }
+    }
+
+    /// Takes the end of the text: the commands of its configuration are made by then, or the fault is why not.
+    fn end(self, pass: &mut Pass) -> Result<(), ReplayFault>
+        requires { CanTake self pass.old }
+        ensures ok { OnOk result ((records : Bool) (asked : List ℕ → Result (List CallValue) FaultValue) (text : List ℕ)
+            → HasTaken self records pass.old asked text → HasTakenAll records pass.new asked text) }
+        ensures err { IfErr result (λ fault. (records : Bool) (asked : List ℕ → Result (List CallValue) FaultValue) (text : List ℕ)
+            → HasTaken self records pass.old asked text → IsFaultOf (asked text) fault) }
+    {
+        match self {
+            Stage::Config(mut config) => {
+                let Ok(()) = config.finish() else {
+                    return Err(ReplayFault::OutOfMemory);
+                };
+                pass.run.configure(config.lines.as_slice())
+            }
+            Stage::Packets => Ok(()),
+            Stage::Refused(fault) => Err(fault),
+        }
+    }
+
+    /// Takes the end of the text, and writes the report of what it asks for.
+    ///
+    /// The history is returned, which is empty if none is kept.
+    pub(crate) fn finish<P: Printing, O: Outlet>(
+        self,
+        alloc: Global,
+        pass: &mut Pass,
+        by: &P,
+        out: &mut O,
+    ) -> Result<(Vec<Entry>, Outcome), ReplayFault>
+        requires taken { (records : Bool) × (asked : List ℕ → Result (List CallValue) FaultValue) × (text : List ℕ)
+            × HasTaken self records pass.old asked text × AreFew (asked text) }
+        requires sound { O.has_failed out.old ≡ false }
+        ensures ok { IfOk result (λ both. (records : Bool) (asked : List ℕ → Result (List CallValue) FaultValue) (text : List ℕ)
+            → HasTaken self records pass.old asked text → AreFew (asked text)
+            → IsAnswered records (λ r. asked text ≡ r) both.0.items both.1.untargeted (O.contents out.old) (O.contents out.new)) }
+        ensures unasked { IfOk result (λ both. pass.old.records ≡ false → both.0.items ≡ []) }
+        ensures sound { IfOk result (λ _. O.has_failed out.new ≡ false) }
+        ensures err { IfErr result (λ fault. (records : Bool) (asked : List ℕ → Result (List CallValue) FaultValue) (text : List ℕ)
+            → HasTaken self records pass.old asked text → AreFew (asked text)
+            → IsUnreplayed NoneFailed (λ r. asked text ≡ r) (O.contents out.old) (O.contents out.new) (O.has_failed out.new) fault) }
+    {
+        self.end(pass)?;
+        pass.finish(alloc, by, out)
+    }
+}
