@@ -1,7 +1,7 @@
 -- The report of a run is that of what is kept of it.
-use Rattle.std.proofs.Common.{◌≡◌, ◌∙◌, sym, ap, refl, ℕ, ◌<◌, ◌≤◌, ◌^◌, max, arith, length, List, [], ◌∷◌, ◌++◌, map, Bool, true, false, cond}
+use Rattle.std.proofs.Common.{◌≡◌, ◌∙◌, sym, ap, refl, ℕ, suc, ◌+◌, ◌<◌, ◌≤◌, ◌^◌, max, arith, length, List, [], ◌∷◌, ◌++◌, map, Bool, true, false, cond}
 use Rattle.std.specs.List.{list_any}
-use Rattle.std.specs.Prelude.{filter, nat_le, not}
+use Rattle.std.specs.Prelude.{◌==◌, ◌&&◌, ◌||◌, filter, nat_eq, nat_le, not}
 use Rattle.std.proofs.lemmas.Bool.Decides.{nat_tests}
 use Rattle.std.proofs.lemmas.List.{append-nil}
 use Rattle.std.proofs.lemmas.List.Elements.{All-filter, All-nil}
@@ -22,10 +22,11 @@ use Rattle.dn_types.proofs.InTurn.{gives-in-order}
 use Rattle.dn_types.proofs.Ordered.{trace-proper}
 use Rattle.dn_types.proofs.PacketCounts.{undelivered-below}
 use Rattle.dn_records.specs.Records.{text_of}
-use Rattle.dn_replay.specs.Kept.{all_untargeted, are_untargeted, AreKnown, CanReport, delivery_line, fate_lines, is_row, is_untargeted, kept_lines}
+use Rattle.dn_replay.specs.Kept.{accepted_row, all_untargeted, are_untargeted, AreKnown, CanReport, delivery_line, fate_lines, is_row, is_untargeted, kept_lines, lacks_target, refused_row, rows_kept}
 use Rattle.dn_replay.specs.Report.{delivered, deliveries, is_other, is_out, line_fields, lines_after, outs_in_order, report, report_header, row_number, sorted_by, submit_lines}
 use Rattle.dn_replay.specs.Runs.{entry_after, history_of}
 use Rattle.dn_replay.specs.declared.report.fate.Fate.{Fate}
+use Rattle.dn_replay.specs.declared.report.fate.Fate.TheVariants.{Accepted, Refused}
 use Rattle.dn_replay.specs.declared.report.kept.Kept.{Kept}
 use Rattle.dn_replay.specs.declared.report.line.ReportLine.{ReportLine}
 use Rattle.dn_replay.proofs.Deliveries.{deliveries-append}
@@ -60,42 +61,76 @@ module _ (calls : List Call) (moment : ℕ) where
           let few : length calls ≤ call_limit = grind (arith, nat_tests) in
           rw is (counted-given n (count few))
 
+-- ---- Rows without a target
+
+with-target : (row : ℕ) (fates : List Fate)
+    → list_any (λ f. not (is_untargeted f)) fates
+    ≡ not (length (rows_kept accepted_row row fates) == 0) || list_any (λ r. not (lacks_target r.why)) (rows_kept refused_row row fates)
+unfolding rows_kept
+with-target row [] = refl
+with-target row (Accepted flow at ∷ fates) = let more : nat_eq (suc (length (rows_kept accepted_row (row + 1) fates))) 0 ≡ false = grind (arith, nat_tests) in rw more refl
+with-target row (Refused why ∷ fates) = rw (with-target (row + 1) fates) (turn (not (lacks_target why)) _ _)
+  where
+    turn : (a b c : Bool) → a || (b || c) ≡ b || (a || c)
+    turn true true c = refl
+    turn true false c = refl
+    turn false b c = refl
+
+without-target : (row : ℕ) (fates : List Fate) → list_any is_untargeted fates ≡ list_any (λ r. lacks_target r.why) (rows_kept refused_row row fates)
+unfolding rows_kept
+without-target row [] = refl
+without-target row (Accepted flow at ∷ fates) = without-target (row + 1) fates
+without-target row (Refused why ∷ fates) = ap (λ (b : Bool). lacks_target why || b) (without-target (row + 1) fates)
+
+untargeted-rows : (fates : List Fate)
+    → (not (list_any (λ f. not (is_untargeted f)) fates) && list_any is_untargeted fates)
+    ≡ ((length (rows_kept accepted_row 1 fates) == 0)
+    && (not (list_any (λ r. not (lacks_target r.why)) (rows_kept refused_row 1 fates)) && list_any (λ r. lacks_target r.why) (rows_kept refused_row 1 fates)))
+untargeted-rows fates =
+    rw (with-target 1 fates, without-target 1 fates)
+    (parts (length (rows_kept accepted_row 1 fates) == 0) (list_any (λ r. not (lacks_target r.why)) (rows_kept refused_row 1 fates)) _)
+  where
+    parts : (a b c : Bool) → (not (not a || b) && c) ≡ (a && (not b && c))
+    parts true b c = refl
+    parts false b c = refl
+
 -- The last Collect has no line.
 last-line : (calls : List Call) (ds : List Delivery) → lines_after 1 ds [] (history_of (Collect (2 ^ 62) ∷ calls)) ≡ lines_after 1 ds [] (history_of calls)
 unfolding history_of
 last-line calls ds = lines-push 1 ds [] (history_of calls) (entry_after calls (Collect (2 ^ 62))) ∙ append-nil (lines_after 1 ds [] (history_of calls))
 
 module _ (kept : Kept) (given : List Delivery) (calls : List Call) (h : CanReport kept given calls) where
-  are-given : AreGiven (length kept.accepted.items) given
+  pub are-given : AreGiven (length kept.accepted.items) given
   are-given = reply-given calls (2 ^ 62) (length kept.accepted.items) given h.kept_is.numbers h.given_is
 
   pub are-known : AreKnown kept given
-  are-known = record { places = h.kept_is.places; numbers = are-given.numbers }
+  are-known = are-given.numbers
 
   all-deliveries : deliveries (history_of (Collect (2 ^ 62) ∷ calls)) ≡ given
   unfolding history_of
   all-deliveries = deliveries-append (history_of calls) (entry_after calls (Collect (2 ^ 62))) ∙ rw (h.kept_is.undelivered) (sym h.given_is)
 
   -- The lines of a run are those of what is kept.
-  all-lines : submit_lines 1 (history_of (Collect (2 ^ 62) ∷ calls)) ≡ fate_lines 1 0 given kept.fates.items
+  all-lines : submit_lines 1 (history_of (Collect (2 ^ 62) ∷ calls)) ≡ fate_lines 1 0 given h.kept_is.fates
   all-lines =
       ap (λ (ds : List Delivery). lines_after 1 ds [] (history_of (Collect (2 ^ 62) ∷ calls))) all-deliveries
       ∙ last-line calls given
       ∙ h.kept_is.lines given
 
-  pub report-is-kept : report 1 (history_of (Collect (2 ^ 62) ∷ calls)) ≡ text_of (report_header ∷ map line_fields (kept_lines kept given))
+  pub report-is-kept : report 1 (history_of (Collect (2 ^ 62) ∷ calls)) ≡ text_of (report_header ∷ map line_fields (kept_lines kept h.kept_is.fates given))
   unfolding report
   report-is-kept =
-      let outs = outs-as-given kept.accepted.items kept.fates.items given h.kept_is.places are-given in
-      let others = others-by-row given kept.fates.items in
+      let outs = outs-as-given kept.accepted.items h.kept_is.fates given h.kept_is.is_of.accepted are-given in
+      let others = others-by-row given h.kept_is.fates in
       ap (λ (ls : List ReportLine). text_of (report_header ∷ map line_fields (outs_in_order (filter is_out ls) ++ sorted_by row_number (filter is_other ls)))) all-lines
-      ∙ ap (λ (ls : List ReportLine). text_of (report_header ∷ map line_fields (ls ++ sorted_by row_number (filter is_other (fate_lines 1 0 given kept.fates.items))))) outs
-      ∙ ap (λ (ls : List ReportLine). text_of (report_header ∷ map line_fields (map (delivery_line kept.accepted.items kept.fates.items) given ++ ls))) others
+      ∙ ap (λ (ls : List ReportLine). text_of (report_header ∷ map line_fields (ls ++ sorted_by row_number (filter is_other (fate_lines 1 0 given h.kept_is.fates))))) outs
+      ∙ ap (λ (ls : List ReportLine). text_of (report_header ∷ map line_fields (map (delivery_line kept.accepted.items) given ++ ls))) others
 
   -- Whether no row has a target is told by what is kept.
-  pub untargeted-is-kept : all_untargeted (history_of (Collect (2 ^ 62) ∷ calls)) ≡ are_untargeted kept.fates.items
+  pub untargeted-is-kept : all_untargeted (history_of (Collect (2 ^ 62) ∷ calls)) ≡ are_untargeted kept
   unfolding history_of
-  untargeted-is-kept = rw (row (λ f. not (is_untargeted f)), row is_untargeted) refl
+  untargeted-is-kept =
+      rw (row (λ f. not (is_untargeted f)), row is_untargeted) (untargeted-rows h.kept_is.fates ∙ rw (h.kept_is.is_of.accepted, h.kept_is.is_of.refused) refl)
     where
-      row : (test : Fate → Bool) → list_any (is_row test) (history_of (Collect (2 ^ 62) ∷ calls)) ≡ list_any test kept.fates.items
+      row : (test : Fate → Bool) → list_any (is_row test) (history_of (Collect (2 ^ 62) ∷ calls)) ≡ list_any test h.kept_is.fates
       row test = other-row test (history_of calls) (entry_after calls (Collect (2 ^ 62))) refl ∙ h.kept_is.rows test

@@ -1,8 +1,7 @@
 -- What is kept of a run, one call at a time.
-use Rattle.std.proofs.Common.{◌≡◌, ◌∙◌, sym, ap, refl, ℕ, suc, ◌+◌, ◌*◌, arith, length, List, [], ◌∷◌, ◌++◌, Bool, true, false, cond, inl, inr, append_assoc}
-use Rattle.std.specs.Prelude.{◌&&◌, ◌||◌, nat_eq, nat_le, option_to_list, is_some}
+use Rattle.std.proofs.Common.{◌≡◌, ◌∙◌, sym, ap, refl, ℕ, suc, ◌+◌, ◌*◌, arith, length, List, [], ◌∷◌, ◌++◌, Bool, true, false, cond, append_assoc}
+use Rattle.std.specs.Prelude.{◌&&◌, ◌||◌, nat_eq, nat_le, option_to_list, is_some, Option}
 use Rattle.std.specs.List.{count_by, list_any}
-use Rattle.std.proofs.lemmas.Bool.{cases_Bool}
 use Rattle.std.proofs.lemmas.List.{append-nil, length_push}
 use Rattle.std.proofs.lemmas.List.Folds.{list_any-append}
 use Rattle.std.proofs.lemmas.List.Sums.{sum_by-cons}
@@ -23,11 +22,14 @@ use Rattle.dn_types.specs.declared.reply.Reply.TheVariants.{Configured, NoSuchPi
 use Rattle.dn_types.specs.declared.rule.Rule.TheVariants.{Ordered}
 use Rattle.dn_types.specs.declared.target.Target.{Target}
 use Rattle.dn_types.specs.declared.target.Target.TheVariants.{Pipe as ToPipe, Queue as ToQueue}
-use Rattle.dn_replay.specs.Kept.{HasKept, accepted_places, fate_line, fate_lines, fate_of, is_accepted, is_row}
+use Rattle.dn_replay.specs.Kept.{HasKept, accepted_row, fate_line, fate_lines, fate_of, is_accepted, is_row, refused_row, rows_kept}
 use Rattle.dn_replay.specs.Report.{delivered, deliveries, entry_line, is_submit, lines_after, reply_line, submits_by}
 use Rattle.dn_replay.specs.Runs.{entry_after, history_of}
 use Rattle.dn_replay.specs.declared.report.fate.Fate.{Fate}
+use Rattle.dn_replay.specs.declared.report.fate.Fate.TheVariants.{Accepted, Refused}
 use Rattle.dn_replay.specs.declared.report.kept.Kept.{Kept}
+use Rattle.dn_replay.specs.declared.report.kept_rows.AcceptedRow.{AcceptedRow}
+use Rattle.dn_replay.specs.declared.report.kept_rows.RefusedRow.{RefusedRow}
 use Rattle.dn_replay.proofs.Deliveries.{deliveries-append}
 use Rattle.dn_replay.proofs.PacketNumbers.{configured-accepts, number-is, submitted-accepts}
 
@@ -52,36 +54,37 @@ count-push p (x ∷ entries) e =
     let b = count-cons p x entries in
     omega (arith, rest, a, b)
 
-fates-push : (row packet place : ℕ) (given : List Delivery) (fates : List Fate) (f : Fate)
-    → fate_lines row packet given (fates ++ f ∷ []) ≡ fate_lines row packet given fates ++ option_to_list (fate_line (row + length fates) (packet + length (accepted_places place fates)) given f)
-unfolding fate_lines accepted_places
-fates-push row packet place given [] f =
+fates-push : (row packet : ℕ) (given : List Delivery) (fates : List Fate) (f : Fate)
+    → fate_lines row packet given (fates ++ f ∷ []) ≡ fate_lines row packet given fates ++ option_to_list (fate_line (row + length fates) (packet + length (rows_kept accepted_row row fates)) given f)
+unfolding fate_lines rows_kept
+fates-push row packet given [] f =
     let same_row : row + 0 ≡ row = omega arith in
     let same_packet : packet + 0 ≡ packet = omega arith in
     rw (same_row, same_packet) (append-nil _)
-fates-push row packet place given (x ∷ fates) f = elim (cases_Bool (is_accepted x)) [
-  | inl is ↦
-      let next_row : row + suc (length fates) ≡ (row + 1) + length fates = omega arith in
-      let next_packet : packet + suc (length (accepted_places (place + 1) fates)) ≡ (packet + 1) + length (accepted_places (place + 1) fates) = omega arith in
-      rw (is, next_row, next_packet, fates-push (row + 1) (packet + 1) (place + 1) given fates f)
-      (sym (append_assoc (option_to_list (fate_line row packet given x)) (fate_lines (row + 1) (packet + 1) given fates) _))
-  | inr other ↦
-      let next_row : row + suc (length fates) ≡ (row + 1) + length fates = omega arith in
-      rw (other, next_row, fates-push (row + 1) packet (place + 1) given fates f)
-      (sym (append_assoc (option_to_list (fate_line row packet given x)) (fate_lines (row + 1) packet given fates) _))
-]
+fates-push row packet given (Accepted flow at ∷ fates) f =
+    let next_row : row + suc (length fates) ≡ (row + 1) + length fates = omega arith in
+    let next_packet : packet + suc (length (rows_kept accepted_row (row + 1) fates)) ≡ (packet + 1) + length (rows_kept accepted_row (row + 1) fates) = omega arith in
+    rw (next_row, next_packet, fates-push (row + 1) (packet + 1) given fates f)
+    (sym (append_assoc (option_to_list (fate_line row packet given (Accepted flow at))) (fate_lines (row + 1) (packet + 1) given fates) _))
+fates-push row packet given (Refused why ∷ fates) f =
+    let next_row : row + suc (length fates) ≡ (row + 1) + length fates = omega arith in
+    rw (next_row, fates-push (row + 1) packet given fates f)
+    (sym (append_assoc (option_to_list (fate_line row packet given (Refused why))) (fate_lines (row + 1) packet given fates) _))
 
-places-push : (place : ℕ) (fates : List Fate) (f : Fate) → accepted_places place (fates ++ f ∷ []) ≡ accepted_places place fates ++ cond (is_accepted f) ((place + length fates) ∷ []) []
-unfolding accepted_places
-places-push place [] f = let same : place + 0 ≡ place = omega arith in rw same refl
-places-push place (x ∷ fates) f = elim (cases_Bool (is_accepted x)) [
-  | inl is ↦
-      let next : place + suc (length fates) ≡ (place + 1) + length fates = omega arith in
-      rw (is, next, places-push (place + 1) fates f) refl
-  | inr other ↦
-      let next : place + suc (length fates) ≡ (place + 1) + length fates = omega arith in
-      rw (other, next, places-push (place + 1) fates f) refl
-]
+rows-push : {R : Type 0} (kept_of : ℕ → Fate → Option R) (row : ℕ) (fates : List Fate) (f : Fate)
+    → rows_kept kept_of row (fates ++ f ∷ []) ≡ rows_kept kept_of row fates ++ option_to_list (kept_of (row + length fates) f)
+unfolding rows_kept
+rows-push kept_of row [] f = let same : row + 0 ≡ row = omega arith in rw same (append-nil _)
+rows-push kept_of row (x ∷ fates) f =
+    let next : row + suc (length fates) ≡ (row + 1) + length fates = omega arith in
+    rw (next, rows-push kept_of (row + 1) fates f) (sym (append_assoc (option_to_list (kept_of row x)) (rows_kept kept_of (row + 1) fates) _))
+
+-- Of each row one or the other is kept.
+pub rows-count : (row : ℕ) (fates : List Fate) → length (rows_kept accepted_row row fates) + length (rows_kept refused_row row fates) ≡ length fates
+unfolding rows_kept
+rows-count row [] = refl
+rows-count row (Accepted flow at ∷ fates) = let rest = rows-count (row + 1) fates in omega (arith, rest)
+rows-count row (Refused why ∷ fates) = let rest = rows-count (row + 1) fates in omega (arith, rest)
 
 -- An entry that is of no row changes no test of rows.
 pub other-row : (test : Fate → Bool) (entries : List Entry) (e : Entry) → is_submit e.call ≡ false → list_any (is_row test) (entries ++ e ∷ []) ≡ list_any (is_row test) entries
@@ -128,63 +131,72 @@ configure-delivers-none calls command =
 
 -- ---- The calls
 
-pub nothing-kept : (kept : Kept) → kept.fates.items ≡ [] → kept.accepted.items ≡ [] → HasKept kept []
-unfolding history_of lines_after fate_lines accepted_places deliveries
-nothing-kept kept none no_place = record {
-  lines = λ given. rw none refl;
-  submits = rw none refl;
-  places = rw (none, no_place) refl;
-  numbers = λ few. rw no_place refl;
+pub nothing-kept : (kept : Kept) → kept.accepted.items ≡ [] → kept.refused.items ≡ [] → HasKept kept []
+unfolding history_of lines_after fate_lines rows_kept deliveries
+nothing-kept kept accepted refused = record {
+  fates = [];
+  is_of = record { accepted = accepted; refused = refused };
+  lines = λ given. refl;
+  submits = refl;
+  numbers = λ few. rw accepted refl;
   undelivered = refl;
-  rows = λ test. rw none refl;
+  rows = λ test. refl;
 }
 
 -- A command changes nothing of what is kept.
 pub kept-configured : (kept : Kept) (calls : List Call) (command : Command) → HasKept kept calls → HasKept kept (Configure command ∷ calls)
 unfolding history_of
 kept-configured kept calls command h = record {
+  fates = h.fates;
+  is_of = h.is_of;
   lines = λ given. lines-push 1 given [] (history_of calls) (entry_after calls (Configure command)) ∙ append-nil _ ∙ h.lines given;
   submits = count-push (λ e. is_submit e.call && nat_eq e.caller 0) (history_of calls) (entry_after calls (Configure command))
       ∙ (let same : submits_by 0 (history_of calls) + 0 ≡ submits_by 0 (history_of calls) = omega arith in same) ∙ h.submits;
-  places = h.places;
   numbers = λ few. configured-accepts calls command ∙ h.numbers (omega arith);
   undelivered = deliveries-append (history_of calls) (entry_after calls (Configure command)) ∙ rw (h.undelivered, configure-delivers-none calls command) refl;
   rows = λ test. other-row test (history_of calls) (entry_after calls (Configure command)) refl ∙ h.rows test;
 }
 
-places-more : (fates : List Fate) (accepted now : List ℕ) (f : Fate) → accepted ≡ accepted_places 0 fates → now ≡ accepted ++ cond (is_accepted f) (length fates ∷ []) []
-    → now ≡ accepted_places 0 (fates ++ f ∷ [])
-places-more fates accepted now f old is =
-    let same : 0 + length fates ≡ length fates = omega arith in
-    let push = rw same at (places-push 0 fates f) in
-    is ∙ rw old (sym push)
+rows-more : {R : Type 0} (kept_of : ℕ → Fate → Option R) (fates : List Fate) (f : Fate) (row : ℕ) (old now : List R) → row ≡ 1 + length fates → old ≡ rows_kept kept_of 1 fates
+    → now ≡ old ++ option_to_list (kept_of row f) → now ≡ rows_kept kept_of 1 (fates ++ f ∷ [])
+rows-more kept_of fates f row old now row_is old_is is = is ∙ rw (row_is, old_is) (sym (rows-push kept_of 1 fates f))
 
--- A Submit more, whose fate is kept behind those before it.
+-- A Submit more, whose row is kept behind those before it.
 pub kept-submitted : (kept now : Kept) (calls : List Call) (target : Target) (packet : Packet) (moment : ℕ) → HasKept kept calls
-    → now.fates.items ≡ kept.fates.items ++ fate_of (reply Ordered calls (Submit target packet moment)) ∷ []
-    → now.accepted.items ≡ kept.accepted.items ++ cond (is_accepted (fate_of (reply Ordered calls (Submit target packet moment)))) (length kept.fates.items ∷ []) []
+    → now.accepted.items ≡ kept.accepted.items
+    ++ option_to_list (accepted_row (length kept.accepted.items + length kept.refused.items + 1) (fate_of (reply Ordered calls (Submit target packet moment))))
+    → now.refused.items ≡ kept.refused.items
+    ++ option_to_list (refused_row (length kept.accepted.items + length kept.refused.items + 1) (fate_of (reply Ordered calls (Submit target packet moment))))
     → HasKept now (Submit target packet moment ∷ calls)
 unfolding history_of
-kept-submitted kept now calls target packet moment h fates_are accepted_are =
+kept-submitted kept now calls target packet moment h accepted_are refused_are =
     let r = reply Ordered calls (Submit target packet moment) in
     let e = entry_after calls (Submit target packet moment) in
     let fate = fate_of (reply Ordered calls (Submit target packet moment)) in
-    let number : (at flow number : ℕ) → reply Ordered calls (Submit target packet moment) ≡ Queued at flow number → number ≡ 0 + length (accepted_places 0 kept.fates.items) =
+    let count = rows-count 1 h.fates in
+    let accepted_count' = ap (length {A = AcceptedRow}) h.is_of.accepted in
+    let refused_count = ap (length {A = RefusedRow}) h.is_of.refused in
+    let number : (at flow number : ℕ) → reply Ordered calls (Submit target packet moment) ≡ Queued at flow number → number ≡ 0 + length (rows_kept accepted_row 1 h.fates) =
     λ at flow number is. (let n = number-is calls target packet moment at flow number is in let same = h.numbers (omega (arith, n.0)) in
-    let places = ap (length {A = ℕ}) h.places in let own = n.1 in omega (arith, own, same, places)) in
-    let row_is : 0 + submits_by 0 (history_of calls) * 1 + 1 ≡ 1 + length kept.fates.items = omega (arith, h.submits) in
+    let own = n.1 in omega (arith, own, same, accepted_count')) in
+    let row_is : length kept.accepted.items + length kept.refused.items + 1 ≡ 1 + length h.fates = omega (arith, count, accepted_count', refused_count) in
+    let line_is : 0 + submits_by 0 (history_of calls) * 1 + 1 ≡ 1 + length h.fates = omega (arith, h.submits) in
     record {
+      fates = h.fates ++ fate ∷ [];
+      is_of = record {
+        accepted = rows-more accepted_row h.fates fate _ kept.accepted.items now.accepted.items row_is h.is_of.accepted accepted_are;
+        refused = rows-more refused_row h.fates fate _ kept.refused.items now.refused.items row_is h.is_of.refused refused_are;
+      };
       lines = λ given. lines-push 1 given [] (history_of calls) e
-          ∙ rw (row_is, h.lines given, line-by-fate (1 + length kept.fates.items) (0 + length (accepted_places 0 kept.fates.items)) given r number, fates_are)
-          (sym (fates-push 1 0 0 given kept.fates.items fate));
-      submits = count-push (λ e. is_submit e.call && nat_eq e.caller 0) (history_of calls) e ∙ rw (fates_are, h.submits) (sym (length_push kept.fates.items fate));
-      places = places-more kept.fates.items kept.accepted.items now.accepted.items fate h.places accepted_are ∙ ap (accepted_places 0) (sym fates_are);
+          ∙ rw (line_is, h.lines given, line-by-fate (1 + length h.fates) (0 + length (rows_kept accepted_row 1 h.fates)) given r number)
+          (sym (fates-push 1 0 given h.fates fate));
+      submits = count-push (λ e. is_submit e.call && nat_eq e.caller 0) (history_of calls) e ∙ rw h.submits (sym (length_push h.fates fate));
       numbers = λ few. submitted-accepts calls target packet moment (omega arith)
-          ∙ rw (accepted_are, h.numbers (omega arith)) (counted (is_accepted fate) kept.accepted.items (length kept.fates.items));
+          ∙ rw (accepted_are, h.numbers (omega arith)) (counted fate (length kept.accepted.items + length kept.refused.items + 1) kept.accepted.items);
       undelivered = deliveries-append (history_of calls) e ∙ rw (h.undelivered, submit-delivers-none calls target packet moment) refl;
-      rows = λ test. list_any-append (is_row test) (history_of calls) (e ∷ []) ∙ rw (h.rows test, fates_are) (sym (list_any-append test kept.fates.items (fate ∷ [])));
+      rows = λ test. list_any-append (is_row test) (history_of calls) (e ∷ []) ∙ rw (h.rows test) (sym (list_any-append test h.fates (fate ∷ [])));
     }
   where
-    counted : (b : Bool) (xs : List ℕ) (x : ℕ) → length xs + cond b 1 0 ≡ length (xs ++ cond b (x ∷ []) [])
-    counted true xs x = sym (length_push xs x)
-    counted false xs x = let none = append-nil xs in rw none (omega arith)
+    counted : (f : Fate) (row : ℕ) (xs : List AcceptedRow) → length xs + cond (is_accepted f) 1 0 ≡ length (xs ++ option_to_list (accepted_row row f))
+    counted (Accepted flow at) row xs = sym (length_push xs _)
+    counted (Refused why) row xs = let none = append-nil xs in rw none (omega arith)

@@ -1,3 +1,4 @@
+pub mod AllGiven
 pub mod CallerRows
 pub mod CallerSteps
 pub mod ConfigCuts
@@ -11,6 +12,7 @@ pub mod KeptReport
 pub mod KeptSteps
 pub mod LineBytes
 pub mod LineSteps
+pub mod MarkSteps
 pub mod ListRows
 pub mod Orders
 pub mod OtherSteps

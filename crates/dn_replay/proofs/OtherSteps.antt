@@ -1,61 +1,174 @@
 -- The lines of the packets that are not given, one row at a time.
-use Rattle.std.proofs.Common.{◌≡◌, ◌∙◌, sym, ap, refl, ℕ, ◌+◌, ◌<◌, ◌≤◌, arith, length, drop, get_or, List, [], ◌∷◌, ◌++◌, map, Bool, true, false, cond, append_assoc}
-use Rattle.std.specs.Prelude.{◌||◌, filter, nat_eq, option_to_list, Option, Some, None, is_some}
-use Rattle.std.specs.Option.{option_or}
-use Rattle.std.proofs.lemmas.List.{append-nil, drop_all, drop_more, map-append, take_more, get_or-replicate, get_or-set_same, get_or-set_other, length-replicate}
-use Rattle.std.proofs.Common.{take, replicate, set, ◌≢◌, inl, inr}
+use Rattle.std.proofs.Common.{◌≡◌, ◌≢◌, ◌∙◌, sym, ap, refl, ℕ, ◌+◌, ◌-◌, ◌<◌, ◌≤◌, arith, inl, inr, length, drop, get_or, List, [], ◌∷◌, ◌++◌, map, true, false, cond, append_assoc}
+use Rattle.std.specs.Prelude.{filter, nat_lt, option_to_list, Option, Some, None, is_none, is_some}
+use Rattle.std.proofs.lemmas.List.{append-nil, drop_all, drop_more, map-append}
 use Rattle.std.proofs.lemmas.Bool.{cases_Bool}
 use Rattle.std.proofs.lemmas.Bool.Decides.{nat_tests}
 use Rattle.std.proofs.lemmas.List.Elements.{filter-append}
-use Rattle.std.proofs.lemmas.List.Folds.{find-append}
 use Rattle.dn_records.proofs.TextSteps.{text-append}
 use Rattle.dn_records.specs.Records.{line_of, text_of}
 use Rattle.dn_types.specs.declared.delivery.Delivery.{Delivery}
-use Rattle.dn_replay.specs.Kept.{AreMarksOf, accepted_places, fate_line, fate_lines, is_accepted}
+use Rattle.dn_replay.specs.Kept.{accepted_line, accepted_row, fate_line, fate_lines, is_accepted, IsKeptOf, no_row, other_text, refusal_in, refusal_line, refused_row, rows_kept}
 use Rattle.dn_replay.specs.Report.{delivery_of_packet, is_other, line_fields, queued_line}
 use Rattle.dn_replay.specs.declared.report.fate.Fate.{Fate}
-use Rattle.dn_replay.specs.declared.report.fate.Fate.TheVariants.{Accepted, Lost, Full, NoTarget, Unanswered}
+use Rattle.dn_replay.specs.declared.report.fate.Fate.TheVariants.{Accepted, Refused}
+use Rattle.dn_replay.specs.declared.report.kept.Kept.{Kept}
+use Rattle.dn_replay.specs.declared.report.kept_rows.AcceptedRow.{AcceptedRow}
+use Rattle.dn_replay.specs.declared.report.kept_rows.RefusedRow.{RefusedRow}
 use Rattle.dn_replay.specs.declared.report.line.ReportLine.{ReportLine}
 use Rattle.dn_replay.specs.declared.report.line.ReportLine.TheVariants as line
+use Rattle.dn_replay.specs.declared.report.refusal.Refusal.{Refusal}
+use Rattle.dn_replay.specs.declared.report.refusal.Refusal.TheVariants.{Lost, Full, NoTarget, Unanswered}
+use Rattle.dn_replay.proofs.KeptSteps.{rows-count}
 use Rattle.dn_replay.proofs.PartSteps.{one-line}
-
--- The text of one fate's line, if it isn't an `out` line.
-abbrev pub text_of_fate : ℕ → ℕ → List Delivery → Fate → List ℕ
-text_of_fate row packet given f = text_of (map line_fields (filter is_other (option_to_list (fate_line row packet given f))))
 
 no-text : text_of [] ≡ []
 unfolding text_of
 no-text = refl
 
-held-text : (row at flow packet : ℕ) (o : Option Delivery) → is_some o ≡ false
-    → text_of (map line_fields (filter is_other (queued_line row at flow packet o ∷ []))) ≡ line_of (line_fields (line.Held row flow packet at))
-held-text row at flow packet None e = one-line (line_fields (line.Held row flow packet at))
-held-text row at flow packet (Some d) e = absurd cc
+-- The text of an accepted packet's line, if it isn't given and if it is.
+pub held-one : (packet : ℕ) (given : List Delivery) (own : AcceptedRow) → is_some (delivery_of_packet packet given) ≡ false
+    → line_of (line_fields (line.Held own.row own.flow packet own.at)) ≡ other_text (accepted_line packet given own)
+held-one packet given own e = by (delivery_of_packet packet given) e
+  where
+    by : (o : Option Delivery) → is_some o ≡ false → line_of (line_fields (line.Held own.row own.flow packet own.at)) ≡ other_text (Some (queued_line own.row own.at own.flow packet o))
+    by None e = sym (one-line (line_fields (line.Held own.row own.flow packet own.at)))
+    by (Some d) e = absurd cc
 
-out-text : (row at flow packet : ℕ) (o : Option Delivery) → is_some o ≡ true → text_of (map line_fields (filter is_other (queued_line row at flow packet o ∷ []))) ≡ []
-out-text row at flow packet None e = absurd cc
-out-text row at flow packet (Some d) e = no-text
+pub given-one : (text : List ℕ) (packet : ℕ) (given : List Delivery) (own : AcceptedRow) → is_some (delivery_of_packet packet given) ≡ true
+    → text ≡ text ++ other_text (accepted_line packet given own)
+given-one text packet given own e = sym (ap (λ (t : List ℕ). text ++ t) (by (delivery_of_packet packet given) e) ∙ append-nil text)
+  where
+    by : (o : Option Delivery) → is_some o ≡ true → other_text (Some (queued_line own.row own.at own.flow packet o)) ≡ []
+    by None e = absurd cc
+    by (Some d) e = no-text
 
--- The text of each kind of fate.
-pub held-one : (row flow packet at : ℕ) (given : List Delivery) (f : Fate) → f ≡ Accepted flow at → is_some (delivery_of_packet packet given) ≡ false
-    → line_of (line_fields (line.Held row flow packet at)) ≡ text_of_fate row packet given f
-held-one row flow packet at given f is e = rw is (sym (held-text row at flow packet (delivery_of_packet packet given) e))
+-- The text of each refusal's line.
+pub lost-one : (row flow at : ℕ) (why : Refusal) → why ≡ Lost flow at → line_of (line_fields (line.Lost row flow at)) ≡ other_text (refusal_line row why)
+lost-one row flow at why is = rw is (sym (one-line (line_fields (line.Lost row flow at))))
 
-pub given-one : (text : List ℕ) (row flow packet at : ℕ) (given : List Delivery) (f : Fate) → f ≡ Accepted flow at → is_some (delivery_of_packet packet given) ≡ true
-    → text ≡ text ++ text_of_fate row packet given f
-given-one text row flow packet at given f is e = rw is (sym (ap (λ (t : List ℕ). text ++ t) (out-text row at flow packet (delivery_of_packet packet given) e) ∙ append-nil text))
+pub full-one : (row flow at : ℕ) (why : Refusal) → why ≡ Full flow at → line_of (line_fields (line.Full row flow at)) ≡ other_text (refusal_line row why)
+full-one row flow at why is = rw is (sym (one-line (line_fields (line.Full row flow at))))
 
-pub lost-one : (row flow packet at : ℕ) (given : List Delivery) (f : Fate) → f ≡ Lost flow at → line_of (line_fields (line.Lost row flow at)) ≡ text_of_fate row packet given f
-lost-one row flow packet at given f is = rw is (sym (one-line (line_fields (line.Lost row flow at))))
+pub no_target-one : (row at : ℕ) (why : Refusal) → why ≡ NoTarget at → line_of (line_fields (line.NoTarget row at)) ≡ other_text (refusal_line row why)
+no_target-one row at why is = rw is (sym (one-line (line_fields (line.NoTarget row at))))
 
-pub full-one : (row flow packet at : ℕ) (given : List Delivery) (f : Fate) → f ≡ Full flow at → line_of (line_fields (line.Full row flow at)) ≡ text_of_fate row packet given f
-full-one row flow packet at given f is = rw is (sym (one-line (line_fields (line.Full row flow at))))
+pub unanswered-one : (text : List ℕ) (row : ℕ) (why : Refusal) → why ≡ Unanswered → text ≡ text ++ other_text (refusal_line row why)
+unanswered-one text row why is = rw is (sym (ap (λ (t : List ℕ). text ++ t) no-text ∙ append-nil text))
 
-pub no_target-one : (row packet at : ℕ) (given : List Delivery) (f : Fate) → f ≡ NoTarget at → line_of (line_fields (line.NoTarget row at)) ≡ text_of_fate row packet given f
-no_target-one row packet at given f is = rw is (sym (one-line (line_fields (line.NoTarget row at))))
+-- ---- The next row
 
-pub unanswered-one : (text : List ℕ) (row packet : ℕ) (given : List Delivery) (f : Fate) → f ≡ Unanswered → text ≡ text ++ text_of_fate row packet given f
-unanswered-one text row packet given f is = rw is (sym (ap (λ (t : List ℕ). text ++ t) no-text ∙ append-nil text))
+-- This element of a list, and what is behind it.
+record IsNext {X : Type 0} (xs : List X) (n : ℕ) (x : X) (behind : List X) : Type 0 where
+  pub within : n < length xs
+  pub item : (d : X) → get_or xs n d ≡ x
+  pub rest : drop (n + 1) xs ≡ behind
+
+next : {X : Type 0} (xs : List X) (n : ℕ) (x : X) (behind : List X) → drop n xs ≡ x ∷ behind → IsNext xs n x behind
+next xs n x behind e = elim (cases_Bool (nat_lt n (length xs))) [
+  | inl lt ↦
+      let within : n < length xs = grind (arith, nat_tests) in
+      record {
+        within = within;
+        item = λ d. (let cut = sym (drop_more xs n d within) ∙ e in cc);
+        rest = let cut = sym (drop_more xs n x within) ∙ e in cc;
+      }
+  | inr past ↦
+      let far : length xs ≤ n = grind (arith, nat_tests) in
+      let cut = sym (drop_all n xs far) ∙ e in
+      absurd cc
+]
+
+above : (row : ℕ) (fates : List Fate) (x : RefusedRow) (xs : List RefusedRow) → rows_kept refused_row row fates ≡ x ∷ xs → row ≤ x.row
+unfolding rows_kept
+above row [] x xs e = absurd cc
+above row (Accepted flow at ∷ fates) x xs e = let rest = above (row + 1) fates x xs e in omega (arith, rest)
+above row (Refused why ∷ fates) x xs e = let same : row ≡ x.row = cc in omega (arith, same)
+
+-- No refused row is left.
+pub none-refused : (refused : List RefusedRow) (place row : ℕ) (fate : Fate) (fates : List Fate) → length refused ≤ place
+    → drop place refused ≡ rows_kept refused_row row (fate ∷ fates) → None ≡ refusal_in fate
+unfolding rows_kept
+none-refused refused place row (Accepted flow at) fates far e = refl
+none-refused refused place row (Refused why) fates far e = let cut = sym (drop_all place refused far) ∙ e in absurd cc
+
+-- The next refused row is this one, or comes later.
+pub this-refused : (refused : List RefusedRow) (place row : ℕ) (fate : Fate) (fates : List Fate) (d x : RefusedRow) → place < length refused → x ≡ get_or refused place d
+    → x.row ≡ row → drop place refused ≡ rows_kept refused_row row (fate ∷ fates) → Some x.why ≡ refusal_in fate
+unfolding rows_kept
+this-refused refused place row (Accepted flow at) fates d x lt is same e =
+    let cut : rows_kept refused_row (row + 1) fates ≡ x ∷ drop (place + 1) refused = sym e ∙ drop_more refused place d lt ∙ ap (λ (y : RefusedRow). y ∷ drop (place + 1) refused) (sym is) in
+    let later = above (row + 1) fates x (drop (place + 1) refused) cut in
+    absurd (omega (arith, later, same))
+this-refused refused place row (Refused why) fates d x lt is same e =
+    let cut : record { row = row; why = why } ∷ rows_kept refused_row (row + 1) fates ≡ x ∷ drop (place + 1) refused =
+    sym e ∙ drop_more refused place d lt ∙ ap (λ (y : RefusedRow). y ∷ drop (place + 1) refused) (sym is) in
+    cc
+
+pub later-refused : (refused : List RefusedRow) (place row : ℕ) (fate : Fate) (fates : List Fate) (d x : RefusedRow) → place < length refused → x ≡ get_or refused place d
+    → x.row ≢ row → drop place refused ≡ rows_kept refused_row row (fate ∷ fates) → None ≡ refusal_in fate
+unfolding rows_kept
+later-refused refused place row (Accepted flow at) fates d x lt is other e = refl
+later-refused refused place row (Refused why) fates d x lt is other e =
+    let cut : record { row = row; why = why } ∷ rows_kept refused_row (row + 1) fates ≡ x ∷ drop (place + 1) refused =
+    sym e ∙ drop_more refused place d lt ∙ ap (λ (y : RefusedRow). y ∷ drop (place + 1) refused) (sym is) in
+    let same : row ≡ x.row = cc in
+    absurd (other (sym same))
+
+-- The next row whose packet was accepted.
+pub next-accepted : (accepted : List AcceptedRow) (packet row : ℕ) (fate : Fate) (fates : List Fate) → refusal_in fate ≡ None
+    → drop packet accepted ≡ rows_kept accepted_row row (fate ∷ fates)
+    → (packet < length accepted) × ((given : List Delivery) → accepted_line packet given (get_or accepted packet no_row) ≡ fate_line row packet given fate)
+unfolding rows_kept
+next-accepted accepted packet row (Accepted flow at) fates none e =
+    let here = next accepted packet (record { row = row; flow = flow; at = at }) (rows_kept accepted_row (row + 1) fates) e in
+    (here.within, λ given. ap (accepted_line packet given) (here.item no_row))
+next-accepted accepted packet row (Refused why) fates none e = absurd cc
+
+pub refused-line : (row packet : ℕ) (given : List Delivery) (fate : Fate) (why : Refusal) → Some why ≡ refusal_in fate → refusal_line row why ≡ fate_line row packet given fate
+refused-line row packet given (Accepted flow at) why e = absurd cc
+refused-line row packet given (Refused other) why e = let same : why ≡ other = cc in ap (refusal_line row) same
+
+-- Of the rows from a place on these are the fates. So many packets were accepted before it.
+pub record AreLeft (kept : Kept) (place packet : ℕ) (fates : List Fate) : Type 0 where
+  pub accepted : drop packet kept.accepted.items ≡ rows_kept accepted_row (place + 1) fates
+  pub refused : drop (place - packet) kept.refused.items ≡ rows_kept refused_row (place + 1) fates
+
+pub all-left : (kept : Kept) (fates : List Fate) → IsKeptOf kept fates → AreLeft kept 0 0 fates
+all-left kept fates h = record { accepted = h.accepted; refused = h.refused }
+
+pub fewer-left : (kept : Kept) (place packet : ℕ) (f : Fate) (fates : List Fate) → packet ≤ place → AreLeft kept place packet (f ∷ fates)
+    → AreLeft kept (place + 1) (cond (is_none (refusal_in f)) (packet + 1) packet) fates
+unfolding rows_kept
+fewer-left kept place packet (Accepted flow at) fates le h =
+    let here = next kept.accepted.items packet (record { row = place + 1; flow = flow; at = at }) (rows_kept accepted_row ((place + 1) + 1) fates) h.accepted in
+    let same : (place + 1) - (packet + 1) ≡ place - packet = omega arith in
+    record { accepted = here.rest; refused = rw same h.refused }
+fewer-left kept place packet (Refused why) fates le h =
+    let here = next kept.refused.items (place - packet) (record { row = place + 1; why = why }) (rows_kept refused_row ((place + 1) + 1) fates) h.refused in
+    let one : (place + 1) - packet ≡ (place - packet) + 1 = omega (arith, le) in
+    record { accepted = h.accepted; refused = rw one here.rest }
+
+-- A row at a place below the count of rows is one of the fates.
+pub next-fate : (kept : Kept) (fates : List Fate) (place : ℕ) (d : Fate) → IsKeptOf kept fates → place < length kept.accepted.items + length kept.refused.items
+    → (place < length fates) × (drop place fates ≡ get_or fates place d ∷ drop (place + 1) fates)
+next-fate kept fates place d h lt =
+    let count = rows-count 1 fates in
+    let a = ap (length {A = AcceptedRow}) h.accepted in
+    let b = ap (length {A = RefusedRow}) h.refused in
+    let within : place < length fates = omega (arith, count, a, b, lt) in
+    (within, drop_more fates place d within)
+
+pub no-more-fates : (kept : Kept) (fates : List Fate) (place : ℕ) → IsKeptOf kept fates → length kept.accepted.items + length kept.refused.items ≤ place → length fates ≤ place
+no-more-fates kept fates place h le =
+    let count = rows-count 1 fates in
+    let a = ap (length {A = AcceptedRow}) h.accepted in
+    let b = ap (length {A = RefusedRow}) h.refused in
+    omega (arith, count, a, b, le)
+
+pub number-of : (f : Fate) (packet : ℕ) → cond (is_none (refusal_in f)) (packet + 1) packet ≡ cond (is_accepted f) (packet + 1) packet
+number-of (Accepted flow at) packet = refl
+number-of (Refused why) packet = refl
 
 -- ---- The rows that are left
 
@@ -66,7 +179,7 @@ text_from place packet given fates = text_of (map line_fields (filter is_other (
 -- One row more.
 pub row-more : (done total : List ℕ) (place packet : ℕ) (given : List Delivery) (fates : List Fate) (d : Fate) → place < length fates
     → done ++ text_from place packet given fates ≡ total
-    → (done ++ text_of_fate (place + 1) packet given (get_or fates place d)) ++ text_from (place + 1) (cond (is_accepted (get_or fates place d)) (packet + 1) packet) given fates ≡ total
+    → (done ++ other_text (fate_line (place + 1) packet given (get_or fates place d))) ++ text_from (place + 1) (cond (is_accepted (get_or fates place d)) (packet + 1) packet) given fates ≡ total
 unfolding fate_lines
 row-more done total place packet given fates d lt so_far =
     let f = get_or fates place d in
@@ -87,75 +200,3 @@ rows-end done total place packet given fates le so_far =
     sym (append-nil done)
     ∙ ap (λ (t : List ℕ). done ++ t) (sym (ap (λ (fs : List Fate). text_of (map line_fields (filter is_other (fate_lines (place + 1) packet given fs)))) (drop_all place fates le)))
     ∙ so_far
-
--- An accepted packet's number is below the count of them, and those that are left are fewer by it.
-pub number-more : (count place packet : ℕ) (fates : List Fate) (d : Fate) → place < length fates → packet + length (accepted_places place (drop place fates)) ≡ count
-    → cond (is_accepted (get_or fates place d)) (packet + 1) packet + length (accepted_places (place + 1) (drop (place + 1) fates)) ≡ count
-unfolding accepted_places
-number-more count place packet fates d lt is = by (is_accepted (get_or fates place d)) (ap (λ (fs : List Fate). packet + length (accepted_places place fs)) (sym (drop_more fates place d lt)) ∙ is)
-  where
-    by : (b : Bool) → packet + length (cond b (place ∷ accepted_places (place + 1) (drop (place + 1) fates)) (accepted_places (place + 1) (drop (place + 1) fates))) ≡ count
-        → cond b (packet + 1) packet + length (accepted_places (place + 1) (drop (place + 1) fates)) ≡ count
-    by true e = omega (arith, e)
-    by false e = e
-
-pub number-below : (count place packet : ℕ) (fates : List Fate) (d : Fate) → place < length fates → packet + length (accepted_places place (drop place fates)) ≡ count
-    → is_accepted (get_or fates place d) ≡ true → packet < count
-unfolding accepted_places
-number-below count place packet fates d lt is yes' =
-    let cut = ap (λ (fs : List Fate). packet + length (accepted_places place fs)) (sym (drop_more fates place d lt)) ∙ is in
-    let here = rw yes' at cut in
-    omega (arith, here)
-
--- ---- Marks
-
-pub no-marks : (n : ℕ) (marks : List Bool) → marks ≡ replicate n false → AreMarksOf marks n []
-no-marks n marks is = rw is (record { count = length-replicate n false; marked = λ packet lt. get_or-replicate n packet false false lt })
-
-pub mark-more : (old new : List Bool) (n i : ℕ) (given : List Delivery) (d : Delivery) → i < length given → AreMarksOf old n (take i given)
-    → length new ≡ length old → ((p : ℕ) → p < length old → get_or new p false ≡ get_or old p false || nat_eq (get_or given i d).packet p)
-    → AreMarksOf new n (take (i + 1) given)
-mark-more old new n i given d lt h len marked = record {
-  count = len ∙ h.count;
-  marked = λ packet below.
-      let own = marked packet (let c = h.count in omega (arith, c, below)) in
-      let so_far = h.marked packet below in
-      let more : delivery_of_packet packet (take (i + 1) given) ≡ option_or (delivery_of_packet packet (take i given)) (delivery_of_packet packet (get_or given i d ∷ [])) =
-      ap (delivery_of_packet packet) (take_more given i d lt) ∙ find-append (λ d. nat_eq d.packet packet) (take i given) (get_or given i d ∷ []) in
-      own ∙ rw (so_far, more) (joined (delivery_of_packet packet (take i given)) (get_or given i d) (nat_eq (get_or given i d).packet packet));
-}
-  where
-    joined : (o : Option Delivery) (d : Delivery) (b : Bool) → is_some o || b ≡ is_some (option_or o (cond b (Some d) None))
-    joined None d true = refl
-    joined _ d _ = refl
-
-pub marked : (old : List Bool) (place packet p : ℕ) → place ≡ packet → place < length old → get_or (set old place true) p false ≡ get_or old p false || nat_eq packet p
-marked old place packet p is lt = elim (cases_Bool (nat_eq packet p)) [
-  | inl same ↦
-      let e : p ≡ place = grind (arith, nat_tests) in
-      rw (same, e) (get_or-set_same old place true false lt ∙ sym (or-true (get_or old place false)))
-  | inr other ↦
-      let e : p ≢ place = grind (arith, nat_tests) in
-      rw other (get_or-set_other old place p true false e ∙ sym (or-false (get_or old p false)))
-]
-  where
-    or-true : (b : Bool) → b || true ≡ true
-    or-true true = refl
-    or-true false = refl
-
-    or-false : (b : Bool) → b || false ≡ b
-    or-false true = refl
-    or-false false = refl
-
-pub unmarked : (old : List Bool) (packet p : ℕ) → length old ≤ packet → p < length old → get_or old p false ≡ get_or old p false || nat_eq packet p
-unmarked old packet p far below =
-    let other : nat_eq packet p ≡ false = grind (arith, nat_tests) in
-    rw other (sym (same (get_or old p false)))
-  where
-    same : (b : Bool) → b || false ≡ b
-    same true = refl
-    same false = refl
-
--- The marks of so many packets are as many.
-pub own-count : (marks : List Bool) (n : ℕ) (given : List Delivery) → AreMarksOf marks n given → AreMarksOf marks (length marks) given
-own-count marks n given h = record { count = refl; marked = λ packet below. h.marked packet (let c = h.count in omega (arith, c, below)) }

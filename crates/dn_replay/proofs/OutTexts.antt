@@ -21,16 +21,16 @@ use Rattle.dn_replay.proofs.PartSteps.{part-failed}
 module _ (kept : Kept) where
   pub two_parts : (front back : List Delivery) → out_text kept front ++ out_text kept back ≡ out_text kept (front ++ back)
   two_parts front back =
-      let line = delivery_line kept.accepted.items kept.fates.items in
+      let line = delivery_line kept.accepted.items in
       sym
       (ap text_of (ap (map line_fields) (map-append line front back) ∙ map-append line_fields (map line front) (map line back))
       ∙ text-append (map line_fields (map line front)) (map line_fields (map line back)))
 
   pub known_front : (n : ℕ) (given : List Delivery) → AreKnown kept given → AreKnown kept (take n given)
-  known_front n given known = record { places = known.places; numbers = All-take (λ (d : Delivery). d.packet < length kept.accepted.items) n given known.numbers }
+  known_front n given known = All-take (λ (d : Delivery). d.packet < length kept.accepted.items) n given known
 
   pub known_back : (n : ℕ) (given : List Delivery) → AreKnown kept given → AreKnown kept (drop n given)
-  known_back n given known = record { places = known.places; numbers = All-drop (λ (d : Delivery). d.packet < length kept.accepted.items) n given known.numbers }
+  known_back n given known = All-drop (λ (d : Delivery). d.packet < length kept.accepted.items) n given known
 
   -- One step more of what is written, and the rest of it.
   pub step_more : (before : List ℕ) (done step : List Delivery) → (before ++ out_text kept done) ++ out_text kept step ≡ before ++ out_text kept (done ++ step)

@@ -3,13 +3,17 @@
 mod delivered;
 mod fate;
 mod kept;
+mod kept_rows;
 mod line;
 mod line_text;
+mod marks;
 mod order;
+mod others;
 mod outcome;
 mod outs;
 mod parts;
 mod printing;
+mod refusal;
 mod texts;
 mod write;
 mod write_kept;

@@ -67,7 +67,7 @@ fn submit_row(
     if records {
         return run.add_entry(call, reply);
     }
-    if kept.fates.len() % STRETCH == 0 {
+    if kept.rows() % STRETCH == 0 {
         return collect(&mut run.shaper, given, Moment::new(0).unwrap());
     }
     Ok(())

@@ -1,4 +1,4 @@
-ghost use Rattle.std.specs.Prelude.{◌≡◌, ℕ, List, [], ◌∷◌, ◌++◌, cond, not, OnOk};
+ghost use Rattle.std.specs.Prelude.{◌≡◌, ◌+◌, ℕ, List, [], ◌∷◌, ◌++◌, ◌&&◌, length, not, OnOk, option_to_list};
 ghost use Rattle.std.specs.List.{list_any};
 ghost use Rattle.dn_types.specs.Replies.{reply as reply_to};
 ghost use Rattle.dn_types.specs.declared.call.Call.{Call};
@@ -6,44 +6,64 @@ ghost use Rattle.dn_types.specs.declared.call.Call.TheVariants.{Submit};
 ghost use Rattle.dn_types.specs.declared.packet.Packet.{Packet};
 ghost use Rattle.dn_types.specs.declared.rule.Rule.TheVariants.{Ordered};
 ghost use Rattle.dn_types.specs.declared.target.Target.{Target};
-ghost use Rattle.dn_replay.specs.Kept.{are_untargeted, HasKept, is_accepted, is_untargeted};
+ghost use Rattle.dn_replay.specs.Kept.{accepted_row, are_untargeted, HasKept, lacks_target, refused_row};
 
 use crate::report::fate::Fate;
+use crate::report::kept_rows::{AcceptedRow, RefusedRow};
 use dn_types::Reply;
 use std::alloc::{AllocError, Global};
 
 /// What a report needs of the Submits of one caller so far.
 #[derive(Drop)]
 pub(crate) struct Kept {
-    /// What became of the packet of each row.
-    pub(crate) fates: Vec<Fate>,
-    /// For each packet number, the place among the fates of the row whose packet has it.
-    pub(crate) accepted: Vec<usize>,
+    /// By packet number, the rows whose packets were accepted.
+    pub(crate) accepted: Vec<AcceptedRow>,
+    /// The other rows, in their order.
+    pub(crate) refused: Vec<RefusedRow>,
 }
 
-/// Adds the place of a row, if its packet was accepted.
-fn add_place(places: &mut Vec<usize>, place: usize, fate: Fate) -> Result<(), AllocError>
-    ensures { OnOk result (places.new.items ≡ places.old.items ++ cond (is_accepted fate) (place ∷ []) []) }
+/// Adds a row, if its packet was accepted.
+fn keep_accepted(rows: &mut Vec<AcceptedRow>, row: usize, fate: Fate) -> Result<(), AllocError>
+    ensures { OnOk result (rows.new.items ≡ rows.old.items ++ option_to_list (accepted_row row fate)) }
 {
-    if !fate.is_accepted() {
-        return Ok(());
+    match fate {
+        Fate::Accepted { flow, at } => rows.push(AcceptedRow { row, flow, at })?,
+        Fate::Refused(_) => {}
     }
-    places.push(place)?;
+    Ok(())
+}
+
+/// Adds a row, if its packet was not accepted.
+fn keep_refused(rows: &mut Vec<RefusedRow>, row: usize, fate: Fate) -> Result<(), AllocError>
+    ensures { OnOk result (rows.new.items ≡ rows.old.items ++ option_to_list (refused_row row fate)) }
+{
+    match fate {
+        Fate::Accepted { .. } => {}
+        Fate::Refused(why) => rows.push(RefusedRow { row, why })?,
+    }
     Ok(())
 }
 
 /// Whether a packet had a target.
-fn has_target(fates: &[Fate]) -> bool
-    ensures { result ≡ list_any (λ f. not (is_untargeted f)) fates.now }
+fn has_target(rows: &[RefusedRow]) -> bool
+    ensures { result ≡ list_any (λ r. not (lacks_target r.why)) rows.now }
 {
-    fates.iter().any(|fate| !fate.is_untargeted())
+    rows.iter().any(|row| !row.why.lacks_target())
 }
 
 /// Whether a packet had no target.
-fn lacks_target(fates: &[Fate]) -> bool
-    ensures { result ≡ list_any is_untargeted fates.now }
+fn lacks_target(rows: &[RefusedRow]) -> bool
+    ensures { result ≡ list_any (λ r. lacks_target r.why) rows.now }
 {
-    fates.iter().any(|fate| fate.is_untargeted())
+    rows.iter().any(|row| row.why.lacks_target())
+}
+
+/// Whether there is a row, and no row had a target.
+fn all_lack_target(rows: &[RefusedRow]) -> bool
+    ensures { result ≡ not (list_any (λ r. not (lacks_target r.why)) rows.now) && list_any (λ r. lacks_target r.why) rows.now }
+{
+    // A row with a target ends the first search, so that the second is seldom made.
+    !has_target(rows) && lacks_target(rows)
 }
 
 impl Kept {
@@ -52,9 +72,16 @@ impl Kept {
         ensures { HasKept result [] }
     {
         Kept {
-            fates: Vec::new(alloc),
             accepted: Vec::new(alloc),
+            refused: Vec::new(alloc),
         }
+    }
+
+    /// How many rows there are.
+    pub(crate) fn rows(&self) -> usize
+        ensures { result ≡ length self.now.accepted.items + length self.now.refused.items }
+    {
+        self.accepted.len() + self.refused.len()
     }
 
     /// Keeps what a report needs of the reply to the next Submit.
@@ -65,16 +92,16 @@ impl Kept {
             HasKept self.new (Submit target packet moment ∷ calls)) }
     {
         let fate = Fate::of(reply);
-        add_place(&mut self.accepted, self.fates.len(), fate)?;
-        self.fates.push(fate)?;
+        let row = self.rows() + 1;
+        keep_accepted(&mut self.accepted, row, fate)?;
+        keep_refused(&mut self.refused, row, fate)?;
         Ok(())
     }
 
     /// Whether there is a row, and no row has a target.
     pub(crate) fn all_untargeted(&self) -> bool
-        ensures { result ≡ are_untargeted self.now.fates.items }
+        ensures { result ≡ are_untargeted self.now }
     {
-        // A row with a target ends the first search, so that the second is seldom made.
-        !has_target(self.fates.as_slice()) && lacks_target(self.fates.as_slice())
+        self.accepted.is_empty() && all_lack_target(self.refused.as_slice())
     }
 }

@@ -1,59 +1,42 @@
 //! The `out` lines of deliveries.
 
-ghost use Rattle.std.specs.Prelude.{◌≡◌, ◌<◌, ◌≤◌, ◌+◌, ◌++◌, ℕ, List, Option, slice_index, slice_index_or, false, true, length, vec_capacity, OnOk, OnErr};
+ghost use Rattle.std.specs.Prelude.{◌≡◌, ◌<◌, ◌≤◌, ◌+◌, ◌++◌, ℕ, List, Option, slice_index_or, false, true, length, vec_capacity, OnOk, OnErr};
 ghost use Rattle.dn_records.specs.Devices.{AppendsPart};
 ghost use Rattle.dn_records.specs.Records.{line_of};
-ghost use Rattle.dn_replay.specs.Kept.{AreKnown, delivery_line, out_text};
+ghost use Rattle.dn_replay.specs.Kept.{AreKnown, delivery_line, no_row, out_text};
 ghost use Rattle.dn_replay.specs.Parts.{IsUnderWay};
 ghost use Rattle.dn_replay.specs.Report.{line_fields};
-ghost use Rattle.dn_replay.specs.declared.report.fate.Fate.TheVariants.{Unanswered};
 
-use crate::report::fate::Fate;
 use crate::report::kept::Kept;
+use crate::report::kept_rows::AcceptedRow;
 use crate::report::line_text::add_out;
 use crate::report::parts::write_full_part;
 use dn_records::{Outlet, WriteFault};
 use dn_types::Delivery;
 
-/// The place of the row whose packet has a number.
-fn place_of(accepted: &[usize], packet: u64) -> usize
+/// The row whose packet has a number.
+pub(crate) fn row_of(accepted: &[AcceptedRow], packet: u64) -> AcceptedRow
     requires { packet < length accepted.now }
-    ensures { result ≡ slice_index accepted.now packet }
+    ensures { result ≡ slice_index_or accepted.now packet no_row }
 {
     accepted[packet as usize]
 }
 
-/// The fate of the packet of a row.
-fn fate_at(fates: &[Fate], place: usize) -> Fate
-    requires { place < length fates.now }
-    ensures { result ≡ slice_index_or fates.now place Unanswered }
-{
-    fates[place]
-}
-
 /// Adds the `out` line of a delivery.
-pub(crate) fn add_delivery(
-    text: &mut Vec<u8>,
-    accepted: &[usize],
-    fates: &[Fate],
-    delivery: Delivery,
-)
+pub(crate) fn add_delivery(text: &mut Vec<u8>, accepted: &[AcceptedRow], delivery: Delivery)
     requires room { length text.old.items + 160 ≤ vec_capacity text.old }
     requires known { delivery.packet < length accepted.now }
-    requires placed { slice_index accepted.now delivery.packet < length fates.now }
-    ensures items { text.new.items ≡ text.old.items ++ line_of (line_fields (delivery_line accepted.now fates.now delivery)) }
+    ensures items { text.new.items ≡ text.old.items ++ line_of (line_fields (delivery_line accepted.now delivery)) }
     ensures capacity { vec_capacity text.old ≤ vec_capacity text.new }
 {
-    let place = place_of(accepted, delivery.packet);
-    let fate = fate_at(fates, place);
     let Delivery {
         due,
         packet,
         start,
         ..
     } = delivery;
-    let row = place as u128 + 1;
-    add_out(text, row, fate.flow(), packet, fate.at(), start, due);
+    let own = row_of(accepted, packet);
+    add_out(text, own.row as u128, own.flow, packet, own.at, start, due);
 }
 
 /// Writes the `out` lines of deliveries, in their order.
@@ -81,12 +64,7 @@ pub(crate) fn write_outs<O: Outlet>(
     ensures failed { OnErr result (O.has_failed out.new ≡ true) }
 {
     for delivery in given {
-        add_delivery(
-            text,
-            kept.accepted.as_slice(),
-            kept.fates.as_slice(),
-            *delivery,
-        );
+        add_delivery(text, kept.accepted.as_slice(), *delivery);
         write_full_part(text, out)?;
     }
     Ok(())

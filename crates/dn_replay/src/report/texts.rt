@@ -29,12 +29,7 @@ fn text_of_outs(alloc: Global, kept: &Kept, given: &[Delivery]) -> Result<Vec<u8
     let mut text = Vec::with_capacity(alloc, room)?;
     for delivery in given {
         text.reserve(LINE)?;
-        add_delivery(
-            &mut text,
-            kept.accepted.as_slice(),
-            kept.fates.as_slice(),
-            *delivery,
-        );
+        add_delivery(&mut text, kept.accepted.as_slice(), *delivery);
     }
     Ok(text)
 }

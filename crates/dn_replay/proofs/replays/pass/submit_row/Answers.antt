@@ -16,8 +16,8 @@ returns-then-records c =
       c.in_ok-note.ensures calls c.args.row.now.target c.args.row.now.packet c.args.row.now.moment has (rw c.submit-call.ensures at step.0),
     )) c.add_entry.ensures
 
-pub returns-then-len-eq0 : goal.returns-then-len-eq0
-returns-then-len-eq0 c =
+pub returns-then-rows-eq0 : goal.returns-then-rows-eq0
+returns-then-rows-eq0 c =
     let none : c.unwrap.result ≡ 0 = MatchOption-at_some _ _ _ c.unwrap.ensures c.new.ensures.value in
     on_ok_weaker c.collect.result (λ collected calls before.
     let noted = rw c.if-records.false at before in

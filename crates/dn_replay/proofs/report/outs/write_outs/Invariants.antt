@@ -10,7 +10,7 @@ use Rattle.dn_replay.proofs.report.outs.write_outs.Given as goal
 abbrev pub invariant-loop-delivery : goal.invariant-loop-delivery
 invariant-loop-delivery g l = record {
   under_way : (start : Option (List ℕ)) (before : List ℕ) → IsUnderWay start (g.O.Outlet.contents l.fn.out) l.fn.text.items before
-      → IsUnderWay start (g.O.Outlet.contents l.out) l.text.items (before ++ text_of (map line_fields (map (delivery_line l.kept.accepted.items l.kept.fates.items) (take l.delivery-index l.given))));
+      → IsUnderWay start (g.O.Outlet.contents l.out) l.text.items (before ++ text_of (map line_fields (map (delivery_line l.kept.accepted.items) (take l.delivery-index l.given))));
   room : 65536 + 160 ≤ vec_capacity l.text;
   short : length l.text.items < 65536;
   sound : g.O.Outlet.has_failed l.out ≡ false;

@@ -1,13 +1,13 @@
 use Rattle.std.proofs.Common.{arith, refl, ◌≤◌, ◌<◌, length}
-use Rattle.dn_replay.proofs.OtherSteps.{marked, unmarked}
-use Rattle.dn_replay.proofs.report.write_kept.mark.Goals as goal
+use Rattle.dn_replay.proofs.MarkSteps.{mark-far, mark-set}
+use Rattle.dn_replay.proofs.report.marks.mark.Goals as goal
 
 pub returns-then-place-len-clause-marked : goal.returns-then-place-len-clause-marked
 returns-then-place-len-clause-marked c = λ p below.
     let far : length c.args.marks.now.items ≤ c.args.packet = omega (arith, c.if-place-len.true, c.len.ensures, c.args.marks.now.ok.0) in
-    unmarked c.args.marks.now.items c.args.packet p far below
+    mark-far c.args.marks.now.items c.args.packet p far below
 
 pub returns-clause-marked : goal.returns-clause-marked
 returns-clause-marked c = λ p below.
     let within : c.args.packet < length c.args.marks.now.items = omega (arith, c.if-place-len.false, c.len.ensures, c.args.marks.now.ok.0) in
-    marked c.args.marks.now.items c.args.packet c.args.packet p refl within
+    mark-set c.args.marks.now.items c.args.packet c.args.packet p refl within

@@ -1,0 +1,8 @@
+use Rattle.std.proofs.Common.{◌≤◌, sym, arith, length, true}
+use Rattle.std.proofs.lemmas.List.{get_or_past}
+use Rattle.dn_replay.proofs.report.marks.is_given.Goals as goal
+
+pub returns-then-packet-marks : goal.returns-then-packet-marks
+returns-then-packet-marks c =
+    let far : length c.args.marks.now ≤ c.args.packet = omega (arith, c.if-packet-marks.true) in
+    sym (get_or_past c.args.marks.now c.args.packet true far)
