@@ -112,12 +112,9 @@ module _ (calls : List Call) (moment : ℕ) where
   pub advances-are-no-more : (c : Call) → IsTimed c → moment ≤ max (effective_moment calls) (moment_of c) → trace_of (c ∷ Advance moment ∷ calls) ≡ trace_of (c ∷ calls)
   advances-are-no-more (Configure command) h le = absurd h
   advances-are-no-more (Submit target packet m) h le =
-      let e = at-same m le in
       let b = settled-less m le in
-      λ i. after_verdict (settings calls) (e i) packet (verdict_by (keys calls) target packet (treatment (settings calls target)) (b i)) (b i)
+      λ i. after_verdict (settings calls) (at-same m le i) packet (verdict_by (keys calls) target packet (treatment (settings calls target)) (b i)) (b i)
   advances-are-no-more (Advance m) h le = settled-less m le
   advances-are-no-more (Collect m) h le =
-      let e = at-same m le in
-      let b = settled-less m le in
-      λ i. collected (e i) ∷ b i
+      λ i. collected (at-same m le i) ∷ settled-less m le i
   advances-are-no-more Show h le = absurd h

@@ -46,16 +46,12 @@ module _ (p : Accepted) (before : List Event) where
   one-of-number link flow [] h = push-it (is_of link flow p) (backlog link flow before) p (λ e. refl) old
     where
       old : All IsIt (backlog link flow before)
-      old = λ k x lt same. let low = waiting-below (accepted_count before) link flow before h.1 (omega arith) k x lt in let number = h.0 in absurd (omega (arith, low, number, same))
+      old = λ k x lt same. let low = waiting-below (accepted_count before) link flow before h.1 (omega arith) k x lt in absurd (omega (arith, low, h.0, same))
   one-of-number link flow (arrived q ∷ g) h = push-it (is_of link flow q) (backlog link flow (g ++ (arrived p ∷ before))) q other (one-of-number link flow g h.1)
     where
       other : q.packet ≡ p.packet → q ≡ p
       other same =
-          let here = h.0 in
-          let there = (suffix-proper g (arrived p ∷ before) h.1).0 in
-          let more = count-later g (arrived p ∷ before) in
-          let one = count-event is_arrival (arrived p) before in
-          absurd (omega (arith, same, here, there, more, one))
+          absurd (omega (arith, same, h.0, (suffix-proper g (arrived p ∷ before) h.1).0, count-later g (arrived p ∷ before), count-event is_arrival (arrived p) before))
   one-of-number link flow (started s ∷ g) h = drop-it (is_of link flow s.packet) (backlog link flow (g ++ (arrived p ∷ before))) (one-of-number link flow g h.2)
   one-of-number link flow (discarded f ∷ g) h = clear-it (nat_eq f flow) (backlog link flow (g ++ (arrived p ∷ before))) (one-of-number link flow g h)
   one-of-number link flow (_ ∷ g) h = one-of-number link flow g h
@@ -104,11 +100,7 @@ module _ (pipe flow : ℕ) (p : Accepted) (before : List Event) (on : p.link ≡
     where
       other : q.packet ≢ p.packet
       other same =
-          let here = h.0 in
-          let there = (suffix-proper g (arrived p ∷ before) h.1).0 in
-          let count = count-later g (arrived p ∷ before) in
-          let one = count-event is_arrival (arrived p) before in
-          omega (arith, same, here, there, count, one)
+          omega (arith, same, h.0, (suffix-proper g (arrived p ∷ before) h.1).0, count-later g (arrived p ∷ before), count-event is_arrival (arrived p) before)
 
       more : (b : Bool) → is_of (own pipe flow) flow q ≡ b → StillWaits g → StillWaits (arrived q ∷ g)
       more true e w = record {
@@ -152,7 +144,7 @@ module _ (pipe flow : ℕ) (p : Accepted) (before : List Event) (on : p.link ≡
     behind = w.behind;
     stands = b ∙ w.stands;
     sent = w.sent ∙ ap (λ (qs : List Accepted). qs ++ w.rest) (sym s);
-    busy = let is = w.busy in omega (arith, f, n, is);
+    busy = omega (arith, f, n, w.busy);
     others = w.others;
   }) (λ gone. inr (subst (λ (qs : List Accepted). All IsOther qs) (sym b) gone)) stands
 
@@ -194,11 +186,10 @@ module _ (pipe flow : ℕ) (p : Accepted) (before : List Event) (on : p.link ≡
             sent = sent ∙ ap (λ (x : Accepted). starting (own pipe flow) g ++ x ∷ rest) it ∙ sym (append_assoc (starting (own pipe flow) g) (s.packet ∷ []) rest)
                 ∙ ap (λ b. cond b (starting (own pipe flow) g ++ s.packet ∷ []) (starting (own pipe flow) g) ++ rest) (sym e);
             busy =
-                let is = w.busy in
                 let now = ap {B = ℕ} (λ b. cond b (s.moment + s.transmission) (free (own pipe flow) (g ++ (arrived p ∷ before)))) e in
                 let more = ap {B = ℕ} (λ b. cond b s.transmission 0 + sending (own pipe flow) g) e in
                 let at = at_free in
-                omega (arith, is, now, more, at);
+                omega (arith, w.busy, now, more, at);
             others = others;
           }
             where
@@ -217,10 +208,9 @@ module _ (pipe flow : ℕ) (p : Accepted) (before : List Event) (on : p.link ≡
                   let number = (subst IsProper is h.2).0 in
                   let counts = ap (λ (t : List Event). accepted_count t) is in
                   let one = count-event is_arrival (arrived s.packet) older in
-                  let more = count-later g (arrived p ∷ before) in
                   let here = count-event is_arrival (arrived p) before in
                   let below = low in
-                  omega (arith, number, counts, one, more, here, below)
+                  omega (arith, number, counts, one, count-later g (arrived p ∷ before), here, below)
 
               at_free : s.moment ≡ free (own pipe flow) (g ++ (arrived p ∷ before))
               at_free = ⊎_elim (λ is. is ∙ ap (λ (l : Link). free l (g ++ (arrived p ∷ before))) same)

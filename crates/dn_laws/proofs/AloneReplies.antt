@@ -76,24 +76,22 @@ module _ (rule : Rule) (mine : Target → Bool) (is_own : ℕ → Bool) (flows p
     late m le = in-turn mine is_own calls m le
 
     clock-late : effective_moment calls ≤ max (effective_moment (own_of is_own calls)) 0 → effective_moment (less mine calls) ≤ effective_moment (own_of is_own calls)
-    clock-late le = let e = moment-on (links_of mine) calls in omega (arith, e, le)
+    clock-late le = omega (arith, moment-on (links_of mine) calls, le)
 
     -- A packet that the part carries.
     carried : (target : Target) (packet : Packet) (m : ℕ) → IsKeyed (links_of mine) flows (keys (Submit target packet m ∷ calls)) → mine target ≡ true → Follows (Submit target packet m)
         → (b : Bool) → is_carried (links_of mine) target packet.tuple (treatment (settings calls target)) ≡ b →
         counted_reply rule (own_of is_own calls) (Submit target packet m) ≡ part-of (counted_reply rule calls (Submit target packet m))
     carried target packet m k is le true on =
-        let h = behind mine is_own calls d in
         let at = max (effective_moment calls) m in
         let before = settled (settings calls) at (trace_of calls) in
         let o = treatment (settings calls target) in
         let same = counted-reply (links_of mine) flows packets rule calls all (Submit target packet m) k in
-        submit-told mine (own_of is_own calls) (less mine calls) h (less-on mine calls) rule target packet m is (late m le)
+        submit-told mine (own_of is_own calls) (less mine calls) (behind mine is_own calls d) (less-on mine calls) rule target packet m is (late m le)
         ∙ sym (ap (λ b. counted_reply rule (less mine calls) (cond b (Submit target packet m) (Advance m))) on) ∙ same
         ∙ verdict-stays flows packets (links_of mine) at (verdict_by (keys calls) target packet o before) before (has-target (links_of mine) flows packets (keys calls) target packet o before on)
     carried target packet m k is le false off =
         let h = behind mine is_own calls d in
-        let lags = h.lags in
         let e = moment-on (links_of mine) calls in
         let at = max (effective_moment (own_of is_own calls)) m in
         let to = max (effective_moment calls) m in
@@ -101,7 +99,7 @@ module _ (rule : Rule) (mine : Target → Bool) (is_own : ℕ → Bool) (flows p
         let before = settled (settings calls) to (trace_of calls) in
         let alone = none-alone mine is_own calls target packet d h is off in
         let whole = none-uncarried mine target packet.tuple (treatment (settings calls target)) (λ how f. within mine is_own calls d target how f) is off in
-        let same : at ≡ to = omega (arith, lags, e, le) in
+        let same : at ≡ to = omega (arith, h.lags, e, le) in
         (λ i. reply_to_verdict at (verdict_by (keys (own_of is_own calls)) target packet (alone i) mine-before) mine-before)
         ∙ ap NoTarget same
         ∙ sym (ap part-of (λ i. reply_to_verdict to (verdict_by (keys calls) target packet (whole i) before) before))
@@ -110,30 +108,23 @@ module _ (rule : Rule) (mine : Target → Bool) (is_own : ℕ → Bool) (flows p
     counted-alone : (c : Call) → AreDivided mine is_own (c ∷ calls) → IsKeyed (links_of mine) flows (keys (c ∷ calls)) → is_own (length calls) ≡ true → Follows c →
         counted_reply rule (own_of is_own calls) c ≡ part-of (counted_reply rule calls c)
     counted-alone (Configure command) more k own le =
-        let h = behind mine is_own calls d in
-        command-told mine (own_of is_own calls) (less mine calls) h (less-on mine calls) command (less-within mine is_own calls d) more.0.1 (sym more.0.0 ∙ own)
+        command-told mine (own_of is_own calls) (less mine calls) (behind mine is_own calls d) (less-on mine calls) command (less-within mine is_own calls d) more.0.1 (sym more.0.0 ∙ own)
         ∙ counted-reply (links_of mine) flows packets rule calls all (Configure command) k ∙ command-stays flows packets (settings calls) (queue_numbers calls) command
     counted-alone (Submit target packet m) more k own le = carried target packet m k (sym more.0 ∙ own) le (is_carried (links_of mine) target packet.tuple (treatment (settings calls target))) refl
     counted-alone (Advance m) more k own le =
-        let h = behind mine is_own calls d in
-        let lags = h.lags in
-        let e = moment-on (links_of mine) calls in
-        let same : max (effective_moment (own_of is_own calls)) m ≡ max (effective_moment calls) m = omega (arith, lags, e, le) in
+        let same : max (effective_moment (own_of is_own calls)) m ≡ max (effective_moment calls) m = omega (arith, (behind mine is_own calls d).lags, moment-on (links_of mine) calls, le) in
         ap Advanced same
     counted-alone (Collect m) more k own le =
-        let h = behind mine is_own calls d in
-        collect-told mine (own_of is_own calls) (less mine calls) h (less-on mine calls) rule m (late m le)
+        collect-told mine (own_of is_own calls) (less mine calls) (behind mine is_own calls d) (less-on mine calls) rule m (late m le)
         ∙ counted-reply (links_of mine) flows packets rule calls all (Collect m) k
     counted-alone Show more k own le =
-        let h = behind mine is_own calls d in
-        show-told mine (own_of is_own calls) (less mine calls) h (less-on mine calls) rule (clock-late le)
+        show-told mine (own_of is_own calls) (less mine calls) (behind mine is_own calls d) (less-on mine calls) rule (clock-late le)
         ∙ counted-reply (links_of mine) flows packets rule calls all Show k
 
     pub answered : (c : Call) → AreDivided mine is_own (c ∷ calls) → IsKeyed (links_of mine) flows (keys (c ∷ calls)) → is_own (length calls) ≡ true → Follows c → length calls < call_limit →
         reply rule (own_of is_own calls) c ≡ part-of (reply rule calls c)
     answered c more k own le few =
-        let h = behind mine is_own calls d in
-        let fewer = h.no_more in
+        let fewer = (behind mine is_own calls d).no_more in
         let n = length-on (links_of mine) calls in
         counts rule (own_of is_own calls) c (omega (arith, fewer, n, few)) ∙ counted-alone c more k own le ∙ sym (ap part-of (counts rule calls c few))
 

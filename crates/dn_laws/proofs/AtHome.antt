@@ -130,11 +130,6 @@ module _ (known : List FlowKey) (flow : ℕ) (key : FlowKey) (at : slice_get kno
 
   pub adds-up : (t : List Event) → IsProper t → HaveHomes known t → AddUp t
   adds-up [] proper h = refl
-  adds-up (opened l ∷ t) proper h =
-      let rest = adds-up t proper h in
-      let a = count-event (is_arrival_of flow) (opened l) t in
-      let b = count-event (is_start_of flow) (opened l) t in
-      omega (arith, rest, a, b)
   adds-up (arrived p ∷ t) proper h =
       let rest = adds-up t proper.1 h.1 in
       let a = count-event (is_arrival_of flow) (arrived p) t in
@@ -149,27 +144,13 @@ module _ (known : List FlowKey) (flow : ℕ) (key : FlowKey) (at : slice_get kno
       let less = drop-length (is_of home flow s.packet) (backlog home flow t) (λ e. first-some s.packet (backlog home flow t) (own-first home flow s t proper.0 e)) in
       let same : cond {A = ℕ} (is_of home flow s.packet) 1 0 ≡ cond (nat_eq s.packet.stamped.flow flow) 1 0 = ap {B = ℕ} (λ b. cond b 1 0) (of-home s.packet (start-home known s t proper h)) in
       omega (arith, rest, a, b, less, same)
-  adds-up (lost l f ∷ t) proper h =
-      let rest = adds-up t proper h in
-      let a = count-event (is_arrival_of flow) (lost l f) t in
-      let b = count-event (is_start_of flow) (lost l f) t in
-      omega (arith, rest, a, b)
-  adds-up (refused l f ∷ t) proper h =
-      let rest = adds-up t proper h in
-      let a = count-event (is_arrival_of flow) (refused l f) t in
-      let b = count-event (is_start_of flow) (refused l f) t in
-      omega (arith, rest, a, b)
   adds-up (discarded f ∷ t) proper h =
       let rest = adds-up t proper h in
       let a = count-event (is_arrival_of flow) (discarded f) t in
       let b = count-event (is_start_of flow) (discarded f) t in
       let less = clear-length (nat_eq f flow) (backlog home flow t) in
       omega (arith, rest, a, b, less)
-  adds-up (collected m ∷ t) proper h =
-      let rest = adds-up t proper h in
-      let a = count-event (is_arrival_of flow) (collected m) t in
-      let b = count-event (is_start_of flow) (collected m) t in
-      omega (arith, rest, a, b)
+  adds-up (e ∷ t) proper h = omega (arith, adds-up t proper h, count-event (is_arrival_of flow) e t, count-event (is_start_of flow) e t)
 
 -- Of the accepted packets of a flow each has started, waits or was discarded.
 pub packets-add-up : (calls : List Call) (flow : ℕ) (key : FlowKey) → slice_get (keys calls) flow ≡ Some key →

@@ -25,9 +25,7 @@ one-more : (cost share weight len bytes packets : ℕ) → (cost * weight ≤ le
 one-more cost share weight len bytes packets one rest =
     let low = one.0 in
     let high = one.1 in
-    let lower = rest.0 in
-    let upper = rest.1 in
-    (omega (arith, low, lower), omega (arith, high, upper))
+    (omega (arith, low, rest.0), omega (arith, high, rest.1))
 
 module _ (pipe flow weight longest : ℕ) (some : 0 < weight) where
   abbrev IsTagged : Accepted → Type 0
@@ -81,7 +79,7 @@ module _ (pipe flow weight longest : ℕ) (some : 0 < weight) where
           one-more (s.packet.stamped.finish_tag - s.packet.stamped.start_tag) (share (shared pipe) flow stretch) weight s.packet.stamped.len
           (bytes_sent (shared pipe) flow stretch) (packets_sent (shared pipe) flow stretch)
           (subst (λ (k : ℕ). (k * weight ≤ s.packet.stamped.len * 65536) × (s.packet.stamped.len * 65536 ≤ (k + 1) * weight)) (sym cost) r) rest
-      by false is rest = let lower = rest.0 in let upper = rest.1 in (omega (arith, lower), omega (arith, upper))
+      by false is rest = (omega (arith, rest.0), omega (arith, rest.1))
   in-bytes (arrived p ∷ stretch) earlier h w = in-bytes stretch earlier h.1 w.1
   in-bytes (_ ∷ stretch) earlier h w = in-bytes stretch earlier h.1 w
 
@@ -124,8 +122,7 @@ pub shares-by-weight : (calls : List Call) (pipe one other weight_one weight_oth
     + packets_sent (shared pipe) other (stretch ++ (started r ∷ [])) * weight_one * weight_other
 shares-by-weight calls pipe one other weight_one weight_other longest_one longest_other later stretch earlier r e is w v some_one by_one some_other by_other =
     let all = stretch ++ (started r ∷ []) in
-    let whole = shape stretch in
-    let h : IsSteady (all ++ earlier) = subst IsSteady (sym whole) (suffix-steady later (stretch ++ (started r ∷ earlier)) (subst IsSteady e (steady calls))) in
+    let h : IsSteady (all ++ earlier) = subst IsSteady (sym (shape stretch)) (suffix-steady later (stretch ++ (started r ∷ earlier)) (subst IsSteady e (steady calls))) in
     let w1 = tagged-by pipe one weight_one longest_one some_one all earlier h by_one in
     let w2 = tagged-by pipe other weight_other longest_other some_other all earlier h by_other in
     let fair = shares-fairly calls pipe one other (longest_one * 65536 / weight_one) (longest_other * 65536 / weight_other) later stretch earlier r e is w v

@@ -136,10 +136,9 @@ module _ (pipe bw delay flow by_then : ℕ) where
           cond b (s.moment + s.transmission) (free (own pipe flow) (g ++ old)) ≤ max (free (own pipe flow) old) (by_then + transmission_time bw most)
       by true e rest =
           let made = h.0 e in
-          let time = made.0 in
           let soon = made.2 in
           let longer = longer-takes-longer bw s.packet.stamped.len most (start-short pipe most flow s (g ++ old) proper prompt short e) in
-          omega (arith, time, soon, longer)
+          omega (arith, made.0, soon, longer)
       by false e rest = rest
   frees most (_ ∷ g) old h proper prompt short = frees most g old h proper prompt short
 
@@ -160,8 +159,8 @@ module _ (pipe bw delay flow by_then : ℕ) where
           (cond b (s.moment + s.transmission) (free (own pipe flow) (g ++ old)) + delay * 1000000)
       by true e rest =
           let there = ap (λ (l : Link). free l (g ++ old)) (link_eq-true s.packet.link (own pipe flow) e) in
-          let soon = proper.1 in
-          let bound = due-after rule s (last_due rule (own pipe flow) (g ++ old)) (last_due rule (own pipe flow) old) (free (own pipe flow) (g ++ old)) (h.0 e).1 rest (omega (arith, there, soon)) in
+          let bound = due-after rule s (last_due rule (own pipe flow) (g ++ old)) (last_due rule (own pipe flow) old) (free (own pipe flow) (g ++ old)) (h.0 e).1 rest
+          (omega (arith, there, proper.1)) in
           bound
       by false e rest = rest
   dues rule (_ ∷ g) old h proper = dues rule g old h proper
@@ -313,15 +312,12 @@ module _ (rule : Rule) (after since older : List Call) (pipe bw delay : ℕ) (li
         let on = link_eq-true s.packet.link (own pipe flow) on-it in
         let last_is = ap (λ (l : Link). last_due rule l earlier) on ∙ ap (λ (t : List Event). last_due rule (own pipe flow) t) earlier-is in
         let free_is = ap (λ (l : Link). free l earlier) on ∙ ap (λ (t : List Event). free (own pipe flow) t) earlier-is in
-        let soon = proper.1 in
-        let start = w.start in
         let delay_is = made.1 in
-        let bound = due-of rule (last_due rule s.packet.link earlier) due is (omega (arith, last, last_is, free_is, soon, past, delay_is)) (omega (arith, start)) in
+        let bound = due-of rule (last_due rule s.packet.link earlier) due is (omega (arith, last, last_is, free_is, proper.1, past, delay_is)) (omega (arith, w.start)) in
         let len : s.packet.stamped.len ≡ packet.len = ap (λ (x : Accepted). x.stamped.len) w.it ∙ j.len_is in
         let fits = (All-head (IsAtMost pipe most) (Submit (ToPipe pipe) packet moment) (since ++ older) short) refl in
         let longer = longer-takes-longer bw s.packet.stamped.len most (omega (arith, len, fits)) in
-        let time = made.0 in
-        omega (arith, bound, longer, time, delay_is)
+        omega (arith, bound, longer, made.0, delay_is)
 
     pub bounds : (s.moment ≤ at + transmission_time bw most + time_ahead bw pipe flow moment (since ++ older))
         × ((due : ℕ) → IsDueBy rule s (last_due rule s.packet.link earlier) due → due ≤ s.moment + transmission_time bw most + delay * 10 ^ 6)
@@ -387,16 +383,12 @@ slots-bound-the-delay rule after since older pipe bw delay slots loss buckets ma
     let few = slots-ahead rule (since ++ older) pipe bw delay slots loss buckets mask packet moment at flow number most set told waiting in
     let parts = slots-of slots (transmission_time bw most) few.0 in
     let more = add-mul slots 1 (transmission_time bw most) in
-    let start = all.0 in
-    let due = all.1 in
     let ahead_of = few.1 in
-    (omega (arith, start, ahead_of, parts), omega (arith, start, due, ahead_of, parts, more))
+    (omega (arith, all.0, ahead_of, parts), omega (arith, all.0, all.1, ahead_of, parts, more))
 
 pub kbytes-bound-the-delay : KbytesBoundTheDelay
 kbytes-bound-the-delay rule after since older pipe bw delay kbytes loss buckets mask packet moment at flow number most collect now' list in_force stays past short told given = λ k x lt mine.
     let all = each rule after since older pipe bw delay (Kbytes kbytes) loss buckets mask packet moment at flow number most collect now' list in_force stays past short told given k x lt mine in
     let set = now pipe bw delay (Kbytes kbytes) loss buckets mask (own pipe flow) refl since older in_force in
     let few = kbytes-ahead rule (since ++ older) pipe bw delay kbytes loss buckets mask packet moment at flow number set told in
-    let start = all.0 in
-    let due = all.1 in
-    (omega (arith, start, few), omega (arith, start, due, few))
+    (omega (arith, all.0, few), omega (arith, all.0, all.1, few))

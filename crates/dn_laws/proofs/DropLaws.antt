@@ -99,5 +99,4 @@ pub none-unconfigured : (rule : Rule) (calls : List Call) (target : Target) (pac
     reply rule calls (Submit target packet moment) ≡ NoTarget (effective_moment (Advance moment ∷ calls))
 none-unconfigured rule calls target packet moment few set =
     let at = max (effective_moment calls) moment in
-    let before = settled (settings calls) at (trace_of calls) in
-    not-exhausted rule calls (Submit target packet moment) few ∙ ap (λ (o : Option Command). answer (keys calls) target packet at before (treatment o)) set
+    not-exhausted rule calls (Submit target packet moment) few ∙ ap (λ (o : Option Command). answer (keys calls) target packet at (settled (settings calls) at (trace_of calls)) (treatment o)) set

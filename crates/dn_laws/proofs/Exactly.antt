@@ -48,9 +48,8 @@ at-free [] calls c later earlier s e below above = ⊎_elim (λ new. now new.0 n
     old : (rest : List Event) → trace_of calls ≡ rest ++ started s ∷ earlier → ⊥
     old rest is =
         let under = low in
-        let more = count-later (rest ++ started s ∷ []) earlier in
         let all = ap (λ (t : List Event). accepted_count t) (is ∙ sym (shape rest [] (started s) earlier)) in
-        omega (arith, under, more, all, above)
+        omega (arith, under, count-later (rest ++ started s ∷ []) earlier, all, above)
 at-free (d ∷ after) calls c later earlier s e below above =
     ⊎_elim (λ new. now new.0 new.1 new.2) (λ before. at-free after calls c before.0 earlier s before.1 below above) (placed (after ++ c ∷ calls) d later earlier s e)
   where
@@ -69,10 +68,9 @@ at-free (d ∷ after) calls c later earlier s e below above =
             (trace-proper (d ∷ after ++ c ∷ calls)) in
             let here : IsProper (arrived s.packet ∷ (older ++ trace_of (after ++ c ∷ calls))) = (suffix-proper later
             (started s ∷ arrived s.packet ∷ (older ++ trace_of (after ++ c ∷ calls))) whole).2 in
-            let number = here.0 in
             let more = count-later older (trace_of (after ++ c ∷ calls)) in
             let calls_more = count-calls after (c ∷ calls) in
-            omega (arith, number, more, calls_more, below)
+            omega (arith, here.0, more, calls_more, below)
 
 -- A call that is told Queued accepts one packet.
 one-more : (rule : Rule) (calls : List Call) (target : Target) (packet : Packet) (moment at flow number : ℕ) → reply rule calls (Submit target packet moment) ≡ Queued at flow number →
@@ -90,11 +88,9 @@ waits-for-its-link rule after calls target packet moment at flow number later ea
     let early = none-starts-early rule after calls target packet moment at flow number later earlier s told e same in
     let apart = sends-one-at-a-time (after ++ Submit target packet moment ∷ calls) later earlier s e in
     let q = queued rule calls target packet moment at flow number told in
-    let at_is = q.0 in
-    let number_is = q.1 in
     let more = one-more rule calls target packet moment at flow number told in
-    ⊎_elim (λ waited. let is = waited in omega (arith, early, apart, is)) (λ with_it. let is = with_it in omega (arith, early, apart, at_is, is))
-    (at-free after calls (Submit target packet moment) later earlier s e (omega (arith, same, number_is, more)) (omega (arith, same, number_is)))
+    ⊎_elim (λ waited. let is = waited in omega (arith, early, apart, is)) (λ with_it. let is = with_it in omega (arith, early, apart, q.0, is))
+    (at-free after calls (Submit target packet moment) later earlier s e (omega (arith, same, q.1, more)) (omega (arith, same, q.1)))
 
 pub starts-behind : StartsBehind
 starts-behind rule after calls target packet moment at flow number later between earlier s r told e same one none =

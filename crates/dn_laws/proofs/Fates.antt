@@ -63,27 +63,24 @@ module _ (number : ℕ) where
         (λ begun. inr (e ∷ begun.0, begun.1, (begun.2.0, ap (λ (r : List Event). e ∷ r) begun.2.1, begun.2.2, begun.2.3))) ended)) fate
 
     step : (e : Event) (t : List Event) → IsProper (e ∷ t) → Waits number flow t → Fate (e ∷ t)
-    step (arrived q) t proper w = let more = pushed (is_of w.0 flow q) (backlog w.0 flow t) q in let some = w.1 in inl (w.0, omega (arith, more, some))
+    step (arrived q) t proper w = let more = pushed (is_of w.0 flow q) (backlog w.0 flow t) q in inl (w.0, omega (arith, more, w.1))
     step (started s) t proper w = by (is_of w.0 flow s.packet) refl (nat_eq s.packet.packet number) refl
       where
         by : (b : Bool) → is_of w.0 flow s.packet ≡ b → (c : Bool) → nat_eq s.packet.packet number ≡ c → Fate (started s ∷ t)
         by true e true f = inr (inr ([], t, (s, refl, eqb-true s.packet.packet number f, eqb-true s.packet.stamped.flow flow (and-right _ (nat_eq s.packet.stamped.flow flow) e))))
         by b e false f =
             let more = dropped (is_of w.0 flow s.packet) (backlog w.0 flow t) s.packet (λ mine. own-first w.0 flow s t proper.0 mine) f in
-            let some = w.1 in
-            inl (w.0, omega (arith, more, some))
+            inl (w.0, omega (arith, more, w.1))
         by false e true f =
             let same = ap (λ b. count_by (λ (x : Accepted). nat_eq x.packet number) (cond b (drop 1 (backlog w.0 flow t)) (backlog w.0 flow t))) e in
-            let some = w.1 in
-            inl (w.0, omega (arith, same, some))
+            inl (w.0, omega (arith, same, w.1))
     step (discarded f) t proper w = by (nat_eq f flow) refl
       where
         by : (b : Bool) → nat_eq f flow ≡ b → Fate (discarded f ∷ t)
         by true e = inr (inl ([], t, (ap (λ (n : ℕ). discarded n ∷ t) (eqb-true f flow e), w)))
         by false e =
             let same = ap (λ b. count_by (λ (x : Accepted). nat_eq x.packet number) (cond b [] (backlog w.0 flow t))) e in
-            let some = w.1 in
-            inl (w.0, omega (arith, same, some))
+            inl (w.0, omega (arith, same, w.1))
     step _ t proper w = inl (w.0, w.1)
 
     pub fates : (f t : List Event) → IsProper (f ++ t) → Waits number flow t → Fate (f ++ t)

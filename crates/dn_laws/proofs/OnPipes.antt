@@ -131,8 +131,7 @@ module _ (On : ℕ → Type 0) where
     after-same at packet (loses l f) t h = refl
     after-same at packet (refuses l f) t h = refl
     after-same at packet (takes l f how) t h =
-        let before = opening l at t in
-        let p = accept l packet f how before in
+        let p = accept l packet f how (opening l at t) in
         let s = start-same l p at h in
         λ i. cond (nat_le (free l (opening l at t)) at) (started (s i) ∷ arrived (accept l packet f how (opening l at t)) ∷ opening l at t)
         (arrived (accept l packet f how (opening l at t)) ∷ opening l at t)

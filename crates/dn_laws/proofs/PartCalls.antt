@@ -58,8 +58,7 @@ module _ (chosen : Choice) where
   settings-on [] = refl
   settings-on (Configure command ∷ calls) =
       let s = settings-on calls in
-      let q = queues-on calls in
-      λ i t. cond (target_eq (subject command) t) (setting_after (command_reply (s i) (q i) command) command (s i t)) (s i t)
+      λ i t. cond (target_eq (subject command) t) (setting_after (command_reply (s i) (queues-on calls i) command) command (s i t)) (s i t)
   settings-on (Submit target packet moment ∷ calls) = settings-submit target packet moment
       (is_carried chosen target packet.tuple (treatment (settings calls target))) (calls_on chosen calls) ∙ settings-on calls ∙ (λ i t. settings calls t)
   settings-on (_ ∷ calls) = (λ i t. settings (calls_on chosen calls) t) ∙ settings-on calls ∙ (λ i t. settings calls t)
@@ -176,15 +175,13 @@ module _ (chosen : Choice) where
       by true e false e' rest = let t : false ≡ true = sym e' ∙ ap (λ (x : FlowKey). is-on x) (sym (key_eq-true key k e)) ∙ on in absurd cc
       by false e true e' rest =
           let next : 1 + key-place key known ≡ suc (key-place key known) = omega arith in
-          let shift = place-shift mine (key-place key known) in
           let here : cond {A = ℕ} (mine 0) 1 0 ≡ 1 = ap {B = ℕ} (λ b. cond b 1 0) (first ∙ e') in
-          let all : place mine (suc (key-place key known)) ≡ 1 + key-place key (keys-of known) = omega (arith, shift, here, rest) in
+          let all : place mine (suc (key-place key known)) ≡ 1 + key-place key (keys-of known) = omega (arith, place-shift mine (key-place key known), here, rest) in
           ap {B = ℕ} (λ b. cond b 0 (1 + key-place key (keys-of known))) e ∙ sym all ∙ sym (ap (place mine) next)
       by false e false e' rest =
           let next : 1 + key-place key known ≡ suc (key-place key known) = omega arith in
-          let shift = place-shift mine (key-place key known) in
           let here : cond {A = ℕ} (mine 0) 1 0 ≡ 0 = ap {B = ℕ} (λ b. cond b 1 0) (first ∙ e') in
-          let all : place mine (suc (key-place key known)) ≡ key-place key (keys-of known) = omega (arith, shift, here, rest) in
+          let all : place mine (suc (key-place key known)) ≡ key-place key (keys-of known) = omega (arith, place-shift mine (key-place key known), here, rest) in
           sym all ∙ sym (ap (place mine) next)
 
   pub flow-part : (key : FlowKey) (known : List FlowKey) (mine : ℕ → Bool) → is-on key ≡ true → IsKeyed mine known → flow_number (keys-of known) key ≡ place mine (flow_number known key)
@@ -246,31 +243,21 @@ module _ (chosen : Choice) where
 
     none-later : (t : List Event) (n : ℕ) → IsProper t → accepted_count t ≤ n → is_packet_on chosen mine t n ≡ false
     none-later [] n h le = refl
-    none-later (opened l ∷ t) n h le = let c = count-event is_arrival (opened l) t in none-later t n h (omega (arith, c, le))
     none-later (arrived q ∷ t) n h le =
         let c = count-event is_arrival (arrived q) t in
-        let number = h.0 in
-        let lt : q.packet < n = omega (arith, c, le, number) in
+        let lt : q.packet < n = omega (arith, c, le, h.0) in
         let apart : nat_eq q.packet n ≡ false = grind (arith, nat_tests) in
         ap (λ b. b && is_link_on chosen mine q.link || is_packet_on chosen mine t n) apart ∙ none-later t n h.1 (omega (arith, c, le))
-    none-later (started s ∷ t) n h le = let c = count-event is_arrival (started s) t in none-later t n h.2 (omega (arith, c, le))
-    none-later (lost l f ∷ t) n h le = let c = count-event is_arrival (lost l f) t in none-later t n h (omega (arith, c, le))
-    none-later (refused l f ∷ t) n h le = let c = count-event is_arrival (refused l f) t in none-later t n h (omega (arith, c, le))
-    none-later (discarded f ∷ t) n h le = let c = count-event is_arrival (discarded f) t in none-later t n h (omega (arith, c, le))
-    none-later (collected m ∷ t) n h le = let c = count-event is_arrival (collected m) t in none-later t n h (omega (arith, c, le))
+    none-later (started s ∷ t) n h le = none-later t n h.2 (omega (arith, count-event is_arrival (started s) t, le))
+    none-later (e ∷ t) n h le = none-later t n h (omega (arith, count-event is_arrival e t, le))
 
     taken-same : (one two : ℕ → Bool) (t : List Event) → IsProper t → ((n : ℕ) → n < accepted_count t → one n ≡ two n) → AreTaken one t → AreTaken two t
     taken-same one two [] h e all = tt
-    taken-same one two (opened l ∷ t) h e all = taken-same one two t h (λ n lt. e n (let c = count-event is_arrival (opened l) t in omega (arith, c, lt))) all
     taken-same one two (arrived q ∷ t) h e all =
         let c = count-event is_arrival (arrived q) t in
-        let number = h.0 in
-        (sym (e q.packet (omega (arith, c, number))) ∙ all.0, taken-same one two t h.1 (λ n lt. e n (omega (arith, c, lt))) all.1)
-    taken-same one two (started s ∷ t) h e all = taken-same one two t h.2 (λ n lt. e n (let c = count-event is_arrival (started s) t in omega (arith, c, lt))) all
-    taken-same one two (lost l f ∷ t) h e all = taken-same one two t h (λ n lt. e n (let c = count-event is_arrival (lost l f) t in omega (arith, c, lt))) all
-    taken-same one two (refused l f ∷ t) h e all = taken-same one two t h (λ n lt. e n (let c = count-event is_arrival (refused l f) t in omega (arith, c, lt))) all
-    taken-same one two (discarded f ∷ t) h e all = taken-same one two t h (λ n lt. e n (let c = count-event is_arrival (discarded f) t in omega (arith, c, lt))) all
-    taken-same one two (collected m ∷ t) h e all = taken-same one two t h (λ n lt. e n (let c = count-event is_arrival (collected m) t in omega (arith, c, lt))) all
+        (sym (e q.packet (omega (arith, c, h.0))) ∙ all.0, taken-same one two t h.1 (λ n lt. e n (omega (arith, c, lt))) all.1)
+    taken-same one two (started s ∷ t) h e all = taken-same one two t h.2 (λ n lt. e n (omega (arith, count-event is_arrival (started s) t, lt))) all
+    taken-same one two (x ∷ t) h e all = taken-same one two t h (λ n lt. e n (omega (arith, count-event is_arrival x t, lt))) all
 
     pub all-taken : (t : List Event) → IsProper t → AreTaken (is_packet_on chosen mine t) t
     all-taken [] h = tt
@@ -282,15 +269,13 @@ module _ (chosen : Choice) where
 
         here : (nat_eq q.packet q.packet && is_link_on chosen mine q.link || is_packet_on chosen mine t q.packet) ≡ is_link_on chosen mine q.link
         here =
-            let number = h.0 in
             let same = eq-eqb q.packet q.packet refl in
-            let none = none-later t q.packet h.1 (omega (arith, number)) in
+            let none = none-later t q.packet h.1 (omega (arith, h.0)) in
             (λ i. same i && is_link_on chosen mine q.link || none i) ∙ or-none (is_link_on chosen mine q.link)
 
         before : (n : ℕ) → n < accepted_count t → is_packet_on chosen mine t n ≡ (nat_eq q.packet n && is_link_on chosen mine q.link || is_packet_on chosen mine t n)
         before n lt =
-            let number = h.0 in
-            let lower : n < q.packet = omega (arith, number, lt) in
+            let lower : n < q.packet = omega (arith, h.0, lt) in
             let apart : nat_eq q.packet n ≡ false = grind (arith, nat_tests) in
             sym (ap (λ b. b && is_link_on chosen mine q.link || is_packet_on chosen mine t n) apart)
     all-taken (started s ∷ t) h = all-taken t h.2
@@ -325,7 +310,7 @@ module _ (chosen : Choice) where
     count-arrived q t number is rest = by (is_link_on chosen mine q.link) refl ∙ sym (ap (place taken) more)
       where
         more : accepted_count (arrived q ∷ t) ≡ suc (accepted_count t)
-        more = let c = count-event is_arrival (arrived q) t in omega (arith, c)
+        more = omega (arith, count-event is_arrival (arrived q) t)
 
         by : (b : Bool) → is_link_on chosen mine q.link ≡ b → accepted_count (cond b (arrived (accepted-on q) ∷ part-on t) (part-on t)) ≡ place taken (suc (accepted_count t))
         by true e =
@@ -563,7 +548,7 @@ module _ (chosen : Choice) where
             discard_reached command (place mine from) (cond b (key ∷ keys-of known) (keys-of known)) (part-on t)
             ≡ discard_reached command (place mine (from + 1)) (keys-of known) (part-on (cond (reaches command key) (discarded from ∷ t) t))
         by true e c =
-            let more : place mine from + 1 ≡ place mine (from + 1) = let one = ap (place mine) next in let two = place-more mine from (h.0 ∙ e) in omega (arith, one, two) in
+            let more : place mine from + 1 ≡ place mine (from + 1) = let two = place-more mine from (h.0 ∙ e) in omega (arith, ap (place mine) next, two) in
             λ i. discard_reached command (more i) (keys-of known) (cleared (reaches command key) i)
           where
             cleared : (c : Bool) → cond c (discarded (place mine from) ∷ part-on t) (part-on t) ≡ part-on (cond c (discarded from ∷ t) t)
@@ -614,9 +599,8 @@ module _ (chosen : Choice) where
         settled (settings (calls_on chosen calls)) (max (effective_moment (calls_on chosen calls)) moment) (trace_of (calls_on chosen calls))
         ≡ part-on (settled (settings calls) (max (effective_moment calls) moment) (trace_of calls))
     settled-on calls moment k same =
-        let s = settings-on calls in
-        let m = moment-on calls in
-        (λ i. settled (s i) (max (m i) moment) (same i)) ∙ sym (settled-part chosen mine taken (settings calls) (max (effective_moment calls) moment) (trace_of calls) (trace-fit calls k))
+        (λ i. settled (settings-on calls i) (max (moment-on calls i) moment) (same i))
+        ∙ sym (settled-part chosen mine taken (settings calls) (max (effective_moment calls) moment) (trace_of calls) (trace-fit calls k))
 
     submit-on : (calls : List Call) (target : Target) (packet : Packet) (moment : ℕ) → IsKeyed mine (keys (Submit target packet moment ∷ calls)) → AreTaken mine taken (trace_of calls) →
         trace_of (calls_on chosen calls) ≡ part-on (trace_of calls) → (b : Bool) → is_carried chosen target packet.tuple (treatment (settings calls target)) ≡ b →
@@ -626,16 +610,14 @@ module _ (chosen : Choice) where
         let at = max (effective_moment calls) moment in
         let before = settled (settings calls) at (trace_of calls) in
         let o = treatment (settings calls target) in
-        let v = verdict_by (keys calls) target packet o before in
         let flow = flow-of mine (keys calls) target packet o k in
         let fit = settled-fit chosen mine taken (settings calls) at (trace_of calls) (trace-fit calls keyed) in
         let s = settings-on calls in
-        let m = moment-on calls in
-        let ks = keys-on calls in
         let b = settled-on calls moment keyed same in
-        (λ i. after_verdict (s i) (max (m i) moment) packet (verdict_by (ks i) target packet (treatment (s i target)) (b i)) (b i))
+        (λ i. after_verdict (s i) (max (moment-on calls i) moment) packet (verdict_by (keys-on calls i) target packet (treatment (s i target)) (b i)) (b i))
         ∙ ap (λ (w : Verdict). after_verdict (settings calls) at packet w (part-on before)) (verdict-part (keys calls) target packet o before keyed flow on fit)
-        ∙ after-part (settings calls) at packet v before (verdict-fit (keys calls) target packet o before flow) (verdict-at (keys calls) target packet o before true flow on) fit
+        ∙ after-part (settings calls) at packet (verdict_by (keys calls) target packet o before) before (verdict-fit (keys calls) target packet o before flow)
+        (verdict-at (keys calls) target packet o before true flow on) fit
         (settled-proper (settings calls) at (trace_of calls) (trace-proper calls)) (taken-settled mine taken (settings calls) at (trace_of calls) all)
     submit-on calls target packet moment k all same false off =
         let keyed = keyed-before mine calls (Submit target packet moment) k in
@@ -649,19 +631,16 @@ module _ (chosen : Choice) where
     calls-part [] k all = refl
     calls-part (Configure command ∷ calls) k all =
         let same = calls-part calls k (taken-before mine taken calls (Configure command) all) in
-        let s = settings-on calls in
-        let q = queues-on calls in
-        let ks = keys-on calls in
-        (λ i. after_command (command_reply (s i) (q i) command) command (ks i) (same i)) ∙ command-part (reply_to_command calls command) command (keys calls) (trace_of calls) k
+        (λ i. after_command (command_reply (settings-on calls i) (queues-on calls i) command) command (keys-on calls i) (same i))
+        ∙ command-part (reply_to_command calls command) command (keys calls) (trace_of calls) k
     calls-part (Submit target packet moment ∷ calls) k all =
         let before = taken-before mine taken calls (Submit target packet moment) all in
         submit-on calls target packet moment k before (calls-part calls (keyed-before mine calls (Submit target packet moment) k) before)
         (is_carried chosen target packet.tuple (treatment (settings calls target))) refl
     calls-part (Advance moment ∷ calls) k all = settled-on calls moment k (calls-part calls k (taken-before mine taken calls (Advance moment) all))
     calls-part (Collect moment ∷ calls) k all =
-        let m = moment-on calls in
         let s = settled-on calls moment k (calls-part calls k (taken-before mine taken calls (Collect moment) all)) in
-        λ i. collected (max (m i) moment) ∷ s i
+        λ i. collected (max (moment-on calls i) moment) ∷ s i
     calls-part (Show ∷ calls) k all = calls-part calls k (taken-before mine taken calls Show all)
 
 pub keyed-all : (chosen : Choice) (known : List FlowKey) → IsKeyed chosen (is_flow_on chosen known) known

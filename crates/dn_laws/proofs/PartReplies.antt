@@ -60,13 +60,11 @@ module _ (chosen : Choice) (mine taken : ℕ → Bool) where
         by : (b : Bool) → is_event_on chosen mine e ≡ b → count_by Q (cond b (event-on e ∷ part-on t) (part-on t)) ≡ count_by P (e ∷ t)
         by true is =
             let new = count-event Q (event-on e) (part-on t) in
-            let old = count-event P e t in
             let same : cond {A = ℕ} (Q (event-on e)) 1 0 ≡ cond (P e) 1 0 = ap {B = ℕ} (λ b. cond b 1 0) (h.0 is) in
-            omega (arith, new, old, same, rest)
+            omega (arith, new, count-event P e t, same, rest)
         by false is =
-            let old = count-event P e t in
             let none : cond {A = ℕ} (P e) 1 0 ≡ 0 = ap {B = ℕ} (λ b. cond b 1 0) (h.1 is) in
-            omega (arith, old, none, rest)
+            omega (arith, count-event P e t, none, rest)
 
     count-part : ((l : Link) → Counts (opened l)) → ((q : Accepted) → Counts (arrived q)) → ((s : Start) → IsFit chosen mine taken s.packet.link s.packet.stamped.flow → Counts (started s)) →
         ((l : Link) (g : ℕ) → IsFit chosen mine taken l g → Counts (lost l g)) → ((l : Link) (g : ℕ) → IsFit chosen mine taken l g → Counts (refused l g))
@@ -124,9 +122,8 @@ module _ (chosen : Choice) (mine taken : ℕ → Bool) where
           by : (b : Bool) → mine g ≡ b → discarded_count linked (place mine f) (cond b (discarded (place mine g) ∷ part-on t) (part-on t))
               ≡ cond (nat_eq g f) (length (backlog l f t)) 0 + discarded_count l f t
           by true e =
-              let same = place-eq mine g f e hf in
               let lens = waiting-lengths t h in
-              λ i. cond (same i) (lens i) 0 + rest i
+              λ i. cond (place-eq mine g f e hf i) (lens i) 0 + rest i
           by false e =
               let none : cond {A = ℕ} (nat_eq g f) (length (backlog l f t)) 0 ≡ 0 = ap {B = ℕ} (λ b. cond b (length (backlog l f t)) 0) (apart-flow chosen mine taken g f e hf) in
               omega (arith, rest, none)
@@ -180,7 +177,7 @@ module _ (chosen : Choice) (mine taken : ℕ → Bool) where
           map (status_by (place mine)) (cond (is-on chosen key) (status_of from key t ∷ filter (λ s. mine s.flow) (statuses_from (from + 1) known t))
           (filter (λ s. mine s.flow) (statuses_from (from + 1) known t)))
       by true e rest =
-          let more : place mine from + 1 ≡ place mine (from + 1) = let one = ap (place mine) next in let two = place-more mine from (k.0 ∙ e) in omega (arith, one, two) in
+          let more : place mine from + 1 ≡ place mine (from + 1) = let two = place-more mine from (k.0 ∙ e) in omega (arith, ap (place mine) next, two) in
           (λ i. status-part from key t k.0 e h i ∷ statuses_from (more i) (keys-of chosen known) (part-on t))
           ∙ ap (λ (ss : List FlowStatus). status_by (place mine) (status_of from key t) ∷ ss) rest
           ∙ sym (ap (λ b. map (status_by (place mine)) (cond b (status_of from key t ∷ filter (λ s. mine s.flow) (statuses_from (from + 1) known t))
@@ -260,32 +257,28 @@ module _ (chosen : Choice) (mine taken : ℕ → Bool) where
         let at = max (effective_moment calls) moment in
         let before = settled (settings calls) at (trace_of calls) in
         let o = treatment (settings calls target) in
-        let v = verdict_by (keys calls) target packet o before in
         let flow = flow-of chosen mine (keys calls) target packet o k in
         let fit = settled-fit chosen mine taken (settings calls) at (trace_of calls) (trace-fit chosen mine taken calls keyed) in
-        let s = settings-on chosen calls in
-        let m = moment-on chosen calls in
-        let ks = keys-on chosen calls in
         let b = settled-on chosen mine taken calls moment keyed (calls-part chosen mine taken calls keyed all) in
-        (λ i. reply_to_verdict (max (m i) moment) (verdict_by (ks i) target packet (treatment (s i target)) (b i)) (b i))
+        (λ i. reply_to_verdict (max (moment-on chosen calls i) moment) (verdict_by (keys-on chosen calls i) target packet (treatment (settings-on chosen calls i target)) (b i)) (b i))
         ∙ ap (λ (w : Verdict). reply_to_verdict at w (part-on before)) (verdict-part chosen mine taken (keys calls) target packet o before keyed flow on fit)
-        ∙ told-on at v before (has-target (keys calls) target packet o before on) (verdict-fit chosen mine taken (keys calls) target packet o before flow)
+        ∙ told-on at (verdict_by (keys calls) target packet o before) before (has-target (keys calls) target packet o before on)
+        (verdict-fit chosen mine taken (keys calls) target packet o before flow)
         (verdict-at chosen mine taken (keys calls) target packet o before true flow on)
         (settled-proper (settings calls) at (trace_of calls) (trace-proper calls)) (taken-settled chosen mine taken (settings calls) at (trace_of calls) all)
     submit-reply target packet moment k false off =
         let at = max (effective_moment calls) moment in
         let before = settled (settings calls) at (trace_of calls) in
         let o = treatment (settings calls target) in
-        let v = verdict_by (keys calls) target packet o before in
         let flow = flow-of chosen mine (keys calls) target packet o k in
         ap {A = ℕ} (λ n. Advanced (max n moment)) (moment-on chosen calls)
-        ∙ told-off at v before (verdict-fit chosen mine taken (keys calls) target packet o before flow) (verdict-at chosen mine taken (keys calls) target packet o before false flow off)
+        ∙ told-off at (verdict_by (keys calls) target packet o before) before (verdict-fit chosen mine taken (keys calls) target packet o before flow)
+        (verdict-at chosen mine taken (keys calls) target packet o before false flow off)
 
     pub counted-reply : (c : Call) → IsKeyed chosen mine (keys (c ∷ calls)) → counted_reply rule (calls_on chosen calls) (call_on chosen calls c) ≡ reply-part-of (counted_reply rule calls c)
     counted-reply (Configure command) k =
-        let s = settings-on chosen calls in
         let q = queues-on chosen calls in
-        (λ i. command_reply (s i) (q i) command) ∙ plain (settings calls) (queue_numbers calls) command
+        (λ i. command_reply (settings-on chosen calls i) (q i) command) ∙ plain (settings calls) (queue_numbers calls) command
     counted-reply (Submit target packet moment) k = submit-reply target packet moment k (is_carried chosen target packet.tuple (treatment (settings calls target))) refl
     counted-reply (Advance moment) k = ap {A = ℕ} (λ n. Advanced (max n moment)) (moment-on chosen calls)
     counted-reply (Collect moment) k =

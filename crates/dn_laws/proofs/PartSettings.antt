@@ -64,10 +64,8 @@ module _ (rule : Rule) (pipe : ℕ) where
   settled-alike : (mine theirs : List Call) (moment : ℕ) → AreSame mine theirs →
       settled (settings mine) (max (effective_moment mine) moment) (trace_of mine) ≡ settled (settings theirs) (max (effective_moment theirs) moment) (trace_of theirs)
   settled-alike mine theirs moment h =
-      let c = h.clock_is in
-      let t = h.trace_is in
       settled-same (Is pipe) (settings mine) (settings theirs) (its pipe (settings mine) (settings theirs) h.pipe_is) (max (effective_moment mine) moment) (trace_of mine) h.links_are
-      ∙ (λ i. settled (settings theirs) (max (c i) moment) (t i))
+      ∙ (λ i. settled (settings theirs) (max (h.clock_is i) moment) (h.trace_is i))
 
   settled-links : (mine theirs : List Call) (moment : ℕ) → AreSame mine theirs → AreOn (Is pipe) (links (settled (settings mine) (max (effective_moment mine) moment) (trace_of mine)))
   settled-links mine theirs moment h = settled-on (Is pipe) (settings mine) (max (effective_moment mine) moment) (trace_of mine) h.links_are
@@ -77,8 +75,6 @@ module _ (rule : Rule) (pipe : ℕ) where
       AreSame (Submit target packet moment ∷ mine) (Submit target packet moment ∷ theirs)
       × (counted_reply rule mine (Submit target packet moment) ≡ counted_reply rule theirs (Submit target packet moment))
   submit-same mine theirs target packet moment h to on =
-      let c = h.clock_is in
-      let ks = h.keys_are in
       let at = max (effective_moment mine) moment in
       let before = settled (settings mine) at (trace_of mine) in
       let u = settled-alike mine theirs moment h in
@@ -86,19 +82,18 @@ module _ (rule : Rule) (pipe : ℕ) where
       let good = verdict-on (Is pipe) (keys mine) target packet (treatment (settings mine target)) before on in (
         record {
           pipe_is = h.pipe_is;
-          keys_are = (λ i. keys_with target packet.tuple (treatment (to i)) (ks i));
-          clock_is = (λ i. max (c i) moment);
+          keys_are = (λ i. keys_with target packet.tuple (treatment (to i)) (h.keys_are i));
+          clock_is = (λ i. max (h.clock_is i) moment);
           trace_is = after-same (Is pipe) (settings mine) (settings theirs) (its pipe (settings mine) (settings theirs) h.pipe_is) at packet v before good
-              ∙ (λ i. after_verdict (settings theirs) (max (c i) moment) packet (verdict_by (ks i) target packet (treatment (to i)) (u i)) (u i));
+              ∙ (λ i. after_verdict (settings theirs) (max (h.clock_is i) moment) packet (verdict_by (h.keys_are i) target packet (treatment (to i)) (u i)) (u i));
           links_are = after-on (Is pipe) (settings mine) at packet v before good (settled-links mine theirs moment h);
         },
-        (λ i. reply_to_verdict (max (c i) moment) (verdict_by (ks i) target packet (treatment (to i)) (u i)) (u i)),
+        (λ i. reply_to_verdict (max (h.clock_is i) moment) (verdict_by (h.keys_are i) target packet (treatment (to i)) (u i)) (u i)),
       )
 
   advance-same : (mine theirs : List Call) (moment : ℕ) → AreSame mine theirs → AreSame (Advance moment ∷ mine) (Advance moment ∷ theirs)
   advance-same mine theirs moment h =
-      let c = h.clock_is in
-      record { pipe_is = h.pipe_is; keys_are = h.keys_are; clock_is = (λ i. max (c i) moment); trace_is = settled-alike mine theirs moment h; links_are = settled-links mine theirs moment h }
+      record { pipe_is = h.pipe_is; keys_are = h.keys_are; clock_is = (λ i. max (h.clock_is i) moment); trace_is = settled-alike mine theirs moment h; links_are = settled-links mine theirs moment h }
 
   collect-same : (mine theirs : List Call) (moment : ℕ) → AreSame mine theirs →
       AreSame (Collect moment ∷ mine) (Collect moment ∷ theirs) × (counted_reply rule mine (Collect moment) ≡ counted_reply rule theirs (Collect moment))
@@ -149,12 +144,11 @@ module _ (rule : Rule) (pipe : ℕ) where
   untimed-same c d mine theirs uc ud gone force h =
       let a = untimed c mine uc in
       let b = untimed d theirs ud in
-      let t = h.trace_is in
       record {
         pipe_is = force;
         keys_are = a.1 ∙ h.keys_are ∙ sym b.1;
         clock_is = a.2 ∙ h.clock_is ∙ sym b.2;
-        trace_is = a.0 ∙ (λ i. gone i ++ t i) ∙ sym b.0;
+        trace_is = a.0 ∙ (λ i. gone i ++ h.trace_is i) ∙ sym b.0;
         links_are = a.3 h.links_are;
       }
 
@@ -221,14 +215,12 @@ module _ (rule : Rule) (pipe : ℕ) (commands others : List Call) (commands_are 
       let to : settings (packets ++ commands) target ≡ settings (packets ++ others) target = (λ i. a i target) ∙ h.0 ∙ sym (λ i. b i target) in
       let one = submit-same rule pipe (packets ++ commands) (packets ++ others) target packet moment rest.0 to (λ how e. h.1 how (sym (ap (λ (s : Settings). treatment (s target)) a) ∙ e)) in
       let told = answered (packets ++ commands) (packets ++ others) (Submit target packet moment) (omega (arith, few)) (omega (arith, less)) one.1 in
-      let older = rest.1 in
-      (one.0, (λ i. told i ∷ older i))
+      (one.0, (λ i. told i ∷ rest.1 i))
   all-same (Collect moment ∷ packets) h few less =
       let rest = all-same packets h (omega (arith, few)) (omega (arith, less)) in
       let one = collect-same rule pipe (packets ++ commands) (packets ++ others) moment rest.0 in
       let told = answered (packets ++ commands) (packets ++ others) (Collect moment) (omega (arith, few)) (omega (arith, less)) one.1 in
-      let older = rest.1 in
-      (one.0, (λ i. told i ∷ older i))
+      (one.0, (λ i. told i ∷ rest.1 i))
   all-same (_ ∷ packets) h few less = absurd h
 
 pub parts-rest-on-their-pipe : (rule : Rule) (pipe : ℕ) (commands others packets : List Call) → AreCommands commands → AreCommands others →

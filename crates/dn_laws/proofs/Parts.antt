@@ -100,12 +100,12 @@ module _ (chosen : Choice) (mine taken : ℕ → Bool) where
 
   pub bound-part : (t : List Event) → AreFit t → flow_bound (part' t) ≤ place mine (flow_bound t)
   bound-part [] h = omega arith
-  bound-part (opened k ∷ t) h = let same = skip flow_bound (is_link_on chosen mine k) (opened (link' k)) (part' t) refl in let rest = bound-part t h in omega (arith, same, rest)
+  bound-part (opened k ∷ t) h = let same = skip flow_bound (is_link_on chosen mine k) (opened (link' k)) (part' t) refl in omega (arith, same, bound-part t h)
   bound-part (arrived q ∷ t) h = bound-arrived q t h.0 (bound-part t h.1)
-  bound-part (started s ∷ t) h = let same = skip flow_bound (is_link_on chosen mine s.packet.link) (started (start' s)) (part' t) refl in let rest = bound-part t h.1 in omega (arith, same, rest)
-  bound-part (lost k g ∷ t) h = let same = skip flow_bound (is_link_on chosen mine k) (lost (link' k) (place mine g)) (part' t) refl in let rest = bound-part t h.1 in omega (arith, same, rest)
-  bound-part (refused k g ∷ t) h = let same = skip flow_bound (is_link_on chosen mine k) (refused (link' k) (place mine g)) (part' t) refl in let rest = bound-part t h.1 in omega (arith, same, rest)
-  bound-part (discarded g ∷ t) h = let same = skip flow_bound (mine g) (discarded (place mine g)) (part' t) refl in let rest = bound-part t h in omega (arith, same, rest)
+  bound-part (started s ∷ t) h = let same = skip flow_bound (is_link_on chosen mine s.packet.link) (started (start' s)) (part' t) refl in omega (arith, same, bound-part t h.1)
+  bound-part (lost k g ∷ t) h = let same = skip flow_bound (is_link_on chosen mine k) (lost (link' k) (place mine g)) (part' t) refl in omega (arith, same, bound-part t h.1)
+  bound-part (refused k g ∷ t) h = let same = skip flow_bound (is_link_on chosen mine k) (refused (link' k) (place mine g)) (part' t) refl in omega (arith, same, bound-part t h.1)
+  bound-part (discarded g ∷ t) h = let same = skip flow_bound (mine g) (discarded (place mine g)) (part' t) refl in omega (arith, same, bound-part t h)
   bound-part (collected at ∷ t) h = bound-part t h
 
   -- ---- Heads
@@ -248,7 +248,7 @@ module _ (chosen : Choice) (mine taken : ℕ → Bool) where
     free-started s t h rest = by (is_link_on chosen mine s.packet.link) refl
       where
         by : (b : Bool) → is_link_on chosen mine s.packet.link ≡ b → free (link' l) (cond b (started (start' s) ∷ part' t) (part' t)) ≡ free l (started s ∷ t)
-        by true e = let same = same-link s.packet.link l e on in λ i. cond (same i) (s.moment + s.transmission) (rest i)
+        by true e = λ i. cond (same-link s.packet.link l e on i) (s.moment + s.transmission) (rest i)
         by false e = rest ∙ sym (ap {B = ℕ} (λ b. cond b (s.moment + s.transmission) (free l t)) (apart-link s.packet.link l e on))
 
     pub free-part : (t : List Event) → AreFit t → free (link' l) (part' t) ≡ free l t
@@ -266,7 +266,7 @@ module _ (chosen : Choice) (mine taken : ℕ → Bool) where
     last_due-started rule s t h rest = by (is_link_on chosen mine s.packet.link) refl
       where
         by : (b : Bool) → is_link_on chosen mine s.packet.link ≡ b → last_due rule (link' l) (cond b (started (start' s) ∷ part' t) (part' t)) ≡ last_due rule l (started s ∷ t)
-        by true e = let same = same-link s.packet.link l e on in λ i. cond (same i) (due_by rule (arrival_time s) (rest i)) (rest i)
+        by true e = λ i. cond (same-link s.packet.link l e on i) (due_by rule (arrival_time s) (rest i)) (rest i)
         by false e = rest ∙ sym (ap {B = ℕ} (λ b. cond b (due_by rule (arrival_time s) (last_due rule l t)) (last_due rule l t)) (apart-link s.packet.link l e on))
 
     pub last_due-part : (rule : Rule) (t : List Event) → AreFit t → last_due rule (link' l) (part' t) ≡ last_due rule l t
@@ -283,7 +283,7 @@ module _ (chosen : Choice) (mine taken : ℕ → Bool) where
     virtual_time-opened k t rest = by (is_link_on chosen mine k) refl
       where
         by : (b : Bool) → is_link_on chosen mine k ≡ b → virtual_time (link' l) (cond b (opened (link' k) ∷ part' t) (part' t)) ≡ virtual_time l (opened k ∷ t)
-        by true e = let same = same-link k l e on in λ i. cond (same i) 0 (rest i)
+        by true e = λ i. cond (same-link k l e on i) 0 (rest i)
         by false e = rest ∙ sym (ap {B = ℕ} (λ b. cond b 0 (virtual_time l t)) (apart-link k l e on))
 
     virtual_time-started : (s : Start) (t : List Event) → IsFit s.packet.link s.packet.stamped.flow → AreFit t → virtual_time (link' l) (part' t) ≡ virtual_time l t →
@@ -292,9 +292,8 @@ module _ (chosen : Choice) (mine taken : ℕ → Bool) where
       where
         by : (b : Bool) → is_link_on chosen mine s.packet.link ≡ b → virtual_time (link' l) (cond b (started (start' s) ∷ part' t) (part' t)) ≡ virtual_time l (started s ∷ t)
         by true e =
-            let same = same-link s.packet.link l e on in
             let hs = link_heads-part t all in
-            (λ i. cond (same i) (grown (rest i) (hs i) s.packet.stamped.len) (rest i))
+            (λ i. cond (same-link s.packet.link l e on i) (grown (rest i) (hs i) s.packet.stamped.len) (rest i))
             ∙ ap {B = ℕ} (λ g. cond (link_eq s.packet.link l) g (virtual_time l t)) (grown-part (virtual_time l t) (link_heads l t) s.packet.stamped.len)
         by false e = rest ∙ sym (ap {B = ℕ} (λ b. cond b (grown (virtual_time l t) (link_heads l t) s.packet.stamped.len) (virtual_time l t)) (apart-link s.packet.link l e on))
 
@@ -314,7 +313,7 @@ module _ (chosen : Choice) (mine taken : ℕ → Bool) where
       tag-opened k t rest = by (is_link_on chosen mine k) refl
         where
           by : (b : Bool) → is_link_on chosen mine k ≡ b → last_finish_tag (link' l) (place mine f) (cond b (opened (link' k) ∷ part' t) (part' t)) ≡ last_finish_tag l f (opened k ∷ t)
-          by true e = let same = same-link k l e on in λ i. cond (same i) 0 (rest i)
+          by true e = λ i. cond (same-link k l e on i) 0 (rest i)
           by false e = rest ∙ sym (ap {B = ℕ} (λ b. cond b 0 (last_finish_tag l f t)) (apart-link k l e on))
 
       tag-arrived : (q : Accepted) (t : List Event) → IsFit q.link q.stamped.flow → last_finish_tag (link' l) (place mine f) (part' t) ≡ last_finish_tag l f t →
@@ -330,7 +329,7 @@ module _ (chosen : Choice) (mine taken : ℕ → Bool) where
       tag-discarded g t rest = by (mine g) refl
         where
           by : (b : Bool) → mine g ≡ b → last_finish_tag (link' l) (place mine f) (cond b (discarded (place mine g) ∷ part' t) (part' t)) ≡ last_finish_tag l f (discarded g ∷ t)
-          by true e = let same = place-eq mine g f e hf in λ i. cond (same i) 0 (rest i)
+          by true e = λ i. cond (place-eq mine g f e hf i) 0 (rest i)
           by false e = rest ∙ sym (ap {B = ℕ} (λ b. cond b 0 (last_finish_tag l f t)) (apart-flow g f e hf))
 
       pub last_finish_tag-part : (t : List Event) → AreFit t → last_finish_tag (link' l) (place mine f) (part' t) ≡ last_finish_tag l f t

@@ -93,7 +93,7 @@ module _ (mine : Target → Bool) where
     same-settled at = settled-same On (settings alone) (settings whole) (λ n is. h.set_is (ToPipe n) is) at (trace_of whole) on
 
     pub clocks : (m : ℕ) → effective_moment whole ≤ max (effective_moment alone) m → max (effective_moment alone) m ≡ max (effective_moment whole) m
-    clocks m le = let lags = h.lags in omega (arith, lags, le)
+    clocks m le = omega (arith, h.lags, le)
 
     pub before-same : (m : ℕ) → effective_moment whole ≤ max (effective_moment alone) m →
         settled (settings alone) (max (effective_moment alone) m) (trace_of alone) ≡ settled (settings whole) (max (effective_moment whole) m) (trace_of whole)
@@ -104,7 +104,7 @@ module _ (mine : Target → Bool) where
     -- At the clock of all, what happened in the part is the same.
     pub at-clock : effective_moment whole ≤ effective_moment alone → trace_of alone ≡ trace_of whole
     at-clock le =
-        let c : effective_moment alone ≡ effective_moment whole = let lags = h.lags in omega (arith, lags, le) in
+        let c : effective_moment alone ≡ effective_moment whole = omega (arith, h.lags, le) in
         sym (still alone) ∙ h.settles (effective_moment alone) le ∙ same-settled (effective_moment alone) ∙ ap (λ k. settled (settings whole) k (trace_of whole)) c ∙ still whole
 
     -- ---- Calls of the part
@@ -113,23 +113,19 @@ module _ (mine : Target → Bool) where
         IsBehind (Submit target packet m ∷ alone) (Submit target packet m ∷ whole)
     own-submit target packet m is carried le =
         let b = before-same m le in
-        let c = clocks m le in
         let s = h.set_is target is in
-        let ks = h.keys_are in
-        let lags = h.lags in
-        let few = h.no_more in
         let before = settled (settings whole) (max (effective_moment whole) m) (trace_of whole) in
         let o = treatment (settings whole target) in
         let same : trace_of (Submit target packet m ∷ alone) ≡ trace_of (Submit target packet m ∷ whole) =
-        (λ i. after_verdict (settings alone) (c i) packet (verdict_by (ks i) target packet (treatment (s i)) (b i)) (b i))
+        (λ i. after_verdict (settings alone) (clocks m le i) packet (verdict_by (h.keys_are i) target packet (treatment (s i)) (b i)) (b i))
         ∙ after-same On (settings alone) (settings whole) (λ n e. h.set_is (ToPipe n) e) (max (effective_moment whole) m) packet (verdict_by (keys whole) target packet o before) before
         (verdict-on On (keys whole) target packet o before carried) in
         record {
           set_is = h.set_is;
           queues_are = h.queues_are;
-          keys_are = (λ i. keys_with target packet.tuple (treatment (s i)) (ks i));
-          lags = omega (arith, lags);
-          no_more = omega (arith, few);
+          keys_are = (λ i. keys_with target packet.tuple (treatment (s i)) (h.keys_are i));
+          lags = omega (arith, h.lags);
+          no_more = omega (arith, h.no_more);
           settles = λ n later. ap (λ (t : List Event). settled (settings alone) n t) same;
         }
 
@@ -137,10 +133,7 @@ module _ (mine : Target → Bool) where
         counted_reply rule alone (Submit target packet m) ≡ counted_reply rule whole (Submit target packet m)
     submit-told rule target packet m is le =
         let b = before-same m le in
-        let c = clocks m le in
-        let s = h.set_is target is in
-        let ks = h.keys_are in
-        λ i. reply_to_verdict (c i) (verdict_by (ks i) target packet (treatment (s i)) (b i)) (b i)
+        λ i. reply_to_verdict (clocks m le i) (verdict_by (h.keys_are i) target packet (treatment (h.set_is target is i)) (b i)) (b i)
 
     -- A packet without a target.
     pub own-none : (target : Target) (packet : Packet) (m : ℕ) → treatment (settings alone target) ≡ None → effective_moment whole ≤ max (effective_moment alone) m →
@@ -148,65 +141,55 @@ module _ (mine : Target → Bool) where
     own-none target packet m none le =
         let at = max (effective_moment alone) m in
         let before = settled (settings alone) at (trace_of alone) in
-        let lags = h.lags in
-        let few = h.no_more in
         let same : trace_of (Submit target packet m ∷ alone) ≡ trace_of (Advance m ∷ whole) =
         (λ i. after_verdict (settings alone) at packet (verdict_by (keys alone) target packet (none i) before) before) ∙ before-same m le in
         record {
           set_is = h.set_is;
           queues_are = h.queues_are;
           keys_are = (λ i. keys_with target packet.tuple (none i) (keys alone)) ∙ h.keys_are;
-          lags = omega (arith, lags);
-          no_more = omega (arith, few);
+          lags = omega (arith, h.lags);
+          no_more = omega (arith, h.no_more);
           settles = λ n later. ap (λ (t : List Event). settled (settings alone) n t) same;
         }
 
     pub own-advance : (m : ℕ) → effective_moment whole ≤ max (effective_moment alone) m → IsBehind (Advance m ∷ alone) (Advance m ∷ whole)
     own-advance m le =
-        let lags = h.lags in
-        let few = h.no_more in
         record {
           set_is = h.set_is;
           queues_are = h.queues_are;
           keys_are = h.keys_are;
-          lags = omega (arith, lags);
-          no_more = omega (arith, few);
+          lags = omega (arith, h.lags);
+          no_more = omega (arith, h.no_more);
           settles = λ n later. ap (λ (t : List Event). settled (settings alone) n t) (before-same m le);
         }
 
     pub own-collect : (m : ℕ) → effective_moment whole ≤ max (effective_moment alone) m → IsBehind (Collect m ∷ alone) (Collect m ∷ whole)
     own-collect m le =
-        let b = before-same m le in
-        let c = clocks m le in
-        let lags = h.lags in
-        let few = h.no_more in
         record {
           set_is = h.set_is;
           queues_are = h.queues_are;
           keys_are = h.keys_are;
-          lags = omega (arith, lags);
-          no_more = omega (arith, few);
-          settles = λ n later. (λ i. settled (settings alone) n (collected (c i) ∷ b i));
+          lags = omega (arith, h.lags);
+          no_more = omega (arith, h.no_more);
+          settles = λ n later. (λ i. settled (settings alone) n (collected (clocks m le i) ∷ (before-same m le) i));
         }
 
     pub collect-told : (rule : Rule) (m : ℕ) → effective_moment whole ≤ max (effective_moment alone) m → counted_reply rule alone (Collect m) ≡ counted_reply rule whole (Collect m)
-    collect-told rule m le = let b = before-same m le in let c = clocks m le in λ i. Delivered (c i) (given rule (c i) (b i))
+    collect-told rule m le = let c = clocks m le in λ i. Delivered (c i) (given rule (c i) (before-same m le i))
 
     pub own-show : IsBehind (Show ∷ alone) (Show ∷ whole)
     own-show =
-        let lags = h.lags in
-        let few = h.no_more in
         record {
           set_is = h.set_is;
           queues_are = h.queues_are;
           keys_are = h.keys_are;
-          lags = omega (arith, lags);
-          no_more = omega (arith, few);
+          lags = omega (arith, h.lags);
+          no_more = omega (arith, h.no_more);
           settles = λ n later. h.settles n (omega (arith, later));
         }
 
     pub show-told : (rule : Rule) → effective_moment whole ≤ effective_moment alone → counted_reply rule alone Show ≡ counted_reply rule whole Show
-    show-told rule le = let t = at-clock le in let ks = h.keys_are in λ i. Status (statuses_from 0 (ks i) (t i))
+    show-told rule le = λ i. Status (statuses_from 0 (h.keys_are i) (at-clock le i))
 
     pub command-told : (command : Command) → IsWithin mine (settings whole) → IsOfOnePart mine command → mine (subject command) ≡ true → reply_to_command alone command ≡ reply_to_command whole command
     command-told command inside one is =
@@ -223,18 +206,14 @@ module _ (mine : Target → Bool) where
     pub own-command : (command : Command) → IsWithin mine (settings whole) → IsOfOnePart mine command → mine (subject command) ≡ true → effective_moment whole ≤ effective_moment alone →
         IsBehind (Configure command ∷ alone) (Configure command ∷ whole)
     own-command command inside one is le =
-        let t = at-clock le in
         let r = command-told command inside one is in
-        let ks = h.keys_are in
-        let lags = h.lags in
-        let few = h.no_more in
         record {
           set_is = λ target on. (let s = h.set_is target on in λ i. cond (target_eq (subject command) target) (setting_after (r i) command (s i)) (s i));
           queues_are = queues-with command is;
           keys_are = h.keys_are;
-          lags = omega (arith, lags);
-          no_more = omega (arith, few);
-          settles = λ n later. (λ i. settled (settings (Configure command ∷ alone)) n (after_command (r i) command (ks i) (t i)));
+          lags = omega (arith, h.lags);
+          no_more = omega (arith, h.no_more);
+          settles = λ n later. (λ i. settled (settings (Configure command ∷ alone)) n (after_command (r i) command (h.keys_are i) (at-clock le i)));
         }
 
     -- ---- Calls of other parts
@@ -242,14 +221,12 @@ module _ (mine : Target → Bool) where
     pub other-advance : (m : ℕ) → IsBehind alone (Advance m ∷ whole)
     other-advance m =
         let at = max (effective_moment whole) m in
-        let lags = h.lags in
-        let few = h.no_more in
         record {
           set_is = h.set_is;
           queues_are = h.queues_are;
           keys_are = h.keys_are;
-          lags = omega (arith, lags);
-          no_more = omega (arith, few);
+          lags = omega (arith, h.lags);
+          no_more = omega (arith, h.no_more);
           settles = λ n later.
               h.settles n (omega (arith, later)) ∙ sym (settled-again (settings alone) at n (omega (arith, later)) (trace_of whole))
               ∙ ap (λ (t : List Event). settled (settings alone) n t) (same-settled at);
@@ -257,14 +234,12 @@ module _ (mine : Target → Bool) where
 
     pub other-show : IsBehind alone (Show ∷ whole)
     other-show =
-        let lags = h.lags in
-        let few = h.no_more in
         record {
           set_is = h.set_is;
           queues_are = h.queues_are;
           keys_are = h.keys_are;
-          lags = omega (arith, lags);
-          no_more = omega (arith, few);
+          lags = omega (arith, h.lags);
+          no_more = omega (arith, h.no_more);
           settles = λ n later. h.settles n (omega (arith, later));
         }
 
@@ -277,14 +252,12 @@ module _ (mine : Target → Bool) where
 
     pub other-command : (command : Command) → mine (subject command) ≡ false → AreMine mine (keys whole) → IsBehind alone (Configure command ∷ whole)
     other-command command off known =
-        let lags = h.lags in
-        let few = h.no_more in
         record {
           set_is = λ target is. h.set_is target is ∙ sym (setting-elsewhere mine whole command target off is);
           queues_are = queues-without command off;
           keys_are = h.keys_are;
-          lags = omega (arith, lags);
-          no_more = omega (arith, few);
+          lags = omega (arith, h.lags);
+          no_more = omega (arith, h.no_more);
           settles = λ n later.
               h.settles n (omega (arith, later))
               ∙ ap (λ (t : List Event). settled (settings alone) n t) (sym (after-elsewhere mine (reply_to_command whole command) command (keys whole) (trace_of whole) off known));
@@ -303,7 +276,7 @@ module _ (mine : Target → Bool) where
     less-mine calls d = subst (AreMine mine) (sym (keys-on (links_of mine) calls)) (keys-mine mine is_own calls d)
 
     pub in-turn : (calls : List Call) (m : ℕ) → effective_moment calls ≤ max (effective_moment (alone-of calls)) m → effective_moment (less calls) ≤ max (effective_moment (alone-of calls)) m
-    in-turn calls m le = let e = moment-on (links_of mine) calls in omega (arith, e, le)
+    in-turn calls m le = omega (arith, moment-on (links_of mine) calls, le)
 
     pub carried-less : (calls : List Call) (target : Target) (packet : Packet) → is_carried (links_of mine) target packet.tuple (treatment (settings calls target)) ≡ true
         → IsCarried (less calls) target
@@ -338,7 +311,7 @@ module _ (mine : Target → Bool) where
             IsBehind (cond b (Configure command ∷ alone-of calls) (alone-of calls)) (Configure command ∷ less calls)
         by true is h le =
             own-command (alone-of calls) (less calls) h (less-on calls) command (less-within calls d.2) d.0.1 (sym is)
-            (let e = moment-on (links_of mine) calls in let late = le refl in omega (arith, e, late))
+            (let late = le refl in omega (arith, moment-on (links_of mine) calls, late))
         by false is h le = other-command (alone-of calls) (less calls) h (less-on calls) command (sym is) (less-mine calls d.2)
     behind (Submit target packet moment ∷ calls) d =
         submit-behind calls target packet moment d.2 (behind calls d.2) (is_own (length calls)) (sym d.0) d.1
@@ -365,11 +338,10 @@ pub parts-happen-alone : (mine : Target → Bool) (is_own : ℕ → Bool) (calls
     trace_of (Advance (effective_moment calls) ∷ own_of is_own calls) ≡ part_of (links_of mine) calls
 parts-happen-alone mine is_own calls d =
     let h = behind mine is_own calls d in
-    let lags = h.lags in
     let e = moment-on (links_of mine) calls in
     let alone = own_of is_own calls in
     let whole = less mine calls in
     let at = effective_moment whole in
-    let clock : max (effective_moment alone) (effective_moment calls) ≡ at = omega (arith, lags, e) in
+    let clock : max (effective_moment alone) (effective_moment calls) ≡ at = omega (arith, h.lags, e) in
     ap (λ m. settled (settings alone) m (trace_of alone)) clock ∙ h.settles at (omega arith) ∙ same-settled mine alone whole h (less-on mine calls) at ∙ still whole
     ∙ other-links-change-nothing (links_of mine) calls

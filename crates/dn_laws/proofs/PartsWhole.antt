@@ -109,9 +109,9 @@ module _ (rule : Rule) where
       let at = max (effective_moment calls) moment in
       let before = settled (settings calls) at (trace_of calls) in
       let o = treatment (settings calls target) in
-      let c = Submit target packet moment in
       let old = settled-keyed calls at (all-keyed calls) in
-      after-keyed (keys (c ∷ calls)) (settings calls) at packet (verdict_by (keys calls) target packet o before) before (verdict-keyed (keys calls) target packet o before)
+      after-keyed (keys (Submit target packet moment ∷ calls)) (settings calls) at packet (verdict_by (keys calls) target packet o before) before
+      (verdict-keyed (keys calls) target packet o before)
       (λ k d lt. let had = old k d lt in (had.0, keys-stay calls (Submit target packet moment) _ had.0 had.1))
   all-keyed (Advance moment ∷ calls) = settled-keyed calls (max (effective_moment calls) moment) (all-keyed calls)
   all-keyed (Collect moment ∷ calls) =

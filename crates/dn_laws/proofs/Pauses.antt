@@ -142,11 +142,7 @@ module _ (p : Accepted) (before : List Event) where
     where
       other : q.packet ≢ p.packet
       other same =
-          let here = h.0 in
-          let there = (suffix-proper g (arrived p ∷ before) h.1).0 in
-          let count = count-later g (arrived p ∷ before) in
-          let one = count-event is_arrival (arrived p) before in
-          omega (arith, same, here, there, count, one)
+          omega (arith, same, h.0, (suffix-proper g (arrived p ∷ before) h.1).0, count-later g (arrived p ∷ before), count-event is_arrival (arrived p) before)
 
       more : (b : Bool) → is_of p.link p.stamped.flow q ≡ b → StillWaits g → StillWaits (arrived q ∷ g)
       more true e w = record {
@@ -180,10 +176,9 @@ module _ (p : Accepted) (before : List Event) where
         behind = w.behind;
         stands = ap (λ b. cond (b && nat_eq s.packet.stamped.flow p.stamped.flow) (drop 1 (queue g)) (queue g)) e ∙ w.stands;
         busy =
-            let is = w.busy in
             let still = ap {B = ℕ} (λ b. cond b (s.moment + s.transmission) (free p.link (g ++ (arrived p ∷ before)))) e in
             let none = ap {B = ℕ} (λ b. cond b s.transmission 0 + sending p.link g) e in
-            omega (arith, is, still, none);
+            omega (arith, w.busy, still, none);
         others = w.others;
       }
       by true e w = next (is_of p.link p.stamped.flow s.packet) refl w.rest w.behind w.stands w.others
@@ -213,10 +208,9 @@ module _ (p : Accepted) (before : List Event) where
 
           goes-on : StillWaits g → s.moment ≡ free p.link (g ++ (arrived p ∷ before)) → free p.link (started s ∷ (g ++ (arrived p ∷ before))) ≡ free p.link before + sending p.link (started s ∷ g)
           goes-on w at =
-              let is = w.busy in
               let now = ap {B = ℕ} (λ b. cond b (s.moment + s.transmission) (free p.link (g ++ (arrived p ∷ before)))) e in
               let more = ap {B = ℕ} (λ b. cond b s.transmission 0 + sending p.link g) e in
-              omega (arith, is, now, more, at)
+              omega (arith, w.busy, now, more, at)
 
           next : (b : Bool) → is_of p.link p.stamped.flow s.packet ≡ b → (rest behind : List Accepted) → queue g ≡ rest ++ p ∷ behind → All (λ q. q.packet ≢ p.packet) behind → Stands (started s ∷ g)
           next true is [] behind stands others = inr (subst (λ (qs : List Accepted). All IsOther qs)
@@ -225,7 +219,7 @@ module _ (p : Accepted) (before : List Event) where
             rest = rest;
             behind = behind;
             stands = ap (λ b. cond b (drop 1 (queue g)) (queue g)) is ∙ ap (λ (qs : List Accepted). drop 1 qs) stands;
-            busy = goes-on w (at_free true is (λ yes'. let n = long (q ∷ rest) behind stands in omega (arith, n)) (let n = long (q ∷ rest) behind stands in omega (arith, n)));
+            busy = goes-on w (at_free true is (λ yes'. let n = long (q ∷ rest) behind stands in omega (arith, n)) (omega (arith, long (q ∷ rest) behind stands)));
             others = others;
           }
           next false is rest behind stands others = inl record {
@@ -239,7 +233,7 @@ module _ (p : Accepted) (before : List Event) where
   quiet : (e : Event) (g : List Event) → backlog p.link p.stamped.flow (e ∷ g ++ (arrived p ∷ before)) ≡ queue g →
       free p.link (e ∷ g ++ (arrived p ∷ before)) ≡ free p.link (g ++ (arrived p ∷ before)) →
       sending p.link (e ∷ g) ≡ sending p.link g → Stands g → Stands (e ∷ g)
-  quiet e g b f n stands = ⊎_elim (λ w. inl record { rest = w.rest; behind = w.behind; stands = b ∙ w.stands; busy = let is = w.busy in omega (arith, f, n, is); others = w.others })
+  quiet e g b f n stands = ⊎_elim (λ w. inl record { rest = w.rest; behind = w.behind; stands = b ∙ w.stands; busy = omega (arith, f, n, w.busy); others = w.others })
       (λ gone. inr (subst (λ (qs : List Accepted). All IsOther qs) (sym b) gone)) stands
 
   stands : (g : List Event) → IsProper (g ++ (arrived p ∷ before)) → IsUnpaused (g ++ (arrived p ∷ before)) → Stands g
@@ -355,8 +349,7 @@ module _ (rule : Rule) (after calls : List Call) (target : Target) (packet : Pac
       let freed = ap (λ (t : List Event). free s.packet.link t) here ∙ ap (λ (x : Accepted). free x.link (g ++ (arrived j.p ∷ (j.opening ++ trace_of (Advance moment ∷ calls))))) n.0 ∙ n.1 in
       let old = ap (λ (x : Accepted). free x.link (trace_of (Advance moment ∷ calls))) n.0 in
       let start = exact in
-      let same_free = j.same_free in
-      omega (arith, sends, freed, old, start, same_free, goes)
+      omega (arith, sends, freed, old, start, j.same_free, goes)
 
   by-join : (b : Bool) → nat_le (free j.p.link (j.opening ++ trace_of (Advance moment ∷ calls))) (effective_moment (Advance moment ∷ calls)) ≡ b →
       trace_of (Submit target packet moment ∷ calls) ≡ cond b (started (start_at (settings calls) j.p.link j.p
@@ -368,8 +361,7 @@ module _ (rule : Rule) (after calls : List Call) (target : Target) (packet : Pac
       (subst IsProper whole (trace-proper (after ++ Submit target packet moment ∷ calls))) (sym whole ∙ e) (same ∙ sym j.number_is) in
       let late : effective_moment (Advance moment ∷ calls) < free j.p.link (j.opening ++ trace_of (Advance moment ∷ calls)) = grind (arith, nat_tests) in
       let clock = (queued rule calls target packet moment at flow number told).0 in
-      let same_free = j.same_free in
-      by-stretch added.0 found.0 whole found.2 (omega (arith, late, clock, same_free))
+      by-stretch added.0 found.0 whole found.2 (omega (arith, late, clock, j.same_free))
   by-join true is joins =
       let s0 = start_at (settings calls) j.p.link j.p (effective_moment (Advance moment ∷ calls)) in
       let parts : trace_of (after ++ Submit target packet moment ∷ calls) ≡ (added.0 ++ started s0 ∷ []) ++ (arrived j.p ∷ (j.opening ++ trace_of (Advance moment ∷ calls))) =

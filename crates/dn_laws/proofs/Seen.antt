@@ -64,20 +64,12 @@ module _ (rule : Rule) (flow : ℕ) where
       yes' f same = ap {B = ℕ} (λ b. cond b 1 0) (eq-eqb f flow same)
 
       by : (link : Link) (f : ℕ) → f ≡ flow → (b c : Bool) → names (reply_to_verdict at (cond b (loses link f) (cond c (refuses link f) (takes link f how))) trace) ≡ 1
-      by link f same true c = let one = yes' f same in omega (arith, one)
-      by link f same false true = let one = yes' f same in omega (arith, one)
-      by link f same false false = let one = yes' f same in omega (arith, one)
+      by link f same true c = omega (arith, yes' f same)
+      by link f same false true = omega (arith, yes' f same)
+      by link f same false false = omega (arith, yes' f same)
 
   pub flow-told : (calls : List Call) (key : FlowKey) → length calls ≤ call_limit → slice_get (keys calls) flow ≡ Some key → 0 < told (replies rule calls)
   flow-told [] key few e = absurd cc
-  flow-told (Configure command ∷ calls) key few e =
-      let rest = flow-told calls key (omega (arith, few)) e in let more = told-cons (reply rule calls (Configure command)) (replies rule calls) in omega (arith, rest, more)
-  flow-told (Advance moment ∷ calls) key few e =
-      let rest = flow-told calls key (omega (arith, few)) e in let more = told-cons (reply rule calls (Advance moment)) (replies rule calls) in omega (arith, rest, more)
-  flow-told (Collect moment ∷ calls) key few e =
-      let rest = flow-told calls key (omega (arith, few)) e in let more = told-cons (reply rule calls (Collect moment)) (replies rule calls) in omega (arith, rest, more)
-  flow-told (Show ∷ calls) key few e =
-      let rest = flow-told calls key (omega (arith, few)) e in let more = told-cons (reply rule calls Show) (replies rule calls) in omega (arith, rest, more)
   flow-told (Submit target packet moment ∷ calls) key few e = by (treatment (settings calls target)) refl e (λ known. flow-told calls key (omega (arith, few)) known)
     where
       at : ℕ
@@ -110,6 +102,7 @@ module _ (rule : Rule) (flow : ℕ) where
               ⊎_elim (λ old. before (rest old)) (λ last. new how is (sym (place-is (key_of target packet.tuple how) (keys calls))
               ∙ new-place (key_of target packet.tuple how) (keys calls) none ∙ sym last))
               (get-last (keys calls) (key_of target packet.tuple how) key flow e)
+  flow-told (c ∷ calls) key few e = omega (arith, flow-told calls key (omega (arith, few)) e, told-cons (reply rule calls c) (replies rule calls))
 
 pub flows-were-told : (rule : Rule) (calls : List Call) (flow : ℕ) (key : FlowKey) → length calls ≤ call_limit → slice_get (keys calls) flow ≡ Some key →
     0 < count_by (is_queued_of flow) (replies rule calls) + count_by (is_lost_of flow) (replies rule calls) + count_by (is_full_of flow) (replies rule calls)

@@ -168,15 +168,13 @@ not-before [] calls c later earlier s e number = ⊎_elim (λ new. now new.0 new
     now : (between : List Event) → trace_of (c ∷ calls) ≡ later ++ started s ∷ between ++ trace_of calls → earlier ≡ between ++ trace_of calls → effective_moment (c ∷ calls) ≤ s.moment
     now between is parts =
         let same = ap (λ (t : List Event). accepted_count t) parts in
-        let low = below in
-        ⊎_elim (λ waited. let none = waited.1.1 in absurd (omega (arith, same, low, none, number))) (λ on_arrival. let at = on_arrival.0 in omega (arith, at)) (begun calls c later between s is).when
+        ⊎_elim (λ waited. let none = waited.1.1 in absurd (omega (arith, same, below, none, number))) (λ on_arrival. let at = on_arrival.0 in omega (arith, at))
+        (begun calls c later between s is).when
 
     old : (rest : List Event) → trace_of calls ≡ rest ++ started s ∷ earlier → ⊥
     old rest is =
-        let low = below in
-        let more = count-later (rest ++ started s ∷ []) earlier in
         let all = ap (λ (t : List Event). accepted_count t) (is ∙ sym (shape rest [] (started s) earlier)) in
-        omega (arith, low, more, all, number)
+        omega (arith, below, count-later (rest ++ started s ∷ []) earlier, all, number)
 not-before (c' ∷ after) calls c later earlier s e number =
     let rises = clock-later after (c ∷ calls) in
     ⊎_elim (λ new. let in_time = (starts-in-time (after ++ c ∷ calls) c' later new.0 s new.1).0 in omega (arith, rises, in_time))
@@ -187,7 +185,5 @@ pub none-starts-early : (rule : Rule) (after calls : List Call) (target : Target
     s.packet.packet ≡ number → at ≤ s.moment
 none-starts-early rule after calls target packet moment at flow number later earlier s told e same =
     let q = queued rule calls target packet moment at flow number told in
-    let number_is = q.1 in
-    let at_is = q.0 in
-    let first = not-before after calls (Submit target packet moment) later earlier s e (omega (arith, same, number_is)) in
-    omega (arith, first, at_is)
+    let first = not-before after calls (Submit target packet moment) later earlier s e (omega (arith, same, q.1)) in
+    omega (arith, first, q.0)

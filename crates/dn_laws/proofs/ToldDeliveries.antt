@@ -105,9 +105,8 @@ module _ (rule : Rule) (number : ℕ) where
   told-given [] few = refl
   told-given (c ∷ calls) few =
       let rest = told-given calls (omega (arith, few)) in
-      let one = counted-times calls c in
       let same = ap (times_in number) (not-exhausted rule calls c (omega (arith, few))) in
-      omega (arith, rest, one, same)
+      omega (arith, rest, counted-times calls c, same)
 
   told-most : (calls : List Call) → times_told number (replies rule calls) ≤ given_count rule number (trace_of calls)
   told-most [] = omega arith
@@ -115,8 +114,8 @@ module _ (rule : Rule) (number : ℕ) where
     where
       by : (b : Bool) → times_told number (replies rule calls) ≤ given_count rule number (trace_of calls) →
           times_in number (cond b Exhausted (counted_reply rule calls c)) + times_told number (replies rule calls) ≤ given_count rule number (trace_of (c ∷ calls))
-      by true rest = let one = counted-times calls c in omega (arith, rest, one)
-      by false rest = let one = counted-times calls c in omega (arith, rest, one)
+      by true rest = omega (arith, rest, counted-times calls c)
+      by false rest = omega (arith, rest, counted-times calls c)
 
 pub told-once : (rule : Rule) (number : ℕ) (calls : List Call) → times_told number (replies rule calls) ≤ 1
 told-once rule number calls =
@@ -149,15 +148,13 @@ module _ (number : ℕ) where
       let rest : earlier ≡ later' ++ started s' ∷ earlier' = cc in
       let here = start-counted s earlier is in
       let there = has-start later' s' earlier' is' in
-      let same = ap (start_count number) rest in
-      absurd (omega (arith, once, here, there, same))
+      absurd (omega (arith, once, here, there, ap (start_count number) rest))
   one-start (x ∷ later) [] s s' earlier earlier' e is is' once =
       let rest : later ++ started s ∷ earlier ≡ earlier' = cc in
       let here = start-counted s' earlier' is' in
       let there = has-start later s earlier is in
-      let same = ap (start_count number) rest in
       let all = ap (start_count number) e in
-      absurd (omega (arith, once, here, there, same, all))
+      absurd (omega (arith, once, here, there, ap (start_count number) rest, all))
   one-start (x ∷ later) (y ∷ later') s s' earlier earlier' e is is' once =
       let rest : later ++ started s ∷ earlier ≡ later' ++ started s' ∷ earlier' = cc in
       let more = count-event (is_start_with number) x (later ++ started s ∷ earlier) in

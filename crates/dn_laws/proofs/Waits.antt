@@ -160,10 +160,8 @@ behind-arrival p before newer later earlier s proper e same =
         let tail : before ≡ rest ++ started s ∷ earlier = cc in
         let here = suffix-proper newer (arrived p ∷ before) proper in
         let low = started-below s rest earlier (subst IsProper tail here.1) in
-        let more = count-later (rest ++ started s ∷ []) earlier in
         let all = ap (λ (t : List Event). accepted_count t) (tail ∙ sym (append_assoc rest (started s ∷ []) earlier)) in
-        let number = here.0 in
-        omega (arith, low, more, all, number, same)
+        omega (arith, low, count-later (rest ++ started s ∷ []) earlier, all, here.0, same)
 
 -- ---- What is sent in a stretch
 
@@ -258,14 +256,13 @@ module _ (rule : Rule) (after calls : List Call) (pipe : ℕ) (packet : Packet) 
       let exact = waits-for-its-link rule after calls (ToPipe pipe) packet moment at flow number later earlier s told e same in
       let on = ap (λ (x : Accepted). free x.link earlier) sent-all.0 ∙ ap (λ (l : Link). free l earlier) j.on ∙ ap (λ (t : List Event). free (own pipe flow) t) found.2 in
       let long = sent-all.2 in
-      let same_free = j.same_free in
       let on_it = goes-on (starting (own pipe flow) found.0) (sym queue) refl in
       record {
         stretch = found.0;
         parts = found.2;
         it = sent-all.0;
         sent = queue;
-        start = omega (arith, exact, on, long, same_free, on_it);
+        start = omega (arith, exact, on, long, j.same_free, on_it);
       }
 
 pub waits-for-those-ahead : WaitsForThoseAhead
@@ -277,9 +274,8 @@ waits-for-those-ahead rule after calls pipe packet moment at flow number later b
     let cut : between ≡ w.stretch ++ (arrived j.p ∷ j.opening) = append_cancel_right between (w.stretch ++ (arrived j.p ∷ j.opening)) (trace_of (Advance moment ∷ calls)) parts in
     let none = none-before (own pipe flow) w.stretch (arrived j.p ∷ j.opening) (j.none_start (own pipe flow)) (j.none_sends (own pipe flow)) in
     let sends = ap (λ (t : List Event). sending (own pipe flow) t) cut in
-    let start = w.start in
     let less = none.1 in
-    (ap (λ (t : List Event). starting (own pipe flow) t) cut ∙ none.0 ∙ w.sent, omega (arith, sends, start, less))
+    (ap (λ (t : List Event). starting (own pipe flow) t) cut ∙ none.0 ∙ w.sent, omega (arith, sends, w.start, less))
 
 -- ---- By the command in force
 
@@ -316,5 +312,4 @@ wait-is-known rule after calls pipe bw delay limit loss buckets mask packet mome
     let sum_is = by-lengths (own pipe flow) bw w.stretch at_rate in
     let of_those = ap (λ (qs : List Accepted). sum_by (λ q. transmission_time bw q.stamped.len) qs) w.sent in
     let as_sum = sum-map (λ (q : Accepted). transmission_time bw q.stamped.len) (backlog (own pipe flow) flow (trace_of (Advance moment ∷ calls))) in
-    let start = w.start in
-    omega (arith, start, sum_is, of_those, as_sum)
+    omega (arith, w.start, sum_is, of_those, as_sum)
