@@ -93,7 +93,9 @@ CONTROLS = {
     "dn_shaper/without_the_packet_pushed": [
         ("fn push_reserved(", "ghost use Rattle.std.specs.Prelude.{slice_set}; ghost use Rattle.dn_flows.specs.Table.{pushed}; fn push_reserved("),
         ("ensures keys {", "ensures flows { flows.new.flows ≡ slice_set flows.old.flows flow (pushed waiting (flow_at flows.old.flows flow)) } ensures keys {")],
+    "hingetulip_c/an_entry_is_longer_than_its_text": [("u64::from(line.len() == text.len())", "0")],
     "hingetulip_c/clears_the_next_place": [("list[given.len()].reserved = 0;", "let _ = given.len();")],
+    "hingetulip_c/tells_a_packet_that_has_no_place": [("u64::from(front.rows.len() == packets.len())", "0")],
     "dn_files/without_the_fault_of_a_line": [("IfOk result (λ command. Ok command ≡ answer line.now)", "result ≡ answer line.now")],
     "dn_files/short_read_ends_the_feed": [("count < PART", "count == 0")],
     "dn_replay/fault_before_a_failed_read": [("return Err(fault);", "let _ = fault;")],
