@@ -77,6 +77,7 @@ def growths() -> list[Part]:
         "test_shaper refused_growths::",
         "test_flows scheduler::",
         "test_heap examples::",
+        "test_merge examples::",
         "test_parts heap::",
         *[f"test_flows {part}::a_refused_growth_changes_nothing" for part in ("link", "flows")],
         *[f"test_service one_caller::a_{call}_that_memory_refuses_leaves_no_trace" for call in ("call", "try")],

@@ -12,7 +12,7 @@ use Rattle.dn_laws.proofs.Places.{place-eq, place-less, place-mono, place-more, 
 
 -- ---- Tests of numbers
 
-is-below : (n bound : ℕ) → n < bound → nat_lt n bound ≡ true
+pub is-below : (n bound : ℕ) → n < bound → nat_lt n bound ≡ true
 is-below n bound lt = grind (arith, nat_tests)
 
 none-below : (n : ℕ) → false ≡ nat_lt n 0
@@ -51,7 +51,7 @@ turned true n = refl
 turned false n = refl
 
 -- What was told in a part has all that was told as one of its numbers.
-any-own : (number : Reply → Option ℕ) (part n : ℕ) (told : List Told) → list_any (is_told_as number part n) (told_in part told) ≡ list_any (is_told_as number part n) told
+pub any-own : (number : Reply → Option ℕ) (part n : ℕ) (told : List Told) → list_any (is_told_as number part n) (told_in part told) ≡ list_any (is_told_as number part n) told
 any-own number part n [] = refl
 any-own number part n (t ∷ told) = by (nat_eq t.part part) refl (any-own number part n told)
   where
@@ -60,6 +60,13 @@ any-own number part n (t ∷ told) = by (nat_eq t.part part) refl (any-own numbe
         ≡ (nat_eq t.part part && is_number n (number t.reply) || list_any (is_told_as number part n) told)
     by true is rest = ap (λ b. nat_eq t.part part && is_number n (number t.reply) || b) rest
     by false other rest = rest ∙ sym (ap (λ b. b && is_number n (number t.reply) || list_any (is_told_as number part n) told) other)
+
+-- The own numbers of a part, with one reply more.
+pub count-own : (number : Reply → Option ℕ) (part : ℕ) (t : Told) (told : List Told) → (b : Bool) → nat_eq t.part part ≡ b → count_told number (told_in part (t ∷ told))
+    ≡ cond b (cond (is_new number t.part (told_in part told) (number t.reply)) (suc (count_told number (told_in part told))) (count_told number (told_in part told)))
+    (count_told number (told_in part told))
+count-own number part t told true is = ap (λ b. count_told number (cond b (t ∷ told_in part told) (told_in part told))) is
+count-own number part t told false other = ap (λ b. count_told number (cond b (t ∷ told_in part told) (told_in part told))) other
 
 -- ---- What was told
 
@@ -88,13 +95,6 @@ module _ (number : Reply → Option ℕ) (test : ℕ → ℕ → Bool) where
     own_knows = λ part n. none-below n;
   }
 
-  -- The own numbers of a part, with one reply more.
-  count-own : (part : ℕ) (t : Told) (told : List Told) → (b : Bool) → nat_eq t.part part ≡ b → count_told number (told_in part (t ∷ told))
-      ≡ cond b (cond (is_new number t.part (told_in part told) (number t.reply)) (suc (count_told number (told_in part told))) (count_told number (told_in part told)))
-      (count_told number (told_in part told))
-  count-own part t told true is = ap (λ b. count_told number (cond b (t ∷ told_in part told) (told_in part told))) is
-  count-own part t told false other = ap (λ b. count_told number (cond b (t ∷ told_in part told) (told_in part told))) other
-
   -- A reply without a number.
   pub nothing-told : (bound : ℕ) (t : Told) (told : List Told) → number t.reply ≡ None → AreNumbered bound told → AreNumbered bound (t ∷ told)
   nothing-told bound t told e h = record {
@@ -104,7 +104,7 @@ module _ (number : Reply → Option ℕ) (test : ℕ → ℕ → Bool) where
         ∙ ap (λ b. b || found part n told) (and-none (nat_eq t.part part)) ∙ h.knows part n is;
     back = λ part n is lt.
         ap (λ b. cond b (number_in_all number part told (place (test part) n)) (count_told number told)) (h.knows part n is ∙ is-below n bound lt) ∙ h.back part n is lt;
-    own_counts = λ part. count-own part t told (nat_eq t.part part) refl ∙ none-own part (nat_eq t.part part) ∙ h.own_counts part;
+    own_counts = λ part. count-own number part t told (nat_eq t.part part) refl ∙ none-own part (nat_eq t.part part) ∙ h.own_counts part;
     own_knows = λ part n.
         ap (λ o. nat_eq t.part part && is_number n o || list_any (is_told_as number part n) told) e
         ∙ ap (λ b. b || list_any (is_told_as number part n) told) (and-none (nat_eq t.part part)) ∙ h.own_knows part n;
@@ -186,7 +186,7 @@ module _ (number : Reply → Option ℕ) (test : ℕ → ℕ → Bool) where
         by false other = ap (nat_lt n) (sym (place-elsewhere part other))
 
     own-counts : (part : ℕ) → count_told number (told_in part (t ∷ told)) ≡ place (test part) (cond (nat_lt m bound) bound (suc bound))
-    own-counts part = count-own part t told (nat_eq t.part part) refl ∙ by (nat_eq t.part part) refl
+    own-counts part = count-own number part t told (nat_eq t.part part) refl ∙ by (nat_eq t.part part) refl
       where
         its : count_told number (told_in t.part told) ≡ place (test t.part) bound
         its = h.own_counts t.part

@@ -105,7 +105,7 @@ module _ (rule : Rule) (division : Division) where
         )
     packets-told (_ ∷ calls) h few keyed taken = absurd h
 
-  all-told : (calls : List Call) → ArePackets calls → length calls ≤ call_limit → AreTold division (keys calls) (trace_of calls) rule answer calls
+  pub all-told : (calls : List Call) → ArePackets calls → length calls ≤ call_limit → AreTold division (keys calls) (trace_of calls) rule answer calls
   all-told calls h few =
       packets-told (keys calls) (trace_of calls) calls h few (λ part. keyed-all (links_in division part) (keys calls))
       (λ part. all-taken (links_in division part) (flows division (keys calls) (trace_of calls) part) (trace_of calls) (trace-proper calls))
@@ -122,7 +122,7 @@ module _ (rule : Rule) (division : Division) where
   replays-are-counted calls h few = numbers-counted rule division (told_in_replay rule division) calls (all-told calls h few)
 
   -- What the Collect gives in a part's replay.
-  given-in-part : (calls : List Call) (moment part : ℕ) → ArePackets calls → length calls < call_limit →
+  pub given-in-part : (calls : List Call) (moment part : ℕ) → ArePackets calls → length calls < call_limit →
       reply rule (own_calls (links_in division part) calls) (Collect (max (effective_moment calls) moment))
       ≡ own_reply_by (flows division (keys calls) (trace_of calls) part) (packets division (keys calls) (trace_of calls) part) (counted_reply rule calls (Collect moment))
   given-in-part calls moment part h few =

@@ -44,7 +44,7 @@ filter-same one other (d ∷ ds) h =
     let rest = filter-same one other ds (All-tail (λ d. one d ≡ other d) d ds h) in
     λ i. cond (first i) (d ∷ rest i) (rest i)
 
-filter-passes : (test : Delivery → Bool) (P : Delivery → Type 0) (ds : List Delivery) → All (λ d. test d ≡ true → P d) ds → All P (filter test ds)
+pub filter-passes : (test : Delivery → Bool) (P : Delivery → Type 0) (ds : List Delivery) → All (λ d. test d ≡ true → P d) ds → All P (filter test ds)
 filter-passes test P [] h = All-nil P
 filter-passes test P (d ∷ ds) h = by (test d) refl (filter-passes test P ds (All-tail (λ d. test d ≡ true → P d) d ds h))
   where

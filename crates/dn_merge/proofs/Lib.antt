@@ -1,0 +1,4 @@
+pub mod InAll
+pub mod Numbered
+pub mod ToldNumbers
+pub mod TwoLists

@@ -1,0 +1,7 @@
+//! Worked examples of parts whose replies are told among all.
+#![tactic(auto)]
+
+#[cfg(test)]
+mod examples;
+#[cfg(test)]
+mod readme;
