@@ -47,6 +47,7 @@ CONTROLS = {
     "dn_heap/pop_keeps_its_room": [("self.room = room;", "self.room = self.room;")],
     "dn_heap/reserves_without_the_keys_of_the_heap": [(".min(n))", ".max(n))")],
     "dn_files/row_read_twice": [("self.start = start;", "let _ = start;")],
+    "hingetulip_c/no_room_for_plain_rows": [("packets.len() == 1", "packets.len() == 0")],
     "dn_wf2q/empty_heaps": [("self.arrivals", "self.eligible.moves() + self.waiting.moves()"), ("self.eligible.pop()", "self.eligible.moves()"),
                             ("self.waiting.pop()", "self.waiting.moves()")],
     "dn_wf2q/left_in_waiting_heap": [("leave(&mut self.waiting, first);", "let _ = self.waiting.moves();")],

@@ -1,6 +1,7 @@
 -- Chunks of a packet file: one row more.
-use Rattle.std.proofs.Common.{◌≡◌, ◌∙◌, refl, sym, ap, subst, ℕ, ◌+◌, ◌<◌, List, [], ◌∷◌, ◌++◌, drop, length, arith, append_assoc, length-append, Result, Ok, Err, Some, true}
-use Rattle.std.proofs.lemmas.List.{append-nil}
+use Rattle.std.proofs.Common.{◌≡◌, ◌∙◌, refl, sym, ap, subst, ℕ, ◌+◌, ◌-◌, ◌<◌, List, [], ◌∷◌, ◌++◌, drop, take, length, arith, append_assoc, length-append, Result, Ok, Err, Some, true}
+use Rattle.std.proofs.lemmas.List.{append-nil, drop_all, take-append-drop}
+use Rattle.std.proofs.Math.Seq.{drop-append_seam, take-append_seam}
 use Rattle.csv.specs.Records.{field_at}
 use Rattle.csv.specs.Reading.{records_from}
 use Rattle.csv.specs.Machine.{next_record}
@@ -17,27 +18,6 @@ use Rattle.dn_files.proofs.Headers.{header_read}
 use Rattle.dn_files.proofs.PacketParts.{later}
 use Rattle.dn_files.proofs.PlainRows.{ReadsRow}
 use Rattle.dn_files.proofs.Rows.{one_more, starts}
-
--- What is left of a chunk behind these rows is read behind them.
-abbrev pub GoesOn : List ℕ → List Row → List ℕ → Type 0
-GoesOn chunk rows rest = (number : ℕ) (more : List ℕ) → with_front rows (rows_from (number + length rows) (records_after st.StartRecord (rest ++ more)))
-    ≡ rows_from number (records_after st.StartRecord (chunk ++ more))
-
-pub begun : (chunk : List ℕ) → GoesOn chunk [] chunk
-begun chunk = λ number more.
-    let none : number + length {A = Row} [] ≡ number = omega arith in
-    starts (rows_from (number + length {A = Row} []) (records_after st.StartRecord (chunk ++ more))) ∙ ap (λ (n : ℕ). rows_from n (records_after st.StartRecord (chunk ++ more))) none
-
-pub row_more : (chunk rest behind : List ℕ) (rows : List Row) (row : Row) → ReadsRow rest row behind → GoesOn chunk rows rest → GoesOn chunk (rows ++ row ∷ []) behind
-row_more chunk rest behind rows row begins has = λ number more.
-    let left = records_after st.StartRecord (behind ++ more) in
-    let count : number + length (rows ++ row ∷ []) ≡ number + length rows + 1 = omega (arith, length-append rows (row ∷ [])) in
-    let line : rest ++ more ≡ begins.line.front ++ 10 ∷ (behind ++ more) = ap (λ (t : List ℕ). t ++ more) begins.line.stands ∙ append_assoc begins.line.front (10 ∷ behind) more in
-    let read : rows_from (number + length rows) (records_after st.StartRecord (rest ++ more)) ≡ rows_from (number + length rows) (begins.fields ∷ left) =
-    ap (λ (t : List ℕ). rows_from (number + length rows) (records_after st.StartRecord t)) line ∙ ap (rows_from (number + length rows)) (begins.line.reads (behind ++ more)) in
-    ap (λ (n : ℕ). with_front (rows ++ row ∷ []) (rows_from n left)) count
-    ∙ (sym (one_more rows (number + length rows) (begins.fields ∷ left) left row (begins.says, refl, refl))
-    ∙ (sym (ap (with_front rows) read) ∙ has number more))
 
 -- The header is a header.
 header-is : is_header header ≡ true
@@ -61,6 +41,58 @@ two front back first second one other = record {
       ∙ (one.first number (back ++ more) ∙ ap (λ (t : List ℕ). rows_from number (records_after st.StartRecord t)) (sym (append_assoc front back more)))));
 }
 
+-- These rows were read off a text, and this is left of it.
+pub record GoesOn (text : List ℕ) (rows : List Row) (rest : List ℕ) : Type 0 where
+  pub front : List ℕ
+  pub stands : text ≡ front ++ rest
+  pub has : HasRows front rows
+
+no_rows : HasRows [] []
+no_rows = record {
+  first = λ number more.
+      let none : number + length {A = Row} [] ≡ number = omega arith in
+      starts (rows_from (number + length {A = Row} []) (records_after st.StartRecord more)) ∙ ap (λ (n : ℕ). rows_from n (records_after st.StartRecord more)) none;
+}
+
+pub begun : (text : List ℕ) → GoesOn text [] text
+begun text = record { front = []; stands = refl; has = no_rows }
+
+-- A line that has one row.
+one_row : (rest behind : List ℕ) (row : Row) → (begins : ReadsRow rest row behind) → HasRows (begins.line.front ++ 10 ∷ []) (row ∷ [])
+one_row rest behind row begins = record {
+  first = λ number more.
+      let left = records_after st.StartRecord more in
+      let line : (begins.line.front ++ 10 ∷ []) ++ more ≡ begins.line.front ++ 10 ∷ more = append_assoc begins.line.front (10 ∷ []) more in
+      sym (ap (λ (t : List ℕ). rows_from number (records_after st.StartRecord t)) line ∙ (ap (rows_from number) (begins.line.reads more)
+      ∙ (sym (starts (rows_from number (begins.fields ∷ left))) ∙ one_more [] number (begins.fields ∷ left) left row (begins.says, refl, refl))));
+}
+
+pub row_more : (text rest behind : List ℕ) (rows : List Row) (row : Row) → ReadsRow rest row behind → GoesOn text rows rest → GoesOn text (rows ++ row ∷ []) behind
+row_more text rest behind rows row begins so_far =
+    let line = begins.line.front ++ 10 ∷ [] in
+    let left : rest ≡ line ++ behind = begins.line.stands ∙ sym (append_assoc begins.line.front (10 ∷ []) behind) in
+    record {
+      front = so_far.front ++ line;
+      stands = so_far.stands ∙ (ap (λ (t : List ℕ). so_far.front ++ t) left ∙ sym (append_assoc so_far.front line behind));
+      has = two so_far.front line rows (row ∷ []) so_far.has (one_row rest behind row begins);
+    }
+
+-- Nothing is left: the rows are those of the whole text.
+pub all_read : (text : List ℕ) (rows : List Row) → GoesOn text rows [] → HasRows text rows
+all_read text rows so_far = subst (λ (t : List ℕ). HasRows t rows) (sym (so_far.stands ∙ append-nil so_far.front)) so_far.has
+
+-- What was read is the front of the text, by its length.
+pub front_is : (text rest : List ℕ) (rows : List Row) → GoesOn text rows rest → BeginsWith text (length text - length rest) rows × (drop (length text - length rest) text ≡ rest)
+front_is text rest rows so_far =
+    let front = so_far.front in
+    let count : length text ≡ length front + length rest = ap (length {A = ℕ}) so_far.stands ∙ length-append front rest in
+    let used : length text - length rest ≡ length front = omega arith in
+    let taken : take (length front) text ≡ front = ap (take (length front)) so_far.stands ∙ take-append_seam front rest in
+    rw used (
+      record { within = omega arith; first = subst (λ (t : List ℕ). HasRows t rows) (sym taken) so_far.has },
+      ap (drop (length front)) so_far.stands ∙ drop-append_seam front rest,
+    )
+
 -- A file: its header, and a chunk behind it.
 pub whole : (text rest : List ℕ) (rows : List Row) → header_until text ≡ Some rest → HasRows rest rows → rows_of text ≡ Ok rows
 unfolding rows_below rows_from records_from next_record
@@ -76,9 +108,11 @@ whole text rest rows e has =
 pub chunk_read : (number : ℕ) (text chunk : List ℕ) (rows new : List Row) → 0 < number → HasRead (record { number = number; text = [] }) text rows → HasRows chunk new
     → HasRead (record { number = number + length new; text = [] }) (text ++ chunk) (rows ++ new)
 chunk_read number text chunk rows new some has begins = record {
+  front = has.front ++ chunk;
+  stands = ap (λ (t : List ℕ). t ++ chunk) (has.stands ∙ append-nil has.front) ∙ sym (append-nil (has.front ++ chunk));
   goes_on = λ more.
       let behind : 0 < number + length new = omega arith in
-      ap rows_of (append_assoc text chunk more)
+      ap rows_of (append_assoc has.front chunk more)
       ∙ (has.goes_on (chunk ++ more)
       ∙ (ap (with_front rows) (later number (chunk ++ more) some ∙ sym (begins.first number more) ∙ ap (with_front new) (sym (later (number + length new) more behind)))
       ∙ sym (fronts rows new (rows_left (number + length new) more))));
@@ -98,26 +132,38 @@ passed_over number count left old text chunk rows new view behind has begins cou
     subst (λ (n : ℕ). HasRead (record { number = number + n; text = [] }) (text ++ chunk) (rows ++ new)) counted here in
     subst (λ (t : List ℕ). HasRead (record { number = number + count; text = t }) (text ++ chunk) (rows ++ new)) (sym empty) counts
 
--- The rows of a text, and those behind the rows that it begins with.
-pub left_behind : (text : List ℕ) (used : ℕ) (rows : List Row) → BeginsWith text used rows → with_front rows (rows_left (1 + length rows) (drop used text)) ≡ rows_left 1 text
-left_behind text used rows begins =
-    let some : 0 < 1 + length rows = omega arith in let one : 0 < 1 = omega arith in
-    ap (λ (t : List ℕ). with_front rows (rows_left (1 + length rows) t)) (sym (append-nil (drop used text)))
-    ∙ (ap (with_front rows) (later (1 + length rows) (drop used text ++ []) some)
-    ∙ (begins.first 1 [] ∙ (sym (later 1 (text ++ []) one) ∙ ap (rows_left 1) (append-nil text))))
-
--- The same of a text that has no more than its rows.
-nothing_left : (text : List ℕ) → drop (length text) text ≡ []
-nothing_left [] = refl
-nothing_left (byte ∷ rest) = nothing_left rest
-
+-- The rows behind none.
 none_left : (number : ℕ) → rows_from number (records_after st.StartRecord []) ≡ Ok []
 unfolding rows_from records_from next_record
 none_left number = refl
 
+-- The rows of a chunk are those that a text has of which it is all.
+pub told : (chunk : List ℕ) (rows : List Row) → HasRows chunk rows → rows_left 1 chunk ≡ Ok rows
+told chunk rows has =
+    let one : 0 < 1 = omega arith in
+    later 1 chunk one
+    ∙ (ap (λ (t : List ℕ). rows_from 1 (records_after st.StartRecord t)) (sym (append-nil chunk))
+    ∙ (sym (has.first 1 []) ∙ (ap (with_front rows) (none_left (1 + length rows)) ∙ ap (λ (rs : List Row). Ok rs) (append-nil rows))))
+
+-- No byte has no row.
+pub none_used : (text : List ℕ) (used : ℕ) (rows : List Row) → BeginsWith text used rows → used ≡ 0 → rows ≡ []
+none_used text used rows begins none =
+    let one : 0 < 1 = omega arith in
+    let taken : take used text ≡ [] = ap (λ k. take k text) none in
+    let read : ◌≡◌ {A = Result (List Row) ReplayFault} (Ok rows) (Ok []) = sym (told (take used text) rows begins.first) ∙ (ap (rows_left 1) taken ∙ (later 1 [] one ∙ none_left 1)) in
+    cc read
+
+-- The rows of a text, and those behind the rows that it begins with.
+pub left_behind : (text : List ℕ) (used : ℕ) (rows : List Row) → BeginsWith text used rows → with_front rows (rows_left (1 + length rows) (drop used text)) ≡ rows_left 1 text
+left_behind text used rows begins =
+    let some : 0 < 1 + length rows = omega arith in let one : 0 < 1 = omega arith in
+    ap (with_front rows) (later (1 + length rows) (drop used text) some)
+    ∙ (begins.first.first 1 (drop used text) ∙ (sym (later 1 (take used text ++ drop used text) one) ∙ ap (rows_left 1) (take-append-drop used text)))
+
+-- The same of a text that has no more than its rows.
 pub left_whole : (text : List ℕ) (rows : List Row) → rows_left 1 text ≡ Ok rows → with_front rows (rows_left (1 + length rows) (drop (length text) text)) ≡ rows_left 1 text
 left_whole text rows read =
     let some : 0 < 1 + length rows = omega arith in
-    ap (λ (t : List ℕ). with_front rows (rows_left (1 + length rows) t)) (nothing_left text)
+    ap (λ (t : List ℕ). with_front rows (rows_left (1 + length rows) t)) (drop_all (length text) text (omega arith))
     ∙ (ap (with_front rows) (later (1 + length rows) [] some ∙ none_left (1 + length rows))
     ∙ (ap (λ (rs : List Row). Ok rs) (append-nil rows) ∙ sym read))

@@ -3,7 +3,7 @@ use Rattle.std.proofs.Common.{◌≡◌, ◌∙◌, refl, sym, ap, subst, ℕ, z
 use Rattle.std.proofs.Common.{Ok, Err, arith, append_assoc, length-append}
 use Rattle.std.specs.Prelude.{OnOk}
 use Rattle.std.specs.Result.{is_ok}
-use Rattle.std.proofs.lemmas.List.{append-nil, drop-append-le, drop-drop, drop-set, take-append-drop}
+use Rattle.std.proofs.lemmas.List.{drop-append-le, drop-drop, drop-set, take-append-drop}
 use Rattle.std.proofs.Math.ListN.{set}
 use Rattle.std.proofs.Math.Seq.{drop-append_seam}
 use Rattle.csv.specs.Records.{field_at}
@@ -25,14 +25,15 @@ use Rattle.dn_files.proofs.Rows.{one_more, starts}
 -- No row of a text has been taken.
 pub fresh : (items : List ℕ) → HasRead (record { number = 0; text = drop 0 items }) items []
 unfolding rows_left
-fresh items = record { goes_on = λ more. sym (starts (rows_of (items ++ more))) }
+fresh items = record { front = []; stands = refl; goes_on = λ more. sym (starts (rows_of more)) }
 
 -- A part more.
 part_more : (number : ℕ) (left part text : List ℕ) (rows : List Row) → HasRead (record { number = number; text = left }) text rows
     → HasRead (record { number = number; text = left ++ part }) (text ++ part) rows
 part_more number left part text rows has = record {
-  goes_on = λ more.
-      ap rows_of (append_assoc text part more) ∙ has.goes_on (part ++ more) ∙ ap (λ (t : List ℕ). with_front rows (rows_left number t)) (sym (append_assoc left part more));
+  front = has.front;
+  stands = ap (λ (t : List ℕ). t ++ part) has.stands ∙ append_assoc has.front left part;
+  goes_on = has.goes_on;
 }
 
 pub fed : {T E : Type 0} (r : Result T E) (number start : ℕ) (items new part : List ℕ) (old mid : Unread) → new ≡ cond (is_ok r) (items ++ part) items → start ≤ length items
@@ -64,18 +65,23 @@ header-is = refl
 pub cut-line : (start : ℕ) (items front rest : List ℕ) → start ≤ length items → drop start items ≡ front ++ 10 ∷ rest → drop (length items - length rest) items ≡ rest
 cut-line start items front rest le is = cut start items (front ++ 10 ∷ []) rest le (is ∙ sym (append_assoc front (10 ∷ []) rest))
 
--- More of a text behind a line of it.
-line-more : (left front rest more : List ℕ) → left ≡ front ++ 10 ∷ rest → left ++ more ≡ front ++ 10 ∷ (rest ++ more)
-line-more left front rest more stands = ap (λ (t : List ℕ). t ++ more) stands ∙ append_assoc front (10 ∷ rest) more
+-- A line between what was read before it and what follows.
+line-between : (front line rest : List ℕ) → (front ++ (line ++ 10 ∷ [])) ++ rest ≡ front ++ (line ++ 10 ∷ rest)
+line-between front line rest = append_assoc front (line ++ 10 ∷ []) rest ∙ ap (λ (t : List ℕ). front ++ t) (append_assoc line (10 ∷ []) rest)
+
+-- A line at the front of what is left, once it was read.
+line-read : (text front left line rest : List ℕ) → text ≡ front ++ left → left ≡ line ++ 10 ∷ rest → text ≡ (front ++ (line ++ 10 ∷ [])) ++ rest
+line-read text front left line rest stands begins = stands ∙ ap (λ (t : List ℕ). front ++ t) begins ∙ sym (line-between front line rest)
 
 header_passed : (left rest text : List ℕ) (rows : List Row) → BeginsFirst left header rest → HasRead (record { number = 0; text = left }) text rows
     → HasRead (record { number = 1; text = rest }) text rows
 unfolding rows_left rows_below
 header_passed left rest text rows begins has = record {
+  front = has.front ++ (begins.front ++ 10 ∷ []);
+  stands = line-read text has.front left begins.front rest has.stands begins.stands;
   goes_on = λ more.
-      let next : rows_of (left ++ more) ≡ rows_from 1 (records_after st.StartRecord (rest ++ more)) =
-      ap rows_of (line-more left begins.front rest more begins.stands) ∙ ap rows_below (begins.reads (rest ++ more)) ∙ rw header-is refl in
-      has.goes_on more ∙ ap (with_front rows) next;
+      let next : rows_of (begins.front ++ 10 ∷ more) ≡ rows_from 1 (records_after st.StartRecord more) = ap rows_below (begins.reads more) ∙ rw header-is refl in
+      ap rows_of (line-between has.front begins.front more) ∙ has.goes_on (begins.front ++ 10 ∷ more) ∙ ap (with_front rows) next;
 }
 
 -- The header was read, and the text behind it is left.
@@ -96,12 +102,15 @@ later (suc n) text some = refl
 row_passed : (number : ℕ) (row : Row) (left rest text : List ℕ) (rows : List Row) → 0 < number → ReadsRow left row rest
     → HasRead (record { number = number; text = left }) text rows → HasRead (record { number = number + 1; text = rest }) text (rows ++ row ∷ [])
 row_passed number row left rest text rows some begins has = record {
+  front = has.front ++ (begins.line.front ++ 10 ∷ []);
+  stands = line-read text has.front left begins.line.front rest has.stands begins.line.stands;
   goes_on = λ more.
-      let behind = records_after st.StartRecord (rest ++ more) in
-      has.goes_on more ∙ ap (λ (t : List ℕ). with_front rows (rows_left number t)) (line-more left begins.line.front rest more begins.line.stands)
-      ∙ ap (with_front rows) (later number (begins.line.front ++ 10 ∷ (rest ++ more)) some ∙ ap (rows_from number) (begins.line.reads (rest ++ more)))
+      let behind = records_after st.StartRecord more in
+      let line = begins.line.front ++ 10 ∷ more in
+      ap rows_of (line-between has.front begins.line.front more) ∙ has.goes_on line
+      ∙ ap (with_front rows) (later number line some ∙ ap (rows_from number) (begins.line.reads more))
       ∙ one_more rows number (begins.fields ∷ behind) behind row (begins.says, refl, refl)
-      ∙ ap (with_front (rows ++ row ∷ [])) (sym (later (number + 1) (rest ++ more) (omega arith)));
+      ∙ ap (with_front (rows ++ row ∷ [])) (sym (later (number + 1) more (omega arith)));
 }
 
 -- A row was read, and the text behind it is left.
@@ -135,7 +144,7 @@ pub finished : (number : ℕ) (left : List ℕ) (old : Unread) (read : Result (L
     → (text : List ℕ) → (rows : List Row) → HasRead old text rows → rows_of text ≡ with_front rows read
 finished number left old read view is text rows has =
     let had : HasRead (record { number = number; text = left }) text rows = subst (λ (u : Unread). HasRead u text rows) (sym view) has in
-    ap rows_of (sym (append-nil text)) ∙ had.goes_on [] ∙ ap (λ (t : List ℕ). with_front rows (rows_left number t)) (append-nil left) ∙ ap (with_front rows) is
+    ap rows_of had.stands ∙ had.goes_on left ∙ ap (with_front rows) is
 
 pub finished_fault : (number : ℕ) (left : List ℕ) (old : Unread) (read : Result (List Row) ReplayFault) (fault : ReplayFault)
     → record { number = number; text = left } ≡ old → rows_left number left ≡ read

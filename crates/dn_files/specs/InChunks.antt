@@ -1,5 +1,5 @@
 -- A packet file that is read in chunks by many threads.
-use Rattle.std.specs.Prelude.{◌≡◌, ℕ, ◌+◌, ◌≤◌, List, ◌++◌, drop, length}
+use Rattle.std.specs.Prelude.{◌≡◌, ℕ, ◌+◌, ◌≤◌, List, ◌++◌, length, take}
 use Rattle.csv.specs.declared.parser.State.TheVariants as st
 use Rattle.dn_records.specs.Reading.{records_after}
 use Rattle.dn_files.specs.PacketFile.{rows_from}
@@ -11,8 +11,8 @@ use Rattle.dn_files.specs.declared.row.Row.{Row}
 pub record HasRows (chunk : List ℕ) (rows : List Row) : Type 0 where
   pub first : (number : ℕ) (more : List ℕ) → with_front rows (rows_from (number + length rows) (records_after st.StartRecord more)) ≡ rows_from number (records_after st.StartRecord (chunk ++ more))
 
--- A text behind the header begins with these rows, which take so many bytes: whatever follows it, and whatever its first row's number
--- is, they are read first.
+-- A text behind the header begins with these rows: so many bytes at its front have them and nothing else. No byte behind those
+-- matters, so a bad row there changes none of them.
 pub record BeginsWith (text : List ℕ) (used : ℕ) (rows : List Row) : Type 0 where
   pub within : used ≤ length text
-  pub first : (number : ℕ) (more : List ℕ) → with_front rows (rows_from (number + length rows) (records_after st.StartRecord (drop used text ++ more))) ≡ rows_from number (records_after st.StartRecord (text ++ more))
+  pub first : HasRows (take used text) rows

@@ -1,6 +1,6 @@
 -- What may stand before and behind the lines of a text: a byte order mark before the first, and behind each a line feed, or a carriage
 -- return and a line feed.
-use Rattle.std.specs.Prelude.{ℕ, List, [], ◌∷◌, ◌++◌, length, take, drop, Option, Some, None, bytes_eq, if◌then◌else◌, unwrap_or}
+use Rattle.std.specs.Prelude.{ℕ, List, [], ◌∷◌, length, take, drop, Option, Some, None, bytes_eq, if◌then◌else◌, unwrap_or}
 use Rattle.std.specs.Option.{option_or}
 use Rattle.dn_text.specs.Addresses.{◌>>=◌}
 use Rattle.dn_text.specs.Until.{number_until}

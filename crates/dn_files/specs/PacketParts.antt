@@ -19,10 +19,12 @@ unfoldable pub rows_left : ℕ → List ℕ → Result (List Row) ReplayFault
 rows_left zero text = rows_of text
 rows_left (suc n) text = rows_from (suc n) (records_after st.StartRecord text)
 
--- This text has been fed to a reader and these rows have been taken from it: whatever more follows, the rows of the whole are
--- those, and then the rows of what the reader has left and of what follows.
+-- This text has been fed to a reader and these rows have been taken from it: they are the rows of the text in front of what the
+-- reader has left. Whatever more follows that front, its rows come behind them, so a bad row there changes none of them.
 pub record HasRead (reader : Unread) (text : List ℕ) (rows : List Row) : Type 0 where
-  pub goes_on : (more : List ℕ) → rows_of (text ++ more) ≡ with_front rows (rows_left reader.number (reader.text ++ more))
+  pub front : List ℕ
+  pub stands : text ≡ front ++ reader.text
+  pub goes_on : (more : List ℕ) → rows_of (front ++ more) ≡ with_front rows (rows_left reader.number more)
 
 -- The fields of the header.
 abbrev pub header : Fields

@@ -1,6 +1,6 @@
 //! Rows of a packet file behind its header, in parts.
 
-ghost use Rattle.std.specs.Prelude.{◌≡◌, ◌≤◌, ◌<◌, Ok, Some, length, IfOk, IfErr, IfSome};
+ghost use Rattle.std.specs.Prelude.{◌≡◌, ◌≤◌, ◌<◌, ◌⊎◌, Ok, Some, None, drop, length, IfOk, IfErr, MatchOption};
 ghost use Rattle.dn_files.specs.InChunks.{BeginsWith};
 ghost use Rattle.dn_files.specs.PacketParts.{rows_left};
 ghost use Rattle.dn_files.specs.QuotedRow.{row_at_front as first_row};
@@ -21,7 +21,9 @@ pub struct FrontRows {
 
 /// The row at the front of a text, if so many rows are fewer than the most.
 fn next_row(count: usize, most: usize, text: &[u8]) -> Option<(Row, &[u8])>
-    ensures { IfSome result (λ p. (Some (p.0, p.1.now) ≡ first_row text.now) × (count < most)) }
+    ensures { MatchOption result
+        ((most ≤ count) ⊎ (first_row text.now ≡ None))
+        (λ p. (Some (p.0, p.1.now) ≡ first_row text.now) × (count < most)) }
 {
     if count < most {
         row_at_front(text)
@@ -32,7 +34,9 @@ fn next_row(count: usize, most: usize, text: &[u8]) -> Option<(Row, &[u8])>
 
 /// The rows that a text behind the header begins with, at most so many, as far as they are written plainly or in quotes.
 pub fn rows_at_front(alloc: Global, text: &[u8], most: usize) -> Result<FrontRows, AllocError>
-    ensures { IfOk result (λ front. BeginsWith text.now front.used front.rows.items × (length front.rows.items ≤ most)) }
+    ensures begins { IfOk result (λ front. BeginsWith text.now front.used front.rows.items) }
+    ensures few { IfOk result (λ front. length front.rows.items ≤ most) }
+    ensures stops { IfOk result (λ front. (length front.rows.items ≡ most) ⊎ (first_row (drop front.used text.now) ≡ None)) }
 {
     let mut rows = Vec::new(alloc);
     let mut rest = text;

@@ -255,11 +255,12 @@ uint32_t dn_advance_text(uint64_t caller, uint64_t moment, uint64_t at, uint8_t 
 uint32_t dn_collect_text(uint64_t caller, uint64_t moment, uint64_t at, const struct dn_delivery *list, size_t count, uint8_t *text,
                          size_t room, uint64_t *length);
 
-/* Reads packets off the text of a packet file behind its header: `length` bytes, which are whole lines or go on to the file's end. DN_OK:
-   the first *count places of `packets`, which has `room` places, are the rows of the first *used bytes, and the others are as they were.
-   The rest of the text is read by a further call. It uses no handle. DN_ROOM: the rows are written in a form that is read only
-   whole, and there are *count. DN_BAD_ROW: *row is the first bad row of the text, from 1, and *field its first bad field, 0 if it hasn't
-   ten; no packet is written. */
+/* Reads packets off the text of a packet file behind its header: `length` bytes, which are whole lines or go on to the file's end. It uses
+   no handle. DN_OK: the first *count places of `packets`, which has `room` places, are the rows of the first *used bytes, whatever follows
+   them. The others are as they were. The call stops at a full list, or before a row that isn't written plainly or in quotes, or has no line
+   feed at its end; a further call reads the rest. A text that begins with any other row gets DN_OK or DN_MEMORY, if `room` isn't 0. Else it
+   is read only whole. DN_ROOM: it has *count rows. DN_BAD_ROW: *row is the first bad row of the text, from 1, and *field its first bad
+   field, 0 if it hasn't ten; no packet is written. */
 uint32_t dn_read_packets(const uint8_t *text, size_t length, struct dn_packet *packets, size_t room, uint64_t *count, uint64_t *used,
                          uint64_t *row, uint64_t *field);
 

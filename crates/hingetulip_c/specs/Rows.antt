@@ -1,5 +1,5 @@
 -- Rows of a packet file as packets of C.
-use Rattle.std.specs.Prelude.{◌≡◌, ℕ, ◌+◌, List, Ok, drop, length, map}
+use Rattle.std.specs.Prelude.{◌≡◌, ℕ, ◌+◌, List, Ok, drop, length, map, take}
 use Rattle.dn_files.specs.PacketParts.{rows_left, with_front}
 use Rattle.dn_files.specs.declared.row.Row.{Row}
 use Rattle.hingetulip_c.specs.Lists.{kind_of, number_of}
@@ -21,10 +21,12 @@ c_packet r = record {
   reserved = 0;
 }
 
--- These packets are the first rows of a text, and the others are those of what stands behind so many bytes.
+-- These packets are the rows of a text's first so many bytes, whatever stands behind these, and its other rows are those of what stands
+-- there.
 pub record HasRead (text : List ℕ) (used : ℕ) (packets : List CPacket) : Type 0 where
   pub rows : List Row
   pub packets_are : packets ≡ map c_packet rows
+  pub told : rows_left 1 (take used text) ≡ Ok rows
   pub goes_on : with_front rows (rows_left (1 + length rows) (drop used text)) ≡ rows_left 1 text
 
 -- A text has so many rows, and no fault.

@@ -1,5 +1,6 @@
-ghost use Rattle.std.specs.Prelude.{◌≡◌, ◌≢◌, ◌<◌, ◌≤◌, ◌⊎◌, [], Err, drop, length, take};
+ghost use Rattle.std.specs.Prelude.{◌≡◌, ◌≢◌, ◌<◌, ◌≤◌, ◌⊎◌, [], Err, None, IsSome, drop, length, take};
 ghost use Rattle.dn_files.specs.PacketParts.{rows_left};
+ghost use Rattle.dn_files.specs.QuotedRow.{row_at_front};
 ghost use Rattle.dn_files.specs.declared.replay_fault.ReplayFault.TheVariants.{BadRow};
 ghost use Rattle.hingetulip_c.specs.Rows.{HasCount, HasRead};
 
@@ -11,7 +12,7 @@ use std::alloc::Global;
 
 /// Reads packets of a packet file behind its header.
 #[unsafe(no_mangle)]
-#[tactic(auto, using(crate::proofs::PacketRows::front_read))]
+#[tactic(auto, using(crate::proofs::PacketRows::front_read, crate::proofs::PacketRows::none_behind))]
 pub extern "C" fn dn_read_packets(
     alloc: Global,
     text: &[u8],
@@ -25,6 +26,8 @@ pub extern "C" fn dn_read_packets(
     ensures within { result ≡ 0 → (count.new ≤ length packets.new) × (used.new ≤ length text.now) }
     ensures others { result ≡ 0 → drop count.new packets.new ≡ drop count.new packets.old }
     ensures gets_on { result ≡ 0 → text.now ≢ [] → 0 < used.new }
+    ensures fills { result ≡ 0 → (count.new ≡ length packets.new) ⊎ (row_at_front (drop used.new text.now) ≡ None) }
+    ensures in_parts { IsSome (row_at_front text.now) → 0 < length packets.old → (result ≡ 0) ⊎ (result ≡ 6) }
     ensures room { result ≡ 7 → HasCount text.now count.new }
     ensures fault { result ≡ 22 → rows_left 1 text.now ≡ Err (BadRow row.new field.new) }
     ensures refused { result ≢ 0 → (packets.new ≡ packets.old) × (used.new ≡ used.old) }

@@ -1,4 +1,4 @@
-use Rattle.std.proofs.Common.{ℕ, ◌+◌, ◌-◌}
+use Rattle.std.proofs.Common.{◌+◌, ◌-◌}
 use Rattle.dn_files.proofs.chunks.+fn-rows_of_chunk_by_threads-join+arg3+rows_of_chunk_by_threads.Given as goal
 
 abbrev pub decreases-join+arg3 : goal.decreases-join+arg3

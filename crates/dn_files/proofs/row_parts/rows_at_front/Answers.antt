@@ -1,7 +1,7 @@
 -- A row more is read off what is left of the text.
-use Rattle.std.proofs.Common.{◌≡◌, ◌∙◌, ◌-◌, ◌≤◌, ◌∷◌, [], sym, length, length-append, vec_len, arith, rules}
+use Rattle.std.proofs.Common.{◌≡◌, ◌∷◌, [], sym, length, length-append, vec_len, arith, rules}
 use Rattle.dn_files.proofs.ChunkRows.{row_more}
-use Rattle.dn_files.proofs.PacketParts.{begins_shorter, cut-line}
+use Rattle.dn_files.proofs.PacketParts.{begins_shorter}
 use Rattle.dn_files.proofs.QuotedRows.{row_reads}
 use Rattle.dn_files.proofs.row_parts.rows_at_front.Goals as goal
 
@@ -17,10 +17,8 @@ loop-row-preserved c =
     let counted : vec_len c.loop-row.rows ≡ length c.loop-row.rows.items = search rules in
     let fewer = c.in-Some.ensures.1 in
     let within = inv.within in
-    let le : length text - length rest ≤ length text = omega arith in
     record {
       read = rw (c.in_ok-push.ensures.items) (row_more text rest behind c.loop-row.rows.items c.in-Some.row begins inv.read);
       few = rw (c.in_ok-push.ensures.items) (omega (arith, length-append c.loop-row.rows.items (c.in-Some.row ∷ []), c.len.ensures, counted, fewer));
       within = omega arith;
-      left = cut-line (length text - length rest) text begins.line.front behind le (inv.left ∙ begins.line.stands);
     }
