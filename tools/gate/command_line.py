@@ -86,6 +86,7 @@ FORMS = [
     Case("the greatest limit", replay(f"--most-packets={2**40}"), 0, REPORT),
     fault("packets of one byte more", replay("--most-packets", str(len(PACKETS) - 1)), 6, "packets too long"),
     fault("the same with a history", replay("--most-packets", str(len(PACKETS) - 1), "--history", "old"), 6, "packets too long", files={**FILES, "old": OLDER}),
+    *[Case(f"an audit by {n} threads", ["audit", "h", "--threads", n], 0, "lawful 3\n") for n in ("1", "2", "64")],
     Case("a history of as many bytes as are told", ["audit", "h", "--most-history", str(len(HISTORY))], 0, "lawful 3\n"),
     fault("a history of one byte more", ["audit", "--most-history", str(len(HISTORY) - 1), "h"], 6, "history too long"),
     Case("lawful history", ["audit", "h"], 0, "lawful 3\n"),

@@ -1,10 +1,10 @@
-"""A replay by 1 to 8 threads, and by as many as it takes without the option, writes what one by one thread does: over the
-cases of the independent reference, and over long packet files, also with rows that only csv reads and with faults.
+"""A replay or an audit by 1 to 8 threads, and by as many as it takes without the option, writes what one by one thread does: over
+the cases of the independent reference, and over long packet files and histories, also with lines that only csv reads and with faults.
 
     python3 tools/gate/threads.py PROGRAM SEED COUNT
 
-COUNT is that of the random cases of tools/reference/program_cases.py. The report, the history, the fault and the status are
-compared.
+COUNT is that of the random cases of tools/reference/program_cases.py. The report, the history, the verdict, the fault and the status
+are compared.
 """
 
 from __future__ import annotations
@@ -36,6 +36,13 @@ ROWS = 75_000  # 5 MB: some steps for two threads, and some threads without the 
 
 class Packets(NamedTuple):
     """A packet file, and what is unlike plain rows in it."""
+
+    name: str
+    text: str
+
+
+class History(NamedTuple):
+    """A history, and what is unlike the history that a program wrote in it."""
 
     name: str
     text: str
@@ -98,6 +105,78 @@ def try_long(tally: Tally, program: str, seed: str) -> None:
                     tally.note(" ".join([packets.name, *words, *option]), *wrong)
 
 
+def replayed(program: str, random: Random) -> str:
+    """The history of a replay. Its deliveries are one list at its end."""
+    with TemporaryDirectory() as folder:
+        place = Path(folder)
+        (place / "config").write_text(CONFIG)
+        (place / "packets").write_text(with_others(rows(random), "", []))
+        words = [program, "replay", "config", "packets", "--history", "history"]
+        subprocess.run(words, cwd=place, stdout=subprocess.DEVNULL, check=True)
+        return (place / "history").read_text()
+
+
+def session(program: str, history: str) -> str:
+    """The transcript of a live session with the calls of a history, and with Collects, Shows and remarks between them."""
+    asked = []
+    for i, call in enumerate(line for line in history.split("\n") if line.startswith("c,")):
+        asked.append(call)
+        asked += [f"c,0,collect,{20_000 * i}"] if i % 50 == 0 else []
+        asked += ["c,0,show", "next"] if i % 5_000 == 0 else []
+    done = subprocess.run([program, "live"], input="\n".join(asked) + "\n", stdout=subprocess.PIPE, text=True, check=True)
+    return done.stdout
+
+
+def with_line(text: str, place: float, line: str) -> str:
+    """The text with a line before the line at this share of it."""
+    at = text.index("\n", int(len(text) * place)) + 1
+    return text[:at] + line + text[at:]
+
+
+def with_other_reply(text: str, place: float) -> str:
+    """The text with another number in the first reply to a packet behind this share of it."""
+    at = text.index("r,queued,", int(len(text) * place)) + len("r,queued,")
+    return text[:at] + "1" + text[at:]
+
+
+def long_histories(program: str, random: Random) -> Iterator[History]:
+    history = replayed(program, random)
+    for name, text in (("a replay's history", history), ("a session's transcript", session(program, history))):
+        late = random.uniform(0.4, 0.6)
+        early = random.uniform(0.1, 0.3)
+        quoted = text.index(",pipe,", int(len(text) * late))
+        yield History(name, text)
+        yield History(f"{name}, no line feed at the end", text[:-1])
+        yield History(f"{name} that is cut", text[:int(len(text) * late)])
+        yield History(f"{name}, a byte order mark", "\ufeff" + text)
+        yield History(f"{name}, carriage returns", text.replace("\n", "\r\n"))
+        yield History(f"{name}, quotes in a call", text[:quoted] + ',"pipe",' + text[quoted + 6:])
+        yield History(f"{name}, another reply", with_other_reply(text, late))
+        yield History(f"{name}, two other replies", with_other_reply(with_other_reply(text, late), early))
+        yield History(f"{name}, a bad record", with_line(text, late, "c,0,send\n"))
+        yield History(f"{name}, another reply and a bad record", with_line(with_other_reply(text, early), late, "bad\n"))
+        yield History(f"{name}, an empty line", with_line(text, late, "\n"))
+        yield History(f"{name}, a remark", with_line(text, late, "# a remark\n"))
+        yield History(f"{name}, a count of one more", text.replace("end,", "end,1"))
+
+
+def verdict(program: str, history: Path, option: list[str]) -> tuple[int, bytes, bytes]:
+    """The status of an audit, and what is written."""
+    done = subprocess.run([program, "audit", str(history), *option], capture_output=True)
+    return done.returncode, done.stdout, done.stderr
+
+
+def try_audits(tally: Tally, program: str, seed: str) -> None:
+    for history in long_histories(program, Random(seed)):
+        with TemporaryDirectory() as folder:
+            place = Path(folder, "history")
+            place.write_bytes(history.text.encode())
+            one = verdict(program, place, ["--threads", "1"])
+            for option in [[], *(["--threads", str(n)] for n in THREADS if n > 1)]:
+                many = verdict(program, place, option)
+                tally.note(" ".join([history.name, *option]), *([] if one == many else [f"want {one}, got {many}"]))
+
+
 def by_threads(folder: Path, name: str, n: int) -> str:
     """A case that is another one with an option more, and its name."""
     more = f"{name}-{n}-threads"
@@ -109,10 +188,10 @@ def by_threads(folder: Path, name: str, n: int) -> str:
     return more
 
 
-def is_replay(folder: Path, name: str) -> bool:
-    """Whether a case replays two files by one caller, and its words are understood."""
+def takes_threads(folder: Path, name: str) -> bool:
+    """Whether a case replays two files by one caller, or audits, and its words are understood."""
     words = (folder / f"{name}.args").read_text().split("\n")
-    return words[0] == "replay" and "--callers" not in words and int((folder / f"{name}.status").read_text()) != USAGE
+    return words[0] in ("replay", "audit") and "--callers" not in words and int((folder / f"{name}.status").read_text()) != USAGE
 
 
 def try_cases(tally: Tally, program: str, seed: str, count: str) -> None:
@@ -120,7 +199,7 @@ def try_cases(tally: Tally, program: str, seed: str, count: str) -> None:
         folder = Path(place, "cases")
         words = [sys.executable, str(TOOLS / "reference" / "program_cases.py"), seed, count, str(folder)]
         subprocess.run(words, check=True, stdout=subprocess.DEVNULL)
-        names = [f.stem for f in sorted(folder.glob("*.args")) if is_replay(folder, f.stem)]
+        names = [f.stem for f in sorted(folder.glob("*.args")) if takes_threads(folder, f.stem)]
         cases = [by_threads(folder, name, n) for name in names for n in THREADS]
         with ThreadPoolExecutor(max_workers=2) as pool:
             for case, faults in zip(cases, pool.map(lambda case: faults_of([program], folder, case), cases)):
@@ -132,6 +211,7 @@ def main(program: str, seed: str, count: str) -> int:
     tally = Tally()
     try_cases(tally, os.path.abspath(program), seed, count)
     try_long(tally, os.path.abspath(program), seed)
+    try_audits(tally, os.path.abspath(program), seed)
     return tally.end()
 
 

@@ -1,4 +1,5 @@
 pub mod AuditSteps
 pub mod FileAuditSteps
 pub mod Found
+pub mod PartSteps
 pub mod SameReplies

@@ -1,6 +1,6 @@
 ghost use Rattle.std.specs.Prelude.{◌≡◌, IfOk, false};
 ghost use Rattle.clap.specs.Words.{rule_of};
-ghost use Rattle.dn_command.specs.Program.{IsForm, audit_form, bare_form, callers_rule, file_rule, history_rule, limited_form, live_form, most_rule, program, replay_form, threads_rule, unlimited_form};
+ghost use Rattle.dn_command.specs.Program.{IsForm, audit_form, bare_form, callers_rule, file_rule, history_rule, limited_audit_form, limited_form, live_form, most_rule, program, replay_form, threads_rule, unlimited_form};
 
 use clap::builder::ValueParser;
 use clap::{Arg, Command};
@@ -43,8 +43,8 @@ fn callers<'a>(alloc: Global) -> Arg<'a>
         .help("Replays by N callers in threads of their own, 1 to 16")
 }
 
-// How many threads read the packets.
-fn threads<'a>(alloc: Global) -> Arg<'a>
+// How many threads read a file.
+fn threads<'a>(alloc: Global, help: &'a str) -> Arg<'a>
     ensures rule { rule_of result ≡ threads_rule }
     ensures local { result.global ≡ false }
 {
@@ -52,7 +52,7 @@ fn threads<'a>(alloc: Global) -> Arg<'a>
         .long("threads")
         .value_name("N")
         .value_parser(ValueParser::unsigned(1, 64))
-        .help("Reads PACKETS by N threads, 1 to 64. The report stays the same. Not with --callers")
+        .help(help)
 }
 
 // Where the history goes.
@@ -117,7 +117,10 @@ fn limited_replay<'a>(alloc: Global) -> Result<Command<'a>, AllocError>
 fn replay<'a>(alloc: Global) -> Result<Command<'a>, AllocError>
     ensures { IfOk result (IsForm replay_form) }
 {
-    limited_replay(alloc)?.arg(threads(alloc))
+    limited_replay(alloc)?.arg(threads(
+        alloc,
+        "Reads PACKETS by N threads, 1 to 64. The report stays the same. Not with --callers",
+    ))
 }
 
 // The same command under the name by which it is called, so that a fault of its own shows its own usage.
@@ -125,9 +128,9 @@ pub(crate) fn called_replay<'a>(alloc: Global) -> Result<Command<'a>, AllocError
     replay(alloc)?.bin_name("dummynet replay")
 }
 
-// The command that audits a history.
-fn audit<'a>(alloc: Global) -> Result<Command<'a>, AllocError>
-    ensures { IfOk result (IsForm audit_form) }
+// The command that audits a history, by one thread.
+fn limited_audit<'a>(alloc: Global) -> Result<Command<'a>, AllocError>
+    ensures { IfOk result (IsForm limited_audit_form) }
 {
     Command::new(alloc, "audit")
         .about("Tells whether a history is lawful, or the first entry that differs")
@@ -142,6 +145,16 @@ fn audit<'a>(alloc: Global) -> Result<Command<'a>, AllocError>
             "most-history",
             "Takes a HISTORY of at most so many bytes, in place of 268435456",
         ))
+}
+
+// The command that audits a history.
+fn audit<'a>(alloc: Global) -> Result<Command<'a>, AllocError>
+    ensures { IfOk result (IsForm audit_form) }
+{
+    limited_audit(alloc)?.arg(threads(
+        alloc,
+        "Reads HISTORY by N threads, 1 to 64. The verdict stays the same",
+    ))
 }
 
 // The command that serves a live session.

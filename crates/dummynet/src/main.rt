@@ -1,41 +1,29 @@
 //! The program: opens what the command line names, replays, audits or serves, and ends with the status of what came of it.
 #![tactic(auto)]
 
+mod audits;
 mod late_file;
 mod replays;
+mod thread_count;
 
-use dn_command::{Audit, Refusal, Request, request_of, words_of};
+use audits::audit;
+use dn_command::{Refusal, Request, request_of, words_of};
 use dn_live::live;
 use dn_records::{FromReader, FromWriter};
-use dn_replay::{HISTORY_LIMIT, HashKey, Outcome, ReplayFault, Source, audit_file_within};
+use dn_replay::{HashKey, Outcome, ReplayFault};
 use replays::{replay_files, replay_input};
+use std::io;
 use std::process::ExitCode;
 use std::random::RandomSource;
 use std::rt::{Env, Files};
 use std::sync::Wait;
 use std::thread::Threads;
-use std::{fs, io};
 
 // The status of a replay that was made.
 const DONE: u8 = 0;
 
 // The status where the system gives no random numbers.
 const UNREAD: u8 = 6;
-
-/// Audits the history in a file, and answers the status of the verdict.
-fn audit<R: Files + Print + AllocGlobal>(
-    rt: &R,
-    key: HashKey,
-    asked: &Audit<'_>,
-) -> Result<u8, ReplayFault> {
-    let Ok(file) = fs::open(rt, asked.history) else {
-        return Err(ReplayFault::Read(Source::History));
-    };
-    let limit = asked.most_history.unwrap_or(HISTORY_LIMIT);
-    let mut history = FromReader::new(file);
-    let mut out = FromWriter::new(io::writer(rt));
-    Ok(audit_file_within(rt.alloc(), key, limit, &mut history, &mut out)?.status())
-}
 
 /// Serves a live session from standard input, and answers its status.
 fn serve<R: Input + Print + AllocGlobal>(rt: &R, key: HashKey) -> Result<u8, ReplayFault> {

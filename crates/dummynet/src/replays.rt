@@ -1,4 +1,5 @@
 use crate::late_file::LateFile;
+use crate::thread_count::usual_threads;
 use dn_command::Replay;
 use dn_records::{FromReader, FromWriter};
 use dn_replay::{
@@ -6,20 +7,13 @@ use dn_replay::{
     replay_callers_with_key, replay_joined_report, replay_report_by_threads, replay_report_within,
     replay_within, write_history,
 };
-use std::fs::OpenFile;
 use std::rt::Files;
 use std::sync::Wait;
-use std::thread::{self, Threads};
+use std::thread::Threads;
 use std::{fs, io};
 
 // No limit is above this one, as the command line says too.
 const MOST: usize = 1 << 40;
-
-// A packet file of at least so many bytes is read by several threads. A shorter one takes some ten milliseconds.
-const LONG: u64 = 4 << 20;
-
-// One thread emulates, and three others are enough to read for it.
-const MOST_THREADS: usize = 4;
 
 /// From standard input to standard output.
 pub fn replay_input<R: Input + Print + AllocGlobal>(
@@ -29,17 +23,6 @@ pub fn replay_input<R: Input + Print + AllocGlobal>(
     let mut input = FromReader::new(rt.reader());
     let mut out = FromWriter::new(io::writer(rt));
     replay_joined_report(rt.alloc(), key, &mut input, &mut out)
-}
-
-/// By how many threads a packet file is read if the command line doesn't say: a long one by the processors, at most four.
-fn usual_threads<R: Threads, F: OpenFile>(rt: &R, packets: &F) -> usize {
-    let length = packets.metadata().map_or(0, |it| it.len());
-    let processors = thread::available_parallelism(rt).map_or(1, |it| it.get());
-    if length < LONG {
-        1
-    } else {
-        processors.min(MOST_THREADS)
-    }
 }
 
 /// From two files to standard output.

@@ -1,6 +1,6 @@
 use Rattle.dn_history.proofs.HistoryFaults.{of_reading_within}
 use Rattle.dn_audit.proofs.FileAuditSteps.{of_reading, of_writing, told, untold}
-use Rattle.dn_audit.proofs.file_audit.audit_file_within.Goals as goal
+use Rattle.dn_audit.proofs.file_audit.audit_by.Goals as goal
 
 -- The line of the verdict was written.
 pub returns-in-Ok-write_text-clause-ok : goal.returns-in-Ok-write_text-clause-ok
