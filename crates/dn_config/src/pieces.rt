@@ -13,7 +13,6 @@ fn push_number(text: &mut String, number: u64) -> Result<(), AllocError>
 }
 
 /// Writes the last `width` digits of a number in a radix.
-#[tactic(auto, unfolding(crate::specs::Text::zero_padded))]
 pub fn push_padded(text: &mut String, radix: u32, width: u32, number: u64) -> Result<(), AllocError>
     requires radix_from { 2 ≤ radix }
     requires radix_to { radix ≤ 36 }

@@ -1,5 +1,5 @@
 -- The bytes of a line: those of its fields, one after the other.
-use Rattle.std.proofs.Common.{◌≡◌, ◌∙◌, ℕ, ◌+◌, ◌<◌, ◌≤◌, ◌==◌, ◌^◌, suc, false, List, [], ◌∷◌, ◌++◌, length, take, drop, get_or, refl, sym, ap, arith}
+use Rattle.std.proofs.Common.{◌≡◌, ◌∙◌, ℕ, ◌+◌, ◌<◌, ◌≤◌, ◌==◌, ◌^◌, suc, Bool, false, cond, List, [], ◌∷◌, ◌++◌, length, take, drop, get_or, refl, sym, ap, subst, arith}
 use Rattle.std.proofs.Common.{append_assoc, length-append, Result, Ok, Err, inl, inr}
 use Rattle.std.specs.Prelude.{OnErr, decimal, ◌/◌, ◌%◌}
 use Rattle.std.specs.List.{list_any}
@@ -8,11 +8,13 @@ use Rattle.std.specs.Io.{StartsWith}
 use Rattle.std.proofs.lemmas.List.{append-nil, map-append, take-append-drop, take-take, take_more}
 use Rattle.std.proofs.lemmas.Bool.{cases_Bool}
 use Rattle.std.proofs.lemmas.Bool.{ne_eqb}
+use Rattle.std.proofs.lemmas.Bool.Decides.{eqb_tells}
 use Rattle.std.proofs.lemmas.List.Folds.{list_any-append}
 use Rattle.std.proofs.lemmas.Str.Parse.{digit_from_value}
 use Rattle.std.proofs.lemmas.Fmt.{decimal_is_IsNumeral_wide}
 use Rattle.std.specs.Str.Parse.{AllDigits}
-use Rattle.csv.specs.Writing.{default_writer, escaped, field_text, fields_text, needs_byte}
+use Rattle.csv.specs.Writing.{default_writer, escaped, field_text, fields_text, is_blank, needs_byte, row_body}
+use Rattle.dn_records.specs.Records.{line_of}
 use Rattle.dn_records.specs.Writing.{address_text, bytes_of, record_of, with_point}
 use Rattle.dn_records.specs.declared.field.Field.{Field}
 
@@ -94,6 +96,51 @@ pub starts-shorter : (xs front back : List ℕ) → StartsWith xs (front ++ back
 starts-shorter xs front back h =
     let shorter : length front ≤ length (front ++ back) = omega (arith, length-append front back) in
     sym (take-take (length front) (length (front ++ back)) xs shorter) ∙ ap (take (length front)) h ∙ take-append_seam front back
+
+-- a text that is a front and more starts with the front
+pub starts-with : (xs front back : List ℕ) → xs ≡ front ++ back → StartsWith xs front
+starts-with xs front back is = ap (take (length front)) is ∙ take-append_seam front back
+
+-- what starts with a text that starts with another starts with that
+pub starts-through : (xs middle front : List ℕ) → StartsWith xs middle → StartsWith middle front → StartsWith xs front
+starts-through xs middle front h is =
+    let e = take-append-drop (length front) middle in
+    let parts : middle ≡ front ++ drop (length front) middle = sym e ∙ ap (λ (t : List ℕ). t ++ drop (length front) middle) is in
+    starts-shorter xs front (drop (length front) middle) (subst (StartsWith xs) parts h)
+
+-- a record is blank where its fields have no byte
+blank-is : (fields : List (List ℕ)) → is_blank default_writer fields ≡ (length (row_body default_writer fields) == 0)
+unfolding is_blank fields_text
+blank-is [] = refl
+blank-is (f ∷ []) = ap (λ (t : List ℕ). length t == 0) (sym (append-nil (field_text default_writer f)))
+blank-is (f ∷ g ∷ rest) =
+    let more = length-append (field_text default_writer f) (44 ∷ (field_text default_writer g ++ fields_text default_writer rest)) in
+    sym (ne_eqb (length (field_text default_writer f ++ 44 ∷ (field_text default_writer g ++ fields_text default_writer rest))) 0 (λ e. omega arith))
+
+same-length : (old body : List ℕ) → (length (old ++ body) == length old) ≡ (length body == 0)
+same-length old body =
+    let long = length-append old body in elim (eqb_tells (length (old ++ body)) (length old)) [
+      | inl more ↦ elim (eqb_tells (length body) 0) [
+        | inl none ↦ more.0 ∙ sym none.0
+        | inr some ↦ absurd (some.1 (omega (arith, long, more.1)))
+      ]
+      | inr more ↦ elim (eqb_tells (length body) 0) [
+        | inl none ↦ absurd (more.1 (omega (arith, long, none.1)))
+        | inr some ↦ more.0 ∙ sym some.0
+      ]
+    ]
+
+-- what ends a line
+abbrev pub line_end : Bool → List ℕ
+line_end blank = cond blank (34 ∷ 34 ∷ []) [] ++ 10 ∷ []
+
+-- the fields and what ends the line are the line
+pub line-is : (old text : List ℕ) (fields : List (List ℕ)) (n m : ℕ) → n ≡ length text → m ≡ length old → text ≡ old ++ row_body default_writer fields
+    → text ++ line_end (n == m) ≡ old ++ line_of fields
+line-is old text fields n m long short is =
+    let blank : (n == m) ≡ is_blank default_writer fields =
+    (λ i. long i == short i) ∙ ap (λ (t : List ℕ). length t == length old) is ∙ same-length old (row_body default_writer fields) ∙ sym (blank-is fields) in
+    (λ i. is i ++ line_end (blank i)) ∙ append_assoc old (row_body default_writer fields) (line_end (is_blank default_writer fields))
 
 -- a digit calls for no quotes
 digit-plain : (b : ℕ) → 48 ≤ b → b ≤ 57 → needs_byte default_writer b ≡ false

@@ -1,7 +1,7 @@
-ghost use Rattle.std.specs.Prelude.{◌≡◌, ◌≤◌, ◌<◌, ◌+◌, [], ◌∷◌, ◌++◌, length, OnOk, OnErr};
+ghost use Rattle.std.specs.Prelude.{◌≡◌, ◌≤◌, ◌<◌, ◌+◌, ℕ, [], ◌∷◌, ◌++◌, cond, length, OnOk, OnErr};
 ghost use Rattle.std.specs.Vec.{vec_capacity};
 ghost use Rattle.std.specs.Io.{StartsWith};
-ghost use Rattle.csv.specs.Writing.{default_writer, escaped, field_text, fields_text, needs_quotes, quoted};
+ghost use Rattle.csv.specs.Writing.{default_writer, escaped, field_text, fields_text, needs_quotes, quoted, row_body};
 ghost use Rattle.dn_records.specs.Records.{line_of};
 ghost use Rattle.dn_records.specs.Writing.{bytes_of, record_of};
 
@@ -98,8 +98,40 @@ fn append_rest(text: &mut Vec<u8>, fields: &[Field]) -> Result<(), AllocError>
     Ok(())
 }
 
+// Appends the fields of a record, with commas between them.
+fn append_fields(text: &mut Vec<u8>, fields: &[Field]) -> Result<(), AllocError>
+    ensures ok { OnOk result (text.new.items
+        ≡ text.old.items ++ row_body default_writer (record_of fields.now)) }
+    ensures full { OnErr result (vec_capacity text.old
+        < length text.old.items + length (row_body default_writer (record_of fields.now))) }
+    ensures starts { StartsWith text.new.items text.old.items }
+    ensures capacity { vec_capacity text.old ≤ vec_capacity text.new }
+{
+    let Some((first, rest)) = fields.split_first() else {
+        return Ok(());
+    };
+    append_field(text, first)?;
+    append_rest(text, rest)
+}
+
+// Ends a line. A line without a byte would be no record, so two quotes stand in it.
+fn end_line(text: &mut Vec<u8>, is_blank: bool) -> Result<(), AllocError>
+    ensures ok { OnOk result
+        (text.new.items ≡ text.old.items ++ (cond is_blank (34 ∷ 34 ∷ []) [] ++ 10 ∷ [])) }
+    ensures full { OnErr result (vec_capacity text.old
+        < length text.old.items + length {A = ℕ} (cond is_blank (34 ∷ 34 ∷ []) [] ++ 10 ∷ [])) }
+    ensures starts { StartsWith text.new.items text.old.items }
+    ensures capacity { vec_capacity text.old ≤ vec_capacity text.new }
+{
+    if is_blank {
+        text.extend_from_slice(b"\"\"\n")
+    } else {
+        text.push(b'\n')?;
+        Ok(())
+    }
+}
+
 // Appends the line of a record. After a refusal a part of the line may stand at the end of the text.
-#[tactic(auto, unfolding(csv::specs::Writing::is_blank, csv::specs::Writing::fields_text))]
 pub(crate) fn append_record(text: &mut Vec<u8>, fields: &[Field]) -> Result<(), AllocError>
     ensures ok { OnOk result
         (text.new.items ≡ text.old.items ++ line_of (record_of fields.now)) }
@@ -109,14 +141,7 @@ pub(crate) fn append_record(text: &mut Vec<u8>, fields: &[Field]) -> Result<(), 
     ensures capacity { vec_capacity text.old ≤ vec_capacity text.new }
 {
     let start = text.len();
-    if let Some((first, rest)) = fields.split_first() {
-        append_field(text, first)?;
-        append_rest(text, rest)?;
-    }
-    // A line without a byte would be no record.
-    if text.len() == start {
-        text.extend_from_slice(b"\"\"")?;
-    }
-    text.push(b'\n')?;
-    Ok(())
+    append_fields(text, fields)?;
+    let is_blank = text.len() == start;
+    end_line(text, is_blank)
 }

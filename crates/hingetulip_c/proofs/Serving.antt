@@ -46,17 +46,6 @@ pub not_taken : (status holder : ℕ) (b a : Ledger) (xs ys : List Ledger) → x
     → NotTaken status holder xs ys
 not_taken status holder = of_both (NotTaken status holder)
 
--- One handle more holds its caller.
-pub held_more : (handles : List CallerHandle) (callers : List CallerView) (place : ℕ) (h : CallerHandle) (c d : CallerView)
-    → place < length handles → place < length callers → all_held (take place handles) ≡ map held_new (take place callers)
-    → h.held ≡ held_new c → get_or callers place d ≡ c → all_held (take (place + 1) (set handles place h)) ≡ map held_new (take (place + 1) callers)
-held_more handles callers place h c d room there so_far holds is =
-    ap all_held (take_more_set handles place h room)
-    ∙ map-append (λ (x : CallerHandle). x.held) (take place handles) (h ∷ [])
-    ∙ (λ i. so_far i ++ holds i ∷ [])
-    ∙ sym (map-append held_new (take place callers) (c ∷ []))
-    ∙ ap (map held_new) (sym (take_more callers place d there ∙ ap (λ (x : CallerView). take place callers ++ x ∷ []) is))
-
 -- One handle more is closed.
 pub closed_more : (handles : List CallerHandle) (place : ℕ) (h : CallerHandle) → place < length handles
     → all_held (take place handles) ≡ replicate place [] → h.held ≡ [] → all_held (take (place + 1) (set handles place h)) ≡ replicate (place + 1) []

@@ -1,11 +1,13 @@
-ghost use Rattle.std.specs.Prelude.{◌≡◌};
-ghost use Rattle.hingetulip_c.specs.Handles.{IsClosedBy, Opens};
+ghost use Rattle.std.specs.Prelude.{◌≡◌, ◌<◌, ◌≤◌, ◌⊎◌, [], cond, nat_eq, IfNone, IfOk, IfSome};
+ghost use Rattle.dn_types.specs.declared.rule.Rule.TheVariants.{Ordered, Free};
+ghost use Rattle.dn_shaper.specs.Shaper.{StandsAfter};
+ghost use Rattle.hingetulip_c.specs.Handles.{HeldAfter, IsClosedBy, Opens};
 
 use crate::handle::Handle;
 use crate::status::{BAD_RULE, CLOSED, MEMORY, OK};
 use dn_shaper::{HashKey, Shaper};
 use dn_types::Rule;
-use std::alloc::Global;
+use std::alloc::{AllocError, Global};
 
 const VERSION: u32 = 1_005_000;
 
@@ -17,22 +19,49 @@ pub extern "C" fn dn_version() -> u32
     VERSION
 }
 
-/// Opens a handle by the key of its flows' hash. What it held is let go.
-fn open(alloc: Global, handle: &mut Handle, rule: u32, key: HashKey) -> u32
-    ensures { Opens rule result handle.old.held handle.new.held }
+/// The rule of a number, and None where no rule has it.
+fn rule_of(number: u32) -> Option<Rule>
+    ensures rule { IfSome result (λ rule. rule ≡ cond (nat_eq number 0) Ordered Free) }
+    ensures known { IfSome result (λ rule. number ≤ 1) }
+    ensures none { IfNone result (1 < number) }
 {
-    let rule = match rule {
-        0 => Rule::Ordered,
-        1 => Rule::Free,
-        _ => return BAD_RULE,
-    };
+    match number {
+        0 => Some(Rule::Ordered),
+        1 => Some(Rule::Free),
+        _ => None,
+    }
+}
+
+/// A new shaper in a box.
+fn new_shaper(alloc: Global, rule: Rule, key: HashKey) -> Result<Box<Shaper>, AllocError>
+    ensures { IfOk result (λ shaper. StandsAfter rule shaper.value []) }
+{
+    Ok(Box::new(alloc, Shaper::with_key(alloc, rule, key))?)
+}
+
+/// Opens a handle by a rule and the key of its flows' hash. What it held is let go.
+fn open_by(alloc: Global, handle: &mut Handle, rule: Rule, key: HashKey) -> u32
+    ensures opened { result ≡ 0 → HeldAfter rule handle.new.held [] }
+    ensures memory { result ≡ 6 → handle.new.held ≡ [] }
+    ensures statuses { (result ≡ 0) ⊎ (result ≡ 6) }
+{
     let _old = handle.take(alloc);
-    match Box::new(alloc, Shaper::with_key(alloc, rule, key)) {
+    match new_shaper(alloc, rule, key) {
         Ok(shaper) => {
             let _none = handle.put(alloc, shaper);
             OK
         }
         Err(_) => MEMORY,
+    }
+}
+
+/// Opens a handle by the number of a rule and the key of its flows' hash. What it held is let go.
+fn open(alloc: Global, handle: &mut Handle, rule: u32, key: HashKey) -> u32
+    ensures { Opens rule result handle.old.held handle.new.held }
+{
+    match rule_of(rule) {
+        Some(rule) => open_by(alloc, handle, rule, key),
+        None => BAD_RULE,
     }
 }
 

@@ -7,7 +7,6 @@ use dn_service::Caller;
 use std::alloc::{AllocError, Global};
 
 /// Opens each handle with the caller of its place. What they held is let go.
-#[tactic(auto, using(crate::proofs::Serving::held_more))]
 pub(crate) fn hand_out(
     alloc: Global,
     mut callers: Vec<Caller>,
