@@ -1,5 +1,6 @@
 -- The flow is known and has room, or it is new and has a home. Where memory is refused only room was made.
 use Rattle.std.proofs.Common.{◌∙◌, ◌≤◌, ◌<◌, List, [], ap, length, sym, subst, arith}
+use Rattle.std.proofs.lemmas.Grind.{common_steps}
 use Rattle.std.specs.Prelude.{slice_get}
 use Rattle.dn_types.specs.Flows.{flow_number}
 use Rattle.dn_flows.specs.Table.{Table}
@@ -105,3 +106,23 @@ house_last-requires-clause-noted c place there =
     ap (λ (vs : List LinkView). slice_get (link_names vs) place)
     (all-seen-same old.links.items (queue_lengths old.flows.flows) (queue_lengths c.find_or_make.new.self.flows) (lengths-more c.args.key old.flows c.find_or_make.new.self one))
     ∙ (noted-found c.args.state.now (link_names (views_of old)) c.requires.sound.indexed c.args.key.target c.in_ok-flow.flow c.args.key.pipe place there).0
+
+-- ---- What the counts of keys and flows give
+
+pub reserve_known-requires-clause-within : goal.reserve_known-requires-clause-within
+reserve_known-requires-clause-within c = grind (arith, common_steps)
+
+pub house_last-requires-clause-last : goal.house_last-requires-clause-last
+house_last-requires-clause-last c = grind (arith, common_steps)
+
+pub house_last-requires-clause-unused : goal.house_last-requires-clause-unused
+house_last-requires-clause-unused c = grind (arith, common_steps)
+
+pub returns-in_err-house_last-clause-err : goal.returns-in_err-house_last-clause-err
+returns-in_err-house_last-clause-err c = grind (arith, common_steps)
+
+pub returns-in_ok-reserve_known-clause-within : goal.returns-in_ok-reserve_known-clause-within
+returns-in_ok-reserve_known-clause-within c = grind (arith, common_steps)
+
+pub returns-in_ok-house_last-clause-within : goal.returns-in_ok-house_last-clause-within
+returns-in_ok-house_last-clause-within c = grind (arith, common_steps)

@@ -1,5 +1,6 @@
 -- The place was made before, and the command is all that is written.
 use Rattle.std.proofs.Common.{◌<◌, ap, arith, length}
+use Rattle.std.proofs.lemmas.Grind.{common_steps}
 use Rattle.std.specs.Prelude.{Some}
 use Rattle.std.specs.Box.{with_value}
 use Rattle.std.proofs.lemmas.List.{length-map}
@@ -21,3 +22,20 @@ returns-clause-puts c =
     let long = length-map places command-in in let seen = ap length c.self.view_is in let place = c.in_ok-extend.ensures.place in let is = c.get.ensures.value in omega arith in
     puts-in places c.extend.new.self c.args.self.now c.get.result c.args.number (Some c.in_ok-new.field-0) (Some c.args.command.now) c.self.view_is c.get.ensures.value
     within (ap Some c.in_ok-new.ensures.ok) c.in_ok-extend.ensures.same
+
+-- What stood in the place is what the number had.
+
+pub index_mut-place-requires : goal.index_mut-place-requires
+index_mut-place-requires c = grind (arith, common_steps)
+
+pub returns-in-Some-clause-replaced : goal.returns-in-Some-clause-replaced
+returns-in-Some-clause-replaced c = grind (arith, common_steps)
+
+pub returns-in_err-new-clause-err : goal.returns-in_err-new-clause-err
+returns-in_err-new-clause-err c = grind (arith, common_steps)
+
+pub returns-in_err-new-clause-only_new : goal.returns-in_err-new-clause-only_new
+returns-in_err-new-clause-only_new c = grind (arith, common_steps)
+
+pub returns-clause-replaced : goal.returns-clause-replaced
+returns-clause-replaced c = grind (arith, common_steps)
