@@ -175,10 +175,11 @@ impl PacketReader {
     ///
     /// False says that a row before the chunk is still left, or that the rows are too many, and nothing has changed.
     pub fn pass_over(&mut self, rows: usize) -> bool
-        ensures { MatchBool result
+        ensures passed { MatchBool result
             ((text chunk : List ℕ) (taken new : List Row) → HasRead self.old text taken → HasRows chunk new → length new ≡ rows
             → HasRead self.new (text ++ chunk) (taken ++ new))
             (self.new ≡ self.old) }
+        ensures takes { IsBehindRow self.old → self.old.number + rows ≤ 2 ^ 62 → IsTrue result }
     {
         let count = rows as u64;
         if count > MOST - self.number {
