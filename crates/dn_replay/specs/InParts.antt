@@ -1,14 +1,16 @@
 -- A replay whose input comes in parts: which text has come, and what it asks for.
-use Rattle.std.specs.Prelude.{◌≡◌, ◌≤◌, ◌^◌, length, ℕ, Bool, List, Option, None, Some, Result}
+use Rattle.std.specs.Prelude.{◌≡◌, ◌<◌, ◌≤◌, ◌+◌, ◌^◌, length, ℕ, Bool, List, Option, None, Some, Result}
 use Rattle.dn_types.specs.declared.call.Call.{Call}
 use Rattle.dn_files.specs.Reading.{◌>>=◌, IsTextOf, within_limit}
 use Rattle.dn_files.specs.declared.replay_fault.ReplayFault.{ReplayFault}
+use Rattle.dn_files.specs.declared.replay_fault.ReplayFault.TheVariants.{OutOfMemory, TooLong}
 use Rattle.dn_files.specs.declared.source.Source.{Source}
 use Rattle.dn_files.specs.declared.source.Source.TheVariants.{Input, Packets}
 use Rattle.dn_replay.specs.OnePass.{HasTaken}
 use Rattle.dn_replay.specs.Replays.{calls_of_joined_within, calls_within}
 use Rattle.dn_replay.specs.declared.replays.pass.Pass.{Pass}
 use Rattle.dn_replay.specs.declared.replays.stage.Stage.{Stage}
+use Rattle.dn_replay.specs.declared.replays.stage.Stage.TheVariants.{Refused}
 
 -- A limit is so small that all calls of a text within it count.
 abbrev pub IsLimit : ℕ → Type 0
@@ -53,6 +55,16 @@ pub record HasCome (records : Bool) (replay : Coming) (config : Option (List ℕ
 -- Some text has come.
 abbrev pub CanGoOn : Coming → Type 0
 CanGoOn replay = (records : Bool) × (config : Option (List ℕ)) × (text : List ℕ) × HasCome records replay config text
+
+-- Memory was refused for a part, so that the replay ends with OutOfMemory, whatever comes.
+abbrev pub LacksMemory : Coming → Type 0
+LacksMemory replay = replay.stage ≡ Refused OutOfMemory
+
+-- Why a part isn't taken, and how that leaves the replay. With a text that is too long the replay is as before, and else it lacks memory.
+abbrev pub IsUnfed : Coming → Coming → List ℕ → ReplayFault → Type 0
+IsUnfed old new part (TooLong what) = (what ≡ old.source) × (old.limit < old.length + length part) × (new ≡ old)
+IsUnfed old new part OutOfMemory = (old.length + length part ≤ old.limit) × LacksMemory new
+IsUnfed old new part _ = ⊥
 
 -- What an input may have held asks for these calls, or has this fault.
 abbrev pub IsAskedBehind : ℕ → Option (List ℕ) → Option (List ℕ) → Result (List Call) ReplayFault → Type 0

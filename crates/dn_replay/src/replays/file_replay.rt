@@ -1,7 +1,9 @@
-ghost use Rattle.std.specs.Prelude.{◌≡◌, ◌≤◌, ◌+◌, ◌-◌, ◌++◌, length, ℕ, Bool, List, [], Option, None, Some, Ok, OnOk, IfOk, IfErr, false};
+ghost use Rattle.std.specs.Prelude.{◌≡◌, ◌≤◌, ◌+◌, ◌-◌, ◌++◌, length, ℕ, Bool, List, [], Option, None, Some, Ok, Err, OnOk, IfOk, IfErr, false};
 ghost use Rattle.dn_types.specs.declared.call.Call.{Call as CallValue};
 ghost use Rattle.dn_files.specs.Reading.{IsFaultOf, IsRefusal, IsTextOf};
-ghost use Rattle.dn_replay.specs.InParts.{AskedOf, calls_asked, HasCome, IsLimit, source_of};
+ghost use Rattle.dn_files.specs.Writing.{NothingWritten};
+ghost use Rattle.dn_files.specs.declared.replay_fault.ReplayFault.TheVariants.{OutOfMemory};
+ghost use Rattle.dn_replay.specs.InParts.{AskedOf, calls_asked, HasCome, IsLimit, IsUnfed, LacksMemory, source_of};
 ghost use Rattle.dn_replay.specs.OnePass.{IsAnswered, NoneFailed};
 ghost use Rattle.dn_replay.specs.Replays.{config_calls, IsUnreplayed};
 
@@ -117,8 +119,8 @@ impl FileReplay {
 
     /// Takes the next part, of at most as many bytes in all as its limit says.
     ///
-    /// TooLong says that there are more, and nothing of the part was taken. OutOfMemory says that a growth was refused;
-    /// after it `finish` returns it too.
+    /// TooLong comes exactly if there are more, and the replay is as before. OutOfMemory says that a growth was refused. After
+    /// it the replay lacks memory for good: it takes no more of its text, and `finish` returns OutOfMemory too.
     pub fn feed(&mut self, part: &[u8]) -> Result<(), ReplayFault>
         ensures ok { OnOk result ((records : Bool) (config : Option (List ℕ)) (text : List ℕ)
             → HasCome records self.old config text → HasCome records self.new config (text ++ part.now)) }
@@ -126,6 +128,8 @@ impl FileReplay {
         ensures room { OnOk result (length part.now + (self.new.limit - self.new.length) ≤ self.old.limit - self.old.length) }
         ensures err { IfErr result (λ fault. (records : Bool) (config : Option (List ℕ)) (text more : List ℕ)
             → HasCome records self.old config text → IsFaultOf (calls_asked self.old.limit config (text ++ (part.now ++ more))) fault) }
+        ensures faults { IfErr result (λ fault. IsUnfed self.old self.new part.now fault) }
+        ensures lacks { LacksMemory self.old → LacksMemory self.new }
     {
         self.feed_by(&OneThread, part)
     }
@@ -138,6 +142,8 @@ impl FileReplay {
         ensures room { OnOk result (length part.now + (self.new.limit - self.new.length) ≤ self.old.limit - self.old.length) }
         ensures err { IfErr result (λ fault. (records : Bool) (config : Option (List ℕ)) (text more : List ℕ)
             → HasCome records self.old config text → IsFaultOf (calls_asked self.old.limit config (text ++ (part.now ++ more))) fault) }
+        ensures faults { IfErr result (λ fault. IsUnfed self.old self.new part.now fault) }
+        ensures lacks { LacksMemory self.old → LacksMemory self.new }
     {
         if part.len() > self.limit - self.length {
             return Err(ReplayFault::TooLong(self.source));
@@ -180,6 +186,8 @@ impl FileReplay {
         ensures sound { IfOk result (λ _. O.has_failed out.new ≡ false) }
         ensures err { IfErr result (λ fault. (records : Bool) (config : Option (List ℕ)) (text : List ℕ) → HasCome records self config text
             → IsUnreplayed NoneFailed (λ asked. calls_asked self.limit config text ≡ asked) (O.contents out.old) (O.contents out.new) (O.has_failed out.new) fault) }
+        ensures lacks { LacksMemory self
+            → (result ≡ Err OutOfMemory) × NothingWritten (O.contents out.old) (O.contents out.new) (O.has_failed out.new) }
     {
         self.finish_by(&OneThread, out)
     }
@@ -197,6 +205,8 @@ impl FileReplay {
         ensures sound { IfOk result (λ _. O.has_failed out.new ≡ false) }
         ensures err { IfErr result (λ fault. (records : Bool) (config : Option (List ℕ)) (text : List ℕ) → HasCome records self config text
             → IsUnreplayed NoneFailed (λ asked. calls_asked self.limit config text ≡ asked) (O.contents out.old) (O.contents out.new) (O.has_failed out.new) fault) }
+        ensures lacks { LacksMemory self
+            → (result ≡ Err OutOfMemory) × NothingWritten (O.contents out.old) (O.contents out.new) (O.has_failed out.new) }
     {
         let mut pass = self.pass;
         let answer = self.stage.finish(self.alloc, &mut pass, by, out);

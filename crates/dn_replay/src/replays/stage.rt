@@ -1,9 +1,11 @@
-ghost use Rattle.std.specs.Prelude.{◌≡◌, ◌++◌, ℕ, Bool, List, [], Result, OnOk, IfOk, IfErr, false};
+ghost use Rattle.std.specs.Prelude.{◌≡◌, ◌++◌, ℕ, Bool, List, [], Result, Err, OnOk, IfOk, IfErr, false};
 ghost use Rattle.dn_types.specs.declared.call.Call.{Call as CallValue};
 ghost use Rattle.dn_files.specs.Reading.{IsFaultOf};
+ghost use Rattle.dn_files.specs.Writing.{NothingWritten};
 ghost use Rattle.dn_files.specs.declared.replay_fault.ReplayFault.{ReplayFault as FaultValue};
 ghost use Rattle.dn_replay.specs.OnePass.{AreFew, CanTake, HasTaken, HasTakenAll, IsAnswered, IsCutAt, IsFresh, NoneFailed};
 ghost use Rattle.dn_replay.specs.Replays.{IsUnreplayed};
+ghost use Rattle.dn_replay.specs.declared.replays.stage.Stage.TheVariants.{Refused as RefusedValue};
 
 use crate::config::config_part::ConfigPart;
 use crate::replays::pass::Pass;
@@ -58,8 +60,9 @@ impl Stage {
         part: &[u8],
     ) -> Result<Stage, AllocError>
         requires { CanTake self pass.old }
-        ensures { IfOk result (λ stage. (records : Bool) (asked : List ℕ → Result (List CallValue) FaultValue) (text : List ℕ)
+        ensures taken { IfOk result (λ stage. (records : Bool) (asked : List ℕ → Result (List CallValue) FaultValue) (text : List ℕ)
             → HasTaken self records pass.old asked text → HasTaken stage records pass.new asked (text ++ part.now)) }
+        ensures refused { IfOk result (λ stage. (fault : FaultValue) → self ≡ RefusedValue fault → stage ≡ self) }
     {
         match self {
             Stage::Config(mut config) => match config.feed(part)? {
@@ -81,6 +84,7 @@ impl Stage {
             → HasTaken self records pass.old asked text → HasTakenAll records pass.new asked text) }
         ensures err { IfErr result (λ fault. (records : Bool) (asked : List ℕ → Result (List CallValue) FaultValue) (text : List ℕ)
             → HasTaken self records pass.old asked text → IsFaultOf (asked text) fault) }
+        ensures refused { (fault : FaultValue) → self ≡ RefusedValue fault → result ≡ Err fault }
     {
         match self {
             Stage::Config(mut config) => {
@@ -115,6 +119,8 @@ impl Stage {
         ensures err { IfErr result (λ fault. (records : Bool) (asked : List ℕ → Result (List CallValue) FaultValue) (text : List ℕ)
             → HasTaken self records pass.old asked text → AreFew (asked text)
             → IsUnreplayed NoneFailed (λ r. asked text ≡ r) (O.contents out.old) (O.contents out.new) (O.has_failed out.new) fault) }
+        ensures refused { (fault : FaultValue) → self ≡ RefusedValue fault
+            → (result ≡ Err fault) × NothingWritten (O.contents out.old) (O.contents out.new) (O.has_failed out.new) }
     {
         self.end(pass)?;
         pass.finish(alloc, by, out)
