@@ -1,5 +1,5 @@
 -- The callers of one service, in the order of their numbers, and the calls that each has made.
-use Rattle.std.specs.Prelude.{◌≡◌, ⊤, ℕ, zero, suc, ◌+◌, ◌%◌, ◌==◌, cond, List, [], ◌∷◌}
+use Rattle.std.specs.Prelude.{◌≡◌, ⊤, ℕ, zero, suc, ◌+◌, ◌%◌, ◌==◌, cond, List, [], ◌∷◌, length}
 use Rattle.dn_types.specs.History.{calls_of}
 use Rattle.dn_types.specs.declared.call.Call.{Call}
 use Rattle.dn_service.specs.Callers.{CallerView, IsSameCaller, ServiceView}
@@ -41,3 +41,9 @@ AllSubmitted n rows (before ∷ befores) (after ∷ afters) = HasSubmitted n row
 abbrev pub AreCallersOf : ServiceView → (ℕ → List Call) → ℕ → List CallerView → Type 0
 AreCallersOf service made k [] = ⊤
 AreCallersOf service made k (c ∷ callers) = (c.service ≡ service) × (c.number ≡ k) × (calls_by c ≡ made k) × AreCallersOf service made (k + 1) callers
+
+-- The callers of whatever service, which had made no call, have made the calls of a replay, and they are as many.
+abbrev pub Replay : ℕ → List Call → List Row → List CallerView → List CallerView → Type 0
+Replay n calls rows old new = (service : ServiceView) → AreCallersOf service (λ _. []) 0 old →
+    (length new ≡ length old)
+    × AreCallersOf service (calls_given n calls rows) 0 new

@@ -1,8 +1,10 @@
 pub mod CallerReplays
 pub mod Callers
 pub mod Configuring
+pub mod Feeding
 pub mod InParts
 pub mod Kept
+pub mod KeptReports
 pub mod OnePass
 pub mod Parts
 pub mod Passing

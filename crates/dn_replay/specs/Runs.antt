@@ -4,6 +4,7 @@ use Rattle.dn_types.specs.Replies.{reply}
 use Rattle.dn_types.specs.declared.call.Call.{Call}
 use Rattle.dn_types.specs.declared.call.Call.TheVariants.{Submit, Collect}
 use Rattle.dn_types.specs.declared.entry.Entry.{Entry}
+use Rattle.dn_types.specs.declared.reply.Reply.{Reply}
 use Rattle.dn_types.specs.declared.rule.Rule.TheVariants.{Ordered}
 use Rattle.dn_shaper.specs.Shaper.{StandsAfter}
 use Rattle.dn_files.specs.declared.row.Row.{Row}
@@ -21,6 +22,11 @@ history_of (c ∷ calls) = history_of calls ++ entry_after calls c ∷ []
 -- A run has made these calls: its shaper stands after them, and its history is theirs.
 abbrev pub HasMade : Run → List Call → Type 0
 HasMade run calls = StandsAfter Ordered run.shaper calls × (run.history.items ≡ history_of calls)
+
+-- A call more and its reply were added to whatever history a run has, whose shaper has answered it.
+abbrev pub AddsEntry : Call → Reply → Run → Run → Type 0
+AddsEntry call answer old new = (calls : List Call) → StandsAfter Ordered old.shaper (call ∷ calls) →
+    old.history.items ≡ history_of calls → answer ≡ reply Ordered calls call → HasMade new (call ∷ calls)
 
 -- The Submit of a row.
 abbrev pub submit : Row → Call

@@ -1,9 +1,9 @@
 //! The callers of a replay and their calls.
-ghost use Rattle.std.specs.Prelude.{◌≡◌, ◌<◌, ◌^◌, [], ◌∷◌, ◌++◌, map, length, vec_len, Ok, IfOk, OnOk};
+ghost use Rattle.std.specs.Prelude.{◌≡◌, ◌<◌, ◌^◌, ◌∷◌, ◌++◌, map, vec_len, Ok, IfOk, OnOk};
 ghost use Rattle.dn_types.specs.History.{calls_of};
 ghost use Rattle.dn_types.specs.declared.call.Call.TheVariants.{Collect};
-ghost use Rattle.dn_service.specs.Callers.{IsSameCaller, ServiceView};
-ghost use Rattle.dn_replay.specs.Callers.{AllSubmitted, calls_by, calls_given, HasSubmitted, AreCallersOf};
+ghost use Rattle.dn_service.specs.Callers.{IsSameCaller};
+ghost use Rattle.dn_replay.specs.Callers.{AllSubmitted, calls_by, HasSubmitted, Replay};
 
 use crate::callers::gate::Gate;
 use crate::config::run::submit;
@@ -100,9 +100,7 @@ pub(crate) fn run_callers<G: Gate + Sync, R: Threads + Wait + Sync>(
     gate: &G,
 ) -> Result<Vec<Caller>, AllocError>
     requires { (0 < n) × (0 < vec_len callers) }
-    ensures { IfOk result (λ after. (service : ServiceView) → AreCallersOf service (λ _. []) 0 callers.items →
-        (length after.items ≡ length callers.items)
-        × AreCallersOf service (calls_given n (calls_of config.now) rows.now) 0 after.items) }
+    ensures { IfOk result (λ after. Replay n (calls_of config.now) rows.now callers.items after.items) }
 {
     repeat(rt, &mut callers[0], config)?;
     let mut callers = submit_all(rt, callers, n, rows, gate)?;

@@ -1,6 +1,7 @@
 ghost use Rattle.std.specs.Prelude.{◌≡◌, ◌∷◌, ◌++◌, ℕ, List, [], true, false, IfOk, OnOk, MatchOption};
 ghost use Rattle.dn_text.specs.Joined.{joined_parts};
 ghost use Rattle.dn_replay.specs.OnePass.{IsConfigSoFar, is_mark};
+ghost use Rattle.dn_replay.specs.Feeding.{IsCutIn, TakesLines};
 
 use std::alloc::{AllocError, Global};
 
@@ -52,10 +53,7 @@ impl ConfigPart {
     ///
     /// Once the line `--` has ended, the lines are the configuration, and what follows in the part is returned.
     pub(crate) fn feed<'a>(&mut self, part: &'a [u8]) -> Result<Option<&'a [u8]>, AllocError>
-        ensures { IfOk result (λ found. MatchOption found
-            ((text : List ℕ) → IsConfigSoFar self.old text → IsConfigSoFar self.new (text ++ part.now))
-            (λ rest. (text : List ℕ) → IsConfigSoFar self.old text
-            → (more : List ℕ) → joined_parts (text ++ (part.now ++ more)) ≡ (self.new.lines.items, rest.now ++ more))) }
+        ensures { IfOk result (λ found. MatchOption found (TakesLines part.now self.old self.new) (λ rest. IsCutIn part.now self.old self.new.lines.items rest.now)) }
     {
         for (i, byte) in part.iter().enumerate() {
             if self.take_byte(*byte)? {

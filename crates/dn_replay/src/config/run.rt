@@ -1,12 +1,9 @@
 ghost use Rattle.std.specs.Prelude.{◌≡◌, List, [], ◌∷◌, Some, Ok, OnOk, IfErr};
-ghost use Rattle.dn_types.specs.Replies.{reply as reply_to};
 ghost use Rattle.dn_types.specs.declared.call.Call.{Call as CallValue};
 ghost use Rattle.dn_types.specs.declared.call.Call.TheVariants.{Configure};
-ghost use Rattle.dn_types.specs.declared.rule.Rule.TheVariants.{Ordered};
-ghost use Rattle.dn_shaper.specs.Shaper.{StandsAfter};
 ghost use Rattle.dn_replay.specs.Configuring.{applied, configured_by, refusal};
 ghost use Rattle.dn_files.specs.Reading.{IsFaultOf};
-ghost use Rattle.dn_replay.specs.Runs.{HasMade, history_of, submit};
+ghost use Rattle.dn_replay.specs.Runs.{HasMade, submit, AddsEntry};
 
 use dn_files::{ReplayFault, Row, command_at};
 use dn_shaper::{HashKey, Shaper};
@@ -68,8 +65,7 @@ impl Run {
 
     /// Adds the entry of a call that the shaper has answered.
     pub(crate) fn add_entry(&mut self, call: Call, reply: Reply) -> Result<(), AllocError>
-        ensures { OnOk result ((calls : List CallValue) → StandsAfter Ordered self.old.shaper (call ∷ calls) →
-            self.old.history.items ≡ history_of calls → reply ≡ reply_to Ordered calls call → HasMade self.new (call ∷ calls)) }
+        ensures { OnOk result (AddsEntry call reply self.old self.new) }
     {
         let entry = Entry {
             caller: 0,

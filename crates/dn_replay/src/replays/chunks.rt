@@ -1,12 +1,8 @@
 //! Parts of the packets' text whose rows are read by many threads.
 
-ghost use Rattle.std.specs.Prelude.{◌≡◌, ◌<◌, ◌≤◌, ◌++◌, ℕ, Bool, List, flat_map, length, IfOk, IfSome, MatchBool, OnOk};
-ghost use Rattle.dn_types.specs.declared.call.Call.{Call as CallValue};
+ghost use Rattle.std.specs.Prelude.{◌≡◌, ◌<◌, ◌≤◌, flat_map, length, IfOk, IfSome, MatchBool, OnOk};
 ghost use Rattle.dn_files.specs.InChunks.{HasRows};
-ghost use Rattle.dn_files.specs.PacketParts.{HasRead};
-ghost use Rattle.dn_files.specs.declared.row.Row.{Row as RowValue};
-ghost use Rattle.dn_replay.specs.OnePass.{HasAnswered, HasFed, HasReady};
-ghost use Rattle.dn_replay.specs.Runs.{submitted};
+ghost use Rattle.dn_replay.specs.Feeding.{FeedsPart, PassesOver, ReadiesPart, Submits, SubmitsReady, TakesStep};
 
 use crate::config::run::Run;
 use crate::replays::pass::{Pass, submit_rows};
@@ -61,8 +57,7 @@ fn submit_lists(
     records: bool,
     lists: &[Vec<Row>],
 ) -> Result<(), AllocError>
-    ensures { OnOk result ((calls : List CallValue) → HasAnswered records run.old kept.old given.old.items calls
-        → HasAnswered records run.new kept.new given.new.items (submitted calls (flat_map (λ l. l.items) lists.now))) }
+    ensures { OnOk result (Submits (flat_map (λ l. l.items) lists.now) records run.old kept.old given.old.items run.new kept.new given.new.items) }
 {
     for list in lists {
         submit_rows(run, kept, given, records, list.as_slice())?;
@@ -72,10 +67,7 @@ fn submit_lists(
 
 /// Goes on behind a chunk that wasn't fed and whose rows these are, or returns false and changes nothing.
 fn pass_over(reader: &mut PacketReader, lists: &[Vec<Row>]) -> bool
-    ensures { MatchBool result
-        ((text chunk : List ℕ) (taken : List RowValue) → HasRead reader.old text taken → HasRows chunk (flat_map (λ l. l.items) lists.now)
-        → HasRead reader.new (text ++ chunk) (taken ++ flat_map (λ l. l.items) lists.now))
-        (reader.new ≡ reader.old) }
+    ensures { MatchBool result (PassesOver (flat_map (λ l. l.items) lists.now) reader.old reader.new) (reader.new ≡ reader.old) }
 {
     match rows_in(lists) {
         Some(count) => reader.pass_over(count),
@@ -106,14 +98,12 @@ fn read_beside<R: Threads>(
     pass: &mut Pass,
 ) -> Result<Option<Vec<Vec<Row>>>, AllocError>
     ensures read { IfOk result (λ found. IfSome found (λ lists. HasRows chunk.now (flat_map (λ l. l.items) lists.items))) }
-    ensures fed { OnOk result ((records : Bool) (calls : List CallValue) (text : List ℕ)
-        → HasReady records pass.old calls text (flat_map (λ l. l.items) ready.now) → HasFed records pass.new calls text) }
+    ensures fed { OnOk result (SubmitsReady pass.old (flat_map (λ l. l.items) ready.now) pass.new) }
 {
     let (submitted, found) = join_mut(
         rt,
         &mut || -> Result<(), AllocError>
-            ensures { OnOk result ((records : Bool) (calls : List CallValue) (text : List ℕ)
-                → HasReady records pass.entry.now calls text (flat_map (λ l. l.items) ready.entry.now) → HasFed records pass.exit.now calls text) }
+            ensures { OnOk result (SubmitsReady pass.entry.now (flat_map (λ l. l.items) ready.entry.now) pass.exit.now) }
         { pass.submit_ready(ready) },
         &mut || -> Result<Option<Vec<Vec<Row>>>, AllocError>
             ensures { IfOk result (λ found. IfSome found (λ lists. HasRows chunk.entry.now (flat_map (λ l. l.items) lists.items))) }
@@ -126,8 +116,7 @@ fn read_beside<R: Threads>(
 impl Pass {
     /// Submits the packet of each row that is ready.
     fn submit_ready(&mut self, ready: &[Vec<Row>]) -> Result<(), AllocError>
-        ensures { OnOk result ((records : Bool) (calls : List CallValue) (text : List ℕ)
-            → HasReady records self.old calls text (flat_map (λ l. l.items) ready.now) → HasFed records self.new calls text) }
+        ensures { OnOk result (SubmitsReady self.old (flat_map (λ l. l.items) ready.now) self.new) }
     {
         submit_lists(
             &mut self.run,
@@ -140,8 +129,7 @@ impl Pass {
 
     /// Takes a chunk by one thread, so that no row is ready.
     fn feed_alone(&mut self, alloc: Global, chunk: &[u8]) -> Result<Vec<Vec<Row>>, AllocError>
-        ensures { IfOk result (λ ready. (records : Bool) (calls : List CallValue) (text : List ℕ)
-            → HasFed records self.old calls text → HasReady records self.new calls (text ++ chunk.now) (flat_map (λ l. l.items) ready.items)) }
+        ensures { IfOk result (λ ready. ReadiesPart chunk.now self.old self.new (flat_map (λ l. l.items) ready.items)) }
     {
         self.feed(chunk)?;
         Ok(Vec::new(alloc))
@@ -155,8 +143,7 @@ impl Pass {
         chunk: &[u8],
     ) -> Result<Vec<Vec<Row>>, AllocError>
         requires { IfSome found (λ lists. HasRows chunk.now (flat_map (λ l. l.items) lists.items)) }
-        ensures { IfOk result (λ ready. (records : Bool) (calls : List CallValue) (text : List ℕ)
-            → HasFed records self.old calls text → HasReady records self.new calls (text ++ chunk.now) (flat_map (λ l. l.items) ready.items)) }
+        ensures { IfOk result (λ ready. ReadiesPart chunk.now self.old self.new (flat_map (λ l. l.items) ready.items)) }
     {
         let Some(lists) = found else {
             return self.feed_alone(alloc, chunk);
@@ -176,9 +163,7 @@ impl Pass {
         ready: Vec<Vec<Row>>,
         step: &[u8],
     ) -> Result<Vec<Vec<Row>>, AllocError>
-        ensures { IfOk result (λ next. (records : Bool) (calls : List CallValue) (text : List ℕ)
-            → HasReady records self.old calls text (flat_map (λ l. l.items) ready.items)
-            → HasReady records self.new calls (text ++ step.now) (flat_map (λ l. l.items) next.items)) }
+        ensures { IfOk result (λ next. TakesStep step.now self.old (flat_map (λ l. l.items) ready.items) self.new (flat_map (λ l. l.items) next.items)) }
     {
         let found = read_beside(rt, alloc, threads, step, ready.as_slice(), self)?;
         self.make_ready(alloc, found, step)
@@ -192,8 +177,7 @@ impl Pass {
         threads: usize,
         chunk: &[u8],
     ) -> Result<(), AllocError>
-        ensures { OnOk result ((records : Bool) (calls : List CallValue) (text : List ℕ)
-            → HasFed records self.old calls text → HasFed records self.new calls (text ++ chunk.now)) }
+        ensures { OnOk result (FeedsPart chunk.now self.old self.new) }
     {
         let most = threads.saturating_mul(EACH);
         let mut ready = Vec::new(alloc);
@@ -216,8 +200,7 @@ impl Pass {
         threads: usize,
         chunk: &[u8],
     ) -> Result<(), AllocError>
-        ensures { OnOk result ((records : Bool) (calls : List CallValue) (text : List ℕ)
-            → HasFed records self.old calls text → HasFed records self.new calls (text ++ chunk.now)) }
+        ensures { OnOk result (FeedsPart chunk.now self.old self.new) }
     {
         if !self.reader.is_behind_row() {
             return self.feed(chunk);
@@ -249,8 +232,7 @@ impl Pass {
         threads: usize,
         part: &[u8],
     ) -> Result<(), AllocError>
-        ensures { OnOk result ((records : Bool) (calls : List CallValue) (text : List ℕ)
-            → HasFed records self.old calls text → HasFed records self.new calls (text ++ part.now)) }
+        ensures { OnOk result (FeedsPart part.now self.old self.new) }
     {
         let (first, rest) = part.split_at(behind_first_line(part));
         let (chunk, last) = rest.split_at(behind_last_line(rest));

@@ -1,11 +1,10 @@
-ghost use Rattle.std.specs.Prelude.{◌≡◌, ◌≤◌, ◌+◌, ◌-◌, ◌++◌, length, ℕ, Bool, List, [], Option, None, Some, Ok, Err, OnOk, IfOk, IfErr, false};
+ghost use Rattle.std.specs.Prelude.{◌≡◌, ◌≤◌, ◌+◌, ◌-◌, length, List, [], None, Some, Ok, Err, OnOk, IfOk, IfErr, false};
 ghost use Rattle.dn_types.specs.declared.call.Call.{Call as CallValue};
-ghost use Rattle.dn_files.specs.Reading.{IsFaultOf, IsRefusal, IsTextOf};
+ghost use Rattle.dn_files.specs.Reading.{IsFaultOf, IsRefusal};
 ghost use Rattle.dn_files.specs.Writing.{NothingWritten};
 ghost use Rattle.dn_files.specs.declared.replay_fault.ReplayFault.TheVariants.{OutOfMemory};
-ghost use Rattle.dn_replay.specs.InParts.{AskedOf, calls_asked, HasCome, IsLimit, IsUnfed, LacksMemory, source_of};
-ghost use Rattle.dn_replay.specs.OnePass.{IsAnswered, NoneFailed};
-ghost use Rattle.dn_replay.specs.Replays.{config_calls, IsUnreplayed};
+ghost use Rattle.dn_replay.specs.InParts.{AskedOf, calls_asked, HasCome, IsLimit, IsUnfed, LacksMemory, source_of, AnswersCome, CanGoOn, ComesMore, ComesWhole, Coming, First, IsFaultBehind, LeavesCome};
+ghost use Rattle.dn_replay.specs.Replays.{config_calls};
 
 use crate::config::config_part::ConfigPart;
 use crate::replays::pass::Pass;
@@ -122,12 +121,10 @@ impl FileReplay {
     /// TooLong comes exactly if there are more, and the replay is as before. OutOfMemory says that a growth was refused. After
     /// it the replay lacks memory for good: it takes no more of its text, and `finish` returns OutOfMemory too.
     pub fn feed(&mut self, part: &[u8]) -> Result<(), ReplayFault>
-        ensures ok { OnOk result ((records : Bool) (config : Option (List ℕ)) (text : List ℕ)
-            → HasCome records self.old config text → HasCome records self.new config (text ++ part.now)) }
+        ensures ok { OnOk result (ComesMore part.now self.old self.new) }
         ensures limit { self.new.limit ≡ self.old.limit }
         ensures room { OnOk result (length part.now + (self.new.limit - self.new.length) ≤ self.old.limit - self.old.length) }
-        ensures err { IfErr result (λ fault. (records : Bool) (config : Option (List ℕ)) (text more : List ℕ)
-            → HasCome records self.old config text → IsFaultOf (calls_asked self.old.limit config (text ++ (part.now ++ more))) fault) }
+        ensures err { IfErr result (λ fault. IsFaultBehind part.now self.old fault) }
         ensures faults { IfErr result (λ fault. IsUnfed self.old self.new part.now fault) }
         ensures lacks { LacksMemory self.old → LacksMemory self.new }
     {
@@ -136,12 +133,10 @@ impl FileReplay {
 
     /// Takes the next part, whose rows are read by these threads.
     pub(crate) fn feed_by<T: Threading>(&mut self, by: &T, part: &[u8]) -> Result<(), ReplayFault>
-        ensures ok { OnOk result ((records : Bool) (config : Option (List ℕ)) (text : List ℕ)
-            → HasCome records self.old config text → HasCome records self.new config (text ++ part.now)) }
+        ensures ok { OnOk result (ComesMore part.now self.old self.new) }
         ensures limit { self.new.limit ≡ self.old.limit }
         ensures room { OnOk result (length part.now + (self.new.limit - self.new.length) ≤ self.old.limit - self.old.length) }
-        ensures err { IfErr result (λ fault. (records : Bool) (config : Option (List ℕ)) (text more : List ℕ)
-            → HasCome records self.old config text → IsFaultOf (calls_asked self.old.limit config (text ++ (part.now ++ more))) fault) }
+        ensures err { IfErr result (λ fault. IsFaultBehind part.now self.old fault) }
         ensures faults { IfErr result (λ fault. IsUnfed self.old self.new part.now fault) }
         ensures lacks { LacksMemory self.old → LacksMemory self.new }
     {
@@ -164,12 +159,11 @@ impl FileReplay {
     /// The faults are those of `feed`, after which nothing more is read, and Read if a read failed.
     pub fn read<I: Inlet>(&mut self, inlet: &mut I) -> Result<(), ReplayFault>
         requires sound { I.has_failed inlet.old ≡ false }
-        ensures ok { OnOk result ((text : List ℕ) × IsTextOf (I.remaining inlet.old) text
-            × ((records : Bool) (config : Option (List ℕ)) → HasCome records self.old config [] → HasCome records self.new config text)) }
-        ensures limit { OnOk result ((records : Bool) (config : Option (List ℕ)) → HasCome records self.old config [] → self.new.limit ≡ self.old.limit) }
+        ensures ok { OnOk result (ComesWhole (I.remaining inlet.old) self.old self.new) }
+        ensures limit { OnOk result (First self.old (λ records config. self.new.limit ≡ self.old.limit)) }
         ensures sound { OnOk result (I.has_failed inlet.new ≡ false) }
-        ensures err { IfErr result (λ fault. (records : Bool) (config : Option (List ℕ)) → HasCome records self.old config []
-            → IsRefusal (source_of config) (calls_asked self.old.limit config) (I.remaining inlet.old) (I.has_failed inlet.new) fault) }
+        ensures err { IfErr result (λ fault. First self.old (λ records config.
+            IsRefusal (source_of config) (calls_asked self.old.limit config) (I.remaining inlet.old) (I.has_failed inlet.new) fault)) }
     {
         feed_all(self.alloc, inlet, self)
     }
@@ -180,12 +174,10 @@ impl FileReplay {
     /// nothing.
     pub fn finish<O: Outlet>(self, out: &mut O) -> Result<(Vec<Entry>, Outcome), ReplayFault>
         requires sound { O.has_failed out.old ≡ false }
-        ensures ok { IfOk result (λ both. (records : Bool) (config : Option (List ℕ)) (text : List ℕ) → HasCome records self config text
-            → IsAnswered records (λ asked. calls_asked self.limit config text ≡ asked) both.0.items both.1.untargeted (O.contents out.old) (O.contents out.new)) }
+        ensures ok { IfOk result (λ both. AnswersCome self both.0.items both.1.untargeted (O.contents out.old) (O.contents out.new)) }
         ensures unasked { IfOk result (λ both. self.pass.records ≡ false → both.0.items ≡ []) }
         ensures sound { IfOk result (λ _. O.has_failed out.new ≡ false) }
-        ensures err { IfErr result (λ fault. (records : Bool) (config : Option (List ℕ)) (text : List ℕ) → HasCome records self config text
-            → IsUnreplayed NoneFailed (λ asked. calls_asked self.limit config text ≡ asked) (O.contents out.old) (O.contents out.new) (O.has_failed out.new) fault) }
+        ensures err { IfErr result (λ fault. LeavesCome self (O.contents out.old) (O.contents out.new) (O.has_failed out.new) fault) }
         ensures lacks { LacksMemory self
             → (result ≡ Err OutOfMemory) × NothingWritten (O.contents out.old) (O.contents out.new) (O.has_failed out.new) }
     {
@@ -199,12 +191,10 @@ impl FileReplay {
         out: &mut O,
     ) -> Result<(Vec<Entry>, Outcome), ReplayFault>
         requires sound { O.has_failed out.old ≡ false }
-        ensures ok { IfOk result (λ both. (records : Bool) (config : Option (List ℕ)) (text : List ℕ) → HasCome records self config text
-            → IsAnswered records (λ asked. calls_asked self.limit config text ≡ asked) both.0.items both.1.untargeted (O.contents out.old) (O.contents out.new)) }
+        ensures ok { IfOk result (λ both. AnswersCome self both.0.items both.1.untargeted (O.contents out.old) (O.contents out.new)) }
         ensures unasked { IfOk result (λ both. self.pass.records ≡ false → both.0.items ≡ []) }
         ensures sound { IfOk result (λ _. O.has_failed out.new ≡ false) }
-        ensures err { IfErr result (λ fault. (records : Bool) (config : Option (List ℕ)) (text : List ℕ) → HasCome records self config text
-            → IsUnreplayed NoneFailed (λ asked. calls_asked self.limit config text ≡ asked) (O.contents out.old) (O.contents out.new) (O.has_failed out.new) fault) }
+        ensures err { IfErr result (λ fault. LeavesCome self (O.contents out.old) (O.contents out.new) (O.has_failed out.new) fault) }
         ensures lacks { LacksMemory self
             → (result ≡ Err OutOfMemory) × NothingWritten (O.contents out.old) (O.contents out.new) (O.has_failed out.new) }
     {

@@ -1,10 +1,9 @@
-ghost use Rattle.std.specs.Prelude.{◌≡◌, ◌<◌, ℕ, All, Bool, List, [], Option, false, None, OnOk, IfOk, IfErr};
+ghost use Rattle.std.specs.Prelude.{◌≡◌, ◌<◌, All, false, None, OnOk, IfOk, IfErr};
 ghost use Rattle.dn_types.specs.History.{IsLawful};
 ghost use Rattle.dn_types.specs.declared.rule.Rule.TheVariants.{Ordered};
-ghost use Rattle.dn_files.specs.Reading.{IsTextOf};
-ghost use Rattle.dn_replay.specs.InParts.{calls_asked, HasCome, IsAskedBehind, IsLimit, source_of};
+ghost use Rattle.dn_replay.specs.InParts.{IsLimit, AnswersWhole, LeavesWhole};
 ghost use Rattle.dn_replay.specs.OnePass.{IsAnswered, IsReportedFor};
-ghost use Rattle.dn_replay.specs.Replays.{AskFor, AskForWithin, AsksFor, EitherFailed, InputFailed, IsReplayed, IsUnreplayed, TextFailed};
+ghost use Rattle.dn_replay.specs.Replays.{AskFor, AskForWithin, AsksFor, EitherFailed, InputFailed, IsReplayed, IsUnreplayed};
 
 use crate::replays::file_replay::FileReplay;
 use crate::replays::threading::{Feeding, OneThread, Threading};
@@ -25,14 +24,12 @@ fn answer<T: Threading, I: Inlet, O: Outlet>(
 ) -> Result<(Vec<Entry>, Outcome), ReplayFault>
     requires inlet { I.has_failed inlet.old ≡ false }
     requires out { O.has_failed out.old ≡ false }
-    ensures ok { IfOk result (λ both. (text : List ℕ) × IsTextOf (I.remaining inlet.old) text
-        × ((records : Bool) (config : Option (List ℕ)) → HasCome records replay config []
-        → IsAnswered records (λ asked. calls_asked replay.limit config text ≡ asked) both.0.items both.1.untargeted (O.contents out.old) (O.contents out.new))) }
+    ensures ok { IfOk result (λ both.
+        AnswersWhole (I.remaining inlet.old) replay both.0.items both.1.untargeted (O.contents out.old) (O.contents out.new)) }
     ensures inlet { IfOk result (λ _. I.has_failed inlet.new ≡ false) }
     ensures sound { IfOk result (λ _. O.has_failed out.new ≡ false) }
-    ensures err { IfErr result (λ fault. (records : Bool) (config : Option (List ℕ)) → HasCome records replay config []
-        → IsUnreplayed (TextFailed (source_of config) (I.has_failed inlet.new)) (IsAskedBehind replay.limit config (I.remaining inlet.old))
-        (O.contents out.old) (O.contents out.new) (O.has_failed out.new) fault) }
+    ensures err { IfErr result (λ fault.
+        LeavesWhole (I.remaining inlet.old) (I.has_failed inlet.new) replay (O.contents out.old) (O.contents out.new) (O.has_failed out.new) fault) }
 {
     let mut feeding = Feeding { replay, by };
     match feed_steps(alloc, inlet, &mut feeding, by.step()) {

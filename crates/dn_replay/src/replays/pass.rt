@@ -1,15 +1,10 @@
-ghost use Rattle.std.specs.Prelude.{◌≡◌, ◌<◌, ◌^◌, [], ◌∷◌, ◌++◌, ℕ, Bool, List, length, OnOk, IfOk, IfErr, false, true};
-ghost use Rattle.dn_types.specs.Replies.{reply as reply_to};
+ghost use Rattle.std.specs.Prelude.{◌≡◌, [], ◌∷◌, ℕ, Bool, List, OnOk, IfOk, IfErr, false, true};
 ghost use Rattle.dn_types.specs.declared.call.Call.{Call as CallValue};
-ghost use Rattle.dn_types.specs.declared.call.Call.TheVariants.{Collect as CollectValue};
-ghost use Rattle.dn_types.specs.declared.rule.Rule.TheVariants.{Ordered};
-ghost use Rattle.dn_shaper.specs.Shaper.{StandsAfter};
 ghost use Rattle.dn_files.specs.Reading.{IsFaultOf};
 ghost use Rattle.dn_replay.specs.Kept.{CanReport};
-ghost use Rattle.dn_replay.specs.OnePass.{AreFew, HasAnswered, HasEnded, HasEndedWith, HasFed, IsAnswered, IsFresh, NoneFailed, calls_with};
-ghost use Rattle.dn_replay.specs.Replays.{IsUnreplayed};
-ghost use Rattle.dn_replay.specs.Report.{delivered};
-ghost use Rattle.dn_replay.specs.Runs.{submit as submit_of, submitted};
+ghost use Rattle.dn_replay.specs.OnePass.{AreFew, HasAnswered, HasEnded, HasEndedWith, HasFed, IsFresh, calls_with};
+ghost use Rattle.dn_replay.specs.Runs.{submit as submit_of};
+ghost use Rattle.dn_replay.specs.Feeding.{AnswersFed, Collects, Ends, Fed, FeedsPart, LeavesFed, Submits};
 
 use crate::config::run::{Run, submit};
 use crate::report::{Kept, Outcome, Printing, delivered_by, last_delivered, write_kept};
@@ -38,9 +33,7 @@ pub(crate) struct Pass {
 
 /// Takes the packets that are due by a moment or by the clock, behind those that were given before.
 fn collect(shaper: &mut Shaper, given: &mut Vec<Delivery>, moment: Moment) -> Result<(), AllocError>
-    ensures { OnOk result ((calls : List CallValue) → StandsAfter Ordered shaper.old calls →
-        StandsAfter Ordered shaper.new (CollectValue moment ∷ calls)
-        × (given.new.items ≡ given.old.items ++ delivered (reply_to Ordered calls (CollectValue moment)))) }
+    ensures { OnOk result (Collects moment shaper.old given.old.items shaper.new given.new.items) }
 {
     let reply = shaper.apply(&Call::Collect(moment))?;
     given.extend_from_slice(delivered_by(&reply))?;
@@ -81,8 +74,7 @@ pub(crate) fn submit_rows(
     records: bool,
     rows: &[Row],
 ) -> Result<(), AllocError>
-    ensures { OnOk result ((calls : List CallValue) → HasAnswered records run.old kept.old given.old.items calls
-        → HasAnswered records run.new kept.new given.new.items (submitted calls rows.now)) }
+    ensures { OnOk result (Submits rows.now records run.old kept.old given.old.items run.new kept.new given.new.items) }
 {
     for row in rows {
         submit_row(run, kept, given, records, row)?;
@@ -107,8 +99,7 @@ impl Pass {
 
     /// Takes a part of the packets' text, and submits the rows that are whole.
     pub(crate) fn feed(&mut self, part: &[u8]) -> Result<(), AllocError>
-        ensures { OnOk result ((records : Bool) (calls : List CallValue) (text : List ℕ)
-            → HasFed records self.old calls text → HasFed records self.new calls (text ++ part.now)) }
+        ensures { OnOk result (FeedsPart part.now self.old self.new) }
     {
         self.reader.feed(part)?;
         // Each row ends at a byte of its own, so a part has no more rows than bytes.
@@ -129,8 +120,7 @@ impl Pass {
 
     /// Takes all packets that are due by the last moment.
     fn collect_rest(&mut self) -> Result<(), AllocError>
-        ensures { OnOk result ((calls : List CallValue) → HasAnswered self.old.records self.old.run self.old.kept self.old.given.items calls
-            → length calls < 2 ^ 61 → HasEnded self.old.records self.new calls) }
+        ensures { OnOk result (Ends self.old self.new) }
     {
         let last = Moment::new(1 << 62).unwrap();
         if self.records {
@@ -141,10 +131,8 @@ impl Pass {
 
     /// Submits what is left of the packets' text, which has ended, and takes all packets that are due by the last moment.
     fn submit_rest(&mut self) -> Result<(), ReplayFault>
-        ensures ok { OnOk result ((records : Bool) (calls : List CallValue) (text : List ℕ) → HasFed records self.old calls text
-            → AreFew (calls_with calls text) → HasEndedWith records self.new calls text) }
-        ensures err { IfErr result (λ fault. (records : Bool) (calls : List CallValue) (text : List ℕ) → HasFed records self.old calls text
-            → IsFaultOf (calls_with calls text) fault) }
+        ensures ok { OnOk result (Fed self.old (λ records calls text. AreFew (calls_with calls text) → HasEndedWith records self.new calls text)) }
+        ensures err { IfErr result (λ fault. Fed self.old (λ records calls text. IsFaultOf (calls_with calls text) fault)) }
     {
         let rows = self.reader.finish()?;
         let Ok(()) = submit_rows(
@@ -195,12 +183,10 @@ impl Pass {
     ) -> Result<(Vec<Entry>, Outcome), ReplayFault>
         requires fed { (records : Bool) × (calls : List CallValue) × (text : List ℕ) × HasFed records self.old calls text × AreFew (calls_with calls text) }
         requires sound { O.has_failed out.old ≡ false }
-        ensures ok { IfOk result (λ both. (records : Bool) (calls : List CallValue) (text : List ℕ) → HasFed records self.old calls text → AreFew (calls_with calls text)
-            → IsAnswered records (λ asked. calls_with calls text ≡ asked) both.0.items both.1.untargeted (O.contents out.old) (O.contents out.new)) }
+        ensures ok { IfOk result (λ both. AnswersFed self.old both.0.items both.1.untargeted (O.contents out.old) (O.contents out.new)) }
         ensures unasked { IfOk result (λ both. self.old.records ≡ false → both.0.items ≡ []) }
         ensures sound { IfOk result (λ _. O.has_failed out.new ≡ false) }
-        ensures err { IfErr result (λ fault. (records : Bool) (calls : List CallValue) (text : List ℕ) → HasFed records self.old calls text → AreFew (calls_with calls text)
-            → IsUnreplayed NoneFailed (λ asked. calls_with calls text ≡ asked) (O.contents out.old) (O.contents out.new) (O.has_failed out.new) fault) }
+        ensures err { IfErr result (λ fault. LeavesFed self.old (O.contents out.old) (O.contents out.new) (O.has_failed out.new) fault) }
     {
         self.submit_rest()?;
         let outcome = write_kept(alloc, by, &self.kept, self.all_given(), out)?;

@@ -1,11 +1,11 @@
-ghost use Rattle.std.specs.Prelude.{◌≡◌, ◌++◌, ℕ, Bool, List, [], Result, Err, OnOk, IfOk, IfErr, false};
+ghost use Rattle.std.specs.Prelude.{◌≡◌, ℕ, Bool, List, [], Result, Err, OnOk, IfOk, IfErr, false};
 ghost use Rattle.dn_types.specs.declared.call.Call.{Call as CallValue};
 ghost use Rattle.dn_files.specs.Reading.{IsFaultOf};
 ghost use Rattle.dn_files.specs.Writing.{NothingWritten};
 ghost use Rattle.dn_files.specs.declared.replay_fault.ReplayFault.{ReplayFault as FaultValue};
-ghost use Rattle.dn_replay.specs.OnePass.{AreFew, CanTake, HasTaken, HasTakenAll, IsAnswered, IsCutAt, IsFresh, NoneFailed};
-ghost use Rattle.dn_replay.specs.Replays.{IsUnreplayed};
+ghost use Rattle.dn_replay.specs.OnePass.{AreFew, CanTake, HasTaken, HasTakenAll, IsFresh};
 ghost use Rattle.dn_replay.specs.declared.replays.stage.Stage.TheVariants.{Refused as RefusedValue};
+ghost use Rattle.dn_replay.specs.Feeding.{AnswersTaken, LeavesTaken, Taken, TakesConfig, TakesPart};
 
 use crate::config::config_part::ConfigPart;
 use crate::replays::pass::Pass;
@@ -39,8 +39,7 @@ fn begin<T: Threading>(
     packets: &[u8],
 ) -> Result<Stage, AllocError>
     requires { IsFresh pass.old }
-    ensures { IfOk result (λ stage. (asked : List ℕ → Result (List CallValue) FaultValue) (text : List ℕ)
-        → IsCutAt asked text config.now packets.now → HasTaken stage pass.old.records pass.new asked text) }
+    ensures { IfOk result (λ stage. TakesConfig config.now packets.now pass.old stage pass.new) }
 {
     match pass.run.configure(config) {
         Ok(()) => {
@@ -60,8 +59,7 @@ impl Stage {
         part: &[u8],
     ) -> Result<Stage, AllocError>
         requires { CanTake self pass.old }
-        ensures taken { IfOk result (λ stage. (records : Bool) (asked : List ℕ → Result (List CallValue) FaultValue) (text : List ℕ)
-            → HasTaken self records pass.old asked text → HasTaken stage records pass.new asked (text ++ part.now)) }
+        ensures taken { IfOk result (λ stage. TakesPart part.now self pass.old stage pass.new) }
         ensures refused { IfOk result (λ stage. (fault : FaultValue) → self ≡ RefusedValue fault → stage ≡ self) }
     {
         match self {
@@ -80,10 +78,8 @@ impl Stage {
     /// Takes the end of the text: the commands of its configuration are made by then, or the fault is why not.
     fn end(self, pass: &mut Pass) -> Result<(), ReplayFault>
         requires { CanTake self pass.old }
-        ensures ok { OnOk result ((records : Bool) (asked : List ℕ → Result (List CallValue) FaultValue) (text : List ℕ)
-            → HasTaken self records pass.old asked text → HasTakenAll records pass.new asked text) }
-        ensures err { IfErr result (λ fault. (records : Bool) (asked : List ℕ → Result (List CallValue) FaultValue) (text : List ℕ)
-            → HasTaken self records pass.old asked text → IsFaultOf (asked text) fault) }
+        ensures ok { OnOk result (Taken self pass.old (λ records asked text. HasTakenAll records pass.new asked text)) }
+        ensures err { IfErr result (λ fault. Taken self pass.old (λ records asked text. IsFaultOf (asked text) fault)) }
         ensures refused { (fault : FaultValue) → self ≡ RefusedValue fault → result ≡ Err fault }
     {
         match self {
@@ -111,14 +107,10 @@ impl Stage {
         requires taken { (records : Bool) × (asked : List ℕ → Result (List CallValue) FaultValue) × (text : List ℕ)
             × HasTaken self records pass.old asked text × AreFew (asked text) }
         requires sound { O.has_failed out.old ≡ false }
-        ensures ok { IfOk result (λ both. (records : Bool) (asked : List ℕ → Result (List CallValue) FaultValue) (text : List ℕ)
-            → HasTaken self records pass.old asked text → AreFew (asked text)
-            → IsAnswered records (λ r. asked text ≡ r) both.0.items both.1.untargeted (O.contents out.old) (O.contents out.new)) }
+        ensures ok { IfOk result (λ both. AnswersTaken self pass.old both.0.items both.1.untargeted (O.contents out.old) (O.contents out.new)) }
         ensures unasked { IfOk result (λ both. pass.old.records ≡ false → both.0.items ≡ []) }
         ensures sound { IfOk result (λ _. O.has_failed out.new ≡ false) }
-        ensures err { IfErr result (λ fault. (records : Bool) (asked : List ℕ → Result (List CallValue) FaultValue) (text : List ℕ)
-            → HasTaken self records pass.old asked text → AreFew (asked text)
-            → IsUnreplayed NoneFailed (λ r. asked text ≡ r) (O.contents out.old) (O.contents out.new) (O.has_failed out.new) fault) }
+        ensures err { IfErr result (λ fault. LeavesTaken self pass.old (O.contents out.old) (O.contents out.new) (O.has_failed out.new) fault) }
         ensures refused { (fault : FaultValue) → self ≡ RefusedValue fault
             → (result ≡ Err fault) × NothingWritten (O.contents out.old) (O.contents out.new) (O.has_failed out.new) }
     {

@@ -1,7 +1,7 @@
-ghost use Rattle.std.specs.Prelude.{◌≡◌, ◌<◌, ◌-◌, ◌++◌, ℕ, Bool, List, OnOk};
+ghost use Rattle.std.specs.Prelude.{◌≡◌, ◌<◌, ◌-◌, List, OnOk};
 ghost use Rattle.dn_types.specs.declared.call.Call.{Call as CallValue};
 ghost use Rattle.dn_replay.specs.InParts.{AskedOf, calls_asked, HasCome, source_of};
-ghost use Rattle.dn_replay.specs.OnePass.{HasFed};
+ghost use Rattle.dn_replay.specs.Feeding.{FeedsPart};
 
 use crate::replays::file_replay::FileReplay;
 use crate::replays::pass::Pass;
@@ -24,8 +24,7 @@ const MOST: usize = 64;
 pub(crate) trait Threading: Printing {
     /// A pass takes a part of the packets' text, and submits the rows that are whole.
     fn feed(&self, pass: &mut Pass, part: &[u8]) -> Result<(), AllocError>
-        ensures { OnOk result ((records : Bool) (calls : List CallValue) (text : List ℕ)
-            → HasFed records pass.old calls text → HasFed records pass.new calls (text ++ part.now)) };
+        ensures { OnOk result (FeedsPart part.now pass.old pass.new) };
 
     /// How many bytes one read asks for at most.
     fn step(&self) -> usize

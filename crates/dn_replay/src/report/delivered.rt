@@ -1,8 +1,7 @@
-ghost use Rattle.std.specs.Prelude.{◌≡◌, ℕ, ◌<◌, List, [], ◌∷◌, ◌++◌, length, slice_index_or, IfOk, None};
-ghost use Rattle.std.specs.Option.{option_or};
+ghost use Rattle.std.specs.Prelude.{◌≡◌, ◌<◌, List, [], ◌∷◌, ◌++◌, length, IfOk};
 ghost use Rattle.dn_types.specs.declared.entry.Entry.{Entry as EntryValue};
 ghost use Rattle.dn_replay.specs.Report.{delivered, deliveries, delivery_of_packet};
-ghost use Rattle.dn_replay.specs.Tables.{IsTableOf};
+ghost use Rattle.dn_replay.specs.Tables.{IsTableOf, Notes};
 
 use dn_types::{Delivery, Entry, Reply};
 use std::alloc::{AllocError, Global};
@@ -28,9 +27,7 @@ pub(crate) fn last_delivered(entries: &[Entry]) -> &[Delivery]
 /// Notes a delivery, unless one of its packet is there or its packet has no place.
 fn note(table: &mut Vec<Option<Delivery>>, delivery: Delivery)
     ensures len { length table.new.items ≡ length table.old.items }
-    ensures noted { (packet : ℕ) → packet < length table.old.items →
-        slice_index_or table.new.items packet None
-        ≡ option_or (slice_index_or table.old.items packet None) (delivery_of_packet packet (delivery ∷ [])) }
+    ensures noted { Notes (delivery ∷ []) table.old.items table.new.items }
 {
     let place = delivery.packet as usize;
     if place >= table.len() || table[place].is_some() {
@@ -42,9 +39,7 @@ fn note(table: &mut Vec<Option<Delivery>>, delivery: Delivery)
 /// Notes the first delivery of each packet.
 fn note_all(table: &mut Vec<Option<Delivery>>, list: &[Delivery])
     ensures len { length table.new.items ≡ length table.old.items }
-    ensures noted { (packet : ℕ) → packet < length table.old.items →
-        slice_index_or table.new.items packet None
-        ≡ option_or (slice_index_or table.old.items packet None) (delivery_of_packet packet list.now) }
+    ensures noted { Notes list.now table.old.items table.new.items }
 {
     for delivery in list {
         note(table, *delivery);

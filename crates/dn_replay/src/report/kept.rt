@@ -1,12 +1,7 @@
-ghost use Rattle.std.specs.Prelude.{◌≡◌, ◌+◌, ℕ, List, [], ◌∷◌, ◌++◌, ◌&&◌, length, not, OnOk, option_to_list};
+ghost use Rattle.std.specs.Prelude.{◌≡◌, ◌+◌, [], ◌++◌, ◌&&◌, length, not, OnOk, option_to_list};
 ghost use Rattle.std.specs.List.{list_any};
-ghost use Rattle.dn_types.specs.Replies.{reply as reply_to};
-ghost use Rattle.dn_types.specs.declared.call.Call.{Call};
-ghost use Rattle.dn_types.specs.declared.call.Call.TheVariants.{Submit};
-ghost use Rattle.dn_types.specs.declared.packet.Packet.{Packet};
-ghost use Rattle.dn_types.specs.declared.rule.Rule.TheVariants.{Ordered};
-ghost use Rattle.dn_types.specs.declared.target.Target.{Target};
 ghost use Rattle.dn_replay.specs.Kept.{accepted_row, are_untargeted, HasKept, lacks_target, refused_row};
+ghost use Rattle.dn_replay.specs.KeptReports.{KeepsReply};
 
 use crate::report::fate::Fate;
 use crate::report::kept_rows::{AcceptedRow, RefusedRow};
@@ -86,10 +81,7 @@ impl Kept {
 
     /// Keeps what a report needs of the reply to the next Submit.
     pub(crate) fn note(&mut self, reply: &Reply) -> Result<(), AllocError>
-        ensures { OnOk result ((calls : List Call) (target : Target) (packet : Packet) (moment : ℕ) →
-            HasKept self.old calls →
-            reply.now ≡ reply_to Ordered calls (Submit target packet moment) →
-            HasKept self.new (Submit target packet moment ∷ calls)) }
+        ensures { OnOk result (KeepsReply reply.now self.old self.new) }
     {
         let fate = Fate::of(reply);
         let row = self.rows() + 1;

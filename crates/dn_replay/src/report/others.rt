@@ -1,13 +1,9 @@
 //! The lines of rows whose packets were not given.
 
-ghost use Rattle.std.specs.Prelude.{◌≡◌, ◌<◌, ◌≤◌, ◌+◌, ◌^◌, ◌∷◌, ◌++◌, ℕ, List, Option, None, cond, drop, filter, map, slice_index_or, false, true, length, vec_capacity, OnOk, OnErr};
-ghost use Rattle.dn_records.specs.Devices.{AppendsPart};
-ghost use Rattle.dn_records.specs.Records.{text_of};
-ghost use Rattle.dn_types.specs.declared.delivery.Delivery.{Delivery};
-ghost use Rattle.dn_replay.specs.Kept.{accepted_line, accepted_row, AreMarksOf, fate_line, fate_lines, IsKeptOf, no_refusal, no_row, other_text, refusal_in, refusal_line, refused_row, rows_kept};
-ghost use Rattle.dn_replay.specs.Parts.{IsUnderWay};
-ghost use Rattle.dn_replay.specs.Report.{is_other, line_fields};
+ghost use Rattle.std.specs.Prelude.{◌≡◌, ◌<◌, ◌≤◌, ◌+◌, ◌^◌, ◌∷◌, ◌++◌, List, None, cond, drop, slice_index_or, false, true, length, vec_capacity, OnOk, OnErr};
+ghost use Rattle.dn_replay.specs.Kept.{accepted_line, fate_line, IsKeptOf, no_refusal, no_row, other_text, refusal_in, refusal_line, refused_row, rows_kept};
 ghost use Rattle.dn_replay.specs.declared.report.fate.Fate.{Fate};
+ghost use Rattle.dn_replay.specs.KeptReports.{AddsOthers, BreaksOffInOthers, OfFate, OfMarked};
 
 use crate::report::kept::Kept;
 use crate::report::kept_rows::{AcceptedRow, RefusedRow};
@@ -22,8 +18,8 @@ use dn_records::{Outlet, WriteFault};
 fn add_accepted(text: &mut Vec<u8>, marks: &[bool], accepted: &[AcceptedRow], packet: usize)
     requires room { length text.old.items + 160 ≤ vec_capacity text.old }
     requires numbered { packet < length accepted.now }
-    ensures items { (given : List Delivery) → AreMarksOf marks.now (length accepted.now) given →
-        text.new.items ≡ text.old.items ++ other_text (accepted_line packet given (slice_index_or accepted.now packet no_row)) }
+    ensures items { OfMarked marks.now (length accepted.now) (λ given.
+        text.new.items ≡ text.old.items ++ other_text (accepted_line packet given (slice_index_or accepted.now packet no_row))) }
     ensures capacity { vec_capacity text.old ≤ vec_capacity text.new }
 {
     if is_given(marks, packet) {
@@ -82,10 +78,8 @@ fn add_other(
 )
     requires room { length text.old.items + 160 ≤ vec_capacity text.old }
     requires numbered { refusal ≡ None → packet < length accepted.now }
-    ensures items { (given : List Delivery) (fate : Fate) (fates : List Fate) →
-        AreMarksOf marks.now (length accepted.now) given → refusal ≡ refusal_in fate →
-        drop packet accepted.now ≡ rows_kept accepted_row row (fate ∷ fates) →
-        text.new.items ≡ text.old.items ++ other_text (fate_line row packet given fate) }
+    ensures items { OfFate marks.now accepted.now row packet refusal (λ given fate.
+        text.new.items ≡ text.old.items ++ other_text (fate_line row packet given fate)) }
     ensures capacity { vec_capacity text.old ≤ vec_capacity text.new }
 {
     match refusal {
@@ -113,19 +107,11 @@ pub(crate) fn write_others<O: Outlet>(
     requires room { 65536 + 160 ≤ vec_capacity text.old }
     requires short { length text.old.items < 65536 }
     requires sound { O.has_failed out.old ≡ false }
-    ensures ok { OnOk result ((start : Option (List ℕ)) (before : List ℕ) (given : List Delivery) (fates : List Fate) →
-        IsKeptOf kept.now fates → AreMarksOf marks.now (length kept.now.accepted.items) given →
-        IsUnderWay start (O.contents out.old) text.old.items before →
-        IsUnderWay start (O.contents out.new) text.new.items
-        (before ++ text_of (map line_fields (filter is_other (fate_lines 1 0 given fates))))) }
+    ensures ok { OnOk result (AddsOthers kept.now marks.now (O.contents out.old) text.old.items (O.contents out.new) text.new.items) }
     ensures room { OnOk result (65536 + 160 ≤ vec_capacity text.new) }
     ensures short { OnOk result (length text.new.items < 65536) }
     ensures sound { OnOk result (O.has_failed out.new ≡ false) }
-    ensures part { OnErr result ((start : Option (List ℕ)) (before : List ℕ) (given : List Delivery) (fates : List Fate) →
-        IsKeptOf kept.now fates → AreMarksOf marks.now (length kept.now.accepted.items) given →
-        IsUnderWay start (O.contents out.old) text.old.items before →
-        AppendsPart start (O.contents out.new)
-        (before ++ text_of (map line_fields (filter is_other (fate_lines 1 0 given fates))))) }
+    ensures part { OnErr result (BreaksOffInOthers kept.now marks.now (O.contents out.old) text.old.items (O.contents out.new)) }
     ensures failed { OnErr result (O.has_failed out.new ≡ true) }
 {
     let rows = kept.rows();

@@ -1,10 +1,9 @@
 //! The `out` lines of deliveries.
 
-ghost use Rattle.std.specs.Prelude.{◌≡◌, ◌<◌, ◌≤◌, ◌+◌, ◌++◌, ℕ, List, Option, slice_index_or, false, true, length, vec_capacity, OnOk, OnErr};
-ghost use Rattle.dn_records.specs.Devices.{AppendsPart};
+ghost use Rattle.std.specs.Prelude.{◌≡◌, ◌<◌, ◌≤◌, ◌+◌, ◌++◌, slice_index_or, false, true, length, vec_capacity, OnOk, OnErr};
 ghost use Rattle.dn_records.specs.Records.{line_of};
 ghost use Rattle.dn_replay.specs.Kept.{AreKnown, delivery_line, no_row, out_text};
-ghost use Rattle.dn_replay.specs.Parts.{IsUnderWay};
+ghost use Rattle.dn_replay.specs.Parts.{Adds, BreaksOffIn};
 ghost use Rattle.dn_replay.specs.Report.{line_fields};
 
 use crate::report::kept::Kept;
@@ -50,17 +49,11 @@ pub(crate) fn write_outs<O: Outlet>(
     requires room { 65536 + 160 ≤ vec_capacity text.old }
     requires short { length text.old.items < 65536 }
     requires sound { O.has_failed out.old ≡ false }
-    ensures ok { OnOk result ((start : Option (List ℕ)) (before : List ℕ) →
-        IsUnderWay start (O.contents out.old) text.old.items before →
-        IsUnderWay start (O.contents out.new) text.new.items
-        (before ++ out_text kept.now given.now)) }
+    ensures ok { OnOk result (Adds (O.contents out.old) text.old.items (O.contents out.new) text.new.items (out_text kept.now given.now)) }
     ensures room { OnOk result (65536 + 160 ≤ vec_capacity text.new) }
     ensures short { OnOk result (length text.new.items < 65536) }
     ensures sound { OnOk result (O.has_failed out.new ≡ false) }
-    ensures part { OnErr result ((start : Option (List ℕ)) (before rest : List ℕ) →
-        IsUnderWay start (O.contents out.old) text.old.items before →
-        AppendsPart start (O.contents out.new)
-        ((before ++ out_text kept.now given.now) ++ rest)) }
+    ensures part { OnErr result (BreaksOffIn (out_text kept.now given.now) (O.contents out.old) text.old.items (O.contents out.new)) }
     ensures failed { OnErr result (O.has_failed out.new ≡ true) }
 {
     for delivery in given {

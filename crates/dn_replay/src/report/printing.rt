@@ -1,7 +1,6 @@
-ghost use Rattle.std.specs.Prelude.{◌≡◌, ◌<◌, ◌≤◌, ◌+◌, ◌++◌, ℕ, List, Option, false, true, length, vec_capacity, OnOk, OnErr};
-ghost use Rattle.dn_records.specs.Devices.{AppendsPart};
+ghost use Rattle.std.specs.Prelude.{◌≡◌, ◌<◌, ◌≤◌, ◌+◌, false, true, length, vec_capacity, OnOk, OnErr};
 ghost use Rattle.dn_replay.specs.Kept.{AreKnown, out_text};
-ghost use Rattle.dn_replay.specs.Parts.{IsUnderWay};
+ghost use Rattle.dn_replay.specs.Parts.{Adds, BreaksOffIn};
 
 use crate::report::kept::Kept;
 use dn_records::{Outlet, WriteFault};
@@ -21,14 +20,10 @@ pub(crate) trait Printing {
         requires room { 65536 + 160 ≤ vec_capacity text.old }
         requires short { length text.old.items < 65536 }
         requires sound { O.has_failed out.old ≡ false }
-        ensures ok { OnOk result ((start : Option (List ℕ)) (before : List ℕ) →
-            IsUnderWay start (O.contents out.old) text.old.items before →
-            IsUnderWay start (O.contents out.new) text.new.items (before ++ out_text kept.now given.now)) }
+        ensures ok { OnOk result (Adds (O.contents out.old) text.old.items (O.contents out.new) text.new.items (out_text kept.now given.now)) }
         ensures room { OnOk result (65536 + 160 ≤ vec_capacity text.new) }
         ensures short { OnOk result (length text.new.items < 65536) }
         ensures sound { OnOk result (O.has_failed out.new ≡ false) }
-        ensures part { OnErr result ((start : Option (List ℕ)) (before rest : List ℕ) →
-            IsUnderWay start (O.contents out.old) text.old.items before →
-            AppendsPart start (O.contents out.new) ((before ++ out_text kept.now given.now) ++ rest)) }
+        ensures part { OnErr result (BreaksOffIn (out_text kept.now given.now) (O.contents out.old) text.old.items (O.contents out.new)) }
         ensures failed { OnErr result (O.has_failed out.new ≡ true) };
 }

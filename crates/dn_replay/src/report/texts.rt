@@ -1,9 +1,8 @@
 //! The `out` lines of deliveries as texts that many threads make.
 
-ghost use Rattle.std.specs.Prelude.{◌≡◌, ◌<◌, ◌≤◌, ◌+◌, ◌++◌, ℕ, List, Option, false, true, length, flat_map, vec_capacity, IfOk, OnOk, OnErr};
-ghost use Rattle.dn_records.specs.Devices.{AppendsPart};
+ghost use Rattle.std.specs.Prelude.{◌≡◌, ◌<◌, ◌≤◌, ◌+◌, ◌++◌, false, true, length, flat_map, vec_capacity, IfOk, OnOk, OnErr};
 ghost use Rattle.dn_replay.specs.Kept.{AreKnown, out_text};
-ghost use Rattle.dn_replay.specs.Parts.{IsUnderWay};
+ghost use Rattle.dn_replay.specs.Parts.{Adds, BreaksOffIn};
 
 use crate::report::kept::Kept;
 use crate::report::line_text::LINE;
@@ -94,15 +93,11 @@ fn write_texts<O: Outlet>(
     out: &mut O,
 ) -> Result<(), WriteFault>
     requires { O.has_failed out.old ≡ false }
-    ensures ok { OnOk result ((start : Option (List ℕ)) (before : List ℕ) →
-        IsUnderWay start (O.contents out.old) buffer.old.items before →
-        IsUnderWay start (O.contents out.new) buffer.new.items (before ++ flat_map (λ t. t.items) texts.now)) }
+    ensures ok { OnOk result (Adds (O.contents out.old) buffer.old.items (O.contents out.new) buffer.new.items (flat_map (λ t. t.items) texts.now)) }
     ensures short { OnOk result (length buffer.new.items ≡ 0) }
     ensures capacity { OnOk result (vec_capacity buffer.old ≤ vec_capacity buffer.new) }
     ensures sound { OnOk result (O.has_failed out.new ≡ false) }
-    ensures part { OnErr result ((start : Option (List ℕ)) (before rest : List ℕ) →
-        IsUnderWay start (O.contents out.old) buffer.old.items before →
-        AppendsPart start (O.contents out.new) ((before ++ flat_map (λ t. t.items) texts.now) ++ rest)) }
+    ensures part { OnErr result (BreaksOffIn (flat_map (λ t. t.items) texts.now) (O.contents out.old) buffer.old.items (O.contents out.new)) }
     ensures failed { OnErr result (O.has_failed out.new ≡ true) }
 {
     write_part(buffer, out)?;
@@ -128,15 +123,11 @@ fn write_step<R: Threads, O: Outlet>(
     requires room { 65536 + 160 ≤ vec_capacity text.old }
     requires short { length text.old.items < 65536 }
     requires sound { O.has_failed out.old ≡ false }
-    ensures ok { OnOk result ((start : Option (List ℕ)) (before : List ℕ) →
-        IsUnderWay start (O.contents out.old) text.old.items before →
-        IsUnderWay start (O.contents out.new) text.new.items (before ++ out_text kept.now given.now)) }
+    ensures ok { OnOk result (Adds (O.contents out.old) text.old.items (O.contents out.new) text.new.items (out_text kept.now given.now)) }
     ensures room { OnOk result (65536 + 160 ≤ vec_capacity text.new) }
     ensures short { OnOk result (length text.new.items < 65536) }
     ensures sound { OnOk result (O.has_failed out.new ≡ false) }
-    ensures part { OnErr result ((start : Option (List ℕ)) (before rest : List ℕ) →
-        IsUnderWay start (O.contents out.old) text.old.items before →
-        AppendsPart start (O.contents out.new) ((before ++ out_text kept.now given.now) ++ rest)) }
+    ensures part { OnErr result (BreaksOffIn (out_text kept.now given.now) (O.contents out.old) text.old.items (O.contents out.new)) }
     ensures failed { OnErr result (O.has_failed out.new ≡ true) }
 {
     match texts_by_threads(rt, alloc, kept, given, threads) {
@@ -159,15 +150,11 @@ pub(crate) fn write_outs_by_threads<R: Threads, O: Outlet>(
     requires room { 65536 + 160 ≤ vec_capacity text.old }
     requires short { length text.old.items < 65536 }
     requires sound { O.has_failed out.old ≡ false }
-    ensures ok { OnOk result ((start : Option (List ℕ)) (before : List ℕ) →
-        IsUnderWay start (O.contents out.old) text.old.items before →
-        IsUnderWay start (O.contents out.new) text.new.items (before ++ out_text kept.now given.now)) }
+    ensures ok { OnOk result (Adds (O.contents out.old) text.old.items (O.contents out.new) text.new.items (out_text kept.now given.now)) }
     ensures room { OnOk result (65536 + 160 ≤ vec_capacity text.new) }
     ensures short { OnOk result (length text.new.items < 65536) }
     ensures sound { OnOk result (O.has_failed out.new ≡ false) }
-    ensures part { OnErr result ((start : Option (List ℕ)) (before rest : List ℕ) →
-        IsUnderWay start (O.contents out.old) text.old.items before →
-        AppendsPart start (O.contents out.new) ((before ++ out_text kept.now given.now) ++ rest)) }
+    ensures part { OnErr result (BreaksOffIn (out_text kept.now given.now) (O.contents out.old) text.old.items (O.contents out.new)) }
     ensures failed { OnErr result (O.has_failed out.new ≡ true) }
 {
     let most = threads.saturating_mul(SHARE).max(SHARE);

@@ -1,17 +1,12 @@
 //! The report of what is kept, written in parts.
 
-ghost use Rattle.std.specs.Prelude.{◌≡◌, ◌<◌, ◌≤◌, ◌+◌, ◌^◌, ◌∷◌, ◌++◌, List, [], map, false, true, length, vec_capacity, OnOk, OnErr, IfOk, IfErr};
-ghost use Rattle.std.specs.Io.KnownBytes.{Appends};
-ghost use Rattle.dn_files.specs.Writing.{IsUnwritten};
-ghost use Rattle.dn_files.specs.declared.source.Source.TheVariants.{Report};
-ghost use Rattle.dn_records.specs.Devices.{AppendsPart};
-ghost use Rattle.dn_records.specs.Records.{line_of, text_of};
+ghost use Rattle.std.specs.Prelude.{◌≡◌, ◌<◌, ◌≤◌, ◌+◌, List, [], false, true, length, vec_capacity, OnOk, OnErr, IfOk, IfErr};
+ghost use Rattle.dn_records.specs.Records.{line_of};
 ghost use Rattle.dn_types.specs.declared.call.Call.{Call};
-ghost use Rattle.dn_types.specs.declared.call.Call.TheVariants.{Collect};
-ghost use Rattle.dn_replay.specs.Kept.{all_untargeted, AreKnown, AreMarksOf, CanReport, IsKeptOf, kept_lines};
-ghost use Rattle.dn_replay.specs.Report.{line_fields, report, report_header};
-ghost use Rattle.dn_replay.specs.Runs.{history_of};
+ghost use Rattle.dn_replay.specs.Kept.{AreKnown, AreMarksOf, CanReport, IsKeptOf};
+ghost use Rattle.dn_replay.specs.Report.{report_header};
 ghost use Rattle.dn_replay.specs.declared.report.fate.Fate.{Fate};
+ghost use Rattle.dn_replay.specs.KeptReports.{BreaksOffKept, LeavesKept, ReportsKept, WritesKept};
 
 use crate::report::kept::Kept;
 use crate::report::line_text::{LINE, add_header};
@@ -51,13 +46,9 @@ fn write_lines<P: Printing, O: Outlet>(
     requires room { 65536 + 160 ≤ vec_capacity text.old }
     requires empty { text.old.items ≡ [] }
     requires sound { O.has_failed out.old ≡ false }
-    ensures ok { OnOk result ((fates : List Fate) → IsKeptOf kept.now fates →
-        Appends (O.contents out.old) (O.contents out.new)
-        (text_of (report_header ∷ map line_fields (kept_lines kept.now fates given.now)))) }
+    ensures ok { OnOk result (WritesKept kept.now given.now (O.contents out.old) (O.contents out.new)) }
     ensures sound { OnOk result (O.has_failed out.new ≡ false) }
-    ensures part { OnErr result ((fates : List Fate) → IsKeptOf kept.now fates →
-        AppendsPart (O.contents out.old) (O.contents out.new)
-        (text_of (report_header ∷ map line_fields (kept_lines kept.now fates given.now)))) }
+    ensures part { OnErr result (BreaksOffKept kept.now given.now (O.contents out.old) (O.contents out.new)) }
     ensures failed { OnErr result (O.has_failed out.new ≡ true) }
 {
     begin(text);
@@ -81,13 +72,9 @@ fn write_by<P: Printing, O: Outlet>(
     requires room { 65536 + 160 ≤ vec_capacity text }
     requires empty { text.items ≡ [] }
     requires sound { O.has_failed out.old ≡ false }
-    ensures ok { IfOk result (λ outcome. (calls : List Call) → CanReport kept.now given.now calls →
-        Appends (O.contents out.old) (O.contents out.new) (report 1 (history_of (Collect (2 ^ 62) ∷ calls)))
-        × (outcome.untargeted ≡ all_untargeted (history_of (Collect (2 ^ 62) ∷ calls)))) }
+    ensures ok { IfOk result (λ outcome. ReportsKept kept.now given.now outcome.untargeted (O.contents out.old) (O.contents out.new)) }
     ensures sound { OnOk result (O.has_failed out.new ≡ false) }
-    ensures err { IfErr result (λ fault. (calls : List Call) → CanReport kept.now given.now calls →
-        IsUnwritten Report (report 1 (history_of (Collect (2 ^ 62) ∷ calls)))
-        (O.contents out.old) (O.contents out.new) (O.has_failed out.new) fault) }
+    ensures err { IfErr result (λ fault. LeavesKept kept.now given.now (O.contents out.old) (O.contents out.new) (O.has_failed out.new) fault) }
 {
     match write_lines(by, kept, given, marks.as_slice(), &mut text, out) {
         Ok(()) => Ok(Outcome {
@@ -110,15 +97,11 @@ pub(crate) fn write_kept<P: Printing, O: Outlet>(
 ) -> Result<Outcome, ReplayFault>
     requires kept { (calls : List Call) × CanReport kept.now given.now calls }
     requires sound { O.has_failed out.old ≡ false }
-    ensures ok { IfOk result (λ outcome. (calls : List Call) → CanReport kept.now given.now calls →
-        Appends (O.contents out.old) (O.contents out.new) (report 1 (history_of (Collect (2 ^ 62) ∷ calls)))
-        × (outcome.untargeted ≡ all_untargeted (history_of (Collect (2 ^ 62) ∷ calls)))) }
+    ensures ok { IfOk result (λ outcome. ReportsKept kept.now given.now outcome.untargeted (O.contents out.old) (O.contents out.new)) }
     ensures sound { OnOk result (O.has_failed out.new ≡ false) }
 
     // Before a failed write a part of the report was written, and before a want of memory nothing.
-    ensures err { IfErr result (λ fault. (calls : List Call) → CanReport kept.now given.now calls →
-        IsUnwritten Report (report 1 (history_of (Collect (2 ^ 62) ∷ calls)))
-        (O.contents out.old) (O.contents out.new) (O.has_failed out.new) fault) }
+    ensures err { IfErr result (λ fault. LeavesKept kept.now given.now (O.contents out.old) (O.contents out.new) (O.has_failed out.new) fault) }
 {
     let Ok(marks) = given_marks(alloc, kept, given) else {
         return Err(ReplayFault::OutOfMemory);
