@@ -1,13 +1,13 @@
 -- A replay by several callers, and why there is none, step by step.
-use Rattle.std.proofs.Common.{◌≡◌, ◌∙◌, ap, subst, ℕ, Bool, false, List, Option, None}
+use Rattle.std.proofs.Common.{◌≡◌, ◌∙◌, refl, ap, subst, ℕ, Bool, false, List, Option, None}
 use Rattle.std.proofs.KnownBytes.{Keeps-refl}
 use Rattle.dn_types.specs.History.{calls_of}
 use Rattle.dn_types.specs.declared.call.Call.{Call}
 use Rattle.dn_types.specs.declared.entry.Entry.{Entry}
-use Rattle.dn_replay.specs.CallerReplays.{IsCount, IsHistoryOfCallers, IsReplayOfCallers, IsUnreplayedByCallers, IsUnopened}
+use Rattle.dn_replay.specs.CallerReplays.{IsCount, IsHistoryOfCallers, IsReplayOfCallers, IsUnansweredByCallers, IsUnopened}
 use Rattle.dn_files.specs.PacketFile.{packet_file}
 use Rattle.dn_files.specs.Reading.{ReadsAs}
-use Rattle.dn_replay.specs.Replays.{AskFor, config_calls, IsUnread}
+use Rattle.dn_replay.specs.Replays.{AskFor, config_calls, failed_read, IsUnread}
 use Rattle.dn_replay.specs.Report.{report}
 use Rattle.dn_replay.specs.Runs.{history_of}
 use Rattle.dn_files.specs.Writing.{IsUnwritten}
@@ -32,24 +32,39 @@ callers_replay n config packets calls rows commands entries config_reads packets
   history = subst (λ (l : List Call). IsHistoryOfCallers n l rows entries) (ap calls_of is ∙ made calls) history;
 }
 
-module _ (n : ℕ) (Unread : Type 0) (ReadFailed : Option Source → Type 0) (config packets : Option (List ℕ)) where
+module _ (n : ℕ) (config packets : Option (List ℕ)) where
   -- There are no callers.
-  pub unopened : (known : Option (List ℕ)) (failed : Bool) (fault : ReplayFault) → Unread → ReadFailed None → failed ≡ false → IsUnopened n fault
-      → IsUnreplayedByCallers n Unread ReadFailed config packets known known failed fault
-  unopened known failed BadCount unread sound whole h = (h, unread, sound, (whole, Keeps-refl known))
-  unopened known failed OutOfMemory unread sound whole h = (h, (sound, (whole, Keeps-refl known)))
-  unopened known failed _ unread sound whole h = absurd h
+  pub unopened : (known : Option (List ℕ)) (failed : Bool) (fault : ReplayFault) → failed ≡ false → IsUnopened n fault
+      → IsUnansweredByCallers n config packets known known failed fault
+  unopened known failed BadCount whole h = (h, (whole, Keeps-refl known))
+  unopened known failed OutOfMemory whole h = (h, (whole, Keeps-refl known))
+  unopened known failed _ whole h = absurd h
 
   -- The inputs aren't read, for a fault that is no bad count.
-  pub callers_unread : (known : Option (List ℕ)) (failed : Bool) (fault : ReplayFault)
-      → IsCount n → failed ≡ false → IsUnread ReadFailed (AskFor config packets) fault → IsUnreplayedByCallers n Unread ReadFailed config packets known known failed fault
-  callers_unread known failed BadCount count whole h = absurd (no_count_asked config packets h.1)
-  callers_unread known failed (Write what) count whole h = absurd h
-  callers_unread known failed fault count whole h = (count, unreplayed ReadFailed (AskFor config packets) known failed fault whole h)
+  pub callers_unread : (ReadFailed : Option Source → Type 0) (known : Option (List ℕ)) (failed : Bool) (fault : ReplayFault)
+      → IsCount n → failed ≡ false → IsUnread ReadFailed (AskFor config packets) fault → IsUnansweredByCallers n config packets known known failed fault
+  callers_unread ReadFailed known failed BadCount count whole h = absurd (no_count_asked config packets h.1)
+  callers_unread ReadFailed known failed (Write what) count whole h = absurd h
+  callers_unread ReadFailed known failed fault count whole h = (count, (unreplayed ReadFailed (AskFor config packets) known failed fault whole h).1)
+
+  pub no_bad_count : (ReadFailed : Option Source → Type 0) (fault : ReplayFault) → IsUnread ReadFailed (AskFor config packets) fault → fault ≡ BadCount → ⊥
+  no_bad_count ReadFailed fault h is = no_count_asked config packets (rw is at h).1
 
   -- The report of the callers' history wasn't written.
-  pub callers_unreported : (entries : List Entry) (old new : Option (List ℕ)) (failed : Bool) (fault : ReplayFault) → IsCount n → ReadFailed None → IsReplayOfCallers n config packets entries
-      → IsUnwritten Report (report n entries) old new failed fault → IsUnreplayedByCallers n Unread ReadFailed config packets old new failed fault
-  callers_unreported entries old new failed fault count sound replay =
-      unwritten-cases (IsUnreplayedByCallers n Unread ReadFailed config packets old new failed) Report (report n entries) old new failed fault
-      (λ what h. (count, sound, (entries, replay, h))) (λ h. (count, (sound, h)))
+  pub callers_unreported : (entries : List Entry) (old new : Option (List ℕ)) (failed : Bool) (fault : ReplayFault) → IsCount n → IsReplayOfCallers n config packets entries
+      → IsUnwritten Report (report n entries) old new failed fault → IsUnansweredByCallers n config packets old new failed fault
+  callers_unreported entries old new failed fault count replay =
+      unwritten-cases (IsUnansweredByCallers n config packets old new failed) Report (report n entries) old new failed fault
+      (λ what h. (count, (entries, replay, h))) (λ h. (count, h))
+
+-- No read failed where there are no callers, or where the report wasn't written.
+pub unopened_sound : (n : ℕ) (fault : ReplayFault) → IsUnopened n fault → failed_read fault ≡ None
+unopened_sound n BadCount h = refl
+unopened_sound n OutOfMemory h = refl
+unopened_sound n _ h = absurd h
+
+pub unwritten_sound : (text : List ℕ) (old new : Option (List ℕ)) (failed : Bool) (fault : ReplayFault) → IsUnwritten Report text old new failed fault → failed_read fault ≡ None
+unwritten_sound text old new failed fault = unwritten-cases (λ f. failed_read f ≡ None) Report text old new failed fault (λ what h. refl) (λ h. refl)
+
+pub unwritten_count : (text : List ℕ) (old new : Option (List ℕ)) (failed : Bool) (fault : ReplayFault) → IsUnwritten Report text old new failed fault → fault ≡ BadCount → ⊥
+unwritten_count text old new failed fault h is = rw is at h

@@ -1,5 +1,6 @@
 -- What an input asks for, and what became of it, by the parts of it.
 use Rattle.std.proofs.Common.{◌≡◌, ◌∙◌, ℕ, ◌≤◌, Bool, true, false, List, [], ◌++◌, length, Option, Some, None, Result, Ok, Err, refl, sym, ap, subst, append_assoc, append-nil}
+use Rattle.std.specs.Prelude.{IfErr, IfOk}
 use Rattle.dn_types.specs.declared.call.Call.{Call}
 use Rattle.dn_types.specs.declared.entry.Entry.{Entry}
 use Rattle.dn_text.specs.Joined.{joined_parts}
@@ -16,7 +17,7 @@ use Rattle.dn_replay.specs.declared.replays.stage.Stage.{Stage}
 use Rattle.dn_replay.specs.declared.replays.stage.Stage.TheVariants as at
 use Rattle.dn_replay.specs.OnePass.{calls_with, HasTaken, IsAnswered, IsCutAt}
 use Rattle.dn_replay.specs.InParts.{calls_asked, source_of}
-use Rattle.dn_replay.specs.Replays.{AskForWithin, calls_of_joined_within, calls_of_parts, calls_within, config_calls, EitherFailed, IsAccepted, IsUnreplayed, TextFailed}
+use Rattle.dn_replay.specs.Replays.{AskForWithin, calls_of_joined_within, calls_of_parts, calls_within, config_calls, EitherFailed, failed_read, IsAccepted, IsUnreplayed, read_of, TextFailed}
 use Rattle.dn_replay.specs.Runs.{replayed}
 
 -- What an input within its limit asks for.
@@ -90,7 +91,13 @@ module _ (Asked Inputs : Result (List Call) ReplayFault → Type 0) (old new : O
     unanswered_through failed (Read what) h = (failures (Some what) h.0, h.1)
     unanswered_through failed (Write what) h = (failures None h.0, (h.1.0, through (Ok h.1.0) h.1.1, h.1.2))
     unanswered_through failed OutOfMemory h = (failures None h.0, h.1)
-    unanswered_through failed fault h = (failures None h.0, through (Err fault) h.1, h.2)
+    unanswered_through failed fault h = (failures None h.0, (through (Err fault) h.1.0, h.1.1))
+
+-- Which read failed is known of a result and of its fault.
+pub read_known : {A : Type 0} (Failed : Option Source → Type 0) (result : Result A ReplayFault) → IfOk result (λ value. Failed None)
+    → IfErr result (λ fault. Failed (failed_read fault)) → Failed (read_of result)
+read_known Failed (Ok value) sound failed = sound
+read_known Failed (Err fault) sound failed = failed
 
 -- What is asked for behind the text of a configuration is asked for by both inputs.
 pub asked_by_both : (limit : ℕ) (config packets : Option (List ℕ)) (text rows : List ℕ) → IsTextOf config text → IsTextOf packets rows

@@ -9,13 +9,13 @@ use Rattle.dn_types.specs.declared.entry.Entry.{Entry}
 use Rattle.dn_types.specs.declared.rule.Rule.TheVariants.{Ordered}
 use Rattle.dn_files.specs.PacketFile.{packet_file}
 use Rattle.dn_files.specs.Reading.{IsFaultOf, IsRefusal, IsRefusedFor, IsTextOf, ReadsAs}
-use Rattle.dn_replay.specs.Replays.{AskFor, AskForWithin, calls_within, config_calls, IsReplayed, IsUnread, IsUnreplayed, IsUnreported}
+use Rattle.dn_replay.specs.Replays.{AskFor, AskForWithin, calls_within, config_calls, EitherFailed, failed_read, IsReplayed, IsUnread, IsUnreplayed, IsUnreported}
 use Rattle.dn_replay.specs.Report.{report}
 use Rattle.dn_replay.specs.Runs.{entry_after, history_of}
 use Rattle.dn_files.specs.declared.replay_fault.ReplayFault.{ReplayFault}
 use Rattle.dn_files.specs.declared.replay_fault.ReplayFault.TheVariants.{Read, Write, OutOfMemory}
 use Rattle.dn_files.specs.declared.source.Source.{Source}
-use Rattle.dn_files.specs.declared.source.Source.TheVariants.{Report}
+use Rattle.dn_files.specs.declared.source.Source.TheVariants.{Config, Report}
 use Rattle.dn_files.proofs.Causes.{unwritten-cases}
 use Rattle.dn_types.proofs.Histories.{calls_of-more, lawful-more}
 
@@ -76,18 +76,35 @@ unread_input ReadFailed Asked source read input input_failed OutOfMemory asked s
 unread_input ReadFailed Asked source read input input_failed (Read what) asked sound reads h = rw h.0 (reads h.1)
 unread_input ReadFailed Asked source read input input_failed fault asked sound reads h = (sound h.0, asked fault h.1)
 
+-- Of what a read failed, by the fault.
+pub read_failed : (ReadFailed : Option Source → Type 0) (Asked : Result (List Call) ReplayFault → Type 0) (fault : ReplayFault) → IsUnread ReadFailed Asked fault
+    → ReadFailed (failed_read fault)
+read_failed ReadFailed Asked (Write what) h = absurd h
+read_failed ReadFailed Asked OutOfMemory h = h
+read_failed ReadFailed Asked (Read what) h = h
+read_failed ReadFailed Asked fault h = h.0
+
 -- What isn't read isn't replayed, and nothing is written.
 pub unreplayed : (ReadFailed : Option Source → Type 0) (Asked : Result (List Call) ReplayFault → Type 0) (known : Option (List ℕ)) (failed : Bool) (fault : ReplayFault)
     → failed ≡ false → IsUnread ReadFailed Asked fault → IsUnreplayed ReadFailed Asked known known failed fault
 unreplayed ReadFailed Asked known failed (Write what) whole h = absurd h
 unreplayed ReadFailed Asked known failed OutOfMemory whole h = (h, (whole, Keeps-refl known))
 unreplayed ReadFailed Asked known failed (Read what) whole h = (h, (whole, Keeps-refl known))
-unreplayed ReadFailed Asked known failed fault whole h = (h.0, h.1, (whole, Keeps-refl known))
+unreplayed ReadFailed Asked known failed fault whole h = (h.0, (h.1, (whole, Keeps-refl known)))
 
 -- The first fault of two inputs.
 pub config_fault : (limit : ℕ) (config packets : Option (List ℕ)) (fault : ReplayFault) → IsRefusedFor config_calls config fault → AskForWithin limit config packets (Err fault)
 unfolding calls_within
 config_fault limit config packets fault c = let (text, is) = some_text packets in (c.0, text, c.1, is, rw c.2 refl)
+
+-- The configuration isn't read, so that nothing of the packets is.
+pub config_unread : (limit : ℕ) (config packets old : Option (List ℕ)) (config_failed packets_failed failed : Bool) (fault : ReplayFault) → packets_failed ≡ false → failed ≡ false
+    → IsRefusal Config config_calls config config_failed fault
+    → IsUnreplayed (EitherFailed config config_failed packets_failed) (AskForWithin limit config packets) old old failed fault
+config_unread limit config packets old config_failed packets_failed failed fault unread sound refused =
+    unreplayed (EitherFailed config config_failed packets_failed) (AskForWithin limit config packets) old failed fault sound
+    (unread_input (EitherFailed config config_failed packets_failed) (AskForWithin limit config packets) Config config_calls config config_failed fault
+    (λ f r. config_fault limit config packets f r) (λ whole. (whole, unread)) (λ bad. (bad, unread)) refused)
 
 pub packet_fault : (config packets : Option (List ℕ)) (calls : List Call) (fault : ReplayFault) → ReadsAs config_calls config calls → IsRefusedFor packet_file packets fault
     → AskFor config packets (Err fault)

@@ -77,6 +77,10 @@ IsUnread ReadFailed Asked (Write what) = ⊥
 IsUnread ReadFailed Asked OutOfMemory = ReadFailed None
 IsUnread ReadFailed Asked fault = ReadFailed None × Asked (Err fault)
 
+-- Why two inputs weren't read, by their bytes and by whether a read of each failed.
+abbrev pub AreUnreadFor : Option (List ℕ) → Bool → Option (List ℕ) → Bool → ReplayFault → Type 0
+AreUnreadFor config config_failed packets packets_failed = IsUnread (EitherFailed config config_failed packets_failed) (AskFor config packets)
+
 -- The entries are the history of the calls, and their report was written.
 abbrev pub IsReported : List Call → List Entry → Option (List ℕ) → Option (List ℕ) → Type 0
 IsReported calls entries old new = (entries ≡ history_of calls) × Appends old new (report 1 (history_of calls))
@@ -89,10 +93,23 @@ IsUnreported calls = IsUnwritten Report (report 1 (history_of calls))
 abbrev pub IsReplayed : (Result (List Call) ReplayFault → Type 0) → List Entry → Option (List ℕ) → Option (List ℕ) → Type 0
 IsReplayed Asked entries old new = (calls : List Call) × Asked (Ok calls) × IsReported calls entries old new
 
--- Why nothing was answered. Before a failed write a part of the report was written, and before any other fault nothing.
--- Each fault but a failed read comes only where no read failed.
+-- What was written of what is asked for, if it wasn't answered, and why it wasn't. Before a failed write a part of the report was written,
+-- and before any other fault nothing.
+abbrev pub IsUnanswered : (Result (List Call) ReplayFault → Type 0) → Option (List ℕ) → Option (List ℕ) → Bool → ReplayFault → Type 0
+IsUnanswered Asked old new failed (Read what) = NothingWritten old new failed
+IsUnanswered Asked old new failed (Write what) = (calls : List Call) × Asked (Ok calls) × IsUnreported calls old new failed (Write what)
+IsUnanswered Asked old new failed OutOfMemory = NothingWritten old new failed
+IsUnanswered Asked old new failed fault = Asked (Err fault) × NothingWritten old new failed
+
+-- Of which input a read failed, by the fault or the result, if of one.
+abbrev pub failed_read : ReplayFault → Option Source
+failed_read (Read what) = Some what
+failed_read fault = None
+
+abbrev pub read_of : {A : Type 0} → Result A ReplayFault → Option Source
+read_of (Ok value) = None
+read_of (Err fault) = failed_read fault
+
+-- Why nothing was answered. Each fault but a failed read comes only where no read failed.
 abbrev pub IsUnreplayed : (Option Source → Type 0) → (Result (List Call) ReplayFault → Type 0) → Option (List ℕ) → Option (List ℕ) → Bool → ReplayFault → Type 0
-IsUnreplayed ReadFailed Asked old new failed (Read what) = ReadFailed (Some what) × NothingWritten old new failed
-IsUnreplayed ReadFailed Asked old new failed (Write what) = ReadFailed None × ((calls : List Call) × Asked (Ok calls) × IsUnreported calls old new failed (Write what))
-IsUnreplayed ReadFailed Asked old new failed OutOfMemory = ReadFailed None × NothingWritten old new failed
-IsUnreplayed ReadFailed Asked old new failed fault = ReadFailed None × Asked (Err fault) × NothingWritten old new failed
+IsUnreplayed ReadFailed Asked old new failed fault = ReadFailed (failed_read fault) × IsUnanswered Asked old new failed fault

@@ -1,10 +1,10 @@
 ghost use Rattle.std.specs.Prelude.{◌≡◌, List, [], false, None, OnOk, IfOk, IfErr};
 ghost use Rattle.dn_types.specs.declared.call.Call.{Call};
-ghost use Rattle.dn_files.specs.PacketFile.{packet_file};
 ghost use Rattle.dn_files.specs.Reading.{IsRefusal, ReadsAs};
 ghost use Rattle.dn_files.specs.declared.source.Source.TheVariants.{Config};
-ghost use Rattle.dn_replay.specs.Replays.{AskFor, config_calls, EitherFailed, IsUnread};
+ghost use Rattle.dn_replay.specs.Replays.{config_calls, EitherFailed, AreUnreadFor};
 ghost use Rattle.dn_replay.specs.Runs.{HasMade};
+ghost use Rattle.dn_replay.specs.CallerReplays.{AreReadAs};
 
 use crate::config::run::Run;
 use dn_files::{CONFIG_LIMIT, ReplayFault, Row, Source, read_input, read_packets};
@@ -38,13 +38,11 @@ pub(crate) fn read_inputs<C: Inlet, P: Inlet>(
     requires made { HasMade run.old [] }
     requires config { C.has_failed config.old ≡ false }
     requires packets { P.has_failed packets.old ≡ false }
-    ensures ok { IfOk result (λ rows. (calls : List Call) × ReadsAs config_calls (C.remaining config.old) calls
-        × ReadsAs packet_file (P.remaining packets.old) rows.items × HasMade run.new calls) }
+    ensures ok { IfOk result (λ rows. AreReadAs (C.remaining config.old) (P.remaining packets.old) rows.items (λ calls. HasMade run.new calls)) }
     ensures inputs { IfOk result (λ _. EitherFailed (C.remaining config.old)
         (C.has_failed config.new) (P.has_failed packets.new) None) }
-    ensures err { IfErr result (λ fault.
-        IsUnread (EitherFailed (C.remaining config.old) (C.has_failed config.new) (P.has_failed packets.new))
-        (AskFor (C.remaining config.old) (P.remaining packets.old)) fault) }
+    ensures err { IfErr result (λ fault. AreUnreadFor
+        (C.remaining config.old) (C.has_failed config.new) (P.remaining packets.old) (P.has_failed packets.new) fault) }
 {
     configure_from(alloc, run, config)?;
     read_packets(alloc, packets)

@@ -1,11 +1,9 @@
-ghost use Rattle.std.specs.Prelude.{◌≡◌, ◌<◌, ◌≤◌, List, [], false, None, IfOk, IfErr};
+ghost use Rattle.std.specs.Prelude.{◌≡◌, ◌<◌, [], false, None, IfOk, IfErr};
 ghost use Rattle.dn_types.specs.History.{calls_of};
-ghost use Rattle.dn_types.specs.declared.call.Call.{Call};
-ghost use Rattle.dn_files.specs.PacketFile.{packet_file};
-ghost use Rattle.dn_files.specs.Reading.{ReadsAs};
+ghost use Rattle.dn_files.specs.declared.replay_fault.ReplayFault.TheVariants.{BadCount as BadCountValue};
 ghost use Rattle.dn_service.specs.Callers.{new_callers};
-ghost use Rattle.dn_replay.specs.CallerReplays.{AreUnread, IsCount, IsHistoryOfCallers, IsReplayedByCallers, IsUnreplayedByCallers, IsUnopened};
-ghost use Rattle.dn_replay.specs.Replays.{AskFor, config_calls, EitherFailed, IsUnread};
+ghost use Rattle.dn_replay.specs.CallerReplays.{AreUnread, IsCount, IsHistoryOfCallers, IsReplayedByCallers, IsUnopened, AreReadAs, IsUnansweredByCallers};
+ghost use Rattle.dn_replay.specs.Replays.{EitherFailed, AreUnreadFor, read_of};
 ghost use Rattle.dn_replay.specs.Runs.{HasMade, history_of};
 
 use crate::callers::calls::run_callers;
@@ -45,13 +43,11 @@ fn commands_and_rows<C: Inlet, P: Inlet>(
     requires made { HasMade run.old [] }
     requires config { C.has_failed config.old ≡ false }
     requires packets { P.has_failed packets.old ≡ false }
-    ensures ok { IfOk result (λ both. (calls : List Call) × ReadsAs config_calls (C.remaining config.old) calls
-        × ReadsAs packet_file (P.remaining packets.old) both.1.items × (both.0.items ≡ history_of calls)) }
+    ensures ok { IfOk result (λ both. AreReadAs (C.remaining config.old) (P.remaining packets.old) both.1.items (λ calls. both.0.items ≡ history_of calls)) }
     ensures inputs { IfOk result (λ _. EitherFailed (C.remaining config.old)
         (C.has_failed config.new) (P.has_failed packets.new) None) }
-    ensures err { IfErr result (λ fault.
-        IsUnread (EitherFailed (C.remaining config.old) (C.has_failed config.new) (P.has_failed packets.new))
-        (AskFor (C.remaining config.old) (P.remaining packets.old)) fault) }
+    ensures err { IfErr result (λ fault. AreUnreadFor
+        (C.remaining config.old) (C.has_failed config.new) (P.remaining packets.old) (P.has_failed packets.new) fault) }
 {
     let rows = read_inputs(alloc, run, config, packets)?;
     Ok((run.take_history(alloc), rows))
@@ -102,15 +98,11 @@ pub fn replay_callers<C: Inlet, P: Inlet, O: Outlet, G: Gate + Sync, R: Threads 
     ensures ok { IfOk result (λ entries.
         IsReplayedByCallers n (C.remaining config.old) (P.remaining packets.old) entries.items
         (O.contents out.old) (O.contents out.new)) }
-
-    // No read and no write failed.
-    ensures inputs { IfOk result (λ _. EitherFailed (C.remaining config.old)
-        (C.has_failed config.new) (P.has_failed packets.new) None) }
+    ensures inputs { EitherFailed (C.remaining config.old) (C.has_failed config.new) (P.has_failed packets.new) (read_of result) }
     ensures sound { IfOk result (λ _. O.has_failed out.new ≡ false) }
-    ensures err { IfErr result (λ fault. IsUnreplayedByCallers n
-        (AreUnread (C.remaining config.old) (C.remaining config.new) (P.remaining packets.old) (P.remaining packets.new))
-        (EitherFailed (C.remaining config.old) (C.has_failed config.new) (P.has_failed packets.new))
-        (C.remaining config.old) (P.remaining packets.old)
+    ensures unread { IfErr result (λ fault. fault ≡ BadCountValue → AreUnread
+        (C.remaining config.old) (C.remaining config.new) (P.remaining packets.old) (P.remaining packets.new)) }
+    ensures err { IfErr result (λ fault. IsUnansweredByCallers n (C.remaining config.old) (P.remaining packets.old)
         (O.contents out.old) (O.contents out.new) (O.has_failed out.new) fault) }
 {
     replay_callers_with_key(rt, alloc, HashKey(0), n, config, packets, out, gate)
@@ -141,15 +133,11 @@ pub fn replay_callers_with_key<
     ensures ok { IfOk result (λ entries.
         IsReplayedByCallers n (C.remaining config.old) (P.remaining packets.old) entries.items
         (O.contents out.old) (O.contents out.new)) }
-
-    // No read and no write failed.
-    ensures inputs { IfOk result (λ _. EitherFailed (C.remaining config.old)
-        (C.has_failed config.new) (P.has_failed packets.new) None) }
+    ensures inputs { EitherFailed (C.remaining config.old) (C.has_failed config.new) (P.has_failed packets.new) (read_of result) }
     ensures sound { IfOk result (λ _. O.has_failed out.new ≡ false) }
-    ensures err { IfErr result (λ fault. IsUnreplayedByCallers n
-        (AreUnread (C.remaining config.old) (C.remaining config.new) (P.remaining packets.old) (P.remaining packets.new))
-        (EitherFailed (C.remaining config.old) (C.has_failed config.new) (P.has_failed packets.new))
-        (C.remaining config.old) (P.remaining packets.old)
+    ensures unread { IfErr result (λ fault. fault ≡ BadCountValue → AreUnread
+        (C.remaining config.old) (C.remaining config.new) (P.remaining packets.old) (P.remaining packets.new)) }
+    ensures err { IfErr result (λ fault. IsUnansweredByCallers n (C.remaining config.old) (P.remaining packets.old)
         (O.contents out.old) (O.contents out.new) (O.has_failed out.new) fault) }
 {
     let opened = open(alloc, n, key)?;

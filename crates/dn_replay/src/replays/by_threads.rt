@@ -1,9 +1,9 @@
-ghost use Rattle.std.specs.Prelude.{◌≡◌, ◌<◌, All, false, None, OnOk, IfOk, IfErr};
+ghost use Rattle.std.specs.Prelude.{◌≡◌, ◌<◌, All, false, OnOk, IfOk, IfErr};
 ghost use Rattle.dn_types.specs.History.{IsLawful};
 ghost use Rattle.dn_types.specs.declared.rule.Rule.TheVariants.{Ordered};
 ghost use Rattle.dn_replay.specs.InParts.{IsLimit};
 ghost use Rattle.dn_replay.specs.OnePass.{IsReportedFor};
-ghost use Rattle.dn_replay.specs.Replays.{AskForWithin, EitherFailed, IsReplayed, IsUnreplayed};
+ghost use Rattle.dn_replay.specs.Replays.{AskForWithin, EitherFailed, IsReplayed, IsUnanswered, read_of};
 
 use crate::replays::inlets::replay_inputs;
 use crate::replays::threading::ManyThreads;
@@ -41,13 +41,10 @@ pub fn replay_by_threads<R: Threads, C: Inlet, P: Inlet, O: Outlet>(
     ensures lawful { IfOk result (λ entries. IsLawful Ordered entries.items) }
     ensures callers { IfOk result (λ entries. All (λ e. e.caller < 1) entries.items) }
 
-    // No read and no write failed.
-    ensures inputs { IfOk result (λ _. EitherFailed (C.remaining config.old)
-        (C.has_failed config.new) (P.has_failed packets.new) None) }
+    // Which read failed, if one did. With a result no write failed.
+    ensures inputs { EitherFailed (C.remaining config.old) (C.has_failed config.new) (P.has_failed packets.new) (read_of result) }
     ensures sound { IfOk result (λ _. O.has_failed out.new ≡ false) }
-    ensures err { IfErr result (λ fault.
-        IsUnreplayed (EitherFailed (C.remaining config.old) (C.has_failed config.new) (P.has_failed packets.new))
-        (AskForWithin limit (C.remaining config.old) (P.remaining packets.old))
+    ensures err { IfErr result (λ fault. IsUnanswered (AskForWithin limit (C.remaining config.old) (P.remaining packets.old))
         (O.contents out.old) (O.contents out.new) (O.has_failed out.new) fault) }
 {
     let by = ManyThreads {
@@ -81,13 +78,10 @@ pub fn replay_report_by_threads<R: Threads, C: Inlet, P: Inlet, O: Outlet>(
     ensures ok { IfOk result (λ outcome. IsReportedFor (AskForWithin limit (C.remaining config.old) (P.remaining packets.old)) outcome.untargeted
         (O.contents out.old) (O.contents out.new)) }
 
-    // No read and no write failed.
-    ensures inputs { OnOk result (EitherFailed (C.remaining config.old)
-        (C.has_failed config.new) (P.has_failed packets.new) None) }
+    // Which read failed, if one did. With a result no write failed.
+    ensures inputs { EitherFailed (C.remaining config.old) (C.has_failed config.new) (P.has_failed packets.new) (read_of result) }
     ensures sound { OnOk result (O.has_failed out.new ≡ false) }
-    ensures err { IfErr result (λ fault.
-        IsUnreplayed (EitherFailed (C.remaining config.old) (C.has_failed config.new) (P.has_failed packets.new))
-        (AskForWithin limit (C.remaining config.old) (P.remaining packets.old))
+    ensures err { IfErr result (λ fault. IsUnanswered (AskForWithin limit (C.remaining config.old) (P.remaining packets.old))
         (O.contents out.old) (O.contents out.new) (O.has_failed out.new) fault) }
 {
     let by = ManyThreads {

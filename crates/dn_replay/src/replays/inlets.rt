@@ -1,9 +1,9 @@
-ghost use Rattle.std.specs.Prelude.{◌≡◌, ◌<◌, All, false, None, OnOk, IfOk, IfErr};
+ghost use Rattle.std.specs.Prelude.{◌≡◌, ◌<◌, All, false, OnOk, IfOk, IfErr};
 ghost use Rattle.dn_types.specs.History.{IsLawful};
 ghost use Rattle.dn_types.specs.declared.rule.Rule.TheVariants.{Ordered};
 ghost use Rattle.dn_replay.specs.InParts.{IsLimit, AnswersWhole, LeavesWhole};
 ghost use Rattle.dn_replay.specs.OnePass.{IsAnswered, IsReportedFor};
-ghost use Rattle.dn_replay.specs.Replays.{AskFor, AskForWithin, AsksFor, EitherFailed, InputFailed, IsReplayed, IsUnreplayed};
+ghost use Rattle.dn_replay.specs.Replays.{AskFor, AskForWithin, AsksFor, EitherFailed, InputFailed, IsReplayed, IsUnanswered, read_of};
 
 use crate::replays::file_replay::FileReplay;
 use crate::replays::threading::{Feeding, OneThread, Threading};
@@ -59,12 +59,9 @@ pub(crate) fn replay_inputs<T: Threading, C: Inlet, P: Inlet, O: Outlet>(
     requires out { O.has_failed out.old ≡ false }
     ensures ok { IfOk result (λ both. IsAnswered records (AskForWithin limit (C.remaining config.old) (P.remaining packets.old))
         both.0.items both.1.untargeted (O.contents out.old) (O.contents out.new)) }
-    ensures inputs { IfOk result (λ _. EitherFailed (C.remaining config.old)
-        (C.has_failed config.new) (P.has_failed packets.new) None) }
+    ensures inputs { EitherFailed (C.remaining config.old) (C.has_failed config.new) (P.has_failed packets.new) (read_of result) }
     ensures sound { IfOk result (λ _. O.has_failed out.new ≡ false) }
-    ensures err { IfErr result (λ fault.
-        IsUnreplayed (EitherFailed (C.remaining config.old) (C.has_failed config.new) (P.has_failed packets.new))
-        (AskForWithin limit (C.remaining config.old) (P.remaining packets.old))
+    ensures err { IfErr result (λ fault. IsUnanswered (AskForWithin limit (C.remaining config.old) (P.remaining packets.old))
         (O.contents out.old) (O.contents out.new) (O.has_failed out.new) fault) }
 {
     let text = read_input(alloc, config, CONFIG_LIMIT, Source::Config)?;
@@ -84,11 +81,9 @@ fn replay_input<I: Inlet, O: Outlet>(
     requires out { O.has_failed out.old ≡ false }
     ensures ok { IfOk result (λ both. IsAnswered records (AsksFor (I.remaining input.old))
         both.0.items both.1.untargeted (O.contents out.old) (O.contents out.new)) }
-    ensures inputs { IfOk result (λ _. InputFailed (I.has_failed input.new) None) }
+    ensures inputs { InputFailed (I.has_failed input.new) (read_of result) }
     ensures sound { IfOk result (λ _. O.has_failed out.new ≡ false) }
-    ensures err { IfErr result (λ fault.
-        IsUnreplayed (InputFailed (I.has_failed input.new)) (AsksFor (I.remaining input.old))
-        (O.contents out.old) (O.contents out.new) (O.has_failed out.new) fault) }
+    ensures err { IfErr result (λ fault. IsUnanswered (AsksFor (I.remaining input.old)) (O.contents out.old) (O.contents out.new) (O.has_failed out.new) fault) }
 {
     let replay = FileReplay::joined(alloc, key, records);
     answer(alloc, &OneThread, replay, input, out)
@@ -115,13 +110,10 @@ pub fn replay_with_key<C: Inlet, P: Inlet, O: Outlet>(
     ensures lawful { IfOk result (λ entries. IsLawful Ordered entries.items) }
     ensures callers { IfOk result (λ entries. All (λ e. e.caller < 1) entries.items) }
 
-    // No read and no write failed.
-    ensures inputs { IfOk result (λ _. EitherFailed (C.remaining config.old)
-        (C.has_failed config.new) (P.has_failed packets.new) None) }
+    // Which read failed, if one did. With a result no write failed.
+    ensures inputs { EitherFailed (C.remaining config.old) (C.has_failed config.new) (P.has_failed packets.new) (read_of result) }
     ensures sound { IfOk result (λ _. O.has_failed out.new ≡ false) }
-    ensures err { IfErr result (λ fault.
-        IsUnreplayed (EitherFailed (C.remaining config.old) (C.has_failed config.new) (P.has_failed packets.new))
-        (AskFor (C.remaining config.old) (P.remaining packets.old))
+    ensures err { IfErr result (λ fault. IsUnanswered (AskFor (C.remaining config.old) (P.remaining packets.old))
         (O.contents out.old) (O.contents out.new) (O.has_failed out.new) fault) }
 {
     replay_within(alloc, key, PACKET_LIMIT, config, packets, out)
@@ -148,13 +140,10 @@ pub fn replay_within<C: Inlet, P: Inlet, O: Outlet>(
     ensures lawful { IfOk result (λ entries. IsLawful Ordered entries.items) }
     ensures callers { IfOk result (λ entries. All (λ e. e.caller < 1) entries.items) }
 
-    // No read and no write failed.
-    ensures inputs { IfOk result (λ _. EitherFailed (C.remaining config.old)
-        (C.has_failed config.new) (P.has_failed packets.new) None) }
+    // Which read failed, if one did. With a result no write failed.
+    ensures inputs { EitherFailed (C.remaining config.old) (C.has_failed config.new) (P.has_failed packets.new) (read_of result) }
     ensures sound { IfOk result (λ _. O.has_failed out.new ≡ false) }
-    ensures err { IfErr result (λ fault.
-        IsUnreplayed (EitherFailed (C.remaining config.old) (C.has_failed config.new) (P.has_failed packets.new))
-        (AskForWithin limit (C.remaining config.old) (P.remaining packets.old))
+    ensures err { IfErr result (λ fault. IsUnanswered (AskForWithin limit (C.remaining config.old) (P.remaining packets.old))
         (O.contents out.old) (O.contents out.new) (O.has_failed out.new) fault) }
 {
     match replay_inputs(alloc, &OneThread, key, true, limit, config, packets, out) {
@@ -180,13 +169,10 @@ pub fn replay_report<C: Inlet, P: Inlet, O: Outlet>(
     ensures ok { IfOk result (λ outcome. IsReportedFor (AskFor (C.remaining config.old) (P.remaining packets.old)) outcome.untargeted
         (O.contents out.old) (O.contents out.new)) }
 
-    // No read and no write failed.
-    ensures inputs { OnOk result (EitherFailed (C.remaining config.old)
-        (C.has_failed config.new) (P.has_failed packets.new) None) }
+    // Which read failed, if one did. With a result no write failed.
+    ensures inputs { EitherFailed (C.remaining config.old) (C.has_failed config.new) (P.has_failed packets.new) (read_of result) }
     ensures sound { OnOk result (O.has_failed out.new ≡ false) }
-    ensures err { IfErr result (λ fault.
-        IsUnreplayed (EitherFailed (C.remaining config.old) (C.has_failed config.new) (P.has_failed packets.new))
-        (AskFor (C.remaining config.old) (P.remaining packets.old))
+    ensures err { IfErr result (λ fault. IsUnanswered (AskFor (C.remaining config.old) (P.remaining packets.old))
         (O.contents out.old) (O.contents out.new) (O.has_failed out.new) fault) }
 {
     replay_report_within(alloc, key, PACKET_LIMIT, config, packets, out)
@@ -208,13 +194,10 @@ pub fn replay_report_within<C: Inlet, P: Inlet, O: Outlet>(
     ensures ok { IfOk result (λ outcome. IsReportedFor (AskForWithin limit (C.remaining config.old) (P.remaining packets.old)) outcome.untargeted
         (O.contents out.old) (O.contents out.new)) }
 
-    // No read and no write failed.
-    ensures inputs { OnOk result (EitherFailed (C.remaining config.old)
-        (C.has_failed config.new) (P.has_failed packets.new) None) }
+    // Which read failed, if one did. With a result no write failed.
+    ensures inputs { EitherFailed (C.remaining config.old) (C.has_failed config.new) (P.has_failed packets.new) (read_of result) }
     ensures sound { OnOk result (O.has_failed out.new ≡ false) }
-    ensures err { IfErr result (λ fault.
-        IsUnreplayed (EitherFailed (C.remaining config.old) (C.has_failed config.new) (P.has_failed packets.new))
-        (AskForWithin limit (C.remaining config.old) (P.remaining packets.old))
+    ensures err { IfErr result (λ fault. IsUnanswered (AskForWithin limit (C.remaining config.old) (P.remaining packets.old))
         (O.contents out.old) (O.contents out.new) (O.has_failed out.new) fault) }
 {
     match replay_inputs(alloc, &OneThread, key, false, limit, config, packets, out) {
@@ -236,11 +219,9 @@ pub fn replay_joined_with_key<I: Inlet, O: Outlet>(
         (O.contents out.old) (O.contents out.new)) }
     ensures lawful { IfOk result (λ entries. IsLawful Ordered entries.items) }
     ensures callers { IfOk result (λ entries. All (λ e. e.caller < 1) entries.items) }
-    ensures inputs { IfOk result (λ _. InputFailed (I.has_failed input.new) None) }
+    ensures inputs { InputFailed (I.has_failed input.new) (read_of result) }
     ensures sound { IfOk result (λ _. O.has_failed out.new ≡ false) }
-    ensures err { IfErr result (λ fault.
-        IsUnreplayed (InputFailed (I.has_failed input.new)) (AsksFor (I.remaining input.old))
-        (O.contents out.old) (O.contents out.new) (O.has_failed out.new) fault) }
+    ensures err { IfErr result (λ fault. IsUnanswered (AsksFor (I.remaining input.old)) (O.contents out.old) (O.contents out.new) (O.has_failed out.new) fault) }
 {
     match replay_input(alloc, key, true, input, out) {
         Ok((entries, _)) => Ok(entries),
@@ -259,11 +240,9 @@ pub fn replay_joined_report<I: Inlet, O: Outlet>(
     requires out { O.has_failed out.old ≡ false }
     ensures ok { IfOk result (λ outcome. IsReportedFor (AsksFor (I.remaining input.old)) outcome.untargeted
         (O.contents out.old) (O.contents out.new)) }
-    ensures inputs { OnOk result (InputFailed (I.has_failed input.new) None) }
+    ensures inputs { InputFailed (I.has_failed input.new) (read_of result) }
     ensures sound { OnOk result (O.has_failed out.new ≡ false) }
-    ensures err { IfErr result (λ fault.
-        IsUnreplayed (InputFailed (I.has_failed input.new)) (AsksFor (I.remaining input.old))
-        (O.contents out.old) (O.contents out.new) (O.has_failed out.new) fault) }
+    ensures err { IfErr result (λ fault. IsUnanswered (AsksFor (I.remaining input.old)) (O.contents out.old) (O.contents out.new) (O.has_failed out.new) fault) }
 {
     match replay_input(alloc, key, false, input, out) {
         Ok((_, outcome)) => Ok(outcome),

@@ -1,7 +1,7 @@
-ghost use Rattle.std.specs.Prelude.{◌≡◌, ◌<◌, All, false, None, IfOk, IfErr};
+ghost use Rattle.std.specs.Prelude.{◌≡◌, ◌<◌, All, false, IfOk, IfErr};
 ghost use Rattle.dn_types.specs.History.{IsLawful};
 ghost use Rattle.dn_types.specs.declared.rule.Rule.TheVariants.{Ordered};
-ghost use Rattle.dn_replay.specs.Replays.{AskFor, AsksFor, EitherFailed, InputFailed, IsReplayed, IsUnreplayed};
+ghost use Rattle.dn_replay.specs.Replays.{AskFor, AsksFor, EitherFailed, InputFailed, IsReplayed, IsUnanswered, read_of};
 
 use crate::replays::inlets::{replay_joined_with_key, replay_with_key};
 use dn_files::ReplayFault;
@@ -32,13 +32,10 @@ pub fn replay<C: Inlet, P: Inlet, O: Outlet>(
     ensures lawful { IfOk result (λ entries. IsLawful Ordered entries.items) }
     ensures callers { IfOk result (λ entries. All (λ e. e.caller < 1) entries.items) }
 
-    // No read and no write failed.
-    ensures inputs { IfOk result (λ _. EitherFailed (C.remaining config.old)
-        (C.has_failed config.new) (P.has_failed packets.new) None) }
+    // Which read failed, if one did. With a result no write failed.
+    ensures inputs { EitherFailed (C.remaining config.old) (C.has_failed config.new) (P.has_failed packets.new) (read_of result) }
     ensures sound { IfOk result (λ _. O.has_failed out.new ≡ false) }
-    ensures err { IfErr result (λ fault.
-        IsUnreplayed (EitherFailed (C.remaining config.old) (C.has_failed config.new) (P.has_failed packets.new))
-        (AskFor (C.remaining config.old) (P.remaining packets.old))
+    ensures err { IfErr result (λ fault. IsUnanswered (AskFor (C.remaining config.old) (P.remaining packets.old))
         (O.contents out.old) (O.contents out.new) (O.has_failed out.new) fault) }
 {
     replay_with_key(alloc, HashKey(0), config, packets, out)
@@ -58,11 +55,9 @@ pub fn replay_joined<I: Inlet, O: Outlet>(
         (O.contents out.old) (O.contents out.new)) }
     ensures lawful { IfOk result (λ entries. IsLawful Ordered entries.items) }
     ensures callers { IfOk result (λ entries. All (λ e. e.caller < 1) entries.items) }
-    ensures inputs { IfOk result (λ _. InputFailed (I.has_failed input.new) None) }
+    ensures inputs { InputFailed (I.has_failed input.new) (read_of result) }
     ensures sound { IfOk result (λ _. O.has_failed out.new ≡ false) }
-    ensures err { IfErr result (λ fault.
-        IsUnreplayed (InputFailed (I.has_failed input.new)) (AsksFor (I.remaining input.old))
-        (O.contents out.old) (O.contents out.new) (O.has_failed out.new) fault) }
+    ensures err { IfErr result (λ fault. IsUnanswered (AsksFor (I.remaining input.old)) (O.contents out.old) (O.contents out.new) (O.has_failed out.new) fault) }
 {
     replay_joined_with_key(alloc, HashKey(0), input, out)
 }
