@@ -99,6 +99,10 @@ CONTROLS = {
     "hingetulip_c/tells_a_packet_that_has_no_place": [("u64::from(front.rows.len() == packets.len())", "0")],
     "dn_files/without_the_fault_of_a_line": [("IfOk result (λ command. Ok command ≡ answer line.now)", "result ≡ answer line.now")],
     "dn_files/short_read_ends_the_feed": [("count < PART", "count == 0")],
+    "dn_replay/a_part_too_long_spoils": [
+        ("drop(mem::replace(&mut self.stage, Stage::Refused(ReplayFault::OutOfMemory)));", "let _ = self.length;")],
+    "dn_replay/faults_end_as_out_of_memory": [("Err(ReplayFault::OutOfMemory)", "Err(fault)")],
+    "dn_replay/refused_memory_is_forgotten": [("Stage::Packets", "Stage::Refused(fault)")],
     "dn_replay/fault_before_a_failed_read": [("return Err(fault);", "let _ = fault;")],
     "dn_replay/without_the_answers_of_a_caller": [
         ("Prelude.{⊤, OnErr};", "Prelude.{OnErr}; ghost use Rattle.dn_service.specs.Callers.{Answered};"),

@@ -44,7 +44,7 @@ PassesOver rows old new = (text chunk : List ℕ) (taken : List Row) → HasRead
 abbrev pub TakesLines : List ℕ → ConfigPart → ConfigPart → Type 0
 TakesLines part old new = (text : List ℕ) → IsConfigSoFar old text → IsConfigSoFar new (text ++ part)
 
--- The line ends in the part. Up to there the configuration has these lines, and this rest of the part stands behind it.
+-- The line ends in the part. Up to there the configuration has these lines, and this rest of the part comes behind it.
 abbrev pub IsCutIn : List ℕ → ConfigPart → List ℕ → List ℕ → Type 0
 IsCutIn part old lines rest = (text : List ℕ) → IsConfigSoFar old text
     → (more : List ℕ) → joined_parts (text ++ (part ++ more)) ≡ (lines, rest ++ more)
