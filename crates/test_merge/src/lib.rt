@@ -2,6 +2,10 @@
 #![tactic(auto)]
 
 #[cfg(test)]
+mod divided;
+#[cfg(test)]
 mod examples;
 #[cfg(test)]
 mod readme;
+#[cfg(test)]
+mod readme_parts;

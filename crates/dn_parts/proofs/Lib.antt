@@ -1,0 +1,3 @@
+pub mod PartSteps
+pub mod RowStep
+pub mod Steps
